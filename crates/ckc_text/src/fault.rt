@@ -1,0 +1,49 @@
+// Why a source is refused.
+
+use crate::code::Code;
+use crate::place::Span;
+use std::alloc::{AllocError, AllocFailed};
+use thiserror::Error;
+
+/// Memory ran out.
+#[derive(Clone, Copy, Debug, PartialEq, Eq)]
+pub struct NoMemory;
+
+impl From<AllocError> for NoMemory {
+    fn from(_e: AllocError) -> NoMemory {
+        NoMemory
+    }
+}
+
+impl<T: Drop> From<AllocFailed<T>> for NoMemory {
+    fn from(_e: AllocFailed<T>) -> NoMemory {
+        NoMemory
+    }
+}
+
+/// What is wrong with a source, and where.
+#[derive(Clone, Copy, Debug, PartialEq, Eq)]
+pub struct SourceFault {
+    pub code: Code,
+    pub span: Span,
+}
+
+/// Why the front end gave no answer.
+#[derive(Debug, Drop, Error)]
+pub enum Refused {
+    #[error("the source is refused")]
+    Source(SourceFault),
+    #[error("out of memory")]
+    NoMemory,
+}
+
+impl From<NoMemory> for Refused {
+    ghost use Rattle.std.specs.Prelude.{◌≡◌};
+    ghost use Rattle.ckc_text.specs.declared.fault.Refused.TheVariants.{NoMemory};
+
+    ghost from_gives = { λ _ e. e ≡ NoMemory };
+
+    fn from(_e: NoMemory) -> Refused {
+        Refused::NoMemory
+    }
+}

@@ -1,0 +1,7 @@
+// Where something stands in a source, and what each numbered answer is called.
+#![tactic(auto)]
+
+pub mod code;
+pub mod fault;
+pub mod name;
+pub mod place;
