@@ -1,0 +1,5 @@
+// From the bytes of a source to its tokens.
+#![tactic(auto)]
+
+pub mod lexer;
+pub mod token;
