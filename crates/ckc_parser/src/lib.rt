@@ -1,0 +1,4 @@
+// From the tokens of a source to its tree.
+#![tactic(auto)]
+
+pub mod parser;

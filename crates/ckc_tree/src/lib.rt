@@ -1,0 +1,4 @@
+// The syntax tree of a source.
+#![tactic(auto)]
+
+pub mod tree;

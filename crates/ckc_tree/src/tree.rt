@@ -1,0 +1,76 @@
+// The forms of the grammar, each with the bytes that it stands on.
+
+use ckc_text::name::Name;
+use ckc_text::place::Span;
+
+/// A binary operator.
+#[derive(Clone, Copy, Debug, PartialEq, Eq)]
+pub enum BinaryOperator {
+    Add,
+    Subtract,
+}
+
+/// An expression.
+#[derive(Drop)]
+pub enum Expr {
+    Number {
+        value: u32,
+        span: Span,
+    },
+    Name {
+        name: Name,
+        span: Span,
+    },
+    /// `*` before a pointer.
+    Deref {
+        operand: Box<Expr>,
+        span: Span,
+    },
+    /// `&` before a variable.
+    AddressOf {
+        operand: Box<Expr>,
+        span: Span,
+    },
+    Binary {
+        operator: BinaryOperator,
+        left: Box<Expr>,
+        right: Box<Expr>,
+        span: Span,
+    },
+}
+
+/// A statement.
+#[derive(Drop)]
+pub enum Stmt {
+    /// A local variable of type `ptr<int>`.
+    Declare {
+        name: Name,
+        initial: Expr,
+        span: Span,
+    },
+    Assign {
+        target: Expr,
+        value: Expr,
+        span: Span,
+    },
+    Return {
+        value: Expr,
+        span: Span,
+    },
+}
+
+/// A file-level variable of type `int`.
+#[derive(Drop)]
+pub struct Global {
+    pub name: Name,
+    /// The number that it is initialised with, if one is written.
+    pub initial: Option<u32>,
+    pub span: Span,
+}
+
+/// A whole source: the file-level variables and the body of `main`.
+#[derive(Drop)]
+pub struct Program {
+    pub globals: Vec<Global>,
+    pub body: Vec<Stmt>,
+}
