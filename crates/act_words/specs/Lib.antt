@@ -1,0 +1,4 @@
+pub mod World
+pub mod Outcome
+pub mod Checks
+pub mod Limits

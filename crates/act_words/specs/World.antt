@@ -1,0 +1,16 @@
+-- What can be seen of a run, whichever way its code is given a meaning.
+use Rattle.std.specs.Prelude.{ℕ, List, []}
+
+-- what happens, in order
+pub data Event : Type 0 where
+  -- the program wrote these bytes
+  Output : (bytes : List ℕ) → Event
+
+-- what a program and its surroundings have of each other: the ticks that were spent, and the events so far
+pub record World : Type 0 where
+  pub ticks : ℕ
+  pub events : List Event
+
+-- at the start of a run
+abbrev pub new_world : World
+new_world = record { ticks = 0; events = [] }

@@ -1,0 +1,3 @@
+pub mod Core
+pub mod States
+pub mod Meaning

@@ -1,0 +1,52 @@
+-- The states of the meaning: blocks of typed cells, local variables, and the world. No address stands in a state.
+use Rattle.std.specs.Prelude.{◌≡◌, ℕ, Bool, true, List, [], ◌∷◌, Option, Some, None, map, replicate, slice_get, slice_set}
+use Rattle.std.specs.Option.{option_and_then}
+use Rattle.std.proofs.Common.{ℤ}
+use Rattle.act_words.specs.World.{World, new_world}
+use Rattle.ckc_core.specs.Core.{Core}
+
+-- a number, null, or a place: a cell of a block
+pub data Value : Type 0 where
+  Number : (number : ℤ) → Value
+  Null : Value
+  At : (block cell : ℕ) → Value
+
+-- what a cell holds
+pub data CellType : Type 0 where
+  Int : CellType
+
+abbrev pub same_type : CellType → CellType → Bool
+same_type Int Int = true
+
+pub record Cell : Type 0 where
+  pub type : CellType
+  pub value : Value
+
+-- a block never changes its length
+abbrev pub Block : Type 0
+Block = List Cell
+
+pub record State : Type 0 where
+  pub blocks : List Block
+  pub locals : List Value
+  pub world : World
+
+-- the cell at a place
+abbrev pub cell_at : List Block → ℕ → ℕ → Option Cell
+cell_at blocks block cell = option_and_then (λ cells. slice_get cells cell) (slice_get blocks block)
+
+-- the blocks with another cell at a place
+abbrev pub with_cell : List Block → ℕ → ℕ → Cell → List Block
+with_cell blocks block cell new = with_block (slice_get blocks block)
+  where
+    with_block : Option Block → List Block
+    with_block None = blocks
+    with_block (Some cells) = slice_set blocks block (slice_set cells cell new)
+
+-- a file-level variable is a block of one cell
+abbrev pub object_block : ℤ → Block
+object_block number = record { type = Int; value = Number number } ∷ []
+
+-- before `main` runs: each file-level variable has its initial number, and each local variable is null
+abbrev pub initial : Core → State
+initial core = record { blocks = map object_block core.objects; locals = replicate core.main.locals Null; world = new_world }

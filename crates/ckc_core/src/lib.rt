@@ -1,0 +1,4 @@
+// Programs whose names and types are resolved, and what they mean.
+#![tactic(auto)]
+
+pub mod program;

@@ -1,0 +1,6 @@
+// Code: instructions, functions and images.
+#![tactic(auto)]
+
+pub mod image;
+pub mod lists;
+pub mod op;
