@@ -6,11 +6,10 @@ pub data Event : Type 0 where
   -- the program wrote these bytes
   Output : (bytes : List ℕ) → Event
 
--- what a program and its surroundings have of each other: the ticks that were spent, and the events so far
+-- what can be seen of a run so far
 pub record World : Type 0 where
-  pub ticks : ℕ
   pub events : List Event
 
 -- at the start of a run
 abbrev pub new_world : World
-new_world = record { ticks = 0; events = [] }
+new_world = record { events = [] }

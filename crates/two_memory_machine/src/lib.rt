@@ -1,0 +1,4 @@
+// The machine that runs an image, one instruction at a time.
+#![tactic(auto)]
+
+pub mod machine;
