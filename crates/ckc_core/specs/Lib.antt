@@ -1,3 +1,4 @@
 pub mod Core
 pub mod States
 pub mod Meaning
+pub mod Examples
