@@ -1,5 +1,5 @@
 -- What a program means: values with places, each check at its place, and stuck where nothing is meant.
-use Rattle.std.specs.Prelude.{ℕ, zero, suc, Bool, true, false, List, [], ◌∷◌, Option, Some, None, slice_get, slice_set, nat_lt, length}
+use Rattle.std.specs.Prelude.{ℕ, zero, suc, Bool, true, false, ◌&&◌, List, [], ◌∷◌, Option, Some, None, slice_get, slice_set, nat_lt, length}
 use Rattle.std.proofs.Common.{ℤ, ◌+ℤ◌, ◌-ℤ◌, pos}
 use Rattle.ckc_text.specs.declared.code.Code.TheVariants.{C1}
 use Rattle.act_words.specs.declared.ending.Ending.{Ending}
@@ -11,7 +11,7 @@ use Rattle.ckc_core.specs.declared.program.Site.{Site}
 use Rattle.ckc_core.specs.declared.program.Operator.{Operator}
 use Rattle.ckc_core.specs.declared.program.Operator.TheVariants.{Add, Subtract}
 use Rattle.ckc_core.specs.Core as core
-use Rattle.ckc_core.specs.States.{Value, Number, Null, At, CellType, Int, same_type, Cell, State, cell_at, with_cell, initial}
+use Rattle.ckc_core.specs.States.{Value, Number, Null, At, CellType, Int, same_type, has_type, Cell, Block, State, cell_at, with_cell, initial}
 
 -- the outcome of a step of the meaning
 abbrev pub Result : Type 0 → Type 0
@@ -51,6 +51,11 @@ load_through type site (Number number) s = Stuck
 load_through type site Null s = Ends (Check C1 site.place) s
 load_through type site (At block cell) s = load type block cell s
 
+-- a pointer to the first cell of a block that is there
+abbrev pub place_in : Option Block → ℕ → State → Result Value
+place_in None block s = Stuck
+place_in (Some cells) block s = Gives (At block 0) s
+
 -- an operation on two numbers, whose result has 32 bits (C6)
 abbrev pub result_of : Operator → ℤ → ℤ → ℤ
 result_of Add a b = a +ℤ b
@@ -69,7 +74,7 @@ value (core.Number number) s = number_if (is_word_number number) number s
 value core.Null s = Gives Null s
 value (core.Local local) s = given (slice_get s.locals local) s
 value (core.Object object) s = load Int object 0 s
-value (core.AddressOf object) s = Gives (At object 0) s
+value (core.AddressOf object) s = place_in (slice_get s.blocks object) object s
 value (core.Load pointer site) s = and_then (value pointer s) (load_through Int site)
 value (core.Arithmetic operator left right site) s =
     and_then (value left s) (λ a t. and_then (value right t) (arithmetic operator site a))
@@ -79,14 +84,14 @@ pub data Flow : Type 0 where
   Next : Flow
   Returned : (value : Value) → Flow
 
--- puts a value into a cell of the type that is asked for
+-- puts a value into a cell, where both are of the type that is asked for
 abbrev pub store_if : Bool → Cell → ℕ → ℕ → State → Result Flow
 store_if true new block cell s = Gives Next (record { blocks = with_cell s.blocks block cell new; locals = s.locals; world = s.world })
 store_if false new block cell s = Stuck
 
 abbrev pub store_over : Option Cell → CellType → Value → ℕ → ℕ → State → Result Flow
 store_over None type value block cell s = Stuck
-store_over (Some old) type value block cell s = store_if (same_type type old.type) (record { type = old.type; value = value }) block cell s
+store_over (Some old) type value block cell s = store_if (same_type type old.type && has_type type value) (record { type = old.type; value = value }) block cell s
 
 -- stores at a place
 abbrev pub store : CellType → ℕ → ℕ → Value → State → Result Flow

@@ -1,5 +1,5 @@
 -- The states of the meaning: blocks of typed cells, local variables, and the world. No address stands in a state.
-use Rattle.std.specs.Prelude.{◌≡◌, ℕ, Bool, true, List, [], ◌∷◌, Option, Some, None, map, replicate, slice_get, slice_set}
+use Rattle.std.specs.Prelude.{◌≡◌, ℕ, Bool, true, false, List, [], ◌∷◌, Option, Some, None, map, replicate, slice_get, slice_set}
 use Rattle.std.specs.Option.{option_and_then}
 use Rattle.std.proofs.Common.{ℤ}
 use Rattle.act_words.specs.World.{World, new_world}
@@ -17,6 +17,12 @@ pub data CellType : Type 0 where
 
 abbrev pub same_type : CellType → CellType → Bool
 same_type Int Int = true
+
+-- the value is of the type
+abbrev pub has_type : CellType → Value → Bool
+has_type Int (Number number) = true
+has_type Int Null = false
+has_type Int (At block cell) = false
 
 pub record Cell : Type 0 where
   pub type : CellType
