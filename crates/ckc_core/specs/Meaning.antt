@@ -97,6 +97,12 @@ store_over (Some old) type value block cell s = store_if (same_type type old.typ
 abbrev pub store : CellType → ℕ → ℕ → Value → State → Result Flow
 store type block cell value s = store_over (cell_at s.blocks block cell) type value block cell s
 
+-- stores at the place that a value is
+abbrev pub store_to : CellType → Value → Value → State → Result Flow
+store_to type (Number number) value s = Stuck
+store_to type Null value s = Stuck
+store_to type (At block cell) value s = store type block cell value s
+
 -- stores through a pointer, which isn't null (C1)
 abbrev pub store_through : CellType → Site → Value → Value → State → Result Flow
 store_through type site (Number number) value s = Stuck
@@ -111,10 +117,11 @@ set_local_if false local value s = Stuck
 abbrev pub set_local : ℕ → Value → State → Result Flow
 set_local local value s = set_local_if (nat_lt local (length s.locals)) local value s
 
--- the effect of a statement. A store evaluates its pointer, then its value, and then makes its check
+-- the effect of a statement. A store evaluates its place, then its value, and then makes its check
 abbrev pub effect : core.Statement → State → Result Flow
 effect (core.SetLocal local e) s = and_then (value e s) (set_local local)
-effect (core.SetObject object e) s = and_then (value e s) (store Int object 0)
+effect (core.SetObject object e) s =
+    and_then (place_in (slice_get s.blocks object) object s) (λ p t. and_then (value e t) (store_to Int p))
 effect (core.Store pointer e site) s =
     and_then (value pointer s) (λ p t. and_then (value e t) (store_through Int site p))
 effect (core.Return e) s = and_then (value e s) (λ v t. Gives (Returned v) t)
