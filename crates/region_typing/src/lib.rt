@@ -1,0 +1,4 @@
+// From trees to cores, by the rules of names and types.
+#![tactic(auto)]
+
+pub mod laws;
