@@ -1,5 +1,8 @@
 // Why a source is refused.
 
+ghost use Rattle.std.specs.Prelude.{◌≡◌};
+ghost use Rattle.ckc_text.specs.Refusals.{not_built};
+
 use crate::code::Code;
 use crate::place::Span;
 use std::alloc::{AllocError, AllocFailed};
@@ -45,5 +48,39 @@ impl From<NoMemory> for Refused {
 
     fn from(_e: NoMemory) -> Refused {
         Refused::NoMemory
+    }
+}
+
+impl From<AllocError> for Refused {
+    ghost use Rattle.std.specs.Prelude.{◌≡◌};
+    ghost use Rattle.ckc_text.specs.declared.fault.Refused.TheVariants.{NoMemory};
+
+    ghost from_gives = { λ _ e. e ≡ NoMemory };
+
+    fn from(_e: AllocError) -> Refused {
+        Refused::NoMemory
+    }
+}
+
+impl<T: Drop> From<AllocFailed<T>> for Refused {
+    ghost use Rattle.std.specs.Prelude.{◌≡◌};
+    ghost use Rattle.ckc_text.specs.declared.fault.Refused.TheVariants.{NoMemory};
+
+    ghost from_gives = { λ _ e. e ≡ NoMemory };
+
+    fn from(_e: AllocFailed<T>) -> Refused {
+        Refused::NoMemory
+    }
+}
+
+impl Refused {
+    /// The refusal of what stands outside the language: E09 at the start of the source.
+    pub fn not_built() -> Refused
+        ensures { result ≡ Refused.Source not_built }
+    {
+        Refused::Source(SourceFault {
+            code: Code::E09,
+            span: Span { from: 0, to: 0 },
+        })
     }
 }

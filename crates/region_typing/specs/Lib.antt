@@ -1,3 +1,4 @@
 pub mod Acceptance
 pub mod Checking
 pub mod Typed
+pub mod Building

@@ -1,0 +1,81 @@
+// Names, and their numbers.
+
+ghost use Rattle.std.specs.Prelude.{◌≡◌, ◌≤◌, ◌++◌, map, length, OnOk};
+
+ghost use Rattle.ckc_tree.specs.Tree.{statement, variable};
+ghost use Rattle.region_typing.specs.Acceptance.{variable_names, local_names, number_of_name, is_among, are_distinct, reserved_names, is_free};
+ghost use Rattle.std.specs.List.{list_all};
+
+use ckc_text::fault::NoMemory;
+use ckc_text::name::Name;
+use ckc_tree::tree::{Global as Variable, Stmt};
+use std::alloc::Global;
+
+/// The number of a name among names, if it is there: its first position.
+pub fn number_of(names: &[Name], name: &[u8]) -> Option<u32>
+    requires { length names.now ≤ 1280 }
+    ensures { result ≡ number_of_name names.now name.now }
+{
+    let mut number = 0;
+    for other in names {
+        if other.as_bytes() == name {
+            return Some(number);
+        }
+        number += 1;
+    }
+    None
+}
+
+/// Adds the names of file-level variables, in their order.
+pub fn push_variables(names: &mut Vec<Name>, alloc: Global, variables: &[Variable]) -> Result<(), NoMemory>
+    ensures { OnOk result (names.new.items ≡ names.old.items ++ variable_names (map variable variables.now)) }
+{
+    for v in variables {
+        names.push(Name::copied(alloc, v.name.as_bytes())?)?;
+    }
+    Ok(())
+}
+
+/// Adds the names of local variables, in their order.
+pub fn push_locals(names: &mut Vec<Name>, alloc: Global, body: &[Stmt]) -> Result<(), NoMemory>
+    ensures { OnOk result (names.new.items ≡ names.old.items ++ local_names (map statement body.now)) }
+{
+    for stmt in body {
+        if let Stmt::Declare { name, initial: _, span: _ } = stmt {
+            names.push(Name::copied(alloc, name.as_bytes())?)?;
+        }
+    }
+    Ok(())
+}
+
+/// No name stands twice.
+pub fn all_distinct(names: &[Name]) -> bool
+    requires { length names.now ≤ 1280 }
+    ensures { result ≡ are_distinct names.now }
+{
+    for (i, name) in names.iter().enumerate() {
+        if number_of(&names[i + 1..], name.as_bytes()).is_some() {
+            return false;
+        }
+    }
+    true
+}
+
+/// Each name may be declared.
+pub fn all_free(names: &[Name]) -> bool
+    ensures { result ≡ list_all is_free names.now }
+{
+    names.iter().all(|name| !is_reserved(name.as_bytes()))
+}
+
+// `main`, `NULL` or a predefined function.
+fn is_reserved(name: &[u8]) -> bool
+    ensures { result ≡ is_among reserved_names name.now }
+{
+    name == b"main"
+        || name == b"NULL"
+        || name == b"next_input"
+        || name == b"print_int"
+        || name == b"putchar"
+        || name == b"strlen"
+}
