@@ -83,7 +83,7 @@ pub fn local(locals: &[Name], expr: &tree::Expr) -> Result<Expr, Refused>
 {
     if let tree::Expr::Name { name, span: _ } = expr {
         if let Some(number) = number_of(locals, name.as_bytes()) {
-            return Ok(Expr::Local(number));
+            return Ok(Expr::Local(number as u32));
         }
     }
     Err(Refused::not_built())
@@ -96,7 +96,7 @@ fn address(variables: &[Name], expr: &tree::Expr) -> Result<Expr, Refused>
 {
     if let tree::Expr::Name { name, span: _ } = expr {
         if let Some(number) = number_of(variables, name.as_bytes()) {
-            return Ok(Expr::AddressOf(number));
+            return Ok(Expr::AddressOf(number as u32));
         }
     }
     Err(Refused::not_built())
@@ -108,7 +108,7 @@ fn variable(variables: &[Name], name: &Name) -> Result<Expr, Refused>
     ensures { Builds (is_among variables.now name.now) core_of (Object (number_in variables.now name.now)) result }
 {
     match number_of(variables, name.as_bytes()) {
-        Some(number) => Ok(Expr::Object(number)),
+        Some(number) => Ok(Expr::Object(number as u32)),
         None => Err(Refused::not_built()),
     }
 }

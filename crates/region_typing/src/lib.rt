@@ -6,3 +6,4 @@ mod expressions;
 pub mod laws;
 mod names;
 mod sites;
+mod statements;

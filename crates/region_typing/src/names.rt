@@ -1,7 +1,6 @@
 // Names, and their numbers.
 
 ghost use Rattle.std.specs.Prelude.{◌≡◌, ◌≤◌, ◌++◌, map, length, OnOk};
-
 ghost use Rattle.ckc_tree.specs.Tree.{statement, variable};
 ghost use Rattle.region_typing.specs.Acceptance.{variable_names, local_names, number_of_name, is_among, are_distinct, reserved_names, is_free};
 ghost use Rattle.std.specs.List.{list_all};
@@ -12,22 +11,18 @@ use ckc_tree::tree::{Global as Variable, Stmt};
 use std::alloc::Global;
 
 /// The number of a name among names, if it is there: its first position.
-pub fn number_of(names: &[Name], name: &[u8]) -> Option<u32>
-    requires { length names.now ≤ 1280 }
+pub fn number_of(names: &[Name], name: &[u8]) -> Option<usize>
     ensures { result ≡ number_of_name names.now name.now }
 {
-    let mut number = 0;
-    for other in names {
-        if other.as_bytes() == name {
-            return Some(number);
-        }
-        number += 1;
-    }
-    None
+    names.iter().position(|other| name == other.as_bytes())
 }
 
 /// Adds the names of file-level variables, in their order.
-pub fn push_variables(names: &mut Vec<Name>, alloc: Global, variables: &[Variable]) -> Result<(), NoMemory>
+pub fn push_variables(
+    names: &mut Vec<Name>,
+    alloc: Global,
+    variables: &[Variable],
+) -> Result<(), NoMemory>
     ensures { OnOk result (names.new.items ≡ names.old.items ++ variable_names (map variable variables.now)) }
 {
     for v in variables {
@@ -41,7 +36,12 @@ pub fn push_locals(names: &mut Vec<Name>, alloc: Global, body: &[Stmt]) -> Resul
     ensures { OnOk result (names.new.items ≡ names.old.items ++ local_names (map statement body.now)) }
 {
     for stmt in body {
-        if let Stmt::Declare { name, initial: _, span: _ } = stmt {
+        if let Stmt::Declare {
+            name,
+            initial: _,
+            span: _,
+        } = stmt
+        {
             names.push(Name::copied(alloc, name.as_bytes())?)?;
         }
     }
@@ -50,7 +50,6 @@ pub fn push_locals(names: &mut Vec<Name>, alloc: Global, body: &[Stmt]) -> Resul
 
 /// No name stands twice.
 pub fn all_distinct(names: &[Name]) -> bool
-    requires { length names.now ≤ 1280 }
     ensures { result ≡ are_distinct names.now }
 {
     for (i, name) in names.iter().enumerate() {
@@ -72,10 +71,10 @@ pub fn all_free(names: &[Name]) -> bool
 fn is_reserved(name: &[u8]) -> bool
     ensures { result ≡ is_among reserved_names name.now }
 {
-    name == b"main"
-        || name == b"NULL"
-        || name == b"next_input"
-        || name == b"print_int"
-        || name == b"putchar"
-        || name == b"strlen"
+    name == b"main".as_slice()
+        || name == b"NULL".as_slice()
+        || name == b"next_input".as_slice()
+        || name == b"print_int".as_slice()
+        || name == b"putchar".as_slice()
+        || name == b"strlen".as_slice()
 }
