@@ -3,3 +3,4 @@
 
 pub mod shelf;
 pub mod sink;
+pub mod whole;
