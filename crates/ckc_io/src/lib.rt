@@ -1,6 +1,9 @@
 // What `ccbox` reads and writes: files by their names, and one text. Failures are counted.
 #![tactic(auto)]
 
+mod calls;
+pub mod mem_shelf;
+pub mod mem_sink;
 pub mod shelf;
 pub mod sink;
 pub mod whole;
