@@ -1,5 +1,6 @@
 pub mod Calls
 pub mod Counts
+pub mod Edge
 pub mod Files
 pub mod MemShelf
 pub mod MemSink

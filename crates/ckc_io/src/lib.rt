@@ -2,8 +2,10 @@
 #![tactic(auto)]
 
 mod calls;
+pub mod file_shelf;
 pub mod mem_shelf;
 pub mod mem_sink;
+pub mod out_sink;
 pub mod shelf;
 pub mod sink;
 pub mod whole;

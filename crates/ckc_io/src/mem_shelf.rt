@@ -104,9 +104,10 @@ impl Shelf for MemShelf {
         ensures rest { IfOk result (λ n. drop n into.new ≡ drop n into.old) }
         ensures err { OnErr result (into.new ≡ into.old) }
         ensures after { self.new ≡ record self.old {
-            calls = one_more self.old.calls;
-            misses = misses_after result self.old.misses;
-            faults = faults_after result self.old.faults } }
+          calls = one_more self.old.calls;
+          misses = misses_after result self.old.misses;
+          faults = faults_after result self.old.faults;
+        } }
     {
         if self.calls.next_fails() {
             self.faults = self.faults.saturating_add(1);

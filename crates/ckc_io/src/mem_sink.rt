@@ -81,9 +81,10 @@ impl Sink for MemSink {
             ↔ (Contains self.old.calls.failing self.new.calls.made ⊎ ((share_of self.old bytes.now ≡ 0) × (0 < length bytes.now))) }
         ensures share { IfOk result (λ n. n ≡ share_of self.old bytes.now) }
         ensures after { self.new ≡ record self.old {
-            written = self.old.written ++ taken_by result bytes.now;
-            calls = one_more self.old.calls;
-            faults = faults_after result self.old.faults } }
+          written = self.old.written ++ taken_by result bytes.now;
+          calls = one_more self.old.calls;
+          faults = faults_after result self.old.faults;
+        } }
     {
         let left = self.room - self.written.len();
         let share = bytes.len().min(self.most.min(left));
