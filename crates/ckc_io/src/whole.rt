@@ -105,3 +105,42 @@ pub fn write_whole<K: Sink>(sink: &mut K, text: &[u8]) -> Result<(), SinkFault>
     }
     Ok(())
 }
+
+#[cfg(test)]
+mod tests {
+    use super::*;
+    use crate::mem_shelf::MemShelf;
+    use crate::mem_sink::MemSink;
+    use std::test::Fail;
+
+    #[test]
+    fn reads_whole_files(rt: HostRuntime) -> Result<(), Fail> {
+        let mut shelf = MemShelf::new(rt.alloc());
+        shelf.add("empty", b"")?;
+        shelf.add("digits", b"0123456789")?;
+        shelf.fail_at(6)?;
+        for (name, most, bytes) in [
+            ("empty", 4, b"".as_slice()),
+            ("digits", 0, b"".as_slice()),
+            ("digits", 4, b"0123".as_slice()),
+            ("digits", 10, b"0123456789".as_slice()),
+        ] {
+            let read = read_whole(rt.alloc(), &mut shelf, name, most)?;
+            assert_eq!(rt; read.as_slice(), bytes, "at {name} {most}");
+        }
+        let missing = read_whole(rt.alloc(), &mut shelf, "none", 4);
+        assert_eq!(rt; missing.err(), Some(ReadFault::Missing));
+        let failed = read_whole(rt.alloc(), &mut shelf, "digits", 4);
+        assert_eq!(rt; failed.err(), Some(ReadFault::Failed));
+        Ok(())
+    }
+
+    #[test]
+    fn writes_whole_texts(rt: HostRuntime) -> Result<(), Fail> {
+        let mut sink = MemSink::with_room(rt.alloc(), 3, 1)?;
+        assert_eq!(rt; write_whole(&mut sink, b"ab"), Ok(()));
+        assert_eq!(rt; write_whole(&mut sink, b"cd"), Err(SinkFault::Failed));
+        assert_eq!(rt; sink.bytes(), b"abc".as_slice());
+        Ok(())
+    }
+}
