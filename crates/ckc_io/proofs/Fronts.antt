@@ -11,7 +11,7 @@ grown-nothing None = refl
 grown-nothing (Some xs) = ap Some (append-nil xs)
 
 -- growing twice
-grown-grown : (old : Option (List ℕ)) (a b : List ℕ) → grown (grown old a) b ≡ grown old (a ++ b)
+pub grown-grown : (old : Option (List ℕ)) (a b : List ℕ) → grown (grown old a) b ≡ grown old (a ++ b)
 grown-grown None a b = refl
 grown-grown (Some xs) a b = ap Some (append_assoc xs a b)
 

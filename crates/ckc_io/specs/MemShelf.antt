@@ -1,9 +1,9 @@
 -- Files in memory.
-use Rattle.std.specs.Prelude.{◌≡◌, ℕ, ◌≤◌, min, List, length, drop, Some, Result, Ok, Err, refl}
+use Rattle.std.specs.Prelude.{ℕ, min, List, length, drop, Result, Ok, Err, refl}
 use Rattle.std.specs.Coded.{Coded, code_by, coded×, coded_ℕ, coded_list}
 use Rattle.std.specs.FinMap.{code}
 use Rattle.ckc_io.specs.Calls.{CallState, raised}
-use Rattle.ckc_io.specs.Files.{Files, file_at}
+use Rattle.ckc_io.specs.Files.{Files}
 use Rattle.ckc_io.specs.declared.shelf.ShelfFault.{ShelfFault}
 use Rattle.ckc_io.specs.declared.shelf.ShelfFault.TheVariants.{Missing, Failed}
 

@@ -1,7 +1,7 @@
 // The calls of a device in memory: their number, and those that are to fail.
 
-ghost use Rattle.std.specs.Prelude.{◌≡◌, ◌↔◌, Contains, IsTrue, OnOk, OnErr};
-ghost use Rattle.ckc_io.specs.Calls.{also_failing, no_calls, one_more, raised};
+ghost use Rattle.std.specs.Prelude.{◌≡◌, ◌↔◌, IsTrue, OnOk, OnErr};
+ghost use Rattle.ckc_io.specs.Calls.{FailsNext, also_failing, no_calls, one_more};
 
 use ckc_text::fault::NoMemory;
 use std::alloc::Global;
@@ -45,7 +45,7 @@ impl Calls {
     /// Counts a call, and says whether it fails. The count stands still at 2^64 - 1.
     pub(crate) fn next_fails(&mut self) -> bool
         ensures made { self.new ≡ one_more self.old }
-        ensures fails { IsTrue result ↔ Contains self.old.failing (raised self.old.made) }
+        ensures fails { IsTrue result ↔ FailsNext self.old }
     {
         self.made = self.made.saturating_add(1);
         self.failing.contains(&self.made)

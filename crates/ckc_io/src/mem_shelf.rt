@@ -1,9 +1,9 @@
 // Files in memory, which are told to proofs.
 
-ghost use Rattle.std.specs.Prelude.{◌≡◌, ◌≤◌, ◌↔◌, ℕ, List, length, take, drop, Contains, IfOk, OnOk, OnErr, Some, None};
+ghost use Rattle.std.specs.Prelude.{◌≡◌, ◌≤◌, ◌↔◌, ℕ, List, length, take, drop, IfOk, OnOk, OnErr, Some, None};
 ghost use Rattle.std.specs.Option.{option_copied};
 ghost use Rattle.std.specs.FinMap as map;
-ghost use Rattle.ckc_io.specs.Calls.{also_failing, no_calls, one_more};
+ghost use Rattle.ckc_io.specs.Calls.{FailsNext, also_failing, no_calls, one_more};
 ghost use Rattle.ckc_io.specs.Counts.{ShelfCounts};
 ghost use Rattle.ckc_io.specs.Files.{ShelfAnswers, Told, file_at};
 ghost use Rattle.ckc_io.specs.MemShelf.{faults_after, misses_after, share_of};
@@ -42,7 +42,12 @@ impl Model for MemShelf {
 
     ghost use Rattle.ckc_io.specs.StoredFiles.{files_of};
 
-    ghost view = { λ s. record { files = files_of s.files.items; calls = s.calls; misses = s.misses; faults = s.faults } };
+    ghost view = { λ s. record {
+      files = files_of s.files.items;
+      calls = s.calls;
+      misses = s.misses;
+      faults = s.faults;
+    } };
 }
 
 impl MemShelf {
@@ -59,9 +64,11 @@ impl MemShelf {
         }
     }
 
-    /// Sets the bytes of a name. A file that had the name before is read no more, and keeps its memory.
+    /// Sets the bytes of a name. A file that had the name before is read no more, but keeps its
+    /// memory.
     pub fn add(&mut self, name: &str, bytes: &[u8]) -> Result<(), NoMemory>
-        ensures ok { OnOk result (self.new ≡ record self.old { files = map.insert self.old.files name.now bytes.now }) }
+        ensures ok { OnOk result
+            (self.new ≡ record self.old { files = map.insert self.old.files name.now bytes.now }) }
         ensures err { OnErr result (self.new ≡ self.old) }
     {
         let file = StoredFile {
@@ -74,7 +81,8 @@ impl MemShelf {
 
     /// Lists the number of a read that fails. The first read has the number 1.
     pub fn fail_at(&mut self, call: u64) -> Result<(), NoMemory>
-        ensures ok { OnOk result (self.new ≡ record self.old { calls = also_failing self.old.calls call }) }
+        ensures ok { OnOk result
+            (self.new ≡ record self.old { calls = also_failing self.old.calls call }) }
         ensures err { OnErr result (self.new ≡ self.old) }
     {
         self.calls.fail_at(call)
@@ -88,19 +96,23 @@ impl Shelf for MemShelf {
 
     ghost faults = { λ s. s.faults };
 
-    /// Reads as much as the file has from the offset and the buffer has room for. A listed read fails. Where the number
-    /// of reads stands still at 2^64 - 1, each further read has that number.
+    /// Reads as much as the file has from the offset and the buffer has room for. A listed read
+    /// fails. Where the number of reads stands still at 2^64 - 1, each further one has that number.
     fn read_at(&mut self, name: &str, from: u64, into: &mut [u8]) -> Result<usize, ShelfFault>
         ensures count { IfOk result (λ n. n ≤ length into.new) }
         ensures files { Some self.new.files ≡ Some self.old.files }
-        ensures answer { Told (Some self.old.files) (λ m. ShelfAnswers m name.now from into.new result) }
-        ensures counts { ShelfCounts result self.old.misses self.new.misses self.old.faults self.new.faults }
+        ensures answer { Told (Some self.old.files)
+            (λ m. ShelfAnswers m name.now from into.new result) }
+        ensures counts { ShelfCounts result
+            self.old.misses self.new.misses self.old.faults self.new.faults }
 
         // Exactly which answer comes, and what it leaves.
-        ensures failed { (result ≡ Err ShelfFault.Failed) ↔ Contains self.old.calls.failing self.new.calls.made }
+        ensures failed { (result ≡ Err ShelfFault.Failed) ↔ FailsNext self.old.calls }
         ensures missing { (result ≡ Err ShelfFault.Missing)
-            ↔ ((¬ Contains self.old.calls.failing self.new.calls.made) × (file_at self.old.files name.now ≡ None)) }
-        ensures share { IfOk result (λ n. (file : List ℕ) × (file_at self.old.files name.now ≡ Some file) × (n ≡ share_of file from (length into.old))) }
+            ↔ ((¬ FailsNext self.old.calls) × (file_at self.old.files name.now ≡ None)) }
+        ensures share { IfOk result (λ n. (file : List ℕ)
+            × (file_at self.old.files name.now ≡ Some file)
+            × (n ≡ share_of file from (length into.old))) }
         ensures rest { IfOk result (λ n. drop n into.new ≡ drop n into.old) }
         ensures err { OnErr result (into.new ≡ into.old) }
         ensures after { self.new ≡ record self.old {
@@ -135,7 +147,8 @@ fn newest<'a>(files: &'a [StoredFile], name: &str) -> Option<&'a [u8]>
     None
 }
 
-/// Copies what a file has from an offset into a buffer, as much as it has room for, and answers how much.
+/// Copies what a file has from an offset into a buffer, as much as there is room for, and answers
+/// how much.
 fn copy_from(file: &[u8], from: u64, into: &mut [u8]) -> usize
     ensures share { result ≡ share_of file.now from (length into.old) }
     ensures bytes { take result into.new ≡ take result (drop from file.now) }

@@ -1,9 +1,9 @@
 // A text in memory, which is told to proofs.
 
-ghost use Rattle.std.specs.Prelude.{◌≡◌, ◌≤◌, ◌<◌, ◌++◌, [], ◌↔◌, ◌⊎◌, length, Contains, IfOk, OnOk, OnErr, Some};
-ghost use Rattle.ckc_io.specs.Calls.{also_failing, no_calls, one_more};
+ghost use Rattle.std.specs.Prelude.{◌≡◌, ◌≤◌, ◌<◌, ◌++◌, [], ◌↔◌, ◌⊎◌, length, IfOk, OnOk, OnErr, Some};
+ghost use Rattle.ckc_io.specs.Calls.{FailsNext, also_failing, no_calls, one_more};
 ghost use Rattle.ckc_io.specs.Counts.{SinkCounts};
-ghost use Rattle.ckc_io.specs.MemSink.{faults_after, share_of};
+ghost use Rattle.ckc_io.specs.MemSink.{TakesNone, faults_after, share_of};
 ghost use Rattle.ckc_io.specs.Written.{grown, taken_by};
 
 use crate::calls::Calls;
@@ -28,7 +28,13 @@ impl Model for MemSink {
 
     ghost Value = { SinkState };
 
-    ghost view = { λ s. record { written = s.written.items; room = s.room; most = s.most; calls = s.calls; faults = s.faults } };
+    ghost view = { λ s. record {
+      written = s.written.items;
+      room = s.room;
+      most = s.most;
+      calls = s.calls;
+      faults = s.faults;
+    } };
 
     ghost invariant = { λ s. (vec_len s.written ≤ s.room) × (s.room ≤ vec_capacity s.written) };
 }
@@ -36,7 +42,13 @@ impl Model for MemSink {
 impl MemSink {
     /// An empty text with room for `room` bytes, which takes at most `most` bytes at a time.
     pub fn with_room(alloc: Global, room: usize, most: usize) -> Result<MemSink, NoMemory>
-        ensures { IfOk result (λ sink. sink ≡ record { written = []; room = room; most = most; calls = no_calls; faults = 0 }) }
+        ensures { IfOk result (λ sink. sink ≡ record {
+          written = [];
+          room = room;
+          most = most;
+          calls = no_calls;
+          faults = 0;
+        }) }
     {
         Ok(MemSink {
             written: Vec::with_capacity(alloc, room)?,
@@ -49,7 +61,8 @@ impl MemSink {
 
     /// Lists the number of a call that fails. The first call has the number 1.
     pub fn fail_at(&mut self, call: u64) -> Result<(), NoMemory>
-        ensures ok { OnOk result (self.new ≡ record self.old { calls = also_failing self.old.calls call }) }
+        ensures ok { OnOk result
+            (self.new ≡ record self.old { calls = also_failing self.old.calls call }) }
         ensures err { OnErr result (self.new ≡ self.old) }
     {
         self.calls.fail_at(call)
@@ -68,17 +81,19 @@ impl Sink for MemSink {
 
     ghost faults = { λ s. s.faults };
 
-    /// Takes as much of the piece as it has room for and as it takes at a time. A listed call fails, and so does one that
-    /// finds no room. Where the number of calls stands still at 2^64 - 1, each further call has that number.
+    /// Takes as much of the piece as it has room for and as it takes at a time. A listed call
+    /// fails, and so does one that can take no byte of a piece that has some. Where the number of
+    /// calls stands still at 2^64 - 1, each further call has that number.
     fn put(&mut self, bytes: &[u8]) -> Result<usize, SinkFault>
         ensures count { IfOk result (λ n. n ≤ length bytes.now) }
         ensures progress { IfOk result (λ n. 0 < length bytes.now → 0 < n) }
-        ensures written { Some self.new.written ≡ grown (Some self.old.written) (taken_by result bytes.now) }
+        ensures written { Some self.new.written
+            ≡ grown (Some self.old.written) (taken_by result bytes.now) }
         ensures counts { SinkCounts result self.old.faults self.new.faults }
 
         // Exactly which answer comes, and what it leaves.
         ensures failed { (result ≡ Err SinkFault.Failed)
-            ↔ (Contains self.old.calls.failing self.new.calls.made ⊎ ((share_of self.old bytes.now ≡ 0) × (0 < length bytes.now))) }
+            ↔ (FailsNext self.old.calls ⊎ TakesNone self.old bytes.now) }
         ensures share { IfOk result (λ n. n ≡ share_of self.old bytes.now) }
         ensures after { self.new ≡ record self.old {
           written = self.old.written ++ taken_by result bytes.now;

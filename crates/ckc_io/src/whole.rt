@@ -58,7 +58,8 @@ pub fn read_whole<F: Shelf>(
 ) -> Result<Vec<u8>, ReadFault>
     ensures files { F.files shelf.new ≡ F.files shelf.old }
     ensures content { Told (F.files shelf.old) (λ m. WholeAnswers m name.now most result) }
-    ensures counts { WholeCounts result (F.misses shelf.old) (F.misses shelf.new) (F.faults shelf.old) (F.faults shelf.new) }
+    ensures counts { WholeCounts result
+        (F.misses shelf.old) (F.misses shelf.new) (F.faults shelf.old) (F.faults shelf.new) }
 {
     let mut bytes = Vec::new(alloc);
     loop {
@@ -69,7 +70,8 @@ pub fn read_whole<F: Shelf>(
     }
 }
 
-/// Reads the next piece of a file behind the bytes that were read before, and answers how many came.
+/// Reads the next piece of a file behind the bytes that were read before, and answers how many
+/// bytes came.
 fn read_piece<F: Shelf>(
     shelf: &mut F,
     name: &str,
@@ -80,8 +82,10 @@ fn read_piece<F: Shelf>(
     ensures files { F.files shelf.new ≡ F.files shelf.old }
     ensures within { vec_len bytes.new ≤ most }
     ensures longer { IfOk result (λ count. vec_len bytes.new ≡ vec_len bytes.old + count) }
-    ensures content { Told (F.files shelf.old) (λ m. PieceAnswers m name.now most bytes.old.items bytes.new.items result) }
-    ensures counts { WholeCounts result (F.misses shelf.old) (F.misses shelf.new) (F.faults shelf.old) (F.faults shelf.new) }
+    ensures content { Told (F.files shelf.old)
+        (λ m. PieceAnswers m name.now most bytes.old.items bytes.new.items result) }
+    ensures counts { WholeCounts result
+        (F.misses shelf.old) (F.misses shelf.new) (F.faults shelf.old) (F.faults shelf.new) }
 {
     let mut buffer = [0u8; PIECE];
     let taken = bytes.len();
@@ -96,7 +100,9 @@ pub fn write_whole<K: Sink>(sink: &mut K, text: &[u8]) -> Result<(), SinkFault>
     ensures all { OnOk result (K.written sink.new ≡ grown (K.written sink.old) text.now) }
 
     // After a fault too, a front of the text was written.
-    ensures front { (n : ℕ) × (n ≤ length text.now) × (K.written sink.new ≡ grown (K.written sink.old) (take n text.now)) }
+    ensures front { (n : ℕ)
+        × (n ≤ length text.now)
+        × (K.written sink.new ≡ grown (K.written sink.old) (take n text.now)) }
     ensures counts { SinkCounts result (K.faults sink.old) (K.faults sink.new) }
 {
     let mut at = 0;
