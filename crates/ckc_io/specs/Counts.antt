@@ -3,7 +3,6 @@ use Rattle.std.specs.Prelude.{◌≡◌, ℕ, ◌-◌, ◌^◌, ◌<◌, ◌≤�
 use Rattle.ckc_io.specs.declared.shelf.ShelfFault.{ShelfFault}
 use Rattle.ckc_io.specs.declared.shelf.ShelfFault.TheVariants.{Missing, Failed}
 use Rattle.ckc_io.specs.declared.sink.SinkFault.{SinkFault}
-use Rattle.ckc_io.specs.declared.sink.SinkFault.TheVariants as sinks
 
 -- the count is greater, or stands at its type's end
 abbrev pub Rose : ℕ → ℕ → Type 0

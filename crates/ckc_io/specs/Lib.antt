@@ -1,3 +1,9 @@
+pub mod Calls
 pub mod Counts
+pub mod Edge
 pub mod Files
+pub mod MemShelf
+pub mod MemSink
+pub mod StoredFiles
+pub mod Whole
 pub mod Written

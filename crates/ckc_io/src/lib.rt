@@ -1,5 +1,11 @@
 // What `ccbox` reads and writes: files by their names, and one text. Failures are counted.
 #![tactic(auto)]
 
+mod calls;
+pub mod file_shelf;
+pub mod mem_shelf;
+pub mod mem_sink;
+pub mod out_sink;
 pub mod shelf;
 pub mod sink;
+pub mod whole;
