@@ -3,3 +3,4 @@
 
 pub mod lexer;
 pub mod token;
+mod word;
