@@ -55,7 +55,7 @@ may_follow text after Ampersand h ends = tt
 may_follow text after Semicolon h ends = tt
 
 -- the token that stands at the front has this length
-no_front : (whole : List ℕ) (n : ℕ) → n ≡ token_len whole → ((kind : TokenKind) → Spells (take n whole) kind → ⊥) → IsFrontOf whole None
+pub no_front : (whole : List ℕ) (n : ℕ) → n ≡ token_len whole → ((kind : TokenKind) → Spells (take n whole) kind → ⊥) → IsFrontOf whole None
 no_front whole n len none text after kind whole_is spells follows =
     let f : Front whole text after kind = record { whole_is = whole_is; spells = spells; follows = follows } in
     let text_is : text ≡ take n whole = sym (take_at text after n (length-front f ∙ sym len)) ∙ ap (take n) (sym whole_is) in

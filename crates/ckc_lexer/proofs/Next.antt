@@ -85,7 +85,8 @@ front_stops p [] = refl
 front_stops p (b ∷ bs) =
     cond_both (p b) (1 + prefix_len p bs) 0 (λ n. begins_with p (drop n (b ∷ bs)) ≡ false) (λ yes. rw one-add (front_stops p bs)) (λ no. no)
 
-no_cut : {from : ℕ} {whole : List ℕ} {tokens : List Token} → 0 < length whole → begins_with is_blank whole ≡ false → IsFrontOf whole None → Cut from whole tokens → ⊥
+-- a text that begins with neither has no list of tokens
+pub no_cut : {from : ℕ} {whole : List ℕ} {tokens : List Token} → 0 < length whole → begins_with is_blank whole ≡ false → IsFrontOf whole None → Cut from whole tokens → ⊥
 no_cut some no_blank none nothing = omega arith
 no_cut some no_blank none (blank {b = b} h cut) = both_ways (is_blank b) no_blank h
 no_cut some no_blank none (token text {rest = after} {kind} spells follows cut) = none text after kind refl spells follows

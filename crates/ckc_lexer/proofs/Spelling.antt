@@ -1,5 +1,5 @@
 -- What the texts of tokens are like, and that a text is one token at most.
-use Rattle.std.proofs.Common.{◌≡◌, ℕ, max, ◌<◌, Bool, true, false, not, ◌||◌, cond, List, [], ◌∷◌, ◌++◌, length, codes, refl, sym, ap, ◌∙◌, arith}
+use Rattle.std.proofs.Common.{◌≡◌, ℕ, max, ◌<◌, Bool, true, false, not, ◌||◌, cond, List, [], ◌∷◌, ◌++◌, length, codes, refl, sym, ap, ◌∙◌, subst, arith}
 use Rattle.std.specs.List.{list_all, prefix_len}
 use Rattle.std.specs.Str.{bytes_eq}
 use Rattle.std.specs.Str.Parse.{digits_value}
@@ -11,17 +11,17 @@ use Rattle.ckc_lexer.specs.declared.token.TokenKind.{TokenKind}
 use Rattle.ckc_lexer.specs.declared.token.TokenKind.TheVariants.{Int, Void, Return, Ptr, Name, Number, OpenParen, CloseParen, OpenBrace, CloseBrace, Less, Greater, Equal, Plus, Minus, Star, Ampersand, Semicolon}
 
 -- the one kind that a text may have
-abbrev fixed_kinds : List (List ℕ × TokenKind)
+abbrev pub fixed_kinds : List (List ℕ × TokenKind)
 fixed_kinds =
     (codes "int", Int) ∷ (codes "void", Void) ∷ (codes "return", Return) ∷ (codes "ptr", Ptr) ∷ (codes "(", OpenParen) ∷ (codes ")", CloseParen)
     ∷ (codes "{", OpenBrace) ∷ (codes "}", CloseBrace) ∷ (codes "<", Less) ∷ (codes ">", Greater) ∷ (codes "=", Equal) ∷ (codes "+", Plus)
     ∷ (codes "-", Minus) ∷ (codes "*", Star) ∷ (codes "&", Ampersand) ∷ (codes ";", Semicolon) ∷ []
 
-abbrev listed_kind : List ℕ → List (List ℕ × TokenKind) → TokenKind
+abbrev pub listed_kind : List ℕ → List (List ℕ × TokenKind) → TokenKind
 listed_kind text [] = Semicolon
 listed_kind text (entry ∷ entries) = cond (bytes_eq text entry.0) entry.1 (listed_kind text entries)
 
-abbrev kind_at : Bool → Bool → List ℕ → TokenKind
+abbrev pub kind_at : Bool → Bool → List ℕ → TokenKind
 kind_at true keyword text = Number (digits_value 10 text)
 kind_at false true text = listed_kind text fixed_kinds
 kind_at false false text = Name text
@@ -30,7 +30,7 @@ abbrev pub begins_with : (ℕ → Bool) → List ℕ → Bool
 begins_with p [] = false
 begins_with p (b ∷ bs) = p b
 
-abbrev kind_of : List ℕ → TokenKind
+abbrev pub kind_of : List ℕ → TokenKind
 kind_of text = kind_at (begins_with is_digit text) (not (begins_with is_letter text) || is_keyword text) text
 
 digit_of_numeral : (text : List ℕ) → is_numeral text ≡ true → begins_with is_digit text ≡ true
@@ -74,6 +74,10 @@ spelled_kind text Minus h = rw h refl
 spelled_kind text Star h = rw h refl
 spelled_kind text Ampersand h = rw h refl
 spelled_kind text Semicolon h = rw h refl
+
+-- no kind but this one may be the text's
+pub only_kind : (text : List ℕ) (kind : TokenKind) → Spells text kind → Spells text (kind_of text)
+only_kind text kind h = subst (λ k. Spells text k) (sym (spelled_kind text kind h)) h
 
 -- a text is one token at most
 pub same_kind : (text : List ℕ) (k l : TokenKind) → Spells text k → Spells text l → k ≡ l
