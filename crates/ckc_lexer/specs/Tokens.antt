@@ -1,5 +1,5 @@
 -- The tokens that a text spells, as a relation on cuts of the whole text: ISO C's longest match, in this language.
-use Rattle.std.specs.Prelude.{◌≡◌, ℕ, suc, ◌+◌, ◌≤◌, Bool, true, false, List, [], ◌∷◌, ◌++◌, length, codes, Result, Ok, Err}
+use Rattle.std.specs.Prelude.{◌≡◌, ℕ, suc, ◌+◌, ◌≤◌, true, false, List, [], ◌∷◌, ◌++◌, length, codes, Result, Ok, Err}
 use Rattle.std.specs.Str.Parse.{digits_value}
 use Rattle.std.specs.Global.{Vec}
 use Rattle.ckc_text.specs.declared.fault.Refused.{Refused}
