@@ -1,1 +1,4 @@
+pub mod Places
 pub mod Machines
+pub mod Insides
+pub mod Steps
