@@ -1,1 +1,5 @@
+pub mod Places
 pub mod Machines
+pub mod Insides
+pub mod Steps
+pub mod Examples

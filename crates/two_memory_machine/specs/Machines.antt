@@ -2,6 +2,7 @@
 use Rattle.std.specs.Prelude.{◌≡◌, ℕ, ◌+◌, ◌-◌, Bool, true, false, nat_le, List, [], ◌++◌, length, Option, Some, None, slice_get}
 use Rattle.act_words.specs.declared.ending.Ending.{Ending}
 use Rattle.act_words.specs.declared.settings.Settings.{Settings}
+use Rattle.code_words.specs.declared.image.Func.{Func}
 use Rattle.code_words.specs.declared.image.Image.{Image}
 use Rattle.act_words.specs.World
 use Rattle.code_words.specs.Machine.{Frame, State, Step, Goes, Over, step, started, address_of}
@@ -51,6 +52,19 @@ StepGives events (Over ending s) old event new = (event ≡ Ended ending) × (ne
 -- the machine's step is that of the table, whatever came before
 abbrev pub Steps : Machine → Event → Machine → Type 0
 Steps old event new = (events : List World.Event) → StepGives events (step old.image old.base (state_of old events)) old event new
+
+-- how many instructions stand from a place of a function on
+abbrev pub ops_from : Option Func → ℕ → ℕ
+ops_from None place = 0
+ops_from (Some f) place = length f.ops - place
+
+-- how many steps the machine can make at most: one for each instruction from the next on, and one behind the last
+abbrev pub steps_left : Machine → ℕ
+steps_left m = left_in m.over (ops_from (slice_get m.image.trusted.funs m.frame.function) m.frame.next)
+  where
+    left_in : Option Ending → ℕ → ℕ
+    left_in None ops = ops + 1
+    left_in (Some ending) ops = 0
 
 -- the address and the length of a block of trusted memory
 abbrev pub block_of : Machine → ℕ → Option (ℕ × ℕ)
