@@ -22,7 +22,7 @@ struct StoredFile {
     bytes: Vec<u8>,
 }
 
-/// Files in memory.
+/// Files in memory, and the reads of them that are to fail.
 #[derive(Drop)]
 pub struct MemShelf {
     alloc: Global,

@@ -12,7 +12,7 @@ use ckc_text::fault::NoMemory;
 use std::alloc::Global;
 use std::marker::Model;
 
-/// A text in memory. It takes all of its memory when it is made.
+/// A text in memory. It takes the memory of its bytes when it is made, and none when it is written.
 #[derive(Drop)]
 pub struct MemSink {
     written: Vec<u8>,
