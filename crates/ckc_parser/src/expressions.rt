@@ -1,14 +1,15 @@
 // Reading expressions.
 
-ghost use Rattle.std.specs.Prelude.{◌≡◌, ◌≤◌, IfOk};
+ghost use Rattle.std.specs.Prelude.{◌≡◌};
 ghost use Rattle.std.specs.Option.{option_map};
 ghost use Rattle.ckc_tree.specs.Tree.{expression, expression_height, span_of};
 ghost use Rattle.ckc_parser.specs.Grammar.{join};
 ghost use Rattle.ckc_parser.specs.Reading.{Gives, pointed_at, target_at, atom_at, operator_at, longer_at, binary_of, Finds, IsSum, IsValue};
 
+use crate::memory::boxed;
 use crate::tokens::{expect, first, name, refused};
 use ckc_lexer::token::{Token, TokenKind};
-use ckc_text::fault::{NoMemory, Refused};
+use ckc_text::fault::Refused;
 use ckc_text::name::Name;
 use ckc_text::place::Span;
 use ckc_tree::tree::{BinaryOperator, Expr};
@@ -47,13 +48,6 @@ pub fn span_of(expr: &Expr) -> Span
         Expr::AddressOf { span, .. } => *span,
         Expr::Binary { span, .. } => *span,
     }
-}
-
-/// An expression on the heap.
-pub fn boxed(alloc: Global, operand: Expr) -> Result<Box<Expr>, NoMemory>
-    ensures { IfOk result (λ b. b.value ≡ operand) }
-{
-    Ok(Box::new(alloc, operand)?)
 }
 
 /// What the name behind a star points to.

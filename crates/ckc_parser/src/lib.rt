@@ -2,6 +2,8 @@
 #![tactic(auto)]
 
 mod expressions;
+pub mod laws;
+mod memory;
 pub mod parser;
 mod statements;
 mod tokens;

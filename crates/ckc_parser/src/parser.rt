@@ -1,17 +1,18 @@
 // Reading a tree from tokens.
 
-ghost use Rattle.std.specs.Prelude.{◌≡◌, [], ◌∷◌, ◌++◌, map, OnOk};
+ghost use Rattle.std.specs.Prelude.{◌≡◌, map};
 ghost use Rattle.ckc_tree.specs.Tree.{variable};
 ghost use Rattle.ckc_parser.specs.Parsing.{ParseAnswers};
 ghost use Rattle.ckc_parser.specs.Reading.{Gives, initial_at, variable_at, function_at, main_end_at, main_at, begins_function, Finds, IsVariables};
 
 use crate::expressions::join_spans;
+use crate::memory::push;
 use crate::statements::body;
 use crate::tokens::{begins, expect, first, name, number, refused};
 use ckc_lexer::token::{Token, TokenKind};
-use ckc_text::fault::{NoMemory, Refused};
+use ckc_text::fault::Refused;
 use ckc_text::name::Name;
-use ckc_tree::tree::{Global as Variable, Program};
+use ckc_tree::tree;
 use std::alloc::Global;
 
 /// The tree that a source's tokens spell.
@@ -19,16 +20,16 @@ use std::alloc::Global;
 /// # Errors
 ///
 /// E09 at 1:1 exactly where the tokens spell no tree of this language, or one higher than 200.
-pub fn parse(alloc: Global, tokens: &[Token]) -> Result<Program, Refused>
+pub fn parse(alloc: Global, tokens: &[Token]) -> Result<tree::Program, Refused>
     ensures { ParseAnswers tokens.now result }
 {
-    let (globals, rest) = variables(alloc, tokens)?;
+    let (globals, rest) = globals(alloc, tokens)?;
     let rest = main_head(rest)?;
     let (body, rest) = body(alloc, rest)?;
     if !rest.is_empty() {
         return Err(refused());
     }
-    Ok(Program { globals, body })
+    Ok(tree::Program { globals, body })
 }
 
 /// The number behind an equals sign, where there is one.
@@ -48,7 +49,7 @@ fn initial(tokens: &[Token]) -> Result<(Option<u32>, &[Token]), Refused>
 
 /// A file-level variable.
 #[tactic(auto, unfolding(crate::specs::Reading::variable_at))]
-fn global(alloc: Global, tokens: &[Token]) -> Result<(Variable, &[Token]), Refused>
+fn global(alloc: Global, tokens: &[Token]) -> Result<(tree::Global, &[Token]), Refused>
     ensures { Gives (λ x. (variable x.0, x.1.now)) result (variable_at tokens.now) }
 {
     let (first, rest) = expect(tokens, &TokenKind::Int)?;
@@ -58,7 +59,7 @@ fn global(alloc: Global, tokens: &[Token]) -> Result<(Variable, &[Token]), Refus
     let name = Name::copied(alloc, name.as_bytes())?;
     let span = join_spans(first, last);
     Ok((
-        Variable {
+        tree::Global {
             name,
             initial,
             span,
@@ -74,25 +75,18 @@ fn begins_function(tokens: &[Token]) -> bool
     tokens.len() > 2 && begins(&tokens[2..], &TokenKind::OpenParen)
 }
 
-/// Puts a variable at the end.
-fn push(variables: &mut Vec<Variable>, last: Variable) -> Result<(), NoMemory>
-    ensures { OnOk result (variables.new.items ≡ variables.old.items ++ last ∷ []) }
-{
-    Ok(variables.push(last)?)
-}
-
 /// The file-level variables before the first function.
-fn variables(alloc: Global, tokens: &[Token]) -> Result<(Vec<Variable>, &[Token]), Refused>
+fn globals(alloc: Global, tokens: &[Token]) -> Result<(Vec<tree::Global>, &[Token]), Refused>
     ensures { Finds (IsVariables tokens.now) (λ v. map variable v.items) result }
 {
-    let mut variables = Vec::new(alloc);
+    let mut globals = Vec::new(alloc);
     let mut rest = tokens;
     while !begins_function(rest) {
-        let (variable, after) = global(alloc, rest)?;
-        push(&mut variables, variable)?;
+        let (global, after) = global(alloc, rest)?;
+        push(&mut globals, global)?;
         rest = after;
     }
-    Ok((variables, rest))
+    Ok((globals, rest))
 }
 
 /// The name of a function, with what stands around it.

@@ -1,13 +1,14 @@
 // Reading statements.
 
-ghost use Rattle.std.specs.Prelude.{◌≡◌, [], ◌∷◌, ◌++◌, map, OnOk};
+ghost use Rattle.std.specs.Prelude.{map};
 ghost use Rattle.ckc_tree.specs.Tree.{expression, statement};
 ghost use Rattle.ckc_parser.specs.Reading.{Gives, address_at, pointer_at, pointer_type_at, local_at, Finds, IsStore, IsEnding, IsStores, Extends, IsBody};
 
-use crate::expressions::{boxed, join_spans, span_of, target, value};
+use crate::expressions::{join_spans, span_of, target, value};
+use crate::memory::{boxed, push};
 use crate::tokens::{begins, expect, first, name, refused};
 use ckc_lexer::token::{Token, TokenKind};
-use ckc_text::fault::{NoMemory, Refused};
+use ckc_text::fault::Refused;
 use ckc_text::name::Name;
 use ckc_text::place::Span;
 use ckc_tree::tree::{Expr, Stmt};
@@ -103,13 +104,6 @@ fn ending(alloc: Global, tokens: &[Token]) -> Result<(Stmt, &[Token]), Refused>
     let (_, rest) = expect(rest, &TokenKind::CloseBrace)?;
     let span = join_spans(first, last);
     Ok((Stmt::Return { value, span }, rest))
-}
-
-/// Puts a statement at the end.
-fn push(statements: &mut Vec<Stmt>, last: Stmt) -> Result<(), NoMemory>
-    ensures { OnOk result (statements.new.items ≡ statements.old.items ++ last ∷ []) }
-{
-    Ok(statements.push(last)?)
 }
 
 /// The statements, and then the stores and the return that tokens begin with.
