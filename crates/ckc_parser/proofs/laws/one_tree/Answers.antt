@@ -1,0 +1,5 @@
+use Rattle.ckc_parser.proofs.Programs.{one_tree}
+use Rattle.ckc_parser.proofs.laws.one_tree.Goals as goal
+
+pub returns : goal.returns
+returns c = one_tree

@@ -1,0 +1,11 @@
+use Rattle.std.proofs.Common.{length, map}
+use Rattle.ckc_tree.specs.Tree.{statement}
+use Rattle.ckc_parser.specs.Reading.{IsBody}
+use Rattle.ckc_parser.proofs.Leads.{Leads}
+use Rattle.ckc_parser.proofs.statements.body.Given as goal
+
+abbrev pub invariant-loop-rest : goal.invariant-loop-rest
+invariant-loop-rest l = Leads IsBody l.tokens (map statement l.statements.items) l.rest
+
+abbrev pub decreases-loop-rest : goal.decreases-loop-rest
+decreases-loop-rest l = length l.rest
