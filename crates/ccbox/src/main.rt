@@ -1,0 +1,6 @@
+// Checks a C file, and runs it.
+#![tactic(auto)]
+
+mod front;
+
+fn main() {}
