@@ -5,3 +5,4 @@ pub mod Steps
 pub mod Expressions
 pub mod Statements
 pub mod Programs
+pub mod Runs
