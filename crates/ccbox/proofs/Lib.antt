@@ -1,1 +1,3 @@
 pub mod Fronts
+pub mod Finishing
+pub mod Runs

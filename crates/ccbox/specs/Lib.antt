@@ -1,4 +1,7 @@
 pub mod Requests
+pub mod Requested
 pub mod Texts
 pub mod Acceptance
 pub mod Answers
+pub mod Running
+pub mod Answering

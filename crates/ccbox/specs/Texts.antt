@@ -13,19 +13,19 @@ use Rattle.act_words.specs.World.{Event, Output}
 abbrev pub line : List ℕ → List ℕ
 line text = text ++ 10 ∷ []
 
--- a line and a column, as `6:5`
-abbrev pub place_text : Place → List ℕ
-place_text place = decimal place.line ++ codes ":" ++ decimal place.col
-
 -- the number of an act, where a stop names one
 abbrev pub act_text : Option ℕ → List ℕ
 act_text None = []
 act_text (Some act) = codes "act " ++ decimal act ++ codes " "
 
+-- a line about what stands at a place, as `[refused E17 2:3 bounds not proved]`
+abbrev pub placed_text : List ℕ → Code → Place → List ℕ
+placed_text word code place = line (codes "[" ++ word ++ codes " " ++ number_of code ++ codes " " ++ decimal place.line ++ codes ":" ++ decimal place.col ++ codes " " ++ name_of code ++ codes "]")
+
 -- how a run ended
 abbrev pub ending_text : Ending → List ℕ
 ending_text (Exit value) = line (codes "[exit " ++ signed_decimal value ++ codes "]")
-ending_text (Check code place) = line (codes "[check " ++ number_of code ++ codes " " ++ place_text place ++ codes " " ++ name_of code ++ codes "]")
+ending_text (Check code place) = placed_text (codes "check") code place
 ending_text (Stop code act) = line (codes "[stop " ++ number_of code ++ codes " " ++ act_text act ++ name_of code ++ codes "]")
 
 -- what the program wrote
@@ -51,7 +51,7 @@ run_text events ending = output_of events ++ missing_feed (output_of events) ++ 
 
 -- a refused source, at its place
 abbrev pub refused_text : Code → Place → List ℕ
-refused_text code place = line (codes "[refused " ++ number_of code ++ codes " " ++ place_text place ++ codes " " ++ name_of code ++ codes "]")
+refused_text code place = placed_text (codes "refused") code place
 
 -- a file that isn't there
 abbrev pub missing_text : List ℕ → List ℕ

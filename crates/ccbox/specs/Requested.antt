@@ -1,0 +1,9 @@
+-- Requests of the code as plain data.
+use Rattle.std.specs.Prelude.{Option, Some, None}
+use Rattle.ccbox.specs.Requests.{Request, Run}
+use Rattle.ccbox.specs.declared.request.Request as code
+use Rattle.ccbox.specs.declared.request.Request.TheVariants as requests
+
+abbrev pub requested : Option code.Request → Option Request
+requested None = None
+requested (Some (requests.Run file)) = Some (Run file.now)
