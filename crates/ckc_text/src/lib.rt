@@ -3,5 +3,6 @@
 
 pub mod code;
 pub mod fault;
+pub mod line_index;
 pub mod name;
 pub mod place;
