@@ -11,6 +11,7 @@ use Rattle.code_words.specs.declared.image.Image.{Image}
 use Rattle.two_memory_machine.specs.Places.{addresses_from}
 use Rattle.two_memory_machine.specs.Machines.{Machine, block_of}
 
+-- an address is the base and the offset
 slice_get-addresses_from : (blocks : List (List ℕ)) (base offset address k : ℕ) → base + offset ≡ address → slice_get (addresses_from address blocks) k ≡ option_map (λ o. base + o) (offset_from offset blocks k)
 slice_get-addresses_from [] base offset address k e = refl
 slice_get-addresses_from (block ∷ blocks) base offset address zero e = ap Some (sym e)
@@ -35,5 +36,6 @@ pub item_found : {X : Type 0} (xs : List X) (k : ℕ) (item : Option (Bor X)) �
 item_found xs k None found = sym (slice_get_past xs k found.3)
 item_found xs k (Some item) found = sym (slice_get_read xs _ k item.now refl found.3.0 found.1)
 
+-- an address and a block that are found make what the table has of the block
 pub block_found : (m : Machine) (k address : ℕ) (block bytes : List ℕ) → Some address ≡ address_of m.image m.base k → slice_get m.image.trusted.blocks k ≡ Some block → bytes ≡ block → Some (address, length bytes) ≡ block_of m k
 block_found m k address block bytes placed there same = rw (← placed, there, same) refl

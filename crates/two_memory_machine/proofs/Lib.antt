@@ -1,2 +1,2 @@
 pub mod BlockLemmas
-pub mod Sooner
+pub mod StepLemmas

@@ -10,6 +10,7 @@ abbrev pub stack_of : Option Func → ℕ
 stack_of None = 0
 stack_of (Some f) = f.stack
 
+-- the fields agree with the image and with one another
 pub record IsConsistent (m : Inside) : Type 0 where
   -- the static blocks lie in the memory, at these addresses, and its end is an address too
   pub addresses : m.addresses.items ≡ addresses_from (m.base + 16) m.image.now.trusted.blocks

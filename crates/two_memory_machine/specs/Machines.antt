@@ -53,6 +53,11 @@ StepGives events (Over ending s) old event new = (event ≡ Ended ending) × (ne
 abbrev pub Steps : Machine → Event → Machine → Type 0
 Steps old event new = (events : List World.Event) → StepGives events (step old.image old.base (state_of old events)) old event new
 
+-- the ending that a step gave the run, if it gave one
+abbrev pub ending_given : Event → Option Ending
+ending_given Ran = None
+ending_given (Ended ending) = Some ending
+
 -- how many instructions stand from a place of a function on
 abbrev pub ops_from : Option Func → ℕ → ℕ
 ops_from None place = 0

@@ -6,7 +6,7 @@ ghost use Rattle.code_words.specs.Fitting.{Fits};
 ghost use Rattle.code_words.specs.declared.image.Func.{Func};
 ghost use Rattle.code_words.specs.Machine.{Goes, Over, wild, on_with, push, push_some, push_checked, has_word, address_of};
 ghost use Rattle.act_words.specs.Checks.{without_overflow};
-ghost use Rattle.two_memory_machine.specs.Machines.{start_of, waiting_of, Steps, steps_left, block_of, byte_of};
+ghost use Rattle.two_memory_machine.specs.Machines.{start_of, waiting_of, Steps, ending_given, steps_left, block_of, byte_of};
 ghost use Rattle.two_memory_machine.specs.Steps.{GoesBy, IsIn, Acts, IsReady, next_op_of, two_topmost, HasWordNumber};
 
 use crate::memory;
@@ -109,6 +109,7 @@ impl<'a> Machine<'a> {
     pub fn step(&mut self) -> Event
         requires { self.old.over ≡ None }
         ensures steps { Steps self.old result self.new }
+        ensures over { self.new.over ≡ ending_given result }
         ensures sooner { steps_left self.new < steps_left self.old }
     {
         match self.next_op() {
