@@ -37,8 +37,8 @@ abbrev pub store_tree : Tree
 store_tree = record {
   globals = record { name = codes "x"; initial = Some 4; span = span 0 10 } ∷ [];
   body =
-    Declare (codes "p") (AddressOf (Name (codes "x") (span 42 43)) (span 41 43)) (span 28 44)
-    ∷ Assign (Deref (Name (codes "p") (span 46 47)) (span 45 47)) (Binary Add (Binary Subtract (Number 7 (span 50 51)) (Name (codes "x") (span 54 55)) (span 50 55)) (Number 1 (span 58 59)) (span 50 59)) (span 45 60)
-    ∷ Return (Deref (Name (codes "p") (span 69 70)) (span 68 70)) (span 61 71)
-    ∷ [];
+      Declare (codes "p") (AddressOf (Name (codes "x") (span 42 43)) (span 41 43)) (span 28 44)
+      ∷ Assign (Deref (Name (codes "p") (span 46 47)) (span 45 47)) (Binary Add (Binary Subtract (Number 7 (span 50 51)) (Name (codes "x") (span 54 55)) (span 50 55)) (Number 1 (span 58 59)) (span 50 59)) (span 45 60)
+      ∷ Return (Deref (Name (codes "p") (span 69 70)) (span 68 70)) (span 61 71)
+      ∷ [];
 }

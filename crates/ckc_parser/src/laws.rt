@@ -9,12 +9,10 @@ ghost use Rattle.ckc_parser.specs.Grammar.{SpellsProgram};
 /// No list of tokens spells two trees.
 pub fn one_tree()
     ensures { (tokens : List Token) (t u : Tree) → SpellsProgram tokens t → SpellsProgram tokens u → t ≡ u }
-{
-}
+{}
 
 /// The tokens of two sources spell the trees that one reads in them.
 pub fn examples()
     ensures zero { SpellsProgram zero_tokens zero_tree }
     ensures store { SpellsProgram store_tokens store_tree }
-{
-}
+{}

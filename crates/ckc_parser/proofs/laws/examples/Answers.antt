@@ -7,6 +7,6 @@ returns-clause-zero c = program none (stores (return (sum number done)))
 pub returns-clause-store : goal.returns-clause-store
 returns-clause-store c =
     program (initialised none)
-        (more (local address)
-        (stores (more (store pointed (sum number (subtract name (add number done))))
-        (return (sum deref done)))))
+    (more (local address)
+    (stores (more (store pointed (sum number (subtract name (add number done))))
+    (return (sum deref done)))))
