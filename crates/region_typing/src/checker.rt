@@ -46,7 +46,8 @@ pub fn check(alloc: Global, src: &[u8], program: &Program) -> Result<Core, Refus
         locals: local_names,
     };
     let objects = initial_numbers(alloc, variables)?;
-    let body = statements(alloc, &Sites::new(src), &scope, body)?;
+    let sites = Sites::new(alloc, src)?;
+    let body = statements(alloc, &sites, &scope, body)?;
     Ok(Core {
         objects,
         main: Function {
