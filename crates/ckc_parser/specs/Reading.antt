@@ -29,6 +29,11 @@ abbrev pub Gives : {X Y : Type 0} → (X → Y) → Result X Refused → Option 
 Gives view (Ok x) read = read ≡ Some (view x)
 Gives view (Err e) read = Refuses e (read ≡ None)
 
+-- a refusal is never for want of memory
+abbrev pub TakesNoMemory : {X : Type 0} → Result X Refused → Type 0
+TakesNoMemory (Ok x) = Unit {0}
+TakesNoMemory (Err e) = e ≡ Source not_built
+
 infixl 10 ◌>>=◌
 abbrev pub ◌>>=◌ : {A B : Type 0} → Option A → (A → Option B) → Option B
 o >>= f = option_and_then f o
@@ -66,6 +71,7 @@ mark_at mark ts = do
   f ← first_at ts
   if is_same mark f.0.kind then Some (f.0.span, f.1) else None
 
+-- a name behind which these tokens stand, where the token is of that kind
 abbrev pub name_of : Span → List Token → TokenKind → Option (List ℕ × Span × List Token)
 name_of s ts (kinds.Name x) = Some (x, s, ts)
 name_of s ts _ = None
@@ -74,6 +80,7 @@ name_of s ts _ = None
 unfoldable pub name_at : List Token → Option (List ℕ × Span × List Token)
 name_at ts = first_at ts >>= λ f. name_of f.0.span f.1 f.0.kind
 
+-- a number behind which these tokens stand, where the token is of that kind
 abbrev pub number_of : List Token → TokenKind → Option (ℕ × List Token)
 number_of ts (kinds.Number n) = Some (n, ts)
 number_of ts _ = None
@@ -95,6 +102,7 @@ pointed_at s ts = do
   x ← name_at ts
   Some (Deref (Name x.0 x.1) (join s x.1), x.2)
 
+-- what a first token of this kind begins
 abbrev pub target_of : Span → List Token → TokenKind → Option (Expression × List Token)
 target_of s ts (kinds.Name x) = Some (Name x s, ts)
 target_of s ts kinds.Star = pointed_at s ts
@@ -104,6 +112,7 @@ target_of s ts _ = None
 unfoldable pub target_at : List Token → Option (Expression × List Token)
 target_at ts = first_at ts >>= λ f. target_of f.0.span f.1 f.0.kind
 
+-- what a first token of this kind begins: a number alone, or a target
 abbrev pub atom_of : Span → List Token → List Token → TokenKind → Option (Expression × List Token)
 atom_of s rest ts (kinds.Number n) = Some (Number n s, rest)
 atom_of s rest ts _ = target_at ts
@@ -112,6 +121,7 @@ atom_of s rest ts _ = target_at ts
 unfoldable pub atom_at : List Token → Option (Expression × List Token)
 atom_at ts = first_at ts >>= λ f. atom_of f.0.span f.1 ts f.0.kind
 
+-- the operator that a token of this kind is
 abbrev pub operator_of : List Token → TokenKind → Option (BinaryOperator × List Token)
 operator_of ts kinds.Plus = Some (Add, ts)
 operator_of ts kinds.Minus = Some (Subtract, ts)
@@ -150,6 +160,7 @@ address_at s ts = do
   x ← name_at ts
   Some (AddressOf (Name x.0 x.1) (join s x.1), x.2)
 
+-- what a first token of this kind begins
 abbrev pub pointer_of : Span → List Token → TokenKind → Option (Expression × List Token)
 pointer_of s ts kinds.Ampersand = address_at s ts
 pointer_of s ts (kinds.Number zero) = Some (Number 0 s, ts)
@@ -205,6 +216,7 @@ pub record IsBody (ts : List Token) (statements : List Statement) (rest : List T
 
 -- ---- the whole source
 
+-- what a first token of this kind begins: without an equals sign nothing is read
 abbrev pub initial_of : List Token → List Token → TokenKind → Option (Option ℕ × List Token)
 initial_of ts rest kinds.Equal = do
   n ← number_at rest

@@ -3,7 +3,7 @@
 ghost use Rattle.std.specs.Prelude.{◌≡◌, map};
 ghost use Rattle.ckc_tree.specs.Tree.{variable};
 ghost use Rattle.ckc_parser.specs.Parsing.{ParseAnswers};
-ghost use Rattle.ckc_parser.specs.Reading.{Gives, initial_at, variable_at, function_at, main_end_at, main_at, begins_function, Finds, IsVariables};
+ghost use Rattle.ckc_parser.specs.Reading.{Gives, TakesNoMemory, initial_at, variable_at, function_at, main_end_at, main_at, begins_function, Finds, IsVariables};
 
 use crate::expressions::join_spans;
 use crate::memory::push;
@@ -35,7 +35,8 @@ pub fn parse(alloc: Global, tokens: &[Token]) -> Result<tree::Program, Refused>
 /// The number behind an equals sign, where there is one.
 #[tactic(auto, unfolding(crate::specs::Reading::initial_at))]
 fn initial(tokens: &[Token]) -> Result<(Option<u32>, &[Token]), Refused>
-    ensures { Gives (λ x. (x.0, x.1.now)) result (initial_at tokens.now) }
+    ensures gives { Gives (λ x. (x.0, x.1.now)) result (initial_at tokens.now) }
+    ensures no_memory { TakesNoMemory result }
 {
     let (token, rest) = first(tokens)?;
     match &token.kind {
@@ -92,7 +93,8 @@ fn globals(alloc: Global, tokens: &[Token]) -> Result<(Vec<tree::Global>, &[Toke
 /// The name of a function, with what stands around it.
 #[tactic(auto, unfolding(crate::specs::Reading::function_at))]
 fn function(tokens: &[Token]) -> Result<(&Name, &[Token]), Refused>
-    ensures { Gives (λ x. (x.0.now, x.1.now)) result (function_at tokens.now) }
+    ensures gives { Gives (λ x. (x.0.now, x.1.now)) result (function_at tokens.now) }
+    ensures no_memory { TakesNoMemory result }
 {
     let (_, rest) = expect(tokens, &TokenKind::Int)?;
     let (name, _, rest) = name(rest)?;
@@ -103,7 +105,8 @@ fn function(tokens: &[Token]) -> Result<(&Name, &[Token]), Refused>
 /// The tokens after the head of the function `main`.
 #[tactic(auto, unfolding(crate::specs::Reading::main_at, crate::specs::Reading::main_end_at))]
 fn main_head(tokens: &[Token]) -> Result<&[Token], Refused>
-    ensures { Gives (λ x. x.now) result (main_at tokens.now) }
+    ensures gives { Gives (λ x. x.now) result (main_at tokens.now) }
+    ensures no_memory { TakesNoMemory result }
 {
     let (name, rest) = function(tokens)?;
     if name.as_bytes() != b"main".as_slice() {

@@ -2,7 +2,7 @@
 
 ghost use Rattle.std.specs.Prelude.{map};
 ghost use Rattle.ckc_tree.specs.Tree.{expression, statement};
-ghost use Rattle.ckc_parser.specs.Reading.{Gives, address_at, pointer_at, pointer_type_at, local_at, Finds, IsStore, IsEnding, IsStores, Extends, IsBody};
+ghost use Rattle.ckc_parser.specs.Reading.{Gives, TakesNoMemory, address_at, pointer_at, pointer_type_at, local_at, Finds, IsStore, IsEnding, IsStores, Extends, IsBody};
 
 use crate::expressions::{join_spans, span_of, target, value};
 use crate::memory::{boxed, push};
@@ -45,7 +45,8 @@ fn pointer(alloc: Global, tokens: &[Token]) -> Result<(Expr, &[Token]), Refused>
 /// The type of a pointer: the span of its first word, and the tokens after the type.
 #[tactic(auto, unfolding(crate::specs::Reading::pointer_type_at))]
 fn pointer_type(tokens: &[Token]) -> Result<(Span, &[Token]), Refused>
-    ensures { Gives (λ x. (x.0, x.1.now)) result (pointer_type_at tokens.now) }
+    ensures gives { Gives (λ x. (x.0, x.1.now)) result (pointer_type_at tokens.now) }
+    ensures no_memory { TakesNoMemory result }
 {
     let (first, rest) = expect(tokens, &TokenKind::Ptr)?;
     let (_, rest) = expect(rest, &TokenKind::Less)?;

@@ -2,7 +2,7 @@
 
 ghost use Rattle.std.specs.Prelude.{◌≡◌};
 ghost use Rattle.ckc_text.specs.Refusals.{not_built};
-ghost use Rattle.ckc_parser.specs.Reading.{Gives, first_at, is_same, mark_at, begins, name_at, number_at};
+ghost use Rattle.ckc_parser.specs.Reading.{Gives, TakesNoMemory, first_at, is_same, mark_at, begins, name_at, number_at};
 
 use ckc_lexer::token::{Token, TokenKind};
 use ckc_text::code::Code;
@@ -22,7 +22,8 @@ pub fn refused() -> Refused
 
 /// The first token, and the tokens after it.
 pub fn first(tokens: &[Token]) -> Result<(&Token, &[Token]), Refused>
-    ensures { Gives (λ x. (x.0.now, x.1.now)) result (first_at tokens.now) }
+    ensures gives { Gives (λ x. (x.0.now, x.1.now)) result (first_at tokens.now) }
+    ensures no_memory { TakesNoMemory result }
 {
     tokens.split_first().ok_or(refused())
 }
@@ -56,7 +57,8 @@ fn is_same(mark: &TokenKind, kind: &TokenKind) -> bool
 /// The span of this word or mark, and the tokens after it.
 #[tactic(auto, unfolding(crate::specs::Reading::mark_at))]
 pub fn expect<'a>(tokens: &'a [Token], mark: &TokenKind) -> Result<(Span, &'a [Token]), Refused>
-    ensures { Gives (λ x. (x.0, x.1.now)) result (mark_at mark.now tokens.now) }
+    ensures gives { Gives (λ x. (x.0, x.1.now)) result (mark_at mark.now tokens.now) }
+    ensures no_memory { TakesNoMemory result }
 {
     let (token, rest) = first(tokens)?;
     if !is_same(mark, &token.kind) {
@@ -68,7 +70,8 @@ pub fn expect<'a>(tokens: &'a [Token], mark: &TokenKind) -> Result<(Span, &'a [T
 /// A name and its span, and the tokens after it.
 #[tactic(auto, unfolding(crate::specs::Reading::name_at))]
 pub fn name(tokens: &[Token]) -> Result<(&Name, Span, &[Token]), Refused>
-    ensures { Gives (λ x. (x.0.now, x.1, x.2.now)) result (name_at tokens.now) }
+    ensures gives { Gives (λ x. (x.0.now, x.1, x.2.now)) result (name_at tokens.now) }
+    ensures no_memory { TakesNoMemory result }
 {
     let (token, rest) = first(tokens)?;
     match &token.kind {
@@ -90,7 +93,8 @@ pub fn begins(tokens: &[Token], mark: &TokenKind) -> bool
 /// A number, and the tokens after it.
 #[tactic(auto, unfolding(crate::specs::Reading::number_at))]
 pub fn number(tokens: &[Token]) -> Result<(u32, &[Token]), Refused>
-    ensures { Gives (λ x. (x.0, x.1.now)) result (number_at tokens.now) }
+    ensures gives { Gives (λ x. (x.0, x.1.now)) result (number_at tokens.now) }
+    ensures no_memory { TakesNoMemory result }
 {
     let (token, rest) = first(tokens)?;
     match &token.kind {
