@@ -1,3 +1,4 @@
 pub mod Fronts
 pub mod Finishing
 pub mod Runs
+pub mod Answering

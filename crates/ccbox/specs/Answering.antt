@@ -33,6 +33,9 @@ abbrev pub RunAnswers : Files → List ℕ → Result Answered Trouble → Type 
 RunAnswers files name (Ok a) = RunAnswer files name a.text.items a.status
 RunAnswers files name (Err e) = Unit {0}
 
+abbrev pub RequestAnswers : Files → Request → Result Answered Trouble → Type 0
+RequestAnswers files (Run name) r = RunAnswers files name r
+
 abbrev pub WordsAnswer : Files → List (List ℕ) → Result Answered Trouble → Type 0
 WordsAnswer files words (Ok a) = Answer files words a.text.items a.status
 WordsAnswer files words (Err e) = Unit {0}
@@ -55,10 +58,13 @@ UsageCounts (Ok a) misses misses' faults faults' = (a.status ≡ 2) × (faults' 
 UsageCounts (Err troubles.Failed) misses misses' faults faults' = ⊥
 UsageCounts (Err troubles.NoMemory) misses misses' faults faults' = (faults' ≡ faults) × (misses' ≡ misses)
 
+abbrev pub RequestCounts : Request → Result Answered Trouble → ℕ → ℕ → ℕ → ℕ → Type 0
+RequestCounts (Run name) r misses misses' faults faults' = FileCounts r misses misses' faults faults'
+
 -- what the answer to words says of the counts
+abbrev pub CountsFor : Option Request → Result Answered Trouble → ℕ → ℕ → ℕ → ℕ → Type 0
+CountsFor None r misses misses' faults faults' = UsageCounts r misses misses' faults faults'
+CountsFor (Some request) r misses misses' faults faults' = RequestCounts request r misses misses' faults faults'
+
 abbrev pub WordsCounts : List (List ℕ) → Result Answered Trouble → ℕ → ℕ → ℕ → ℕ → Type 0
-WordsCounts words r misses misses' faults faults' = counts (request_of words)
-  where
-    counts : Option Request → Type 0
-    counts None = UsageCounts r misses misses' faults faults'
-    counts (Some (Run name)) = FileCounts r misses misses' faults faults'
+WordsCounts words r misses misses' faults faults' = CountsFor (request_of words) r misses misses' faults faults'

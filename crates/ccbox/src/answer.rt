@@ -3,7 +3,8 @@
 ghost use Rattle.std.specs.Prelude.{◌≡◌, map};
 ghost use Rattle.ckc_io.specs.Files.{Told};
 ghost use Rattle.ccbox.specs.Answers.{status_of as status_of_ending};
-ghost use Rattle.ccbox.specs.Answering.{SourceAnswers, RunAnswers, WordsAnswer, FileCounts, WordsCounts};
+ghost use Rattle.ccbox.specs.Answering.{SourceAnswers, RunAnswers, RequestAnswers, WordsAnswer, FileCounts, RequestCounts, WordsCounts};
+ghost use Rattle.ccbox.specs.Requested.{request as request_of_code};
 
 use crate::front::front;
 use crate::request::{Request, request_from};
@@ -55,11 +56,26 @@ pub fn answer<F: Shelf>(
         (F.misses shelf.old) (F.misses shelf.new) (F.faults shelf.old) (F.faults shelf.new) }
 {
     match request_from(words) {
-        Some(Request::Run { file }) => answer_run(alloc, file, shelf),
+        Some(request) => answer_request(alloc, request, shelf),
         None => {
             let text = usage_line(alloc)?;
             Ok(Answered { text, status: 2 })
         }
+    }
+}
+
+// The answer to a request.
+fn answer_request<F: Shelf>(
+    alloc: Global,
+    request: Request,
+    shelf: &mut F,
+) -> Result<Answered, Trouble>
+    ensures answer { Told (F.files shelf.old) (λ files. RequestAnswers files (request_of_code request.entry) result) }
+    ensures counts { RequestCounts (request_of_code request.entry) result
+        (F.misses shelf.old) (F.misses shelf.new) (F.faults shelf.old) (F.faults shelf.new) }
+{
+    match request {
+        Request::Run { file } => answer_run(alloc, file, shelf),
     }
 }
 
