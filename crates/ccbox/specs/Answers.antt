@@ -55,6 +55,10 @@ IsFailure status = (status ≡ 4) ⊎ ((status ≡ 5) ⊎ (status ≡ 9))
 abbrev pub WritesFront : List ℕ → Option (List ℕ) → Option (List ℕ) → Type 0
 WritesFront text old new = (k : ℕ) × (k ≤ length text) × (new ≡ grown old (take k text))
 
+-- whatever the Answer is, what was written is a front of its text
+abbrev pub GivesFront : Files → List (List ℕ) → Option (List ℕ) → Option (List ℕ) → Type 0
+GivesFront files words old new = (text : List ℕ) (status : ℕ) → Answer files words text status → WritesFront text old new
+
 -- the Answer was given whole
 pub record GivesWhole (files : Files) (words : List (List ℕ)) (old new : Option (List ℕ)) (status : ℕ) : Type 0 where
   pub text : List ℕ
@@ -92,3 +96,28 @@ FileIsMissing files words = (name : List ℕ) × (request_of words ≡ Some (Run
 pub record Tells (status n old new : ℕ) (Among : Type 0) : Type 0 where
   pub cause : status ≡ n → Rose old new
   pub told : old < new → Among
+
+-- the run of an accepted source is never stuck, and what is printed is how it ends, unless something fails
+pub record PrintsRun (files : Files) (words : List (List ℕ)) (old new : Option (List ℕ)) (status : ℕ) (src : List ℕ) (c : Core) : Type 0 where
+  pub ending : Ending
+  pub last : State
+  pub runs : RunsTo c ending last
+  pub printed : ((status ≡ status_of ending) × (new ≡ grown old (run_text last.world.events ending))) ⊎ IsFailure status
+
+abbrev pub PrintedRun : Files → List (List ℕ) → Option (List ℕ) → Option (List ℕ) → ℕ → Type 0
+PrintedRun files words old new status = (src : List ℕ) (c : Core) → AsksToRun files words src → Accepts src c → PrintsRun files words old new status src c
+
+-- where no failure is counted, the run of an accepted source is printed whole, unless memory runs out
+abbrev pub IsComplete : Files → List (List ℕ) → Option (List ℕ) → Option (List ℕ) → ℕ → Type 0
+IsComplete files words old new status =
+    (src : List ℕ) (c : Core) (ending : Ending) (s : State) → AsksToRun files words src → Accepts src c → RunsTo c ending s →
+    ((status ≡ status_of ending) × (new ≡ grown old (run_text s.world.events ending))) ⊎ (status ≡ 9)
+
+-- a count of failures didn't rise
+abbrev pub IsQuiet : ℕ → ℕ → Type 0
+IsQuiet old new = Rose old new → ⊥
+
+-- every status that a call ends with
+abbrev pub IsStatus : ℕ → Type 0
+IsStatus status =
+    (status ≡ 0) ⊎ ((status ≡ 1) ⊎ ((status ≡ 2) ⊎ ((status ≡ 3) ⊎ ((status ≡ 6) ⊎ ((status ≡ 7) ⊎ IsFailure status)))))

@@ -5,3 +5,4 @@ pub mod Acceptance
 pub mod Answers
 pub mod Running
 pub mod Answering
+pub mod Calls

@@ -2,6 +2,7 @@
 #![tactic(auto)]
 
 mod answer;
+pub mod call;
 mod front;
 mod request;
 mod run;
