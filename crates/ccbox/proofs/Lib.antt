@@ -2,3 +2,4 @@ pub mod Fronts
 pub mod Finishing
 pub mod Runs
 pub mod Answering
+pub mod Calls
