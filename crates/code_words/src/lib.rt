@@ -4,3 +4,6 @@
 pub mod image;
 pub mod lists;
 pub mod op;
+
+#[cfg(test)]
+mod tests;

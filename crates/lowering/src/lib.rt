@@ -3,3 +3,6 @@
 
 pub mod emit;
 pub mod laws;
+
+#[cfg(test)]
+mod tests;
