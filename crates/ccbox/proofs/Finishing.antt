@@ -22,7 +22,9 @@ goes_by : (m n : Machine) (x : Step) → step m.image m.base (state_of m []) ≡
 goes_by m n (Goes s) e h =
     let is : in_state m s None ≡ n = sym h.1 in
     subst (GoesOn m) is (record {
-      runs = refl; image = refl; base = refl;
+      runs = refl;
+      image = refl;
+      base = refl;
       later = λ k. ap (λ y. go_on y (exec m.image m.base k)) e ∙ ap (exec m.image m.base k) (same_state m s None h.2);
     })
 goes_by m n (Over ending s) e h = absurd (let wrong = h.0 in cc)
@@ -64,14 +66,17 @@ same_exec first m k s i b = ap (λ x. exec x first.base k s) (sym i) ∙ ap (λ 
 
 pub later_on : (first m n : Machine) → IsLater first m → GoesOn m n → IsLater first n
 later_on first m n i g = record {
-  runs = g.runs; image = g.image ∙ i.image; base = g.base ∙ i.base; steps = i.steps + 1;
+  runs = g.runs;
+  image = g.image ∙ i.image;
+  base = g.base ∙ i.base;
+  steps = i.steps + 1;
   same = λ k.
-    let count : i.steps + 1 + k ≡ i.steps + suc k = omega arith in
-    ap (λ j. exec first.image first.base j (state_of first [])) count
-    ∙ i.same (suc k)
-    ∙ same_exec first m (suc k) (state_of m []) i.image i.base
-    ∙ g.later k
-    ∙ sym (same_exec first m k (state_of n []) i.image i.base);
+      let count : i.steps + 1 + k ≡ i.steps + suc k = omega arith in
+      ap (λ j. exec first.image first.base j (state_of first [])) count
+      ∙ i.same (suc k)
+      ∙ same_exec first m (suc k) (state_of m []) i.image i.base
+      ∙ g.later k
+      ∙ sym (same_exec first m k (state_of n []) i.image i.base);
 }
 
 -- a run so far that ends with the next step

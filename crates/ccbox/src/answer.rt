@@ -46,11 +46,7 @@ impl From<NoMemory> for Trouble {
 }
 
 /// The answer to words.
-pub fn answer<F: Shelf>(
-    alloc: Global,
-    words: &[&str],
-    shelf: &mut F,
-) -> Result<Answered, Trouble>
+pub fn answer<F: Shelf>(alloc: Global, words: &[&str], shelf: &mut F) -> Result<Answered, Trouble>
     ensures answer { Told (F.files shelf.old) (λ files. WordsAnswer files (map (λ word. word.now) words.now) result) }
     ensures counts { WordsCounts (map (λ word. word.now) words.now) result
         (F.misses shelf.old) (F.misses shelf.new) (F.faults shelf.old) (F.faults shelf.new) }

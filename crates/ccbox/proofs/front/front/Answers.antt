@@ -9,7 +9,7 @@ pub returns-in_err-program : goal.returns-in_err-program
 returns-in_err-program c =
     let p = err_from_is_err_and c.from_residual-in_err-program.result c.from_residual-in_err-program.ensures.1 in
     rw (p.1, p.2) (parse_refuses c.args.src.now c.in_ok-tokens.tokens.items c.in_ok-tokens.ensures c.in_err-program.field-0.0
-      (subst (λ ts. ParseAnswers ts (Err c.in_err-program.field-0.0)) c.as_slice.ensures.value c.in_err-program.ensures))
+    (subst (λ ts. ParseAnswers ts (Err c.in_err-program.field-0.0)) c.as_slice.ensures.value c.in_err-program.ensures))
 
 pub returns : goal.returns
 returns c =

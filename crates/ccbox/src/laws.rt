@@ -1,0 +1,14 @@
+// What holds of the Answer over any files.
+
+ghost use Rattle.std.specs.Prelude.{◌≡◌, ℕ, List};
+ghost use Rattle.ckc_io.specs.Files.{Files};
+ghost use Rattle.ckc_core.specs.Core.{Core};
+ghost use Rattle.ccbox.specs.Acceptance.{Accepts};
+ghost use Rattle.ccbox.specs.Answers.{Answer};
+
+/// A source has one core, and words have one text and one status.
+pub fn one_answer()
+    ensures core { (src : List ℕ) (c d : Core) → Accepts src c → Accepts src d → c ≡ d }
+    ensures text { (files : Files) (words : List (List ℕ)) (t u : List ℕ) (m n : ℕ) → Answer files words t m → Answer files words u n → t ≡ u }
+    ensures status { (files : Files) (words : List (List ℕ)) (t u : List ℕ) (m n : ℕ) → Answer files words t m → Answer files words u n → m ≡ n }
+{}
