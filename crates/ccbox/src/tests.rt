@@ -126,3 +126,105 @@ fn words_and_files(rt: HostRuntime) -> Result<(), Fail> {
     }
     Ok(())
 }
+
+// A program of these many bytes that exits with 7, padded with spaces.
+fn padded(alloc: Global, len: usize) -> Result<Vec<u8>, Fail> {
+    let mut source = Vec::from_slice(alloc, b"int main(void) { return 7; }")?;
+    while source.len() < len {
+        source.push(b' ')?;
+    }
+    Ok(source)
+}
+
+#[test]
+fn sizes(rt: HostRuntime) -> Result<(), Fail> {
+    for len in [4096, 4097, 1_048_576] {
+        let source = padded(rt.alloc(), len)?;
+        expect_run(&rt, source.as_slice(), "[exit 7]\n", 0)?;
+    }
+    let source = padded(rt.alloc(), 1_048_577)?;
+    expect_run(&rt, source.as_slice(), NOT_BUILT, 1)
+}
+
+#[test]
+fn many_variables(rt: HostRuntime) -> Result<(), Fail> {
+    for (count, text, status) in [
+        (300, "[exit 299]\n", 0),
+        (1024, "[exit 1023]\n", 0),
+        (1025, NOT_BUILT, 1),
+    ] {
+        let mut source = String::new(rt.alloc());
+        for i in 0..count {
+            source.push_str(format!(in rt.alloc(); "int v{i} = {i};\n")?.as_str())?;
+        }
+        let last = count - 1;
+        source.push_str(format!(in rt.alloc(); "int main(void) {{ return v{last}; }}")?.as_str())?;
+        expect_run(&rt, source.as_bytes(), text, status)?;
+    }
+    Ok(())
+}
+
+// A shelf that gives one byte a call, and tells nothing of its files.
+#[derive(Drop)]
+struct OneByteShelf {
+    inner: MemShelf,
+}
+
+impl Shelf for OneByteShelf {
+    ghost use Rattle.std.specs.Prelude.{None};
+
+    ghost files = { λ _. None };
+
+    ghost misses = { λ s. s.inner.misses };
+
+    ghost faults = { λ s. s.inner.faults };
+
+    fn read_at(&mut self, name: &str, from: u64, into: &mut [u8]) -> Result<usize, ShelfFault> {
+        let most = into.len().min(1);
+        self.inner.read_at(name, from, &mut into[..most])
+    }
+}
+
+#[test]
+fn one_byte_a_read(rt: HostRuntime) -> Result<(), Fail> {
+    let alloc = rt.alloc();
+    let mut inner = MemShelf::new(alloc);
+    inner.add("a.c", FIRST_RUN.as_bytes())?;
+    let mut shelf = OneByteShelf { inner };
+    let mut sink = MemSink::with_room(alloc, 256, 256)?;
+    let status = ccbox(alloc, &["run", "a.c"], &mut shelf, &mut sink);
+    assert_eq!(rt; sink.bytes(), b"[exit 42]\n".as_slice());
+    assert_eq!(rt; status.number, 0);
+    Ok(())
+}
+
+#[test]
+fn failing_files(rt: HostRuntime) -> Result<(), Fail> {
+    let alloc = rt.alloc();
+    for failing in [1, 2] {
+        let mut shelf = MemShelf::new(alloc);
+        shelf.add("a.c", FIRST_RUN.as_bytes())?;
+        shelf.fail_at(failing)?;
+        let mut sink = MemSink::with_room(alloc, 256, 256)?;
+        let status = ccbox(alloc, &["run", "a.c"], &mut shelf, &mut sink);
+        assert_eq!(rt; sink.bytes(), b"".as_slice());
+        assert_eq!(rt; status.number, 4);
+    }
+    Ok(())
+}
+
+#[test]
+fn failing_output(rt: HostRuntime) -> Result<(), Fail> {
+    let alloc = rt.alloc();
+    let text = b"[exit 42]\n";
+    for failing in 1..=text.len() {
+        let mut shelf = MemShelf::new(alloc);
+        shelf.add("a.c", FIRST_RUN.as_bytes())?;
+        let mut sink = MemSink::with_room(alloc, 256, 1)?;
+        sink.fail_at(failing as u64)?;
+        let status = ccbox(alloc, &["run", "a.c"], &mut shelf, &mut sink);
+        assert_eq!(rt; sink.bytes(), &text[..failing - 1]);
+        assert_eq!(rt; status.number, 5);
+    }
+    Ok(())
+}
