@@ -20,7 +20,7 @@ use Rattle.ccbox.specs.declared.answer.Trouble.TheVariants as troubles
 use Rattle.ccbox.specs.Requests.{Request, Run, request_of}
 use Rattle.ccbox.specs.Texts.{run_text, missing_text}
 use Rattle.ccbox.specs.Acceptance.{Accepts, IsRefused}
-use Rattle.ccbox.specs.Answers.{usual, status_of, RunsTo, AsksToRun, Answer, usage, missing, refused, ran, IsFailure, WritesFront, GivesFront, GivesWhole, Exactly, SourceIsRefused, RunEnds, RunExits, CheckFails, RunStops, FileIsMissing, Tells, PrintsRun, PrintedRun, IsComplete, IsQuiet, IsStatus}
+use Rattle.ccbox.specs.Answers.{usual, status_of, RunsTo, AsksToRun, Answer, usage, missing, refused, ran, IsFailure, WritesFront, GivesFront, GivesWhole, Exactly, SourceIsRefused, RunEnds, RunExits, CheckFails, RunStops, FileIsMissing, Tells, PrintsRun, PrintedRun, IsComplete, IsQuiet, IsUntouched}
 use Rattle.ccbox.specs.Answering.{IsSourceStatus, CountsFor, FileCounts}
 use Rattle.ccbox.specs.Calls.{AnswerCounts, Counts, CallEnds, answered, output_failed, files_failed, no_memory}
 use Rattle.ccbox.specs.Calls as calls
@@ -101,7 +101,7 @@ module _ (words : List (List ℕ)) (told : Option Files) (old new : Option (List
       inl (same.status, all ∙ ap (grown old) same.text)
   settled _ (output_failed text status k tell counts le front sink) a = inr (inr (inl refl))
   settled _ (files_failed request asks same misses faults sink) a = inr (inl refl)
-  settled _ (no_memory same misses faults sink) a = inr (inr (inr refl))
+  settled _ (no_memory same misses still faults sink) a = inr (inr (inr refl))
 
   pub front : (status : ℕ) → CallEnds words told old new before after status → GivesFront files words old new
   front _ (answered text status tell counts all sink) t n a =
@@ -111,13 +111,13 @@ module _ (words : List (List ℕ)) (told : Option Files) (old new : Option (List
       let same = one_answer files words (tell files tells) a in
       (k, omega (arith, ap length same.text), part ∙ ap (λ (x : List ℕ). grown old (take k x)) same.text)
   front _ (files_failed request asks same misses faults sink) t n a = (0, omega arith, same ∙ sym (grown-nothing old))
-  front _ (no_memory same misses faults sink) t n a = (0, omega arith, same ∙ sym (grown-nothing old))
+  front _ (no_memory same misses still faults sink) t n a = (0, omega arith, same ∙ sym (grown-nothing old))
 
   pub whole : (status : ℕ) → CallEnds words told old new before after status → GivesWhole files words old new status ⊎ IsFailure status
   whole _ (answered text status tell counts all sink) = inl (record { text = text; answer = tell files tells; all = all })
   whole _ (output_failed text status k tell counts le front sink) = inr (inr (inl refl))
   whole _ (files_failed request asks same misses faults sink) = inr (inl refl)
-  whole _ (no_memory same misses faults sink) = inr (inr (inr refl))
+  whole _ (no_memory same misses still faults sink) = inr (inr (inr refl))
 
   pub printed_run : (status : ℕ) → CallEnds words told old new before after status → PrintedRun files words old new status
   printed_run status h src c asks accepts =
@@ -130,7 +130,7 @@ module _ (words : List (List ℕ)) (told : Option Files) (old new : Option (List
       inl (same.status, all ∙ ap (grown old) same.text)
   complete _ (output_failed text status k tell counts le front sink) files_quiet sink_quiet src c ending s asks accepts runs = absurd (sink_quiet sink.rose)
   complete _ (files_failed request asks' same misses faults sink) files_quiet sink_quiet src c ending s asks accepts runs = absurd (files_quiet faults.rose)
-  complete _ (no_memory same misses faults sink) files_quiet sink_quiet src c ending s asks accepts runs = inr refl
+  complete _ (no_memory same misses still faults sink) files_quiet sink_quiet src c ending s asks accepts runs = inr refl
 
   -- a status that is no failure has its Answer
   answer_of : (status n : ℕ) → CallEnds words told old new before after status → status ≡ n → (IsFailure n → ⊥) → (text : List ℕ) × Answer files words text n
@@ -236,9 +236,21 @@ files_end_for words told old m m' f f' k (Some (Run name)) e h = files_failed (R
 pub files_end : (words : List (List ℕ)) (told : Option Files) (old : Option (List ℕ)) (m m' f f' k : ℕ) → CountsFor (request_of words) (Err troubles.Failed) m m' f f' → CallEnds words told old old (record { misses = m; faults = f; sink = k }) (record { misses = m'; faults = f'; sink = k }) 4
 files_end words told old m m' f f' k h = files_end_for words told old m m' f f' k (request_of words) refl h
 
-memory_end_for : (words : List (List ℕ)) (told : Option Files) (old : Option (List ℕ)) (m m' f f' k : ℕ) (o : Option Request) → CountsFor o (Err troubles.NoMemory) m m' f f' → CallEnds words told old old (record { misses = m; faults = f; sink = k }) (record { misses = m'; faults = f'; sink = k }) 9
-memory_end_for words told old m m' f f' k None h = no_memory refl (omega (arith, h.1)) h.0 refl
-memory_end_for words told old m m' f f' k (Some (Run name)) h = no_memory refl h.1 h.0 refl
+memory_end_for : (words : List (List ℕ)) (told : Option Files) (old : Option (List ℕ)) (m m' f f' k : ℕ) (o : Option Request) → request_of words ≡ o → CountsFor o (Err troubles.NoMemory) m m' f f' → CallEnds words told old old (record { misses = m; faults = f; sink = k }) (record { misses = m'; faults = f'; sink = k }) 9
+memory_end_for words told old m m' f f' k None e h = no_memory refl (omega (arith, h.1)) (λ asked. h.1) h.0 refl
+memory_end_for words told old m m' f f' k (Some (Run name)) e h = no_memory refl h.1 (λ asked. absurd (cc)) h.0 refl
 
 pub memory_end : (words : List (List ℕ)) (told : Option Files) (old : Option (List ℕ)) (m m' f f' k : ℕ) → CountsFor (request_of words) (Err troubles.NoMemory) m m' f f' → CallEnds words told old old (record { misses = m; faults = f; sink = k }) (record { misses = m'; faults = f'; sink = k }) 9
-memory_end words told old m m' f f' k h = memory_end_for words told old m m' f f' k (request_of words) h
+memory_end words told old m m' f f' k h = memory_end_for words told old m m' f f' k (request_of words) refl h
+
+-- words that spell no request touch no file
+untouched_counts : (words : List (List ℕ)) (status m m' f f' : ℕ) → request_of words ≡ None → AnswerCounts words status m m' f f' → IsUntouched m m' f f'
+untouched_counts words status m m' f f' asked (calls.usage e n same faults) = record { misses_stay = same; faults_stay = faults }
+untouched_counts words status m m' f f' asked (calls.missed request e n rises faults) = absurd (cc)
+untouched_counts words status m m' f f' asked (calls.source request e n same faults) = absurd (cc)
+
+pub untouched : (words : List (List ℕ)) (told : Option Files) (old new : Option (List ℕ)) (before after : Counts) (status : ℕ) → CallEnds words told old new before after status → request_of words ≡ None → IsUntouched before.misses after.misses before.faults after.faults
+untouched words told old new before after _ (answered text status tell counts all sink) asked = untouched_counts words status _ _ _ _ asked counts
+untouched words told old new before after _ (output_failed text status k tell counts le front sink) asked = untouched_counts words status _ _ _ _ asked counts
+untouched words told old new before after _ (files_failed request e same misses faults sink) asked = absurd (cc)
+untouched words told old new before after _ (no_memory same misses still faults sink) asked = record { misses_stay = still asked; faults_stay = faults }

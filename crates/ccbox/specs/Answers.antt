@@ -117,6 +117,11 @@ IsComplete files words old new status =
 abbrev pub IsQuiet : ℕ → ℕ → Type 0
 IsQuiet old new = Rose old new → ⊥
 
+-- no miss and no fault of the files is counted
+pub record IsUntouched (misses misses' faults faults' : ℕ) : Type 0 where
+  pub misses_stay : misses' ≡ misses
+  pub faults_stay : faults' ≡ faults
+
 -- every status that a call ends with
 abbrev pub IsStatus : ℕ → Type 0
 IsStatus status =

@@ -28,4 +28,4 @@ pub data CallEnds (words : List (List ℕ)) (told : Option Files) (old new : Opt
   -- the files failed, and nothing was written
   files_failed : (request : Request) → request_of words ≡ Some request → new ≡ old → after.misses ≡ before.misses → Rises before.faults after.faults → after.sink ≡ before.sink → CallEnds words told old new before after 4
   -- memory ran out, and nothing was written
-  no_memory : new ≡ old → before.misses ≤ after.misses → after.faults ≡ before.faults → after.sink ≡ before.sink → CallEnds words told old new before after 9
+  no_memory : new ≡ old → before.misses ≤ after.misses → (request_of words ≡ None → after.misses ≡ before.misses) → after.faults ≡ before.faults → after.sink ≡ before.sink → CallEnds words told old new before after 9

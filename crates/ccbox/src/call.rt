@@ -3,7 +3,7 @@
 ghost use Rattle.std.specs.Prelude.{◌≡◌, ◌⊎◌, ℕ, List, map, None};
 ghost use Rattle.ckc_io.specs.Files.{Told};
 ghost use Rattle.ccbox.specs.Requests.{request_of};
-ghost use Rattle.ccbox.specs.Answers.{GivesFront, GivesWhole, IsFailure, IsStatus, Exactly, Tells, SourceIsRefused, FileIsMissing, RunExits, CheckFails, RunStops, PrintedRun, IsComplete, IsQuiet};
+ghost use Rattle.ccbox.specs.Answers.{GivesFront, GivesWhole, IsFailure, IsStatus, Exactly, Tells, SourceIsRefused, FileIsMissing, RunExits, CheckFails, RunStops, PrintedRun, IsComplete, IsQuiet, IsUntouched};
 ghost use Rattle.ccbox.specs.Calls.{CallEnds};
 
 use crate::answer::{Trouble, answer};
@@ -49,6 +49,9 @@ pub fn ccbox<F: Shelf, K: Sink>(
     ensures missing { Told (F.files shelf.old) (λ files. Exactly 3 result.number (FileIsMissing files (map (λ word. word.now) words.now))) }
     ensures checks { Told (F.files shelf.old) (λ files. Exactly 6 result.number (CheckFails files (map (λ word. word.now) words.now))) }
     ensures stops { Told (F.files shelf.old) (λ files. Exactly 7 result.number (RunStops files (map (λ word. word.now) words.now))) }
+
+    // Words that spell no request touch no file.
+    ensures untouched { request_of (map (λ word. word.now) words.now) ≡ None → IsUntouched (F.misses shelf.old) (F.misses shelf.new) (F.faults shelf.old) (F.faults shelf.new) }
 
     // A failure is counted.
     ensures misses { Tells result.number 3 (F.misses shelf.old) (F.misses shelf.new)

@@ -130,7 +130,7 @@ fn words_and_files(rt: HostRuntime) -> Result<(), Fail> {
 // A program of these many bytes that exits with 7, padded with spaces.
 fn padded(alloc: Global, len: usize) -> Result<Vec<u8>, Fail> {
     let mut source = Vec::from_slice(alloc, b"int main(void) { return 7; }")?;
-    while source.len() < len {
+    for _ in source.len()..len {
         source.push(b' ')?;
     }
     Ok(source)
