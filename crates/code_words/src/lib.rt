@@ -4,6 +4,5 @@
 pub mod image;
 pub mod lists;
 pub mod op;
-
 #[cfg(test)]
 mod tests;

@@ -3,6 +3,5 @@
 
 pub mod emit;
 pub mod laws;
-
 #[cfg(test)]
 mod tests;

@@ -7,3 +7,5 @@ pub mod laws;
 mod names;
 mod sites;
 mod statements;
+#[cfg(test)]
+mod tests;
