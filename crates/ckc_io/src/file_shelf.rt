@@ -73,29 +73,3 @@ fn read_file_at<R: Files<File = File>>(
 {
     fs::open(rt, name)?.read_at(into, from)
 }
-
-#[cfg(test)]
-mod tests {
-    use super::*;
-    use std::process;
-    use std::test::Fail;
-
-    #[test]
-    fn reads_a_file_of_the_system(rt: HostRuntime) -> Result<(), Fail> {
-        let id = process::id(rt.process());
-        let path = format!(in rt.alloc(); "/tmp/file_shelf_{id}")?;
-        fs::write(&rt, path.as_str(), "0123456789")?;
-        let mut shelf = FileShelf::new(&rt);
-        let mut into = [0u8; 4];
-        let read = shelf.read_at(path.as_str(), 8, &mut into);
-        fs::remove_file(&rt, path.as_str())?;
-        assert_eq!(rt; read, Ok(2));
-        assert_eq!(rt; into, [b'8', b'9', 0, 0]);
-        assert_eq!(rt;
-            shelf.read_at(path.as_str(), 8, &mut into),
-            Err(ShelfFault::Missing)
-        );
-        assert_eq!(rt; shelf.read_at("/", 0, &mut into), Err(ShelfFault::Failed));
-        Ok(())
-    }
-}

@@ -159,24 +159,3 @@ fn copy_from(file: &[u8], from: u64, into: &mut [u8]) -> usize
     into[..share].copy_from_slice(&file[start..start + share]);
     share
 }
-
-#[cfg(test)]
-mod tests {
-    use super::*;
-    use std::test::Fail;
-
-    #[test]
-    fn reads_the_newest_file(rt: HostRuntime) -> Result<(), Fail> {
-        let mut shelf = MemShelf::new(rt.alloc());
-        shelf.add("a", b"older")?;
-        shelf.add("a", b"newer")?;
-        shelf.fail_at(2)?;
-        let mut into = [0u8; 4];
-        assert_eq!(rt; shelf.read_at("a", 2, &mut into), Ok(3));
-        assert_eq!(rt; into, [b'w', b'e', b'r', 0]);
-        assert_eq!(rt; shelf.read_at("a", 0, &mut into), Err(ShelfFault::Failed));
-        assert_eq!(rt; shelf.read_at("b", 0, &mut into), Err(ShelfFault::Missing));
-        assert_eq!(rt; shelf.read_at("a", 9, &mut into), Ok(0));
-        Ok(())
-    }
-}

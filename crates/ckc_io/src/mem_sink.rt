@@ -111,22 +111,3 @@ impl Sink for MemSink {
         Ok(share)
     }
 }
-
-#[cfg(test)]
-mod tests {
-    use super::*;
-    use std::test::Fail;
-
-    #[test]
-    fn takes_a_byte_at_a_time(rt: HostRuntime) -> Result<(), Fail> {
-        let mut sink = MemSink::with_room(rt.alloc(), 2, 1)?;
-        sink.fail_at(2)?;
-        assert_eq!(rt; sink.put(b"ab"), Ok(1));
-        assert_eq!(rt; sink.put(b"b"), Err(SinkFault::Failed));
-        assert_eq!(rt; sink.put(b""), Ok(0));
-        assert_eq!(rt; sink.put(b"b"), Ok(1));
-        assert_eq!(rt; sink.put(b"c"), Err(SinkFault::Failed));
-        assert_eq!(rt; sink.bytes(), b"ab".as_slice());
-        Ok(())
-    }
-}

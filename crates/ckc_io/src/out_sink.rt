@@ -49,15 +49,3 @@ impl<'a, R: Print> Sink for OutSink<'a, R> {
         }
     }
 }
-
-#[cfg(test)]
-mod tests {
-    use super::*;
-
-    #[test]
-    fn takes_a_piece(rt: HostRuntime) {
-        let mut sink = OutSink::new(&rt);
-        assert_eq!(rt; sink.put(b""), Ok(0));
-        assert_eq!(rt; sink.put(b"a"), Ok(1));
-    }
-}

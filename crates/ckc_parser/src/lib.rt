@@ -6,6 +6,4 @@ pub mod laws;
 mod memory;
 pub mod parser;
 mod statements;
-#[cfg(test)]
-mod tests;
 mod tokens;

@@ -175,16 +175,3 @@ impl Code {
         }
     }
 }
-
-#[cfg(test)]
-mod tests {
-    use super::*;
-
-    #[test]
-    fn numbers_and_texts(rt: HostRuntime) {
-        assert_eq!(rt; Code::E17.number(), "E17");
-        assert_eq!(rt; Code::E17.text(), "bounds not proved");
-        assert_eq!(rt; Code::C2.number(), "C2");
-        assert_eq!(rt; Code::C2.text(), "bounds");
-    }
-}

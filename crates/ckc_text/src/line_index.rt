@@ -65,23 +65,3 @@ impl LineIndex {
         Place { line, col }
     }
 }
-
-#[cfg(test)]
-mod tests {
-    use super::*;
-    use crate::place::place_of;
-    use std::test::Fail;
-
-    #[test]
-    fn places_of_a_text(rt: HostRuntime) -> Result<(), Fail> {
-        let src = b"ab\n\nc";
-        let index = LineIndex::new(rt.alloc(), src)?;
-        let expected = [(1, 1), (1, 2), (1, 3), (2, 1), (3, 1), (3, 2)];
-        for (at, (line, col)) in expected.into_iter().enumerate() {
-            assert!(rt; at <= src.len());
-            assert_eq!(rt; place_of(src, at), Place { line, col }, "at {at}");
-            assert_eq!(rt; index.place(at as u32), Place { line, col }, "at {at}");
-        }
-        Ok(())
-    }
-}

@@ -4,5 +4,3 @@
 pub mod image;
 pub mod lists;
 pub mod op;
-#[cfg(test)]
-mod tests;

@@ -3,5 +3,3 @@
 
 pub mod emit;
 pub mod laws;
-#[cfg(test)]
-mod tests;

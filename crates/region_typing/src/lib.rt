@@ -7,5 +7,3 @@ pub mod laws;
 mod names;
 mod sites;
 mod statements;
-#[cfg(test)]
-mod tests;

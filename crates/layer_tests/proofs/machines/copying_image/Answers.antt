@@ -2,8 +2,8 @@ use Rattle.std.proofs.Common.{◌≡◌, ℕ, ◌<◌, Some, List, [], ◌∷◌
 use Rattle.std.proofs.lemmas.List.Elements.{All-cons, All-nil}
 use Rattle.code_words.specs.declared.image.Func.{Func}
 use Rattle.code_words.specs.Fitting.{Fits, HasSmallFrame}
-use Rattle.two_memory_machine.specs.declared.machine.tests.TheConstants.{SETTINGS}
-use Rattle.two_memory_machine.proofs.machine.tests.copying_image.Goals as goal
+use Rattle.layer_tests.specs.declared.machines.TheConstants.{SETTINGS}
+use Rattle.layer_tests.proofs.machines.copying_image.Goals as goal
 
 -- an image with two blocks and a small `main` fits the smallest memory
 image_fits : (blocks : List (List ℕ)) (funs : List Func) (long short : List ℕ) (main : Func) → blocks ≡ long ∷ short ∷ [] → funs ≡ main ∷ [] → length long ≡ 17 → length short ≡ 4 → main.args ≡ 0 → HasSmallFrame main → Fits record { trusted = record { blocks = blocks; funs = funs }; layout = record { main = Some 0 } } SETTINGS

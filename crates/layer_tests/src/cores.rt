@@ -1,12 +1,12 @@
 // A tree that is accepted, and one with a name twice.
 
-use crate::checker::check;
 use ckc_core::program::{Expr as CoreExpr, Site, Stmt as CoreStmt};
 use ckc_text::code::Code;
 use ckc_text::fault::{NoMemory, Refused, SourceFault};
 use ckc_text::name::Name;
 use ckc_text::place::{Place, Span};
 use ckc_tree::tree::{Expr, Global as Variable, Program, Stmt};
+use region_typing::checker::check;
 use std::alloc::Global;
 use std::test::Fail;
 

@@ -4,11 +4,11 @@ ghost use Rattle.std.specs.Prelude.{IfOk};
 ghost use Rattle.ckc_core.specs.Core.{core};
 ghost use Rattle.lowering.specs.Correct.{IsLowerable};
 
-use crate::emit::lower;
 use ckc_core::program::{Core, Expr, Function, Site, Stmt};
 use ckc_text::fault::NoMemory;
 use ckc_text::place::Place;
 use code_words::op::Op;
+use lowering::emit::lower;
 use std::alloc::Global;
 use std::test::Fail;
 

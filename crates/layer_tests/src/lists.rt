@@ -1,6 +1,6 @@
 // A list from a vector, and back.
 
-use crate::lists::Listed;
+use code_words::lists::Listed;
 use std::test::Fail;
 
 #[test]

@@ -1,7 +1,7 @@
 // Sources that are read, and sources that are refused.
 
-use crate::parser::parse;
 use ckc_lexer::token::{Token, TokenKind};
+use ckc_parser::parser::parse;
 use ckc_text::code::Code;
 use ckc_text::fault::{Refused, SourceFault};
 use ckc_text::name::Name;
