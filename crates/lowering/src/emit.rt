@@ -46,10 +46,17 @@ fn static_blocks(alloc: Global, numbers: &[i32]) -> Result<Blocks, NoMemory>
 {
     let mut blocks = Vec::new(alloc);
     for number in numbers {
-        let bytes = Vec::from_slice(alloc, &number.to_le_bytes())?;
-        blocks.push(Listed::from_vec(bytes))?;
+        blocks.push(number_block(alloc, *number)?)?;
     }
     Ok(Listed::from_vec(blocks))
+}
+
+// The bytes of a number.
+fn number_block(alloc: Global, number: i32) -> Result<Listed<u8>, NoMemory>
+    ensures { IfOk result (λ block. block ≡ number_bytes number) }
+{
+    let bytes = Vec::from_slice(alloc, &number.to_le_bytes())?;
+    Ok(Listed::from_vec(bytes))
 }
 
 // The function `main`.

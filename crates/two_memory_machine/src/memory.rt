@@ -1,7 +1,7 @@
 // The bytes of a memory: static blocks in their places, and words of four bytes.
 
 ghost use Rattle.std.specs.Prelude.{◌≡◌, ◌+◌, ◌-◌, ◌^◌, ◌<◌, ◌≤◌, ◌++◌, length, replicate, vec_len, IfOk, OnOk};
-ghost use Rattle.code_words.specs.Blocks.{rounded_up, bytes_taken, memory_of};
+ghost use Rattle.code_words.specs.Blocks.{rounded_up, offset_behind, bytes_taken, memory_of};
 ghost use Rattle.code_words.specs.Words.{word_at, with_word};
 ghost use Rattle.two_memory_machine.specs.Places.{addresses_from};
 
@@ -64,9 +64,17 @@ pub fn addresses_with(
     let mut address = first;
     for block in blocks {
         addresses.push(address)?;
-        address += (block_size(block.as_slice()) + GAP) as u32;
+        address = address_behind(address, block.as_slice());
     }
     Ok(addresses)
+}
+
+/// The address behind a block and its gap.
+fn address_behind(address: u32, block: &[u8]) -> u32
+    requires { offset_behind address block.now < 2 ^ 32 }
+    ensures { result ≡ offset_behind address block.now }
+{
+    address + (block_size(block) + GAP) as u32
 }
 
 /// The word of the four bytes from an offset, of which the first is the lowest.
