@@ -4,7 +4,7 @@ use ckc_text::code::Code;
 use ckc_text::place::Place;
 
 /// How a run ends.
-#[derive(Clone, Copy, Debug, PartialEq, Eq)]
+#[derive(Clone, Copy)]
 pub enum Ending {
     /// `main` returned a number.
     Exit { value: i32 },

@@ -1,7 +1,7 @@
 // How a run is set up.
 
 /// The limits of a run, and where the trusted memory stands.
-#[derive(Clone, Copy, Debug, PartialEq, Eq)]
+#[derive(Clone, Copy)]
 pub struct Settings {
     /// How many ticks each side may spend: 1 to 1,000,000,000.
     pub budget: u32,

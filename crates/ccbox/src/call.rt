@@ -13,7 +13,7 @@ use ckc_io::whole::write_whole;
 use std::alloc::Global;
 
 /// How a call ended.
-#[derive(Clone, Copy, Debug, PartialEq, Eq)]
+#[derive(Clone, Copy)]
 pub struct Status {
     /// 0: the run exited. 1: the source is refused. 2: the words are. 3: a file is missing. 4: the files failed.
     /// 5: the output failed. 6: a check failed. 7: the run was stopped. 9: memory ran out.

@@ -3,13 +3,13 @@
 use ckc_text::place::Place;
 
 /// Where an access or an operation stands, which its failed check names.
-#[derive(Clone, Copy, Debug, PartialEq, Eq)]
+#[derive(Clone, Copy)]
 pub struct Site {
     pub place: Place,
 }
 
 /// An operator on two numbers.
-#[derive(Clone, Copy, Debug, PartialEq, Eq)]
+#[derive(Clone, Copy)]
 pub enum Operator {
     Add,
     Subtract,

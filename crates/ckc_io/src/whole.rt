@@ -14,7 +14,7 @@ use std::alloc::{AllocError, Global};
 const PIECE: usize = 4096;
 
 /// Why a whole file wasn't read.
-#[derive(Clone, Copy, Debug, PartialEq, Eq)]
+#[derive(Clone, Copy)]
 pub enum ReadFault {
     /// No file has the name.
     Missing,

@@ -4,7 +4,7 @@ use ckc_text::name::Name;
 use ckc_text::place::Span;
 
 /// A binary operator.
-#[derive(Clone, Copy, Debug, PartialEq, Eq)]
+#[derive(Clone, Copy)]
 pub enum BinaryOperator {
     Add,
     Subtract,

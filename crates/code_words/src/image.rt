@@ -32,7 +32,7 @@ pub struct SideCode {
 }
 
 /// What ties an image together: the number of `main`, if it has one.
-#[derive(Clone, Copy, Debug, PartialEq, Eq)]
+#[derive(Clone, Copy)]
 pub struct Layout {
     pub main: Option<u32>,
 }

@@ -3,7 +3,7 @@
 use ckc_text::place::Place;
 
 /// An instruction. Words have 32 bits, and are pushed to and popped from the frame's stack.
-#[derive(Clone, Copy, Debug, PartialEq, Eq)]
+#[derive(Clone, Copy)]
 pub enum Op {
     /// Pushes a number.
     Const(i32),

@@ -21,7 +21,7 @@ use std::alloc::Global;
 use std::marker::Model;
 
 /// What a machine waits for.
-#[derive(Clone, Copy, Debug, PartialEq, Eq)]
+#[derive(Clone, Copy)]
 pub enum Waiting {
     /// For its next step.
     Runs,
@@ -30,7 +30,7 @@ pub enum Waiting {
 }
 
 /// What a step did.
-#[derive(Clone, Copy, Debug, PartialEq, Eq)]
+#[derive(Clone, Copy)]
 pub enum Event {
     /// Nothing that can be seen.
     Ran,
