@@ -1,5 +1,5 @@
 -- Checks that fail alike on both sides.
-use Rattle.std.specs.Prelude.{ℕ, ◌^◌, Bool, true, false, nat_lt, pos, negsuc}
+use Rattle.std.specs.Prelude.{◌^◌, Bool, true, false, nat_lt, pos, negsuc}
 use Rattle.std.proofs.Common.{ℤ}
 use Rattle.ckc_text.specs.declared.place.Place.{Place}
 use Rattle.ckc_text.specs.declared.code.Code.TheVariants.{C6}

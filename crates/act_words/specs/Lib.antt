@@ -1,4 +1,15 @@
 pub mod World
 pub mod Outcome
 pub mod Checks
+pub mod Numbers
 pub mod Limits
+pub mod Rows
+pub mod Acts
+pub mod Acting
+pub mod Touches
+pub mod View
+pub mod Forms
+pub mod Readings
+pub mod Lines
+pub mod Answers
+pub mod Values

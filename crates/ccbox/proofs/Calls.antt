@@ -1,7 +1,9 @@
 -- What the end of a call says: of its Answer, of its status and of the counts.
-use Rattle.std.proofs.Common.{◌≡◌, ℕ, ◌+◌, ◌<◌, ◌≤◌, ◌⊎◌, inl, inr, ⊎_elim, ℤ, List, [], take, length, Option, Some, None, Result, Ok, Err, refl, sym, ap, ◌∙◌, subst, arith}
-use Rattle.std.specs.Prelude.{◌≢◌}
+use Rattle.std.proofs.Common.{◌≡◌, ℕ, ◌+◌, ◌<◌, ◌≤◌, ◌⊎◌, inl, inr, ⊎_elim, ℤ, List, take, length, Option, Some, None, refl, sym, ap, ◌∙◌, subst, arith}
+use Rattle.std.specs.Prelude.{◌≢◌, replicate}
+use Rattle.std.specs.List.{All}
 use Rattle.std.proofs.lemmas.List.{take_all}
+use Rattle.std.proofs.lemmas.List.Elements.{All-nil}
 use Rattle.ckc_text.specs.declared.code.Code.{Code}
 use Rattle.ckc_text.specs.declared.place.Place.{Place}
 use Rattle.ckc_io.specs.Counts.{Rose, Rises}
@@ -10,247 +12,281 @@ use Rattle.ckc_io.specs.Written.{grown}
 use Rattle.ckc_io.proofs.Fronts.{grown-nothing}
 use Rattle.act_words.specs.declared.ending.Ending.{Ending}
 use Rattle.act_words.specs.declared.ending.Ending.TheVariants.{Exit, Check, Stop}
-use Rattle.act_words.specs.Outcome.{Ends}
 use Rattle.ckc_core.specs.Core.{Core}
 use Rattle.ckc_core.specs.States.{State}
-use Rattle.ckc_core.specs.Meaning.{meaning}
-use Rattle.ccbox.specs.declared.answer.Answered.{Answered}
-use Rattle.ccbox.specs.declared.answer.Trouble.{Trouble}
-use Rattle.ccbox.specs.declared.answer.Trouble.TheVariants as troubles
-use Rattle.ccbox.specs.Requests.{Request, Run, request_of}
-use Rattle.ccbox.specs.Texts.{run_text, missing_text}
+use Rattle.sandbox_actor.specs.ActLists.{ActList, RefusedLine}
+use Rattle.run_core.specs.Runs.{Counts}
+use Rattle.ccbox.specs.Requests.{Request, Run, Options, settings_of, request_of}
+use Rattle.ccbox.specs.Texts.{usage_text, missing_text}
 use Rattle.ccbox.specs.Acceptance.{Accepts, IsRefused}
-use Rattle.ccbox.specs.Answers.{usual, status_of, RunsTo, AsksToRun, Answer, usage, missing, refused, ran, IsFailure, WritesFront, GivesFront, GivesWhole, Exactly, SourceIsRefused, RunEnds, RunExits, CheckFails, RunStops, FileIsMissing, Tells, PrintsRun, PrintedRun, IsComplete, IsQuiet, IsUntouched}
-use Rattle.ccbox.specs.Answering.{IsSourceStatus, CountsFor, FileCounts}
-use Rattle.ccbox.specs.Calls.{AnswerCounts, Counts, CallEnds, answered, output_failed, files_failed, no_memory}
-use Rattle.ccbox.specs.Calls as calls
-use Rattle.ccbox.proofs.Fronts.{one_core}
-use Rattle.ccbox.proofs.Runs.{ends}
+use Rattle.ccbox.specs.Answers.{RunsTo, needed_line, text_of, status_of, status_with, ListAnswer, ran, CoreAnswer, acts_missing, acts, SourceAnswer, refused, accepted, FileAnswer, missing, source, Answer, IsFailure, WritesFront, GivesFront, GivesWhole, Exactly, AsksToRun, AsksFor, SourceIsRefused, RunEndsWith, RunExits, CheckFails, RunStops, LineIsRefused, FileIsMissing, PrintsRun, PrintedRun, IsComplete, IsQuiet, IsUntouched}
+use Rattle.ccbox.specs.Answers as answers
+use Rattle.ccbox.specs.Calls.{TextGiven, all, failed, LineGiven, given, unmade, IsFoundStatus, StatusCounts, Gives, answered, output_failed, files_failed, no_memory, no_memory_behind, CallEnds, usage, asked}
+use Rattle.ccbox.proofs.OneAnswer.{one_answer}
+use Rattle.ccbox.proofs.Runs.{ends_over, view_over}
 
--- ---- one Answer
+-- ---- from what is asked for to its Answer
 
--- two texts and statuses that are the same
-pub record Same (t u : List ℕ) (m n : ℕ) : Type 0 where
-  pub text : t ≡ u
-  pub status : m ≡ n
+-- the run of a source that is asked for has its Answer
+pub run_answer : (files : Files) (words : List (List ℕ)) (options : Options) (list : ActList) (c : Core) (ending : Ending) (s : State) → AsksFor files words options list c → RunsTo c (settings_of options) list ending s → Answer files words (text_of (settings_of options) (needed_line list s.world.events) s.world.events ending) (status_with (needed_line list s.world.events) ending)
+run_answer files words options list c ending s a runs =
+    answers.asked (Run a.asks.name options) a.asks.request (source a.src a.asks.there (accepted c a.accepted (acts list a.acts (ran ending s runs))))
 
--- one source is asked for
-one_source : (files : Files) (words : List (List ℕ)) (a b : List ℕ) → (x : AsksToRun files words a) → (y : AsksToRun files words b) → a ≡ b
-one_source files words a b x y =
-    let request : Run x.name ≡ Run y.name = let p = x.request in let q = y.request in cc in
-    let name : x.name ≡ y.name = cc in
-    let there : Some a ≡ Some b = sym x.there ∙ (ap (file_at files) name ∙ y.there) in
-    cc
+refused_answer : (files : Files) (words : List (List ℕ)) (options : Options) (src : List ℕ) → AsksToRun files words options src → IsRefused src → (text : List ℕ) × Answer files words text 1
+refused_answer files words options src a none = (_, answers.asked (Run a.name options) a.request (source src a.there (refused none)))
 
--- a run ends in one way
-one_end : (c d : Core) (e f : Ending) (s t : State) → c ≡ d → RunsTo c e s → RunsTo d f t → (e ≡ f) × (s ≡ t)
-one_end c d e f s t same x y =
-    let both : ◌≡◌ {A = _} (Ends e s) (Ends f t) = sym x ∙ (ap (λ p. meaning p usual) same ∙ y) in
-    (cc, cc)
+missing_answer : (files : Files) (words : List (List ℕ)) → FileIsMissing files words → (text : List ℕ) × Answer files words text 3
+missing_answer files words (inl m) = (missing_text m.0, answers.asked (Run m.0 m.1) m.2 (missing m.3))
+missing_answer files words (inr m) =
+    let a = m.4 in
+    (missing_text m.0, answers.asked (Run a.name m.1) a.request (source m.2 a.there (accepted m.3 m.5 (acts_missing m.0 m.6 m.7))))
 
-same_run : (files : Files) (words : List (List ℕ)) (a b : List ℕ) (c d : Core) (e f : Ending) (s t : State) → AsksToRun files words a → AsksToRun files words b → Accepts a c → Accepts b d → RunsTo c e s → RunsTo d f t → Same (run_text s.world.events e) (run_text t.world.events f) (status_of e) (status_of f)
-same_run files words a b c d e f s t x y p q r u =
-    let src = one_source files words a b x y in
-    let core = one_core b c d (subst (λ z. Accepts z c) src p) q in
-    let end = one_end c d e f s t core r u in
-    record {
-      text = ap (λ (g : Ending). run_text s.world.events g) end.0 ∙ ap (λ (z : State). run_text z.world.events f) end.1;
-      status = ap status_of end.0;
-    }
+-- ---- what an Answer says of its status
 
--- a file that is missing isn't there
-missing_there : (files : Files) (words : List (List ℕ)) (name src : List ℕ) → request_of words ≡ Some (Run name) → file_at files name ≡ None → AsksToRun files words src → ⊥
-missing_there files words name src f g x =
-    let request : Run name ≡ Run x.name = let p = x.request in cc in
-    let same : name ≡ x.name = cc in
-    let there : None ≡ Some src = sym g ∙ (ap (file_at files) same ∙ x.there) in
-    cc
+-- the causes of the statuses that files and words have
+abbrev Cause : Files → List (List ℕ) → ℕ → Type 0
+Cause files words n =
+    ((n ≡ 1) × SourceIsRefused files words) ⊎ (((n ≡ 3) × FileIsMissing files words) ⊎ (((n ≡ 2) × (request_of words ≡ None))
+    ⊎ ((needed : Option RefusedLine) × (ending : Ending) × (n ≡ status_with needed ending) × RunEndsWith files words needed ending)))
 
--- two missing files are one
-missing_same : (files : Files) (words : List (List ℕ)) (name other : List ℕ) → request_of words ≡ Some (Run name) → request_of words ≡ Some (Run other) → Same (missing_text name) (missing_text other) 3 3
-missing_same files words name other f h =
-    let request : Run name ≡ Run other = cc in
-    let same : name ≡ other = cc in
-    record { text = ap missing_text same; status = refl }
+core_cause : (files : Files) (words : List (List ℕ)) (options : Options) (src : List ℕ) (c : Core) → AsksToRun files words options src → Accepts src c → {text : List ℕ} {n : ℕ} → CoreAnswer files options c text n → Cause files words n
+core_cause files words options src c asks is (acts_missing name e none) = inr (inl (refl, inr (name, options, src, c, asks, is, e, none)))
+core_cause files words options src c asks is (acts list there (ran ending s runs)) =
+    inr (inr (inr (needed_line list s.world.events, ending, refl, (options, list, c, s, record { src = src; asks = asks; accepted = is; acts = there }, runs, refl))))
 
-pub one_answer : (files : Files) (words : List (List ℕ)) {t u : List ℕ} {m n : ℕ} → Answer files words t m → Answer files words u n → Same t u m n
-one_answer files words (usage e) (usage f) = record { text = refl; status = refl }
-one_answer files words (usage e) (missing name f g) = absurd (cc)
-one_answer files words (usage e) (refused src f g) = absurd (let h = f.request in cc)
-one_answer files words (usage e) (ran src c ending s f g h) = absurd (let k = f.request in cc)
-one_answer files words (missing name f g) (usage e) = absurd (cc)
-one_answer files words (missing name f g) (missing other h k) = missing_same files words name other f h
-one_answer files words (missing name f g) (refused src h k) = absurd (missing_there files words name src f g h)
-one_answer files words (missing name f g) (ran src c ending s h k l) = absurd (missing_there files words name src f g h)
-one_answer files words (refused src f g) (usage e) = absurd (let h = f.request in cc)
-one_answer files words (refused src h k) (missing name f g) = absurd (missing_there files words name src f g h)
-one_answer files words (refused src f g) (refused other h k) = record { text = refl; status = refl }
-one_answer files words (refused src f g) (ran other c ending s h k l) = absurd (g c (subst (λ z. Accepts z c) (one_source files words other src h f) k))
-one_answer files words (ran src c ending s f g h) (usage e) = absurd (let k = f.request in cc)
-one_answer files words (ran src c ending s h k l) (missing name f g) = absurd (missing_there files words name src f g h)
-one_answer files words (ran other c ending s h k l) (refused src f g) = absurd (g c (subst (λ z. Accepts z c) (one_source files words other src h f) k))
-one_answer files words (ran src c ending s f g h) (ran other d end t k l m) = same_run files words src other c d ending end s t f k g l h m
+source_cause : (files : Files) (words : List (List ℕ)) (options : Options) (src : List ℕ) → AsksToRun files words options src → {text : List ℕ} {n : ℕ} → SourceAnswer files options src text n → Cause files words n
+source_cause files words options src asks (refused none) = inl (refl, (options, src, asks, none))
+source_cause files words options src asks (accepted c is a) = core_cause files words options src c asks is a
+
+file_cause : (files : Files) (words : List (List ℕ)) (options : Options) (name : List ℕ) → request_of words ≡ Some (Run name options) → {text : List ℕ} {n : ℕ} → FileAnswer files options name text n → Cause files words n
+file_cause files words options name asks (missing none) = inr (inl (refl, inl (name, options, asks, none)))
+file_cause files words options name asks (source src there a) = source_cause files words options src (record { name = name; request = asks; there = there }) a
+
+cause : (files : Files) (words : List (List ℕ)) {text : List ℕ} {n : ℕ} → Answer files words text n → Cause files words n
+cause files words (answers.usage e) = inr (inr (inl (refl, e)))
+cause files words (answers.asked (Run name options) e a) = file_cause files words options name e a
+
+-- the status of a run tells which line it needed, and how it ended
+data StatusOf : ℕ → Option RefusedLine → Ending → Type 0 where
+  exit : (value : ℤ) → StatusOf 0 None (Exit value)
+  check : (code : Code) (place : Place) → StatusOf 6 None (Check code place)
+  stop : (code : Code) (act : Option ℕ) → StatusOf 7 None (Stop code act)
+  refusal : (needed : RefusedLine) (ending : Ending) → StatusOf 8 (Some needed) ending
+
+status_of_run : (needed : Option RefusedLine) (ending : Ending) → StatusOf (status_with needed ending) needed ending
+status_of_run None (Exit value) = exit value
+status_of_run None (Check code place) = check code place
+status_of_run None (Stop code act) = stop code act
+status_of_run (Some needed) ending = refusal needed ending
+
+exit_from : (files : Files) (words : List (List ℕ)) (n : ℕ) (needed : Option RefusedLine) (ending : Ending) → StatusOf n needed ending → n ≡ 0 → RunEndsWith files words needed ending → RunExits files words
+exit_from files words _ _ _ (exit value) e r = (value, r)
+exit_from files words _ _ _ (check code place) e r = absurd (omega arith)
+exit_from files words _ _ _ (stop code act) e r = absurd (omega arith)
+exit_from files words _ _ _ (refusal needed ending) e r = absurd (omega arith)
+
+check_from : (files : Files) (words : List (List ℕ)) (n : ℕ) (needed : Option RefusedLine) (ending : Ending) → StatusOf n needed ending → n ≡ 6 → RunEndsWith files words needed ending → CheckFails files words
+check_from files words _ _ _ (exit value) e r = absurd (omega arith)
+check_from files words _ _ _ (check code place) e r = (code, place, r)
+check_from files words _ _ _ (stop code act) e r = absurd (omega arith)
+check_from files words _ _ _ (refusal needed ending) e r = absurd (omega arith)
+
+stop_from : (files : Files) (words : List (List ℕ)) (n : ℕ) (needed : Option RefusedLine) (ending : Ending) → StatusOf n needed ending → n ≡ 7 → RunEndsWith files words needed ending → RunStops files words
+stop_from files words _ _ _ (exit value) e r = absurd (omega arith)
+stop_from files words _ _ _ (check code place) e r = absurd (omega arith)
+stop_from files words _ _ _ (stop code act) e r = (code, act, r)
+stop_from files words _ _ _ (refusal needed ending) e r = absurd (omega arith)
+
+line_from : (files : Files) (words : List (List ℕ)) (n : ℕ) (needed : Option RefusedLine) (ending : Ending) → StatusOf n needed ending → n ≡ 8 → RunEndsWith files words needed ending → LineIsRefused files words
+line_from files words _ _ _ (exit value) e r = absurd (omega arith)
+line_from files words _ _ _ (check code place) e r = absurd (omega arith)
+line_from files words _ _ _ (stop code act) e r = absurd (omega arith)
+line_from files words _ _ _ (refusal needed ending) e r = (needed, ending, r)
+
+-- a status that only runs have comes with a run
+of_run : (files : Files) (words : List (List ℕ)) (n : ℕ) (P : Type 0) → (n ≡ 1 → ⊥) → (n ≡ 2 → ⊥) → (n ≡ 3 → ⊥) → ((needed : Option RefusedLine) (ending : Ending) → StatusOf n needed ending → RunEndsWith files words needed ending → P) → (text : List ℕ) → Answer files words text n → P
+of_run files words n P one two three take_run text a = by (cause files words a)
+  where
+    by : Cause files words n → P
+    by (inl x) = absurd (one x.0)
+    by (inr (inl x)) = absurd (three x.0)
+    by (inr (inr (inl x))) = absurd (two x.0)
+    by (inr (inr (inr x))) = take_run x.0 x.1 (subst (λ m. StatusOf m x.0 x.1) (sym x.2) (status_of_run x.0 x.1)) x.3
+
+-- no run has the status 1 or 3
+no_run : (n : ℕ) (needed : Option RefusedLine) (ending : Ending) → StatusOf n needed ending → (n ≢ 1) × (n ≢ 3)
+no_run _ _ _ (exit value) = (λ e. omega arith, λ e. omega arith)
+no_run _ _ _ (check code place) = (λ e. omega arith, λ e. omega arith)
+no_run _ _ _ (stop code act) = (λ e. omega arith, λ e. omega arith)
+no_run _ _ _ (refusal needed ending) = (λ e. omega arith, λ e. omega arith)
+
+refused_from : (files : Files) (words : List (List ℕ)) (text : List ℕ) → Answer files words text 1 → SourceIsRefused files words
+refused_from files words text a = by (cause files words a)
+  where
+    by : Cause files words 1 → SourceIsRefused files words
+    by (inl x) = x.1
+    by (inr (inl x)) = absurd (omega (arith, x.0))
+    by (inr (inr (inl x))) = absurd (omega (arith, x.0))
+    by (inr (inr (inr x))) = absurd ((no_run (status_with x.0 x.1) x.0 x.1 (status_of_run x.0 x.1)).0 (sym x.2))
+
+missing_from : (files : Files) (words : List (List ℕ)) (text : List ℕ) → Answer files words text 3 → FileIsMissing files words
+missing_from files words text a = by (cause files words a)
+  where
+    by : Cause files words 3 → FileIsMissing files words
+    by (inl x) = absurd (omega (arith, x.0))
+    by (inr (inl x)) = x.1
+    by (inr (inr (inl x))) = absurd (omega (arith, x.0))
+    by (inr (inr (inr x))) = absurd ((no_run (status_with x.0 x.1) x.0 x.1 (status_of_run x.0 x.1)).1 (sym x.2))
 
 -- ---- the end of a call
 
-module _ (words : List (List ℕ)) (told : Option Files) (old new : Option (List ℕ)) (before after : Counts) (files : Files) (tells : told ≡ Some files) where
-  -- whatever the Answer is, it was given whole, or something failed
-  pub settled : (status : ℕ) → CallEnds words told old new before after status → {text : List ℕ} {n : ℕ} → Answer files words text n → ((status ≡ n) × (new ≡ grown old text)) ⊎ IsFailure status
-  settled _ (answered text status tell counts all sink) a =
-      let same = one_answer files words (tell files tells) a in
-      inl (same.status, all ∙ ap (grown old) same.text)
-  settled _ (output_failed text status k tell counts le front sink) a = inr (inr (inl refl))
-  settled _ (files_failed request asks same misses faults sink) a = inr (inl refl)
-  settled _ (no_memory same misses still faults sink) a = inr (inr (inr refl))
+module _ (words : List (List ℕ)) (told : Option Files) (old new : Option (List ℕ)) (before after : Counts) where
+  -- what is given to a request is an Answer
+  abbrev IsTold : List ℕ → Options → List ℕ → ℕ → Type 0
+  IsTold name options text status = Told told (λ files. FileAnswer files options name text status)
 
-  pub front : (status : ℕ) → CallEnds words told old new before after status → GivesFront files words old new
-  front _ (answered text status tell counts all sink) t n a =
-      let same = one_answer files words (tell files tells) a in
-      (length t, omega arith, all ∙ ap (grown old) (same.text ∙ sym (take_all (length t) t (omega arith))))
-  front _ (output_failed text status k tell counts le part sink) t n a =
-      let same = one_answer files words (tell files tells) a in
-      (k, omega (arith, ap length same.text), part ∙ ap (λ (x : List ℕ). grown old (take k x)) same.text)
-  front _ (files_failed request asks same misses faults sink) t n a = (0, omega arith, same ∙ sym (grown-nothing old))
-  front _ (no_memory same misses still faults sink) t n a = (0, omega arith, same ∙ sym (grown-nothing old))
+  module _ (files : Files) (tells : told ≡ Some files) where
+    -- how a call ends where the files are told
+    data Settled : ℕ → Type 0 where
+      whole_answer : (text : List ℕ) (status : ℕ) → Answer files words text status → new ≡ grown old text → Settled status
+      front_answer : (text : List ℕ) (status k result : ℕ) → Answer files words text status → k ≤ length text → new ≡ grown old (take k text) → IsFailure result → Settled result
+      nothing : (result : ℕ) → new ≡ old → IsFailure result → Settled result
 
-  pub whole : (status : ℕ) → CallEnds words told old new before after status → GivesWhole files words old new status ⊎ IsFailure status
-  whole _ (answered text status tell counts all sink) = inl (record { text = text; answer = tell files tells; all = all })
-  whole _ (output_failed text status k tell counts le front sink) = inr (inr (inl refl))
-  whole _ (files_failed request asks same misses faults sink) = inr (inl refl)
-  whole _ (no_memory same misses still faults sink) = inr (inr (inr refl))
+    settled_text : (text : List ℕ) (status result : ℕ) → Answer files words text status → TextGiven text status old new before.sink after.sink result → Settled result
+    settled_text text status _ a (all is same) = whole_answer text status a is
+    settled_text text status _ a (failed k le is rises) = front_answer text status k 5 a le is (inr (inl refl))
 
-  pub printed_run : (status : ℕ) → CallEnds words told old new before after status → PrintedRun files words old new status
-  printed_run status h src c asks accepts =
-      let e = ends c (src, accepts) usual in
-      record { ending = e.0; last = e.1; runs = e.2; printed = settled status h (ran src c e.0 e.1 asks accepts e.2) }
+    settled_line : (result : ℕ) → request_of words ≡ None → LineGiven usage_text 2 old new before.sink after.sink result → Settled result
+    settled_line result e (given x) = settled_text usage_text 2 result (answers.usage e) x
+    settled_line result e (unmade is same still) = nothing result same (inr (inr is))
 
-  pub complete : (status : ℕ) → CallEnds words told old new before after status → IsQuiet before.faults after.faults → IsQuiet before.sink after.sink → IsComplete files words old new status
-  complete _ (answered text status tell counts all sink) files_quiet sink_quiet src c ending s asks accepts runs =
-      let same = one_answer files words (tell files tells) (ran src c ending s asks accepts runs) in
-      inl (same.status, all ∙ ap (grown old) same.text)
-  complete _ (output_failed text status k tell counts le front sink) files_quiet sink_quiet src c ending s asks accepts runs = absurd (sink_quiet sink.rose)
-  complete _ (files_failed request asks' same misses faults sink) files_quiet sink_quiet src c ending s asks accepts runs = absurd (files_quiet faults.rose)
-  complete _ (no_memory same misses still faults sink) files_quiet sink_quiet src c ending s asks accepts runs = inr refl
+    settled_gives : (name : List ℕ) (options : Options) (result : ℕ) → request_of words ≡ Some (Run name options) → Gives (IsTold name options) old new before after result → Settled result
+    settled_gives name options _ e (answered text status is counts whole sink) = whole_answer text status (answers.asked (Run name options) e (is files tells)) whole
+    settled_gives name options _ e (output_failed text status k is more faults le front sink) = front_answer text status k 5 (answers.asked (Run name options) e (is files tells)) le front (inr (inl refl))
+    settled_gives name options _ e (files_failed same misses faults sink) = nothing 4 same (inl refl)
+    settled_gives name options _ e (no_memory same misses faults sink) = nothing 9 same (inr (inr refl))
+    settled_gives name options _ e (no_memory_behind text status k is le front misses faults sink) = front_answer text status k 9 (answers.asked (Run name options) e (is files tells)) le front (inr (inr refl))
 
-  -- a status that is no failure has its Answer
-  answer_of : (status n : ℕ) → CallEnds words told old new before after status → status ≡ n → (IsFailure n → ⊥) → (text : List ℕ) × Answer files words text n
-  answer_of status n h e safe = ⊎_elim (λ w. (w.text, subst (Answer files words w.text) e w.answer)) (λ f. absurd (safe (subst IsFailure e f))) (whole status h)
+    settled : (result : ℕ) → CallEnds words told old new before after result → Settled result
+    settled result (usage e line misses faults) = settled_line result e line
+    settled result (asked (Run name options) e gives) = settled_gives name options result e gives
 
-  -- a status comes exactly with its cause
-  exactly : (n status : ℕ) (P : Type 0) → CallEnds words told old new before after status → (IsFailure n → ⊥) → ((text : List ℕ) → Answer files words text n → P) → (P → (text : List ℕ) × Answer files words text n) → Exactly n status P
-  exactly n status P h safe only always = record {
-    only = λ e. let a = answer_of status n h e safe in only a.0 a.1;
-    always = λ p. let a = always p in ⊎_elim (λ s. inl s.0) inr (settled status h a.1);
-  }
+    front_of : (result : ℕ) → Settled result → GivesFront files words old new
+    front_of _ (whole_answer text status b is) t n a =
+        let same = one_answer files words b a in
+        (length t, omega arith, is ∙ ap (grown old) (same.text ∙ sym (take_all (length t) t (omega arith))))
+    front_of _ (front_answer text status k result b le is fails) t n a =
+        let same = one_answer files words b a in
+        (k, omega (arith, ap length same.text), is ∙ ap (λ (x : List ℕ). grown old (take k x)) same.text)
+    front_of _ (nothing result is fails) t n a = (0, omega arith, is ∙ sym (grown-nothing old))
 
-  -- ---- causes
+    whole_of : (result : ℕ) → Settled result → GivesWhole files words old new result ⊎ IsFailure result
+    whole_of _ (whole_answer text status a is) = inl (record { text = text; answer = a; all = is })
+    whole_of _ (front_answer text status k result a le is fails) = inr fails
+    whole_of _ (nothing result is fails) = inr fails
 
-  -- which ending has a status
-  exit_from : (ending : Ending) → status_of ending ≡ 0 → RunEnds files words ending → RunExits files words
-  exit_from (Exit value) e r = (value, r)
-  exit_from (Check code place) e r = absurd (omega arith)
-  exit_from (Stop code act) e r = absurd (omega arith)
+    -- whatever the Answer is, it was given whole, or something failed
+    is_given : (result : ℕ) → Settled result → {text : List ℕ} {n : ℕ} → Answer files words text n → ((result ≡ n) × (new ≡ grown old text)) ⊎ IsFailure result
+    is_given _ (whole_answer text status b is) a =
+        let same = one_answer files words b a in
+        inl (same.status, is ∙ ap (grown old) same.text)
+    is_given _ (front_answer text status k result b le is fails) a = inr fails
+    is_given _ (nothing result is fails) a = inr fails
 
-  check_from : (ending : Ending) → status_of ending ≡ 6 → RunEnds files words ending → CheckFails files words
-  check_from (Exit value) e r = absurd (omega arith)
-  check_from (Check code place) e r = (code, place, r)
-  check_from (Stop code act) e r = absurd (omega arith)
+    pub front : (result : ℕ) → CallEnds words told old new before after result → GivesFront files words old new
+    front result h = front_of result (settled result h)
 
-  stop_from : (ending : Ending) → status_of ending ≡ 7 → RunEnds files words ending → RunStops files words
-  stop_from (Exit value) e r = absurd (omega arith)
-  stop_from (Check code place) e r = absurd (omega arith)
-  stop_from (Stop code act) e r = (code, act, r)
+    pub whole : (result : ℕ) → CallEnds words told old new before after result → GivesWhole files words old new result ⊎ IsFailure result
+    whole result h = whole_of result (settled result h)
 
-  not_of_ending : (ending : Ending) (n : ℕ) → status_of ending ≡ n → (n ≢ 0) → (n ≢ 6) → (n ≢ 7) → ⊥
-  not_of_ending (Exit value) n e a b c = omega arith
-  not_of_ending (Check code place) n e a b c = omega arith
-  not_of_ending (Stop code act) n e a b c = omega arith
+    pub printed_run : (result : ℕ) → CallEnds words told old new before after result → PrintedRun files words old new result
+    printed_run result h options list c a =
+        let e = ends_over files words options list c a in
+        record {
+          ending = e.0;
+          last = e.1;
+          runs = e.2;
+          view = view_over files words options list c e.0 e.1 a e.2;
+          printed = is_given result (settled result h) (run_answer files words options list c e.0 e.1 a e.2);
+        }
 
-  -- an Answer whose status is that of an ending is that of a run
-  run_of : (text : List ℕ) (n : ℕ) → Answer files words text n → (n ≢ 1) → (n ≢ 2) → (n ≢ 3) → (ending : Ending) × (status_of ending ≡ n) × RunEnds files words ending
-  run_of _ _ (usage e) a b c = absurd (omega arith)
-  run_of _ _ (missing name e g) a b c = absurd (omega arith)
-  run_of _ _ (refused src e g) a b c = absurd (omega arith)
-  run_of _ _ (ran src p ending s asks accepts runs) a b c = (ending, refl, (src, p, s, asks, accepts, runs))
+    -- a failure is one of memory, where no device fails
+    memory_alone : (result : ℕ) → CallEnds words told old new before after result → IsQuiet before.faults after.faults → IsQuiet before.sink after.sink → IsFailure result → result ≡ 9
+    memory_alone result (usage e (given (all is same)) misses faults) files_quiet sink_quiet fails = absurd (omega arith)
+    memory_alone result (usage e (given (failed k le is rises)) misses faults) files_quiet sink_quiet fails = absurd (sink_quiet rises.rose)
+    memory_alone result (usage e (unmade is same still) misses faults) files_quiet sink_quiet fails = is
+    memory_alone result (asked (Run name options) e gives) files_quiet sink_quiet fails = by result gives fails
+      where
+        found : (status : ℕ) → StatusCounts status before after → IsFailure status → status ≡ 9
+        found status counts f = absurd (omega (arith, counts.1, f))
 
-  refused_of : (text : List ℕ) (n : ℕ) → Answer files words text n → n ≡ 1 → SourceIsRefused files words
-  refused_of _ _ (usage e) a = absurd (omega arith)
-  refused_of _ _ (missing name e g) a = absurd (omega arith)
-  refused_of _ _ (refused src e g) a = (src, e, g)
-  refused_of _ _ (ran src p ending s asks accepts runs) a = absurd (not_of_ending ending 1 a (omega arith) (omega arith) (omega arith))
+        by : (n : ℕ) → Gives (IsTold name options) old new before after n → IsFailure n → n ≡ 9
+        by _ (answered text status is counts whole sink) f = found status counts f
+        by _ (output_failed text status k is more faults le front sink) f = absurd (sink_quiet sink.rose)
+        by _ (files_failed same misses faults sink) f = absurd (files_quiet faults.rose)
+        by _ (no_memory same misses faults sink) f = refl
+        by _ (no_memory_behind text status k is le front misses faults sink) f = refl
 
-  missing_of : (text : List ℕ) (n : ℕ) → Answer files words text n → n ≡ 3 → FileIsMissing files words
-  missing_of _ _ (usage e) a = absurd (omega arith)
-  missing_of _ _ (missing name e g) a = (name, e, g)
-  missing_of _ _ (refused src e g) a = absurd (omega arith)
-  missing_of _ _ (ran src p ending s asks accepts runs) a = absurd (not_of_ending ending 3 a (omega arith) (omega arith) (omega arith))
+    pub complete : (result : ℕ) → CallEnds words told old new before after result → IsQuiet before.faults after.faults → IsQuiet before.sink after.sink → IsComplete files words old new result
+    complete result h files_quiet sink_quiet options list c ending s a runs =
+        ⊎_elim inl (λ fails. inr (memory_alone result h files_quiet sink_quiet fails)) (is_given result (settled result h) (run_answer files words options list c ending s a runs))
 
-  -- no failure
-  safe : (n : ℕ) → (n ≢ 4) → (n ≢ 5) → (n ≢ 9) → IsFailure n → ⊥
-  safe n a b c f = ⊎_elim a (⊎_elim b c) f
+    -- a status that is no failure has its Answer
+    answer_of : (result n : ℕ) → CallEnds words told old new before after result → result ≡ n → (IsFailure n → ⊥) → (text : List ℕ) × Answer files words text n
+    answer_of result n h e safe = ⊎_elim (λ w. (w.text, subst (Answer files words w.text) e w.answer)) (λ f. absurd (safe (subst IsFailure e f))) (whole result h)
 
-  pub exits : (status : ℕ) → CallEnds words told old new before after status → Exactly 0 status (RunExits files words)
-  exits status h =
-      exactly 0 status (RunExits files words) h (safe 0 (omega arith) (omega arith) (omega arith))
-      (λ text a. let r = run_of text 0 a (omega arith) (omega arith) (omega arith) in exit_from r.0 r.1 r.2)
-      (λ p. let r = p.1 in (run_text r.2.world.events (Exit p.0), ran r.0 r.1 (Exit p.0) r.2 r.3 r.4 r.5))
+    -- a status comes exactly with its cause
+    exactly : (n result : ℕ) (P : Type 0) → CallEnds words told old new before after result → (IsFailure n → ⊥) → ((text : List ℕ) → Answer files words text n → P) → (P → (text : List ℕ) × Answer files words text n) → Exactly n result P
+    exactly n result P h safe only always = record {
+      only = λ e. let a = answer_of result n h e safe in only a.0 a.1;
+      always = λ p. let a = always p in ⊎_elim (λ s. inl s.0) inr (is_given result (settled result h) a.1);
+    }
 
-  pub checks : (status : ℕ) → CallEnds words told old new before after status → Exactly 6 status (CheckFails files words)
-  checks status h =
-      exactly 6 status (CheckFails files words) h (safe 6 (omega arith) (omega arith) (omega arith))
-      (λ text a. let r = run_of text 6 a (omega arith) (omega arith) (omega arith) in check_from r.0 r.1 r.2)
-      (λ p. let r = p.2 in (run_text r.2.world.events (Check p.0 p.1), ran r.0 r.1 (Check p.0 p.1) r.2 r.3 r.4 r.5))
+    -- the Answer of a run with this line needed and this ending
+    run_ended : (needed : Option RefusedLine) (ending : Ending) (n : ℕ) → status_with needed ending ≡ n → RunEndsWith files words needed ending → (text : List ℕ) × Answer files words text n
+    run_ended needed ending n e r =
+        (_, subst (λ m. Answer files words (text_of (settings_of r.0) (needed_line r.1 r.3.world.events) r.3.world.events ending) m) (ap (λ x. status_with x ending) r.6 ∙ e) (run_answer files words r.0 r.1 r.2 ending r.3 r.4 r.5))
 
-  pub stops : (status : ℕ) → CallEnds words told old new before after status → Exactly 7 status (RunStops files words)
-  stops status h =
-      exactly 7 status (RunStops files words) h (safe 7 (omega arith) (omega arith) (omega arith))
-      (λ text a. let r = run_of text 7 a (omega arith) (omega arith) (omega arith) in stop_from r.0 r.1 r.2)
-      (λ p. let r = p.2 in (run_text r.2.world.events (Stop p.0 p.1), ran r.0 r.1 (Stop p.0 p.1) r.2 r.3 r.4 r.5))
+    safe : (n : ℕ) → n ≢ 4 → n ≢ 5 → n ≢ 9 → IsFailure n → ⊥
+    safe n a b c (inl e) = a e
+    safe n a b c (inr (inl e)) = b e
+    safe n a b c (inr (inr e)) = c e
 
-  pub refuses : (status : ℕ) → CallEnds words told old new before after status → Exactly 1 status (SourceIsRefused files words)
-  refuses status h =
-      exactly 1 status (SourceIsRefused files words) h (safe 1 (omega arith) (omega arith) (omega arith))
-      (λ text a. refused_of text 1 a refl) (λ p. (_, refused p.0 p.1 p.2))
+    pub exits : (result : ℕ) → CallEnds words told old new before after result → Exactly 0 result (RunExits files words)
+    exits result h =
+        exactly 0 result (RunExits files words) h (safe 0 (omega arith) (omega arith) (omega arith))
+        (of_run files words 0 (RunExits files words) (omega arith) (omega arith) (omega arith) (λ needed ending status r. exit_from files words 0 needed ending status refl r))
+        (λ p. run_ended None (Exit p.0) 0 refl p.1)
 
-  pub misses : (status : ℕ) → CallEnds words told old new before after status → Exactly 3 status (FileIsMissing files words)
-  misses status h =
-      exactly 3 status (FileIsMissing files words) h (safe 3 (omega arith) (omega arith) (omega arith))
-      (λ text a. missing_of text 3 a refl) (λ p. (missing_text p.0, missing p.0 p.1 p.2))
+    pub checks : (result : ℕ) → CallEnds words told old new before after result → Exactly 6 result (CheckFails files words)
+    checks result h =
+        exactly 6 result (CheckFails files words) h (safe 6 (omega arith) (omega arith) (omega arith))
+        (of_run files words 6 (CheckFails files words) (omega arith) (omega arith) (omega arith) (λ needed ending status r. check_from files words 6 needed ending status refl r))
+        (λ p. run_ended None (Check p.0 p.1) 6 refl p.2)
 
--- ---- a call's parts
+    pub stops : (result : ℕ) → CallEnds words told old new before after result → Exactly 7 result (RunStops files words)
+    stops result h =
+        exactly 7 result (RunStops files words) h (safe 7 (omega arith) (omega arith) (omega arith))
+        (of_run files words 7 (RunStops files words) (omega arith) (omega arith) (omega arith) (λ needed ending status r. stop_from files words 7 needed ending status refl r))
+        (λ p. run_ended None (Stop p.0 p.1) 7 refl p.2)
 
--- what an answer says of the counts, by what is asked for
-answer_counts_for : (words : List (List ℕ)) (o : Option Request) (a : Answered) (misses misses' faults faults' : ℕ) → request_of words ≡ o → CountsFor o (Ok a) misses misses' faults faults' → AnswerCounts words a.status misses misses' faults faults'
-answer_counts_for words None a misses misses' faults faults' e h = calls.usage e h.0 h.2 h.1
-answer_counts_for words (Some (Run name)) a misses misses' faults faults' e h =
-    ⊎_elim (λ m. calls.missed (Run name) e m.0 m.1 h.0) (λ s. calls.source (Run name) e s.0 s.1 h.0) h.1
+    pub acts_refused : (result : ℕ) → CallEnds words told old new before after result → Exactly 8 result (LineIsRefused files words)
+    acts_refused result h =
+        exactly 8 result (LineIsRefused files words) h (safe 8 (omega arith) (omega arith) (omega arith))
+        (of_run files words 8 (LineIsRefused files words) (omega arith) (omega arith) (omega arith) (λ needed ending status r. line_from files words 8 needed ending status refl r))
+        (λ p. run_ended (Some p.0) p.1 8 refl p.2)
 
-pub answer_counts : (words : List (List ℕ)) (a : Answered) (misses misses' faults faults' : ℕ) → CountsFor (request_of words) (Ok a) misses misses' faults faults' → AnswerCounts words a.status misses misses' faults faults'
-answer_counts words a misses misses' faults faults' h = answer_counts_for words (request_of words) a misses misses' faults faults' refl h
+    pub refuses : (result : ℕ) → CallEnds words told old new before after result → Exactly 1 result (SourceIsRefused files words)
+    refuses result h =
+        exactly 1 result (SourceIsRefused files words) h (safe 1 (omega arith) (omega arith) (omega arith))
+        (refused_from files words) (λ p. refused_answer files words p.0 p.1 p.2 p.3)
 
--- files that failed, and memory that ran out
-files_end_for : (words : List (List ℕ)) (told : Option Files) (old : Option (List ℕ)) (m m' f f' k : ℕ) (o : Option Request) → request_of words ≡ o → CountsFor o (Err troubles.Failed) m m' f f' → CallEnds words told old old (record { misses = m; faults = f; sink = k }) (record { misses = m'; faults = f'; sink = k }) 4
-files_end_for words told old m m' f f' k None e h = absurd h
-files_end_for words told old m m' f f' k (Some (Run name)) e h = files_failed (Run name) e refl h.1 h.0 refl
+    pub misses : (result : ℕ) → CallEnds words told old new before after result → Exactly 3 result (FileIsMissing files words)
+    misses result h =
+        exactly 3 result (FileIsMissing files words) h (safe 3 (omega arith) (omega arith) (omega arith))
+        (missing_from files words) (missing_answer files words)
 
-pub files_end : (words : List (List ℕ)) (told : Option Files) (old : Option (List ℕ)) (m m' f f' k : ℕ) → CountsFor (request_of words) (Err troubles.Failed) m m' f f' → CallEnds words told old old (record { misses = m; faults = f; sink = k }) (record { misses = m'; faults = f'; sink = k }) 4
-files_end words told old m m' f f' k h = files_end_for words told old m m' f f' k (request_of words) refl h
-
-memory_end_for : (words : List (List ℕ)) (told : Option Files) (old : Option (List ℕ)) (m m' f f' k : ℕ) (o : Option Request) → request_of words ≡ o → CountsFor o (Err troubles.NoMemory) m m' f f' → CallEnds words told old old (record { misses = m; faults = f; sink = k }) (record { misses = m'; faults = f'; sink = k }) 9
-memory_end_for words told old m m' f f' k None e h = no_memory refl (omega (arith, h.1)) (λ asked. h.1) h.0 refl
-memory_end_for words told old m m' f f' k (Some (Run name)) e h = no_memory refl h.1 (λ asked. absurd (cc)) h.0 refl
-
-pub memory_end : (words : List (List ℕ)) (told : Option Files) (old : Option (List ℕ)) (m m' f f' k : ℕ) → CountsFor (request_of words) (Err troubles.NoMemory) m m' f f' → CallEnds words told old old (record { misses = m; faults = f; sink = k }) (record { misses = m'; faults = f'; sink = k }) 9
-memory_end words told old m m' f f' k h = memory_end_for words told old m m' f f' k (request_of words) refl h
-
--- words that spell no request touch no file
-untouched_counts : (words : List (List ℕ)) (status m m' f f' : ℕ) → request_of words ≡ None → AnswerCounts words status m m' f f' → IsUntouched m m' f f'
-untouched_counts words status m m' f f' asked (calls.usage e n same faults) = record { misses_stay = same; faults_stay = faults }
-untouched_counts words status m m' f f' asked (calls.missed request e n rises faults) = absurd (cc)
-untouched_counts words status m m' f f' asked (calls.source request e n same faults) = absurd (cc)
-
-pub untouched : (words : List (List ℕ)) (told : Option Files) (old new : Option (List ℕ)) (before after : Counts) (status : ℕ) → CallEnds words told old new before after status → request_of words ≡ None → IsUntouched before.misses after.misses before.faults after.faults
-untouched words told old new before after _ (answered text status tell counts all sink) asked = untouched_counts words status _ _ _ _ asked counts
-untouched words told old new before after _ (output_failed text status k tell counts le front sink) asked = untouched_counts words status _ _ _ _ asked counts
-untouched words told old new before after _ (files_failed request e same misses faults sink) asked = absurd (cc)
-untouched words told old new before after _ (no_memory same misses still faults sink) asked = record { misses_stay = still asked; faults_stay = faults }
+  -- words that spell no request touch no file
+  pub untouched : (result : ℕ) → CallEnds words told old new before after result → request_of words ≡ None → IsUntouched before.misses after.misses before.faults after.faults
+  untouched result (usage e line still quiet) none = record { misses_stay = still; faults_stay = quiet }
+  untouched result (asked (Run name options) e gives) none = absurd (cc)

@@ -1,5 +1,9 @@
+mod Choices
 pub mod Fronts
-pub mod Finishing
+pub mod OneAnswer
+pub mod Settings
+pub mod Stacks
 pub mod Runs
-pub mod Answering
+pub mod ListRuns
+pub mod Giving
 pub mod Calls

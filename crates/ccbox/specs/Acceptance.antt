@@ -30,3 +30,7 @@ abbrev pub FrontAnswers : List ℕ → Result code.Core.Core Refused → Type 0
 FrontAnswers src (Ok c) = Accepts src (core c)
 FrontAnswers src (Err (Source fault)) = (fault ≡ not_built) × IsRefused src
 FrontAnswers src (Err NoMemory) = Unit {0}
+
+-- some source has this core
+abbrev pub IsAcceptedCore : Core → Type 0
+IsAcceptedCore c = (src : List ℕ) × Accepts src c

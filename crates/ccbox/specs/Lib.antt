@@ -3,6 +3,4 @@ pub mod Requested
 pub mod Texts
 pub mod Acceptance
 pub mod Answers
-pub mod Running
-pub mod Answering
 pub mod Calls

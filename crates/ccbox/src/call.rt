@@ -3,20 +3,23 @@
 ghost use Rattle.std.specs.Prelude.{◌≡◌, ◌⊎◌, ℕ, List, map, None};
 ghost use Rattle.ckc_io.specs.Files.{Told};
 ghost use Rattle.ccbox.specs.Requests.{request_of};
-ghost use Rattle.ccbox.specs.Answers.{GivesFront, GivesWhole, IsFailure, IsStatus, Exactly, Tells, SourceIsRefused, FileIsMissing, RunExits, CheckFails, RunStops, PrintedRun, IsComplete, IsQuiet, IsUntouched};
+ghost use Rattle.ccbox.specs.Answers.{GivesFront, GivesWhole, IsFailure, IsStatus, Exactly, Tells, SourceIsRefused, FileIsMissing, RunExits, CheckFails, RunStops, LineIsRefused, PrintedRun, IsComplete, IsQuiet, IsUntouched};
 ghost use Rattle.ccbox.specs.Calls.{CallEnds};
 
-use crate::answer::{Trouble, answer};
+use crate::output::give_line;
+use crate::request::{Request, request_from};
+use crate::run::run_file;
+use crate::texts::usage_line;
 use ckc_io::shelf::Shelf;
-use ckc_io::sink::{Sink, SinkFault};
-use ckc_io::whole::write_whole;
+use ckc_io::sink::Sink;
 use std::alloc::Global;
 
 /// How a call ended.
 #[derive(Clone, Copy)]
 pub struct Status {
     /// 0: the run exited. 1: the source is refused. 2: the words are. 3: a file is missing. 4: the files failed.
-    /// 5: the output failed. 6: a check failed. 7: the run was stopped. 9: memory ran out.
+    /// 5: the output failed. 6: a check failed. 7: the run was stopped. 8: a line of the acts is refused.
+    /// 9: memory ran out.
     pub number: u8,
 }
 
@@ -34,7 +37,8 @@ pub fn ccbox<F: Shelf, K: Sink>(
     ensures whole { Told (F.files shelf.old) (λ files.
         GivesWhole files (map (λ word. word.now) words.now) (K.written sink.old) (K.written sink.new) result.number ⊎ IsFailure result.number) }
 
-    // An accepted source is never stuck, and its run is printed.
+    // An accepted source is never stuck, its run is printed, and what the sandbox is shown is determined by its starting
+    // memory, the acts that were taken, and the releases.
     ensures printed_run { Told (F.files shelf.old) (λ files.
         PrintedRun files (map (λ word. word.now) words.now) (K.written sink.old) (K.written sink.new) result.number) }
     ensures complete { Told (F.files shelf.old) (λ files.
@@ -49,6 +53,7 @@ pub fn ccbox<F: Shelf, K: Sink>(
     ensures missing { Told (F.files shelf.old) (λ files. Exactly 3 result.number (FileIsMissing files (map (λ word. word.now) words.now))) }
     ensures checks { Told (F.files shelf.old) (λ files. Exactly 6 result.number (CheckFails files (map (λ word. word.now) words.now))) }
     ensures stops { Told (F.files shelf.old) (λ files. Exactly 7 result.number (RunStops files (map (λ word. word.now) words.now))) }
+    ensures acts_refused { Told (F.files shelf.old) (λ files. Exactly 8 result.number (LineIsRefused files (map (λ word. word.now) words.now))) }
 
     // Words that spell no request touch no file.
     ensures untouched { request_of (map (λ word. word.now) words.now) ≡ None → IsUntouched (F.misses shelf.old) (F.misses shelf.new) (F.faults shelf.old) (F.faults shelf.new) }
@@ -75,12 +80,8 @@ fn status_of_call<F: Shelf, K: Sink>(
         (record { misses = F.misses shelf.old; faults = F.faults shelf.old; sink = K.faults sink.old })
         (record { misses = F.misses shelf.new; faults = F.faults shelf.new; sink = K.faults sink.new }) result }
 {
-    match answer(alloc, words, shelf) {
-        Ok(answered) => match write_whole(sink, answered.text.as_slice()) {
-            Ok(()) => answered.status,
-            Err(SinkFault::Failed) => 5,
-        },
-        Err(Trouble::Failed) => 4,
-        Err(Trouble::NoMemory) => 9,
+    match request_from(words) {
+        Some(Request { file, options }) => run_file(alloc, file, &options, shelf, sink),
+        None => give_line(sink, usage_line(alloc), 2),
     }
 }

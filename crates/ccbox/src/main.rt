@@ -1,10 +1,10 @@
 // Checks a C file, and runs it.
 #![tactic(auto)]
 
-mod answer;
 pub mod call;
 mod front;
 pub mod laws;
+mod output;
 mod request;
 mod run;
 #[cfg(test)]
@@ -29,7 +29,9 @@ fn main(rt: HostRuntime) -> ExitCode {
 }
 
 // The status where memory runs out before the call.
-const NO_MEMORY: Status = Status { number: 9 };
+const NO_MEMORY: Status = Status {
+    number: output::NO_MEMORY,
+};
 
 // The words after the program's name.
 fn arguments(rt: &HostRuntime) -> io::Result<Vec<String>> {

@@ -1,59 +1,12 @@
-// The texts that are printed.
+// The lines that are printed beside those of runs.
 
-ghost use Rattle.std.specs.Prelude.{◌≡◌, IfOk, codes};
-ghost use Rattle.ccbox.specs.Texts.{placed_text, ending_text, refused_text, missing_text, usage_text};
+ghost use Rattle.std.specs.Prelude.{◌≡◌, IfOk};
+ghost use Rattle.ccbox.specs.Texts.{refused_text, act_refused_text, missing_text, usage_text};
 
-use act_words::ending::Ending;
 use ckc_text::code::Code;
 use ckc_text::fault::NoMemory;
 use ckc_text::place::Place;
 use std::alloc::Global;
-
-/// The line that says how a run ended.
-pub fn ending_line(alloc: Global, ending: &Ending) -> Result<Vec<u8>, NoMemory>
-    ensures { IfOk result (λ text. text.items ≡ ending_text ending.now) }
-{
-    match *ending {
-        Ending::Exit { value } => exit_line(alloc, value),
-        Ending::Check { code, place } => check_line(alloc, code, place),
-        Ending::Stop { code, act: None } => stop_line(alloc, code),
-        Ending::Stop {
-            code,
-            act: Some(act),
-        } => act_stop_line(alloc, code, act),
-    }
-}
-
-fn exit_line(alloc: Global, value: i32) -> Result<Vec<u8>, NoMemory>
-    ensures { IfOk result (λ text. text.items ≡ ending_text (Ending.Exit value)) }
-{
-    Ok(format!(in alloc; "[exit {value}]\n")?.into_bytes())
-}
-
-fn check_line(alloc: Global, code: Code, place: Place) -> Result<Vec<u8>, NoMemory>
-    ensures { IfOk result (λ text. text.items ≡ placed_text (codes "check") code place) }
-{
-    let number = code.number();
-    let Place { line, col } = place;
-    let name = code.text();
-    Ok(format!(in alloc; "[check {number} {line}:{col} {name}]\n")?.into_bytes())
-}
-
-fn stop_line(alloc: Global, code: Code) -> Result<Vec<u8>, NoMemory>
-    ensures { IfOk result (λ text. text.items ≡ ending_text (Ending.Stop code None)) }
-{
-    let number = code.number();
-    let name = code.text();
-    Ok(format!(in alloc; "[stop {number} {name}]\n")?.into_bytes())
-}
-
-fn act_stop_line(alloc: Global, code: Code, act: u64) -> Result<Vec<u8>, NoMemory>
-    ensures { IfOk result (λ text. text.items ≡ ending_text (Ending.Stop code (Some act))) }
-{
-    let number = code.number();
-    let name = code.text();
-    Ok(format!(in alloc; "[stop {number} act {act} {name}]\n")?.into_bytes())
-}
 
 /// The line of a refused source.
 pub fn refused_line(alloc: Global, code: Code, place: Place) -> Result<Vec<u8>, NoMemory>
@@ -63,6 +16,15 @@ pub fn refused_line(alloc: Global, code: Code, place: Place) -> Result<Vec<u8>, 
     let Place { line, col } = place;
     let name = code.text();
     Ok(format!(in alloc; "[refused {number} {line}:{col} {name}]\n")?.into_bytes())
+}
+
+/// The line of a refused line of acts, which has this number.
+pub fn act_refused_line(alloc: Global, line: u64, code: Code) -> Result<Vec<u8>, NoMemory>
+    ensures { IfOk result (λ text. text.items ≡ act_refused_text line code) }
+{
+    let number = code.number();
+    let name = code.text();
+    Ok(format!(in alloc; "[act line {line} {number} {name}]\n")?.into_bytes())
 }
 
 /// The line of a file that isn't there.

@@ -2,6 +2,8 @@
 use Rattle.std.specs.Prelude.{◌≡◌, ℕ, Bool, true, false, List, [], ◌∷◌, Option, Some, None, map, replicate, slice_get, slice_set}
 use Rattle.std.specs.Option.{option_and_then}
 use Rattle.std.proofs.Common.{ℤ}
+use Rattle.act_words.specs.declared.settings.Settings.{Settings}
+use Rattle.act_words.specs.Acts.{Act}
 use Rattle.act_words.specs.World.{World, new_world}
 use Rattle.ckc_core.specs.Core.{Core}
 
@@ -32,10 +34,16 @@ pub record Cell : Type 0 where
 abbrev pub Block : Type 0
 Block = List Cell
 
+-- the blocks, the local variables of the innermost open call, how many calls are open, and the world
 pub record State : Type 0 where
   pub blocks : List Block
   pub locals : List Value
+  pub depth : ℕ
   pub world : World
+
+-- in another world
+abbrev pub in_world : World → State → State
+in_world w s = record { blocks = s.blocks; locals = s.locals; depth = s.depth; world = w }
 
 -- the cell at a place
 abbrev pub cell_at : List Block → ℕ → ℕ → Option Cell
@@ -53,6 +61,7 @@ with_cell blocks block cell new = with_block (slice_get blocks block)
 abbrev pub object_block : ℤ → Block
 object_block number = record { type = Int; value = Number number } ∷ []
 
--- before `main` runs: each file-level variable has its initial number, and each local variable is null
-abbrev pub initial : Core → State
-initial core = record { blocks = map object_block core.objects; locals = replicate core.main.locals Null; world = new_world }
+-- before `main` runs, over these acts: each file-level variable has its initial number, and each local variable is null
+abbrev pub initial : Core → Settings → List Act → State
+initial core settings acts =
+    record { blocks = map object_block core.objects; locals = replicate core.main.locals Null; depth = 1; world = new_world settings.sandbox acts }

@@ -1,5 +1,6 @@
 // The core: what is left of a source once each name is a number and each check has its place.
 
+use ckc_text::name::Name;
 use ckc_text::place::Place;
 
 /// Where an access or an operation stands, which its failed check names.
@@ -37,6 +38,12 @@ pub enum Expr {
         right: Box<Expr>,
         site: Site,
     },
+    /// The number that a tainted function returns. Its arguments are numbers, from left to right.
+    TaintedCall {
+        import: u32,
+        args: Vec<Expr>,
+        site: Site,
+    },
 }
 
 /// A statement.
@@ -68,9 +75,17 @@ pub struct Function {
     pub body: Vec<Stmt>,
 }
 
-/// A whole program: the initial numbers of its file-level variables, and `main`.
+/// A tainted function that is called: its name, and how many parameters it has.
+#[derive(Drop)]
+pub struct Import {
+    pub name: Name,
+    pub parameters: u32,
+}
+
+/// A whole program: the initial numbers of its file-level variables, the tainted functions, and `main`.
 #[derive(Drop)]
 pub struct Core {
     pub objects: Vec<i32>,
+    pub imports: Vec<Import>,
     pub main: Function,
 }

@@ -9,7 +9,7 @@ use Rattle.ckc_lexer.specs.Words.{is_word_byte, EndsWord}
 use Rattle.ckc_lexer.specs.Tokens.{Spells, MayFollow}
 use Rattle.ckc_lexer.specs.Fronts.{IsKindOf, IsFrontOf}
 use Rattle.ckc_lexer.specs.declared.token.TokenKind.{TokenKind}
-use Rattle.ckc_lexer.specs.declared.token.TokenKind.TheVariants.{Int, Void, Return, Ptr, Name, Number, OpenParen, CloseParen, OpenBrace, CloseBrace, Less, Greater, Equal, Plus, Minus, Star, Ampersand, Semicolon}
+use Rattle.ckc_lexer.specs.declared.token.TokenKind.TheVariants.{Int, Void, Return, Ptr, Tainted, Name, Number, OpenParen, CloseParen, OpenBrace, CloseBrace, Less, Greater, Equal, Plus, Minus, Star, Ampersand, Comma, Semicolon}
 use Rattle.ckc_lexer.proofs.Spelling.{token_len, word_bytes_of_word, word_bytes_of_numeral}
 use Rattle.ckc_lexer.proofs.Cuts.{Front, length-front}
 
@@ -39,6 +39,7 @@ may_follow text after Int h ends = ends (rw h refl)
 may_follow text after Void h ends = ends (rw h refl)
 may_follow text after Return h ends = ends (rw h refl)
 may_follow text after Ptr h ends = ends (rw h refl)
+may_follow text after Tainted h ends = ends (rw h refl)
 may_follow text after (Name name) h ends = ends (word_bytes_of_word text h.1)
 may_follow text after (Number n) h ends = ends (word_bytes_of_numeral text h.0)
 may_follow text after OpenParen h ends = tt
@@ -52,6 +53,7 @@ may_follow text after Plus h ends = tt
 may_follow text after Minus h ends = tt
 may_follow text after Star h ends = tt
 may_follow text after Ampersand h ends = tt
+may_follow text after Comma h ends = tt
 may_follow text after Semicolon h ends = tt
 
 -- the token that stands at the front has this length

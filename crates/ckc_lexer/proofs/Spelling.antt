@@ -8,14 +8,14 @@ use Rattle.std.proofs.lemmas.Bool.Decides.{nat_tests}
 use Rattle.ckc_lexer.specs.Words.{is_blank, is_digit, is_letter, is_word_byte, is_word, is_numeral, is_keyword, EndsWord}
 use Rattle.ckc_lexer.specs.Tokens.{Spells, MayFollow}
 use Rattle.ckc_lexer.specs.declared.token.TokenKind.{TokenKind}
-use Rattle.ckc_lexer.specs.declared.token.TokenKind.TheVariants.{Int, Void, Return, Ptr, Name, Number, OpenParen, CloseParen, OpenBrace, CloseBrace, Less, Greater, Equal, Plus, Minus, Star, Ampersand, Semicolon}
+use Rattle.ckc_lexer.specs.declared.token.TokenKind.TheVariants.{Int, Void, Return, Ptr, Tainted, Name, Number, OpenParen, CloseParen, OpenBrace, CloseBrace, Less, Greater, Equal, Plus, Minus, Star, Ampersand, Comma, Semicolon}
 
 -- the one kind that a text may have
 abbrev pub fixed_kinds : List (List ℕ × TokenKind)
 fixed_kinds =
-    (codes "int", Int) ∷ (codes "void", Void) ∷ (codes "return", Return) ∷ (codes "ptr", Ptr) ∷ (codes "(", OpenParen) ∷ (codes ")", CloseParen)
+    (codes "int", Int) ∷ (codes "void", Void) ∷ (codes "return", Return) ∷ (codes "ptr", Ptr) ∷ (codes "_Tainted", Tainted) ∷ (codes "(", OpenParen) ∷ (codes ")", CloseParen)
     ∷ (codes "{", OpenBrace) ∷ (codes "}", CloseBrace) ∷ (codes "<", Less) ∷ (codes ">", Greater) ∷ (codes "=", Equal) ∷ (codes "+", Plus)
-    ∷ (codes "-", Minus) ∷ (codes "*", Star) ∷ (codes "&", Ampersand) ∷ (codes ";", Semicolon) ∷ []
+    ∷ (codes "-", Minus) ∷ (codes "*", Star) ∷ (codes "&", Ampersand) ∷ (codes ",", Comma) ∷ (codes ";", Semicolon) ∷ []
 
 abbrev pub listed_kind : List ℕ → List (List ℕ × TokenKind) → TokenKind
 listed_kind text [] = Semicolon
@@ -57,6 +57,7 @@ spelled_kind text Int h = rw h refl
 spelled_kind text Void h = rw h refl
 spelled_kind text Return h = rw h refl
 spelled_kind text Ptr h = rw h refl
+spelled_kind text Tainted h = rw h refl
 spelled_kind text (Name name) h =
     let letter = letter_of_word text h.1 in
     kind_at-name _ _ _ text (no_digit_of_letter text letter) letter h.2 ∙ ap Name h.0
@@ -73,6 +74,7 @@ spelled_kind text Plus h = rw h refl
 spelled_kind text Minus h = rw h refl
 spelled_kind text Star h = rw h refl
 spelled_kind text Ampersand h = rw h refl
+spelled_kind text Comma h = rw h refl
 spelled_kind text Semicolon h = rw h refl
 
 -- no kind but this one may be the text's
@@ -134,6 +136,7 @@ length-token text after Int h e = rw h (rw (no_word_bytes after e) refl)
 length-token text after Void h e = rw h (rw (no_word_bytes after e) refl)
 length-token text after Return h e = rw h (rw (no_word_bytes after e) refl)
 length-token text after Ptr h e = rw h (rw (no_word_bytes after e) refl)
+length-token text after Tainted h e = rw h (rw (no_word_bytes after e) refl)
 length-token text after (Name name) h e = length-word text after (word_bytes_of_word text h.1) (not_empty is_letter text (letter_of_word text h.1)) e
 length-token text after (Number n) h e = length-word text after (word_bytes_of_numeral text h.0) (not_empty is_digit text (digit_of_numeral text h.0)) e
 length-token text after OpenParen h e = rw h refl
@@ -147,6 +150,7 @@ length-token text after Plus h e = rw h refl
 length-token text after Minus h e = rw h refl
 length-token text after Star h e = rw h refl
 length-token text after Ampersand h e = rw h refl
+length-token text after Comma h e = rw h refl
 length-token text after Semicolon h e = rw h refl
 
 no_blank_of_word_byte : (text : List ℕ) → list_all is_word_byte text ≡ true → begins_with is_blank text ≡ false
@@ -159,6 +163,7 @@ no_blank_first text Int h = rw h refl
 no_blank_first text Void h = rw h refl
 no_blank_first text Return h = rw h refl
 no_blank_first text Ptr h = rw h refl
+no_blank_first text Tainted h = rw h refl
 no_blank_first text (Name name) h = no_blank_of_word_byte text (word_bytes_of_word text h.1)
 no_blank_first text (Number n) h = no_blank_of_word_byte text (word_bytes_of_numeral text h.0)
 no_blank_first text OpenParen h = rw h refl
@@ -172,4 +177,5 @@ no_blank_first text Plus h = rw h refl
 no_blank_first text Minus h = rw h refl
 no_blank_first text Star h = rw h refl
 no_blank_first text Ampersand h = rw h refl
+no_blank_first text Comma h = rw h refl
 no_blank_first text Semicolon h = rw h refl

@@ -8,7 +8,7 @@ use Rattle.ckc_text.specs.Refusals.{not_built}
 use Rattle.ckc_lexer.specs.Words.{is_blank, is_word, is_numeral, is_keyword, EndsWord}
 use Rattle.ckc_lexer.specs.declared.token.Token.{Token}
 use Rattle.ckc_lexer.specs.declared.token.TokenKind.{TokenKind}
-use Rattle.ckc_lexer.specs.declared.token.TokenKind.TheVariants.{Int, Void, Return, Ptr, Name, Number, OpenParen, CloseParen, OpenBrace, CloseBrace, Less, Greater, Equal, Plus, Minus, Star, Ampersand, Semicolon}
+use Rattle.ckc_lexer.specs.declared.token.TokenKind.TheVariants.{Int, Void, Return, Ptr, Tainted, Name, Number, OpenParen, CloseParen, OpenBrace, CloseBrace, Less, Greater, Equal, Plus, Minus, Star, Ampersand, Comma, Semicolon}
 
 -- the text is this token
 abbrev pub Spells : List ℕ → TokenKind → Type 0
@@ -16,6 +16,7 @@ Spells text Int = text ≡ codes "int"
 Spells text Void = text ≡ codes "void"
 Spells text Return = text ≡ codes "return"
 Spells text Ptr = text ≡ codes "ptr"
+Spells text Tainted = text ≡ codes "_Tainted"
 Spells text (Name name) = (text ≡ name) × (is_word text ≡ true) × (is_keyword text ≡ false)
 Spells text (Number n) = (is_numeral text ≡ true) × (n ≡ digits_value 10 text) × (n ≤ 2147483647)
 Spells text OpenParen = text ≡ codes "("
@@ -29,6 +30,7 @@ Spells text Plus = text ≡ codes "+"
 Spells text Minus = text ≡ codes "-"
 Spells text Star = text ≡ codes "*"
 Spells text Ampersand = text ≡ codes "&"
+Spells text Comma = text ≡ codes ","
 Spells text Semicolon = text ≡ codes ";"
 
 -- what may follow the token: a word or a number is taken to its end, so no letter, digit or `_` follows
@@ -37,6 +39,7 @@ MayFollow Int rest = EndsWord rest
 MayFollow Void rest = EndsWord rest
 MayFollow Return rest = EndsWord rest
 MayFollow Ptr rest = EndsWord rest
+MayFollow Tainted rest = EndsWord rest
 MayFollow (Name name) rest = EndsWord rest
 MayFollow (Number n) rest = EndsWord rest
 MayFollow OpenParen rest = Unit {0}
@@ -50,6 +53,7 @@ MayFollow Plus rest = Unit {0}
 MayFollow Minus rest = Unit {0}
 MayFollow Star rest = Unit {0}
 MayFollow Ampersand rest = Unit {0}
+MayFollow Comma rest = Unit {0}
 MayFollow Semicolon rest = Unit {0}
 
 -- a token of these bytes

@@ -66,6 +66,7 @@ fn mark_kind(b: u8) -> Option<TokenKind>
         b'-' => Some(TokenKind::Minus),
         b'*' => Some(TokenKind::Star),
         b'&' => Some(TokenKind::Ampersand),
+        b',' => Some(TokenKind::Comma),
         b';' => Some(TokenKind::Semicolon),
         _ => None,
     }

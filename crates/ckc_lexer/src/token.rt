@@ -10,6 +10,8 @@ pub enum TokenKind {
     Void,
     Return,
     Ptr,
+    /// `_Tainted`
+    Tainted,
     Name(Name),
     Number(u32),
     OpenParen,
@@ -23,6 +25,7 @@ pub enum TokenKind {
     Minus,
     Star,
     Ampersand,
+    Comma,
     Semicolon,
 }
 

@@ -131,6 +131,8 @@ fn keyword_kind(word: &[u8]) -> Option<TokenKind>
         Some(TokenKind::Return)
     } else if word == b"ptr".as_slice() {
         Some(TokenKind::Ptr)
+    } else if word == b"_Tainted".as_slice() {
+        Some(TokenKind::Tainted)
     } else {
         None
     }

@@ -1,7 +1,10 @@
 pub mod Fronts
+pub mod Unique
+pub mod Same
 pub mod Sums
+pub mod Calls
 pub mod Leads
 pub mod Stores
 pub mod Locals
-pub mod Variables
+pub mod Items
 pub mod Programs

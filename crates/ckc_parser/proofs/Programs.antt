@@ -12,16 +12,16 @@ use Rattle.ckc_text.specs.declared.place.Span.{Span}
 use Rattle.ckc_lexer.specs.declared.token.Token.{Token}
 use Rattle.ckc_lexer.specs.declared.token.TokenKind.TheVariants as kinds
 use Rattle.ckc_tree.specs.declared.tree.Program.{Program}
-use Rattle.ckc_tree.specs.Tree.{Statement, Return, Variable, Tree}
+use Rattle.ckc_tree.specs.Tree.{Statement, Return, Tree}
 use Rattle.ckc_parser.specs.Grammar as grammar
-use Rattle.ckc_parser.specs.Grammar.{token, join, SpellsStore, SpellsStores, SpellsBody, SpellsVariables, SpellsProgram}
+use Rattle.ckc_parser.specs.Grammar.{token, join, SpellsStore, SpellsStores, SpellsBody, SpellsItems, SpellsProgram}
 use Rattle.ckc_parser.specs.Parsing.{IsTree, ParseAnswers}
-use Rattle.ckc_parser.specs.Reading.{Refuses, is_same, mark_at, name_at, begins, number_at, initial_at, variable_at, function_at, main_end_at, main_at, begins_function, IsVariables, IsBody}
-use Rattle.ckc_parser.proofs.Fronts.{Refuses-weaker, mark_takes, name_takes}
+use Rattle.ckc_parser.specs.Reading.{Refuses, is_same, mark_at, name_at, begins, function_at, main_end_at, main_at, Items, IsItems, IsBody}
+use Rattle.ckc_parser.proofs.Fronts.{Agree, Refuses-weaker, mark_takes, name_takes}
 use Rattle.ckc_parser.proofs.Sums.{value_unique}
 use Rattle.ckc_parser.proofs.Stores.{return_split, store_first}
 use Rattle.ckc_parser.proofs.Locals.{local_again, local_first, only_stores}
-use Rattle.ckc_parser.proofs.Variables.{variable_first}
+use Rattle.ckc_parser.proofs.Items.{items_unique}
 
 -- ---- one body
 
@@ -51,26 +51,6 @@ body_unique (grammar.stores s) x u = stores_unique s x (only_stores (stores_begi
 body_unique (grammar.more {statement} {statements} {ts} {mid} {rest} l b) x u =
     let p = local_first (statement, mid) (local_again l) u in
     ap (λ y. (statement ∷ y.0, y.1)) (body_unique b (p.more, x.1) p.spelled) ∙ ap (λ l. (l, x.1)) (sym p.joined)
-
--- ---- one list of variables
-
-none_first : {ts rest : List Token} {variables : List Variable} → begins_function ts ≡ true → SpellsVariables ts variables rest → ◌≡◌ {A = List Variable × List Token} ([], ts) (variables, rest)
-unfolding is_same
-none_first b grammar.none = refl
-none_first b (grammar.zeroed v) = absurd cc
-none_first b (grammar.initialised v) = absurd cc
-
-variables_unique : {ts rest : List Token} {variables : List Variable} → SpellsVariables ts variables rest → begins_function rest ≡ true → (x : List Variable × List Token) → SpellsVariables ts x.0 x.1 → begins_function x.1 ≡ true → (variables, rest) ≡ x
-unfolding variable_at mark_at name_at initial_at number_at is_same
-variables_unique grammar.none ended x u over = none_first ended u
-variables_unique (grammar.zeroed {x = n} {s1} {s2} {s3} {ts} {rest} {variables} v) ended x u over =
-    let w : Variable = record { name = n; initial = None; span = join s1 s3 } in
-    let p = variable_first (w, ts) refl refl u over in
-    ap (λ y. (w ∷ y.0, y.1)) (variables_unique v ended (p.more, x.1) p.spelled.spelled over) ∙ ap (λ l. (l, x.1)) (sym p.joined)
-variables_unique (grammar.initialised {x = n} {n = m} {s1} {s2} {s3} {s4} {s5} {ts} {rest} {variables} v) ended x u over =
-    let w : Variable = record { name = n; initial = Some m; span = join s1 s5 } in
-    let p = variable_first (w, ts) refl refl u over in
-    ap (λ y. (w ∷ y.0, y.1)) (variables_unique v ended (p.more, x.1) p.spelled.spelled over) ∙ ap (λ l. (l, x.1)) (sym p.joined)
 
 -- ---- the head of main
 
@@ -115,32 +95,36 @@ main_takes ts inside e =
 record HasParts (tokens : List Token) (t : Tree) : Type 0 where
   head : List Token
   inside : List Token
-  variables : IsVariables tokens t.globals head
+  items : IsItems ([], []) tokens (t.globals, t.prototypes) head
   main : main_at head ≡ Some inside
   body : SpellsBody inside t.body []
 
 split : {tokens : List Token} {t : Tree} → SpellsProgram tokens t → HasParts tokens t
 unfolding main_at main_end_at function_at mark_at name_at is_same
-split (grammar.program {variables} {body} {s1} {s2} {s3} {s4} {s5} {s6} {tokens} {ts} v b) =
+split (grammar.program {variables} {prototypes} {body} {s1} {s2} {s3} {s4} {s5} {s6} {tokens} {ts} v b) =
     let head : List Token = token kinds.Int s1 ∷ token (kinds.Name (codes "main")) s2 ∷ token kinds.OpenParen s3 ∷ token kinds.Void s4 ∷ token kinds.CloseParen s5 ∷ token kinds.OpenBrace s6 ∷ ts in
-    let found : IsVariables tokens variables head = record { spelled = v; ended = refl } in
-    record { head = head; inside = ts; variables = found; main = refl; body = b }
+    let found : IsItems ([], []) tokens (variables, prototypes) head = record { more = (variables, prototypes); joined = refl; spelled = v; ended = refl } in
+    record { head = head; inside = ts; items = found; main = refl; body = b }
 
--- behind the variables that were found stands the head of main of each tree
-same_main : {tokens head : List Token} {variables : List Variable} {t : Tree} → IsVariables tokens variables head → (p : HasParts tokens t) → main_at head ≡ Some p.inside
-same_main v p = ap (λ (y : List Variable × List Token). main_at y.1) (variables_unique v.spelled v.ended _ p.variables.spelled p.variables.ended) ∙ p.main
+same_items : {tokens head over : List Token} {items others : Items} → IsItems ([], []) tokens items head → IsItems ([], []) tokens others over → Agree items head others over
+same_items {tokens} {head} {over} {items} {others} a b =
+    ap (λ (y : Items). (y, head)) a.joined ∙ items_unique {x = a.more} {y = b.more} a.spelled b.spelled a.ended b.ended ∙ ap (λ (y : Items). (y, over)) (sym b.joined)
 
-abbrev tree_of : List Variable → List Statement → Tree
-tree_of variables body = record { globals = variables; body = body }
+-- behind the items that were found stands the head of main of each tree
+same_main : {tokens head : List Token} {items : Items} {t : Tree} → IsItems ([], []) tokens items head → (p : HasParts tokens t) → main_at head ≡ Some p.inside
+same_main i p = ap (λ (y : Items × List Token). main_at y.1) (same_items i p.items) ∙ p.main
+
+abbrev tree_of : Items → List Statement → Tree
+tree_of items body = record { globals = items.0; prototypes = items.1; body = body }
 
 pub one_tree : (tokens : List Token) (t u : Tree) → SpellsProgram tokens t → SpellsProgram tokens u → t ≡ u
 one_tree tokens t u p q =
     let a = split p in
     let b = split q in
-    let globals = variables_unique a.variables.spelled a.variables.ended (u.globals, b.head) b.variables.spelled b.variables.ended in
-    let inside = same_Some _ _ (sym b.main ∙ same_main b.variables a) in
+    let items = same_items a.items b.items in
+    let inside = same_Some _ _ (sym b.main ∙ same_main b.items a) in
     let bodies = body_unique a.body (u.body, []) (subst (λ ts. SpellsBody ts u.body []) inside b.body) in
-    ap (λ (y : List Variable × List Token). tree_of y.0 t.body) globals ∙ ap (λ (y : List Statement × List Token). tree_of u.globals y.0) bodies
+    ap (λ (y : Items × List Token). tree_of y.0 t.body) items ∙ ap (λ (y : List Statement × List Token). tree_of (u.globals, u.prototypes) y.0) bodies
 
 -- ---- what parsing answers
 
@@ -152,32 +136,32 @@ refused_by tokens (Ok x) e h none = absurd h
 refused_by tokens (Err (Source fault)) e h none = let P : Refused → Type 0 = λ x. Refuses x (NoTree tokens) in subst P (sym h) none
 refused_by tokens (Err NoMemory) e h none = tt
 
-pub variables_refused : (e : Refused) (tokens : List Token) → Refuses e ((variables : List Variable) (rest : List Token) → IsVariables tokens variables rest → ⊥) → Refuses e (NoTree tokens)
-variables_refused e tokens r = Refuses-weaker e r (λ none t is. let p = split is.spelled in none t.globals p.head p.variables)
+pub items_refused : (e : Refused) (tokens : List Token) → Refuses e ((items : Items) (rest : List Token) → IsItems ([], []) tokens items rest → ⊥) → Refuses e (NoTree tokens)
+items_refused e tokens r = Refuses-weaker e r (λ none t is. let p = split is.spelled in none (t.globals, t.prototypes) p.head p.items)
 
-pub main_refused : (e : Refused) (tokens : List Token) (variables : List Variable) (head : List Token) → IsVariables tokens variables head → Refuses e (main_at head ≡ None) → Refuses e (NoTree tokens)
-main_refused e tokens variables head v r = Refuses-weaker e r (λ none t is. none-some _ (sym none ∙ same_main v (split is.spelled)))
+pub main_refused : (e : Refused) (tokens : List Token) (items : Items) (head : List Token) → IsItems ([], []) tokens items head → Refuses e (main_at head ≡ None) → Refuses e (NoTree tokens)
+main_refused e tokens items head v r = Refuses-weaker e r (λ none t is. none-some _ (sym none ∙ same_main v (split is.spelled)))
 
 -- the body of each tree stands where it was looked for
-same_body : {tokens head inside : List Token} {variables : List Variable} {t : Tree} → IsVariables tokens variables head → main_at head ≡ Some inside → IsTree tokens t → IsBody inside t.body []
+same_body : {tokens head inside : List Token} {items : Items} {t : Tree} → IsItems ([], []) tokens items head → main_at head ≡ Some inside → IsTree tokens t → IsBody inside t.body []
 same_body {t = t} v m is =
     let p = split is.spelled in
     record { spelled = subst (λ ts. SpellsBody ts t.body []) (same_Some _ _ (sym (same_main v p) ∙ m)) p.body; low = is.height }
 
-pub body_refused : (e : Refused) (tokens : List Token) (variables : List Variable) (head inside : List Token) → IsVariables tokens variables head → main_at head ≡ Some inside
+pub body_refused : (e : Refused) (tokens : List Token) (items : Items) (head inside : List Token) → IsItems ([], []) tokens items head → main_at head ≡ Some inside
     → Refuses e ((body : List Statement) (rest : List Token) → IsBody inside body rest → ⊥) → Refuses e (NoTree tokens)
-body_refused e tokens variables head inside v m r = Refuses-weaker e r (λ none t is. none t.body [] (same_body v m is))
+body_refused e tokens items head inside v m r = Refuses-weaker e r (λ none t is. none t.body [] (same_body v m is))
 
-pub more_refused : (tokens : List Token) (variables : List Variable) (head inside : List Token) (body : List Statement) (rest : List Token) → IsVariables tokens variables head → main_at head ≡ Some inside → IsBody inside body rest → eqb (length rest) 0 ≡ false
+pub more_refused : (tokens : List Token) (items : Items) (head inside : List Token) (body : List Statement) (rest : List Token) → IsItems ([], []) tokens items head → main_at head ≡ Some inside → IsBody inside body rest → eqb (length rest) 0 ≡ false
     → NoTree tokens
-more_refused tokens variables head inside body rest v m b more t is =
+more_refused tokens items head inside body rest v m b more t is =
     let same = body_unique b.spelled (t.body, []) (same_body v m is).spelled in
     false≢true (sym more ∙ ap (λ (y : List Statement × List Token). eqb (length y.1) 0) same)
 
-pub is_tree : (tokens : List Token) (variables : List Variable) (head inside : List Token) (body : List Statement) (rest : List Token) → IsVariables tokens variables head → main_at head ≡ Some inside → IsBody inside body rest → eqb (length rest) 0 ≡ true
-    → IsTree tokens (tree_of variables body)
-is_tree tokens variables head inside body rest v m b ended =
+pub is_tree : (tokens : List Token) (items : Items) (head inside : List Token) (body : List Statement) (rest : List Token) → IsItems ([], []) tokens items head → main_at head ≡ Some inside → IsBody inside body rest → eqb (length rest) 0 ≡ true
+    → IsTree tokens (tree_of items body)
+is_tree tokens items head inside body rest v m b ended =
     let main = main_takes head inside m in
     let nothing : rest ≡ [] = nil_from_length rest (eqb-true _ _ ended) in
-    let before : SpellsVariables tokens variables _ = rw main.is at v.spelled in
+    let before : SpellsItems tokens items.0 items.1 _ = rw (← v.joined, main.is) at v.spelled in
     record { spelled = grammar.program before (rw nothing at b.spelled); height = b.low }

@@ -10,8 +10,9 @@ use Rattle.ckc_tree.specs.Tree.{Expression, span_of, Statement, Assign, Return, 
 use Rattle.ckc_parser.specs.Grammar as grammar
 use Rattle.ckc_parser.specs.Grammar.{token, join, SpellsTarget, SpellsSum, SpellsStore, SpellsStores}
 use Rattle.ckc_parser.specs.Reading.{Refuses, is_same, mark_at, begins, target_at, IsValue, IsStore, IsStores, IsEnding, Extends}
-use Rattle.ckc_parser.proofs.Fronts.{Refuses-weaker, mark_takes, target_takes, target_again, target_is_atom, atom_low, atom_shorter}
-use Rattle.ckc_parser.proofs.Sums.{value_unique, sum_shorter}
+use Rattle.ckc_parser.proofs.Fronts.{Refuses-weaker, mark_takes, target_takes, target_again, target_low, target_shorter}
+use Rattle.ckc_parser.proofs.Unique.{sum_shorter}
+use Rattle.ckc_parser.proofs.Sums.{value_unique}
 use Rattle.ckc_parser.proofs.Leads.{Leads, Leads-none, Leads-then}
 
 -- ---- one store
@@ -60,7 +61,7 @@ pub is_store : (ts : List Token) (x : Expression × List Token) (y : Span × Lis
     → IsStore ts (assigned x.0 value) rest
 is_store ts x y value rest is_x is_y v =
     let t = target_takes ts x is_x in
-    record { spelled = grammar.store (rw (mark_takes kinds.Equal x.1 y is_y) at t) v.spelled; low = omega (arith, atom_low (target_is_atom t), v.low) }
+    record { spelled = grammar.store (rw (mark_takes kinds.Equal x.1 y is_y) at t) v.spelled; low = omega (arith, target_low t, v.low) }
 
 pub store_unique : {ts rest : List Token} {statement : Statement} → SpellsStore ts statement rest → (z : Statement × List Token) → SpellsStore ts z.0 z.1 → (statement, rest) ≡ z
 unfolding mark_at is_same
@@ -69,7 +70,7 @@ store_unique (grammar.store {target} {value} {s1} {s2} {ts} {us} {rest} t v) z o
     ap (λ (w : (Expression × Span) × List Token). (assigned target w.0, w.1)) (value_unique v (p.value, z.1) p.spelled) ∙ ap (λ (s : Statement). (s, z.1)) (sym p.is)
 
 pub store_shorter : {ts rest : List Token} {statement : Statement} → SpellsStore ts statement rest → length rest < length ts
-store_shorter (grammar.store t v) = omega (arith, atom_shorter (target_is_atom t), sum_shorter v)
+store_shorter (grammar.store t v) = omega (arith, target_shorter t, sum_shorter v)
 
 -- ---- the return
 

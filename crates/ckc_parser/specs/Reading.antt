@@ -1,5 +1,5 @@
 -- What the functions that read a form answer, and reading the small forms, from left to right.
-use Rattle.std.specs.Prelude.{◌≡◌, ℕ, zero, ◌≤◌, Bool, true, false, nat_le, if◌then◌else◌, List, [], ◌∷◌, ◌++◌, codes, Option, Some, None, Result, Ok, Err, option_and_then, drop}
+use Rattle.std.specs.Prelude.{◌≡◌, ℕ, zero, ◌<◌, ◌≤◌, Bool, true, false, nat_le, if◌then◌else◌, List, [], ◌∷◌, ◌++◌, codes, Option, Some, None, Result, Ok, Err, option_and_then, length, drop}
 use Rattle.std.specs.Borrow.{Bor}
 use Rattle.std.specs.Str.{bytes_eq}
 use Rattle.ckc_text.specs.declared.fault.Refused.{Refused}
@@ -11,8 +11,9 @@ use Rattle.ckc_lexer.specs.declared.token.TokenKind.{TokenKind}
 use Rattle.ckc_lexer.specs.declared.token.TokenKind.TheVariants as kinds
 use Rattle.ckc_tree.specs.declared.tree.BinaryOperator.{BinaryOperator}
 use Rattle.ckc_tree.specs.declared.tree.BinaryOperator.TheVariants.{Add, Subtract}
-use Rattle.ckc_tree.specs.Tree.{Expression, Number, Name, Deref, AddressOf, Binary, span_of, expression_height, Statement, Declare, statement_height, body_height, Variable}
-use Rattle.ckc_parser.specs.Grammar.{token, join, SpellsSum, SpellsVariables, SpellsStore, SpellsStores, SpellsBody}
+use Rattle.ckc_tree.specs.declared.tree as code
+use Rattle.ckc_tree.specs.Tree.{Expression, Number, Name, Deref, AddressOf, Binary, Call, Arguments, Done, More, span_of, expression_height, arguments_height, expression, Statement, Declare, statement_height, body_height, Variable, Prototype}
+use Rattle.ckc_parser.specs.Grammar.{token, join, SpellsAtom, SpellsArguments, SpellsMore, SpellsTail, SpellsSum, SpellsItems, SpellsStore, SpellsStores, SpellsBody}
 
 -- a refusal of the source says this; want of memory says nothing
 abbrev pub Refuses : Refused → Type 0 → Type 0
@@ -51,6 +52,7 @@ is_same kinds.Int kinds.Int = true
 is_same kinds.Void kinds.Void = true
 is_same kinds.Return kinds.Return = true
 is_same kinds.Ptr kinds.Ptr = true
+is_same kinds.Tainted kinds.Tainted = true
 is_same kinds.OpenParen kinds.OpenParen = true
 is_same kinds.CloseParen kinds.CloseParen = true
 is_same kinds.OpenBrace kinds.OpenBrace = true
@@ -62,6 +64,7 @@ is_same kinds.Plus kinds.Plus = true
 is_same kinds.Minus kinds.Minus = true
 is_same kinds.Star kinds.Star = true
 is_same kinds.Ampersand kinds.Ampersand = true
+is_same kinds.Comma kinds.Comma = true
 is_same kinds.Semicolon kinds.Semicolon = true
 is_same _ _ = false
 
@@ -113,13 +116,20 @@ unfoldable pub target_at : List Token → Option (Expression × List Token)
 target_at ts = first_at ts >>= λ f. target_of f.0.span f.1 f.0.kind
 
 -- what a first token of this kind begins: a number alone, or a target
-abbrev pub atom_of : Span → List Token → List Token → TokenKind → Option (Expression × List Token)
-atom_of s rest ts (kinds.Number n) = Some (Number n s, rest)
-atom_of s rest ts _ = target_at ts
+abbrev pub plain_of : Span → List Token → List Token → TokenKind → Option (Expression × List Token)
+plain_of s rest ts (kinds.Number n) = Some (Number n s, rest)
+plain_of s rest ts _ = target_at ts
 
 -- a number, a name, or what a name points to
-unfoldable pub atom_at : List Token → Option (Expression × List Token)
-atom_at ts = first_at ts >>= λ f. atom_of f.0.span f.1 ts f.0.kind
+unfoldable pub plain_at : List Token → Option (Expression × List Token)
+plain_at ts = first_at ts >>= λ f. plain_of f.0.span f.1 ts f.0.kind
+
+-- the name of a function that is called, with its span, and the tokens after the parenthesis behind it
+unfoldable pub callee_at : List Token → Option (List ℕ × Span × List Token)
+callee_at ts = do
+  x ← name_at ts
+  open_paren ← mark_at kinds.OpenParen x.2
+  Some (x.0, x.1, open_paren.1)
 
 -- the operator that a token of this kind is
 abbrev pub operator_of : List Token → TokenKind → Option (BinaryOperator × List Token)
@@ -135,17 +145,67 @@ operator_at ts = first_at ts >>= λ f. operator_of f.1 f.0.kind
 abbrev pub binary_of : BinaryOperator → Expression → Expression → Expression
 binary_of operator left right = Binary operator left right (join (span_of left) (span_of right))
 
--- the sum so far with the atom behind the operator, no higher than a sum may be
-unfoldable pub longer_at : BinaryOperator → Expression → List Token → Option (Expression × List Token)
-longer_at operator left ts = do
-  atom ← atom_at ts
-  if nat_le (expression_height (binary_of operator left atom.0)) 198 then Some (binary_of operator left atom.0, atom.1) else None
+-- the expression, where it is no higher than this
+unfoldable pub within : ℕ → Expression → Option Expression
+within limit e = if nat_le (expression_height e) limit then Some e else None
 
--- the tokens begin with this sum, which no operator follows, and which is no higher than a sum may be
-pub record IsSum (ts : List Token) (sum : Expression) (rest : List Token) : Type 0 where
+-- the expression ends with a name, and the tokens behind it call that name
+abbrev pub calls : Expression → List Token → Bool
+calls (Number value span) rest = false
+calls (Name name span) rest = begins kinds.OpenParen rest
+calls (Deref operand span) rest = false
+calls (AddressOf operand span) rest = false
+calls (Binary operator left right span) rest = calls right rest
+calls (Call callee arguments span) rest = false
+
+-- the tokens begin with this atom, which is no name that is called, and no higher than this
+pub record IsAtom (limit : ℕ) (ts : List Token) (atom : Expression) (rest : List Token) : Type 0 where
+  pub spelled : SpellsAtom ts atom rest
+  pub uncalled : calls atom rest ≡ false
+  pub low : expression_height atom ≤ limit
+
+-- the tokens are what goes on behind the parenthesis of this call, which is no higher than this
+pub record IsCall (limit : ℕ) (callee : List ℕ) (start : Span) (ts : List Token) (call : Expression) (rest : List Token) : Type 0 where
+  pub arguments : Arguments
+  pub last : Span
+  pub spelled : SpellsArguments ts arguments last rest
+  pub is : call ≡ Call callee arguments (join start last)
+  pub low : expression_height call ≤ limit
+
+-- the tokens begin with these arguments and the parenthesis with this span, and no argument is higher than this
+pub record IsArguments (limit : ℕ) (ts : List Token) (found : Arguments × Span) (rest : List Token) : Type 0 where
+  pub spelled : SpellsArguments ts found.0 found.1 rest
+  pub low : arguments_height found.0 ≤ limit
+
+-- the arguments of which these come first
+abbrev pub before : List code.Expr.Expr → Arguments → Arguments
+before [] rest = rest
+before (e ∷ es) rest = More (expression e) (before es rest)
+
+-- the arguments of a list of the code
+abbrev pub listed : List code.Expr.Expr → Arguments
+listed es = before es Done
+
+-- the arguments are these, and then what the tokens begin with, up to the parenthesis with this span; no further argument is higher than this
+pub record IsMore (limit : ℕ) (front : List code.Expr.Expr) (ts : List Token) (found : Arguments × Span) (rest : List Token) : Type 0 where
+  pub more : Arguments
+  pub joined : found.0 ≡ before front more
+  pub spelled : SpellsMore ts more found.1 rest
+  pub low : arguments_height more ≤ limit
+
+-- the tokens begin with this sum, which nothing goes on with, and which is no higher than this
+pub record IsSum (limit : ℕ) (ts : List Token) (sum : Expression) (rest : List Token) : Type 0 where
   pub spelled : SpellsSum ts sum rest
   pub ended : operator_at rest ≡ None
-  pub low : expression_height sum ≤ 198
+  pub uncalled : calls sum rest ≡ false
+  pub low : expression_height sum ≤ limit
+
+-- the tokens go on with a sum so far to this sum, which nothing goes on with, and which is no higher than this
+pub record IsTail (limit : ℕ) (so_far : Expression) (ts : List Token) (sum : Expression) (rest : List Token) : Type 0 where
+  pub spelled : SpellsTail so_far ts sum rest
+  pub ended : operator_at rest ≡ None
+  pub uncalled : calls sum rest ≡ false
+  pub low : expression_height sum ≤ limit
 
 -- the tokens begin with this sum and a semicolon with this span
 pub record IsValue (ts : List Token) (value : Expression × Span) (rest : List Token) : Type 0 where
@@ -262,7 +322,38 @@ main_at ts = do
 abbrev pub begins_function : List Token → Bool
 begins_function ts = begins kinds.OpenParen (drop 2 ts)
 
--- the tokens begin with these variables, and a function stands behind them
-pub record IsVariables (ts : List Token) (variables : List Variable) (rest : List Token) : Type 0 where
-  pub spelled : SpellsVariables ts variables rest
+-- no parameters
+unfoldable pub void_at : List Token → Option (List Token)
+void_at ts = do
+  void ← mark_at kinds.Void ts
+  close_paren ← mark_at kinds.CloseParen void.1
+  Some close_paren.1
+
+-- one parameter
+unfoldable pub parameter_at : List Token → Option (List ℕ × List Token)
+parameter_at ts = do
+  int ← mark_at kinds.Int ts
+  x ← name_at int.1
+  Some (x.0, x.2)
+
+-- the tokens begin with this prototype
+abbrev pub IsPrototype : List Token → Prototype → List Token → Type 0
+IsPrototype ts p rest = SpellsItems ts [] (p ∷ []) rest
+
+-- file-level variables and prototypes
+abbrev pub Items : Type 0
+Items = List Variable × List Prototype
+
+-- the items are these, and then those that the tokens begin with, of which there are some
+pub record IsFurther (front : Items) (ts : List Token) (all : Items) (rest : List Token) : Type 0 where
+  pub more : Items
+  pub joined : all ≡ (front.0 ++ more.0, front.1 ++ more.1)
+  pub spelled : SpellsItems ts more.0 more.1 rest
+  pub some : length rest < length ts
+
+-- the items are these, and then those that the tokens begin with, up to a function that is defined
+pub record IsItems (front : Items) (ts : List Token) (all : Items) (rest : List Token) : Type 0 where
+  pub more : Items
+  pub joined : all ≡ (front.0 ++ more.0, front.1 ++ more.1)
+  pub spelled : SpellsItems ts more.0 more.1 rest
   pub ended : begins_function rest ≡ true

@@ -38,6 +38,7 @@ fn is_same(mark: &TokenKind, kind: &TokenKind) -> bool
         TokenKind::Void => matches!(kind, TokenKind::Void),
         TokenKind::Return => matches!(kind, TokenKind::Return),
         TokenKind::Ptr => matches!(kind, TokenKind::Ptr),
+        TokenKind::Tainted => matches!(kind, TokenKind::Tainted),
         TokenKind::OpenParen => matches!(kind, TokenKind::OpenParen),
         TokenKind::CloseParen => matches!(kind, TokenKind::CloseParen),
         TokenKind::OpenBrace => matches!(kind, TokenKind::OpenBrace),
@@ -49,6 +50,7 @@ fn is_same(mark: &TokenKind, kind: &TokenKind) -> bool
         TokenKind::Minus => matches!(kind, TokenKind::Minus),
         TokenKind::Star => matches!(kind, TokenKind::Star),
         TokenKind::Ampersand => matches!(kind, TokenKind::Ampersand),
+        TokenKind::Comma => matches!(kind, TokenKind::Comma),
         TokenKind::Semicolon => matches!(kind, TokenKind::Semicolon),
         TokenKind::Name(_) | TokenKind::Number(_) => false,
     }

@@ -37,6 +37,12 @@ pub enum Expr {
         right: Box<Expr>,
         span: Span,
     },
+    /// A function that is called by its name.
+    Call {
+        callee: Name,
+        arguments: Vec<Expr>,
+        span: Span,
+    },
 }
 
 /// A statement.
@@ -68,9 +74,18 @@ pub struct Global {
     pub span: Span,
 }
 
-/// A whole source: the file-level variables and the body of `main`.
+/// A tainted function that is declared: its name, and the names of its parameters, each of type `int`.
+#[derive(Drop)]
+pub struct Prototype {
+    pub name: Name,
+    pub parameters: Vec<Name>,
+    pub span: Span,
+}
+
+/// A whole source: the file-level variables, the tainted functions, and the body of `main`.
 #[derive(Drop)]
 pub struct Program {
     pub globals: Vec<Global>,
+    pub prototypes: Vec<Prototype>,
     pub body: Vec<Stmt>,
 }

@@ -23,4 +23,6 @@ pub record Fits (image : Image) (settings : Settings) : Type 0 where
   pub not_empty : All (λ block. 0 < length block) image.trusted.blocks
   pub blocks : 16 + bytes_taken image.trusted.blocks ≤ settings.trusted
   pub frames : All HasSmallFrame image.trusted.funs
+  -- no tainted function has more than 16 arguments
+  pub arguments : All (λ i. i.args ≤ 16) image.layout.imports
   pub main : (number : ℕ) × (f : Func) × IsMain image number f

@@ -1,15 +1,5 @@
--- Words of 32 bits, and four bytes of memory as one, with the lowest byte first.
+-- Four bytes of memory as one word, with the lowest byte first.
 use Rattle.std.specs.Prelude.{ℕ, ◌+◌, ◌*◌, ◌/◌, ◌%◌, ◌^◌, List, slice_index, slice_set}
-use Rattle.std.proofs.Common.{ℤ}
-use Rattle.std.specs.Int.{cast_signed, cast_unsigned, w32}
-
--- the number that a word stands for, read with a sign
-abbrev pub signed : ℕ → ℤ
-signed word = cast_signed w32 word
-
--- the word of a number
-abbrev pub word : ℤ → ℕ
-word number = cast_unsigned w32 number
 
 -- the word of the four bytes from an offset
 abbrev pub word_at : List ℕ → ℕ → ℕ

@@ -31,9 +31,21 @@ pub struct SideCode {
     pub funs: Funs,
 }
 
-/// What ties an image together: the number of `main`, if it has one.
-#[derive(Clone, Copy)]
+/// Tainted functions that are called, in order of number.
+pub type Imports = Listed<Import>;
+
+/// A tainted function that is called: its number and name, and the number of its arguments.
+#[derive(Drop)]
+pub struct Import {
+    pub number: u32,
+    pub name: Name,
+    pub args: u32,
+}
+
+/// What ties an image together: the tainted functions, and the number of `main`, if it has one.
+#[derive(Drop)]
 pub struct Layout {
+    pub imports: Imports,
     pub main: Option<u32>,
 }
 

@@ -2,5 +2,6 @@
 #![tactic(auto)]
 
 pub mod image;
+pub mod laws;
 pub mod lists;
 pub mod op;

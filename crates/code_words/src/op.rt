@@ -25,4 +25,9 @@ pub enum Op {
     Store4,
     /// Returns the topmost word.
     Return,
+    /// Spends a tick, unless as many as the budget were spent (S1).
+    Tick,
+    /// Pops the arguments of a tainted function, the last on top, calls it, and pushes its reply. It counts as an open
+    /// call until then (S2).
+    TaintedCall { import: u32, place: Place },
 }

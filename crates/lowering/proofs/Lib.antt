@@ -1,8 +1,11 @@
 pub mod Numbers
 pub mod Memory
+pub mod Acts
+pub mod Slices
 pub mod Represents
 pub mod Steps
 pub mod Expressions
+pub mod Calls
+pub mod Values
 pub mod Statements
 pub mod Programs
-pub mod Runs

@@ -1,16 +1,17 @@
 -- How a state of the meaning stands in memory and slots.
-use Rattle.std.proofs.Common.{◌≡◌, ℕ, zero, suc, ◌+◌, ◌-◌, ◌*◌, ◌^◌, ◌<◌, ◌≤◌, Bool, true, false, ℤ, List, [], ◌∷◌, ◌++◌, length, Option, Some, None, refl, sym, ap, ◌∙◌, subst, arith}
+use Rattle.std.proofs.Common.{◌≡◌, ℕ, ◌+◌, ◌*◌, ◌<◌, ◌≤◌, true, List, length, Option, Some, None, refl, ap}
 use Rattle.std.specs.Prelude.{slice_get, unwrap_or}
 use Rattle.std.specs.Option.{option_and_then}
+use Rattle.act_words.specs.World.{World}
 use Rattle.act_words.specs.Checks.{is_word_number}
 use Rattle.ckc_core.specs.States.{Value, Number, Null, At, CellType, Int, Cell, Block, cell_at}
 use Rattle.ckc_core.specs.States as meaning
-use Rattle.code_words.specs.Words.{word, word_at}
+use Rattle.code_words.specs.Words.{word_at}
 use Rattle.code_words.specs.Blocks.{offset_of}
 use Rattle.code_words.specs.Machine.{address_of}
 use Rattle.code_words.specs.declared.image.Image.{Image}
-use Rattle.lowering.specs.Correct.{word_of, HoldsBlocks}
-use Rattle.lowering.proofs.Memory.{offset_within}
+use Rattle.lowering.specs.Correct.{word_of}
+use Rattle.lowering.proofs.Acts.{HasActs}
 
 -- a number has 32 bits, and a place is of a block of the image
 abbrev pub IsKept : Image → Value → Type 0
@@ -38,12 +39,17 @@ pub record LocalStands (image : Image) (base : ℕ) (slots : List ℕ) (local : 
   pub slot : slice_get slots local ≡ Some (word_of image base v)
   pub kept : IsKept image v
 
--- the blocks are bytes of the memory, and the locals are slots, with one more behind them
+-- the blocks are bytes of the memory, the locals are slots, with one more behind them, and each act that is left is one
 pub record Represents (image : Image) (base scratch : ℕ) (s : meaning.State) (memory slots : List ℕ) : Type 0 where
   pub blocks : (block : ℕ) (cells : Block) → slice_get s.blocks block ≡ Some cells → BlockStands image base memory block cells
   pub locals : (local : ℕ) (v : Value) → slice_get s.locals local ≡ Some v → LocalStands image base slots local v
   pub count : length s.locals ≡ scratch
   pub room : scratch < length slots
+  pub acts : HasActs s.world
+
+-- in another world, where each act that is left is one too
+pub represents_in : (image : Image) (base scratch : ℕ) (s : meaning.State) (memory slots : List ℕ) (w : World) → HasActs w → Represents image base scratch s memory slots → Represents image base scratch (meaning.in_world w s) memory slots
+represents_in image base scratch s memory slots w acts r = record { blocks = r.blocks; locals = r.locals; count = r.count; room = r.room; acts = acts }
 
 -- a cell that is there is a cell of a block
 pub cell_of_block : (found : Option Block) (cell : ℕ) (c : Cell) → option_and_then (λ cells. slice_get cells cell) found ≡ Some c → (cells : Block) × (found ≡ Some cells) × (slice_get cells cell ≡ Some c)

@@ -1,15 +1,15 @@
 -- How instructions that stand in a function are executed, one after another.
-use Rattle.std.proofs.Common.{◌≡◌, ℕ, zero, suc, ◌+◌, ◌-◌, ◌*◌, ◌<◌, ◌≤◌, Bool, true, false, ℤ, List, [], ◌∷◌, ◌++◌, length, Option, Some, None, refl, sym, ap, ◌∙◌, subst, arith, append_assoc, length-append}
-use Rattle.std.specs.Prelude.{slice_get, slice_set, nat_lt, nat_le}
+use Rattle.std.proofs.Common.{◌≡◌, ℕ, suc, ◌+◌, ◌<◌, ◌≤◌, true, List, [], ◌∷◌, ◌++◌, length, Some, refl, ap, ◌∙◌, subst, arith, append_assoc, length-append}
+use Rattle.std.specs.Prelude.{slice_get, nat_lt}
 use Rattle.std.proofs.Math.Seq.{get_or-append_seam}
 use Rattle.std.proofs.lemmas.Option.{slice_get-get_or}
 use Rattle.std.proofs.lemmas.Bool.Decides.{nat_tests}
 use Rattle.act_words.specs.declared.ending.Ending.{Ending}
-use Rattle.act_words.specs.World.{World}
-use Rattle.act_words.specs.Outcome.{Outcome, Gives, Ends, Stuck, Short, and_then}
+use Rattle.act_words.specs.declared.settings.Settings.{Settings}
+use Rattle.act_words.specs.Outcome.{Gives, Ends, Stuck, Short, and_then}
 use Rattle.ckc_core.specs.States as meaning
 use Rattle.ckc_core.specs.Meaning.{Result}
-use Rattle.code_words.specs.Machine.{Frame, State, Step, Goes, Over, Run, Unfinished, Finished, step, act, exec, go_on, push}
+use Rattle.code_words.specs.Machine.{State, Goes, Over, Finished, step, act, exec, go_on, push}
 use Rattle.code_words.specs.declared.op.Op.{Op}
 use Rattle.code_words.specs.declared.image.Func.{Func}
 use Rattle.code_words.specs.declared.image.Image.{Image}
@@ -40,10 +40,10 @@ has_all (op ∷ ops) pre =
     let rest' = subst (λ l. HasAt l (length (pre ++ op ∷ [])) ops) (append_assoc pre (op ∷ []) ops) rest in
     (here, subst (λ m. HasAt (pre ++ op ∷ ops) m ops) n rest')
 
--- a state in the call of the first function
-abbrev pub in_main : List ℕ → List ℕ → World → ℕ → List ℕ → State
-in_main memory slots world next stack =
-    record { memory = memory; frame = record { function = 0; next = next; slots = slots; stack = stack }; world = world }
+-- a state in the call of the first function, with the depth and the world of a state of the meaning
+abbrev pub in_main : List ℕ → List ℕ → meaning.State → ℕ → List ℕ → State
+in_main memory slots s next stack =
+    record { memory = memory; frame = record { function = 0; next = next; slots = slots; stack = stack }; depth = s.depth; world = s.world }
 
 -- an outcome of the meaning, where its value leads to G, its ending to E, and nothing is said where it is stuck
 abbrev pub Leads : {A : Type 0} → (A → meaning.State → Type 0) → (Ending → meaning.State → Type 0) → Result A → Type 0
@@ -66,17 +66,17 @@ leads_too G H E F (Ends ending s) g e l = e ending s l
 leads_too G H E F Stuck g e l = tt
 leads_too G H E F Short g e l = tt
 
-module _ (image : Image) (base : ℕ) (f : Func) where
+module _ (image : Image) (settings : Settings) (f : Func) where
   -- whatever comes of the second state, comes of the first
   pub record Reaches (t u : State) : Type 0 where
-    pub by : (k : ℕ) → (j : ℕ) × (k ≤ j) × (exec image base j t ≡ exec image base k u)
+    pub by : (k : ℕ) → (j : ℕ) × (k ≤ j) × (exec image settings j t ≡ exec image settings k u)
 
   -- the run ends, as that of the meaning does
   pub record Finishes (t : State) (ending : Ending) (s : meaning.State) : Type 0 where
     pub steps : ℕ
     pub last : State
-    pub is : exec image base steps t ≡ Finished ending last
-    pub same : SameEnd image base s last
+    pub is : exec image settings steps t ≡ Finished ending last
+    pub same : SameEnd image settings.base s last
 
   pub stays : (t : State) → Reaches t t
   stays t = record { by = λ k. (k, omega arith, refl) }
@@ -89,19 +89,19 @@ module _ (image : Image) (base : ℕ) (f : Func) where
   finishes_on t u ending s a b = let p = a.by b.steps in record { steps = p.0; last = b.last; is = p.2 ∙ b.is; same = b.same }
 
   -- one step
-  pub one_step : (t u : State) → step image base t ≡ Goes u → Reaches t u
-  one_step t u h = record { by = λ k. (suc k, omega arith, ap (λ r. go_on r (exec image base k)) h) }
+  pub one_step : (t u : State) → step image settings t ≡ Goes u → Reaches t u
+  one_step t u h = record { by = λ k. (suc k, omega arith, ap (λ r. go_on r (exec image settings k)) h) }
 
-  pub last_step : (t u : State) (ending : Ending) (s : meaning.State) → step image base t ≡ Over ending u → SameEnd image base s u → Finishes t ending s
-  last_step t u ending s h same = record { steps = 1; last = u; is = ap (λ r. go_on r (exec image base 0)) h; same = same }
+  pub last_step : (t u : State) (ending : Ending) (s : meaning.State) → step image settings t ≡ Over ending u → SameEnd image settings.base s u → Finishes t ending s
+  last_step t u ending s h same = record { steps = 1; last = u; is = ap (λ r. go_on r (exec image settings 0)) h; same = same }
 
   module _ (there : slice_get image.trusted.funs 0 ≡ Some f) where
     -- the instruction that stands next is executed
-    pub fetched : (memory slots : List ℕ) (world : World) (next : ℕ) (stack : List ℕ) (op : Op) → slice_get f.ops next ≡ Some op → step image base (in_main memory slots world next stack) ≡ act image base f op (in_main memory slots world next stack)
-    fetched memory slots world next stack op h = rw (there, h) refl
+    pub fetched : (memory slots : List ℕ) (s : meaning.State) (next : ℕ) (stack : List ℕ) (op : Op) → slice_get f.ops next ≡ Some op → step image settings (in_main memory slots s next stack) ≡ act image settings f op (in_main memory slots s next stack)
+    fetched memory slots s next stack op h = rw (there, h) refl
 
   -- a word is pushed onto a stack that has room
-  pub pushed : (memory slots : List ℕ) (world : World) (next : ℕ) (old : List ℕ) (w : ℕ) (stack : List ℕ) → length stack < f.stack → push f w stack (in_main memory slots world next old) ≡ Goes (in_main memory slots world (next + 1) (w ∷ stack))
-  pushed memory slots world next old w stack room =
+  pub pushed : (memory slots : List ℕ) (s : meaning.State) (next : ℕ) (old : List ℕ) (w : ℕ) (stack : List ℕ) → length stack < f.stack → push f w stack (in_main memory slots s next old) ≡ Goes (in_main memory slots s (next + 1) (w ∷ stack))
+  pushed memory slots s next old w stack room =
       let test : nat_lt (length stack) f.stack ≡ true = grind (arith, nat_tests) in
       rw test refl

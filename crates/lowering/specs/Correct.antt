@@ -1,8 +1,8 @@
 -- What it means that code does what a program means.
-use Rattle.std.specs.Prelude.{◌≡◌, ℕ, ◌+◌, ◌*◌, ◌≤◌, Bool, true, List, length, All, Option, Some, None, unwrap_or}
-use Rattle.std.proofs.Common.{ℤ}
+use Rattle.std.specs.Prelude.{◌≡◌, ℕ, ◌+◌, ◌*◌, ◌≤◌, true, List, length, All, Some, unwrap_or}
 use Rattle.act_words.specs.declared.ending.Ending.{Ending}
 use Rattle.act_words.specs.declared.settings.Settings.{Settings}
+use Rattle.act_words.specs.Acts.{Act, IsAct}
 use Rattle.act_words.specs.Outcome.{Ends}
 use Rattle.act_words.specs.Checks.{is_word_number}
 use Rattle.act_words.specs.Limits.{AreAllowed}
@@ -10,7 +10,8 @@ use Rattle.ckc_core.specs.Core.{Core}
 use Rattle.ckc_core.specs.States.{Value, Number, Null, At, Cell, Block, cell_at}
 use Rattle.ckc_core.specs.States as meaning_states
 use Rattle.ckc_core.specs.Meaning.{meaning}
-use Rattle.code_words.specs.Words.{word, word_at}
+use Rattle.act_words.specs.Numbers.{word}
+use Rattle.code_words.specs.Words.{word_at}
 use Rattle.code_words.specs.Blocks.{offset_of}
 use Rattle.code_words.specs.Machine.{State, CodeRun, address_of}
 use Rattle.code_words.specs.Fitting.{Fits}
@@ -43,10 +44,13 @@ pub record SameEnd (image : Image) (base : ℕ) (s : meaning_states.State) (t : 
 pub record IsLowerable (program : Core) : Type 0 where
   pub numbers : All (λ number. is_word_number number ≡ true) program.objects
   pub objects : length program.objects ≤ 1024
+  -- no tainted function has more parameters than can be passed
+  pub imports : length program.imports ≤ 4096
+  pub parameters : All (λ i. i.parameters ≤ 16) program.imports
   pub locals : program.main.locals ≤ 256
   pub frame : program.main.locals + 1 + body_stack program.main.body ≤ 4096
 
--- wherever the program's run ends, so does the image's, at every base address
+-- wherever the program's run over acts ends, so does the image's, at every base address
 pub record KeepsMeaning (program : Core) (image : Image) : Type 0 where
   pub fits : (settings : Settings) → AreAllowed settings → Fits image settings
-  pub ends : (settings : Settings) (ending : Ending) (s : meaning_states.State) → AreAllowed settings → meaning program settings ≡ Ends ending s → (t : State) × CodeRun image settings ending t × SameEnd image settings.base s t
+  pub ends : (settings : Settings) (acts : List Act) (ending : Ending) (s : meaning_states.State) → AreAllowed settings → All IsAct acts → meaning program settings acts ≡ Ends ending s → (t : State) × CodeRun image settings acts ending t × SameEnd image settings.base s t

@@ -1,14 +1,16 @@
 // Emitting the code of a program.
 
-ghost use Rattle.std.specs.Prelude.{◌≡◌, ◌+◌, ◌≤◌, [], ◌∷◌, ◌++◌, map, IfOk, OnOk};
-ghost use Rattle.ckc_core.specs.Core.{core, function, expression, statement};
-ghost use Rattle.lowering.specs.Code.{expression_code, expression_stack, statement_code, statement_stack, body_code, body_stack, operator_code, main_code, number_bytes, image_of};
+ghost use Rattle.std.specs.Prelude.{◌≡◌, ◌+◌, ◌≤◌, [], ◌∷◌, ◌++◌, map, length, IfOk, OnOk};
+ghost use Rattle.ckc_core.specs.Core.{core, function, import_of, expression, statement};
+ghost use Rattle.lowering.specs.Code.{expression_code, arguments_code, expression_stack, arguments_stack, statement_code, statement_stack, body_code, body_stack, operator_code, main_code, number_bytes, import_code, imports_from, image_of};
 ghost use Rattle.lowering.specs.Correct.{IsLowerable, KeepsMeaning};
+ghost use Rattle.lowering.specs.Slices.{arguments_of};
 
+use ckc_core::program;
 use ckc_core::program::{Core, Expr, Function, Operator, Site, Stmt};
 use ckc_text::fault::NoMemory;
 use ckc_text::name::Name;
-use code_words::image::{Blocks, Func, Image, Layout, SideCode};
+use code_words::image::{Blocks, Func, Image, Import, Imports, Layout, SideCode};
 use code_words::lists::Listed;
 use code_words::op::Op;
 use std::alloc::Global;
@@ -28,6 +30,7 @@ fn emit_image(alloc: Global, program: &Core) -> Result<Image, NoMemory>
     ensures { IfOk result (λ image. image ≡ image_of (core program.now)) }
 {
     let blocks = static_blocks(alloc, program.objects.as_slice())?;
+    let imports = tainted_imports(alloc, program.imports.as_slice())?;
     let main = main_func(alloc, &program.main)?;
     let mut funs = Vec::new(alloc);
     funs.push(main)?;
@@ -36,7 +39,10 @@ fn emit_image(alloc: Global, program: &Core) -> Result<Image, NoMemory>
             blocks,
             funs: Listed::from_vec(funs),
         },
-        layout: Layout { main: Some(0) },
+        layout: Layout {
+            imports,
+            main: Some(0),
+        },
     })
 }
 
@@ -57,6 +63,33 @@ fn number_block(alloc: Global, number: i32) -> Result<Listed<u8>, NoMemory>
 {
     let bytes = Vec::from_slice(alloc, &number.to_le_bytes())?;
     Ok(Listed::from_vec(bytes))
+}
+
+// The tainted functions, which are numbered from 0.
+fn tainted_imports(alloc: Global, functions: &[program::Import]) -> Result<Imports, NoMemory>
+    requires { length functions.now ≤ 4096 }
+    ensures { IfOk result (λ imports. imports ≡ imports_from 0 (map import_of functions.now)) }
+{
+    let mut imports = Vec::new(alloc);
+    for (number, function) in functions.iter().enumerate() {
+        imports.push(tainted_import(alloc, number as u32, function)?)?;
+    }
+    Ok(Listed::from_vec(imports))
+}
+
+// A tainted function with its number.
+fn tainted_import(
+    alloc: Global,
+    number: u32,
+    function: &program::Import,
+) -> Result<Import, NoMemory>
+    ensures { IfOk result (λ import. import ≡ import_code number (import_of function.now)) }
+{
+    Ok(Import {
+        number,
+        name: Name::copied(alloc, function.name.as_bytes())?,
+        args: function.parameters,
+    })
 }
 
 // The function `main`.
@@ -150,6 +183,7 @@ fn stack_of_stmt(stmt: &Stmt) -> u32
     }
 }
 
+#[cycle(emitting)]
 fn emit_expr(ops: &mut Vec<Op>, expr: &Expr) -> Result<(), NoMemory>
     ensures { OnOk result (ops.new.items ≡ ops.old.items ++ expression_code (expression expr.now)) }
 {
@@ -177,9 +211,33 @@ fn emit_expr(ops: &mut Vec<Op>, expr: &Expr) -> Result<(), NoMemory>
             emit_expr(ops, right)?;
             put(ops, op_of(*operator, *site))
         }
+        Expr::TaintedCall { import, args, site } => {
+            emit_args(ops, args.as_slice())?;
+            put(ops, Op::Tick)?;
+            put(
+                ops,
+                Op::TaintedCall {
+                    import: *import,
+                    place: site.place,
+                },
+            )?;
+            Ok(())
+        }
     }
 }
 
+// Arguments from left to right.
+#[cycle(emitting)]
+fn emit_args(ops: &mut Vec<Op>, args: &[Expr]) -> Result<(), NoMemory>
+    ensures { OnOk result (ops.new.items ≡ ops.old.items ++ arguments_code (arguments_of args.now)) }
+{
+    for arg in args {
+        emit_expr(ops, arg)?;
+    }
+    Ok(())
+}
+
+#[cycle(measuring)]
 fn stack_of_expr(expr: &Expr) -> u32
     requires { expression_stack (expression expr.now) ≤ 4096 }
     ensures { result ≡ expression_stack (expression expr.now) }
@@ -197,7 +255,25 @@ fn stack_of_expr(expr: &Expr) -> u32
             right,
             site: _,
         } => stack_of_expr(left).max(1 + stack_of_expr(right)),
+        Expr::TaintedCall {
+            import: _,
+            args,
+            site: _,
+        } => stack_of_args(args.as_slice()).max(1),
     }
+}
+
+// How many words arguments have on the stack at most: each stands above those before it.
+#[cycle(measuring)]
+fn stack_of_args(args: &[Expr]) -> u32
+    requires { arguments_stack (arguments_of args.now) ≤ 4096 }
+    ensures { result ≡ arguments_stack (arguments_of args.now) }
+{
+    let mut most = 0;
+    for (before, arg) in args.iter().enumerate() {
+        most = (before as u32 + stack_of_expr(arg)).max(most);
+    }
+    most
 }
 
 // The instruction of an operator.

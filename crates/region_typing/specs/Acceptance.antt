@@ -1,7 +1,8 @@
 -- Which trees are programs of the language, and which core each of them has.
-use Rattle.std.specs.Prelude.{◌≡◌, ℕ, ◌≤◌, Bool, true, false, not, ◌&&◌, List, [], ◌∷◌, ◌++◌, map, length, codes, Option, Some, None, is_some, unwrap_or, position, ◌==◌, nat_lt, ◌^◌, pos}
+use Rattle.std.specs.Prelude.{◌≡◌, ℕ, ◌+◌, ◌≤◌, Bool, true, false, not, ◌&&◌, List, [], ◌∷◌, ◌++◌, map, length, codes, Option, Some, None, is_some, unwrap_or, position, slice_get, ◌==◌, nat_lt, nat_le, ◌^◌, pos}
+use Rattle.std.specs.Option.{option_and_then}
 use Rattle.std.proofs.Common.{ℤ}
-use Rattle.std.specs.List.{list_any, list_all}
+use Rattle.std.specs.List.{list_all}
 use Rattle.std.specs.Str.{bytes_eq}
 use Rattle.ckc_text.specs.declared.place.Place.{Place}
 use Rattle.ckc_text.specs.declared.place.Span.{Span}
@@ -18,6 +19,10 @@ use Rattle.ckc_core.specs.Core as core
 -- the names of the file-level variables, in their order
 abbrev pub variable_names : List tree.Variable → List (List ℕ)
 variable_names variables = map (λ v. v.name) variables
+
+-- the names of the tainted functions, in their order
+abbrev pub function_names : List tree.Prototype → List (List ℕ)
+function_names prototypes = map (λ p. p.name) prototypes
 
 -- the name that a statement declares, before others
 abbrev pub declared_before : tree.Statement → List (List ℕ) → List (List ℕ)
@@ -49,6 +54,19 @@ reserved_names = codes "main" ∷ codes "NULL" ∷ codes "next_input" ∷ codes 
 abbrev pub is_free : List ℕ → Bool
 is_free name = not (is_among reserved_names name)
 
+-- the names that are known, by what they name
+pub record Scope : Type 0 where
+  pub variables : List (List ℕ)
+  pub functions : List tree.Prototype
+  pub locals : List (List ℕ)
+
+abbrev pub scope_of : tree.Tree → Scope
+scope_of t = record { variables = variable_names t.globals; functions = t.prototypes; locals = local_names t.body }
+
+-- the tainted function of a name, if there is one
+abbrev pub function_named : List tree.Prototype → List ℕ → Option tree.Prototype
+function_named functions name = option_and_then (slice_get functions) (number_of_name (function_names functions) name)
+
 -- ---- forms
 
 -- the number has 31 bits
@@ -56,64 +74,91 @@ abbrev pub is_small : ℕ → Bool
 is_small n = nat_lt n (2 ^ 31)
 
 -- an expression that is a local pointer
-abbrev pub is_local : List (List ℕ) → tree.Expression → Bool
-is_local locals (tree.Number value span) = false
-is_local locals (tree.Name name span) = is_among locals name
-is_local locals (tree.Deref operand span) = false
-is_local locals (tree.AddressOf operand span) = false
-is_local locals (tree.Binary operator left right span) = false
+abbrev pub is_local : Scope → tree.Expression → Bool
+is_local scope (tree.Number value span) = false
+is_local scope (tree.Name name span) = is_among scope.locals name
+is_local scope (tree.Deref operand span) = false
+is_local scope (tree.AddressOf operand span) = false
+is_local scope (tree.Binary operator left right span) = false
+is_local scope (tree.Call callee arguments span) = false
 
 -- an expression that is a variable
-abbrev pub is_variable : List (List ℕ) → tree.Expression → Bool
-is_variable variables (tree.Number value span) = false
-is_variable variables (tree.Name name span) = is_among variables name
-is_variable variables (tree.Deref operand span) = false
-is_variable variables (tree.AddressOf operand span) = false
-is_variable variables (tree.Binary operator left right span) = false
+abbrev pub is_variable : Scope → tree.Expression → Bool
+is_variable scope (tree.Number value span) = false
+is_variable scope (tree.Name name span) = is_among scope.variables name
+is_variable scope (tree.Deref operand span) = false
+is_variable scope (tree.AddressOf operand span) = false
+is_variable scope (tree.Binary operator left right span) = false
+is_variable scope (tree.Call callee arguments span) = false
 
--- an expression that is a number: numbers, variables, what locals point to, and sums and differences of these
-abbrev pub is_number : List (List ℕ) → List (List ℕ) → tree.Expression → Bool
-is_number variables locals (tree.Number value span) = is_small value
-is_number variables locals (tree.Name name span) = is_among variables name
-is_number variables locals (tree.Deref operand span) = is_local locals operand
-is_number variables locals (tree.AddressOf operand span) = false
-is_number variables locals (tree.Binary operator left right span) = is_number variables locals left && is_number variables locals right
+-- there is a function, and it has as many parameters as there are arguments
+abbrev pub takes : Option tree.Prototype → ℕ → Bool
+takes None count = false
+takes (Some function) count = length function.parameters == count
+
+abbrev mutual
+  -- an expression that is a number: numbers, variables, what locals point to, calls of tainted functions, and sums and
+  -- differences of these
+  pub is_number : Scope → tree.Expression → Bool
+  is_number scope (tree.Number value span) = is_small value
+  is_number scope (tree.Name name span) = is_among scope.variables name
+  is_number scope (tree.Deref operand span) = is_local scope operand
+  is_number scope (tree.AddressOf operand span) = false
+  is_number scope (tree.Binary operator left right span) = is_number scope left && is_number scope right
+  is_number scope (tree.Call callee arguments span) = takes (function_named scope.functions callee) (tree.count arguments) && are_numbers scope arguments
+
+  pub are_numbers : Scope → tree.Arguments → Bool
+  are_numbers scope tree.Done = true
+  are_numbers scope (tree.More first rest) = is_number scope first && are_numbers scope rest
 
 -- an expression that a local may begin with: the address of a variable, or 0
-abbrev pub is_pointer : List (List ℕ) → tree.Expression → Bool
-is_pointer variables (tree.Number value span) = value == 0
-is_pointer variables (tree.Name name span) = false
-is_pointer variables (tree.Deref operand span) = false
-is_pointer variables (tree.AddressOf operand span) = is_variable variables operand
-is_pointer variables (tree.Binary operator left right span) = false
+abbrev pub is_pointer : Scope → tree.Expression → Bool
+is_pointer scope (tree.Number value span) = value == 0
+is_pointer scope (tree.Name name span) = false
+is_pointer scope (tree.Deref operand span) = false
+is_pointer scope (tree.AddressOf operand span) = is_variable scope operand
+is_pointer scope (tree.Binary operator left right span) = false
+is_pointer scope (tree.Call callee arguments span) = false
 
 -- a place that a number may be stored in: a variable, or what a local points to
-abbrev pub is_target : List (List ℕ) → List (List ℕ) → tree.Expression → Bool
-is_target variables locals (tree.Number value span) = false
-is_target variables locals (tree.Name name span) = is_among variables name
-is_target variables locals (tree.Deref operand span) = is_local locals operand
-is_target variables locals (tree.AddressOf operand span) = false
-is_target variables locals (tree.Binary operator left right span) = false
+abbrev pub is_target : Scope → tree.Expression → Bool
+is_target scope (tree.Number value span) = false
+is_target scope (tree.Name name span) = is_among scope.variables name
+is_target scope (tree.Deref operand span) = is_local scope operand
+is_target scope (tree.AddressOf operand span) = false
+is_target scope (tree.Binary operator left right span) = false
+is_target scope (tree.Call callee arguments span) = false
 
-abbrev pub is_statement : List (List ℕ) → List (List ℕ) → tree.Statement → Bool
-is_statement variables locals (tree.Declare name initial span) = is_pointer variables initial
-is_statement variables locals (tree.Assign target value span) = is_target variables locals target && is_number variables locals value
-is_statement variables locals (tree.Return value span) = is_number variables locals value
+abbrev pub is_statement : Scope → tree.Statement → Bool
+is_statement scope (tree.Declare name initial span) = is_pointer scope initial
+is_statement scope (tree.Assign target value span) = is_target scope target && is_number scope value
+is_statement scope (tree.Return value span) = is_number scope value
 
 -- an initial number, if there is one, is small
 abbrev pub is_initial : Option ℕ → Bool
 is_initial None = true
 is_initial (Some n) = is_small n
 
+-- the parameters of a function are few, their names differ, and none of them is reserved
+abbrev pub is_prototype : tree.Prototype → Bool
+is_prototype p = nat_le (length p.parameters) 16 && (are_distinct p.parameters && list_all is_free p.parameters)
+
+-- the names that are declared outside the parameters of functions
+abbrev pub declared_names : tree.Tree → List (List ℕ)
+declared_names t = variable_names t.globals ++ function_names t.prototypes ++ local_names t.body
+
 -- the tree is a program
 pub record IsAccepted (t : tree.Tree) : Type 0 where
   -- the static blocks take at most 32,768 bytes, 32 for each variable with its gap
   pub variables : length t.globals ≤ 1024
+  -- `main` is a function too
+  pub functions : length t.prototypes + 1 ≤ 4096
   pub locals : length (local_names t.body) ≤ 256
-  pub distinct : are_distinct (variable_names t.globals ++ local_names t.body) ≡ true
-  pub free : list_all is_free (variable_names t.globals ++ local_names t.body) ≡ true
+  pub distinct : are_distinct (declared_names t) ≡ true
+  pub free : list_all is_free (declared_names t) ≡ true
+  pub prototypes : list_all is_prototype t.prototypes ≡ true
   pub initials : list_all (λ v. is_initial v.initial) t.globals ≡ true
-  pub statements : list_all (is_statement (variable_names t.globals) (local_names t.body)) t.body ≡ true
+  pub statements : list_all (is_statement (scope_of t)) t.body ≡ true
 
 -- ---- the core
 
@@ -130,62 +175,78 @@ abbrev pub site_at : (ℕ → Place) → Span → Site
 site_at place span = record { place = place span.from }
 
 -- the local that an expression is
-abbrev pub local_of : List (List ℕ) → tree.Expression → core.Expression
-local_of locals (tree.Number value span) = core.Null
-local_of locals (tree.Name name span) = core.Local (number_in locals name)
-local_of locals (tree.Deref operand span) = core.Null
-local_of locals (tree.AddressOf operand span) = core.Null
-local_of locals (tree.Binary operator left right span) = core.Null
+abbrev pub local_of : Scope → tree.Expression → core.Expression
+local_of scope (tree.Number value span) = core.Null
+local_of scope (tree.Name name span) = core.Local (number_in scope.locals name)
+local_of scope (tree.Deref operand span) = core.Null
+local_of scope (tree.AddressOf operand span) = core.Null
+local_of scope (tree.Binary operator left right span) = core.Null
+local_of scope (tree.Call callee arguments span) = core.Null
 
 -- the address of the variable that an expression is
-abbrev pub address_of : List (List ℕ) → tree.Expression → core.Expression
-address_of variables (tree.Number value span) = core.Null
-address_of variables (tree.Name name span) = core.AddressOf (number_in variables name)
-address_of variables (tree.Deref operand span) = core.Null
-address_of variables (tree.AddressOf operand span) = core.Null
-address_of variables (tree.Binary operator left right span) = core.Null
+abbrev pub address_of : Scope → tree.Expression → core.Expression
+address_of scope (tree.Number value span) = core.Null
+address_of scope (tree.Name name span) = core.AddressOf (number_in scope.variables name)
+address_of scope (tree.Deref operand span) = core.Null
+address_of scope (tree.AddressOf operand span) = core.Null
+address_of scope (tree.Binary operator left right span) = core.Null
+address_of scope (tree.Call callee arguments span) = core.Null
 
--- the core of an expression that is a number
-abbrev pub number_core : (ℕ → Place) → List (List ℕ) → List (List ℕ) → tree.Expression → core.Expression
-number_core place variables locals (tree.Number value span) = core.Number (pos value)
-number_core place variables locals (tree.Name name span) = core.Object (number_in variables name)
-number_core place variables locals (tree.Deref operand span) = core.Load (local_of locals operand) (site_at place span)
-number_core place variables locals (tree.AddressOf operand span) = core.Null
-number_core place variables locals (tree.Binary operator left right span) =
-    core.Arithmetic (operator_of operator) (number_core place variables locals left) (number_core place variables locals right) (site_at place span)
+abbrev mutual
+  -- the core of an expression that is a number
+  pub number_core : (ℕ → Place) → Scope → tree.Expression → core.Expression
+  number_core place scope (tree.Number value span) = core.Number (pos value)
+  number_core place scope (tree.Name name span) = core.Object (number_in scope.variables name)
+  number_core place scope (tree.Deref operand span) = core.Load (local_of scope operand) (site_at place span)
+  number_core place scope (tree.AddressOf operand span) = core.Null
+  number_core place scope (tree.Binary operator left right span) =
+      core.Arithmetic (operator_of operator) (number_core place scope left) (number_core place scope right) (site_at place span)
+  number_core place scope (tree.Call callee arguments span) =
+      core.TaintedCall (number_in (function_names scope.functions) callee) (arguments_core place scope arguments) (site_at place span)
+
+  pub arguments_core : (ℕ → Place) → Scope → tree.Arguments → core.Arguments
+  arguments_core place scope tree.Done = core.Done
+  arguments_core place scope (tree.More first rest) = core.More (number_core place scope first) (arguments_core place scope rest)
 
 -- the core of an expression that a local begins with
-abbrev pub pointer_core : List (List ℕ) → tree.Expression → core.Expression
-pointer_core variables (tree.Number value span) = core.Null
-pointer_core variables (tree.Name name span) = core.Null
-pointer_core variables (tree.Deref operand span) = core.Null
-pointer_core variables (tree.AddressOf operand span) = address_of variables operand
-pointer_core variables (tree.Binary operator left right span) = core.Null
+abbrev pub pointer_core : Scope → tree.Expression → core.Expression
+pointer_core scope (tree.Number value span) = core.Null
+pointer_core scope (tree.Name name span) = core.Null
+pointer_core scope (tree.Deref operand span) = core.Null
+pointer_core scope (tree.AddressOf operand span) = address_of scope operand
+pointer_core scope (tree.Binary operator left right span) = core.Null
+pointer_core scope (tree.Call callee arguments span) = core.Null
 
 -- the core of a store
-abbrev pub store_core : (ℕ → Place) → List (List ℕ) → List (List ℕ) → tree.Expression → core.Expression → core.Statement
-store_core place variables locals (tree.Number n span) value = core.Return value
-store_core place variables locals (tree.Name name span) value = core.SetObject (number_in variables name) value
-store_core place variables locals (tree.Deref operand span) value = core.Store (local_of locals operand) value (site_at place span)
-store_core place variables locals (tree.AddressOf operand span) value = core.Return value
-store_core place variables locals (tree.Binary operator left right span) value = core.Return value
+abbrev pub store_core : (ℕ → Place) → Scope → tree.Expression → core.Expression → core.Statement
+store_core place scope (tree.Number n span) value = core.Return value
+store_core place scope (tree.Name name span) value = core.SetObject (number_in scope.variables name) value
+store_core place scope (tree.Deref operand span) value = core.Store (local_of scope operand) value (site_at place span)
+store_core place scope (tree.AddressOf operand span) value = core.Return value
+store_core place scope (tree.Binary operator left right span) value = core.Return value
+store_core place scope (tree.Call callee arguments span) value = core.Return value
 
-abbrev pub statement_core : (ℕ → Place) → List (List ℕ) → List (List ℕ) → tree.Statement → core.Statement
-statement_core place variables locals (tree.Declare name initial span) = core.SetLocal (number_in locals name) (pointer_core variables initial)
-statement_core place variables locals (tree.Assign target value span) = store_core place variables locals target (number_core place variables locals value)
-statement_core place variables locals (tree.Return value span) = core.Return (number_core place variables locals value)
+abbrev pub statement_core : (ℕ → Place) → Scope → tree.Statement → core.Statement
+statement_core place scope (tree.Declare name initial span) = core.SetLocal (number_in scope.locals name) (pointer_core scope initial)
+statement_core place scope (tree.Assign target value span) = store_core place scope target (number_core place scope value)
+statement_core place scope (tree.Return value span) = core.Return (number_core place scope value)
 
 -- a variable that isn't initialised begins with 0
 abbrev pub initial_number : tree.Variable → ℤ
 initial_number v = pos (unwrap_or v.initial 0)
+
+-- a tainted function: its name, and how many parameters it has
+abbrev pub import_of : tree.Prototype → core.Import
+import_of p = record { name = p.name; parameters = length p.parameters }
 
 -- the core of a program, whose bytes have these places
 abbrev pub core_of : (ℕ → Place) → tree.Tree → core.Core
 core_of place t =
     record {
       objects = map initial_number t.globals;
+      imports = map import_of t.prototypes;
       main = record {
         locals = length (local_names t.body);
-        body = map (statement_core place (variable_names t.globals) (local_names t.body)) t.body;
+        body = map (statement_core place (scope_of t)) t.body;
       };
     }

@@ -1,13 +1,14 @@
 // Building the core of expressions.
 
-ghost use Rattle.std.specs.Prelude.{◌≡◌, ◌≤◌, length, pos};
+ghost use Rattle.std.specs.Prelude.{◌≡◌, map, pos};
+ghost use Rattle.std.specs.List.{list_all};
 ghost use Rattle.ckc_text.specs.Places.{place_at};
 ghost use Rattle.ckc_tree.specs.Tree.{expression as tree_of};
 ghost use Rattle.ckc_core.specs.Core.{expression as core_of, Object, Number};
 ghost use Rattle.region_typing.specs.Acceptance.{is_among, number_in, is_small, is_local, is_variable, is_number, is_pointer, local_of, address_of, number_core, pointer_core, operator_of};
 ghost use Rattle.region_typing.specs.Building.{Builds};
 
-use crate::names::number_of;
+use crate::scope::Scope;
 use crate::sites::Sites;
 use ckc_core::program::{Expr, Operator};
 use ckc_text::fault::Refused;
@@ -15,28 +16,21 @@ use ckc_text::name::Name;
 use ckc_tree::tree;
 use std::alloc::Global;
 
-/// The names that are known, by what they name.
-#[derive(Clone, Copy)]
-pub struct Scope<'a> {
-    pub variables: &'a [Name],
-    pub locals: &'a [Name],
-}
-
 /// The core of an expression that is a number.
+#[cycle(numbers)]
 pub fn number(
     alloc: Global,
     sites: &Sites,
     scope: &Scope,
     expr: &tree::Expr,
 ) -> Result<Expr, Refused>
-    requires { length scope.now.variables.now ≤ 1280 × length scope.now.locals.now ≤ 1280 }
-    ensures { Builds (is_number scope.now.variables.now scope.now.locals.now (tree_of expr.now)) core_of (number_core (place_at sites.now) scope.now.variables.now scope.now.locals.now (tree_of expr.now)) result }
+    ensures { Builds (is_number scope.now (tree_of expr.now)) core_of (number_core (place_at sites.now) scope.now (tree_of expr.now)) result }
 {
     match expr {
         tree::Expr::Number { value, span: _ } => small_number(*value),
-        tree::Expr::Name { name, span: _ } => variable(scope.variables, name),
+        tree::Expr::Name { name, span: _ } => variable(scope, name),
         tree::Expr::Deref { operand, span } => {
-            let pointer = Box::new(alloc, local(scope.locals, operand)?)?;
+            let pointer = Box::new(alloc, local(scope, operand)?)?;
             Ok(Expr::Load {
                 pointer,
                 site: sites.site(*span),
@@ -61,54 +55,82 @@ pub fn number(
                 site: sites.site(*span),
             })
         }
+        tree::Expr::Call {
+            callee,
+            arguments,
+            span,
+        } => {
+            let arguments = arguments.as_slice();
+            let import = scope.function(callee, arguments.len())?;
+            let args = numbers(alloc, sites, scope, arguments)?;
+            Ok(Expr::TaintedCall {
+                import,
+                args,
+                site: sites.site(*span),
+            })
+        }
     }
+}
+
+// The core of arguments that are numbers, from left to right.
+#[cycle(numbers)]
+fn numbers(
+    alloc: Global,
+    sites: &Sites,
+    scope: &Scope,
+    arguments: &[tree::Expr],
+) -> Result<Vec<Expr>, Refused>
+    ensures { Builds (list_all (is_number scope.now) (map tree_of arguments.now)) (λ v. map core_of v.items)
+        (map (number_core (place_at sites.now) scope.now) (map tree_of arguments.now)) result }
+{
+    let mut built = Vec::new(alloc);
+    for argument in arguments {
+        built.push(number(alloc, sites, scope, argument)?)?;
+    }
+    Ok(built)
 }
 
 /// The core of an expression that a local begins with: the address of a variable, or null.
 pub fn pointer(scope: &Scope, expr: &tree::Expr) -> Result<Expr, Refused>
-    requires { length scope.now.variables.now ≤ 1280 }
-    ensures { Builds (is_pointer scope.now.variables.now (tree_of expr.now)) core_of (pointer_core scope.now.variables.now (tree_of expr.now)) result }
+    ensures { Builds (is_pointer scope.now (tree_of expr.now)) core_of (pointer_core scope.now (tree_of expr.now)) result }
 {
     match expr {
         tree::Expr::Number { value: 0, span: _ } => Ok(Expr::Null),
-        tree::Expr::AddressOf { operand, span: _ } => address(scope.variables, operand),
+        tree::Expr::AddressOf { operand, span: _ } => address(scope, operand),
         _ => Err(Refused::not_built()),
     }
 }
 
 /// The core of an expression that is a local pointer.
-pub fn local(locals: &[Name], expr: &tree::Expr) -> Result<Expr, Refused>
-    requires { length locals.now ≤ 1280 }
-    ensures { Builds (is_local locals.now (tree_of expr.now)) core_of (local_of locals.now (tree_of expr.now)) result }
+pub fn local(scope: &Scope, expr: &tree::Expr) -> Result<Expr, Refused>
+    ensures { Builds (is_local scope.now (tree_of expr.now)) core_of (local_of scope.now (tree_of expr.now)) result }
 {
     if let tree::Expr::Name { name, span: _ } = expr {
-        if let Some(number) = number_of(locals, name.as_bytes()) {
-            return Ok(Expr::Local(number as u32));
+        if let Some(number) = scope.local(name) {
+            return Ok(Expr::Local(number));
         }
     }
     Err(Refused::not_built())
 }
 
 // The address of an expression that is a variable.
-fn address(variables: &[Name], expr: &tree::Expr) -> Result<Expr, Refused>
-    requires { length variables.now ≤ 1280 }
-    ensures { Builds (is_variable variables.now (tree_of expr.now)) core_of (address_of variables.now (tree_of expr.now)) result }
+fn address(scope: &Scope, expr: &tree::Expr) -> Result<Expr, Refused>
+    ensures { Builds (is_variable scope.now (tree_of expr.now)) core_of (address_of scope.now (tree_of expr.now)) result }
 {
     if let tree::Expr::Name { name, span: _ } = expr {
-        if let Some(number) = number_of(variables, name.as_bytes()) {
-            return Ok(Expr::AddressOf(number as u32));
+        if let Some(number) = scope.variable(name) {
+            return Ok(Expr::AddressOf(number));
         }
     }
     Err(Refused::not_built())
 }
 
 // A variable that is read by its name.
-fn variable(variables: &[Name], name: &Name) -> Result<Expr, Refused>
-    requires { length variables.now ≤ 1280 }
-    ensures { Builds (is_among variables.now name.now) core_of (Object (number_in variables.now name.now)) result }
+fn variable(scope: &Scope, name: &Name) -> Result<Expr, Refused>
+    ensures { Builds (is_among scope.now.variables name.now) core_of (Object (number_in scope.now.variables name.now)) result }
 {
-    match number_of(variables, name.as_bytes()) {
-        Some(number) => Ok(Expr::Object(number as u32)),
+    match scope.variable(name) {
+        Some(number) => Ok(Expr::Object(number)),
         None => Err(Refused::not_built()),
     }
 }

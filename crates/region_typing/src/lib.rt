@@ -2,8 +2,10 @@
 #![tactic(auto)]
 
 pub mod checker;
+mod declarations;
 mod expressions;
 pub mod laws;
 mod names;
+mod scope;
 mod sites;
 mod statements;

@@ -1,13 +1,13 @@
 // Names, and their numbers.
 
 ghost use Rattle.std.specs.Prelude.{◌≡◌, ◌≤◌, ◌++◌, map, length, OnOk};
-ghost use Rattle.ckc_tree.specs.Tree.{statement, variable};
-ghost use Rattle.region_typing.specs.Acceptance.{variable_names, local_names, number_of_name, is_among, are_distinct, reserved_names, is_free};
+ghost use Rattle.ckc_tree.specs.Tree.{statement, variable, prototype};
+ghost use Rattle.region_typing.specs.Acceptance.{variable_names, function_names, local_names, number_of_name, is_among, are_distinct, reserved_names, is_free};
 ghost use Rattle.std.specs.List.{list_all};
 
 use ckc_text::fault::NoMemory;
 use ckc_text::name::Name;
-use ckc_tree::tree::{Global as Variable, Stmt};
+use ckc_tree::tree::{Global as Variable, Prototype, Stmt};
 use std::alloc::Global;
 
 /// The number of a name among names, if it is there: its first position.
@@ -15,6 +15,13 @@ pub fn number_of(names: &[Name], name: &[u8]) -> Option<usize>
     ensures { result ≡ number_of_name names.now name.now }
 {
     names.iter().position(|other| name == other.as_bytes())
+}
+
+/// The number of a tainted function among functions, if it is there: its first position.
+pub fn function_number(functions: &[Prototype], name: &[u8]) -> Option<usize>
+    ensures { result ≡ number_of_name (function_names (map prototype functions.now)) name.now }
+{
+    functions.iter().position(|f| name == f.name.as_bytes())
 }
 
 /// Adds the names of file-level variables, in their order.
@@ -27,6 +34,20 @@ pub fn push_variables(
 {
     for v in variables {
         names.push(Name::copied(alloc, v.name.as_bytes())?)?;
+    }
+    Ok(())
+}
+
+/// Adds the names of tainted functions, in their order.
+pub fn push_functions(
+    names: &mut Vec<Name>,
+    alloc: Global,
+    functions: &[Prototype],
+) -> Result<(), NoMemory>
+    ensures { OnOk result (names.new.items ≡ names.old.items ++ function_names (map prototype functions.now)) }
+{
+    for f in functions {
+        names.push(Name::copied(alloc, f.name.as_bytes())?)?;
     }
     Ok(())
 }

@@ -37,5 +37,5 @@ item_found xs k None found = sym (slice_get_past xs k found.3)
 item_found xs k (Some item) found = sym (slice_get_read xs _ k item.now refl found.3.0 found.1)
 
 -- an address and a block that are found make what the table has of the block
-pub block_found : (m : Machine) (k address : ℕ) (block bytes : List ℕ) → Some address ≡ address_of m.image m.base k → slice_get m.image.trusted.blocks k ≡ Some block → bytes ≡ block → Some (address, length bytes) ≡ block_of m k
+pub block_found : (m : Machine) (k address : ℕ) (block bytes : List ℕ) → Some address ≡ address_of m.image m.settings.base k → slice_get m.image.trusted.blocks k ≡ Some block → bytes ≡ block → Some (address, length bytes) ≡ block_of m k
 block_found m k address block bytes placed there same = rw (← placed, there, same) refl

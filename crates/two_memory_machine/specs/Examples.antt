@@ -1,14 +1,19 @@
 -- The instruction table at work on small images.
-use Rattle.std.specs.Prelude.{◌≡◌, List, [], ◌∷◌, replicate, Option, Some, None, pos, negsuc}
+use Rattle.std.specs.Prelude.{◌≡◌, List, [], ◌∷◌, replicate, Option, Some, None, pos, negsuc, false}
 use Rattle.ckc_text.specs.declared.place.Place.{Place}
 use Rattle.ckc_text.specs.declared.code.Code.TheVariants.{C1, C6, S6}
 use Rattle.act_words.specs.declared.ending.Ending.{Ending}
 use Rattle.act_words.specs.declared.ending.Ending.TheVariants.{Exit, Check, Stop}
+use Rattle.act_words.specs.declared.settings.Settings.{Settings}
 use Rattle.act_words.specs.World.{new_world}
 use Rattle.code_words.specs.declared.op.Op.{Op}
 use Rattle.code_words.specs.declared.op.Op.TheVariants.{Const, Set, Local, Add, Sub, NonNull, Load4, Store4, Return}
 use Rattle.code_words.specs.declared.image.Image.{Image}
 use Rattle.code_words.specs.Machine.{State, Run, Unfinished, Finished, exec}
+
+-- the base address is 65,536
+abbrev pub settings : Settings
+settings = record { budget = 10; sandbox = 65536; trusted = 65536; base = 65536; view = false; releases = false }
 
 -- an image of `main` alone, with one slot and room for two words
 abbrev pub image_of : List Op → Image
@@ -19,7 +24,7 @@ image_of ops =
             blocks = [];
             funs = (record { number = 0; name = []; args = 0; slots = 1; stack = 2; ops = ops }) ∷ [];
           };
-      layout = record { main = Some 0 };
+      layout = record { imports = []; main = Some 0 };
     }
 
 -- `main` called, with 64 bytes of memory
@@ -28,7 +33,8 @@ call_of_main =
     record {
       memory = replicate 64 0;
       frame = record { function = 0; next = 0; slots = 0 ∷ []; stack = [] };
-      world = new_world;
+      depth = 1;
+      world = new_world 65536 [];
     }
 
 abbrev pub ending_of : Run → Option Ending
@@ -37,7 +43,7 @@ ending_of (Finished ending s) = Some ending
 
 -- how the run of these instructions ends within ten steps, at the base address 65,536
 abbrev pub ending_by : List Op → Option Ending
-ending_by ops = ending_of (exec (image_of ops) 65536 10 call_of_main)
+ending_by ops = ending_of (exec (image_of ops) settings 10 call_of_main)
 
 -- 41 + 1 is 42
 abbrev pub SumIsReturned : Type 0

@@ -1,17 +1,25 @@
 // Running an image over flat memory.
 
-ghost use Rattle.std.specs.Prelude.{◌≡◌, ◌+◌, ◌-◌, ◌^◌, ◌<◌, ◌≤◌, length, drop, IfOk, IfSome, OnSome, None, is_some, slice_get};
+ghost use Rattle.std.specs.Prelude.{◌≡◌, ◌+◌, ◌-◌, ◌^◌, ◌<◌, ◌≤◌, List, length, drop, IfOk, IfSome, OnSome, None, Some, is_some, slice_get};
 ghost use Rattle.std.proofs.Common.{ℤ};
+ghost use Rattle.act_words.specs.declared.act.Turn.TheVariants as turns;
+ghost use Rattle.act_words.specs.Acts.{Act as ActData, act_view};
+ghost use Rattle.act_words.specs.World.{Event as WorldEvent};
+ghost use Rattle.act_words.specs.Acting.{BeforeTouch, InSandbox, act_before_touch, act_in_sandbox, shown, written, lies_in};
+ghost use Rattle.act_words.specs.World.{in_turn};
+ghost use Rattle.act_words.specs.Checks.{without_overflow};
 ghost use Rattle.code_words.specs.Fitting.{Fits};
 ghost use Rattle.code_words.specs.declared.image.Func.{Func};
 ghost use Rattle.code_words.specs.Machine.{Goes, Over, wild, on_with, push, push_some, push_checked, has_word, address_of};
-ghost use Rattle.act_words.specs.Checks.{without_overflow};
-ghost use Rattle.two_memory_machine.specs.Machines.{start_of, waiting_of, Steps, ending_given, steps_left, block_of, byte_of};
-ghost use Rattle.two_memory_machine.specs.Steps.{GoesBy, IsIn, Acts, IsReady, next_op_of, two_topmost, HasWordNumber};
+ghost use Rattle.two_memory_machine.specs.Machines.{Pending, start_of, waiting_of, world_of, Steps, TakesAct, TakesEnd, TouchGives, SandboxGives, ending_given, moves_left, Sooner, block_of, byte_of};
+ghost use Rattle.two_memory_machine.specs.Steps.{GoesBy, IsIn, StandsAtSome, Acts, Performs, IsReady, IsAsked, EndsBy, Moves, bytes_if, next_op_of, args_of, top_words_of, two_topmost, HasWordNumber};
 
 use crate::memory;
+use act_words::act::{Act, Release, Seen, Turn};
 use act_words::ending::Ending;
+use act_words::octets::Octets;
 use act_words::settings::Settings;
+use act_words::words::Words;
 use ckc_text::code::Code;
 use ckc_text::fault::NoMemory;
 use ckc_text::place::Place;
@@ -20,29 +28,67 @@ use code_words::op::Op;
 use std::alloc::Global;
 use std::marker::Model;
 
+/// How many calls may be open.
+const MAX_DEPTH: u32 = 1_000;
+
+/// The end of a run whose sandbox has ended.
+const SANDBOX_ENDED: Ending = Ending::Stop {
+    code: Code::S3,
+    act: None,
+};
+
+// A stop that no act is to blame for.
+fn stop(code: Code) -> Ending
+    ensures { result ≡ Ending.Stop code None }
+{
+    Ending::Stop { code, act: None }
+}
+
 /// What a machine waits for.
 #[derive(Clone, Copy)]
 pub enum Waiting {
     /// For its next step.
     Runs,
+    /// For an act of the sandbox.
+    Act,
     /// For nothing: the run is over.
     Over,
 }
 
-/// What a step did.
+/// What a step or an act did.
 #[derive(Clone, Copy)]
 pub enum Event {
     /// Nothing that can be seen.
     Ran,
+    /// The instruction's touch waits for an act.
+    Asks,
+    /// The sandbox was shown something.
+    Showed {
+        seen: Seen,
+    },
+    /// A touch was made, and what it gave away was shown to the sandbox, if it is shown.
+    Touched {
+        release: Release,
+        seen: Option<Seen>,
+    },
     /// It ended the run.
-    Ended { ending: Ending },
+    Ended {
+        ending: Ending,
+    },
 }
 
-/// A run of an image: its memory, its open call, and its ending once it is over.
+/// A call of a tainted function that waits for its touch or for its reply.
+#[derive(Clone, Copy)]
+struct Call {
+    import: u32,
+    args: Words,
+}
+
+/// A run of an image: its memories, its open call, whose turn it is, and its ending once it is over.
 #[derive(Drop)]
 pub struct Machine<'a> {
     image: &'a Image,
-    base: u32,
+    settings: Settings,
     memory: Vec<u8>,
     // The address of each static block.
     addresses: Vec<u32>,
@@ -52,18 +98,25 @@ pub struct Machine<'a> {
     // The stack grows towards the front; the topmost word stands at `top`.
     stack: Vec<u32>,
     top: usize,
+    // How many calls are open.
+    depth: u32,
+    sandbox: Vec<u8>,
+    turn: Turn,
+    // How many acts were taken, and how many ticks spent.
+    taken: u64,
+    ticks: u32,
+    pending: Option<Call>,
     over: Option<Ending>,
 }
 
 impl<'a> Model for Machine<'a> {
-    ghost use Rattle.std.specs.Prelude.{drop};
     ghost use Rattle.two_memory_machine.specs.Machines.{Machine};
 
     ghost Value = { Machine };
 
-    ghost use Rattle.two_memory_machine.specs.Insides.{IsConsistent};
+    ghost use Rattle.two_memory_machine.specs.Insides.{machine, IsConsistent};
 
-    ghost view = { λ m. record { image = m.image.now; base = m.base; memory = m.memory.items; frame = record { function = m.function; next = m.next; slots = m.slots.items; stack = drop m.top m.stack.items }; over = m.over } };
+    ghost view = { machine };
 
     ghost invariant = { IsConsistent };
 }
@@ -83,7 +136,7 @@ impl<'a> Machine<'a> {
         let main = &image.trusted.funs.as_slice()[function as usize];
         Ok(Machine {
             image,
-            base: settings.base,
+            settings: *settings,
             memory: memory::memory_with(alloc, settings.trusted, blocks)?,
             addresses: memory::addresses_with(alloc, settings.base + memory::GAP as u32, blocks)?,
             function,
@@ -91,6 +144,12 @@ impl<'a> Machine<'a> {
             slots: vec![in alloc; 0; main.slots as usize]?,
             stack: vec![in alloc; 0; main.stack as usize]?,
             top: main.stack as usize,
+            depth: 1,
+            sandbox: vec![in alloc; 0; settings.sandbox as usize]?,
+            turn: Turn::Trusted,
+            taken: 0,
+            ticks: 0,
+            pending: None,
             over: None,
         })
     }
@@ -99,22 +158,58 @@ impl<'a> Machine<'a> {
     pub fn waiting(&self) -> Waiting
         ensures { result ≡ waiting_of self.now }
     {
-        match self.over {
-            None => Waiting::Runs,
-            Some(_) => Waiting::Over,
+        match (self.over, self.pending) {
+            (Some(_), _) => Waiting::Over,
+            (None, Some(_)) => Waiting::Act,
+            (None, None) => Waiting::Runs,
         }
+    }
+
+    /// Who has the turn.
+    pub fn turn(&self) -> Turn
+        ensures { result ≡ self.now.turn }
+    {
+        self.turn
     }
 
     /// Makes the next step.
     pub fn step(&mut self) -> Event
-        requires { self.old.over ≡ None }
+        requires running { self.old.over ≡ None }
+        requires free { self.old.pending ≡ None }
         ensures steps { Steps self.old result self.new }
         ensures over { self.new.over ≡ ending_given result }
-        ensures sooner { steps_left self.new < steps_left self.old }
+        ensures sooner { moves_left self.new < moves_left self.old }
     {
         match self.next_op() {
-            Some(op) => self.act(op),
+            Some(op) => self.perform(op),
             None => self.end_wild(),
+        }
+    }
+
+    /// Takes an act of the sandbox.
+    pub fn act(&mut self, act: &Act) -> Event
+        requires { IsAsked self.old.turn self.old }
+        ensures takes { TakesAct self.old (act_view act.now) result self.new }
+        ensures over { self.new.over ≡ ending_given result }
+        ensures sooner { Sooner (act_view act.now) self.old self.new }
+    {
+        self.taken = self.taken.saturating_add(1);
+        match self.turn {
+            Turn::Trusted => self.act_before_touch(act),
+            Turn::Sandbox => self.act_in_sandbox(act),
+        }
+    }
+
+    /// Goes on where no act is left.
+    pub fn no_more_acts(&mut self) -> Event
+        requires { IsAsked self.old.turn self.old }
+        ensures takes { TakesEnd self.old result self.new }
+        ensures over { self.new.over ≡ ending_given result }
+        ensures sooner { moves_left self.new < moves_left self.old }
+    {
+        match self.turn {
+            Turn::Trusted => self.touch(),
+            Turn::Sandbox => self.end(SANDBOX_ENDED),
         }
     }
 
@@ -131,7 +226,7 @@ impl<'a> Machine<'a> {
     pub fn byte(&self, at: u32) -> Option<u8>
         ensures { result ≡ byte_of self.now at }
     {
-        let offset = at.checked_sub(self.base)?;
+        let offset = at.checked_sub(self.settings.base)?;
         self.memory.get(offset as usize).copied()
     }
 
@@ -150,9 +245,10 @@ impl<'a> Machine<'a> {
     }
 
     // Makes the step of an instruction.
-    fn act(&mut self, op: Op) -> Event
-        requires { IsReady self.old }
-        ensures { Acts op self.old result self.new }
+    fn perform(&mut self, op: Op) -> Event
+        requires ready { IsReady self.old }
+        requires there { StandsAtSome self.old }
+        ensures { Performs op self.old result self.new }
     {
         match op {
             Op::Const(number) => self.push(0, number.cast_unsigned()),
@@ -165,6 +261,8 @@ impl<'a> Machine<'a> {
             Op::Load4 => self.load(),
             Op::Store4 => self.store(),
             Op::Return => self.return_word(),
+            Op::Tick => self.tick(),
+            Op::TaintedCall { import, place: _ } => self.call_tainted(import),
         }
     }
 
@@ -272,6 +370,7 @@ impl<'a> Machine<'a> {
 
     // Ends the run with the topmost word.
     fn return_word(&mut self) -> Event
+        requires { IsReady self.old }
         ensures { Acts Op.Return self.old result self.new }
     {
         match self.word() {
@@ -279,6 +378,93 @@ impl<'a> Machine<'a> {
                 value: word.cast_signed(),
             }),
             None => self.end_wild(),
+        }
+    }
+
+    // Spends a tick.
+    fn tick(&mut self) -> Event
+        requires { IsReady self.old }
+        ensures { Acts Op.Tick self.old result self.new }
+    {
+        if self.ticks >= self.settings.budget {
+            return self.end(stop(Code::S1));
+        }
+        self.ticks += 1;
+        self.go_on(0)
+    }
+
+    // Begins a call of a tainted function.
+    fn call_tainted(&mut self, import: u32) -> Event
+        requires ready { IsReady self.old }
+        requires there { StandsAtSome self.old }
+        ensures { (place : Place) → Performs (Op.TaintedCall import place) self.old result self.new }
+    {
+        let Some(args) = self.args_of(import) else {
+            return self.end_wild();
+        };
+        let Some(args) = self.top_words(args) else {
+            return self.end_wild();
+        };
+        if self.depth >= MAX_DEPTH {
+            return self.end(stop(Code::S2));
+        }
+        self.pending = Some(Call { import, args });
+        Event::Asks
+    }
+
+    // How many arguments a tainted function has, if it is there.
+    fn args_of(&self, import: u32) -> Option<usize>
+        ensures args { result ≡ args_of self.now import }
+        ensures few { IfSome result (λ args. args ≤ 16) }
+    {
+        let imports = self.image.layout.imports.as_slice();
+        Some(imports.get(import as usize)?.args as usize)
+    }
+
+    // The topmost words, the last on top, if there are so many.
+    fn top_words(&self, count: usize) -> Option<Words>
+        requires { count ≤ 16 }
+        ensures { result ≡ top_words_of count self.now.frame.stack }
+    {
+        let stack = &self.stack[self.top..];
+        if stack.len() < count {
+            return None;
+        }
+        let mut words = [0; 16];
+        let words = &mut words[..count];
+        words.copy_from_slice(&stack[..count]);
+        words.reverse();
+        Words::from_slice(words)
+    }
+
+    // Does what an act says before a touch.
+    fn act_before_touch(&mut self, act: &Act) -> Event
+        requires { IsAsked turns.Trusted self.old }
+        ensures { (call : Pending) → self.old.pending ≡ Some call → (acts : List ActData) (events : List WorldEvent)
+            → TouchGives call events (act_before_touch (act_view act.now) (world_of self.old acts events)) self.old result self.new }
+    {
+        match act {
+            Act::Go => self.touch(),
+            Act::Read { at, len } => self.show(*at, len.number),
+            Act::Write { at, bytes } => self.write(*at, bytes.octets.as_slice()),
+            Act::Call { fun: _, args: _ } | Act::Return { value: _ } => self.stop_by_act(Code::S5),
+            Act::Stop => self.end(SANDBOX_ENDED),
+        }
+    }
+
+    // Does what an act says while the sandbox has the turn.
+    fn act_in_sandbox(&mut self, act: &Act) -> Event
+        requires { IsAsked turns.Sandbox self.old }
+        ensures { (call : Pending) → self.old.pending ≡ Some call → (acts : List ActData) (events : List WorldEvent)
+            → SandboxGives call acts events (act_in_sandbox (act_view act.now) (world_of self.old acts events)) self.old result self.new }
+    {
+        match act {
+            Act::Go => Event::Ran,
+            Act::Read { at, len } => self.show(*at, len.number),
+            Act::Write { at, bytes } => self.write(*at, bytes.octets.as_slice()),
+            Act::Call { fun: _, args: _ } => self.stop_by_act(Code::S5),
+            Act::Return { value } => self.reply(*value),
+            Act::Stop => self.end(SANDBOX_ENDED),
         }
     }
 
@@ -321,19 +507,104 @@ impl<'a> Machine<'a> {
         Event::Ran
     }
 
+    // Makes the touch that waits, and gives the sandbox the turn.
+    fn touch(&mut self) -> Event
+        requires { IsAsked turns.Trusted self.old }
+        ensures touched { (call : Pending) → self.old.pending ≡ Some call → (acts : List ActData) (events : List WorldEvent)
+            → TouchGives call events (BeforeTouch.Touches (world_of self.old acts events)) self.old result self.new }
+        ensures over { self.new.over ≡ None }
+        ensures goes { ending_given result ≡ None }
+    {
+        let Some(Call { import: fun, args }) = self.pending else {
+            return Event::Ran;
+        };
+        self.turn = Turn::Sandbox;
+        Event::Touched {
+            release: Release::Passed { fun, args },
+            seen: Some(Seen::Called { fun, args }),
+        }
+    }
+
+    // Shows the sandbox bytes of its memory.
+    fn show(&mut self, at: u32, len: u32) -> Event
+        requires { len ≤ 64 }
+        ensures { Moves self.old (λ w. shown at len w) result self.new }
+    {
+        match self.octets(at, len) {
+            Some(bytes) => Event::Showed {
+                seen: Seen::Bytes { at, bytes },
+            },
+            None => self.stop_by_act(Code::S4),
+        }
+    }
+
+    // The bytes of the sandbox's memory from a place on, if they lie in it.
+    fn octets(&self, at: u32, len: u32) -> Option<Octets>
+        requires { len ≤ 64 }
+        ensures { result ≡ bytes_if (lies_in at len self.now.sandbox) at len self.now.sandbox }
+    {
+        if !self.holds(at, len as usize) {
+            return None;
+        }
+        let at = at as usize;
+        Octets::from_slice(&self.sandbox[at..at + len as usize])
+    }
+
+    // Stores bytes in the sandbox's memory.
+    fn write(&mut self, at: u32, bytes: &[u8]) -> Event
+        requires { length bytes.now ≤ 64 }
+        ensures { Moves self.old (λ w. written at bytes.now w) result self.new }
+    {
+        if !self.holds(at, bytes.len()) {
+            return self.stop_by_act(Code::S4);
+        }
+        let at = at as usize;
+        self.sandbox[at..at + bytes.len()].copy_from_slice(bytes);
+        Event::Ran
+    }
+
+    // Whether bytes from a place on lie in the sandbox's memory.
+    fn holds(&self, at: u32, len: usize) -> bool
+        requires { len ≤ 64 }
+        ensures { result ≡ lies_in at len self.now.sandbox }
+    {
+        at as usize + len <= self.sandbox.len()
+    }
+
+    // Ends the call that waits, with its reply in the place of its words.
+    fn reply(&mut self, value: u32) -> Event
+        requires { IsAsked turns.Sandbox self.old }
+        ensures { (call : Pending) → self.old.pending ≡ Some call → (acts : List ActData) (events : List WorldEvent)
+            → SandboxGives call acts events (InSandbox.Answers value (in_turn turns.Trusted (world_of self.old acts events))) self.old result self.new }
+    {
+        let Some(call) = self.pending else {
+            return Event::Ran;
+        };
+        self.turn = Turn::Trusted;
+        self.pending = None;
+        self.push(call.args.as_slice().len(), value)
+    }
+
+    // Ends the run by the act that was taken last.
+    fn stop_by_act(&mut self, code: Code) -> Event
+        ensures { EndsBy self.old (Ending.Stop code (Some self.old.taken)) result self.new }
+    {
+        let act = Some(self.taken);
+        self.end(Ending::Stop { code, act })
+    }
+
     // Ends the run, since no line of the table has a result.
     fn end_wild(&mut self) -> Event
-        ensures { GoesBy wild self.old result self.new }
+        ensures ends { EndsBy self.old (Ending.Stop Code.S6 None) result self.new }
+        ensures line { self.old.pending ≡ None → GoesBy wild self.old result self.new }
     {
-        self.end(Ending::Stop {
-            code: Code::S6,
-            act: None,
-        })
+        self.end(stop(Code::S6))
     }
 
     // Ends the run.
     fn end(&mut self, ending: Ending) -> Event
-        ensures { GoesBy (Over ending) self.old result self.new }
+        ensures ends { EndsBy self.old ending result self.new }
+        ensures line { self.old.pending ≡ None → GoesBy (Over ending) self.old result self.new }
     {
         self.over = Some(ending);
         Event::Ended { ending }
@@ -365,18 +636,18 @@ impl<'a> Machine<'a> {
 
     // The address of a block, if it is there.
     fn block_address(&self, k: u32) -> Option<u32>
-        ensures { result ≡ address_of self.now.image self.now.base k }
+        ensures { result ≡ address_of self.now.image self.now.settings.base k }
     {
         self.addresses.get(k as usize).copied()
     }
 
     // The offset in memory of the four bytes at an address, if they lie in it.
     fn word_offset(&self, address: u32) -> Option<usize>
-        ensures found { is_some result ≡ has_word self.now.base self.now.memory address }
-        ensures value { IfSome result (λ offset. offset ≡ address - self.now.base) }
+        ensures found { is_some result ≡ has_word self.now.settings.base self.now.memory address }
+        ensures value { IfSome result (λ offset. offset ≡ address - self.now.settings.base) }
         ensures within { IfSome result (λ offset. offset + 4 ≤ length self.now.memory) }
     {
-        let offset = address.checked_sub(self.base)? as usize;
+        let offset = address.checked_sub(self.settings.base)? as usize;
         (offset + 4 <= self.memory.len()).then_some(offset)
     }
 }

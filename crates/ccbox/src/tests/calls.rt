@@ -37,13 +37,13 @@ impl Shelf for OneByteShelf {
 
 // What a call with these words writes over a shelf, and its status. The output takes one byte at a time, and
 // the put of this number fails, if there is one.
-fn call_over<F: Shelf>(
+pub fn call_over<F: Shelf>(
     alloc: Global,
     words: &[&str],
     shelf: &mut F,
     failing: Option<u64>,
 ) -> Result<(Vec<u8>, u8), Fail> {
-    let mut sink = MemSink::with_room(alloc, 256, 1)?;
+    let mut sink = MemSink::with_room(alloc, 512, 1)?;
     if let Some(failing) = failing {
         sink.fail_at(failing)?;
     }
@@ -52,7 +52,7 @@ fn call_over<F: Shelf>(
 }
 
 // The files of a test: `a.c`, with this source.
-fn files(alloc: Global, source: &[u8]) -> Result<MemShelf, Fail> {
+pub fn files(alloc: Global, source: &[u8]) -> Result<MemShelf, Fail> {
     let mut shelf = MemShelf::new(alloc);
     shelf.add("a.c", source)?;
     Ok(shelf)
@@ -157,7 +157,7 @@ fn refusals(rt: HostRuntime) -> Result<(), Fail> {
 
 #[test]
 fn words_and_files(rt: HostRuntime) -> Result<(), Fail> {
-    let cases: [(&[&str], &str, u8); 8] = [
+    let cases: [(&[&str], &str, u8); 20] = [
         (&["run", "nofile"], "[missing nofile]\n", 3),
         (&["run", ""], "[missing ]\n", 3),
         (&[], USAGE, 2),
@@ -166,6 +166,29 @@ fn words_and_files(rt: HostRuntime) -> Result<(), Fail> {
         (&["check", "a.c"], USAGE, 2),
         (&["run", "-a"], USAGE, 2),
         (&["", "a.c"], USAGE, 2),
+        (&["run", "a.c", "--view", "--view"], USAGE, 2),
+        (&["run", "a.c", "--acts"], USAGE, 2),
+        (&["run", "a.c", "--acts", "-f"], USAGE, 2),
+        (&["run", "a.c", "--acts=-f"], USAGE, 2),
+        (&["run", "a.c", "--acts=f", "--acts", "f"], USAGE, 2),
+        (&["run", "a.c", "--sandbox", "65535"], USAGE, 2),
+        (&["run", "a.c", "--sandbox=16777217"], USAGE, 2),
+        (&["run", "a.c", "--sandbox=+65536"], USAGE, 2),
+        (&["run", "a.c", "--sandbox="], USAGE, 2),
+        (&["run", "a.c", "--view=1"], USAGE, 2),
+        (&["run", "--view", "a.c"], USAGE, 2),
+        (
+            &[
+                "run",
+                "a.c",
+                "--releases",
+                "--sandbox",
+                "00016777216",
+                "--view",
+            ],
+            "[exit 42]\n",
+            0,
+        ),
     ];
     for (words, text, status) in cases {
         expect(&rt, words, FIRST_RUN.as_bytes(), text, status)?;

@@ -2,7 +2,7 @@
 
 ghost use Rattle.std.specs.Prelude.{◌≤◌, length, IfOk};
 ghost use Rattle.code_words.specs.Fitting.{Fits};
-ghost use Rattle.ccbox.specs.Answers.{usual};
+ghost use Rattle.ccbox.specs.Requests.{no_options, settings_of};
 
 use crate::front::front;
 use act_words::settings::Settings;
@@ -87,6 +87,7 @@ fn counts_of_tokens(rt: HostRuntime) {
         ("99999999999999999999999", None),
         ("007", None),
         ("12ab", None),
+        ("_Tainted t(a, b)", Some(7)),
         ("while", None),
         ("_Checked", None),
         ("a / b", None),
@@ -145,7 +146,7 @@ fn a_core(rt: HostRuntime) -> Result<(), Fail> {
 
 // The code of the program.
 fn code(alloc: Global) -> Result<Image, Fail>
-    ensures { IfOk result (λ image. Fits image usual) }
+    ensures { IfOk result (λ image. Fits image (settings_of no_options)) }
 {
     let program = front(alloc, SOURCE)?;
     Ok(lower(alloc, &program)?)

@@ -1,4 +1,4 @@
-use Rattle.ccbox.proofs.Calls.{front, whole, printed_run, complete, exits, refuses, misses, checks, stops, untouched}
+use Rattle.ccbox.proofs.Calls.{front, whole, printed_run, complete, exits, refuses, misses, checks, stops, acts_refused, untouched}
 use Rattle.ccbox.proofs.call.ccbox.Goals as goal
 
 pub returns-clause-front : goal.returns-clause-front
@@ -27,6 +27,9 @@ returns-clause-checks g c = λ files told. checks _ _ _ _ _ _ files told _ c.sta
 
 pub returns-clause-stops : goal.returns-clause-stops
 returns-clause-stops g c = λ files told. stops _ _ _ _ _ _ files told _ c.status_of_call.ensures
+
+pub returns-clause-acts_refused : goal.returns-clause-acts_refused
+returns-clause-acts_refused g c = λ files told. acts_refused _ _ _ _ _ _ files told _ c.status_of_call.ensures
 
 pub returns-clause-untouched : goal.returns-clause-untouched
 returns-clause-untouched g c = untouched _ _ _ _ _ _ _ c.status_of_call.ensures

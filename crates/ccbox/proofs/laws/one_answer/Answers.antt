@@ -1,5 +1,5 @@
 use Rattle.ccbox.proofs.Fronts.{one_core}
-use Rattle.ccbox.proofs.Calls.{one_answer}
+use Rattle.ccbox.proofs.OneAnswer.{one_answer}
 use Rattle.ccbox.proofs.laws.one_answer.Goals as goal
 
 pub returns-clause-core : goal.returns-clause-core

@@ -1,31 +1,32 @@
-use Rattle.std.proofs.Common.{◌≡◌, ℕ, ◌+◌, ◌++◌, Bool, true, false, List, [], map, length, take, drop, Result, Ok, Err, refl, sym, ap, ◌∙◌, subst, arith}
-use Rattle.std.specs.List.{list_all}
+use Rattle.std.proofs.Common.{length, drop, sym, ap, ◌∙◌, arith}
 use Rattle.std.proofs.lemmas.Result.{err_from_is_err_and}
-use Rattle.std.proofs.lemmas.Grind.{common_steps}
-use Rattle.ckc_text.specs.declared.fault.Refused.{Refused}
-use Rattle.ckc_text.specs.declared.fault.Refused.TheVariants.{Source, NoMemory}
-use Rattle.ckc_tree.specs.Tree.{Tree, tree, statement, variable}
-use Rattle.region_typing.specs.Acceptance.{IsAccepted, is_statement, variable_names, local_names}
-use Rattle.region_typing.specs.Building.{Builds}
-use Rattle.region_typing.specs.Checking.{CheckAnswers}
+use Rattle.ckc_tree.specs.Tree.{tree}
+use Rattle.region_typing.proofs.Checks.{refused_by, same_scope, built}
 use Rattle.region_typing.proofs.checker.check.Goals as goal
-
--- a tree of which a part is refused is not accepted
-refused_by : (src : List ℕ) (t : Tree) (test : Bool) (e : Refused) → Builds {X = ℕ} test (λ (n : ℕ). n) 0 (Err e) → (IsAccepted t → test ≡ true) → CheckAnswers src t (Err e)
-refused_by src t test (Source fault) h accepts = (h.0, λ a. let e = accepts a in let no = h.1 in cc)
-refused_by src t test NoMemory h accepts = tt
-
--- the names before a count and from it on
-names_split : (names variables locals : List (List ℕ)) (count : ℕ) → names ≡ variables ++ locals → count ≡ length variables → (take count names ≡ variables) × (drop count names ≡ locals)
-names_split names variables locals count e n = (grind (arith, common_steps), grind (arith, common_steps))
 
 pub returns-in_err-body : goal.returns-in_err-body
 returns-in_err-body c =
     let p = err_from_is_err_and c.from_residual-in_err-body.result c.from_residual-in_err-body.ensures.1 in
-    let t = tree c.args.program.now in
-    let variables = variable_names t.globals in
-    let locals = local_names t.body in
-    let parts = names_split c.as_slice-names.result.now variables locals c.len-count.result (grind (arith, common_steps)) (grind (arith, common_steps)) in
-    let front = c.split_at.ensures.front ∙ parts.0 in
-    let back = c.split_at.ensures.back ∙ parts.1 in
-    rw (p.1, p.2) (refused_by c.args.src.now t _ _ c.in_err-body.ensures (λ a. rw (front, back, c.as_slice-body.ensures.value) a.statements))
+    let program = c.args.program.now in
+    let functions = c.as_slice-functions.result.now in
+    let locals = c.new-scope.ensures.locals ∙ c.split_at-2.ensures.back ∙ ap (drop (length functions)) c.split_at.ensures.back in
+    let same = same_scope program c.as_slice-names.result.now c.as_slice-variables.result.now functions c.new-scope.result (c.as_slice-names.ensures.value ∙ c.in_ok-names.ensures) c.as_slice-variables.ensures.value c.as_slice-functions.ensures.value (c.new-scope.ensures.variables ∙ c.split_at.ensures.front) c.new-scope.ensures.functions locals in
+    rw (p.1, p.2) (refused_by c.args.src.now (tree program) _ _ c.in_err-body.ensures (λ a. rw (same, c.as_slice-body.ensures.value) a.statements))
+
+pub returns : goal.returns
+returns c =
+    let program = c.args.program.now in
+    let functions = c.as_slice-functions.result.now in
+    let names = c.as_slice-names.ensures.value ∙ c.in_ok-names.ensures in
+    let locals = c.new-scope.ensures.locals ∙ c.split_at-2.ensures.back ∙ ap (drop (length functions)) c.split_at.ensures.back in
+    let same = same_scope program c.as_slice-names.result.now c.as_slice-variables.result.now functions c.new-scope.result names c.as_slice-variables.ensures.value c.as_slice-functions.ensures.value (c.new-scope.ensures.variables ∙ c.split_at.ensures.front) c.new-scope.ensures.functions locals in
+    built c.args.src.now program _ c.new-scope.result same
+    (omega (arith, ap length c.as_slice-variables.ensures.value, c.if-variables-gt-MAX_VARIABLES.false))
+    (omega (arith, ap length c.as_slice-functions.ensures.value, c.if-functions-gt-MAX_FUNCTIONS.false))
+    (omega (arith, ap length c.new-scope.ensures.locals, c.if-locals-gt-MAX_LOCALS.false))
+    (rw (← names) (sym c.if-not-all_free.ensures))
+    (rw (← names) (sym c.if-not-all_distinct.ensures))
+    (rw (← c.as_slice-variables.ensures.value) c.in_ok-objects.ensures)
+    (rw (← c.as_slice-functions.ensures.value) c.in_ok-imports.ensures)
+    (sym (ap length c.new-scope.ensures.locals))
+    (rw (← c.as_slice-body.ensures.value, ← c.in_ok-sites.ensures) c.in_ok-body.ensures)

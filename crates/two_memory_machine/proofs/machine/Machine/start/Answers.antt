@@ -29,6 +29,9 @@ invariant_of-result c = record {
   memory = omega (arith, c.in_ok-memory_with.field-0.ok.0, c.in_ok-memory_with.ensures.len);
   stack = rw (there (goal.at.invariant_of-result c).After-vec-2) (omega (arith, c.in_ok-vec-2.field-0.ok.0, c.in_ok-vec-2.ensures.len));
   top = omega (arith, c.in_ok-vec-2.field-0.ok.0, c.in_ok-vec-2.ensures.len);
+  arguments = c.requires.arguments;
+  turn = λ h. refl;
+  waits = λ call h. cc;
 }
 
 pub returns : goal.returns
@@ -37,4 +40,5 @@ returns c =
     let memory = rw c.as_slice-blocks.ensures at c.in_ok-memory_with.ensures.bytes in
     let slots : c.in_ok-vec.field-0.items ≡ replicate c.index-as_slice-function.result.slots 0 = search rules in
     let stack : drop c.index-as_slice-function.result.stack c.in_ok-vec-2.field-0.items ≡ [] = drop_all c.index-as_slice-function.result.stack c.in_ok-vec-2.field-0.items (omega (arith, c.in_ok-vec-2.field-0.ok.0, c.in_ok-vec-2.ensures.len)) in
-    rw (memory, slots, stack, c.unwrap-function.ensures, at_main) refl
+    let sandbox : c.in_ok-vec-3.field-0.items ≡ replicate c.args.settings.now.sandbox 0 = search rules in
+    rw (memory, slots, stack, sandbox, c.unwrap-function.ensures, at_main) refl

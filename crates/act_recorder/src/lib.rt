@@ -1,0 +1,5 @@
+// The lines that tell what was seen and what was released in a run.
+#![tactic(auto)]
+
+pub mod laws;
+pub mod lines;

@@ -1,0 +1,4 @@
+pub mod Texts
+pub mod Saying
+pub mod Lengths
+pub mod Lines

@@ -1,0 +1,5 @@
+pub mod Plain
+mod Each
+pub mod Back
+pub mod Views
+pub mod Said

@@ -1,0 +1,78 @@
+-- Touches: the acts before them, what they release, and a call of a tainted function.
+use Rattle.std.specs.Prelude.{ℕ, Bool, true, false, nat_lt, List, [], ◌∷◌}
+use Rattle.ckc_text.specs.declared.code.Code.TheVariants.{S1, S2}
+use Rattle.std.specs.Prelude.{None}
+use Rattle.act_words.specs.declared.act.Turn.TheVariants as turns
+use Rattle.act_words.specs.declared.ending.Ending.{Ending}
+use Rattle.act_words.specs.declared.ending.Ending.TheVariants as endings
+use Rattle.act_words.specs.Acts.{Act, Release, Looked, Wrote, Passed, Replied, SeenCall, SeenReply}
+use Rattle.act_words.specs.World.{World, Released, Showed, NoAct, telling, holding, in_turn, taken_one, spent_one}
+use Rattle.act_words.specs.Acting.{BeforeTouch, InSandbox, act_before_touch, act_in_sandbox, with_bytes, sandbox_ended}
+
+-- what the world answers where a meaning asks it for something: a value, or the run's end
+pub data Asked (A : Type 0) : Type 0 where
+  Got : (value : A) (world : World) → Asked A
+  Ended : (ending : Ending) (world : World) → Asked A
+
+-- goes on from a value, and stays with an end
+abbrev pub asking : {A B : Type 0} → Asked A → (A → World → Asked B) → Asked B
+asking (Got value w) next = next value w
+asking (Ended ending w) next = Ended ending w
+
+-- ---- touches
+
+abbrev pub on_from : BeforeTouch → (World → Asked (Unit {0})) → Asked (Unit {0})
+on_from (BeforeTouch.Waits w) next = next w
+on_from (BeforeTouch.Touches w) next = Got _ w
+on_from (BeforeTouch.Ends ending w) next = Ended ending w
+
+-- acts are taken up to and including the next `go`, or up to the end of the list
+abbrev pub before_touch : List Act → World → Asked (Unit {0})
+before_touch [] w = Got _ (telling (NoAct turns.Trusted ∷ []) w)
+before_touch (act ∷ acts) w = on_from (act_before_touch act (taken_one acts w)) (before_touch acts)
+
+-- what a touch releases is told. A call and a reply are shown to the sandbox, and give it the turn
+abbrev pub released : Release → World → World
+released Looked w = telling (Released Looked ∷ []) w
+released (Wrote at bytes) w = holding (with_bytes at bytes w.sandbox) (telling (Released (Wrote at bytes) ∷ []) w)
+released (Passed fun args) w = in_turn turns.Sandbox (telling (Released (Passed fun args) ∷ Showed (SeenCall fun args) ∷ []) w)
+released (Replied value) w = in_turn turns.Sandbox (telling (Released (Replied value) ∷ Showed (SeenReply value) ∷ []) w)
+
+-- one touch
+abbrev pub touch : Release → World → Asked (Unit {0})
+touch release w = asking (before_touch w.acts w) (λ _ v. Got _ (released release v))
+
+-- ---- the sandbox's turn
+
+abbrev pub on_with_reply : InSandbox → (World → Asked ℕ) → Asked ℕ
+on_with_reply (InSandbox.Keeps w) next = next w
+on_with_reply (InSandbox.Answers word w) next = Got word w
+on_with_reply (InSandbox.Ends ending w) next = Ended ending w
+
+-- acts are taken until the `return` of the innermost tainted call. The sandbox ends with the list
+abbrev pub until_return : List Act → World → Asked ℕ
+until_return [] w = Ended sandbox_ended (telling (NoAct turns.Sandbox ∷ []) w)
+until_return (act ∷ acts) w = on_with_reply (act_in_sandbox act (taken_one acts w)) (until_return acts)
+
+-- ---- what calls ask for
+
+abbrev pub spent_if : Bool → World → Asked (Unit {0})
+spent_if true w = Got _ (spent_one w)
+spent_if false w = Ended (endings.Stop S1 None) w
+
+-- S1: a tick is due, and as many as the budget were spent
+abbrev pub spend_tick : ℕ → World → Asked (Unit {0})
+spend_tick budget w = spent_if (nat_lt w.ticks budget) w
+
+abbrev pub entered_if : Bool → World → Asked (Unit {0})
+entered_if true w = Got _ w
+entered_if false w = Ended (endings.Stop S2 None) w
+
+-- S2: a call would make 1,001 open calls
+abbrev pub enter_call : ℕ → World → Asked (Unit {0})
+enter_call depth w = entered_if (nat_lt depth 1000) w
+
+-- a call of a tainted function while these many calls are open: it counts as one more until its reply
+abbrev pub tainted_call : ℕ → ℕ → List ℕ → World → Asked ℕ
+tainted_call depth fun words w =
+    asking (enter_call depth w) (λ _ u. asking (touch (Passed fun words) u) (λ _ v. until_return v.acts v))

@@ -1,0 +1,7 @@
+pub mod Texts
+pub mod Moments
+pub mod Chains
+pub mod Runs
+pub mod Progress
+pub mod Finishes
+pub mod Examples

@@ -1,0 +1,66 @@
+-- The text of a run: what the program wrote, what was released and shown, and the line that says how the run ended.
+use Rattle.std.specs.Prelude.{ℕ, ◌||◌, if◌then◌else◌, List, [], ◌∷◌, ◌++◌, flat_map, codes, decimal, Option, Some, None, ◌==◌}
+use Rattle.std.specs.Fmt.{signed_decimal}
+use Rattle.hex.specs.Hex.{encode_lower}
+use Rattle.ckc_text.specs.declared.place.Place.{Place}
+use Rattle.ckc_text.specs.declared.code.Code.{Code}
+use Rattle.ckc_text.specs.Texts.{number_of, name_of}
+use Rattle.act_words.specs.declared.ending.Ending.{Ending}
+use Rattle.act_words.specs.declared.ending.Ending.TheVariants.{Exit, Check, Stop}
+use Rattle.act_words.specs.declared.settings.Settings.{Settings}
+use Rattle.act_words.specs.World.{Event, Output, Released, Showed, NoAct}
+use Rattle.act_recorder.specs.Lines.{seen_text, release_text}
+
+-- ---- endings
+
+abbrev pub line : List ℕ → List ℕ
+line text = text ++ 10 ∷ []
+
+-- a line about what stands at a place, as `[check C2 6:5 bounds]`
+abbrev pub placed_text : List ℕ → Code → Place → List ℕ
+placed_text word code place = line (codes "[" ++ word ++ codes " " ++ number_of code ++ codes " " ++ decimal place.line ++ codes ":" ++ decimal place.col ++ codes " " ++ name_of code ++ codes "]")
+
+-- the number of an act, where a stop names one
+abbrev pub act_number_text : Option ℕ → List ℕ
+act_number_text None = []
+act_number_text (Some act) = codes "act " ++ decimal act ++ codes " "
+
+-- how a run ended
+abbrev pub ending_text : Ending → List ℕ
+ending_text (Exit value) = line (codes "[exit " ++ signed_decimal value ++ codes "]")
+ending_text (Check code place) = placed_text (codes "check") code place
+ending_text (Stop code act) = line (codes "[stop " ++ number_of code ++ codes " " ++ act_number_text act ++ name_of code ++ codes "]")
+
+-- ---- events
+
+-- what the program wrote, as a line
+abbrev pub output_line : List ℕ → List ℕ
+output_line bytes = line (codes "{\"out\":\"" ++ encode_lower bytes ++ codes "\"}")
+
+-- Output is written as it is, or as a line where other lines are asked for
+abbrev pub event_text : Settings → Event → List ℕ
+event_text settings (Output bytes) = if settings.view || settings.releases then output_line bytes else bytes
+event_text settings (Released release) = if settings.releases then release_text release else []
+event_text settings (Showed seen) = if settings.view then seen_text seen else []
+event_text settings (NoAct turn) = []
+
+abbrev pub events_text : Settings → List Event → List ℕ
+events_text settings events = flat_map (event_text settings) events
+
+-- the line feed that a text lacks: one, where it isn't empty and doesn't end with one
+abbrev pub missing_feed : List ℕ → List ℕ
+missing_feed [] = []
+missing_feed (b ∷ []) = if b == 10 then [] else 10 ∷ []
+missing_feed (b ∷ c ∷ bytes) = missing_feed (c ∷ bytes)
+
+-- events, and what stands behind them on a line of its own
+abbrev pub with_last_line : List ℕ → List ℕ → List ℕ
+with_last_line text last = text ++ missing_feed text ++ last
+
+-- a run: its events, and then its ending
+abbrev pub run_text : Settings → List Event → Ending → List ℕ
+run_text settings events ending = with_last_line (events_text settings events) (ending_text ending)
+
+-- a run up to an act that can't be given: the line that says so is left to the caller
+abbrev pub front_text : Settings → List Event → List ℕ
+front_text settings events = with_last_line (events_text settings events) []

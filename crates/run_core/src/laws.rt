@@ -1,0 +1,35 @@
+// What the texts of small runs are, by computation.
+
+ghost use Rattle.std.specs.Prelude.{◌≡◌, ◌∷◌, [], codes, Some, None, pos};
+ghost use Rattle.ckc_text.specs.declared.code.Code.TheVariants.{C2, S1, S4};
+ghost use Rattle.act_words.specs.declared.act.Turn.TheVariants as turns;
+ghost use Rattle.act_words.specs.declared.ending.Ending.TheVariants.{Exit, Check, Stop};
+ghost use Rattle.act_words.specs.Acts.{Looked, SeenReply};
+ghost use Rattle.act_words.specs.World.{Output, Released, Showed, NoAct};
+ghost use Rattle.run_core.specs.Texts.{ending_text, run_text, front_text};
+ghost use Rattle.run_core.specs.Moments.{due_in, before_due};
+ghost use Rattle.run_core.specs.Examples.{plain, viewed, written};
+
+/// The line of each ending.
+pub fn endings()
+    ensures exit { ending_text (Exit (pos 42)) ≡ codes "[exit 42]\n" }
+    ensures check { ending_text (Check C2 (record { line = 6; col = 5 })) ≡ codes "[check C2 6:5 bounds]\n" }
+    ensures stop { ending_text (Stop S1 None) ≡ codes "[stop S1 budget]\n" }
+    ensures act { ending_text (Stop S4 (Some 2)) ≡ codes "[stop S4 act 2 sandbox access]\n" }
+{}
+
+/// Output as it is, with the line feed that it lacks, and as lines among others.
+pub fn texts()
+    ensures quiet { run_text plain (Released Looked ∷ Showed (SeenReply 1) ∷ []) (Exit (pos 0)) ≡ codes "[exit 0]\n" }
+    ensures fed { run_text plain written (Exit (pos 0)) ≡ codes "ab\n[exit 0]\n" }
+    ensures lines { run_text viewed (Released Looked ∷ written) (Exit (pos 0)) ≡ codes "{\"out\":\"6162\"}\n[exit 0]\n" }
+    ensures front { front_text plain written ≡ codes "ab\n" }
+{}
+
+/// The first act that a run hasn't got: whose turn it was, what was shown last before, and what had happened.
+pub fn due()
+    ensures moment { due_in (Showed (SeenReply 1) ∷ Released Looked ∷ NoAct turns.Sandbox ∷ Showed (SeenReply 2) ∷ NoAct turns.Trusted ∷ [])
+        ≡ Some (record { turn = turns.Sandbox; last = Some (SeenReply 1) }) }
+    ensures before { before_due (Released Looked ∷ NoAct turns.Sandbox ∷ written) ≡ Released Looked ∷ [] }
+    ensures none { due_in written ≡ None }
+{}

@@ -1,0 +1,4 @@
+mod TextLines
+pub mod GivenActs
+mod Cuts
+pub mod Acts

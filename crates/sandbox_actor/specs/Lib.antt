@@ -1,0 +1,4 @@
+pub mod Answers
+pub mod ActLists
+pub mod Lines
+pub mod ListActors
