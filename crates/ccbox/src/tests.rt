@@ -2,7 +2,11 @@
 
 mod actors;
 mod acts;
+mod bounds;
 mod calls;
+mod facts;
 mod files;
 mod layers;
+mod layouts;
+mod memories;
 mod runs;

@@ -1,0 +1,6 @@
+pub mod Terms
+pub mod Sums
+pub mod Normal
+pub mod Examples
+pub mod Parts
+pub mod Places

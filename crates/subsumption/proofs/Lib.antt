@@ -1,0 +1,16 @@
+mod Lists
+mod Gaps
+mod Raising
+mod Valuations
+mod Closures
+mod Rows
+mod Settling
+mod Tables
+mod Shifts
+mod Eliminations
+mod Joins
+mod Pruning
+mod Rounds
+mod Circles
+mod Paths
+mod Leasts

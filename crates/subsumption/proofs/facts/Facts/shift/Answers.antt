@@ -1,0 +1,16 @@
+use Rattle.std.proofs.Common.{ℕ, ℤ, ◌≡◌, ◌∙◌, List, ap, subst}
+use Rattle.std.specs.Int.{w64}
+use Rattle.std.proofs.lemmas.Int.{to_z-of_z}
+use Rattle.subsumption.specs.declared.fact.Fact.{Fact}
+use Rattle.subsumption.specs.Facts.{Entails, Leaves}
+use Rattle.subsumption.specs.Tables.{Table, moved}
+use Rattle.subsumption.proofs.facts.Facts.shift.Goals as goal
+
+pub returns-clause-ok : goal.returns-clause-ok
+returns-clause-ok c =
+    let n : c.self.inside.vars ≡ c.args.self.now.vars = ap (λ (t : Table). t.vars) c.self.view_is in
+    let e : c.as_slice.result.now ≡ c.args.self.now.facts = c.as_slice.ensures.value ∙ ap (λ (t : Table). t.facts) c.self.view_is in
+    let P : List Fact → Type 0 = λ F. Leaves c.self.inside.vars (λ goal. Entails F (moved c.args.var c.args.c goal)) c.in_ok-facts.facts.items in
+    let R : ℤ → Type 0 = λ z. Leaves c.self.inside.vars (λ goal. Entails c.as_slice.result.now (moved c.args.var z goal)) c.in_ok-facts.facts.items in
+    let Q : ℕ → Type 0 = λ m. Leaves m (λ goal. Entails c.args.self.now.facts (moved c.args.var c.args.c goal)) c.in_ok-facts.facts.items in
+    record { vars = n; facts = subst Q n (subst P e (subst R (to_z-of_z w64 c.args.c c.ranges.c) c.in_ok-facts.ensures.leaves)) }

@@ -1,0 +1,42 @@
+-- What a table of facts is seen as, and what its calls do.
+use Rattle.std.specs.Prelude.{ℕ, ◌+◌, ◌≤◌, ◌≡◌, ◌≢◌, ℤ, pos, ◌+ℤ◌, ◌-ℤ◌, Bool, cond, ◌==◌, false, Option, None, Some, List, length}
+use Rattle.std.specs.List.{All, Contains}
+use Rattle.bounds_exprs.specs.declared.term.Term.{Term}
+use Rattle.subsumption.specs.declared.fact.Fact.{Fact}
+use Rattle.subsumption.specs.declared.fact.Answer.{Answer}
+use Rattle.subsumption.specs.declared.fact.Answer.TheVariants.{Yes, No}
+use Rattle.subsumption.specs.Facts.{Meets, Entails, Holds, TermsHold, numbers_of, Leaves}
+
+-- the number of variables, and the facts
+pub record Table : Type 0 where
+  pub vars : ℕ
+  pub facts : List Fact
+
+-- an answer to whether the one term is at most the other: facts of the table that alone entail it, at most as many as
+-- there are variables and zero, or a number for each variable, which meet the facts and break it
+abbrev pub AnswersTerms : Table → Term → Term → Answer → Type 0
+AnswersTerms table a b (Yes path) = All (Contains table.facts) path.facts.items × ((v : ℕ → ℤ) → Meets v path.facts.items → TermsHold v a b) × (length path.facts.items ≤ table.vars + 1)
+AnswersTerms table a b (No valuation) = Meets (numbers_of valuation.values.items) table.facts × (TermsHold (numbers_of valuation.values.items) a b → ⊥) × (length valuation.values.items ≡ table.vars)
+
+-- after a step that leaves so much entailed
+pub record Becomes (before : Table) (entailed : Fact → Type 0) (after : Table) : Type 0 where
+  pub vars : after.vars ≡ before.vars
+  pub facts : Leaves before.vars entailed after.facts
+
+-- whether the variable is this one
+abbrev pub is_variable : ℕ → Option ℕ → Bool
+is_variable x None = false
+is_variable x (Some y) = y == x
+
+-- the fact with x + c put for x
+abbrev pub moved : ℕ → ℤ → Fact → Fact
+moved x c f = record { left = f.left; right = f.right; plus = f.plus +ℤ (cond (is_variable x f.right) c (pos 0) -ℤ cond (is_variable x f.left) c (pos 0)) }
+
+-- the fact doesn't name x
+pub record IsWithout (x : ℕ) (f : Fact) : Type 0 where
+  pub left : f.left ≢ Some x
+  pub right : f.right ≢ Some x
+
+-- it follows from what is entailed without x
+abbrev pub FollowsWithout : ℕ → List Fact → Fact → Type 0
+FollowsWithout x facts goal = (v : ℕ → ℤ) → ((fact : Fact) → IsWithout x fact → Entails facts fact → Holds v fact) → Holds v goal

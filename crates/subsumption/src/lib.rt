@@ -1,0 +1,10 @@
+// Facts that say of two terms that the one is at most the other, and what follows from them.
+#![tactic(auto)]
+
+mod changes;
+mod closure;
+pub mod fact;
+pub mod facts;
+mod question;
+mod relaxation;
+mod settle;
