@@ -1,6 +1,7 @@
 pub mod Numerals
-pub mod Spelling
-pub mod Cuts
+pub mod Meanings
 pub mod Fronts
+pub mod Cuts
 pub mod Next
-pub mod SoFar
+pub mod Steps
+pub mod Examples

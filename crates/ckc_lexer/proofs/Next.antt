@@ -1,100 +1,146 @@
--- The next token of a source: blanks, then the token at the front of what is left.
-use Rattle.std.proofs.Common.{◌≡◌, ◌↔◌, ℕ, zero, suc, ◌+◌, ◌<◌, ◌≤◌, Bool, true, false, List, [], ◌∷◌, ◌++◌, length, take, drop, refl, sym, ap, ◌∙◌, subst, arith, one-add, add-zero, length-drop, length-take-le, take-append-drop, Some, None}
-use Rattle.std.specs.List.{list_all, prefix_len}
-use Rattle.std.proofs.lemmas.Bool.{cond_both, and_parts, both_ways}
-use Rattle.std.proofs.lemmas.List.{drop-drop, nil_from_length}
-use Rattle.std.proofs.lemmas.List.Sums.{prefix_len-le-length}
-use Rattle.ckc_lexer.specs.Words.{is_blank}
-use Rattle.ckc_lexer.specs.Tokens.{Cut, nothing, blank, token, token_at}
-use Rattle.ckc_lexer.specs.Fronts.{IsFrontOf, IsNext}
+-- What a piece leads to stands behind it, with the tokens in order.
+use Rattle.std.proofs.Common.{◌≡◌, ℕ, ◌+◌, ◌<◌, ◌≤◌, Bool, true, false, cond, List, [], ◌∷◌, ◌++◌, length, drop, Option, Some, None, Result, Ok, Err, IfOk, refl, sym, ap, ◌∙◌, subst, arith, length-drop}
+use Rattle.ckc_text.specs.declared.fault.SourceFault.{SourceFault}
+use Rattle.ckc_lexer.specs.declared.line.Line.{Line}
+use Rattle.ckc_lexer.specs.declared.line.Line.TheVariants.{Fresh, Marked, Behind}
+use Rattle.ckc_lexer.specs.declared.piece.Piece.{Piece}
+use Rattle.ckc_lexer.specs.declared.piece.Piece.TheVariants.{Gap, Lexeme, Named, Include, Define, Scope, CommentFault, Forbidden, Fault}
+use Rattle.ckc_lexer.specs.declared.piece.Definition.{Definition}
+use Rattle.ckc_lexer.specs.declared.piece.ScopeWord.{ScopeWord}
+use Rattle.ckc_lexer.specs.declared.piece.ScopeWord.TheVariants as word
+use Rattle.ckc_lexer.specs.declared.token.CheckedScope.{CheckedScope}
+use Rattle.ckc_lexer.specs.declared.token.CheckedScope.TheVariants as scope
 use Rattle.ckc_lexer.specs.declared.token.Token.{Token}
 use Rattle.ckc_lexer.specs.declared.token.TokenKind.{TokenKind}
-use Rattle.ckc_lexer.proofs.Spelling.{begins_with}
-use Rattle.ckc_lexer.proofs.Cuts.{Front, some_front, after_blank, after_token, no_tokens_at}
-use Rattle.ckc_lexer.proofs.Fronts.{front_passes}
+use Rattle.ckc_lexer.specs.declared.token.TokenKind.TheVariants as kind
+use Rattle.ckc_lexer.specs.Tokens.{State, Step, Cut, ends, stops, goes, Lexes, great, cut, token_at, go_on, push, push_after, number_tokens, name_tokens, definition_for, behind_mark, define, scope_from, pop_scope, change_scope, is_first, next, InOrder, none, token, again}
+use Rattle.ckc_lexer.proofs.Fronts.{piece_within}
 
--- blanks at the front change no token
-skip : (n : ℕ) (text : List ℕ) (from : ℕ) (tokens : List Token) → n ≤ length text → list_all is_blank (take n text) ≡ true → Cut from text tokens → Cut (from + n) (drop n text) tokens
-skip zero text from tokens fits blanks cut = rw add-zero cut
-skip (suc n) [] from tokens fits blanks cut = absurd (omega arith)
-skip (suc n) (b ∷ bs) from tokens fits blanks cut =
-    let parts = and_parts (is_blank b) (list_all is_blank (take n bs)) blanks in
-    let at : suc from + n ≡ from + suc n = omega arith in
-    subst (λ k. Cut k (drop n bs) tokens) at (skip n bs (suc from) tokens (omega arith) parts.1 (after_blank parts.0 cut))
+widen : {tokens : List Token} {a b : ℕ} → InOrder tokens a → a ≤ b → InOrder tokens b
+widen none h = none
+widen (token ts t o some to) h = token ts t o some (omega (arith, to, h))
+widen (again ts t u o m e) h = again ts t u (widen o h) m e
 
-put : (n : ℕ) (text : List ℕ) (from : ℕ) (tokens : List Token) → n ≤ length text → list_all is_blank (take n text) ≡ true → Cut (from + n) (drop n text) tokens → Cut from text tokens
-put zero text from tokens fits blanks cut = rw add-zero at cut
-put (suc n) [] from tokens fits blanks cut = absurd (omega arith)
-put (suc n) (b ∷ bs) from tokens fits blanks cut =
-    let parts = and_parts (is_blank b) (list_all is_blank (take n bs)) blanks in
-    let at : from + suc n ≡ suc from + n = omega arith in
-    blank parts.0 (put n bs (suc from) tokens (omega arith) parts.1 (subst (λ k. Cut k (drop n bs) tokens) at cut))
+-- at the same place, with the tokens of the n bytes that stand there
+record Kept (s : State) (n : ℕ) (t : State) : Type 0 where
+  at : t.at ≡ s.at
+  order : InOrder s.tokens s.at → 0 < n → InOrder t.tokens (s.at + n)
 
--- the place after the blanks
-record AfterBlanks (src : List ℕ) (at from : ℕ) : Type 0 where
-  inside : at ≤ length src
-  place : from ≡ at + prefix_len is_blank (drop at src)
+-- behind the n bytes that stand there
+pub record Further (s : State) (n : ℕ) (t : State) : Type 0 where
+  pub at : t.at ≡ s.at + n
+  pub order : InOrder s.tokens s.at → 0 < n → InOrder t.tokens t.at
 
-after_blanks_within : {src : List ℕ} {at from : ℕ} → AfterBlanks src at from → from ≤ length src
-after_blanks_within {src} {at} a = omega (arith, a.place, a.inside, prefix_len-le-length is_blank (drop at src), length-drop at src)
+same_ok : {r q : State} → ◌≡◌ {A = Result State SourceFault} (Ok r) (Ok q) → r ≡ q
+same_ok e = cc
 
-skip_blanks : {src : List ℕ} {at from : ℕ} {tokens : List Token} → AfterBlanks src at from → Cut at (drop at src) tokens → Cut from (drop from src) tokens
-skip_blanks {src} {at} {from} {tokens} a cut =
-    let n = prefix_len is_blank (drop at src) in
-    let all = skip n (drop at src) at tokens (prefix_len-le-length is_blank (drop at src)) (front_passes is_blank (drop at src)) cut in
-    rw a.place (rw drop-drop at all)
+chosen : (c : Bool) (r q : State) (f : SourceFault) → ◌≡◌ {A = Result State SourceFault} (cond c (Ok r) (Err f)) (Ok q) → r ≡ q
+chosen true r q f e = same_ok e
+chosen false r q f e = cc
 
-put_blanks : {src : List ℕ} {at from : ℕ} {tokens : List Token} → AfterBlanks src at from → Cut from (drop from src) tokens → Cut at (drop at src) tokens
-put_blanks {src} {at} {from} {tokens} a cut =
-    let n = prefix_len is_blank (drop at src) in
-    put n (drop at src) at tokens (prefix_len-le-length is_blank (drop at src)) (front_passes is_blank (drop at src)) (rw drop-drop (rw a.place at cut))
+kept_same : (s : State) (n : ℕ) → Kept s n s
+kept_same s n = record { at = refl; order = λ o some. widen o (omega arith) }
 
--- a token that stands after the blanks is the next
-pub is_next : (src : List ℕ) (at from n : ℕ) (kind : TokenKind) → at ≤ length src → from ≡ at + prefix_len is_blank (drop at src) → IsFrontOf (drop from src) (Some (kind, n)) → IsNext src at (token_at from (from + n) kind)
-is_next src at from n kind inside place h =
-    let a : AfterBlanks src at from = record { inside = inside; place = place } in
-    let rest : List ℕ = drop from src in
-    let f : Front rest (take n rest) (drop n rest) kind = record { whole_is = sym (take-append-drop n rest); spells = h.1; follows = h.2 } in
-    let len : length (take n rest) ≡ n = length-take-le n rest h.0 in
+kept_push : (s t : State) (k : TokenKind) (n : ℕ) → push s k n ≡ Ok t → Kept s n t
+unfolding push
+kept_push s t k n e =
+    subst (λ u. Kept s n u) (chosen _ _ t _ e) (record { at = refl; order = λ o some. token s.tokens (token_at s.at (s.at + n) k) o (omega arith) (omega arith) })
+
+pushed_is : (s t : State) (k : TokenKind) (n : ℕ) → push s k n ≡ Ok t → (t.at ≡ s.at) × (t.tokens ≡ s.tokens ++ token_at s.at (s.at + n) k ∷ [])
+unfolding push
+pushed_is s t k n e = let same = chosen _ _ t _ e in (sym (ap (λ (u : State). u.at) same), sym (ap (λ (u : State). u.tokens) same))
+
+-- a minus and a token of the same bytes
+kept_twice : (s t : State) (r : Result State SourceFault) (l : TokenKind) (n : ℕ) → push s kind.Minus n ≡ r → push_after r l n ≡ Ok t → Kept s n t
+kept_twice s t (Err f) l n d e = cc
+kept_twice s t (Ok u) l n d e =
+    let first = pushed_is s u kind.Minus n d in
+    let second = pushed_is u t l n e in
+    let a = token_at s.at (s.at + n) kind.Minus in
+    let b = token_at s.at (s.at + n) l in
+    let at : u.at ≡ s.at = first.0 in
+    let tokens : t.tokens ≡ (s.tokens ++ a ∷ []) ++ b ∷ [] =
+    second.1 ∙ ap (λ x. x ++ token_at u.at (u.at + n) l ∷ []) first.1 ∙ ap (λ x. (s.tokens ++ a ∷ []) ++ token_at x (x + n) l ∷ []) at in
     record {
-      further = omega (arith, a.place, len, some_front f);
-      within = omega (arith, h.0, after_blanks_within a, length-drop from src);
-      first = λ tokens cut.
-          let b = after_token f (skip_blanks a cut) in
-          (b.others, rw len at b.first, rw (← drop-drop) (rw len at b.cut));
-      others = λ tokens cut.
-          put_blanks a
-          (subst
-          (λ whole. Cut from whole (token_at from (from + n) kind ∷ tokens))
-          (take-append-drop n rest)
-          (subst
-          (λ k. Cut from (take n rest ++ drop n rest) (token_at from (from + k) kind ∷ tokens))
-          len
-          (token (take n rest) h.1 h.2 (rw (len, drop-drop) cut))));
+      at = second.0 ∙ at;
+      order = λ o some. subst (λ x. InOrder x (s.at + n)) (sym tokens) (again s.tokens a b (token s.tokens a o (omega arith) (omega arith)) refl refl);
     }
 
--- where nothing stands after the blanks, no token is left
-pub at_end : (src : List ℕ) (at from : ℕ) → at ≤ length src → from ≡ at + prefix_len is_blank (drop at src) → from ≡ length src → (tokens : List Token) → Cut at (drop at src) tokens ↔ (tokens ≡ [])
-at_end src at from inside place e tokens =
-    let a : AfterBlanks src at from = record { inside = inside; place = place } in
-    let none : length (drop from src) ≡ 0 = omega (arith, length-drop from src) in
-    (λ cut. no_tokens_at none (skip_blanks a cut), λ empty. put_blanks a (rw (nil_from_length (drop from src) none, empty) nothing))
+kept_number : (negative : Bool) (value : ℕ) (s t : State) (n : ℕ) → number_tokens negative value s n ≡ Ok t → Kept s n t
+kept_number false value s t n e = kept_push s t (kind.Number value) n e
+kept_number true value s t n e = kept_twice s t (push s kind.Minus n) (kind.Number value) n refl e
 
-front_stops : (p : ℕ → Bool) (text : List ℕ) → begins_with p (drop (prefix_len p text) text) ≡ false
-front_stops p [] = refl
-front_stops p (b ∷ bs) =
-    cond_both (p b) (1 + prefix_len p bs) 0 (λ n. begins_with p (drop n (b ∷ bs)) ≡ false) (λ yes. rw one-add (front_stops p bs)) (λ no. no)
+kept_name : (name : List ℕ) (found : Option (Bool × ℕ)) (s t : State) (n : ℕ) → name_tokens name found s n ≡ Ok t → Kept s n t
+kept_name name None s t n e = kept_push s t (kind.Name name) n e
+kept_name name (Some (negative, value)) s t n e = kept_number negative value s t n e
 
--- a text that begins with neither has no list of tokens
-pub no_cut : {from : ℕ} {whole : List ℕ} {tokens : List Token} → 0 < length whole → begins_with is_blank whole ≡ false → IsFrontOf whole None → Cut from whole tokens → ⊥
-no_cut some no_blank none nothing = omega arith
-no_cut some no_blank none (blank {b = b} h cut) = both_ways (is_blank b) no_blank h
-no_cut some no_blank none (token text {rest = after} {kind} spells follows cut) = none text after kind refl spells follows
+kept_define : (found : Option (Bool × ℕ)) (d : Definition) (s t : State) (n : ℕ) → define found d s ≡ Ok t → Kept s n t
+kept_define None d s t n e = subst (λ u. Kept s n u) (same_ok e) (record { at = refl; order = λ o some. widen o (omega arith) })
+kept_define (Some (negative, value)) d s t n e = subst (λ u. Kept s n u) (chosen _ s t _ e) (kept_same s n)
 
--- where no token stands after the blanks, what is left has no list of tokens
-pub no_next : (src : List ℕ) (at from : ℕ) → at ≤ length src → from ≡ at + prefix_len is_blank (drop at src) → from < length src → IsFrontOf (drop from src) None → (tokens : List Token) → Cut at (drop at src) tokens → ⊥
-no_next src at from inside place some none tokens cut =
-    let a : AfterBlanks src at from = record { inside = inside; place = place } in
-    let n = prefix_len is_blank (drop at src) in
-    let rest_is : drop from src ≡ drop n (drop at src) = ap (λ k. drop k src) a.place ∙ sym (drop-drop n at src) in
-    no_cut (omega (arith, length-drop from src)) (ap (begins_with is_blank) rest_is ∙ front_stops is_blank (drop at src)) none (skip_blanks a cut)
+kept_scope : (s t : State) (c : CheckedScope) (kept : List CheckedScope) (n : ℕ) → scope_from s c kept n ≡ Ok t → Kept s n t
+kept_scope s t c kept n e =
+    let k = kept_push (record { at = s.at; line = s.line; tokens = s.tokens; definitions = s.definitions; scope = c; kept = kept }) t (kind.Scope c) n e in
+    record { at = k.at; order = k.order }
+
+kept_pop : (kept : List CheckedScope) (s t : State) (n : ℕ) → pop_scope kept s n ≡ Ok t → Kept s n t
+kept_pop [] s t n e = cc
+kept_pop (last ∷ others) s t n e = kept_scope s t last others n e
+
+kept_change : (w : ScopeWord) (s t : State) (n : ℕ) → change_scope w s n ≡ Ok t → Kept s n t
+kept_change word.On s t n e = kept_scope s t scope.On s.kept n e
+kept_change word.Off s t n e = kept_scope s t scope.Off s.kept n e
+kept_change word.Push s t n e = kept_scope s t s.scope (s.scope ∷ s.kept) n e
+kept_change word.Pop s t n e = kept_pop s.kept s t n e
+
+gone_on : (r : Result State SourceFault) (line : Line) (s t : State) (n : ℕ) → ((u : State) → r ≡ Ok u → Kept s n u) → go_on n line r ≡ Ok t → Further s n t
+gone_on (Err f) line s t n h e = cc
+gone_on (Ok u) line s t n h e =
+    let k = h u refl in
+    let same = same_ok e in
+    let at : t.at ≡ s.at + n = sym (ap (λ (x : State). x.at) same) ∙ ap (λ x. x + n) k.at in
+    record {
+      at = at;
+      order = λ o some. subst (λ x. InOrder x t.at) (ap (λ (x : State). x.tokens) same) (subst (λ x. InOrder u.tokens x) (sym at) (k.order o some));
+    }
+
+behind_further : (line : Line) (r : Result State SourceFault) (s t : State) (n : ℕ) → ((u : State) → r ≡ Ok u → Kept s n u) → behind_mark line r n ≡ Ok t → Further s n t
+behind_further Fresh r s t n h e = gone_on r Marked s t n h e
+behind_further Marked r s t n h e = gone_on r Marked s t n h e
+behind_further (Behind directive) r s t n h e = cc
+
+pub next_further : (piece : Piece) (s t : State) (n : ℕ) → next piece s n ≡ Ok t → Further s n t
+next_further (Gap ends_line) s t n e = gone_on (Ok s) _ s t n (λ u d. subst (λ x. Kept s n x) (same_ok d) (kept_same s n)) e
+next_further (Lexeme k) s t n e = behind_further s.line (push s k n) s t n (λ u d. kept_push s u k n d) e
+next_further (Named name) s t n e = behind_further s.line _ s t n (λ u d. kept_name name (definition_for name s.definitions) s u n d) e
+next_further Include s t n e = gone_on (Ok s) _ s t n (λ u d. subst (λ x. Kept s n x) (same_ok d) (kept_same s n)) e
+next_further (Define d) s t n e = gone_on _ _ s t n (λ u f. kept_define (definition_for d.name s.definitions) d s u n f) e
+next_further (Scope w) s t n e = gone_on _ _ s t n (λ u d. kept_change w s u n d) e
+next_further (CommentFault code) s t n e = cc
+next_further Forbidden s t n e = cc
+next_further (Fault code) s t n e = cc
+
+-- a step leads further, and not past the end
+pub record Advances (src : List ℕ) (s t : State) : Type 0 where
+  pub more : s.at < t.at
+  pub within : t.at ≤ length src
+  pub order : InOrder s.tokens s.at → InOrder t.tokens t.at
+
+pub step_advances : {src : List ℕ} {s t : State} → Step src s (Ok t) → Advances src s t
+step_advances {src} {s} {t} a =
+    let w = piece_within (is_first s.line) (drop s.at src) a.piece a.n (omega (arith, a.within, length-drop s.at src)) a.stands in
+    let f = next_further a.piece s t a.n a.leads in
+    record {
+      more = omega (arith, f.at, w.some);
+      within = omega (arith, f.at, w.within, a.within, length-drop s.at src);
+      order = λ o. f.order o w.some;
+    }
+
+ordered_cut : {src : List ℕ} {s : State} {r : Result (List Token) SourceFault} → Cut src s r → InOrder s.tokens s.at → IfOk r (λ tokens. InOrder tokens (length src))
+ordered_cut {s} (ends e) o = subst (λ x. InOrder s.tokens x) e o
+ordered_cut (stops a) o = tt
+ordered_cut (goes a c) o = ordered_cut c ((step_advances a).order o)
+
+pub ordered : {src : List ℕ} {r : Result (List Token) SourceFault} → Lexes src r → IfOk r (λ tokens. InOrder tokens (length src))
+ordered (great h) = tt
+ordered (cut h c) = ordered_cut c none

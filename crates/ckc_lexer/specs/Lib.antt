@@ -1,4 +1,9 @@
+pub mod Bytes
 pub mod Words
+pub mod Marks
+pub mod Runs
+pub mod Quoted
+pub mod Directives
+pub mod Pieces
 pub mod Tokens
-pub mod Fronts
-pub mod Examples
+pub mod Progress

@@ -1,27 +1,43 @@
-// What the definitions of tokens say: a source has one list of tokens, and worked examples.
+// What the definitions of tokens say: a source has one list of tokens or one fault, the tokens stand in order,
+// and worked examples.
 
-ghost use Rattle.std.specs.Prelude.{◌≡◌, ℕ, List, ◌∷◌, [], codes};
-ghost use Rattle.ckc_lexer.specs.Tokens.{AreTokens, token_at};
-ghost use Rattle.ckc_lexer.specs.Examples.{HasExactly, HasNone};
+ghost use Rattle.std.specs.Prelude.{◌≡◌, ℕ, List, ◌∷◌, ◌++◌, [], codes, length, Result, Ok, Err};
+ghost use Rattle.ckc_text.specs.declared.code.Code.TheVariants.{E02, E03, E04, E05};
+ghost use Rattle.ckc_text.specs.declared.fault.SourceFault.{SourceFault};
+ghost use Rattle.ckc_lexer.specs.Tokens.{Lexes, AreTokens, HasFault, InOrder, token_at, fault_at};
 ghost use Rattle.ckc_lexer.specs.declared.token.Token.{Token};
-ghost use Rattle.ckc_lexer.specs.declared.token.TokenKind.TheVariants.{Int, Name, Number, Equal, Less, Semicolon};
+ghost use Rattle.ckc_lexer.specs.declared.token.TokenKind.TheVariants.{Name, Number, Minus, LessEqual, Greater, GreaterEqual};
 
-/// Two lists of tokens of one source are the same.
+/// A source has one list of tokens, or one fault, and never both.
 pub fn one_cut()
-    ensures { (src : List ℕ) (tokens others : List Token)
-        → AreTokens src tokens → AreTokens src others → tokens ≡ others }
+    ensures { (src : List ℕ) (answer other : Result (List Token) SourceFault)
+        → Lexes src answer → Lexes src other → answer ≡ other }
 {}
 
-/// The tokens of a declaration, and texts at the edges: a word is taken to its end, no letter follows a
-/// number, and a keyword that the language leaves out is no name.
-pub fn examples()
-    ensures declaration { HasExactly (codes "int g=1;")
-        (token_at 0 3 Int ∷ token_at 4 5 (Name (codes "g")) ∷ token_at 5 6 Equal
-        ∷ token_at 6 7 (Number 1) ∷ token_at 7 8 Semicolon ∷ []) }
-    ensures longest { HasExactly (codes "intx") (token_at 0 4 (Name (codes "intx")) ∷ []) }
-    ensures touching { HasExactly (codes "0<7")
-        (token_at 0 1 (Number 0) ∷ token_at 1 2 Less ∷ token_at 2 3 (Number 7) ∷ []) }
-    ensures letters_after { HasNone (codes "12ab") }
-    ensures great { HasNone (codes "2147483648") }
-    ensures left_out { HasNone (codes "char") }
+/// The tokens of a source stand one behind the other and within it, each with a byte at least. Only behind
+/// a minus may one stand on the same bytes, as the number of a definition does.
+pub fn in_order()
+    ensures { (src : List ℕ) (tokens : List Token) → AreTokens src tokens → InOrder tokens (length src) }
+{}
+
+/// The longest mark is taken, but a right shift is two marks that touch. A name that is defined stands for
+/// its number.
+pub fn examples_of_tokens()
+    ensures longest { AreTokens (codes "a<=b")
+        (token_at 0 1 (Name (codes "a")) ∷ token_at 1 3 LessEqual ∷ token_at 3 4 (Name (codes "b")) ∷ []) }
+    ensures right_shift { AreTokens (codes "a >>= b")
+        (token_at 0 1 (Name (codes "a")) ∷ token_at 2 3 Greater ∷ token_at 3 5 GreaterEqual
+        ∷ token_at 6 7 (Name (codes "b")) ∷ []) }
+    ensures defined { AreTokens (codes "#define N -4" ++ 10 ∷ codes "N")
+        (token_at 13 14 Minus ∷ token_at 13 14 (Number 4) ∷ []) }
+{}
+
+/// Faults: a number that a digit follows, a comment that isn't closed, a number that is too great, a second
+/// definition with another number, and a `pop` of nothing.
+pub fn examples_of_faults()
+    ensures leading_zero { HasFault (codes "int x = 08; int main(void) { return 0; }") (fault_at E02 8) }
+    ensures open_comment { HasFault (codes "a/*") (fault_at E03 1) }
+    ensures great { HasFault (codes "2147483648") (fault_at E04 0) }
+    ensures two_definitions { HasFault (codes "#define N 4" ++ 10 ∷ codes "#define N 5") (fault_at E05 12) }
+    ensures pop_of_nothing { HasFault (codes "#pragma CHECKED_SCOPE pop") (fault_at E05 0) }
 {}

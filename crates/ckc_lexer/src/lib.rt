@@ -1,7 +1,18 @@
 // From the bytes of a source to its tokens.
 #![tactic(auto)]
 
+mod directive;
+mod front;
 pub mod laws;
 pub mod lexer;
+mod line;
+mod mark;
+mod piece;
+mod pieces;
+mod quoted;
+mod run;
+#[cfg(test)]
+mod tests;
+pub mod text;
 pub mod token;
 mod word;

@@ -1,10 +1,19 @@
-pub mod Fronts
-pub mod Unique
-pub mod Same
-pub mod Sums
-pub mod Calls
-pub mod Leads
-pub mod Stores
-pub mod Locals
-pub mod Items
-pub mod Programs
+mod OneType
+mod Heads
+mod OneExpression
+mod Roles
+mod OneStatement
+mod OneItem
+mod Whole
+mod Early
+mod TokenOrder
+mod PlacedType
+mod PlacedExpression
+mod PlacedStatement
+mod PlacedItem
+mod Paths
+mod TypePaths
+mod ExpressionPaths
+mod StatementPaths
+mod ItemPaths
+mod OneFault

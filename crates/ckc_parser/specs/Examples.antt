@@ -1,63 +1,97 @@
--- Three sources, worked out by hand: their tokens and their trees.
-use Rattle.std.specs.Prelude.{ℕ, List, [], ◌∷◌, codes, Some}
+-- Worked examples: tokens, and what they spell.
+use Rattle.std.specs.Prelude.{ℕ, ◌+◌, List, [], ◌∷◌, codes, Some, None}
 use Rattle.ckc_text.specs.declared.place.Span.{Span}
 use Rattle.ckc_lexer.specs.declared.token.Token.{Token}
 use Rattle.ckc_lexer.specs.declared.token.TokenKind.{TokenKind}
 use Rattle.ckc_lexer.specs.declared.token.TokenKind.TheVariants as kinds
-use Rattle.ckc_tree.specs.declared.tree.BinaryOperator.TheVariants.{Add, Subtract}
-use Rattle.ckc_tree.specs.Tree.{Number, Name, Deref, AddressOf, Binary, Call, Done, More, Declare, Assign, Return, Tree}
-use Rattle.ckc_parser.specs.Grammar.{token}
+use Rattle.ckc_tree.specs.declared.item.FunctionKind.TheVariants.{Trusted}
+use Rattle.ckc_tree.specs.declared.expr.BinaryOperator.TheVariants.{Add, Subtract, Multiply, ShiftRight}
+use Rattle.ckc_tree.specs.declared.type_form.PointerWord.{PointerWord}
+use Rattle.ckc_tree.specs.declared.type_form.PointerMode.TheVariants.{Checked}
+use Rattle.ckc_tree.specs.declared.type_form.PointerKind.TheVariants.{One}
+use Rattle.ckc_tree.specs.Types.{TypeName, IntType, PointerType}
+use Rattle.ckc_tree.specs.Expressions.{Expression, Number, Name, Binary}
+use Rattle.ckc_tree.specs.Statements.{Statement, Empty, If, IfElse, Return, NoMore, Then}
+use Rattle.ckc_tree.specs.Items.{Value, VoidAlone, FunctionItem, Tree}
+use Rattle.ckc_parser.specs.Tokens.{token, identifier}
 
 abbrev pub span : ℕ → ℕ → Span
 span from to = record { from = from; to = to }
 
-abbrev pub token_at : ℕ → ℕ → TokenKind → Token
-token_at from to kind = token kind (span from to)
+abbrev pub at : ℕ → ℕ → TokenKind → Token
+at from to kind = token kind (span from to)
 
--- int main(void) { return 0; }
-abbrev pub zero_tokens : List Token
-zero_tokens =
-    token_at 0 3 kinds.Int ∷ token_at 4 8 (kinds.Name (codes "main")) ∷ token_at 8 9 kinds.OpenParen ∷ token_at 9 13 kinds.Void ∷ token_at 13 14 kinds.CloseParen ∷ token_at 15 16 kinds.OpenBrace
-    ∷ token_at 17 23 kinds.Return ∷ token_at 24 25 (kinds.Number 0) ∷ token_at 25 26 kinds.Semicolon ∷ token_at 27 28 kinds.CloseBrace ∷ []
+-- a name of one letter at this byte
+abbrev name_token : ℕ → List ℕ → Token
+name_token from name = at from (from + 1) (kinds.Name name)
 
-abbrev pub zero_tree : Tree
-zero_tree = record { globals = []; prototypes = []; body = Return (Number 0 (span 24 25)) (span 17 26) ∷ [] }
+abbrev name_tree : ℕ → List ℕ → Expression
+name_tree from name = Name (identifier name (span from (from + 1)))
 
--- int x = 4; int main(void) { ptr<int> p = &x; *p = 7 - x + 1; return *p; }
--- The difference is the left part of the sum.
-abbrev pub store_tokens : List Token
-store_tokens =
-    token_at 0 3 kinds.Int ∷ token_at 4 5 (kinds.Name (codes "x")) ∷ token_at 6 7 kinds.Equal ∷ token_at 8 9 (kinds.Number 4) ∷ token_at 9 10 kinds.Semicolon
-    ∷ token_at 11 14 kinds.Int ∷ token_at 15 19 (kinds.Name (codes "main")) ∷ token_at 19 20 kinds.OpenParen ∷ token_at 20 24 kinds.Void ∷ token_at 24 25 kinds.CloseParen ∷ token_at 26 27 kinds.OpenBrace
-    ∷ token_at 28 31 kinds.Ptr ∷ token_at 31 32 kinds.Less ∷ token_at 32 35 kinds.Int ∷ token_at 35 36 kinds.Greater ∷ token_at 37 38 (kinds.Name (codes "p")) ∷ token_at 39 40 kinds.Equal ∷ token_at 41 42 kinds.Ampersand ∷ token_at 42 43 (kinds.Name (codes "x")) ∷ token_at 43 44 kinds.Semicolon
-    ∷ token_at 45 46 kinds.Star ∷ token_at 46 47 (kinds.Name (codes "p")) ∷ token_at 48 49 kinds.Equal ∷ token_at 50 51 (kinds.Number 7) ∷ token_at 52 53 kinds.Minus ∷ token_at 54 55 (kinds.Name (codes "x")) ∷ token_at 56 57 kinds.Plus ∷ token_at 58 59 (kinds.Number 1) ∷ token_at 59 60 kinds.Semicolon
-    ∷ token_at 61 67 kinds.Return ∷ token_at 68 69 kinds.Star ∷ token_at 69 70 (kinds.Name (codes "p")) ∷ token_at 70 71 kinds.Semicolon ∷ token_at 72 73 kinds.CloseBrace ∷ []
+-- a - b - c, which groups to the left
+abbrev pub left_tokens : List Token
+left_tokens = name_token 0 (codes "a") ∷ at 2 3 kinds.Minus ∷ name_token 4 (codes "b") ∷ at 6 7 kinds.Minus ∷ name_token 8 (codes "c") ∷ []
 
-abbrev pub store_tree : Tree
-store_tree = record {
-  globals = record { name = codes "x"; initial = Some 4; span = span 0 10 } ∷ [];
-  prototypes = [];
-  body =
-      Declare (codes "p") (AddressOf (Name (codes "x") (span 42 43)) (span 41 43)) (span 28 44)
-      ∷ Assign (Deref (Name (codes "p") (span 46 47)) (span 45 47)) (Binary Add (Binary Subtract (Number 7 (span 50 51)) (Name (codes "x") (span 54 55)) (span 50 55)) (Number 1 (span 58 59)) (span 50 59)) (span 45 60)
-      ∷ Return (Deref (Name (codes "p") (span 69 70)) (span 68 70)) (span 61 71)
-      ∷ [];
-}
+abbrev pub left_tree : Expression
+left_tree = Binary Subtract (Binary Subtract (name_tree 0 (codes "a")) (name_tree 4 (codes "b")) (span 0 5)) (name_tree 8 (codes "c")) (span 0 9)
 
--- _Tainted int t(int x, int y); int main(void) { return t(1, t(2, 3)) + 4; }
--- The second argument of a call is a call.
-abbrev pub call_tokens : List Token
-call_tokens =
-    token_at 0 8 kinds.Tainted ∷ token_at 9 12 kinds.Int ∷ token_at 13 14 (kinds.Name (codes "t")) ∷ token_at 14 15 kinds.OpenParen ∷ token_at 15 18 kinds.Int ∷ token_at 19 20 (kinds.Name (codes "x")) ∷ token_at 20 21 kinds.Comma ∷ token_at 22 25 kinds.Int ∷ token_at 26 27 (kinds.Name (codes "y")) ∷ token_at 27 28 kinds.CloseParen ∷ token_at 28 29 kinds.Semicolon
-    ∷ token_at 30 33 kinds.Int ∷ token_at 34 38 (kinds.Name (codes "main")) ∷ token_at 38 39 kinds.OpenParen ∷ token_at 39 43 kinds.Void ∷ token_at 43 44 kinds.CloseParen ∷ token_at 45 46 kinds.OpenBrace
-    ∷ token_at 47 53 kinds.Return ∷ token_at 54 55 (kinds.Name (codes "t")) ∷ token_at 55 56 kinds.OpenParen ∷ token_at 56 57 (kinds.Number 1) ∷ token_at 57 58 kinds.Comma ∷ token_at 59 60 (kinds.Name (codes "t")) ∷ token_at 60 61 kinds.OpenParen ∷ token_at 61 62 (kinds.Number 2) ∷ token_at 62 63 kinds.Comma ∷ token_at 64 65 (kinds.Number 3) ∷ token_at 65 66 kinds.CloseParen ∷ token_at 66 67 kinds.CloseParen
-    ∷ token_at 68 69 kinds.Plus ∷ token_at 70 71 (kinds.Number 4) ∷ token_at 71 72 kinds.Semicolon ∷ token_at 73 74 kinds.CloseBrace ∷ []
+-- a + b * c, in which the product binds tighter
+abbrev pub product_tokens : List Token
+product_tokens = name_token 0 (codes "a") ∷ at 2 3 kinds.Plus ∷ name_token 4 (codes "b") ∷ at 6 7 kinds.Star ∷ name_token 8 (codes "c") ∷ []
 
-abbrev pub call_tree : Tree
-call_tree = record {
-  globals = [];
-  prototypes = record { name = codes "t"; parameters = codes "x" ∷ codes "y" ∷ []; span = span 0 29 } ∷ [];
-  body =
-      Return (Binary Add (Call (codes "t") (More (Number 1 (span 56 57)) (More (Call (codes "t") (More (Number 2 (span 61 62)) (More (Number 3 (span 64 65)) Done)) (span 59 66)) Done)) (span 54 67)) (Number 4 (span 70 71)) (span 54 71)) (span 47 72)
-      ∷ [];
+abbrev pub product_tree : Expression
+product_tree = Binary Add (name_tree 0 (codes "a")) (Binary Multiply (name_tree 4 (codes "b")) (name_tree 8 (codes "c")) (span 4 9)) (span 0 9)
+
+-- (a + b) * c, of which the product holds the parentheses, and the sum doesn't
+abbrev pub paren_tokens : List Token
+paren_tokens = at 0 1 kinds.OpenParen ∷ name_token 1 (codes "a") ∷ at 3 4 kinds.Plus ∷ name_token 5 (codes "b") ∷ at 6 7 kinds.CloseParen ∷ at 8 9 kinds.Star ∷ name_token 10 (codes "c") ∷ []
+
+abbrev pub paren_tree : Expression
+paren_tree = Binary Multiply (Binary Add (name_tree 1 (codes "a")) (name_tree 5 (codes "b")) (span 1 6)) (name_tree 10 (codes "c")) (span 0 11)
+
+-- a >> b: the two marks touch
+abbrev pub shift_tokens : List Token
+shift_tokens = name_token 0 (codes "a") ∷ at 2 3 kinds.Greater ∷ at 3 4 kinds.Greater ∷ name_token 5 (codes "b") ∷ []
+
+abbrev pub shift_tree : Expression
+shift_tree = Binary ShiftRight (name_tree 0 (codes "a")) (name_tree 5 (codes "b")) (span 0 6)
+
+-- ptr<ptr<int>> p: the two marks that touch end two types
+abbrev pub nested_tokens : List Token
+nested_tokens = at 0 3 kinds.Ptr ∷ at 3 4 kinds.Less ∷ at 4 7 kinds.Ptr ∷ at 7 8 kinds.Less ∷ at 8 11 kinds.Int ∷ at 11 12 kinds.Greater ∷ at 12 13 kinds.Greater ∷ name_token 14 (codes "p") ∷ []
+
+abbrev checked_pointer : PointerWord
+checked_pointer = record { mode = Checked; kind = One }
+
+abbrev pub nested_type : TypeName
+nested_type = record { base = PointerType checked_pointer (PointerType checked_pointer (IntType (span 8 11)) 0 (span 4 12)) 0 (span 0 13); stars = 0 }
+
+-- if (a) if (b) ; else ; of which the else belongs to the second if
+abbrev pub else_tokens : List Token
+else_tokens = at 0 2 kinds.If ∷ at 3 4 kinds.OpenParen ∷ name_token 4 (codes "a") ∷ at 5 6 kinds.CloseParen ∷ at 7 9 kinds.If ∷ at 10 11 kinds.OpenParen ∷ name_token 11 (codes "b") ∷ at 12 13 kinds.CloseParen ∷ at 14 15 kinds.Semicolon ∷ at 16 20 kinds.Else ∷ at 21 22 kinds.Semicolon ∷ []
+
+abbrev pub else_tree : Statement
+else_tree = If (name_tree 4 (codes "a")) (IfElse (name_tree 11 (codes "b")) (Empty (span 14 15)) (Empty (span 21 22)) (span 7 22)) (span 0 22)
+
+-- int main(void) { return 0; with and without the brace that ends it; without it 26 bytes, and a refusal at the end
+abbrev pub early_tokens : List Token → List Token
+early_tokens more = at 0 3 kinds.Int ∷ at 4 8 (kinds.Name (codes "main")) ∷ at 8 9 kinds.OpenParen ∷ at 9 13 kinds.Void ∷ at 13 14 kinds.CloseParen ∷ at 15 16 kinds.OpenBrace ∷ at 17 23 kinds.Return ∷ at 24 25 (kinds.Number 0) ∷ at 25 26 kinds.Semicolon ∷ more
+
+abbrev pub whole_tokens : List Token
+whole_tokens = early_tokens (at 27 28 kinds.CloseBrace ∷ [])
+
+abbrev pub whole_tree : Tree
+whole_tree = record {
+  items = FunctionItem (record {
+    kind = Trusted;
+    mark = None;
+    result = Value (IntType (span 0 3));
+    stars = 0;
+    name = identifier (codes "main") (span 4 8);
+    parameters = VoidAlone;
+    bounds = None;
+    body = Some (record { mark = None; statements = Then (Return (Some (Number 0 (span 24 25))) (span 17 26)) NoMore; span = span 15 28 });
+    span = span 0 28;
+  }) ∷ [];
+  span = span 0 28;
 }

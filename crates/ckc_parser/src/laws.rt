@@ -1,19 +1,49 @@
 // What holds of the grammar.
 
-ghost use Rattle.std.specs.Prelude.{◌≡◌, List};
-ghost use Rattle.ckc_lexer.specs.declared.token.Token.{Token};
-ghost use Rattle.ckc_tree.specs.Tree.{Tree};
-ghost use Rattle.ckc_parser.specs.Examples.{zero_tokens, zero_tree, store_tokens, store_tree, call_tokens, call_tree};
-ghost use Rattle.ckc_parser.specs.Grammar.{SpellsProgram};
+ghost use Rattle.std.specs.Prelude.{[], ◌∷◌, codes};
+ghost use Rattle.ckc_parser.specs.Examples.{span, at, left_tokens, left_tree, product_tokens, product_tree, paren_tokens, paren_tree, shift_tokens, shift_tree, nested_tokens, nested_type, else_tokens, else_tree, early_tokens, whole_tokens, whole_tree};
+ghost use Rattle.ckc_text.specs.declared.code.Code.TheVariants.{E06};
+ghost use Rattle.ckc_lexer.specs.declared.token.TokenKind.TheVariants as kinds;
+ghost use Rattle.ckc_parser.specs.TypeGrammar.{SpellsTypeName};
+ghost use Rattle.ckc_parser.specs.ExpressionGrammar.{SpellsExpression};
+ghost use Rattle.ckc_parser.specs.StatementGrammar.{SpellsStatement};
+ghost use Rattle.ckc_parser.specs.ItemGrammar.{SpellsProgram};
+ghost use Rattle.ckc_parser.specs.Parsing.{IsFault, point, OneTree, OneFault, FaultOrTree, SpelledBegins, SpelledPlaced};
 
 /// No list of tokens spells two trees.
 pub fn one_tree()
-    ensures { (tokens : List Token) (t u : Tree) → SpellsProgram tokens t → SpellsProgram tokens u → t ≡ u }
+    ensures { OneTree }
 {}
 
-/// The tokens of three sources spell the trees that one reads in them.
+/// A list of tokens has one refusal at most.
+pub fn one_fault()
+    ensures { OneFault }
+{}
+
+/// Tokens that spell a tree that is low enough have no refusal.
+pub fn fault_or_tree()
+    ensures { FaultOrTree }
+{}
+
+/// What spells a tree begins, and has put its nodes.
+pub fn spelled_begins()
+    ensures { SpelledBegins }
+{}
+
+/// The spans of a tree that tokens spell lie in one another and in the source, and stand in order, where the tokens stand
+/// in order in the source.
+pub fn well_placed()
+    ensures { SpelledPlaced }
+{}
+
+/// The tokens of small sources spell the trees that one reads in them.
 pub fn examples()
-    ensures zero { SpellsProgram zero_tokens zero_tree }
-    ensures store { SpellsProgram store_tokens store_tree }
-    ensures call { SpellsProgram call_tokens call_tree }
+    ensures left { SpellsExpression left_tokens left_tree (span 0 9) [] }
+    ensures product { SpellsExpression product_tokens product_tree (span 0 9) [] }
+    ensures paren { SpellsExpression paren_tokens paren_tree (span 0 11) [] }
+    ensures shift { SpellsExpression shift_tokens shift_tree (span 0 6) [] }
+    ensures types { SpellsTypeName nested_tokens nested_type (at 14 15 (kinds.Name (codes "p")) ∷ []) }
+    ensures nearest { SpellsStatement else_tokens else_tree [] }
+    ensures whole { SpellsProgram 28 whole_tokens whole_tree }
+    ensures early { IsFault 26 (early_tokens []) (record { code = E06; span = point 26 }) }
 {}

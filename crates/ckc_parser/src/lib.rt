@@ -1,9 +1,18 @@
 // From the tokens of a source to its tree.
 #![tactic(auto)]
 
+mod bounds;
+mod declarations;
 mod expressions;
+mod items;
 pub mod laws;
 mod memory;
+mod operand;
 pub mod parser;
+mod primary;
 mod statements;
+mod stuck;
+#[cfg(test)]
+mod tests;
 mod tokens;
+mod types;

@@ -1,141 +1,371 @@
 // Reading statements.
 
-ghost use Rattle.std.specs.Prelude.{map};
-ghost use Rattle.ckc_tree.specs.Tree.{expression, statement};
-ghost use Rattle.ckc_parser.specs.Reading.{Gives, TakesNoMemory, address_at, pointer_at, pointer_type_at, local_at, Finds, IsStore, IsEnding, IsStores, Extends, IsBody};
-
-use crate::expressions::{join_spans, span_of, target, value};
+use crate::declarations::{assigned, assignment, declaration, starts_assignment};
+use crate::expressions::{expression, unary};
 use crate::memory::{boxed, push};
-use crate::tokens::{begins, expect, first, name, refused};
+use crate::stuck::Stuck;
+use crate::tokens::{
+    MAX_DEPTH, close_brace, close_paren, first, join, open_brace, open_paren, semicolon,
+};
+use crate::types::starts_type;
 use ckc_lexer::token::{Token, TokenKind};
-use ckc_text::fault::Refused;
-use ckc_text::name::Name;
 use ckc_text::place::Span;
-use ckc_tree::tree::{Expr, Stmt};
+use ckc_tree::expr::Expr;
+use ckc_tree::stmt::{Assignment, ForInitial, Mark, Stmt};
 use std::alloc::Global;
 
-/// The address of the name behind an ampersand.
-#[tactic(auto, unfolding(crate::specs::Reading::address_at))]
-fn address(alloc: Global, ampersand: Span, tokens: &[Token]) -> Result<(Expr, &[Token]), Refused>
-    ensures { Gives (λ x. (expression x.0, x.1.now)) result (address_at ampersand tokens.now) }
-{
-    let (name, span, rest) = name(tokens)?;
-    let name = Name::copied(alloc, name.as_bytes())?;
-    let operand = boxed(alloc, Expr::Name { name, span })?;
-    let span = join_spans(ampersand, span);
-    Ok((Expr::AddressOf { operand, span }, rest))
+/// A statement and the bytes that it stands on.
+#[derive(Drop)]
+pub struct ReadStmt {
+    pub stmt: Stmt,
+    pub span: Span,
 }
 
-/// The address of a variable, or null.
-#[tactic(auto, unfolding(crate::specs::Reading::pointer_at))]
-fn pointer(alloc: Global, tokens: &[Token]) -> Result<(Expr, &[Token]), Refused>
-    ensures { Gives (λ x. (expression x.0, x.1.now)) result (pointer_at tokens.now) }
-{
-    let (token, rest) = first(tokens)?;
-    match &token.kind {
-        TokenKind::Ampersand => address(alloc, token.span, rest),
-        TokenKind::Number(0) => {
-            let span = token.span;
-            Ok((Expr::Number { value: 0, span }, rest))
-        }
-        _ => Err(refused()),
+/// What makes a block or a function a checked or an unchecked one.
+pub fn mark(kind: &TokenKind) -> Option<Mark> {
+    match kind {
+        TokenKind::Checked => Some(Mark::Checked),
+        TokenKind::Unchecked => Some(Mark::Unchecked),
+        _ => None,
     }
 }
 
-/// The type of a pointer: the span of its first word, and the tokens after the type.
-#[tactic(auto, unfolding(crate::specs::Reading::pointer_type_at))]
-fn pointer_type(tokens: &[Token]) -> Result<(Span, &[Token]), Refused>
-    ensures gives { Gives (λ x. (x.0, x.1.now)) result (pointer_type_at tokens.now) }
-    ensures no_memory { TakesNoMemory result }
-{
-    let (first, rest) = expect(tokens, &TokenKind::Ptr)?;
-    let (_, rest) = expect(rest, &TokenKind::Less)?;
-    let (_, rest) = expect(rest, &TokenKind::Int)?;
-    let (_, rest) = expect(rest, &TokenKind::Greater)?;
-    Ok((first, rest))
+/// Whether a token is the first of a statement.
+fn starts_statement(kind: &TokenKind) -> bool {
+    mark(kind).is_some()
+        || starts_type(kind)
+        || starts_assignment(kind)
+        || matches!(
+            kind,
+            TokenKind::OpenBrace
+                | TokenKind::Bundled
+                | TokenKind::Semicolon
+                | TokenKind::If
+                | TokenKind::While
+                | TokenKind::For
+                | TokenKind::Return
+                | TokenKind::Break
+                | TokenKind::Continue
+        )
 }
 
-/// The declaration of a local pointer.
-#[tactic(auto, unfolding(crate::specs::Reading::local_at))]
-fn local(alloc: Global, tokens: &[Token]) -> Result<(Stmt, &[Token]), Refused>
-    ensures { Gives (λ x. (statement x.0, x.1.now)) result (local_at tokens.now) }
-{
-    let (first, rest) = pointer_type(tokens)?;
-    let (name, _, rest) = name(rest)?;
-    let (_, rest) = expect(rest, &TokenKind::Equal)?;
-    let (initial, rest) = pointer(alloc, rest)?;
-    let (last, rest) = expect(rest, &TokenKind::Semicolon)?;
-    let name = Name::copied(alloc, name.as_bytes())?;
-    let span = join_spans(first, last);
-    Ok((
-        Stmt::Declare {
-            name,
-            initial,
-            span,
-        },
-        rest,
-    ))
-}
-
-/// A store to a variable, or to what a local points to.
-fn store(alloc: Global, tokens: &[Token]) -> Result<(Stmt, &[Token]), Refused>
-    ensures { Finds (IsStore tokens.now) statement result }
-{
-    let (target, rest) = target(alloc, tokens)?;
-    let (_, rest) = expect(rest, &TokenKind::Equal)?;
-    let ((value, last), rest) = value(alloc, rest)?;
-    let span = join_spans(span_of(&target.expr), last);
-    let target = target.expr;
-    Ok((
-        Stmt::Assign {
-            target,
-            value,
-            span,
-        },
-        rest,
-    ))
-}
-
-/// The return that ends a body, and the brace behind it.
-fn ending(alloc: Global, tokens: &[Token]) -> Result<(Stmt, &[Token]), Refused>
-    ensures { Finds (IsEnding tokens.now) statement result }
-{
-    let (first, rest) = expect(tokens, &TokenKind::Return)?;
-    let ((value, last), rest) = value(alloc, rest)?;
-    let (_, rest) = expect(rest, &TokenKind::CloseBrace)?;
-    let span = join_spans(first, last);
-    Ok((Stmt::Return { value, span }, rest))
-}
-
-/// The statements, and then the stores and the return that tokens begin with.
-fn stores(
+/// A statement with at most `depth` nodes around it.
+#[cycle(statements)]
+pub fn statement(
     alloc: Global,
-    mut statements: Vec<Stmt>,
+    depth: u32,
     tokens: &[Token],
-) -> Result<(Vec<Stmt>, &[Token]), Refused>
-    ensures { Finds (Extends IsStores (map statement statements.items) tokens.now) (λ v. map statement v.items) result }
-{
-    let mut rest = tokens;
-    while !begins(rest, &TokenKind::Return) {
-        let (statement, after) = store(alloc, rest)?;
-        push(&mut statements, statement)?;
-        rest = after;
+) -> Result<(ReadStmt, &[Token]), Stuck<'_>> {
+    let (token, rest) = first(tokens)?;
+    if !starts_statement(&token.kind) {
+        return Err(Stuck::Unexpected { at: tokens });
     }
-    let (statement, rest) = ending(alloc, rest)?;
-    push(&mut statements, statement)?;
-    Ok((statements, rest))
+    let start = token.span;
+    if depth >= MAX_DEPTH {
+        return Err(Stuck::TooDeep { start: start.from });
+    }
+    match &token.kind {
+        TokenKind::OpenBrace => block(alloc, depth + 1, None, start, rest),
+        TokenKind::Checked | TokenKind::Unchecked => {
+            let (_, behind) = open_brace(rest)?;
+            block(alloc, depth + 1, mark(&token.kind), start, behind)
+        }
+        TokenKind::Bundled => bundle(alloc, depth + 1, start, rest),
+        TokenKind::Semicolon => Ok((
+            ReadStmt {
+                stmt: Stmt::Empty { span: start },
+                span: start,
+            },
+            rest,
+        )),
+        TokenKind::If => if_statement(alloc, depth + 1, start, rest),
+        TokenKind::While => while_statement(alloc, depth + 1, start, rest),
+        TokenKind::For => for_statement(alloc, depth + 1, start, rest),
+        TokenKind::Return => return_statement(alloc, depth + 1, start, rest),
+        TokenKind::Break => {
+            let (end, rest) = semicolon(rest)?;
+            let span = join(start, end);
+            let stmt = Stmt::Break { span };
+            Ok((ReadStmt { stmt, span }, rest))
+        }
+        TokenKind::Continue => {
+            let (end, rest) = semicolon(rest)?;
+            let span = join(start, end);
+            let stmt = Stmt::Continue { span };
+            Ok((ReadStmt { stmt, span }, rest))
+        }
+        kind => {
+            if starts_type(kind) {
+                declared(alloc, depth, tokens)
+            } else {
+                stored_or_called(alloc, depth, tokens)
+            }
+        }
+    }
 }
 
-/// The body of `main`: locals, stores and the return, and the brace behind it.
-pub fn body(alloc: Global, tokens: &[Token]) -> Result<(Vec<Stmt>, &[Token]), Refused>
-    ensures { Finds (IsBody tokens.now) (λ v. map statement v.items) result }
-{
-    let mut statements = Vec::new(alloc);
+/// The statements of a block, and the brace behind them.
+#[cycle(statements)]
+pub fn statements(
+    alloc: Global,
+    depth: u32,
+    tokens: &[Token],
+) -> Result<(Vec<Stmt>, Span, &[Token]), Stuck<'_>> {
+    let mut items = Vec::new(alloc);
     let mut rest = tokens;
-    while begins(rest, &TokenKind::Ptr) {
-        let (statement, after) = local(alloc, rest)?;
-        push(&mut statements, statement)?;
-        rest = after;
+    loop {
+        if let Ok((end, rest)) = close_brace(rest) {
+            return Ok((items, end, rest));
+        }
+        let (read, behind) = statement(alloc, depth, rest)?;
+        push(&mut items, read.stmt)?;
+        rest = behind;
     }
-    stores(alloc, statements, rest)
+}
+
+/// A block whose brace is read.
+#[cycle(statements)]
+fn block(
+    alloc: Global,
+    depth: u32,
+    mark: Option<Mark>,
+    start: Span,
+    tokens: &[Token],
+) -> Result<(ReadStmt, &[Token]), Stuck<'_>> {
+    let (statements, end, rest) = statements(alloc, depth, tokens)?;
+    let span = join(start, end);
+    let stmt = Stmt::Block {
+        mark,
+        statements,
+        span,
+    };
+    Ok((ReadStmt { stmt, span }, rest))
+}
+
+/// What stands behind the word of a bundle.
+fn bundle(
+    alloc: Global,
+    depth: u32,
+    start: Span,
+    tokens: &[Token],
+) -> Result<(ReadStmt, &[Token]), Stuck<'_>> {
+    let (_, behind) = open_brace(tokens)?;
+    let mut assignments = Vec::new(alloc);
+    let mut rest = behind;
+    loop {
+        if let Ok((end, rest)) = close_brace(rest) {
+            let span = join(start, end);
+            let stmt = Stmt::Bundle { assignments, span };
+            return Ok((ReadStmt { stmt, span }, rest));
+        }
+        let (read, behind) = assignment(alloc, depth, rest)?;
+        let (_, behind) = semicolon(behind)?;
+        push(&mut assignments, read.form)?;
+        rest = behind;
+    }
+}
+
+/// A declaration and its semicolon.
+fn declared(
+    alloc: Global,
+    depth: u32,
+    tokens: &[Token],
+) -> Result<(ReadStmt, &[Token]), Stuck<'_>> {
+    let (read, rest) = declaration(alloc, depth, tokens)?;
+    let (end, rest) = semicolon(rest)?;
+    let span = join(read.span, end);
+    let declaration = read.form;
+    let stmt = Stmt::Declare { declaration, span };
+    Ok((ReadStmt { stmt, span }, rest))
+}
+
+/// An assignment or a call, and its semicolon. It is a call where a name is first and nothing but its arguments follow.
+fn stored_or_called(
+    alloc: Global,
+    depth: u32,
+    tokens: &[Token],
+) -> Result<(ReadStmt, &[Token]), Stuck<'_>> {
+    let (token, _) = first(tokens)?;
+    if !matches!(token.kind, TokenKind::Name(_)) {
+        let (read, rest) = assignment(alloc, depth, tokens)?;
+        return stored(read.form, read.span, rest);
+    }
+    let (target, rest) = unary(alloc, depth + 1, tokens)?;
+    if matches!(target.expr, Expr::Call { .. }) {
+        if let Ok((end, rest)) = semicolon(rest) {
+            let span = join(target.outer, end);
+            let call = target.expr;
+            let stmt = Stmt::Call { call, span };
+            return Ok((ReadStmt { stmt, span }, rest));
+        }
+    }
+    let (read, rest) = assigned(alloc, depth, target, rest)?;
+    stored(read.form, read.span, rest)
+}
+
+/// The statement of an assignment, with its semicolon.
+fn stored(
+    assignment: Assignment,
+    span: Span,
+    tokens: &[Token],
+) -> Result<(ReadStmt, &[Token]), Stuck<'_>> {
+    let (end, rest) = semicolon(tokens)?;
+    let span = join(span, end);
+    let stmt = Stmt::Assign { assignment, span };
+    Ok((ReadStmt { stmt, span }, rest))
+}
+
+/// An expression in parentheses that belong to a statement.
+fn condition(alloc: Global, depth: u32, tokens: &[Token]) -> Result<(Expr, &[Token]), Stuck<'_>> {
+    let (_, rest) = open_paren(tokens)?;
+    let (read, rest) = expression(alloc, depth, rest)?;
+    let (_, rest) = close_paren(rest)?;
+    Ok((read.expr, rest))
+}
+
+/// What stands behind the word `if`.
+#[cycle(statements)]
+fn if_statement(
+    alloc: Global,
+    depth: u32,
+    start: Span,
+    tokens: &[Token],
+) -> Result<(ReadStmt, &[Token]), Stuck<'_>> {
+    let (condition, rest) = condition(alloc, depth, tokens)?;
+    let (consequent, rest) = statement(alloc, depth, rest)?;
+    let mut span = join(start, consequent.span);
+    let mut alternative = None;
+    let mut rest = rest;
+    if let Some((token, behind)) = rest.split_first() {
+        if matches!(token.kind, TokenKind::Else) {
+            let (read, behind) = statement(alloc, depth, behind)?;
+            span = join(start, read.span);
+            alternative = Some(boxed(alloc, read.stmt)?);
+            rest = behind;
+        }
+    }
+    let consequent = boxed(alloc, consequent.stmt)?;
+    let stmt = Stmt::If {
+        condition,
+        consequent,
+        alternative,
+        span,
+    };
+    Ok((ReadStmt { stmt, span }, rest))
+}
+
+/// What stands behind the word `while`.
+#[cycle(statements)]
+fn while_statement(
+    alloc: Global,
+    depth: u32,
+    start: Span,
+    tokens: &[Token],
+) -> Result<(ReadStmt, &[Token]), Stuck<'_>> {
+    let (condition, rest) = condition(alloc, depth, tokens)?;
+    let (body, rest) = statement(alloc, depth, rest)?;
+    let span = join(start, body.span);
+    let body = boxed(alloc, body.stmt)?;
+    let stmt = Stmt::While {
+        condition,
+        body,
+        span,
+    };
+    Ok((ReadStmt { stmt, span }, rest))
+}
+
+/// The first part of the head of a `for`, and its semicolon.
+fn for_initial(
+    alloc: Global,
+    depth: u32,
+    tokens: &[Token],
+) -> Result<(ForInitial, &[Token]), Stuck<'_>> {
+    if let Ok((_, rest)) = semicolon(tokens) {
+        return Ok((ForInitial::Nothing, rest));
+    }
+    let (token, _) = first(tokens)?;
+    if starts_type(&token.kind) {
+        let (read, rest) = declaration(alloc, depth, tokens)?;
+        let (_, rest) = semicolon(rest)?;
+        return Ok((
+            ForInitial::Declare {
+                declaration: read.form,
+            },
+            rest,
+        ));
+    }
+    let (read, rest) = assignment(alloc, depth, tokens)?;
+    let (_, rest) = semicolon(rest)?;
+    Ok((
+        ForInitial::Assign {
+            assignment: read.form,
+        },
+        rest,
+    ))
+}
+
+/// An expression that may be left out before a semicolon, and the semicolon with its span.
+fn optional_value(
+    alloc: Global,
+    depth: u32,
+    tokens: &[Token],
+) -> Result<(Option<Expr>, Span, &[Token]), Stuck<'_>> {
+    if let Ok((end, rest)) = semicolon(tokens) {
+        return Ok((None, end, rest));
+    }
+    let (read, rest) = expression(alloc, depth, tokens)?;
+    let (end, rest) = semicolon(rest)?;
+    Ok((Some(read.expr), end, rest))
+}
+
+/// The last part of the head of a `for`, and its parenthesis.
+fn for_step(
+    alloc: Global,
+    depth: u32,
+    tokens: &[Token],
+) -> Result<(Option<Assignment>, &[Token]), Stuck<'_>> {
+    if let Ok((_, rest)) = close_paren(tokens) {
+        return Ok((None, rest));
+    }
+    let (read, rest) = assignment(alloc, depth, tokens)?;
+    let (_, rest) = close_paren(rest)?;
+    Ok((Some(read.form), rest))
+}
+
+/// What stands behind the word `for`.
+#[cycle(statements)]
+fn for_statement(
+    alloc: Global,
+    depth: u32,
+    start: Span,
+    tokens: &[Token],
+) -> Result<(ReadStmt, &[Token]), Stuck<'_>> {
+    let (_, rest) = open_paren(tokens)?;
+    let (initial, rest) = for_initial(alloc, depth, rest)?;
+    let (condition, _, rest) = optional_value(alloc, depth, rest)?;
+    let (step, rest) = for_step(alloc, depth, rest)?;
+    let (body, rest) = statement(alloc, depth, rest)?;
+    let span = join(start, body.span);
+    let body = boxed(alloc, body.stmt)?;
+    let stmt = Stmt::For {
+        initial,
+        condition,
+        step,
+        body,
+        span,
+    };
+    Ok((ReadStmt { stmt, span }, rest))
+}
+
+/// What stands behind the word `return`.
+fn return_statement(
+    alloc: Global,
+    depth: u32,
+    start: Span,
+    tokens: &[Token],
+) -> Result<(ReadStmt, &[Token]), Stuck<'_>> {
+    let (value, end, rest) = optional_value(alloc, depth, tokens)?;
+    let span = join(start, end);
+    let stmt = Stmt::Return { value, span };
+    Ok((ReadStmt { stmt, span }, rest))
 }

@@ -1,106 +1,211 @@
-// Reading single tokens.
+// Reading single tokens: each function gives what it read and the tokens behind it.
 
-ghost use Rattle.std.specs.Prelude.{◌≡◌};
-ghost use Rattle.ckc_text.specs.Refusals.{not_built};
-ghost use Rattle.ckc_parser.specs.Reading.{Gives, TakesNoMemory, first_at, is_same, mark_at, begins, name_at, number_at};
-
+use crate::stuck::Stuck;
 use ckc_lexer::token::{Token, TokenKind};
-use ckc_text::code::Code;
-use ckc_text::fault::{Refused, SourceFault};
+use ckc_text::fault::NoMemory;
 use ckc_text::name::Name;
 use ckc_text::place::Span;
+use ckc_tree::expr::{BinaryOperator, UnaryOperator};
+use ckc_tree::identifier::Identifier;
+use std::alloc::Global;
 
-/// The fault of what stands outside the language.
-pub fn refused() -> Refused
-    ensures { result ≡ Refused.Source not_built }
-{
-    Refused::Source(SourceFault {
-        code: Code::E09,
-        span: Span { from: 0, to: 0 },
-    })
-}
+/// The greatest depth of a node.
+pub const MAX_DEPTH: u32 = 200;
 
-/// The first token, and the tokens after it.
-pub fn first(tokens: &[Token]) -> Result<(&Token, &[Token]), Refused>
-    ensures gives { Gives (λ x. (x.0.now, x.1.now)) result (first_at tokens.now) }
-    ensures no_memory { TakesNoMemory result }
-{
-    tokens.split_first().ok_or(refused())
-}
-
-/// Whether a token is this word or mark, which carries nothing else.
-#[tactic(auto, unfolding(crate::specs::Reading::is_same))]
-fn is_same(mark: &TokenKind, kind: &TokenKind) -> bool
-    ensures { result ≡ is_same mark.now kind.now }
-{
-    match mark {
-        TokenKind::Int => matches!(kind, TokenKind::Int),
-        TokenKind::Void => matches!(kind, TokenKind::Void),
-        TokenKind::Return => matches!(kind, TokenKind::Return),
-        TokenKind::Ptr => matches!(kind, TokenKind::Ptr),
-        TokenKind::Tainted => matches!(kind, TokenKind::Tainted),
-        TokenKind::OpenParen => matches!(kind, TokenKind::OpenParen),
-        TokenKind::CloseParen => matches!(kind, TokenKind::CloseParen),
-        TokenKind::OpenBrace => matches!(kind, TokenKind::OpenBrace),
-        TokenKind::CloseBrace => matches!(kind, TokenKind::CloseBrace),
-        TokenKind::Less => matches!(kind, TokenKind::Less),
-        TokenKind::Greater => matches!(kind, TokenKind::Greater),
-        TokenKind::Equal => matches!(kind, TokenKind::Equal),
-        TokenKind::Plus => matches!(kind, TokenKind::Plus),
-        TokenKind::Minus => matches!(kind, TokenKind::Minus),
-        TokenKind::Star => matches!(kind, TokenKind::Star),
-        TokenKind::Ampersand => matches!(kind, TokenKind::Ampersand),
-        TokenKind::Comma => matches!(kind, TokenKind::Comma),
-        TokenKind::Semicolon => matches!(kind, TokenKind::Semicolon),
-        TokenKind::Name(_) | TokenKind::Number(_) => false,
+/// From the start of the first to the end of the last.
+pub fn join(first: Span, last: Span) -> Span {
+    Span {
+        from: first.from,
+        to: last.to,
     }
 }
 
-/// The span of this word or mark, and the tokens after it.
-#[tactic(auto, unfolding(crate::specs::Reading::mark_at))]
-pub fn expect<'a>(tokens: &'a [Token], mark: &TokenKind) -> Result<(Span, &'a [Token]), Refused>
-    ensures gives { Gives (λ x. (x.0, x.1.now)) result (mark_at mark.now tokens.now) }
-    ensures no_memory { TakesNoMemory result }
-{
+/// The first token.
+pub fn first(tokens: &[Token]) -> Result<(&Token, &[Token]), Stuck<'_>> {
+    match tokens.split_first() {
+        Some((token, rest)) => Ok((token, rest)),
+        None => Err(Stuck::Unexpected { at: tokens }),
+    }
+}
+
+/// The span of a mark `(`.
+pub fn open_paren(tokens: &[Token]) -> Result<(Span, &[Token]), Stuck<'_>> {
     let (token, rest) = first(tokens)?;
-    if !is_same(mark, &token.kind) {
-        return Err(refused());
+    match &token.kind {
+        TokenKind::OpenParen => Ok((token.span, rest)),
+        _ => Err(Stuck::Unexpected { at: tokens }),
     }
-    Ok((token.span, rest))
 }
 
-/// A name and its span, and the tokens after it.
-#[tactic(auto, unfolding(crate::specs::Reading::name_at))]
-pub fn name(tokens: &[Token]) -> Result<(&Name, Span, &[Token]), Refused>
-    ensures gives { Gives (λ x. (x.0.now, x.1, x.2.now)) result (name_at tokens.now) }
-    ensures no_memory { TakesNoMemory result }
-{
+/// The span of a mark `)`.
+pub fn close_paren(tokens: &[Token]) -> Result<(Span, &[Token]), Stuck<'_>> {
+    let (token, rest) = first(tokens)?;
+    match &token.kind {
+        TokenKind::CloseParen => Ok((token.span, rest)),
+        _ => Err(Stuck::Unexpected { at: tokens }),
+    }
+}
+
+/// The span of a mark `{`.
+pub fn open_brace(tokens: &[Token]) -> Result<(Span, &[Token]), Stuck<'_>> {
+    let (token, rest) = first(tokens)?;
+    match &token.kind {
+        TokenKind::OpenBrace => Ok((token.span, rest)),
+        _ => Err(Stuck::Unexpected { at: tokens }),
+    }
+}
+
+/// The span of a mark `}`.
+pub fn close_brace(tokens: &[Token]) -> Result<(Span, &[Token]), Stuck<'_>> {
+    let (token, rest) = first(tokens)?;
+    match &token.kind {
+        TokenKind::CloseBrace => Ok((token.span, rest)),
+        _ => Err(Stuck::Unexpected { at: tokens }),
+    }
+}
+
+/// The span of a mark `[`.
+pub fn open_bracket(tokens: &[Token]) -> Result<(Span, &[Token]), Stuck<'_>> {
+    let (token, rest) = first(tokens)?;
+    match &token.kind {
+        TokenKind::OpenBracket => Ok((token.span, rest)),
+        _ => Err(Stuck::Unexpected { at: tokens }),
+    }
+}
+
+/// The span of a mark `]`.
+pub fn close_bracket(tokens: &[Token]) -> Result<(Span, &[Token]), Stuck<'_>> {
+    let (token, rest) = first(tokens)?;
+    match &token.kind {
+        TokenKind::CloseBracket => Ok((token.span, rest)),
+        _ => Err(Stuck::Unexpected { at: tokens }),
+    }
+}
+
+/// The span of a mark `<`.
+pub fn less(tokens: &[Token]) -> Result<(Span, &[Token]), Stuck<'_>> {
+    let (token, rest) = first(tokens)?;
+    match &token.kind {
+        TokenKind::Less => Ok((token.span, rest)),
+        _ => Err(Stuck::Unexpected { at: tokens }),
+    }
+}
+
+/// The span of a mark `>`.
+pub fn greater(tokens: &[Token]) -> Result<(Span, &[Token]), Stuck<'_>> {
+    let (token, rest) = first(tokens)?;
+    match &token.kind {
+        TokenKind::Greater => Ok((token.span, rest)),
+        _ => Err(Stuck::Unexpected { at: tokens }),
+    }
+}
+
+/// The span of a mark `,`.
+pub fn comma(tokens: &[Token]) -> Result<(Span, &[Token]), Stuck<'_>> {
+    let (token, rest) = first(tokens)?;
+    match &token.kind {
+        TokenKind::Comma => Ok((token.span, rest)),
+        _ => Err(Stuck::Unexpected { at: tokens }),
+    }
+}
+
+/// The span of a mark `;`.
+pub fn semicolon(tokens: &[Token]) -> Result<(Span, &[Token]), Stuck<'_>> {
+    let (token, rest) = first(tokens)?;
+    match &token.kind {
+        TokenKind::Semicolon => Ok((token.span, rest)),
+        _ => Err(Stuck::Unexpected { at: tokens }),
+    }
+}
+
+/// A name and its span.
+pub fn name(tokens: &[Token]) -> Result<(&Name, Span, &[Token]), Stuck<'_>> {
     let (token, rest) = first(tokens)?;
     match &token.kind {
         TokenKind::Name(name) => Ok((name, token.span, rest)),
-        _ => Err(refused()),
+        _ => Err(Stuck::Unexpected { at: tokens }),
     }
 }
 
-/// Whether tokens begin with this word or mark.
-pub fn begins(tokens: &[Token], mark: &TokenKind) -> bool
-    ensures { result ≡ begins mark.now tokens.now }
-{
-    match tokens {
-        [token, ..] => is_same(mark, &token.kind),
-        [] => false,
+/// A name with its span, of its own.
+pub fn copied(alloc: Global, name: &Name, span: Span) -> Result<Identifier, NoMemory> {
+    let name = Name::copied(alloc, name.as_bytes())?;
+    Ok(Identifier { name, span })
+}
+
+/// The operator that a token is before an operand.
+pub fn unary_operator(kind: &TokenKind) -> Option<UnaryOperator> {
+    match kind {
+        TokenKind::Star => Some(UnaryOperator::Deref),
+        TokenKind::Ampersand => Some(UnaryOperator::AddressOf),
+        TokenKind::Minus => Some(UnaryOperator::Negate),
+        TokenKind::Not => Some(UnaryOperator::Not),
+        TokenKind::Tilde => Some(UnaryOperator::Complement),
+        _ => None,
     }
 }
 
-/// A number, and the tokens after it.
-#[tactic(auto, unfolding(crate::specs::Reading::number_at))]
-pub fn number(tokens: &[Token]) -> Result<(u32, &[Token]), Refused>
-    ensures gives { Gives (λ x. (x.0, x.1.now)) result (number_at tokens.now) }
-    ensures no_memory { TakesNoMemory result }
-{
-    let (token, rest) = first(tokens)?;
+/// The operator that a mark is between operands. A mark `>` is one here, also where the next touches it.
+fn mark_operator(kind: &TokenKind) -> Option<BinaryOperator> {
+    match kind {
+        TokenKind::OrOr => Some(BinaryOperator::Or),
+        TokenKind::AndAnd => Some(BinaryOperator::And),
+        TokenKind::Bar => Some(BinaryOperator::BitOr),
+        TokenKind::Caret => Some(BinaryOperator::BitXor),
+        TokenKind::Ampersand => Some(BinaryOperator::BitAnd),
+        TokenKind::EqualEqual => Some(BinaryOperator::Equal),
+        TokenKind::NotEqual => Some(BinaryOperator::NotEqual),
+        TokenKind::Less => Some(BinaryOperator::Less),
+        TokenKind::LessEqual => Some(BinaryOperator::LessEqual),
+        TokenKind::Greater => Some(BinaryOperator::Greater),
+        TokenKind::GreaterEqual => Some(BinaryOperator::GreaterEqual),
+        TokenKind::ShiftLeft => Some(BinaryOperator::ShiftLeft),
+        TokenKind::Plus => Some(BinaryOperator::Add),
+        TokenKind::Minus => Some(BinaryOperator::Subtract),
+        TokenKind::Star => Some(BinaryOperator::Multiply),
+        TokenKind::Slash => Some(BinaryOperator::Divide),
+        TokenKind::Percent => Some(BinaryOperator::Remainder),
+        _ => None,
+    }
+}
+
+/// The tokens behind a mark `>` that starts at this byte, where it is the first.
+fn touching_greater(at: u32, tokens: &[Token]) -> Option<&[Token]> {
+    let (token, rest) = tokens.split_first()?;
     match &token.kind {
-        TokenKind::Number(value) => Ok((*value, rest)),
-        _ => Err(refused()),
+        TokenKind::Greater if token.span.from == at => Some(rest),
+        _ => None,
+    }
+}
+
+/// The operator between operands that the tokens begin with.
+pub fn binary_operator(tokens: &[Token]) -> Option<(BinaryOperator, &[Token])> {
+    let (token, rest) = tokens.split_first()?;
+    let operator = mark_operator(&token.kind)?;
+    if !matches!(operator, BinaryOperator::Greater) {
+        return Some((operator, rest));
+    }
+    match touching_greater(token.span.to, rest) {
+        Some(behind) => Some((BinaryOperator::ShiftRight, behind)),
+        None => Some((operator, rest)),
+    }
+}
+
+/// How loosely an operator binds: from 1, the tightest, to 10.
+pub fn level(operator: BinaryOperator) -> u32 {
+    match operator {
+        BinaryOperator::Multiply | BinaryOperator::Divide | BinaryOperator::Remainder => 1,
+        BinaryOperator::Add | BinaryOperator::Subtract => 2,
+        BinaryOperator::ShiftLeft | BinaryOperator::ShiftRight => 3,
+        BinaryOperator::Less
+        | BinaryOperator::LessEqual
+        | BinaryOperator::Greater
+        | BinaryOperator::GreaterEqual => 4,
+        BinaryOperator::Equal | BinaryOperator::NotEqual => 5,
+        BinaryOperator::BitAnd => 6,
+        BinaryOperator::BitXor => 7,
+        BinaryOperator::BitOr => 8,
+        BinaryOperator::And => 9,
+        BinaryOperator::Or => 10,
     }
 }

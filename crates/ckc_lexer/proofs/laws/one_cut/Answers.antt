@@ -1,5 +1,5 @@
-use Rattle.ckc_lexer.proofs.Cuts.{same_cut}
+use Rattle.ckc_lexer.proofs.Cuts.{same_answer}
 use Rattle.ckc_lexer.proofs.laws.one_cut.Goals as goal
 
 pub returns : goal.returns
-returns c = λ src tokens others a b. same_cut a.cut b.cut
+returns c = λ src answer other a b. same_answer a b

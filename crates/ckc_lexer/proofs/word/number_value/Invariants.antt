@@ -5,6 +5,6 @@ use Rattle.ckc_lexer.proofs.word.number_value.Given as goal
 -- the value of the digits so far
 abbrev pub invariant-loop-digit : goal.invariant-loop-digit
 invariant-loop-digit l = record {
-  value : l.value ≡ digits_value 10 (take l.digit-index l.digits);
+  value : l.value ≡ digits_value l.radix (take l.digit-index l.digits);
   small : l.value ≤ 2147483647;
 }

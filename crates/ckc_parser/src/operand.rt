@@ -1,0 +1,50 @@
+// Expressions as they are read: with the parentheses around them, and with their deepest node.
+
+use ckc_text::place::Span;
+use ckc_tree::expr::Expr;
+
+/// How many nodes stand one inside the other, and where the first of the deepest starts.
+#[derive(Clone, Copy)]
+pub struct Reach {
+    pub height: u32,
+    pub start: u32,
+}
+
+impl Reach {
+    /// No node.
+    pub fn nowhere() -> Reach {
+        Reach {
+            height: 0,
+            start: 0,
+        }
+    }
+
+    /// Of two parts, of which the first stands first.
+    pub fn beside(self, second: Reach) -> Reach {
+        if self.height < second.height {
+            second
+        } else {
+            self
+        }
+    }
+
+    /// A node at this start around these parts.
+    pub fn around(self, start: u32) -> Reach {
+        if self.height == 0 {
+            Reach { height: 1, start }
+        } else {
+            Reach {
+                height: self.height + 1,
+                start: self.start,
+            }
+        }
+    }
+}
+
+/// An expression, the bytes that it stands on with the parentheses around it, and its reach.
+#[derive(Drop)]
+pub struct Operand {
+    pub expr: Expr,
+    pub outer: Span,
+    pub reach: Reach,
+}

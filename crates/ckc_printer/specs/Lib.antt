@@ -1,0 +1,10 @@
+pub mod Pieces
+pub mod TypePieces
+pub mod ExpressionPieces
+pub mod StatementPieces
+pub mod ItemPieces
+pub mod Spaced
+pub mod Examples
+pub mod Slices
+pub mod Laid
+pub mod ReadingBack

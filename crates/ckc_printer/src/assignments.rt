@@ -1,0 +1,164 @@
+// Printing of assignments.
+
+ghost use Rattle.std.specs.Prelude.{◌≡◌, ◌++◌, map, OnOk};
+ghost use Rattle.std.specs.List.{flat_map};
+ghost use Rattle.ckc_tree.specs.Expressions.{expression};
+ghost use Rattle.ckc_tree.specs.Statements.{assignment};
+ghost use Rattle.ckc_printer.specs.Pieces.{kind_text};
+ghost use Rattle.ckc_printer.specs.ExpressionPieces.{is_binary, target_pieces};
+ghost use Rattle.ckc_printer.specs.StatementPieces.{store_kind, step_kind, assignment_pieces, bundled_pieces};
+ghost use Rattle.ckc_printer.specs.Spaced.{spaced_text};
+
+use crate::expressions::put_expr;
+use crate::signs::{put, put_if};
+use ckc_text::fault::NoMemory;
+use ckc_tree::expr::Expr;
+use ckc_tree::stmt::{Assignment, StepOperator, StepSide, StoreOperator};
+
+/// An operator that stores.
+fn store_text(operator: StoreOperator) -> &'static [u8]
+    ensures { result.now ≡ kind_text (store_kind operator) }
+{
+    match operator {
+        StoreOperator::Set => b"=",
+        StoreOperator::Add => b"+=",
+        StoreOperator::Subtract => b"-=",
+    }
+}
+
+/// An operator that adds or takes one.
+fn step_text(operator: StepOperator) -> &'static [u8]
+    ensures { result.now ≡ kind_text (step_kind operator) }
+{
+    match operator {
+        StepOperator::Increment => b"++",
+        StepOperator::Decrement => b"--",
+    }
+}
+
+/// Whether it stands in parentheses as a target.
+fn is_binary_expr(expr: &Expr) -> bool
+    ensures { result ≡ is_binary (expression expr.now) }
+{
+    match expr {
+        Expr::Number { value: _, span: _ } => false,
+        Expr::Character { value: _, span: _ } => false,
+        Expr::Text { bytes: _, span: _ } => false,
+        Expr::Name { name: _ } => false,
+        Expr::Call {
+            callee: _,
+            arguments: _,
+            span: _,
+        } => false,
+        Expr::SizeOf {
+            type_name: _,
+            span: _,
+        } => false,
+        Expr::Cast {
+            word: _,
+            type_name: _,
+            operand: _,
+            bounds: _,
+            span: _,
+        } => false,
+        Expr::Malloc {
+            word: _,
+            type_name: _,
+            size: _,
+            span: _,
+        } => false,
+        Expr::Calloc {
+            word: _,
+            type_name: _,
+            count: _,
+            size: _,
+            span: _,
+        } => false,
+        Expr::Index {
+            base: _,
+            index: _,
+            span: _,
+        } => false,
+        Expr::Dot {
+            base: _,
+            member: _,
+            span: _,
+        } => false,
+        Expr::Arrow {
+            base: _,
+            member: _,
+            span: _,
+        } => false,
+        Expr::Unary {
+            operator: _,
+            operand: _,
+            span: _,
+        } => false,
+        Expr::Binary {
+            operator: _,
+            left: _,
+            right: _,
+            span: _,
+        } => true,
+    }
+}
+
+/// What is stored to.
+#[tactic(auto, using(crate::proofs::Texts::spaced_around))]
+fn put_target(out: &mut Vec<u8>, target: &Expr) -> Result<(), NoMemory>
+    ensures { OnOk result (out.new.items ≡ out.old.items ++ spaced_text (target_pieces (expression target.now))) }
+{
+    let binary = is_binary_expr(target);
+    put_if(out, binary, b"(")?;
+    put_expr(out, target)?;
+    put_if(out, binary, b")")
+}
+
+/// An assignment without the semicolon behind it.
+#[tactic(auto, using(crate::proofs::Texts::spaced_append))]
+pub fn put_assignment(out: &mut Vec<u8>, written: &Assignment) -> Result<(), NoMemory>
+    ensures { OnOk result (out.new.items ≡ out.old.items ++ spaced_text (assignment_pieces (assignment written.now))) }
+{
+    match written {
+        Assignment::Store {
+            operator,
+            target,
+            value,
+            span: _,
+        } => {
+            put_target(out, target)?;
+            put(out, store_text(*operator))?;
+            put_expr(out, value)
+        }
+        Assignment::Step {
+            operator,
+            side: StepSide::Before,
+            target,
+            span: _,
+        } => {
+            put(out, step_text(*operator))?;
+            put_target(out, target)
+        }
+        Assignment::Step {
+            operator,
+            side: StepSide::After,
+            target,
+            span: _,
+        } => {
+            put_target(out, target)?;
+            put(out, step_text(*operator))
+        }
+    }
+}
+
+/// The assignments of a bundle, with a semicolon behind each.
+#[tactic(auto, using(crate::proofs::Texts::spaced_append))]
+pub fn bundled(out: &mut Vec<u8>, listed: &[Assignment]) -> Result<(), NoMemory>
+    ensures { OnOk result (out.new.items ≡ out.old.items ++ spaced_text (flat_map bundled_pieces (map assignment listed.now))) }
+{
+    for written in listed {
+        put_assignment(out, written)?;
+        put(out, b";")?;
+    }
+    Ok(())
+}

@@ -1,0 +1,19 @@
+// What trees are printed as, worked out from the definitions.
+
+ghost use Rattle.std.specs.Prelude.{◌≡◌, codes};
+ghost use Rattle.ckc_printer.specs.Spaced.{spaced_text};
+ghost use Rattle.ckc_printer.specs.ExpressionPieces.{expression_pieces};
+ghost use Rattle.ckc_printer.specs.StatementPieces.{statement_pieces};
+ghost use Rattle.ckc_printer.specs.ItemPieces.{program_text};
+ghost use Rattle.ckc_printer.specs.Examples.{small_program, empty_program, region_program, shift, nested, string, nearest};
+
+/// The texts of small trees. An expression or a statement alone has a space behind it.
+pub fn examples()
+    ensures small { program_text small_program ≡ codes "int g = 1 ; int main ( void ) { ptr < int > p = & g ; * p = 41 ; return g + 1 ; }\n" }
+    ensures empty { program_text empty_program ≡ codes "\n" }
+    ensures regions { program_text region_program ≡ codes "#pragma CHECKED_SCOPE on\nint g = 1 ;\n#pragma CHECKED_SCOPE off\n" }
+    ensures shifted { spaced_text (expression_pieces shift) ≡ codes "a >> b " }
+    ensures parentheses { spaced_text (expression_pieces nested) ≡ codes "( a + ( b * c ) ) * ( - d ) " }
+    ensures escapes { spaced_text (expression_pieces string) ≡ codes "\"a\\x22\\x27\\x5c\\x0a\\xff\" " }
+    ensures alternative { spaced_text (statement_pieces nearest) ≡ codes "if ( a ) if ( b ) ; else ; " }
+{}

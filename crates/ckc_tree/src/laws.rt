@@ -1,0 +1,13 @@
+// What the definition of placement says of small trees.
+
+ghost use Rattle.ckc_tree.specs.Placement.{IsPlaced};
+ghost use Rattle.ckc_tree.specs.Examples.{span, difference};
+
+/// A tree whose spans stand in order, one with a child outside its parent, one with siblings out of order, and one that
+/// is longer than its source.
+pub fn examples_of_placement()
+    ensures in_order { IsPlaced 32 (difference (span 24 25) (span 28 29)) }
+    ensures outside { IsPlaced 32 (difference (span 24 25) (span 29 30)) → ⊥ }
+    ensures swapped { IsPlaced 32 (difference (span 28 29) (span 24 25)) → ⊥ }
+    ensures longer { IsPlaced 31 (difference (span 24 25) (span 28 29)) → ⊥ }
+{}
