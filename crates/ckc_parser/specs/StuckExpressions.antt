@@ -92,14 +92,14 @@ goes_on ts = is_some (operator_at ts) || next_is after_name ts
 
 mutual
   pub data StuckBinary : ℕ → ℕ → List Token → Failure → Type 0 where
-    no_memory : {n d : ℕ} {ts : List Token} → StuckBinary n d ts no_memory
+    binary_no_room : {n d : ℕ} {ts : List Token} → StuckBinary n d ts no_memory
     operand : {d : ℕ} {ts : List Token} {f : Failure} → StuckUnary d ts f → StuckBinary zero d ts f
     first : {n d : ℕ} {ts : List Token} {f : Failure} → StuckBinary n d ts f → StuckBinary (suc n) d ts f
     operators : {n d : ℕ} {o : Span} {ts mid : List Token} {e : Expression} {f : Failure} → SpellsBinary n ts e o mid → IsLow d (expression_reach e) → StuckTail n e o d mid f → StuckBinary (suc n) d ts f
 
   -- behind an expression so far, where an operator of the level above n stands
   pub data StuckTail : ℕ → Expression → Span → ℕ → List Token → Failure → Type 0 where
-    deep : {n d : ℕ} {t : Token} {o : Span} {us rest : List Token} {left : Expression} {binary_operator : BinaryOperator} → operator_at (t ∷ rest) ≡ Some (binary_operator, us) → level binary_operator ≡ suc n → 200 ≤ d + (expression_reach left).height
+    tail_deep : {n d : ℕ} {t : Token} {o : Span} {us rest : List Token} {left : Expression} {binary_operator : BinaryOperator} → operator_at (t ∷ rest) ≡ Some (binary_operator, us) → level binary_operator ≡ suc n → 200 ≤ d + (expression_reach left).height
         → StuckTail n left o d (t ∷ rest) (too_deep (expression_reach left).start)
     right : {n d : ℕ} {o : Span} {ts us : List Token} {left : Expression} {binary_operator : BinaryOperator} {f : Failure} → operator_at ts ≡ Some (binary_operator, us) → level binary_operator ≡ suc n → d + (expression_reach left).height < 200 → StuckBinary n (suc d) us f
         → StuckTail n left o d ts f
@@ -107,7 +107,7 @@ mutual
         → StuckTail n (Binary binary_operator left right (join o p)) (join o p) d mid f → StuckTail n left o d ts f
 
   pub data StuckUnary : ℕ → List Token → Failure → Type 0 where
-    no_memory : {d : ℕ} {ts : List Token} → StuckUnary d ts no_memory
+    unary_no_room : {d : ℕ} {ts : List Token} → StuckUnary d ts no_memory
     no_expression : {d : ℕ} {ts : List Token} → next_is unary_word ts ≡ false → StuckUnary d ts (unexpected ts)
     deep_operator : {d : ℕ} {k : TokenKind} {s : Span} {rest : List Token} {unary_operator : UnaryOperator} → IsUnaryOperator k unary_operator → 200 ≤ d → StuckUnary d (token k s ∷ rest) (too_deep s.from)
     operator : {d : ℕ} {k : TokenKind} {s : Span} {ts : List Token} {unary_operator : UnaryOperator} {f : Failure} → IsUnaryOperator k unary_operator → d < 200 → StuckUnary (suc d) ts f → StuckUnary d (token k s ∷ ts) f
@@ -116,10 +116,10 @@ mutual
 
   -- behind an expression so far, where an index or a member stands
   pub data StuckSelectors : Expression → Span → ℕ → List Token → Failure → Type 0 where
-    no_memory : {d : ℕ} {o : Span} {ts : List Token} {e : Expression} → StuckSelectors e o d ts no_memory
-    deep : {d : ℕ} {k : TokenKind} {s o : Span} {rest : List Token} {e : Expression} → selector k ≡ true → 200 ≤ d + (expression_reach e).height → StuckSelectors e o d (token k s ∷ rest) (too_deep (expression_reach e).start)
+    selectors_no_room : {d : ℕ} {o : Span} {ts : List Token} {e : Expression} → StuckSelectors e o d ts no_memory
+    selectors_deep : {d : ℕ} {k : TokenKind} {s o : Span} {rest : List Token} {e : Expression} → selector k ≡ true → 200 ≤ d + (expression_reach e).height → StuckSelectors e o d (token k s ∷ rest) (too_deep (expression_reach e).start)
     index : {d : ℕ} {s o : Span} {ts : List Token} {e : Expression} {f : Failure} → d + (expression_reach e).height < 200 → StuckBinary 10 (suc d) ts f → StuckSelectors e o d (token kinds.OpenBracket s ∷ ts) f
-    close : {d : ℕ} {s p o : Span} {ts rest : List Token} {e index : Expression} → d + (expression_reach e).height < 200 → SpellsBinary 10 ts index p rest → IsLow (suc d) (expression_reach index) → next_is close_bracket rest ≡ false → StuckSelectors e o d (token kinds.OpenBracket s ∷ ts) (unexpected rest)
+    selectors_close : {d : ℕ} {s p o : Span} {ts rest : List Token} {e index : Expression} → d + (expression_reach e).height < 200 → SpellsBinary 10 ts index p rest → IsLow (suc d) (expression_reach index) → next_is close_bracket rest ≡ false → StuckSelectors e o d (token kinds.OpenBracket s ∷ ts) (unexpected rest)
     indexed : {d : ℕ} {s t p o : Span} {ts mid : List Token} {e index : Expression} {f : Failure} → d + (expression_reach e).height < 200 → SpellsBinary 10 ts index p (token kinds.CloseBracket t ∷ mid) → IsLow (suc d) (expression_reach index) → StuckSelectors (Index e index (join o t)) (join o t) d mid f
         → StuckSelectors e o d (token kinds.OpenBracket s ∷ ts) f
     dot : {d : ℕ} {s o : Span} {rest : List Token} {e : Expression} → d + (expression_reach e).height < 200 → next_is name_token rest ≡ false → StuckSelectors e o d (token kinds.Dot s ∷ rest) (unexpected rest)
@@ -128,12 +128,12 @@ mutual
     pointed : {d : ℕ} {x : List ℕ} {s t o : Span} {mid : List Token} {e : Expression} {f : Failure} → d + (expression_reach e).height < 200 → StuckSelectors (Arrow e (identifier x t) (join o t)) (join o t) d mid f → StuckSelectors e o d (token kinds.Arrow s ∷ token (kinds.Name x) t ∷ mid) f
 
   pub data StuckPrimary : ℕ → List Token → Failure → Type 0 where
-    no_memory : {d : ℕ} {ts : List Token} → StuckPrimary d ts no_memory
-    deep : {d : ℕ} {k : TokenKind} {s : Span} {rest : List Token} → primary_word k ≡ true → 200 ≤ d → StuckPrimary d (token k s ∷ rest) (too_deep s.from)
+    primary_no_room : {d : ℕ} {ts : List Token} → StuckPrimary d ts no_memory
+    primary_deep : {d : ℕ} {k : TokenKind} {s : Span} {rest : List Token} → primary_word k ≡ true → 200 ≤ d → StuckPrimary d (token k s ∷ rest) (too_deep s.from)
     arguments : {d : ℕ} {x : List ℕ} {s p : Span} {ts : List Token} {f : Failure} → d < 200 → StuckArguments (suc d) ts f → StuckPrimary d (token (kinds.Name x) s ∷ token kinds.OpenParen p ∷ ts) f
     -- parentheses make no node
     inside : {d : ℕ} {s : Span} {ts : List Token} {f : Failure} → StuckBinary 10 d ts f → StuckPrimary d (token kinds.OpenParen s ∷ ts) f
-    close : {d : ℕ} {s o : Span} {ts rest : List Token} {e : Expression} → SpellsBinary 10 ts e o rest → IsLow d (expression_reach e) → next_is close_paren rest ≡ false → StuckPrimary d (token kinds.OpenParen s ∷ ts) (unexpected rest)
+    primary_close : {d : ℕ} {s o : Span} {ts rest : List Token} {e : Expression} → SpellsBinary 10 ts e o rest → IsLow d (expression_reach e) → next_is close_paren rest ≡ false → StuckPrimary d (token kinds.OpenParen s ∷ ts) (unexpected rest)
     size_of_open : {d : ℕ} {s : Span} {rest : List Token} → d < 200 → next_is open_paren rest ≡ false → StuckPrimary d (token kinds.Sizeof s ∷ rest) (unexpected rest)
     size_of_type : {d : ℕ} {s p : Span} {ts : List Token} {f : Failure} → d < 200 → StuckTypeName (suc d) ts f → StuckPrimary d (token kinds.Sizeof s ∷ token kinds.OpenParen p ∷ ts) f
     size_of_close : {d : ℕ} {s p : Span} {ts rest : List Token} {type : TypeName} → SpellsTypeName ts type rest → IsLow (suc d) (type_reach type.base) → next_is close_paren rest ≡ false → StuckPrimary d (token kinds.Sizeof s ∷ token kinds.OpenParen p ∷ ts) (unexpected rest)
@@ -160,20 +160,20 @@ mutual
 
   -- the arguments of a call behind its parenthesis, with the nodes around them
   pub data StuckArguments : ℕ → List Token → Failure → Type 0 where
-    no_memory : {d : ℕ} {ts : List Token} → StuckArguments d ts no_memory
+    arguments_no_room : {d : ℕ} {ts : List Token} → StuckArguments d ts no_memory
     argument : {d : ℕ} {ts : List Token} {f : Failure} → next_is close_paren ts ≡ false → StuckBinary 10 d ts f → StuckArguments d ts f
     others : {d : ℕ} {o : Span} {ts mid : List Token} {e : Expression} {f : Failure} → SpellsBinary 10 ts e o mid → IsLow d (expression_reach e) → StuckMoreArguments d mid f → StuckArguments d ts f
 
   pub data StuckMoreArguments : ℕ → List Token → Failure → Type 0 where
-    no_memory : {d : ℕ} {ts : List Token} → StuckMoreArguments d ts no_memory
+    more_no_room : {d : ℕ} {ts : List Token} → StuckMoreArguments d ts no_memory
     end : {d : ℕ} {ts : List Token} → next_is comma_or_paren ts ≡ false → StuckMoreArguments d ts (unexpected ts)
     other : {d : ℕ} {s : Span} {ts : List Token} {f : Failure} → StuckBinary 10 d ts f → StuckMoreArguments d (token kinds.Comma s ∷ ts) f
     still_others : {d : ℕ} {s o : Span} {ts mid : List Token} {e : Expression} {f : Failure} → SpellsBinary 10 ts e o mid → IsLow d (expression_reach e) → StuckMoreArguments d mid f → StuckMoreArguments d (token kinds.Comma s ∷ ts) f
 
   pub data StuckBounds : ℕ → List Token → Failure → Type 0 where
-    no_memory : {d : ℕ} {ts : List Token} → StuckBounds d ts no_memory
+    bounds_no_room : {d : ℕ} {ts : List Token} → StuckBounds d ts no_memory
     no_bounds : {d : ℕ} {ts : List Token} → next_is bounds_word ts ≡ false → StuckBounds d ts (unexpected ts)
-    open : {d : ℕ} {k : TokenKind} {s : Span} {rest : List Token} → bounds_word k ≡ true → next_is open_paren rest ≡ false → StuckBounds d (token k s ∷ rest) (unexpected rest)
+    opens : {d : ℕ} {k : TokenKind} {s : Span} {rest : List Token} → bounds_word k ≡ true → next_is open_paren rest ≡ false → StuckBounds d (token k s ∷ rest) (unexpected rest)
     count : {d : ℕ} {x : List ℕ} {s p : Span} {ts : List Token} {f : Failure} → IsCountWord x → StuckBinary 10 d ts f → StuckBounds d (token (kinds.Name x) s ∷ token kinds.OpenParen p ∷ ts) f
     count_close : {d : ℕ} {x : List ℕ} {s p o : Span} {ts rest : List Token} {e : Expression} → IsCountWord x → SpellsBinary 10 ts e o rest → IsLow d (expression_reach e) → next_is close_paren rest ≡ false → StuckBounds d (token (kinds.Name x) s ∷ token kinds.OpenParen p ∷ ts) (unexpected rest)
     low : {d : ℕ} {x : List ℕ} {s p : Span} {ts : List Token} {f : Failure} → x ≡ codes "bounds" → is_unknown ts ≡ false → d < 200 → StuckBinary 10 d ts f → StuckBounds d (token (kinds.Name x) s ∷ token kinds.OpenParen p ∷ ts) f
@@ -185,7 +185,7 @@ mutual
         → StuckBounds d (token (kinds.Name x) s ∷ token kinds.OpenParen p ∷ token (kinds.Name y) q ∷ rest) (unexpected rest)
     comma : {d : ℕ} {x : List ℕ} {s p o : Span} {ts rest : List Token} {low : Expression} → x ≡ codes "bounds" → is_unknown ts ≡ false → SpellsBinary 10 ts low o rest → IsLow d (expression_reach low) → next_is words.comma rest ≡ false → StuckBounds d (token (kinds.Name x) s ∷ token kinds.OpenParen p ∷ ts) (unexpected rest)
     high : {d : ℕ} {x : List ℕ} {s p q o : Span} {ts us : List Token} {low : Expression} {f : Failure} → x ≡ codes "bounds" → SpellsBinary 10 ts low o (token kinds.Comma q ∷ us) → IsLow d (expression_reach low) → StuckBinary 10 d us f → StuckBounds d (token (kinds.Name x) s ∷ token kinds.OpenParen p ∷ ts) f
-    close : {d : ℕ} {x : List ℕ} {s p q o w : Span} {ts us rest : List Token} {low high : Expression} → x ≡ codes "bounds" → SpellsBinary 10 ts low o (token kinds.Comma q ∷ us) → IsLow d (expression_reach low) → SpellsBinary 10 us high w rest → IsLow d (expression_reach high) → next_is close_paren rest ≡ false
+    bounds_close : {d : ℕ} {x : List ℕ} {s p q o w : Span} {ts us rest : List Token} {low high : Expression} → x ≡ codes "bounds" → SpellsBinary 10 ts low o (token kinds.Comma q ∷ us) → IsLow d (expression_reach low) → SpellsBinary 10 us high w rest → IsLow d (expression_reach high) → next_is close_paren rest ≡ false
         → StuckBounds d (token (kinds.Name x) s ∷ token kinds.OpenParen p ∷ ts) (unexpected rest)
 
 -- an expression with operators of all levels

@@ -1,6 +1,6 @@
 -- Inside: where reading what stands at file level fails. One case for each part that can fail: those before it are
 -- spelled, and no node so far is too deep.
-use Rattle.std.specs.Prelude.{◌≡◌, ◌&&◌, ℕ, Bool, true, false, List, [], ◌∷◌, Option, Some, None}
+use Rattle.std.specs.Prelude.{◌≡◌, ◌&&◌, cond, ℕ, Bool, true, false, List, [], ◌∷◌, Option, Some, None}
 use Rattle.ckc_text.specs.declared.place.Span.{Span}
 use Rattle.ckc_lexer.specs.declared.token.Token.{Token}
 use Rattle.ckc_lexer.specs.declared.token.TokenKind.{TokenKind}
@@ -54,11 +54,7 @@ is_structure (t ∷ ts) = struct_word t.kind && is_name_before open_brace ts
 -- behind the stars stand a name and a parenthesis
 abbrev pub is_function : List Token → Bool
 is_function [] = false
-is_function (t ∷ ts) = is_function_from (star t.kind) t ts
-  where
-    is_function_from : Bool → Token → List Token → Bool
-    is_function_from true t ts = is_function ts
-    is_function_from false t ts = is_name_before open_paren (t ∷ ts)
+is_function (t ∷ ts) = cond (star t.kind) (is_function ts) (is_name_before open_paren (t ∷ ts))
 
 -- what stands before can be followed by a function alone
 pub data IsAlone : FunctionKind → Option Mark → ResultForm → Type 0 where
@@ -69,8 +65,8 @@ pub data IsAlone : FunctionKind → Option Mark → ResultForm → Type 0 where
 -- ---- members and parameters
 
 pub data StuckMember : List Token → Failure → Type 0 where
-  no_memory : {ts : List Token} → StuckMember ts no_memory
-  type : {ts : List Token} {f : Failure} → StuckTypeName 0 ts f → StuckMember ts f
+  no_room : {ts : List Token} → StuckMember ts no_memory
+  typed : {ts : List Token} {f : Failure} → StuckTypeName 0 ts f → StuckMember ts f
   name : {ts rest : List Token} {type : TypeName} → SpellsTypeName ts type rest → IsLow 0 (type_reach type.base) → next_is name_token rest ≡ false → StuckMember ts (unexpected rest)
   bounds : {x : List ℕ} {s : Span} {ts us : List Token} {type : TypeName} {f : Failure} → SpellsTypeName ts type (token (kinds.Name x) s ∷ us) → IsLow 0 (type_reach type.base) → StuckOptionalBounds 0 us f → StuckMember ts f
 
@@ -79,13 +75,13 @@ abbrev pub IsLowMember : TypeName → Option Bounds → Type 0
 IsLowMember type written = IsLow 0 (type_reach type.base) × IsLow 0 (optional_bounds_reach written)
 
 pub data StuckMembers : List Token → Failure → Type 0 where
-  no_memory : {ts : List Token} → StuckMembers ts no_memory
+  no_room : {ts : List Token} → StuckMembers ts no_memory
   first : {ts : List Token} {f : Failure} → StuckMember ts f → StuckMembers ts f
   end : {name : Identifier} {o : Span} {ts rest : List Token} {written : Option Bounds} {type : TypeName} → SpellsMember ts type name written o rest → IsLowMember type written → next_is semicolon rest ≡ false → StuckMembers ts (unexpected rest)
   others : {name : Identifier} {t o : Span} {ts us : List Token} {written : Option Bounds} {type : TypeName} {f : Failure} → SpellsMember ts type name written o (token kinds.Semicolon t ∷ us) → IsLowMember type written → next_is close_brace us ≡ false → StuckMembers us f → StuckMembers ts f
 
 pub data StuckListed : List Token → Failure → Type 0 where
-  no_memory : {ts : List Token} → StuckListed ts no_memory
+  no_room : {ts : List Token} → StuckListed ts no_memory
   first : {ts : List Token} {f : Failure} → StuckMember ts f → StuckListed ts f
   end : {name : Identifier} {o : Span} {ts rest : List Token} {written : Option Bounds} {type : TypeName} → SpellsMember ts type name written o rest → IsLowMember type written → next_is comma_or_paren rest ≡ false → StuckListed ts (unexpected rest)
   others : {name : Identifier} {p o : Span} {ts us : List Token} {written : Option Bounds} {type : TypeName} {f : Failure} → SpellsMember ts type name written o (token kinds.Comma p ∷ us) → IsLowMember type written → StuckListed us f → StuckListed ts f
@@ -102,7 +98,7 @@ pub data StuckBody : List Token → Failure → Type 0 where
   statements : {s : Span} {ts us : List Token} {optional_mark : Option Mark} {f : Failure} → SpellsOptionalMark ts optional_mark (token kinds.OpenBrace s ∷ us) → StuckStatements 1 us f → StuckBody ts f
 
 pub data StuckItem : List Token → Failure → Type 0 where
-  no_memory : {tokens : List Token} → StuckItem tokens no_memory
+  no_room : {tokens : List Token} → StuckItem tokens no_memory
   result : {ts us tokens : List Token} {optional_mark : Option Mark} {function_kind : FunctionKind} {f : Failure} → SpellsKind tokens function_kind ts → SpellsOptionalMark ts optional_mark us → next_is void_word us ≡ false → StuckType 0 us f → StuckItem tokens f
   members : {x : List ℕ} {s t p : Span} {ts tokens : List Token} {tainted : Bool} {f : Failure} → SpellsTainted tokens tainted (token kinds.Struct s ∷ token (kinds.Name x) t ∷ token kinds.OpenBrace p ∷ ts) → StuckMembers ts f → StuckItem tokens f
   structure_end : {x : List ℕ} {s t p : Span} {ts rest tokens : List Token} {tainted : Bool} {members : List Member} → SpellsTainted tokens tainted (token kinds.Struct s ∷ token (kinds.Name x) t ∷ token kinds.OpenBrace p ∷ ts) → SpellsMembers ts members rest → IsLow 0 (members_reach members) → next_is semicolon rest ≡ false → StuckItem tokens (unexpected rest)
@@ -122,6 +118,6 @@ pub data StuckItem : List Token → Failure → Type 0 where
       → IsLow 0 (result_reach result) → SpellsStars vs n (token (kinds.Name x) s ∷ token kinds.OpenParen p ∷ ws) → SpellsParameters ws parameters t xs → IsLow 0 (parameters_reach parameters) → SpellsOptionalBounds (from_first tokens t) xs written w ys → IsLow 0 (optional_bounds_reach written) → StuckBody ys f → StuckItem tokens f
 
 pub data StuckItems : List Token → Failure → Type 0 where
-  no_memory : {ts : List Token} → StuckItems ts no_memory
+  no_room : {ts : List Token} → StuckItems ts no_memory
   first : {t : Token} {ts : List Token} {f : Failure} → StuckItem (t ∷ ts) f → StuckItems (t ∷ ts) f
   others : {ts mid : List Token} {item : Item} {f : Failure} → SpellsItem ts item mid → IsLow 0 (item_reach item) → StuckItems mid f → StuckItems ts f

@@ -105,11 +105,11 @@ is_call_alone target rest = is_call target && next_is semicolon rest
 -- ---- declarations
 
 pub data StuckOptionalBounds : ℕ → List Token → Failure → Type 0 where
-  no_memory : {d : ℕ} {ts : List Token} → StuckOptionalBounds d ts no_memory
+  no_room : {d : ℕ} {ts : List Token} → StuckOptionalBounds d ts no_memory
   bounds : {d : ℕ} {s : Span} {ts : List Token} {f : Failure} → StuckBounds d ts f → StuckOptionalBounds d (token kinds.Colon s ∷ ts) f
 
 pub data StuckOptionalArray : List Token → Failure → Type 0 where
-  open : {k : TokenKind} {s : Span} {rest : List Token} {kind : ArrayKind} → IsArrayWord k kind → next_is open_bracket rest ≡ false → StuckOptionalArray (token k s ∷ rest) (unexpected rest)
+  opens : {k : TokenKind} {s : Span} {rest : List Token} {kind : ArrayKind} → IsArrayWord k kind → next_is open_bracket rest ≡ false → StuckOptionalArray (token k s ∷ rest) (unexpected rest)
   length : {k : TokenKind} {s p : Span} {rest : List Token} {kind : ArrayKind} → IsArrayWord k kind → next_is number_token rest ≡ false → StuckOptionalArray (token k s ∷ token kinds.OpenBracket p ∷ rest) (unexpected rest)
   close : {n : ℕ} {k : TokenKind} {s p q : Span} {rest : List Token} {kind : ArrayKind} → IsArrayWord k kind → next_is close_bracket rest ≡ false → StuckOptionalArray (token k s ∷ token kinds.OpenBracket p ∷ token (kinds.Number n) q ∷ rest) (unexpected rest)
 
@@ -118,18 +118,18 @@ pub data StuckSigned : List Token → Failure → Type 0 where
   behind_minus : {s : Span} {rest : List Token} → next_is constant_token rest ≡ false → StuckSigned (token kinds.Minus s ∷ rest) (unexpected rest)
 
 pub data StuckConstants : List Token → Failure → Type 0 where
-  no_memory : {ts : List Token} → StuckConstants ts no_memory
+  no_room : {ts : List Token} → StuckConstants ts no_memory
   first : {ts : List Token} {f : Failure} → StuckSigned ts f → StuckConstants ts f
   end : {ts rest : List Token} {signed : SignedConstant} → SpellsSigned ts signed rest → next_is comma_or_brace rest ≡ false → StuckConstants ts (unexpected rest)
   others : {s : Span} {ts us : List Token} {signed : SignedConstant} {f : Failure} → SpellsSigned ts signed (token kinds.Comma s ∷ us) → StuckConstants us f → StuckConstants ts f
 
 pub data StuckOptionalInitializer : ℕ → List Token → Failure → Type 0 where
-  no_memory : {d : ℕ} {ts : List Token} → StuckOptionalInitializer d ts no_memory
+  no_room : {d : ℕ} {ts : List Token} → StuckOptionalInitializer d ts no_memory
   value : {d : ℕ} {s : Span} {ts : List Token} {f : Failure} → next_is open_brace ts ≡ false → StuckExpression d ts f → StuckOptionalInitializer d (token kinds.Equal s ∷ ts) f
   constants : {d : ℕ} {s p : Span} {ts : List Token} {f : Failure} → StuckConstants ts f → StuckOptionalInitializer d (token kinds.Equal s ∷ token kinds.OpenBrace p ∷ ts) f
 
 pub data StuckDeclarator : ℕ → List Token → Failure → Type 0 where
-  no_memory : {d : ℕ} {ts : List Token} → StuckDeclarator d ts no_memory
+  no_room : {d : ℕ} {ts : List Token} → StuckDeclarator d ts no_memory
   name : {d n : ℕ} {ts rest : List Token} → SpellsStars ts n rest → next_is name_token rest ≡ false → StuckDeclarator d ts (unexpected rest)
   array : {d n : ℕ} {x : List ℕ} {s : Span} {ts us : List Token} {f : Failure} → SpellsStars ts n (token (kinds.Name x) s ∷ us) → StuckOptionalArray us f → StuckDeclarator d ts f
   bounds : {d n : ℕ} {x : List ℕ} {s p : Span} {ts us vs : List Token} {array : Option ArrayForm} {f : Failure} → SpellsStars ts n (token (kinds.Name x) s ∷ us) → SpellsOptionalArray (from_first ts s) us array p vs → StuckOptionalBounds d vs f → StuckDeclarator d ts f
@@ -137,13 +137,13 @@ pub data StuckDeclarator : ℕ → List Token → Failure → Type 0 where
       → StuckOptionalInitializer d ws f → StuckDeclarator d ts f
 
 pub data StuckDeclarators : ℕ → List Token → Failure → Type 0 where
-  no_memory : {d : ℕ} {ts : List Token} → StuckDeclarators d ts no_memory
+  no_room : {d : ℕ} {ts : List Token} → StuckDeclarators d ts no_memory
   first : {d : ℕ} {ts : List Token} {f : Failure} → StuckDeclarator d ts f → StuckDeclarators d ts f
   others : {d : ℕ} {s : Span} {ts us : List Token} {declarator : Declarator} {f : Failure} → SpellsDeclarator ts declarator (token kinds.Comma s ∷ us) → IsLow d (declarator_reach declarator) → StuckDeclarators d us f → StuckDeclarators d ts f
 
 -- a declaration among statements, which is a node
 pub data StuckDeclaration : ℕ → List Token → Failure → Type 0 where
-  no_memory : {d : ℕ} {ts : List Token} → StuckDeclaration d ts no_memory
+  no_room : {d : ℕ} {ts : List Token} → StuckDeclaration d ts no_memory
   no_type : {d : ℕ} {ts : List Token} → next_is type_word ts ≡ false → StuckDeclaration d ts (unexpected ts)
   deep : {d : ℕ} {k : TokenKind} {s : Span} {rest : List Token} → type_word k ≡ true → 200 ≤ d → StuckDeclaration d (token k s ∷ rest) (too_deep s.from)
   base : {d : ℕ} {ts : List Token} {f : Failure} → d < 200 → next_is type_word ts ≡ true → StuckType (suc d) ts f → StuckDeclaration d ts f
@@ -153,7 +153,7 @@ pub data StuckDeclaration : ℕ → List Token → Failure → Type 0 where
 
 -- an assignment, which is a node
 pub data StuckAssignment : ℕ → List Token → Failure → Type 0 where
-  no_memory : {d : ℕ} {ts : List Token} → StuckAssignment d ts no_memory
+  no_room : {d : ℕ} {ts : List Token} → StuckAssignment d ts no_memory
   no_assignment : {d : ℕ} {ts : List Token} → next_is assignment_word ts ≡ false → StuckAssignment d ts (unexpected ts)
   deep : {d : ℕ} {k : TokenKind} {s : Span} {rest : List Token} → assignment_word k ≡ true → 200 ≤ d → StuckAssignment d (token k s ∷ rest) (too_deep s.from)
   before : {d : ℕ} {k : TokenKind} {s : Span} {ts : List Token} {step_operator : StepOperator} {f : Failure} → d < 200 → IsStepOperator k step_operator → StuckUnary (suc d) ts f → StuckAssignment d (token k s ∷ ts) f
@@ -163,7 +163,7 @@ pub data StuckAssignment : ℕ → List Token → Failure → Type 0 where
 
 -- the assignments of a bundle, and the brace behind them
 pub data StuckAssignments : ℕ → List Token → Failure → Type 0 where
-  no_memory : {d : ℕ} {ts : List Token} → StuckAssignments d ts no_memory
+  no_room : {d : ℕ} {ts : List Token} → StuckAssignments d ts no_memory
   first : {d : ℕ} {ts : List Token} {f : Failure} → next_is close_brace ts ≡ false → StuckAssignment d ts f → StuckAssignments d ts f
   end : {d : ℕ} {ts rest : List Token} {assignment : Assignment} → SpellsAssignment ts assignment rest → IsLow d (assignment_reach assignment) → next_is semicolon rest ≡ false → StuckAssignments d ts (unexpected rest)
   others : {d : ℕ} {s : Span} {ts us : List Token} {assignment : Assignment} {f : Failure} → SpellsAssignment ts assignment (token kinds.Semicolon s ∷ us) → IsLow d (assignment_reach assignment) → StuckAssignments d us f → StuckAssignments d ts f
@@ -171,7 +171,7 @@ pub data StuckAssignments : ℕ → List Token → Failure → Type 0 where
 -- ---- the head of a for, each part with its mark
 
 pub data StuckForInitial : ℕ → List Token → Failure → Type 0 where
-  no_memory : {d : ℕ} {ts : List Token} → StuckForInitial d ts no_memory
+  no_room : {d : ℕ} {ts : List Token} → StuckForInitial d ts no_memory
   declares : {d : ℕ} {ts : List Token} {f : Failure} → next_is semicolon ts ≡ false → next_is type_word ts ≡ true → StuckDeclaration d ts f → StuckForInitial d ts f
   declares_end : {d : ℕ} {ts rest : List Token} {declaration : Declaration} → SpellsDeclaration ts declaration rest → IsLow d (around declaration.span.from (declared_reach declaration)) → next_is semicolon rest ≡ false → StuckForInitial d ts (unexpected rest)
   assigns : {d : ℕ} {ts : List Token} {f : Failure} → next_is semicolon ts ≡ false → next_is type_word ts ≡ false → StuckAssignment d ts f → StuckForInitial d ts f
@@ -179,19 +179,19 @@ pub data StuckForInitial : ℕ → List Token → Failure → Type 0 where
 
 -- a condition of a for, or a value of a return, and the semicolon
 pub data StuckForCondition : ℕ → List Token → Failure → Type 0 where
-  no_memory : {d : ℕ} {ts : List Token} → StuckForCondition d ts no_memory
+  no_room : {d : ℕ} {ts : List Token} → StuckForCondition d ts no_memory
   present : {d : ℕ} {ts : List Token} {f : Failure} → next_is semicolon ts ≡ false → StuckExpression d ts f → StuckForCondition d ts f
   end : {d : ℕ} {o : Span} {ts rest : List Token} {e : Expression} → SpellsExpression ts e o rest → IsLow d (expression_reach e) → next_is semicolon rest ≡ false → StuckForCondition d ts (unexpected rest)
 
 pub data StuckForStep : ℕ → List Token → Failure → Type 0 where
-  no_memory : {d : ℕ} {ts : List Token} → StuckForStep d ts no_memory
+  no_room : {d : ℕ} {ts : List Token} → StuckForStep d ts no_memory
   present : {d : ℕ} {ts : List Token} {f : Failure} → next_is close_paren ts ≡ false → StuckAssignment d ts f → StuckForStep d ts f
   end : {d : ℕ} {ts rest : List Token} {assignment : Assignment} → SpellsAssignment ts assignment rest → IsLow d (assignment_reach assignment) → next_is close_paren rest ≡ false → StuckForStep d ts (unexpected rest)
 
 -- the condition of an if or a while, with its parentheses
 pub data StuckCondition : ℕ → List Token → Failure → Type 0 where
-  no_memory : {d : ℕ} {ts : List Token} → StuckCondition d ts no_memory
-  open : {d : ℕ} {ts : List Token} → next_is open_paren ts ≡ false → StuckCondition d ts (unexpected ts)
+  no_room : {d : ℕ} {ts : List Token} → StuckCondition d ts no_memory
+  opens : {d : ℕ} {ts : List Token} → next_is open_paren ts ≡ false → StuckCondition d ts (unexpected ts)
   inside : {d : ℕ} {s : Span} {ts : List Token} {f : Failure} → StuckExpression d ts f → StuckCondition d (token kinds.OpenParen s ∷ ts) f
   close : {d : ℕ} {s o : Span} {ts rest : List Token} {e : Expression} → SpellsExpression ts e o rest → IsLow d (expression_reach e) → next_is close_paren rest ≡ false → StuckCondition d (token kinds.OpenParen s ∷ ts) (unexpected rest)
 
@@ -199,7 +199,7 @@ pub data StuckCondition : ℕ → List Token → Failure → Type 0 where
 
 mutual
   pub data StuckStatement : ℕ → List Token → Failure → Type 0 where
-    no_memory : {d : ℕ} {ts : List Token} → StuckStatement d ts no_memory
+    statement_no_room : {d : ℕ} {ts : List Token} → StuckStatement d ts no_memory
     no_statement : {d : ℕ} {ts : List Token} → next_is statement_word ts ≡ false → StuckStatement d ts (unexpected ts)
     deep : {d : ℕ} {k : TokenKind} {s : Span} {rest : List Token} → statement_word k ≡ true → 200 ≤ d → StuckStatement d (token k s ∷ rest) (too_deep s.from)
     block : {d : ℕ} {s : Span} {ts : List Token} {f : Failure} → d < 200 → StuckStatements (suc d) ts f → StuckStatement d (token kinds.OpenBrace s ∷ ts) f
@@ -234,6 +234,6 @@ mutual
     continue : {d : ℕ} {s : Span} {rest : List Token} → d < 200 → next_is semicolon rest ≡ false → StuckStatement d (token kinds.Continue s ∷ rest) (unexpected rest)
 
   pub data StuckStatements : ℕ → List Token → Failure → Type 0 where
-    no_memory : {d : ℕ} {ts : List Token} → StuckStatements d ts no_memory
+    statements_no_room : {d : ℕ} {ts : List Token} → StuckStatements d ts no_memory
     first : {d : ℕ} {ts : List Token} {f : Failure} → next_is close_brace ts ≡ false → StuckStatement d ts f → StuckStatements d ts f
     others : {d : ℕ} {ts mid : List Token} {statement : Statement} {f : Failure} → SpellsStatement ts statement mid → IsLow d (statement_reach statement) → StuckStatements d mid f → StuckStatements d ts f
