@@ -17,3 +17,4 @@ mod ExpressionPaths
 mod StatementPaths
 mod ItemPaths
 mod OneFault
+pub mod Readings

@@ -141,6 +141,17 @@ pub fn comma(tokens: &[Token]) -> Result<(Span, &[Token]), Stuck<'_>>
     }
 }
 
+/// The span of a mark `*`.
+pub fn star(tokens: &[Token]) -> Result<(Span, &[Token]), Stuck<'_>>
+    ensures { ReadsMark kinds.Star words.star tokens.now result }
+{
+    let (token, rest) = first(tokens)?;
+    match &token.kind {
+        TokenKind::Star => Ok((token.span, rest)),
+        _ => Err(Stuck::Unexpected { at: tokens }),
+    }
+}
+
 /// The span of a mark `;`.
 pub fn semicolon(tokens: &[Token]) -> Result<(Span, &[Token]), Stuck<'_>>
     ensures { ReadsMark kinds.Semicolon statement_words.semicolon tokens.now result }
