@@ -18,3 +18,6 @@ mod StatementPaths
 mod ItemPaths
 mod OneFault
 pub mod Readings
+pub mod Contexts
+pub mod Waiting
+pub mod ContextSteps

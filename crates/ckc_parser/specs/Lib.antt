@@ -13,5 +13,7 @@ pub mod Failures
 pub mod Readings
 pub mod StuckTypes
 pub mod StuckExpressions
+pub mod Contexts
+pub mod ContextAnswers
 pub mod StuckStatements
 pub mod StuckItems

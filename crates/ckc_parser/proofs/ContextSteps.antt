@@ -1,0 +1,184 @@
+-- What the parser keeps around an operand, step by step.
+use Rattle.std.proofs.Common.{◌≡◌, ℕ, zero, suc, ◌+◌, ◌-◌, ◌<◌, ◌≤◌, Bool, true, false, List, [], ◌∷◌, ◌++◌, Option, Some, None, refl, sym, ap, subst, ◌∙◌, arith}
+use Rattle.std.specs.Prelude.{nat_le}
+use Rattle.std.proofs.lemmas.Bool.Decides.{nat_tests}
+use Rattle.std.proofs.lemmas.Option.{same_Some, none-some}
+use Rattle.ckc_text.specs.declared.place.Span.{Span}
+use Rattle.ckc_lexer.specs.declared.token.Token.{Token}
+use Rattle.ckc_lexer.specs.declared.token.TokenKind.{TokenKind}
+use Rattle.ckc_lexer.specs.declared.token.TokenKind.TheVariants as kinds
+use Rattle.ckc_tree.specs.declared.expr.UnaryOperator.{UnaryOperator}
+use Rattle.ckc_tree.specs.declared.expr.BinaryOperator.{BinaryOperator}
+use Rattle.ckc_tree.specs.Expressions.{Expression}
+use Rattle.ckc_tree.specs.Heights.{Reach, around, expression_reach, ◌beside◌}
+use Rattle.ckc_parser.specs.declared.expressions.Around.{Around}
+use Rattle.ckc_parser.specs.declared.expressions.Pending.{Pending}
+use Rattle.ckc_parser.specs.Tokens as words
+use Rattle.ckc_parser.specs.Tokens.{token, join, IsUnaryOperator, operator_at, level, next_is}
+use Rattle.ckc_parser.specs.ExpressionGrammar.{SpellsBinary, SpellsPrimary, SpellsSelectors}
+use Rattle.ckc_parser.specs.Failures.{Failure, unexpected, too_deep, no_memory, IsLow}
+use Rattle.ckc_parser.specs.StuckExpressions as s
+use Rattle.ckc_parser.specs.StuckExpressions.{primary_word, unary_word, close_paren, StuckSelectors}
+use Rattle.ckc_parser.specs.Readings.{unary_operator_of, FailsPrimary, no_primary, in_primary}
+use Rattle.ckc_parser.specs.Contexts.{Frame, InParens, OperandOf, RightOf, waiting, limit, depth_in, Fits, looseness, looser_at, takes_before, paren_start, Goes, Selects, Closes, Base, Fails, Completes, Needs, GoesIn, IsAround, NeedsOperand, HasOperand, HasTight, HasWhole}
+use Rattle.ckc_parser.specs.ContextAnswers.{prefix_word, Applies}
+use Rattle.ckc_parser.proofs.Readings.{low_around}
+use Rattle.ckc_parser.proofs.Paths.{beside_height}
+use Rattle.ckc_parser.proofs.Contexts.{level_positive, level_ten, depth_low, needs_primary, needs_fails, needs_right, right_too_deep, finished}
+
+pub unary_operator_is : (k : TokenKind) (operator : UnaryOperator) → unary_operator_of k ≡ Some operator → IsUnaryOperator k operator
+unary_operator_is kinds.Star operator e = rw (← same_Some _ _ e) words.deref
+unary_operator_is kinds.Ampersand operator e = rw (← same_Some _ _ e) words.address_of
+unary_operator_is kinds.Minus operator e = rw (← same_Some _ _ e) words.negate
+unary_operator_is kinds.Not operator e = rw (← same_Some _ _ e) words.not
+unary_operator_is kinds.Tilde operator e = rw (← same_Some _ _ e) words.complement
+unary_operator_is _ operator e = absurd (none-some _ e)
+
+pub low_beside : (d : ℕ) (p q : Reach) → IsLow d p → IsLow d q → IsLow d (p beside q)
+low_beside d p q first second = omega (arith, (beside_height p q).2)
+
+-- ---- the operand that is needed
+
+pub needs_in : (b : Base) (a : Around) (ts : List Token) (p : List Frame) → waiting a.pending.items ≡ p → a.loosest ≡ b.loosest → a.depth ≡ depth_in b.depth p → Fits b.loosest b.depth p → Needs b p ts → NeedsOperand b a ts
+needs_in b a ts p e loosest depth fits needs = record {
+  around = record { loosest = loosest; depth = rw e depth; fits = rw e fits };
+  needs = rw e needs;
+}
+
+pub depth_fits : {b : Base} {a : Around} → IsAround b a → a.depth ≤ 200
+depth_fits {b} {a} is = rw is.depth (depth_low b.loosest b.depth (waiting a.pending.items) is.fits)
+
+no_unary : (k : TokenKind) → prefix_word k ≡ false → primary_word k ≡ false → unary_word k ≡ false
+no_unary kinds.Star h p = h
+no_unary kinds.Ampersand h p = h
+no_unary kinds.Minus h p = h
+no_unary kinds.Not h p = h
+no_unary kinds.Tilde h p = h
+no_unary kinds.OpenParen h p = h
+no_unary _ h p = p
+
+no_unary_next : (ts : List Token) → next_is prefix_word ts ≡ false → next_is primary_word ts ≡ false → next_is unary_word ts ≡ false
+no_unary_next [] h p = refl
+no_unary_next (t ∷ ts) h p = no_unary t.kind h p
+
+pub primary_fails : {b : Base} {a : Around} {ts : List Token} {f : Failure} → NeedsOperand b a ts → next_is prefix_word ts ≡ false → FailsPrimary a.depth ts f → Fails b f
+primary_fails {ts} needs h (no_primary p) = needs_fails needs.needs (s.no_expression (no_unary_next ts h p))
+primary_fails needs h (in_primary stuck) = needs_fails needs.needs (s.primary (rw needs.around.depth at stuck))
+
+pub primary_read : {b : Base} {a : Around} {o : Span} {ts rest : List Token} {e : Expression} → NeedsOperand b a ts → SpellsPrimary ts e o rest → IsLow a.depth (expression_reach e) → HasOperand b a e o rest
+primary_read needs d low = record { around = needs.around; low = low; selects = needs_primary needs.needs d (rw needs.around.depth at low) }
+
+-- ---- the expression that is read
+
+looser_positive : (ts : List Token) → 0 < looser_at ts
+looser_positive ts = by_operator (operator_at ts)
+  where
+    by_operator : (found : Option (BinaryOperator × List Token)) → 0 < looseness found
+    by_operator None = omega arith
+    by_operator (Some found) = level_positive found.0
+
+pub selectors_fail : {b : Base} {a : Around} {o : Span} {ts : List Token} {e : Expression} {f : Failure} → HasOperand b a e o ts → StuckSelectors e o a.depth ts f → Fails b f
+selectors_fail has stuck = has.selects.fails (rw has.around.depth at stuck)
+
+pub selectors_read : {b : Base} {a : Around} {o w : Span} {ts rest : List Token} {e whole : Expression} → HasOperand b a e o ts → SpellsSelectors e o ts whole w rest → IsLow a.depth (expression_reach whole) → HasTight b a (looser_at rest) whole w rest
+selectors_read {rest} has d low = record {
+  around = has.around;
+  low = low;
+  tightness = 0;
+  tight = looser_positive rest;
+  within = omega arith;
+  way = has.selects.selects d (rw has.around.depth at low);
+}
+
+-- ---- giving an expression to the form that waits last
+
+pub record Steps (b : Base) (f : Frame) (p : List Frame) (e : Expression) : Type 0 where
+  pub depth : depth_in b.depth (f ∷ p) ≡ suc (depth_in b.depth p)
+  pub fits : Fits b.loosest b.depth p
+  pub low : IsLow (depth_in b.depth p) (expression_reach e)
+
+pub steps : {b : Base} {whole : Expression} (e : Expression) (o w : Span) (f : Frame) (p : List Frame) (looser : ℕ) → takes_before (f ∷ p) looser ≡ true → Fits b.loosest b.depth (f ∷ p) → IsLow (depth_in b.depth (f ∷ p)) (expression_reach e) → Applies f e o whole w → Steps b f p whole
+steps e o w (InParens start) p looser takes fits low is = absurd cc
+steps e o w (OperandOf operator start) p looser takes fits low is = record { depth = refl; fits = fits.1; low = rw is.0 (low_around _ _ (expression_reach e) fits.0 low) }
+steps e o w (RightOf operator left outer) p looser takes fits low is = record {
+  depth = refl;
+  fits = fits.1.1;
+  low = rw is.0 (low_around _ _ (expression_reach left beside expression_reach e) (omega (arith, fits.1.0)) (low_beside _ (expression_reach left) (expression_reach e) fits.1.0 low));
+}
+
+pub record GoesTight (b : Base) (p : List Frame) (looser : ℕ) (e : Expression) (o : Span) (ts : List Token) : Type 0 where
+  pub tightness : ℕ
+  pub tight : tightness < looser
+  pub within : tightness ≤ limit b.loosest p
+  pub way : GoesIn b p tightness e o ts
+
+pub goes_tight : {b : Base} {n : ℕ} {o w : Span} {ts : List Token} {e whole : Expression} (f : Frame) (p : List Frame) (looser : ℕ) → takes_before (f ∷ p) looser ≡ true → Fits b.loosest b.depth (f ∷ p) → IsLow (depth_in b.depth (f ∷ p)) (expression_reach e)
+    → looser ≡ looser_at ts → n < looser → n ≤ limit b.loosest (f ∷ p) → GoesIn b (f ∷ p) n e o ts → Applies f e o whole w → GoesTight b p looser whole w ts
+goes_tight (InParens start) p looser takes fits low at tight within way is = absurd cc
+goes_tight {b} (OperandOf operator start) p looser takes fits low at tight within way is = record {
+  tightness = 0;
+  tight = omega arith;
+  within = omega arith;
+  way = rw (is.0, is.1) (finished (OperandOf operator start ∷ p) way within (omega arith) low);
+}
+goes_tight {b} (RightOf operator left outer) p looser takes fits low at tight within way is =
+    let binds : level operator ≤ looser = grind (arith, nat_tests) in
+    record {
+      tightness = level operator - 1;
+      tight = omega (arith, level_positive operator);
+      within = omega (arith, fits.0);
+      way = rw (is.0, is.1) (finished (RightOf operator left outer ∷ p) way within (omega (arith, level_positive operator)) low);
+    }
+
+pub tight_in : (b : Base) (a : Around) (looser : ℕ) (e : Expression) (o : Span) (ts : List Token) (p : List Frame) → waiting a.pending.items ≡ p → a.loosest ≡ b.loosest → a.depth ≡ depth_in b.depth p → Fits b.loosest b.depth p → IsLow a.depth (expression_reach e) → GoesTight b p looser e o ts
+    → HasTight b a looser e o ts
+tight_in b a looser e o ts p is loosest depth fits low way = record {
+  around = record { loosest = loosest; depth = rw is depth; fits = rw is fits };
+  low = low;
+  tightness = way.tightness;
+  tight = way.tight;
+  within = rw is way.within;
+  way = rw is way.way;
+}
+
+-- ---- what the expression is for
+
+pub right_waits : {b : Base} {a : Around} {o : Span} {ts us : List Token} {e : Expression} {operator : BinaryOperator} → HasTight b a (level operator) e o ts → operator_at ts ≡ Some (operator, us) → level operator ≤ limit a.loosest (waiting a.pending.items) → a.depth + (expression_reach e).height < 200
+    → Needs b (RightOf operator e o ∷ waiting a.pending.items) us
+right_waits has found within room = needs_right has.way found has.tight (rw has.around.loosest at within) (rw has.around.depth at room)
+
+pub right_deep : {b : Base} {a : Around} {o : Span} {ts us : List Token} {e : Expression} {operator : BinaryOperator} → HasTight b a (level operator) e o ts → operator_at ts ≡ Some (operator, us) → level operator ≤ limit a.loosest (waiting a.pending.items) → 200 ≤ a.depth + (expression_reach e).height
+    → Fails b (too_deep (expression_reach e).start)
+right_deep has found within deep = right_too_deep _ _ has.way found has.tight (rw has.around.loosest at within) (rw has.around.depth at has.low) (rw has.around.depth at deep)
+
+pub parens : (p : List Frame) (start : Span) → paren_start p ≡ Some start → (q : List Frame) × (p ≡ InParens start ∷ q)
+parens [] start e = absurd (none-some _ e)
+parens (InParens other ∷ q) start e = (q, ap (λ (x : Span). InParens x ∷ q) (same_Some _ _ e))
+parens (OperandOf operator other ∷ q) start e = absurd (none-some _ e)
+parens (RightOf operator left outer ∷ q) start e = absurd (none-some _ e)
+
+pub closes : {b : Base} {a : Around} {start o : Span} {ts : List Token} {e : Expression} {q : List Frame} → HasTight b a (looser_at ts) e o ts → waiting a.pending.items ≡ InParens start ∷ q → 10 < looser_at ts → Closes (Completes b q) (Fails b) (depth_in b.depth q) (limit b.loosest q) start e ts
+closes {b} {a} {start} {o} {ts} {e} {q} has is none =
+    let within : has.tightness ≤ limit b.loosest (InParens start ∷ q) = rw is at has.within in
+    let way : GoesIn b (InParens start ∷ q) has.tightness e o ts = rw is at has.way in
+    let low : IsLow (depth_in b.depth (InParens start ∷ q)) (expression_reach e) = rw (has.around.depth, is) at has.low in
+    finished (InParens start ∷ q) way within none low
+
+pub ends_loose : (loosest looser : ℕ) (p : List Frame) → takes_before p looser ≡ false → looser ≤ 10 → limit loosest p < looser → p ≡ []
+ends_loose loosest looser [] takes ten less = refl
+ends_loose loosest looser (InParens start ∷ p) takes ten less = absurd (omega arith)
+ends_loose loosest looser (OperandOf operator start ∷ p) takes ten less = absurd cc
+ends_loose loosest looser (RightOf operator left outer ∷ p) takes ten less = let binds : level operator ≤ looser = omega arith in absurd (grind (arith, nat_tests))
+
+pub ends_outside : (loosest looser : ℕ) (p : List Frame) → takes_before p looser ≡ false → paren_start p ≡ None → limit loosest p < looser → p ≡ []
+ends_outside loosest looser [] takes none less = refl
+ends_outside loosest looser (InParens start ∷ p) takes none less = absurd (none-some _ (sym none))
+ends_outside loosest looser (OperandOf operator start ∷ p) takes none less = absurd cc
+ends_outside loosest looser (RightOf operator left outer ∷ p) takes none less = let binds : level operator ≤ looser = omega arith in absurd (grind (arith, nat_tests))
+
+-- the whole expression, where no form waits
+pub whole_read : {b : Base} {a : Around} {o : Span} {ts : List Token} {e : Expression} → HasWhole b a e o ts → limit b.loosest (waiting a.pending.items) < looser_at ts → SpellsBinary b.loosest b.tokens e o ts × IsLow b.depth (expression_reach e)
+whole_read {b} {a} {o} {ts} {e} whole none =
+    let is = whole.ends none in
+    let low : IsLow b.depth (expression_reach e) = rw (whole.read.around.depth, is) at whole.read.low in
+    (finished [] (rw is at whole.read.way) (rw is at whole.read.within) (rw is at none) low, low)
