@@ -9,10 +9,11 @@ use Rattle.ckc_lexer.specs.declared.token.TokenKind.{TokenKind}
 use Rattle.ckc_lexer.specs.declared.token.TokenKind.TheVariants as kinds
 use Rattle.ckc_tree.specs.declared.expr.UnaryOperator.{UnaryOperator}
 use Rattle.ckc_tree.specs.declared.expr.BinaryOperator.{BinaryOperator}
-use Rattle.ckc_tree.specs.Expressions.{Expression}
+use Rattle.ckc_tree.specs.Expressions.{Expression, expression}
 use Rattle.ckc_tree.specs.Heights.{Reach, around, expression_reach, ◌beside◌}
 use Rattle.ckc_parser.specs.declared.expressions.Around.{Around}
 use Rattle.ckc_parser.specs.declared.expressions.Pending.{Pending}
+use Rattle.ckc_parser.specs.declared.expressions.Pending.TheVariants as forms
 use Rattle.ckc_parser.specs.Tokens as words
 use Rattle.ckc_parser.specs.Tokens.{token, join, IsUnaryOperator, operator_at, level, next_is}
 use Rattle.ckc_parser.specs.ExpressionGrammar.{SpellsBinary, SpellsPrimary, SpellsSelectors}
@@ -20,8 +21,8 @@ use Rattle.ckc_parser.specs.Failures.{Failure, unexpected, too_deep, no_memory, 
 use Rattle.ckc_parser.specs.StuckExpressions as s
 use Rattle.ckc_parser.specs.StuckExpressions.{primary_word, unary_word, close_paren, StuckSelectors}
 use Rattle.ckc_parser.specs.Readings.{unary_operator_of, FailsPrimary, no_primary, in_primary}
-use Rattle.ckc_parser.specs.Contexts.{Frame, InParens, OperandOf, RightOf, waiting, limit, depth_in, Fits, looseness, looser_at, takes_before, paren_start, Goes, Selects, Closes, Base, Fails, Completes, Needs, GoesIn, IsAround, NeedsOperand, HasOperand, HasTight, HasWhole}
-use Rattle.ckc_parser.specs.ContextAnswers.{prefix_word, Applies}
+use Rattle.ckc_parser.specs.Contexts.{Frame, frame, InParens, OperandOf, RightOf, waiting, limit, depth_in, Fits, looseness, looser_at, takes_before, paren_start, Goes, Selects, Closes, Base, Fails, Completes, Needs, GoesIn, IsAround, NeedsOperand, HasOperand, HasTight, HasWhole}
+use Rattle.ckc_parser.specs.ContextAnswers.{prefix_word, Applies, IsSmall}
 use Rattle.ckc_parser.proofs.Readings.{low_around}
 use Rattle.ckc_parser.proofs.Paths.{beside_height}
 use Rattle.ckc_parser.proofs.Contexts.{level_positive, level_ten, depth_low, needs_primary, needs_fails, needs_right, right_too_deep, finished}
@@ -130,16 +131,32 @@ goes_tight {b} (RightOf operator left outer) p looser takes fits low at tight wi
       way = rw (is.0, is.1) (finished (RightOf operator left outer ∷ p) way within (omega (arith, level_positive operator)) low);
     }
 
-pub tight_in : (b : Base) (a : Around) (looser : ℕ) (e : Expression) (o : Span) (ts : List Token) (p : List Frame) → waiting a.pending.items ≡ p → a.loosest ≡ b.loosest → a.depth ≡ depth_in b.depth p → Fits b.loosest b.depth p → IsLow a.depth (expression_reach e) → GoesTight b p looser e o ts
-    → HasTight b a looser e o ts
-tight_in b a looser e o ts p is loosest depth fits low way = record {
-  around = record { loosest = loosest; depth = rw is depth; fits = rw is fits };
-  low = low;
-  tightness = way.tightness;
-  tight = way.tight;
-  within = rw is way.within;
-  way = rw is way.way;
-}
+-- the same of what the parser keeps, before and after
+pub reduces_around : {b : Base} {a a' : Around} (x : Pending) (looser : ℕ) (e whole : Expression) (o w : Span) → IsAround b a → IsLow a.depth (expression_reach e) → waiting a.pending.items ≡ frame x ∷ waiting a'.pending.items → takes_before (waiting a.pending.items) looser ≡ true
+    → Applies (frame x) e o whole w → a'.depth ≡ a.depth - 1 → a'.loosest ≡ a.loosest → IsAround b a' × IsLow a'.depth (expression_reach whole)
+reduces_around {b} {a} {a'} x looser e whole o w is_around low top takes is depth loosest =
+    let fits : Fits b.loosest b.depth (frame x ∷ waiting a'.pending.items) = rw top at is_around.fits in
+    let inside : IsLow (depth_in b.depth (frame x ∷ waiting a'.pending.items)) (expression_reach e) = rw (is_around.depth, top) at low in
+    let step : Steps b (frame x) (waiting a'.pending.items) whole = steps e o w (frame x) (waiting a'.pending.items) looser (rw top at takes) fits inside is in
+    let deep : a.depth ≡ depth_in b.depth (frame x ∷ waiting a'.pending.items) = rw top at is_around.depth in
+    let same : a'.depth ≡ depth_in b.depth (waiting a'.pending.items) = omega (arith, step.depth) in
+    (record { loosest = loosest ∙ is_around.loosest; depth = same; fits = step.fits }, rw same step.low)
+
+pub reduces_tight : {b : Base} {a a' : Around} {ts : List Token} (x : Pending) (looser : ℕ) (e whole : Expression) (o w : Span) → looser ≡ looser_at ts → HasTight b a looser e o ts → waiting a.pending.items ≡ frame x ∷ waiting a'.pending.items
+    → takes_before (waiting a.pending.items) looser ≡ true → Applies (frame x) e o whole w → a'.depth ≡ a.depth - 1 → a'.loosest ≡ a.loosest → HasTight b a' looser whole w ts
+reduces_tight {b} {a} {a'} {ts} x looser e whole o w at has top takes is depth loosest =
+    let now : IsAround b a' × IsLow a'.depth (expression_reach whole) = reduces_around x looser e whole o w has.around has.low top takes is depth loosest in
+    let fits : Fits b.loosest b.depth (frame x ∷ waiting a'.pending.items) = rw top at has.around.fits in
+    let inside : IsLow (depth_in b.depth (frame x ∷ waiting a'.pending.items)) (expression_reach e) = rw (has.around.depth, top) at has.low in
+    let within : has.tightness ≤ limit b.loosest (frame x ∷ waiting a'.pending.items) = rw top at has.within in
+    let way : GoesIn b (frame x ∷ waiting a'.pending.items) has.tightness e o ts = rw top at has.way in
+    let goes : GoesTight b (waiting a'.pending.items) looser whole w ts = goes_tight (frame x) (waiting a'.pending.items) looser (rw top at takes) fits inside at has.tight within way is in
+    record { around = now.0; low = now.1; tightness = goes.tightness; tight = goes.tight; within = goes.within; way = goes.way }
+
+pub is_small : (loosest d : ℕ) (x : Pending) (p : List Frame) → Fits loosest d (frame x ∷ p) → IsSmall x
+is_small loosest d (forms.Paren start) p fits = tt
+is_small loosest d (forms.Unary operator start) p fits = tt
+is_small loosest d (forms.Binary operator left) p fits = let height : left.reach.height ≡ (expression_reach (expression left.expr)).height = ap (λ (r : Reach). r.height) left.exact in omega (arith, fits.1.0)
 
 -- ---- what the expression is for
 
