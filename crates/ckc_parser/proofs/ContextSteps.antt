@@ -1,5 +1,5 @@
 -- What the parser keeps around an operand, step by step.
-use Rattle.std.proofs.Common.{◌≡◌, ℕ, zero, suc, ◌+◌, ◌-◌, ◌<◌, ◌≤◌, Bool, true, false, List, [], ◌∷◌, ◌++◌, Option, Some, None, refl, sym, ap, subst, ◌∙◌, arith}
+use Rattle.std.proofs.Common.{◌≡◌, ℕ, zero, suc, ◌+◌, ◌-◌, ◌<◌, ◌≤◌, Bool, true, false, List, [], ◌∷◌, ◌++◌, length, Option, Some, None, refl, sym, ap, subst, ◌∙◌, arith}
 use Rattle.std.specs.Prelude.{nat_le}
 use Rattle.std.proofs.lemmas.Bool.Decides.{nat_tests}
 use Rattle.std.proofs.lemmas.Option.{same_Some, none-some}
@@ -11,6 +11,7 @@ use Rattle.ckc_tree.specs.declared.expr.UnaryOperator.{UnaryOperator}
 use Rattle.ckc_tree.specs.declared.expr.BinaryOperator.{BinaryOperator}
 use Rattle.ckc_tree.specs.Expressions.{Expression, expression}
 use Rattle.ckc_tree.specs.Heights.{Reach, around, expression_reach, ◌beside◌}
+use Rattle.ckc_parser.specs.declared.operand.Operand.{Operand}
 use Rattle.ckc_parser.specs.declared.expressions.Around.{Around}
 use Rattle.ckc_parser.specs.declared.expressions.Pending.{Pending}
 use Rattle.ckc_parser.specs.declared.expressions.Pending.TheVariants as forms
@@ -22,10 +23,10 @@ use Rattle.ckc_parser.specs.StuckExpressions as s
 use Rattle.ckc_parser.specs.StuckExpressions.{primary_word, unary_word, close_paren, StuckSelectors}
 use Rattle.ckc_parser.specs.Readings.{unary_operator_of, FailsPrimary, no_primary, in_primary}
 use Rattle.ckc_parser.specs.Contexts.{Frame, frame, InParens, OperandOf, RightOf, waiting, limit, depth_in, Fits, looseness, looser_at, takes_before, paren_start, Goes, Selects, Closes, Base, Fails, Completes, Needs, GoesIn, IsAround, NeedsOperand, HasOperand, HasTight, HasWhole}
-use Rattle.ckc_parser.specs.ContextAnswers.{prefix_word, Applies, IsSmall}
+use Rattle.ckc_parser.specs.ContextAnswers.{prefix_word, Applies, IsSmall, IsUnwrapped}
 use Rattle.ckc_parser.proofs.Readings.{low_around}
 use Rattle.ckc_parser.proofs.Paths.{beside_height}
-use Rattle.ckc_parser.proofs.Contexts.{level_positive, level_ten, depth_low, needs_primary, needs_fails, needs_right, right_too_deep, finished}
+use Rattle.ckc_parser.proofs.Contexts.{level_positive, limit_ten, depth_low, needs_primary, needs_fails, needs_right, right_too_deep, finished}
 
 pub unary_operator_is : (k : TokenKind) (operator : UnaryOperator) → unary_operator_of k ≡ Some operator → IsUnaryOperator k operator
 unary_operator_is kinds.Star operator e = rw (← same_Some _ _ e) words.deref
@@ -174,28 +175,65 @@ parens (InParens other ∷ q) start e = (q, ap (λ (x : Span). InParens x ∷ q)
 parens (OperandOf operator other ∷ q) start e = absurd (none-some _ e)
 parens (RightOf operator left outer ∷ q) start e = absurd (none-some _ e)
 
-pub closes : {b : Base} {a : Around} {start o : Span} {ts : List Token} {e : Expression} {q : List Frame} → HasTight b a (looser_at ts) e o ts → waiting a.pending.items ≡ InParens start ∷ q → 10 < looser_at ts → Closes (Completes b q) (Fails b) (depth_in b.depth q) (limit b.loosest q) start e ts
-closes {b} {a} {start} {o} {ts} {e} {q} has is none =
+closes : {b : Base} {a : Around} {start o : Span} {looser : ℕ} {ts : List Token} {e : Expression} {q : List Frame} → HasTight b a looser e o ts → looser ≡ looser_at ts → waiting a.pending.items ≡ InParens start ∷ q → 10 < looser
+    → Closes (Completes b q) (Fails b) (depth_in b.depth q) (limit b.loosest q) start e ts
+closes {b} {a} {start} {o} {looser} {ts} {e} {q} has at is none =
     let within : has.tightness ≤ limit b.loosest (InParens start ∷ q) = rw is at has.within in
     let way : GoesIn b (InParens start ∷ q) has.tightness e o ts = rw is at has.way in
     let low : IsLow (depth_in b.depth (InParens start ∷ q)) (expression_reach e) = rw (has.around.depth, is) at has.low in
-    finished (InParens start ∷ q) way within none low
+    finished (InParens start ∷ q) way within (rw at at none) low
 
-pub ends_loose : (loosest looser : ℕ) (p : List Frame) → takes_before p looser ≡ false → looser ≤ 10 → limit loosest p < looser → p ≡ []
+pub unclosed : {b : Base} {a : Around} {start o : Span} {looser : ℕ} {ts : List Token} {e : Expression} → HasTight b a looser e o ts → looser ≡ looser_at ts → paren_start (waiting a.pending.items) ≡ Some start → 10 < looser → next_is close_paren ts ≡ false → Fails b (unexpected ts)
+unclosed {a} {start} has at is none next = let inside = parens (waiting a.pending.items) start is in (closes has at inside.1 none).unclosed next
+
+pub closed_again : {b : Base} {a a' : Around} {start t outer o : Span} {looser : ℕ} {ts rest : List Token} (x y : Operand) → HasTight b a looser (expression x.expr) o ts → looser ≡ looser_at ts → paren_start (waiting a.pending.items) ≡ Some start → 10 < looser
+    → ts ≡ token kinds.CloseParen t ∷ rest → outer ≡ join start t → IsUnwrapped a a' x outer y → HasOperand b a' (expression y.expr) y.outer rest
+closed_again {b} {a} {a'} {start} {t} {outer} {o} {looser} {ts} {rest} x y has at is none closing span left =
+    let inside = parens (waiting a.pending.items) start is in
+    let q : List Frame = inside.0 in
+    let now : waiting a'.pending.items ≡ q = left.left (InParens start) q inside.1 in
+    let selects : Selects (Completes b q) (Fails b) (depth_in b.depth q) (limit b.loosest q) (expression x.expr) (join start t) rest = (closes has at inside.1 none).closed closing in
+    let depth : a.depth ≡ depth_in b.depth (InParens start ∷ q) = rw inside.1 at has.around.depth in
+    let fits : Fits b.loosest b.depth (InParens start ∷ q) = rw inside.1 at has.around.fits in
+    record {
+      around = record { loosest = left.loosest ∙ has.around.loosest; depth = rw (left.depth, now) depth; fits = rw now fits };
+      low = rw (left.depth, left.same) has.low;
+      selects = rw (now, left.same, left.outer_is, span) selects;
+    }
+
+pub some_wait : (ps : List Pending) (start : Span) → paren_start (waiting ps) ≡ Some start → 0 < length ps
+some_wait [] start e = absurd (none-some _ e)
+some_wait (x ∷ ps) start e = omega arith
+
+ends_loose : (loosest looser : ℕ) (p : List Frame) → takes_before p looser ≡ false → looser ≤ 10 → limit loosest p < looser → p ≡ []
 ends_loose loosest looser [] takes ten less = refl
 ends_loose loosest looser (InParens start ∷ p) takes ten less = absurd (omega arith)
 ends_loose loosest looser (OperandOf operator start ∷ p) takes ten less = absurd cc
 ends_loose loosest looser (RightOf operator left outer ∷ p) takes ten less = let binds : level operator ≤ looser = omega arith in absurd (grind (arith, nat_tests))
 
-pub ends_outside : (loosest looser : ℕ) (p : List Frame) → takes_before p looser ≡ false → paren_start p ≡ None → limit loosest p < looser → p ≡ []
+ends_outside : (loosest looser : ℕ) (p : List Frame) → takes_before p looser ≡ false → paren_start p ≡ None → limit loosest p < looser → p ≡ []
 ends_outside loosest looser [] takes none less = refl
 ends_outside loosest looser (InParens start ∷ p) takes none less = absurd (none-some _ (sym none))
 ends_outside loosest looser (OperandOf operator start ∷ p) takes none less = absurd cc
 ends_outside loosest looser (RightOf operator left outer ∷ p) takes none less = let binds : level operator ≤ looser = omega arith in absurd (grind (arith, nat_tests))
 
+pub whole_before : {b : Base} {a : Around} {o : Span} {looser : ℕ} {ts : List Token} {e : Expression} → HasTight b a looser e o ts → looser ≡ looser_at ts → takes_before (waiting a.pending.items) looser ≡ false → looser ≤ 10 → HasWhole b a e o ts
+whole_before {b} {a} {o} {looser} {ts} {e} has at takes ten = record { read = subst (λ (n : ℕ). HasTight b a n e o ts) at has; ends = λ less. ends_loose b.loosest looser (waiting a.pending.items) takes ten (rw at less) }
+
+pub whole_outside : {b : Base} {a : Around} {o : Span} {looser : ℕ} {ts : List Token} {e : Expression} → HasTight b a looser e o ts → looser ≡ looser_at ts → takes_before (waiting a.pending.items) looser ≡ false → paren_start (waiting a.pending.items) ≡ None → HasWhole b a e o ts
+whole_outside {b} {a} {o} {looser} {ts} {e} has at takes none = record { read = subst (λ (n : ℕ). HasTight b a n e o ts) at has; ends = λ less. ends_outside b.loosest looser (waiting a.pending.items) takes none (rw at less) }
+
 -- the whole expression, where no form waits
-pub whole_read : {b : Base} {a : Around} {o : Span} {ts : List Token} {e : Expression} → HasWhole b a e o ts → limit b.loosest (waiting a.pending.items) < looser_at ts → SpellsBinary b.loosest b.tokens e o ts × IsLow b.depth (expression_reach e)
+pub whole_read : {b : Base} {a : Around} {o : Span} {ts : List Token} {e : Expression} → HasWhole b a e o ts → (limit a.loosest (waiting a.pending.items) ≤ 10 → limit a.loosest (waiting a.pending.items) < looser_at ts) → SpellsBinary b.loosest b.tokens e o ts × IsLow b.depth (expression_reach e)
 whole_read {b} {a} {o} {ts} {e} whole none =
-    let is = whole.ends none in
+    let ten : limit b.loosest (waiting a.pending.items) ≤ 10 = limit_ten b.loosest b.depth (waiting a.pending.items) whole.read.around.fits in
+    let less : limit b.loosest (waiting a.pending.items) < looser_at ts = (rw whole.read.around.loosest at none) ten in
+    let is = whole.ends less in
     let low : IsLow b.depth (expression_reach e) = rw (whole.read.around.depth, is) at whole.read.low in
-    (finished [] (rw is at whole.read.way) (rw is at whole.read.within) (rw is at none) low, low)
+    let way : GoesIn b [] whole.read.tightness e o ts = rw is at whole.read.way in
+    let within : whole.read.tightness ≤ limit b.loosest [] = rw is at whole.read.within in
+    let outside : limit b.loosest [] < looser_at ts = rw is at less in
+    (finished [] way within outside low, low)
+
+pub tight_before : {b : Base} {a : Around} {o : Span} {ts us : List Token} {e : Expression} {operator : BinaryOperator} → HasWhole b a e o ts → operator_at ts ≡ Some (operator, us) → HasTight b a (level operator) e o ts
+tight_before {b} {a} {o} {ts} {us} {e} {operator} whole found = subst (λ (n : ℕ). HasTight b a n e o ts) (ap looseness found) whole.read

@@ -21,3 +21,6 @@ pub mod Readings
 pub mod Contexts
 pub mod Waiting
 pub mod ContextSteps
+pub mod Selecting
+pub mod Arguments
+pub mod BoundsForms

@@ -13,6 +13,7 @@ pub mod Failures
 pub mod Readings
 pub mod StuckTypes
 pub mod StuckExpressions
+pub mod Forms
 pub mod Contexts
 pub mod ContextAnswers
 pub mod StuckStatements

@@ -1,5 +1,5 @@
 -- Inside: what the functions that read forms answer, in the code's types.
-use Rattle.std.specs.Prelude.{◌≡◌, ℕ, Bool, true, false, List, [], ◌∷◌, codes, Option, Some, None, Result, Ok, Err}
+use Rattle.std.specs.Prelude.{◌≡◌, ◌≤◌, ℕ, Bool, true, false, List, [], ◌∷◌, codes, Option, Some, None, Result, Ok, Err}
 use Rattle.std.specs.Borrow.{Bor}
 use Rattle.ckc_text.specs.declared.place.Span.{Span}
 use Rattle.ckc_lexer.specs.declared.token.Token.{Token}
@@ -121,6 +121,6 @@ IsRefusal q rest true f = f ≡ too_deep q.from
 IsRefusal q rest false f = f ≡ unexpected rest
 
 -- the word `unknown` where no node may stand: too deep, where it goes on as an expression
-abbrev pub RefusesUnknown : List Token → Result (Unit {0}) Stuck → Type 0
-RefusesUnknown ts (Ok done) = next_is unknown_word ts ≡ false
-RefusesUnknown ts (Err e) = (q : Span) × (rest : List Token) × (ts ≡ token (kinds.Name (codes "unknown")) q ∷ rest) × IsRefusal q rest (goes_on rest) (failure e)
+abbrev pub RefusesUnknown : ℕ → List Token → Result (Unit {0}) Stuck → Type 0
+RefusesUnknown d ts (Ok done) = 200 ≤ d → next_is unknown_word ts ≡ false
+RefusesUnknown d ts (Err e) = (q : Span) × (rest : List Token) × (200 ≤ d) × (ts ≡ token (kinds.Name (codes "unknown")) q ∷ rest) × IsRefusal q rest (goes_on rest) (failure e)

@@ -9,6 +9,7 @@ ghost use Rattle.ckc_tree.specs.Heights.{bounds_reach};
 ghost use Rattle.ckc_parser.specs.Tokens.{token};
 ghost use Rattle.ckc_parser.specs.StuckExpressions.{goes_on, is_unknown, IsCountWord, StuckBounds};
 ghost use Rattle.ckc_parser.specs.Failures.{Reads, TakesTokens};
+ghost use Rattle.ckc_parser.specs.Forms.{IsBoundsForm};
 ghost use Rattle.ckc_parser.specs.Readings.{reach_of, count_word, IsBounds, ReadsUnknown, RefusesUnknown};
 
 use crate::expressions::expression;
@@ -45,23 +46,38 @@ pub fn bounds(
     ensures shorter { TakesTokens tokens.now result }
 {
     let (word, start, rest) = name(tokens)?;
-    let is_count = is_word(word, b"count");
-    let is_byte_count = is_word(word, b"byte_count");
-    let is_bounds = is_word(word, b"bounds");
-    if !is_count && !is_byte_count && !is_bounds {
+    let Some(form) = bounds_form(word) else {
         return Err(Stuck::Unexpected { at: tokens });
-    }
+    };
     let (_, rest) = open_paren(rest)?;
-    if is_count || is_byte_count {
-        return count(alloc, depth, is_count, start, rest);
+    match form {
+        BoundsForm::Count => count(alloc, depth, true, start, rest),
+        BoundsForm::ByteCount => count(alloc, depth, false, start, rest),
+        BoundsForm::Ends => ends(alloc, depth, start, rest),
     }
-    if let Some((end, rest)) = unknown(rest) {
-        let span = join(start, end);
-        let text = BoundsText::Unknown { span };
-        let reach = Reach::nowhere();
-        return Ok((ReadBounds { text, span, reach }, rest));
+}
+
+/// What bounds say.
+#[derive(Clone, Copy)]
+enum BoundsForm {
+    Count,
+    ByteCount,
+    Ends,
+}
+
+/// What bounds with this word say, if it is one of bounds.
+fn bounds_form(word: &Name) -> Option<BoundsForm>
+    ensures { IsBoundsForm word.now result }
+{
+    if is_word(word, b"count") {
+        Some(BoundsForm::Count)
+    } else if is_word(word, b"byte_count") {
+        Some(BoundsForm::ByteCount)
+    } else if is_word(word, b"bounds") {
+        Some(BoundsForm::Ends)
+    } else {
+        None
     }
-    range(alloc, depth, start, rest)
 }
 
 /// Whether a name has these bytes.
@@ -95,6 +111,27 @@ fn count(
     }
     let text = BoundsText::ByteCount { count, span };
     Ok((ReadBounds { text, span, reach }, rest))
+}
+
+/// Two ends, or the word `unknown`, behind the parenthesis.
+#[cycle(expressions)]
+fn ends(
+    alloc: Global,
+    depth: u32,
+    start: Span,
+    tokens: &[Token],
+) -> Result<(ReadBounds, &[Token]), Stuck<'_>>
+    requires { depth ≤ 200 }
+    ensures reads { (p : Place) → Reads (λ x rest. IsBounds depth (token (kinds.Name (codes "bounds")) start ∷ token kinds.OpenParen p ∷ tokens.now) (bounds_of x.text) x.span rest) (StuckBounds depth (token (kinds.Name (codes "bounds")) start ∷ token kinds.OpenParen p ∷ tokens.now)) result }
+    ensures shorter { TakesTokens tokens.now result }
+{
+    if let Some((end, rest)) = unknown(tokens) {
+        let span = join(start, end);
+        let text = BoundsText::Unknown { span };
+        let reach = Reach::nowhere();
+        return Ok((ReadBounds { text, span, reach }, rest));
+    }
+    range(alloc, depth, start, tokens)
 }
 
 /// The parenthesis behind the word `unknown`, where these two stand next.
@@ -146,9 +183,7 @@ fn range(
     ensures reads { (p : Place) → Reads (λ x rest. IsBounds depth (token (kinds.Name (codes "bounds")) start ∷ token kinds.OpenParen p ∷ tokens.now) (bounds_of x.text) x.span rest) (StuckBounds depth (token (kinds.Name (codes "bounds")) start ∷ token kinds.OpenParen p ∷ tokens.now)) result }
     ensures shorter { TakesTokens tokens.now result }
 {
-    if depth >= MAX_DEPTH {
-        too_deep(tokens)?;
-    }
+    too_deep(depth, tokens)?;
     let (low, rest) = expression(alloc, depth, tokens)?;
     let (_, rest) = comma(rest)?;
     let (high, rest) = expression(alloc, depth, rest)?;
@@ -162,9 +197,12 @@ fn range(
 }
 
 /// The refusal of the word `unknown` where no node may stand; nothing where another token is first.
-fn too_deep(tokens: &[Token]) -> Result<(), Stuck<'_>>
-    ensures { RefusesUnknown tokens.now result }
+fn too_deep(depth: u32, tokens: &[Token]) -> Result<(), Stuck<'_>>
+    ensures { RefusesUnknown depth tokens.now result }
 {
+    if depth < MAX_DEPTH {
+        return Ok(());
+    }
     let Ok((word, span, rest)) = name(tokens) else {
         return Ok(());
     };

@@ -109,7 +109,8 @@ pub fn primary(
         TokenKind::Malloc => malloc(alloc, depth, MallocWord::Malloc, span, rest),
         TokenKind::TMalloc => malloc(alloc, depth, MallocWord::TMalloc, span, rest),
         TokenKind::Calloc => calloc(alloc, depth, CallocWord::Calloc, span, rest),
-        _ => calloc(alloc, depth, CallocWord::NtCalloc, span, rest),
+        TokenKind::NtCalloc => calloc(alloc, depth, CallocWord::NtCalloc, span, rest),
+        _ => Err(Stuck::Unexpected { at: tokens }),
     }
 }
 
@@ -329,10 +330,12 @@ fn malloc(
     let (end, rest) = close_paren(rest)?;
     let span = join(start, end);
     let reach = read.reach.beside(size.reach).around(span.from);
+    let type_name = read.type_name;
+    let size = boxed(alloc, size.expr)?;
     let expr = Expr::Malloc {
         word,
-        type_name: read.type_name,
-        size: boxed(alloc, size.expr)?,
+        type_name,
+        size,
         span,
     };
     let outer = span;
@@ -363,11 +366,14 @@ fn calloc(
         .beside(count.reach)
         .beside(size.reach)
         .around(span.from);
+    let type_name = read.type_name;
+    let count = boxed(alloc, count.expr)?;
+    let size = boxed(alloc, size.expr)?;
     let expr = Expr::Calloc {
         word,
-        type_name: read.type_name,
-        count: boxed(alloc, count.expr)?,
-        size: boxed(alloc, size.expr)?,
+        type_name,
+        count,
+        size,
         span,
     };
     let outer = span;
