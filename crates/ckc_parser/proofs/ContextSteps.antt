@@ -26,6 +26,7 @@ use Rattle.ckc_parser.specs.Contexts.{Frame, frame, InParens, OperandOf, RightOf
 use Rattle.ckc_parser.specs.ContextAnswers.{prefix_word, Applies, IsSmall, IsUnwrapped}
 use Rattle.ckc_parser.proofs.Readings.{low_around}
 use Rattle.ckc_parser.proofs.Paths.{beside_height}
+use Rattle.ckc_parser.proofs.ExpressionPaths.{Marks, mark, shift, marks_at}
 use Rattle.ckc_parser.proofs.Contexts.{level_positive, limit_ten, depth_low, needs_primary, needs_fails, needs_right, right_too_deep, finished}
 
 pub unary_operator_is : (k : TokenKind) (operator : UnaryOperator) → unary_operator_of k ≡ Some operator → IsUnaryOperator k operator
@@ -35,6 +36,14 @@ unary_operator_is kinds.Minus operator e = rw (← same_Some _ _ e) words.negate
 unary_operator_is kinds.Not operator e = rw (← same_Some _ _ e) words.not
 unary_operator_is kinds.Tilde operator e = rw (← same_Some _ _ e) words.complement
 unary_operator_is _ operator e = absurd (none-some _ e)
+
+-- an operator takes tokens
+marks_shorter : {ts us : List Token} {operator : BinaryOperator} → Marks ts operator us → length us < length ts
+marks_shorter mark = omega arith
+marks_shorter shift = omega arith
+
+pub operator_shorter : {us : List Token} {operator : BinaryOperator} (ts : List Token) → operator_at ts ≡ Some (operator, us) → length us < length ts
+operator_shorter ts found = marks_shorter (marks_at ts found)
 
 pub low_beside : (d : ℕ) (p q : Reach) → IsLow d p → IsLow d q → IsLow d (p beside q)
 low_beside d p q first second = omega (arith, (beside_height p q).2)
@@ -82,12 +91,12 @@ looser_positive ts = by_operator (operator_at ts)
 pub selectors_fail : {b : Base} {a : Around} {o : Span} {ts : List Token} {e : Expression} {f : Failure} → HasOperand b a e o ts → StuckSelectors e o a.depth ts f → Fails b f
 selectors_fail has stuck = has.selects.fails (rw has.around.depth at stuck)
 
-pub selectors_read : {b : Base} {a : Around} {o w : Span} {ts rest : List Token} {e whole : Expression} → HasOperand b a e o ts → SpellsSelectors e o ts whole w rest → IsLow a.depth (expression_reach whole) → HasTight b a (looser_at rest) whole w rest
-selectors_read {rest} has d low = record {
+pub selectors_read : {b : Base} {a : Around} {o w : Span} {ts rest : List Token} {e whole : Expression} {looser : ℕ} → HasOperand b a e o ts → looser ≡ looser_at rest → SpellsSelectors e o ts whole w rest → IsLow a.depth (expression_reach whole) → HasTight b a looser whole w rest
+selectors_read {rest} has at d low = record {
   around = has.around;
   low = low;
   tightness = 0;
-  tight = looser_positive rest;
+  tight = rw at (looser_positive rest);
   within = omega arith;
   way = has.selects.selects d (rw has.around.depth at low);
 }

@@ -1,6 +1,5 @@
 -- What a function that reads a form answers, from what the functions that it calls answered.
 use Rattle.std.proofs.Common.{◌≡◌, ℕ, zero, suc, ◌+◌, ◌<◌, ◌≤◌, Bool, true, false, List, [], ◌∷◌, length, Option, Some, None, Result, Ok, Err, refl, sym, ap, subst, ◌∙◌, arith, add-one}
-use Rattle.std.specs.Borrow.{Bor}
 use Rattle.std.proofs.lemmas.Option.{same_Some, none-some}
 use Rattle.std.specs.Result.{IsErrAnd}
 use Rattle.ckc_text.specs.declared.place.Span.{Span}
@@ -13,9 +12,8 @@ use Rattle.ckc_parser.specs.declared.stuck.Stuck.{Stuck}
 use Rattle.ckc_parser.specs.declared.stuck.Stuck.TheVariants as code
 use Rattle.ckc_parser.specs.Tokens as words
 use Rattle.ckc_parser.specs.Tokens.{token, next_is, selector, IsPointerWord}
-use Rattle.ckc_parser.specs.Failures.{IsLow, Reads}
-use Rattle.ckc_parser.specs.StuckExpressions.{StuckPrimary}
-use Rattle.ckc_parser.specs.Readings.{pointer_word_of, FailsPrimary, in_primary}
+use Rattle.ckc_parser.specs.Failures.{IsLow}
+use Rattle.ckc_parser.specs.Readings.{pointer_word_of}
 
 -- an error that is passed on
 pub err : {T : Type 0} (r : Result T Stuck) (e : Stuck) → IsErrAnd r (λ x. x ≡ e) → r ≡ Err e
@@ -31,11 +29,6 @@ next is ts rest t b e h = ap (next_is is) e ∙ h
 
 pub next_none : (is : TokenKind → Bool) (ts : List Token) → ts ≡ [] → next_is is ts ≡ false
 next_none is ts e = ap (next_is is) e
-
--- a failure of a form that this word begins is one of the smallest expressions
-pub in_reading : {X : Type 0} (Is : X → List Token → Type 0) (d : ℕ) (ts : List Token) (r : Result (X × Bor (List Token)) Stuck) → Reads Is (StuckPrimary d ts) r → Reads Is (FailsPrimary d ts) r
-in_reading Is d ts (Ok found) read = read
-in_reading Is d ts (Err e) stuck = in_primary stuck
 
 pub token_is : (t : Token) (k : TokenKind) → t.kind ≡ k → t ≡ token k t.span
 token_is t k is = ap (λ (kind : TokenKind). token kind t.span) is

@@ -1,17 +1,20 @@
--- Indices and members behind an expression.
-use Rattle.std.proofs.Common.{◌≡◌, ℕ, suc, ◌+◌, ◌<◌, ◌≤◌, true, List, ◌∷◌, ap, arith}
+-- Operands as they are read, and the indices and members behind them.
+use Rattle.std.proofs.Common.{◌≡◌, ℕ, suc, ◌+◌, ◌<◌, ◌≤◌, true, List, ◌∷◌, Result, Ok, Err, ap, arith}
+use Rattle.std.specs.Borrow.{Bor}
 use Rattle.ckc_text.specs.declared.place.Span.{Span}
 use Rattle.ckc_lexer.specs.declared.token.Token.{Token}
 use Rattle.ckc_lexer.specs.declared.token.TokenKind.TheVariants as kinds
 use Rattle.ckc_tree.specs.Expressions.{Expression, Index, Dot, Arrow, expression}
 use Rattle.ckc_tree.specs.Heights.{Reach, ◌beside◌, expression_reach}
 use Rattle.ckc_parser.specs.declared.operand.Operand.{Operand}
+use Rattle.ckc_parser.specs.declared.stuck.Stuck.{Stuck}
 use Rattle.ckc_parser.specs.Tokens.{token, join, identifier}
 use Rattle.ckc_parser.specs.ExpressionGrammar as g
 use Rattle.ckc_parser.specs.ExpressionGrammar.{SpellsBinary}
-use Rattle.ckc_parser.specs.Failures.{IsLow}
+use Rattle.ckc_parser.specs.Failures.{IsLow, Reads}
 use Rattle.ckc_parser.specs.StuckExpressions as s
-use Rattle.ckc_parser.specs.Readings.{SelectsOne}
+use Rattle.ckc_parser.specs.StuckExpressions.{StuckPrimary}
+use Rattle.ckc_parser.specs.Readings.{SelectsOne, IsPrimary, FailsPrimary, in_primary}
 use Rattle.ckc_parser.proofs.Readings.{low_around}
 use Rattle.ckc_parser.proofs.Paths.{beside_height}
 
@@ -43,3 +46,8 @@ selects_none low = record { selects = λ d. d; fails = λ d. d; low = low }
 
 pub selects_more : {d : ℕ} {o p w : Span} {ts mid rest : List Token} {e longer longest : Expression} → SelectsOne e o d ts longer p mid → SelectsOne longer p d mid longest w rest → SelectsOne e o d ts longest w rest
 selects_more first second = record { selects = λ d. first.selects (second.selects d); fails = λ d. first.fails (second.fails d); low = second.low }
+
+-- a failure of a form that a word begins is one of the smallest expressions
+pub primary_reads : (d : ℕ) (ts : List Token) (r : Result (Operand × Bor (List Token)) Stuck) → Reads (λ x rest. IsPrimary d ts (expression x.expr) x.outer rest) (StuckPrimary d ts) r → Reads (λ x rest. IsPrimary d ts (expression x.expr) x.outer rest) (FailsPrimary d ts) r
+primary_reads d ts (Ok found) read = read
+primary_reads d ts (Err e) stuck = in_primary stuck

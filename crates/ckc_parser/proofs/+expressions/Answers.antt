@@ -1,20 +1,22 @@
-use Rattle.std.proofs.Common.{◌≡◌, ◌≤◌, ◌+◌, [], length, refl, sym, ap, ◌∙◌, arith, add-one, rules}
+use Rattle.std.proofs.Common.{◌≡◌, ◌≤◌, ◌+◌, [], ◌∷◌, length, refl, sym, ap, subst, ◌∙◌, arith, add-one, rules}
 use Rattle.ckc_tree.specs.Expressions.{expression}
-use Rattle.ckc_tree.specs.Heights.{around, expression_reach}
+use Rattle.ckc_tree.specs.Heights.{around, expression_reach, expressions_reach}
 use Rattle.ckc_parser.specs.Tokens as words
-use Rattle.ckc_parser.specs.Tokens.{next_is}
+use Rattle.ckc_lexer.specs.declared.token.TokenKind.TheVariants as kinds
+use Rattle.ckc_parser.specs.Tokens.{token, next_is}
 use Rattle.ckc_parser.specs.ExpressionGrammar as g
 use Rattle.ckc_parser.specs.StuckExpressions as s
 use Rattle.ckc_parser.specs.StuckExpressions.{bounds_word}
-use Rattle.ckc_parser.specs.Readings.{no_primary, in_primary}
+use Rattle.ckc_parser.specs.Readings.{no_primary, in_primary, listed}
+use Rattle.ckc_parser.specs.Failures.{IsLow}
 use Rattle.ckc_parser.specs.Forms.{form_word}
 use Rattle.ckc_parser.specs.Contexts.{Base, waiting, paren_start}
-use Rattle.ckc_parser.proofs.Readings.{err, begins, next, next_none, in_reading, token_is, arrow_is, low_around}
-use Rattle.ckc_parser.proofs.Selecting.{height_is, start_is, room, index_selects, selects_none, selects_more}
+use Rattle.ckc_parser.proofs.Readings.{err, begins, next, next_none, token_is, arrow_is, low_around}
+use Rattle.ckc_parser.proofs.Selecting.{primary_reads, height_is, start_is, room, index_selects, selects_none, selects_more}
 use Rattle.ckc_parser.proofs.Arguments.{call_is, follows_none, follows_more, low_pushed, all_read, first_read}
 use Rattle.ckc_parser.proofs.BoundsForms.{no_bounds_word, word_of_bounds, word_of_count, no_comma_or_paren, low_fails, unknown_refused}
 use Rattle.ckc_parser.proofs.Contexts.{needs_first}
-use Rattle.ckc_parser.proofs.ContextSteps.{low_beside, needs_in, depth_fits, primary_fails, primary_read, selectors_fail, selectors_read, unclosed, closed_again, some_wait, whole_before, whole_outside, whole_read, tight_before}
+use Rattle.ckc_parser.proofs.ContextSteps.{operator_shorter, low_beside, needs_in, depth_fits, primary_fails, primary_read, selectors_fail, selectors_read, unclosed, closed_again, some_wait, whole_before, whole_outside, whole_read, tight_before}
 use Rattle.ckc_parser.proofs.+expressions.Goals as goal
 
 pub bounds::bounds-returns-in_err-word-clause-reads : goal.bounds::bounds-returns-in_err-word-clause-reads
@@ -91,19 +93,19 @@ pub expressions::closed-returns-in_err-whole-clause-reads : goal.expressions::cl
 expressions::closed-returns-in_err-whole-clause-reads t c = λ b start. let has = c.loop-selected.invariant.0 b start in rw (err _ _ c.from_residual-in_err-whole.ensures.1) (selectors_fail has s.selectors_no_room)
 
 pub expressions::closed-returns-then-looser-le10-clause-reads : goal.expressions::closed-returns-then-looser-le10-clause-reads
-expressions::closed-returns-then-looser-le10-clause-reads t c = λ b start. let has = c.loop-selected.invariant.0 b start in let read = (c.in_ok-whole.ensures b _ c.looseness-looser.ensures (selectors_read has c.in_ok-selected.ensures.reads.0 c.in_ok-selected.ensures.reads.1)) in whole_before read.0 c.looseness-looser.ensures read.1 c.if-looser-le10.true
+expressions::closed-returns-then-looser-le10-clause-reads t c = λ b start. let has = c.loop-selected.invariant.0 b start in let read = (c.in_ok-whole.ensures b c.in_ok-selected.behind.now c.looseness-looser.ensures (selectors_read has c.looseness-looser.ensures c.in_ok-selected.ensures.reads.0 c.in_ok-selected.ensures.reads.1)) in whole_before read.0 c.looseness-looser.ensures read.1 c.if-looser-le10.true
 
 pub expressions::closed-returns-in_default-clause-reads : goal.expressions::closed-returns-in_default-clause-reads
-expressions::closed-returns-in_default-clause-reads t c = λ b start. let has = c.loop-selected.invariant.0 b start in let read = (c.in_ok-whole.ensures b _ c.looseness-looser.ensures (selectors_read has c.in_ok-selected.ensures.reads.0 c.in_ok-selected.ensures.reads.1)) in whole_outside read.0 c.looseness-looser.ensures read.1 (sym (c.in_default.ensures ∙ ap (λ x. paren_start (waiting x)) c.as_slice.ensures.value))
+expressions::closed-returns-in_default-clause-reads t c = λ b start. let has = c.loop-selected.invariant.0 b start in let read = (c.in_ok-whole.ensures b c.in_ok-selected.behind.now c.looseness-looser.ensures (selectors_read has c.looseness-looser.ensures c.in_ok-selected.ensures.reads.0 c.in_ok-selected.ensures.reads.1)) in whole_outside read.0 c.looseness-looser.ensures read.1 (sym (c.in_default.ensures ∙ ap (λ x. paren_start (waiting x)) c.as_slice.ensures.value))
 
 pub expressions::closed-returns-in_err-close-clause-reads : goal.expressions::closed-returns-in_err-close-clause-reads
-expressions::closed-returns-in_err-close-clause-reads t c = λ b start. let has = c.loop-selected.invariant.0 b start in let read = (c.in_ok-whole.ensures b _ c.looseness-looser.ensures (selectors_read has c.in_ok-selected.ensures.reads.0 c.in_ok-selected.ensures.reads.1)) in rw (err _ _ c.from_residual-in_err-close.ensures.1, c.in_err-close.ensures.0) (unclosed read.0 c.looseness-looser.ensures (sym (c.in-Some.ensures ∙ ap (λ x. paren_start (waiting x)) c.as_slice.ensures.value)) c.if-looser-le10.false c.in_err-close.ensures.1)
+expressions::closed-returns-in_err-close-clause-reads t c = λ b start. let has = c.loop-selected.invariant.0 b start in let read = (c.in_ok-whole.ensures b c.in_ok-selected.behind.now c.looseness-looser.ensures (selectors_read has c.looseness-looser.ensures c.in_ok-selected.ensures.reads.0 c.in_ok-selected.ensures.reads.1)) in rw (err _ _ c.from_residual-in_err-close.ensures.1, c.in_err-close.ensures.0) (unclosed read.0 c.looseness-looser.ensures (sym (c.in-Some.ensures ∙ ap (λ x. paren_start (waiting x)) c.as_slice.ensures.value)) c.if-looser-le10.false c.in_err-close.ensures.1)
 
 pub expressions::closed-unwrapped-operand-requires : goal.expressions::closed-unwrapped-operand-requires
 expressions::closed-unwrapped-operand-requires t c = some_wait _ c.in-Some.start (sym (c.in-Some.ensures ∙ ap (λ x. paren_start (waiting x)) c.as_slice.ensures.value))
 
 pub expressions::closed-loop-selected-preserved : goal.expressions::closed-loop-selected-preserved
-expressions::closed-loop-selected-preserved t c = (λ b start. let has = c.loop-selected.invariant.0 b start in let read = (c.in_ok-whole.ensures b _ c.looseness-looser.ensures (selectors_read has c.in_ok-selected.ensures.reads.0 c.in_ok-selected.ensures.reads.1)) in closed_again _ _ read.0 c.looseness-looser.ensures (sym (c.in-Some.ensures ∙ ap (λ x. paren_start (waiting x)) c.as_slice.ensures.value)) c.if-looser-le10.false c.in_ok-close.ensures c.join.ensures c.unwrapped-operand.ensures, omega (arith, ap length c.in_ok-close.ensures, c.in_ok-selected.ensures.shorter))
+expressions::closed-loop-selected-preserved t c = (λ b start. let has = c.loop-selected.invariant.0 b start in let read = (c.in_ok-whole.ensures b c.in_ok-selected.behind.now c.looseness-looser.ensures (selectors_read has c.looseness-looser.ensures c.in_ok-selected.ensures.reads.0 c.in_ok-selected.ensures.reads.1)) in closed_again _ _ read.0 c.looseness-looser.ensures (sym (c.in-Some.ensures ∙ ap (λ x. paren_start (waiting x)) c.as_slice.ensures.value)) c.if-looser-le10.false c.in_ok-close.ensures c.join.ensures c.unwrapped-operand.ensures, omega (arith, ap length c.in_ok-close.ensures, c.in_ok-selected.ensures.shorter))
 
 pub expressions::indexed-returns-in_err-index-clause-reads : goal.expressions::indexed-returns-in_err-index-clause-reads
 expressions::indexed-returns-in_err-index-clause-reads t c = λ start. rw (err _ _ c.from_residual.ensures.1) (s.index (room _ c.args.operand c.requires) (rw add-one at c.in_err-index.ensures.reads))
@@ -121,7 +123,9 @@ pub expressions::indexed-returns-clause-reads : goal.expressions::indexed-return
 expressions::indexed-returns-clause-reads t c = λ start. rw (c.in_ok-base.ensures, c.in_ok-index-2.ensures, c.join-outer.ensures) (index_selects (room _ c.args.operand c.requires) (rw c.in_ok-end.ensures at c.in_ok-index.ensures.reads.0) (rw add-one at c.in_ok-index.ensures.reads.1))
 
 pub expressions::operators-loop-around-init : goal.expressions::operators-loop-around-init
-expressions::operators-loop-around-init t c = let h = c.new.ensures in ?
+expressions::operators-loop-around-init t c = 
+    let b : Base = record { loosest = c.args.loosest; depth = c.args.depth; tokens = c.args.tokens.now } in
+    (needs_in b _ _ [] (ap waiting c.new.ensures.items) refl refl (c.requires.loose, c.requires.high) (needs_first b), omega arith)
 
 pub expressions::operators-returns-in_err-rest-clause-reads : goal.expressions::operators-returns-in_err-rest-clause-reads
 expressions::operators-returns-in_err-rest-clause-reads t c = rw (err _ _ c.from_residual.ensures.1) (c.in_err-rest.ensures.reads _ c.loop-around.invariant.0)
@@ -151,16 +155,19 @@ pub expressions::operators-returns-in_err-wait_for_right-clause-reads : goal.exp
 expressions::operators-returns-in_err-wait_for_right-clause-reads t c = let pre = c.in_ok-rest.ensures.reads _ c.loop-around.invariant.0 in let whole = c.in_ok-operand-2.ensures.reads _ (primary_read pre.0 c.in_ok-operand.ensures.reads.0 c.in_ok-operand.ensures.reads.1) in rw (err _ _ c.from_residual-in_err-wait_for_right.ensures.1) (c.in_err-wait_for_right.ensures _ _ c.in-Some.ensures.0 c.in-Some.ensures.1 (tight_before whole c.in-Some.ensures.0))
 
 pub expressions::operators-loop-around-preserved : goal.expressions::operators-loop-around-preserved
-expressions::operators-loop-around-preserved t c = let pre = c.in_ok-rest.ensures.reads _ c.loop-around.invariant.0 in let whole = c.in_ok-operand-2.ensures.reads _ (primary_read pre.0 c.in_ok-operand.ensures.reads.0 c.in_ok-operand.ensures.reads.1) in (c.in_ok-wait_for_right.ensures _ _ c.in-Some.ensures.0 c.in-Some.ensures.1 (tight_before whole c.in-Some.ensures.0), ?)
+expressions::operators-loop-around-preserved t c = let pre = c.in_ok-rest.ensures.reads _ c.loop-around.invariant.0 in let whole = c.in_ok-operand-2.ensures.reads _ (primary_read pre.0 c.in_ok-operand.ensures.reads.0 c.in_ok-operand.ensures.reads.1) in (c.in_ok-wait_for_right.ensures _ _ c.in-Some.ensures.0 c.in-Some.ensures.1 (tight_before whole c.in-Some.ensures.0), omega (arith, c.in_ok-rest.ensures.shorter, c.in_ok-operand.ensures.shorter, c.in_ok-operand-2.ensures.shorter, operator_shorter c.in_ok-operand-2.behind.now c.in-Some.ensures.0))
+
+pub expressions::operators-loop-around-smaller : goal.expressions::operators-loop-around-smaller
+expressions::operators-loop-around-smaller t c = omega (arith, c.in_ok-rest.ensures.shorter, c.in_ok-operand.ensures.shorter, c.in_ok-operand-2.ensures.shorter, operator_shorter c.in_ok-operand-2.behind.now c.in-Some.ensures.0)
 
 pub expressions::selected-returns-in-OpenBracket-clause-reads : goal.expressions::selected-returns-in-OpenBracket-clause-reads
-expressions::selected-returns-in-OpenBracket-clause-reads t c = rw (token_is _ _ c.in-OpenBracket.is) (c.indexed.ensures.reads _)
+expressions::selected-returns-in-OpenBracket-clause-reads t c = rw (token_is c.args.token.now kinds.OpenBracket c.in-OpenBracket.is) (c.indexed.ensures.reads _)
 
 pub expressions::selected-returns-in-Dot-clause-reads : goal.expressions::selected-returns-in-Dot-clause-reads
-expressions::selected-returns-in-Dot-clause-reads t c = rw (token_is _ _ c.in-Dot.is) (c.dotted.ensures.reads _ _ c.requires.room)
+expressions::selected-returns-in-Dot-clause-reads t c = rw (token_is c.args.token.now kinds.Dot c.in-Dot.is) (c.dotted.ensures.reads _ _ c.requires.room)
 
 pub expressions::selected-returns-in_default-clause-reads : goal.expressions::selected-returns-in_default-clause-reads
-expressions::selected-returns-in_default-clause-reads t c = rw (token_is _ _ (arrow_is _ c.requires.first c.in_default.not-OpenBracket c.in_default.not-Dot)) (c.pointed.ensures.reads _ _ c.requires.room)
+expressions::selected-returns-in_default-clause-reads t c = rw (token_is c.args.token.now kinds.Arrow (arrow_is _ c.requires.first c.in_default.not-OpenBracket c.in_default.not-Dot)) (c.pointed.ensures.reads _ _ c.requires.room)
 
 pub expressions::selectors-loop-token-init : goal.expressions::selectors-loop-token-init
 expressions::selectors-loop-token-init t c = (selects_none c.requires.low, omega arith)
@@ -194,7 +201,7 @@ primary::arguments-returns-in_err-arguments-clause-reads t c = rw (err _ _ c.fro
 pub primary::arguments-more_arguments-requires : goal.primary::arguments-more_arguments-requires
 primary::arguments-more_arguments-requires t c = 
     let one = rw c.no_arguments-2.ensures at c.in_ok-arguments.ensures in
-    (search rules, record { high = c.requires; low = low_pushed _ [] _ _ one (omega arith) c.in_ok-first.ensures.reads.1 })
+    (search rules, (c.requires, low_pushed _ [] _ _ one (omega arith) c.in_ok-first.ensures.reads.1))
 
 pub primary::arguments-returns-clause-reads : goal.primary::arguments-returns-clause-reads
 primary::arguments-returns-clause-reads t c = let one = rw c.no_arguments-2.ensures at c.in_ok-arguments.ensures in first_read _ _ _ _ one c.in_ok-first.ensures.reads.0 c.in_ok-first.ensures.reads.1 c.more_arguments.ensures.reads
@@ -307,9 +314,10 @@ pub primary::name_or_call-invariant_of-result : goal.primary::name_or_call-invar
 primary::name_or_call-invariant_of-result t c = record { exact = c.around-reach.ensures ∙ ap (around c.join-outer.result.from) c.in_ok-read.read.exact ∙ ap expression_reach (sym (call_is c.in_ok-name.name c.in_ok-read.read.items c.join-outer.result)) }
 
 pub primary::name_or_call-returns-clause-reads : goal.primary::name_or_call-returns-clause-reads
-primary::name_or_call-returns-clause-reads t c = 
-    let low = low_around _ c.args.span.from _ c.requires (rw add-one at c.in_ok-read.ensures.reads.1) in
-    rw (c.in-Ok.ensures, call_is c.in_ok-name.name c.in_ok-read.read.items c.join-outer.result, c.in_ok-name.ensures, c.join-outer.ensures) (g.called (g.call c.in_ok-read.ensures.reads.0), low)
+primary::name_or_call-returns-clause-reads t c =
+    let is = call_is c.in_ok-name.name c.in_ok-read.read.items c.join-outer.result in
+    let low = low_around c.args.depth c.join-outer.result.from (expressions_reach (listed c.in_ok-read.read.items.items)) c.requires (rw add-one at c.in_ok-read.ensures.reads.1) in
+    ((rw (c.in-Ok.ensures, is, c.in_ok-name.ensures, c.join-outer.ensures) (g.called (g.call c.in_ok-read.ensures.reads.0))), subst (λ x. IsLow c.args.depth (expression_reach x)) (sym is) low)
 
 pub primary::primary-returns-in_err-token-clause-reads : goal.primary::primary-returns-in_err-token-clause-reads
 primary::primary-returns-in_err-token-clause-reads t c = rw (err _ _ c.from_residual.ensures.1, c.in_err-token.ensures.0) (no_primary (next_none _ _ c.in_err-token.ensures.1))
@@ -330,28 +338,28 @@ pub primary::primary-returns-in-Character-clause-reads : goal.primary::primary-r
 primary::primary-returns-in-Character-clause-reads t c = rw (begins _ _ _ _ c.in_ok-token.ensures c.in-Character.is, c.leaf-in-Character.ensures.same, c.leaf-in-Character.ensures.outer) (g.character, omega arith)
 
 pub primary::primary-returns-in_ok-bytes-in-Text-clause-reads : goal.primary::primary-returns-in_ok-bytes-in-Text-clause-reads
-primary::primary-returns-in_ok-bytes-in-Text-clause-reads t c = let h = c.in_ok-bytes-in-Text.ensures in ?
+primary::primary-returns-in_ok-bytes-in-Text-clause-reads t c = rw (begins _ _ _ _ c.in_ok-token.ensures c.in-Text.is, c.leaf-in-Text.ensures.same, c.leaf-in-Text.ensures.outer, c.in_ok-bytes-in-Text.ensures.items, c.as_bytes.ensures) (g.text, omega arith)
 
 pub primary::primary-returns-in-Name-clause-reads : goal.primary::primary-returns-in-Name-clause-reads
-primary::primary-returns-in-Name-clause-reads t c = rw (begins _ _ _ _ c.in_ok-token.ensures c.in-Name.is) (in_reading _ _ _ _ (c.name_or_call.ensures.reads))
+primary::primary-returns-in-Name-clause-reads t c = rw (begins _ _ _ _ c.in_ok-token.ensures c.in-Name.is) (primary_reads c.args.depth (token (kinds.Name c.in-Name.callee) c.in_ok-token.token.now.span ∷ c.in_ok-token.rest.now) c.name_or_call.result (c.name_or_call.ensures.reads))
 
 pub primary::primary-returns-in-Sizeof-clause-reads : goal.primary::primary-returns-in-Sizeof-clause-reads
-primary::primary-returns-in-Sizeof-clause-reads t c = rw (begins _ _ _ _ c.in_ok-token.ensures c.in-Sizeof.is) (in_reading _ _ _ _ (c.size_of.ensures.reads))
+primary::primary-returns-in-Sizeof-clause-reads t c = rw (begins _ _ _ _ c.in_ok-token.ensures c.in-Sizeof.is) (primary_reads c.args.depth (token kinds.Sizeof c.in_ok-token.token.now.span ∷ c.in_ok-token.rest.now) c.size_of.result (c.size_of.ensures.reads))
 
 pub primary::primary-returns-in-DynamicBoundsCast-clause-reads : goal.primary::primary-returns-in-DynamicBoundsCast-clause-reads
-primary::primary-returns-in-DynamicBoundsCast-clause-reads t c = rw (begins _ _ _ _ c.in_ok-token.ensures c.in-DynamicBoundsCast.is) (in_reading _ _ _ _ (c.cast.ensures.reads _ words.dynamic))
+primary::primary-returns-in-DynamicBoundsCast-clause-reads t c = rw (begins _ _ _ _ c.in_ok-token.ensures c.in-DynamicBoundsCast.is) (primary_reads c.args.depth (token kinds.DynamicBoundsCast c.in_ok-token.token.now.span ∷ c.in_ok-token.rest.now) c.cast.result (c.cast.ensures.reads _ words.dynamic))
 
 pub primary::primary-returns-in-AssumeBoundsCast-clause-reads : goal.primary::primary-returns-in-AssumeBoundsCast-clause-reads
-primary::primary-returns-in-AssumeBoundsCast-clause-reads t c = rw (begins _ _ _ _ c.in_ok-token.ensures c.in-AssumeBoundsCast.is) (in_reading _ _ _ _ (c.cast-in-AssumeBoundsCast.ensures.reads _ words.assume))
+primary::primary-returns-in-AssumeBoundsCast-clause-reads t c = rw (begins _ _ _ _ c.in_ok-token.ensures c.in-AssumeBoundsCast.is) (primary_reads c.args.depth (token kinds.AssumeBoundsCast c.in_ok-token.token.now.span ∷ c.in_ok-token.rest.now) c.cast-in-AssumeBoundsCast.result (c.cast-in-AssumeBoundsCast.ensures.reads _ words.assume))
 
 pub primary::primary-returns-in-Malloc-clause-reads : goal.primary::primary-returns-in-Malloc-clause-reads
-primary::primary-returns-in-Malloc-clause-reads t c = rw (begins _ _ _ _ c.in_ok-token.ensures c.in-Malloc.is) (in_reading _ _ _ _ (c.malloc.ensures.reads _ words.malloc))
+primary::primary-returns-in-Malloc-clause-reads t c = rw (begins _ _ _ _ c.in_ok-token.ensures c.in-Malloc.is) (primary_reads c.args.depth (token kinds.Malloc c.in_ok-token.token.now.span ∷ c.in_ok-token.rest.now) c.malloc.result (c.malloc.ensures.reads _ words.malloc))
 
 pub primary::primary-returns-in-TMalloc-clause-reads : goal.primary::primary-returns-in-TMalloc-clause-reads
-primary::primary-returns-in-TMalloc-clause-reads t c = rw (begins _ _ _ _ c.in_ok-token.ensures c.in-TMalloc.is) (in_reading _ _ _ _ (c.malloc-in-TMalloc.ensures.reads _ words.t_malloc))
+primary::primary-returns-in-TMalloc-clause-reads t c = rw (begins _ _ _ _ c.in_ok-token.ensures c.in-TMalloc.is) (primary_reads c.args.depth (token kinds.TMalloc c.in_ok-token.token.now.span ∷ c.in_ok-token.rest.now) c.malloc-in-TMalloc.result (c.malloc-in-TMalloc.ensures.reads _ words.t_malloc))
 
 pub primary::primary-returns-in-Calloc-clause-reads : goal.primary::primary-returns-in-Calloc-clause-reads
-primary::primary-returns-in-Calloc-clause-reads t c = rw (begins _ _ _ _ c.in_ok-token.ensures c.in-Calloc.is) (in_reading _ _ _ _ (c.calloc.ensures.reads _ words.calloc))
+primary::primary-returns-in-Calloc-clause-reads t c = rw (begins _ _ _ _ c.in_ok-token.ensures c.in-Calloc.is) (primary_reads c.args.depth (token kinds.Calloc c.in_ok-token.token.now.span ∷ c.in_ok-token.rest.now) c.calloc.result (c.calloc.ensures.reads _ words.calloc))
 
 pub primary::primary-returns-in-NtCalloc-clause-reads : goal.primary::primary-returns-in-NtCalloc-clause-reads
-primary::primary-returns-in-NtCalloc-clause-reads t c = rw (begins _ _ _ _ c.in_ok-token.ensures c.in-NtCalloc.is) (in_reading _ _ _ _ (c.calloc-in-NtCalloc.ensures.reads _ words.nt_calloc))
+primary::primary-returns-in-NtCalloc-clause-reads t c = rw (begins _ _ _ _ c.in_ok-token.ensures c.in-NtCalloc.is) (primary_reads c.args.depth (token kinds.NtCalloc c.in_ok-token.token.now.span ∷ c.in_ok-token.rest.now) c.calloc-in-NtCalloc.result (c.calloc-in-NtCalloc.ensures.reads _ words.nt_calloc))
