@@ -1,5 +1,5 @@
 -- What the parser keeps around an operand, step by step.
-use Rattle.std.proofs.Common.{◌≡◌, ℕ, zero, suc, ◌+◌, ◌-◌, ◌<◌, ◌≤◌, Bool, true, false, List, [], ◌∷◌, ◌++◌, length, Option, Some, None, refl, sym, ap, subst, ◌∙◌, arith}
+use Rattle.std.proofs.Common.{◌≡◌, ℕ, zero, suc, ◌+◌, ◌-◌, ◌<◌, ◌≤◌, Bool, true, false, List, [], ◌∷◌, ◌++◌, length, Option, Some, None, Result, Ok, Err, refl, sym, ap, subst, ◌∙◌, arith}
 use Rattle.std.specs.Prelude.{nat_le}
 use Rattle.std.proofs.lemmas.Bool.Decides.{nat_tests}
 use Rattle.std.proofs.lemmas.Option.{same_Some, none-some}
@@ -11,6 +11,8 @@ use Rattle.ckc_tree.specs.declared.expr.UnaryOperator.{UnaryOperator}
 use Rattle.ckc_tree.specs.declared.expr.BinaryOperator.{BinaryOperator}
 use Rattle.ckc_tree.specs.Expressions.{Expression, expression}
 use Rattle.ckc_tree.specs.Heights.{Reach, around, expression_reach, ◌beside◌}
+use Rattle.std.specs.Borrow.{Bor}
+use Rattle.ckc_parser.specs.declared.stuck.Stuck.{Stuck}
 use Rattle.ckc_parser.specs.declared.operand.Operand.{Operand}
 use Rattle.ckc_parser.specs.declared.expressions.Around.{Around}
 use Rattle.ckc_parser.specs.declared.expressions.Pending.{Pending}
@@ -18,16 +20,16 @@ use Rattle.ckc_parser.specs.declared.expressions.Pending.TheVariants as forms
 use Rattle.ckc_parser.specs.Tokens as words
 use Rattle.ckc_parser.specs.Tokens.{token, join, IsUnaryOperator, operator_at, level, next_is}
 use Rattle.ckc_parser.specs.ExpressionGrammar.{SpellsBinary, SpellsPrimary, SpellsSelectors}
-use Rattle.ckc_parser.specs.Failures.{Failure, unexpected, too_deep, no_memory, IsLow}
+use Rattle.ckc_parser.specs.Failures.{Failure, unexpected, too_deep, IsLow, Reads}
 use Rattle.ckc_parser.specs.StuckExpressions as s
-use Rattle.ckc_parser.specs.StuckExpressions.{primary_word, unary_word, close_paren, StuckSelectors}
-use Rattle.ckc_parser.specs.Readings.{unary_operator_of, FailsPrimary, no_primary, in_primary}
+use Rattle.ckc_parser.specs.StuckExpressions.{primary_word, unary_word, close_paren, StuckBinary, StuckUnary, StuckSelectors}
+use Rattle.ckc_parser.specs.Readings.{unary_operator_of, IsBinary, IsUnary, FailsPrimary, no_primary, in_primary}
 use Rattle.ckc_parser.specs.Contexts.{Frame, frame, InParens, OperandOf, RightOf, waiting, limit, depth_in, Fits, looseness, looser_at, takes_before, paren_start, Goes, Selects, Closes, Base, Fails, Completes, Needs, GoesIn, IsAround, NeedsOperand, HasOperand, HasTight, HasWhole}
 use Rattle.ckc_parser.specs.ContextAnswers.{prefix_word, Applies, IsSmall, IsUnwrapped}
 use Rattle.ckc_parser.proofs.Readings.{low_around}
 use Rattle.ckc_parser.proofs.Paths.{beside_height}
 use Rattle.ckc_parser.proofs.ExpressionPaths.{Marks, mark, shift, marks_at}
-use Rattle.ckc_parser.proofs.Contexts.{level_positive, limit_ten, depth_low, needs_primary, needs_fails, needs_right, right_too_deep, finished}
+use Rattle.ckc_parser.proofs.Contexts.{level_positive, limit_ten, depth_low, unary_spelled, unary_stuck, needs_primary, needs_fails, needs_right, right_too_deep, finished}
 
 pub unary_operator_is : (k : TokenKind) (operator : UnaryOperator) → unary_operator_of k ≡ Some operator → IsUnaryOperator k operator
 unary_operator_is kinds.Star operator e = rw (← same_Some _ _ e) words.deref
@@ -246,3 +248,8 @@ whole_read {b} {a} {o} {ts} {e} whole none =
 
 pub tight_before : {b : Base} {a : Around} {o : Span} {ts us : List Token} {e : Expression} {operator : BinaryOperator} → HasWhole b a e o ts → operator_at ts ≡ Some (operator, us) → HasTight b a (level operator) e o ts
 tight_before {b} {a} {o} {ts} {us} {e} {operator} whole found = subst (λ (n : ℕ). HasTight b a n e o ts) (ap looseness found) whole.read
+
+-- an expression without binary operators
+pub unary_reads : (d : ℕ) (ts : List Token) (r : Result (Operand × Bor (List Token)) Stuck) → Reads (λ x rest. IsBinary 0 d ts (expression x.expr) x.outer rest) (StuckBinary 0 d ts) r → Reads (λ x rest. IsUnary d ts (expression x.expr) x.outer rest) (StuckUnary d ts) r
+unary_reads d ts (Ok found) read = (unary_spelled read.0, read.1)
+unary_reads d ts (Err e) stuck = unary_stuck stuck

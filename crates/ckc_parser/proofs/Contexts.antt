@@ -121,7 +121,7 @@ climb_fails spelled low (stuck_above tail higher c) = climb_fails (g.operators s
 
 -- ---- operands
 
-unary_spelled : {o : Span} {ts rest : List Token} {e : Expression} → SpellsBinary zero ts e o rest → SpellsUnary ts e o rest
+pub unary_spelled : {o : Span} {ts rest : List Token} {e : Expression} → SpellsBinary zero ts e o rest → SpellsUnary ts e o rest
 unary_spelled (g.operand u) = u
 
 pub unary_stuck : {d : ℕ} {ts : List Token} {f : Failure} → StuckBinary zero d ts f → StuckUnary d ts f
