@@ -17,3 +17,10 @@ mod ExpressionPaths
 mod StatementPaths
 mod ItemPaths
 mod OneFault
+pub mod Readings
+pub mod Contexts
+pub mod Waiting
+pub mod ContextSteps
+pub mod Selecting
+pub mod Arguments
+pub mod BoundsForms

@@ -10,7 +10,11 @@ pub mod ItemBeginnings
 pub mod Parsing
 pub mod Examples
 pub mod Failures
+pub mod Readings
 pub mod StuckTypes
 pub mod StuckExpressions
+pub mod Forms
+pub mod Contexts
+pub mod ContextAnswers
 pub mod StuckStatements
 pub mod StuckItems

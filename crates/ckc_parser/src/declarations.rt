@@ -8,7 +8,7 @@ use crate::stuck::Stuck;
 use crate::tokens::{
     MAX_DEPTH, close_brace, close_bracket, comma, copied, first, join, name, open_bracket,
 };
-use crate::types::{stars, type_form};
+use crate::types::{star_count, stars, type_form};
 use ckc_lexer::token::{Token, TokenKind};
 use ckc_text::place::Span;
 use ckc_tree::expr::BoundsText;
@@ -151,6 +151,7 @@ fn declarator(
     tokens: &[Token],
 ) -> Result<(Read<Declarator>, &[Token]), Stuck<'_>> {
     let (stars, rest) = stars(tokens);
+    let stars = star_count(stars)?;
     let (name, end, rest) = name(rest)?;
     let (token, _) = first(tokens)?;
     let name = copied(alloc, name, end)?;

@@ -8,7 +8,7 @@ use crate::stuck::Stuck;
 use crate::tokens::{
     close_brace, close_paren, comma, copied, first, join, name, open_brace, open_paren, semicolon,
 };
-use crate::types::{stars, type_form, type_name};
+use crate::types::{star_count, stars, type_form, type_name};
 use ckc_lexer::token::{CheckedScope, Token, TokenKind};
 use ckc_text::place::Span;
 use ckc_tree::item::{
@@ -179,6 +179,7 @@ fn function(
     tokens: &[Token],
 ) -> Result<(Item, &[Token]), Stuck<'_>> {
     let (stars, rest) = stars(tokens);
+    let stars = star_count(stars)?;
     let (name, end, rest) = name(rest)?;
     let name = copied(alloc, name, end)?;
     let (_, rest) = open_paren(rest)?;

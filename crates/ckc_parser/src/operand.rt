@@ -1,5 +1,11 @@
 // Expressions as they are read: with the parentheses around them, and with their deepest node.
 
+ghost use Rattle.std.specs.Prelude.{◌≡◌, ◌<◌};
+ghost use Rattle.ckc_tree.specs.Heights as heights;
+ghost use Rattle.ckc_tree.specs.Heights.{nowhere, ◌beside◌, expression_reach};
+ghost use Rattle.ckc_tree.specs.Expressions.{expression};
+ghost use Rattle.ckc_parser.specs.Readings.{reach_of};
+
 use ckc_text::place::Span;
 use ckc_tree::expr::Expr;
 
@@ -12,7 +18,9 @@ pub struct Reach {
 
 impl Reach {
     /// No node.
-    pub fn nowhere() -> Reach {
+    pub fn nowhere() -> Reach
+        ensures { reach_of result ≡ nowhere }
+    {
         Reach {
             height: 0,
             start: 0,
@@ -20,7 +28,9 @@ impl Reach {
     }
 
     /// Of two parts, of which the first stands first.
-    pub fn beside(self, second: Reach) -> Reach {
+    pub fn beside(self, second: Reach) -> Reach
+        ensures { reach_of result ≡ reach_of self beside reach_of second }
+    {
         if self.height < second.height {
             second
         } else {
@@ -29,7 +39,10 @@ impl Reach {
     }
 
     /// A node at this start around these parts.
-    pub fn around(self, start: u32) -> Reach {
+    pub fn around(self, start: u32) -> Reach
+        requires { self.height < 4294967295 }
+        ensures { reach_of result ≡ heights.around start (reach_of self) }
+    {
         if self.height == 0 {
             Reach { height: 1, start }
         } else {
@@ -47,4 +60,5 @@ pub struct Operand {
     pub expr: Expr,
     pub outer: Span,
     pub reach: Reach,
+    ghost exact: { reach_of reach ≡ expression_reach (expression expr) },
 }

@@ -1,5 +1,15 @@
 // Reading single tokens: each function gives what it read and the tokens behind it.
 
+ghost use Rattle.std.specs.Prelude.{◌≡◌, Some, IfOk};
+ghost use Rattle.std.specs.Option.{option_map};
+ghost use Rattle.ckc_lexer.specs.declared.token.TokenKind.TheVariants as kinds;
+ghost use Rattle.ckc_parser.specs.Tokens as words;
+ghost use Rattle.ckc_parser.specs.StuckTypes as type_words;
+ghost use Rattle.ckc_parser.specs.StuckExpressions as expression_words;
+ghost use Rattle.ckc_parser.specs.StuckStatements as statement_words;
+ghost use Rattle.ckc_parser.specs.Failures.{ReadsFirst, ReadsMark, ReadsName};
+ghost use Rattle.ckc_parser.specs.Readings.{unary_operator_of};
+
 use crate::stuck::Stuck;
 use ckc_lexer::token::{Token, TokenKind};
 use ckc_text::fault::NoMemory;
@@ -13,7 +23,9 @@ use std::alloc::Global;
 pub const MAX_DEPTH: u32 = 200;
 
 /// From the start of the first to the end of the last.
-pub fn join(first: Span, last: Span) -> Span {
+pub fn join(first: Span, last: Span) -> Span
+    ensures { result ≡ words.join first last }
+{
     Span {
         from: first.from,
         to: last.to,
@@ -21,7 +33,9 @@ pub fn join(first: Span, last: Span) -> Span {
 }
 
 /// The first token.
-pub fn first(tokens: &[Token]) -> Result<(&Token, &[Token]), Stuck<'_>> {
+pub fn first(tokens: &[Token]) -> Result<(&Token, &[Token]), Stuck<'_>>
+    ensures { ReadsFirst tokens.now result }
+{
     match tokens.split_first() {
         Some((token, rest)) => Ok((token, rest)),
         None => Err(Stuck::Unexpected { at: tokens }),
@@ -29,7 +43,9 @@ pub fn first(tokens: &[Token]) -> Result<(&Token, &[Token]), Stuck<'_>> {
 }
 
 /// The span of a mark `(`.
-pub fn open_paren(tokens: &[Token]) -> Result<(Span, &[Token]), Stuck<'_>> {
+pub fn open_paren(tokens: &[Token]) -> Result<(Span, &[Token]), Stuck<'_>>
+    ensures { ReadsMark kinds.OpenParen words.open_paren tokens.now result }
+{
     let (token, rest) = first(tokens)?;
     match &token.kind {
         TokenKind::OpenParen => Ok((token.span, rest)),
@@ -38,7 +54,9 @@ pub fn open_paren(tokens: &[Token]) -> Result<(Span, &[Token]), Stuck<'_>> {
 }
 
 /// The span of a mark `)`.
-pub fn close_paren(tokens: &[Token]) -> Result<(Span, &[Token]), Stuck<'_>> {
+pub fn close_paren(tokens: &[Token]) -> Result<(Span, &[Token]), Stuck<'_>>
+    ensures { ReadsMark kinds.CloseParen expression_words.close_paren tokens.now result }
+{
     let (token, rest) = first(tokens)?;
     match &token.kind {
         TokenKind::CloseParen => Ok((token.span, rest)),
@@ -47,7 +65,9 @@ pub fn close_paren(tokens: &[Token]) -> Result<(Span, &[Token]), Stuck<'_>> {
 }
 
 /// The span of a mark `{`.
-pub fn open_brace(tokens: &[Token]) -> Result<(Span, &[Token]), Stuck<'_>> {
+pub fn open_brace(tokens: &[Token]) -> Result<(Span, &[Token]), Stuck<'_>>
+    ensures { ReadsMark kinds.OpenBrace statement_words.open_brace tokens.now result }
+{
     let (token, rest) = first(tokens)?;
     match &token.kind {
         TokenKind::OpenBrace => Ok((token.span, rest)),
@@ -56,7 +76,9 @@ pub fn open_brace(tokens: &[Token]) -> Result<(Span, &[Token]), Stuck<'_>> {
 }
 
 /// The span of a mark `}`.
-pub fn close_brace(tokens: &[Token]) -> Result<(Span, &[Token]), Stuck<'_>> {
+pub fn close_brace(tokens: &[Token]) -> Result<(Span, &[Token]), Stuck<'_>>
+    ensures { ReadsMark kinds.CloseBrace statement_words.close_brace tokens.now result }
+{
     let (token, rest) = first(tokens)?;
     match &token.kind {
         TokenKind::CloseBrace => Ok((token.span, rest)),
@@ -65,7 +87,9 @@ pub fn close_brace(tokens: &[Token]) -> Result<(Span, &[Token]), Stuck<'_>> {
 }
 
 /// The span of a mark `[`.
-pub fn open_bracket(tokens: &[Token]) -> Result<(Span, &[Token]), Stuck<'_>> {
+pub fn open_bracket(tokens: &[Token]) -> Result<(Span, &[Token]), Stuck<'_>>
+    ensures { ReadsMark kinds.OpenBracket statement_words.open_bracket tokens.now result }
+{
     let (token, rest) = first(tokens)?;
     match &token.kind {
         TokenKind::OpenBracket => Ok((token.span, rest)),
@@ -74,7 +98,9 @@ pub fn open_bracket(tokens: &[Token]) -> Result<(Span, &[Token]), Stuck<'_>> {
 }
 
 /// The span of a mark `]`.
-pub fn close_bracket(tokens: &[Token]) -> Result<(Span, &[Token]), Stuck<'_>> {
+pub fn close_bracket(tokens: &[Token]) -> Result<(Span, &[Token]), Stuck<'_>>
+    ensures { ReadsMark kinds.CloseBracket expression_words.close_bracket tokens.now result }
+{
     let (token, rest) = first(tokens)?;
     match &token.kind {
         TokenKind::CloseBracket => Ok((token.span, rest)),
@@ -83,7 +109,9 @@ pub fn close_bracket(tokens: &[Token]) -> Result<(Span, &[Token]), Stuck<'_>> {
 }
 
 /// The span of a mark `<`.
-pub fn less(tokens: &[Token]) -> Result<(Span, &[Token]), Stuck<'_>> {
+pub fn less(tokens: &[Token]) -> Result<(Span, &[Token]), Stuck<'_>>
+    ensures { ReadsMark kinds.Less type_words.less tokens.now result }
+{
     let (token, rest) = first(tokens)?;
     match &token.kind {
         TokenKind::Less => Ok((token.span, rest)),
@@ -92,7 +120,9 @@ pub fn less(tokens: &[Token]) -> Result<(Span, &[Token]), Stuck<'_>> {
 }
 
 /// The span of a mark `>`.
-pub fn greater(tokens: &[Token]) -> Result<(Span, &[Token]), Stuck<'_>> {
+pub fn greater(tokens: &[Token]) -> Result<(Span, &[Token]), Stuck<'_>>
+    ensures { ReadsMark kinds.Greater type_words.greater tokens.now result }
+{
     let (token, rest) = first(tokens)?;
     match &token.kind {
         TokenKind::Greater => Ok((token.span, rest)),
@@ -101,7 +131,9 @@ pub fn greater(tokens: &[Token]) -> Result<(Span, &[Token]), Stuck<'_>> {
 }
 
 /// The span of a mark `,`.
-pub fn comma(tokens: &[Token]) -> Result<(Span, &[Token]), Stuck<'_>> {
+pub fn comma(tokens: &[Token]) -> Result<(Span, &[Token]), Stuck<'_>>
+    ensures { ReadsMark kinds.Comma words.comma tokens.now result }
+{
     let (token, rest) = first(tokens)?;
     match &token.kind {
         TokenKind::Comma => Ok((token.span, rest)),
@@ -109,8 +141,21 @@ pub fn comma(tokens: &[Token]) -> Result<(Span, &[Token]), Stuck<'_>> {
     }
 }
 
+/// The span of a mark `*`.
+pub fn star(tokens: &[Token]) -> Result<(Span, &[Token]), Stuck<'_>>
+    ensures { ReadsMark kinds.Star words.star tokens.now result }
+{
+    let (token, rest) = first(tokens)?;
+    match &token.kind {
+        TokenKind::Star => Ok((token.span, rest)),
+        _ => Err(Stuck::Unexpected { at: tokens }),
+    }
+}
+
 /// The span of a mark `;`.
-pub fn semicolon(tokens: &[Token]) -> Result<(Span, &[Token]), Stuck<'_>> {
+pub fn semicolon(tokens: &[Token]) -> Result<(Span, &[Token]), Stuck<'_>>
+    ensures { ReadsMark kinds.Semicolon statement_words.semicolon tokens.now result }
+{
     let (token, rest) = first(tokens)?;
     match &token.kind {
         TokenKind::Semicolon => Ok((token.span, rest)),
@@ -119,7 +164,9 @@ pub fn semicolon(tokens: &[Token]) -> Result<(Span, &[Token]), Stuck<'_>> {
 }
 
 /// A name and its span.
-pub fn name(tokens: &[Token]) -> Result<(&Name, Span, &[Token]), Stuck<'_>> {
+pub fn name(tokens: &[Token]) -> Result<(&Name, Span, &[Token]), Stuck<'_>>
+    ensures { ReadsName type_words.name_token tokens.now result }
+{
     let (token, rest) = first(tokens)?;
     match &token.kind {
         TokenKind::Name(name) => Ok((name, token.span, rest)),
@@ -128,13 +175,17 @@ pub fn name(tokens: &[Token]) -> Result<(&Name, Span, &[Token]), Stuck<'_>> {
 }
 
 /// A name with its span, of its own.
-pub fn copied(alloc: Global, name: &Name, span: Span) -> Result<Identifier, NoMemory> {
+pub fn copied(alloc: Global, name: &Name, span: Span) -> Result<Identifier, NoMemory>
+    ensures { IfOk result (λ copy. copy ≡ words.identifier name.now span) }
+{
     let name = Name::copied(alloc, name.as_bytes())?;
     Ok(Identifier { name, span })
 }
 
 /// The operator that a token is before an operand.
-pub fn unary_operator(kind: &TokenKind) -> Option<UnaryOperator> {
+pub fn unary_operator(kind: &TokenKind) -> Option<UnaryOperator>
+    ensures { result ≡ unary_operator_of kind.now }
+{
     match kind {
         TokenKind::Star => Some(UnaryOperator::Deref),
         TokenKind::Ampersand => Some(UnaryOperator::AddressOf),
@@ -146,7 +197,9 @@ pub fn unary_operator(kind: &TokenKind) -> Option<UnaryOperator> {
 }
 
 /// The operator that a mark is between operands. A mark `>` is one here, also where the next touches it.
-fn mark_operator(kind: &TokenKind) -> Option<BinaryOperator> {
+fn mark_operator(kind: &TokenKind) -> Option<BinaryOperator>
+    ensures { result ≡ words.operator_of kind.now }
+{
     match kind {
         TokenKind::OrOr => Some(BinaryOperator::Or),
         TokenKind::AndAnd => Some(BinaryOperator::And),
@@ -169,30 +222,34 @@ fn mark_operator(kind: &TokenKind) -> Option<BinaryOperator> {
     }
 }
 
-/// The tokens behind a mark `>` that starts at this byte, where it is the first.
-fn touching_greater(at: u32, tokens: &[Token]) -> Option<&[Token]> {
-    let (token, rest) = tokens.split_first()?;
-    match &token.kind {
-        TokenKind::Greater if token.span.from == at => Some(rest),
-        _ => None,
+/// The operator that a mark `>` which ends at this byte begins, and the tokens behind it: a right shift where the next
+/// mark is a `>` that touches it.
+fn greater_or_shift(to: u32, tokens: &[Token]) -> (BinaryOperator, &[Token])
+    ensures { Some (result.0, result.1.now) ≡ words.behind_greater to tokens.now }
+{
+    match tokens.split_first() {
+        Some((token, rest)) if matches!(token.kind, TokenKind::Greater) && token.span.from == to => {
+            (BinaryOperator::ShiftRight, rest)
+        }
+        _ => (BinaryOperator::Greater, tokens),
     }
 }
 
-/// The operator between operands that the tokens begin with.
-pub fn binary_operator(tokens: &[Token]) -> Option<(BinaryOperator, &[Token])> {
+/// The operator between operands that the tokens begin with, and the tokens behind it.
+pub fn binary_operator(tokens: &[Token]) -> Option<(BinaryOperator, &[Token])>
+    ensures { option_map (λ found. (found.0, found.1.now)) result ≡ words.operator_at tokens.now }
+{
     let (token, rest) = tokens.split_first()?;
-    let operator = mark_operator(&token.kind)?;
-    if !matches!(operator, BinaryOperator::Greater) {
-        return Some((operator, rest));
-    }
-    match touching_greater(token.span.to, rest) {
-        Some(behind) => Some((BinaryOperator::ShiftRight, behind)),
-        None => Some((operator, rest)),
+    match &token.kind {
+        TokenKind::Greater => Some(greater_or_shift(token.span.to, rest)),
+        kind => Some((mark_operator(kind)?, rest)),
     }
 }
 
 /// How loosely an operator binds: from 1, the tightest, to 10.
-pub fn level(operator: BinaryOperator) -> u32 {
+pub fn level(operator: BinaryOperator) -> u32
+    ensures { result ≡ words.level operator }
+{
     match operator {
         BinaryOperator::Multiply | BinaryOperator::Divide | BinaryOperator::Remainder => 1,
         BinaryOperator::Add | BinaryOperator::Subtract => 2,
