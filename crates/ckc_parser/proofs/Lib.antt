@@ -18,3 +18,6 @@ mod StatementPaths
 mod ItemPaths
 mod OneFault
 pub mod Readings
+mod Ahead
+mod Lists
+mod Assignments

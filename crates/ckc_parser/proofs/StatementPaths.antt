@@ -38,7 +38,7 @@ begun_array (b.bracket w) = next b.nothing (next (b.word w) (here (b.bracket w))
 begun_array (b.length w) = next b.nothing (next (b.word w) (next (b.bracket w) (here (b.length w))))
 begun_array (b.array w) = next b.nothing (next (b.word w) (next (b.bracket w) (next (b.length w) (here (b.array w)))))
 
-signed_path : {x : SignedConstant} {ts r : List Token} → SpellsSigned ts x r → Path (BeginsSigned ts) ts r
+pub signed_path : {x : SignedConstant} {ts r : List Token} → SpellsSigned ts x r → Path (BeginsSigned ts) ts r
 signed_path (g.plain c) = next b.nothing (here (b.signed (g.plain c)))
 signed_path (g.minus c) = next b.nothing (next b.minus (here (b.signed (g.minus c))))
 
@@ -66,7 +66,7 @@ begun_initializer b.nothing = here (fact b.nothing least)
 begun_initializer (b.value d) = next (fact b.nothing least) (part (λ us a. fact (b.value a.begins) a.low) (begun_binary d))
 begun_initializer (b.constants d) = next (fact b.nothing least) (next (fact (b.value (no_binary 10)) least) (part (λ us a. fact (b.constants a) least) (begun_constants d)))
 
-declarator_path : {x : Declarator} {ts r : List Token} → SpellsDeclarator ts x r → Path (Fact (BeginsDeclarator ts) (declarator_reach x)) ts r
+pub declarator_path : {x : Declarator} {ts r : List Token} → SpellsDeclarator ts x r → Path (Fact (BeginsDeclarator ts) (declarator_reach x)) ts r
 declarator_path (g.declarator st a c i) =
     past (part (λ us f. fact (b.stars f) least) (stars_path st))
     (on (part (λ us f. fact (b.array st f) least) (array_path a))

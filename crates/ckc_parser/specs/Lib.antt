@@ -15,3 +15,5 @@ pub mod StuckTypes
 pub mod StuckExpressions
 pub mod StuckStatements
 pub mod StuckItems
+pub mod StatementReadings
+pub mod ItemReadings
