@@ -21,3 +21,5 @@ pub mod Readings
 mod Ahead
 mod Lists
 mod Assignments
+mod Blocks
+mod FileLevel

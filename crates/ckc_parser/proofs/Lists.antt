@@ -4,9 +4,12 @@ use Rattle.std.proofs.lemmas.List.{append-nil}
 use Rattle.ckc_text.specs.declared.place.Span.{Span}
 use Rattle.ckc_lexer.specs.declared.token.Token.{Token}
 use Rattle.ckc_tree.specs.declared.stmt as code
-use Rattle.ckc_tree.specs.Statements.{declarator}
-use Rattle.ckc_tree.specs.Heights.{declarators_reach}
-use Rattle.ckc_parser.specs.StatementGrammar.{SpellsDeclarators}
+use Rattle.ckc_tree.specs.Statements.{declarator, assignment}
+use Rattle.ckc_tree.specs.declared.item as item_code
+use Rattle.ckc_tree.specs.Items.{statement_list, member, parameter, item}
+use Rattle.ckc_tree.specs.Heights.{declarators_reach, assignments_reach, statements_reach, members_reach, items_reach}
+use Rattle.ckc_parser.specs.StatementGrammar.{SpellsDeclarators, SpellsAssignments, SpellsStatements}
+use Rattle.ckc_parser.specs.ItemGrammar.{SpellsMembers, SpellsListed, SpellsItems}
 use Rattle.ckc_parser.specs.Failures.{Failure, IsLow}
 
 -- each list that the rest spells completes the whole behind the items so far, and where the rest fails the whole does
@@ -36,3 +39,18 @@ ended {items} so_far none = rw append-nil at (so_far.completes [] _ _ none)
 
 abbrev pub AreDeclarators : ℕ → List Token → List code.Declarator.Declarator → Span → List Token → Type 0
 AreDeclarators d ts items w end = SpellsDeclarators ts (map declarator items) w end × IsLow d (declarators_reach (map declarator items))
+
+abbrev pub AreAssignments : ℕ → List Token → List code.Assignment.Assignment → Span → List Token → Type 0
+AreAssignments d ts items w end = SpellsAssignments ts (map assignment items) w end × IsLow d (assignments_reach (map assignment items))
+
+abbrev pub AreStatements : ℕ → List Token → List code.Stmt.Stmt → Span → List Token → Type 0
+AreStatements d ts items w end = SpellsStatements ts (statement_list items) w end × IsLow d (statements_reach (statement_list items))
+
+abbrev pub AreMembers : List Token → List item_code.Member.Member → Span → List Token → Type 0
+AreMembers ts items w end = SpellsMembers ts (map member items) end × IsLow 0 (members_reach (map member items))
+
+abbrev pub AreParameters : List Token → List item_code.Parameter.Parameter → Span → List Token → Type 0
+AreParameters ts items w end = SpellsListed ts (map parameter items) w end × IsLow 0 (members_reach (map parameter items))
+
+abbrev pub AreItems : List Token → List item_code.Item.Item → Span → List Token → Type 0
+AreItems ts items w end = SpellsItems ts (map item items) × IsLow 0 (items_reach (map item items))

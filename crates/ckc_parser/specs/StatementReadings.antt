@@ -58,13 +58,6 @@ pub data StuckAssigned : ℕ → List Token → Failure → Type 0 where
 
 -- ---- parts of statements
 
--- the first token of a statement of one word or of none
-abbrev pub short_word : TokenKind → Bool
-short_word kinds.Semicolon = true
-short_word kinds.Break = true
-short_word kinds.Continue = true
-short_word _ = false
-
 -- the condition of an if or a while, with its parentheses
 pub data SpellsCondition : List Token → Expression → List Token → Type 0 where
   condition : {p q o : Span} {ts rest : List Token} {e : Expression} → SpellsExpression ts e o (token kinds.CloseParen q ∷ rest) → SpellsCondition (token kinds.OpenParen p ∷ ts) e rest

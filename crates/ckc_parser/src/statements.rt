@@ -1,6 +1,6 @@
 // Reading statements.
 
-ghost use Rattle.std.specs.Prelude.{◌≡◌, ◌≤◌, ◌<◌, suc, true, false, map, None, Some, IfOk, MatchOption};
+ghost use Rattle.std.specs.Prelude.{◌≡◌, ℕ, ◌∷◌, ◌≤◌, ◌<◌, suc, true, false, map, None, Some, IfOk, MatchOption};
 ghost use Rattle.std.specs.Option.{option_map};
 ghost use Rattle.ckc_lexer.specs.declared.token.TokenKind.TheVariants as kinds;
 ghost use Rattle.ckc_tree.specs.Expressions.{expression};
@@ -12,7 +12,7 @@ ghost use Rattle.ckc_parser.specs.StatementGrammar.{SpellsAssignments, SpellsFor
 ghost use Rattle.ckc_parser.specs.Failures.{Reads, IsLow};
 ghost use Rattle.ckc_parser.specs.StuckTypes.{type_word, name_token};
 ghost use Rattle.ckc_parser.specs.StuckStatements.{plain_word, statement_word, assignment_word, is_call_alone, StuckAssignments, StuckForInitial, StuckForCondition, StuckForStep, StuckCondition, StuckStatement, StuckStatements};
-ghost use Rattle.ckc_parser.specs.StatementReadings.{SpellsCondition, SpellsEnd, IsCallEnd, IsForHead, short_word};
+ghost use Rattle.ckc_parser.specs.StatementReadings.{SpellsCondition, SpellsEnd, IsCallEnd, IsForHead};
 
 use crate::declarations::{Read, assigned, assignment, declaration, starts_assignment};
 use crate::expressions::{expression, unary};
@@ -90,48 +90,45 @@ fn plain(alloc: Global, depth: u32, tokens: &[Token]) -> Result<(Stmt, &[Token])
     if let Ok((mark, start, rest)) = mark(tokens) {
         let (_, rest) = open_brace(rest)?;
         let (read, rest) = statements(alloc, depth + 1, rest)?;
-        return Ok((block(Some(mark), start, read), rest));
+        let stmt = block(Some(mark), start, read);
+        return Ok((stmt, rest));
+    }
+    if let Ok((start, rest)) = open_brace(tokens) {
+        let (inner, rest) = statements(alloc, depth + 1, rest)?;
+        let unmarked = block(None, start, inner);
+        return Ok((unmarked, rest));
     }
     let (token, rest) = first(tokens)?;
     let start = token.span;
     match &token.kind {
-        TokenKind::OpenBrace => {
-            let (read, rest) = statements(alloc, depth + 1, rest)?;
-            Ok((block(None, start, read), rest))
-        }
         TokenKind::Bundled => bundle(alloc, depth, start, rest),
         TokenKind::If => if_statement(alloc, depth, start, rest),
         TokenKind::While => while_statement(alloc, depth, start, rest),
         TokenKind::For => for_statement(alloc, depth, start, rest),
         TokenKind::Return => return_statement(alloc, depth, start, rest),
-        _ => short(depth, tokens),
+        TokenKind::Break => break_statement(start, rest),
+        TokenKind::Continue => continue_statement(start, rest),
+        TokenKind::Semicolon => Ok((Stmt::Empty { span: start }, rest)),
+        _ => Err(Stuck::Unexpected { at: tokens }),
     }
 }
 
-/// A statement of one word or of none, with its semicolon.
-fn short(depth: u32, tokens: &[Token]) -> Result<(Stmt, &[Token]), Stuck<'_>>
-    requires deep { depth < 200 }
-    requires word { next_is short_word tokens.now ≡ true }
-    ensures { Reads (λ x rest. SpellsStatement tokens.now (views.statement x) rest × IsLow depth (statement_reach (views.statement x))) (StuckStatement depth tokens.now) result }
+/// What stands behind the word `break`.
+fn break_statement(start: Span, tokens: &[Token]) -> Result<(Stmt, &[Token]), Stuck<'_>>
+    ensures { (depth : ℕ) → depth < 200 → Reads (λ x rest. SpellsStatement (token kinds.Break start ∷ tokens.now) (views.statement x) rest × IsLow depth (statement_reach (views.statement x))) (StuckStatement depth (token kinds.Break start ∷ tokens.now)) result }
 {
-    let (token, rest) = first(tokens)?;
-    let start = token.span;
-    match &token.kind {
-        TokenKind::Break => {
-            let (end, rest) = semicolon(rest)?;
-            let span = join(start, end);
-            Ok((Stmt::Break { span }, rest))
-        }
-        TokenKind::Continue => {
-            let (end, rest) = semicolon(rest)?;
-            let span = join(start, end);
-            Ok((Stmt::Continue { span }, rest))
-        }
-        _ => {
-            let (span, rest) = semicolon(tokens)?;
-            Ok((Stmt::Empty { span }, rest))
-        }
-    }
+    let (end, rest) = semicolon(tokens)?;
+    let span = join(start, end);
+    Ok((Stmt::Break { span }, rest))
+}
+
+/// What stands behind the word `continue`.
+fn continue_statement(start: Span, tokens: &[Token]) -> Result<(Stmt, &[Token]), Stuck<'_>>
+    ensures { (depth : ℕ) → depth < 200 → Reads (λ x rest. SpellsStatement (token kinds.Continue start ∷ tokens.now) (views.statement x) rest × IsLow depth (statement_reach (views.statement x))) (StuckStatement depth (token kinds.Continue start ∷ tokens.now)) result }
+{
+    let (end, rest) = semicolon(tokens)?;
+    let span = join(start, end);
+    Ok((Stmt::Continue { span }, rest))
 }
 
 /// The statements of a block, and the brace behind them, whose span is given.
@@ -305,14 +302,13 @@ fn if_statement(
 {
     let (condition, rest) = condition(alloc, depth + 1, tokens)?;
     let (consequent, rest) = statement(alloc, depth + 1, rest)?;
-    match else_word(rest) {
-        Ok((_, behind)) => {
-            let (alternative, behind) = statement(alloc, depth + 1, behind)?;
-            let stmt = if_else(alloc, start, condition, consequent, alternative)?;
-            Ok((stmt, behind))
-        }
-        Err(_) => Ok((if_alone(alloc, start, condition, consequent)?, rest)),
+    if let Ok((_, behind)) = else_word(rest) {
+        let (alternative, behind) = statement(alloc, depth + 1, behind)?;
+        let stmt = if_else(alloc, start, condition, consequent, alternative)?;
+        return Ok((stmt, behind));
     }
+    let alone = if_alone(alloc, start, condition, consequent)?;
+    Ok((alone, rest))
 }
 
 /// An `if` without `else`.
@@ -364,7 +360,8 @@ fn while_statement(
 {
     let (condition, rest) = condition(alloc, depth + 1, tokens)?;
     let (body, rest) = statement(alloc, depth + 1, rest)?;
-    Ok((while_loop(alloc, start, condition, body)?, rest))
+    let stmt = while_loop(alloc, start, condition, body)?;
+    Ok((stmt, rest))
 }
 
 /// A `while` with its body.
@@ -492,7 +489,8 @@ fn for_statement(
 {
     let (head, rest) = for_head(alloc, depth, start, tokens)?;
     let (body, rest) = statement(alloc, depth + 1, rest)?;
-    Ok((for_loop(alloc, start, head, body)?, rest))
+    let stmt = for_loop(alloc, start, head, body)?;
+    Ok((stmt, rest))
 }
 
 /// A `for` with its body.
