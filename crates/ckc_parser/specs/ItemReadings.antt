@@ -8,7 +8,7 @@ use Rattle.ckc_lexer.specs.declared.token.CheckedScope.{CheckedScope}
 use Rattle.ckc_tree.specs.declared.stmt.Mark.{Mark}
 use Rattle.ckc_tree.specs.declared.item.Region.{Region}
 use Rattle.ckc_tree.specs.declared.item.FunctionKind.{FunctionKind}
-use Rattle.ckc_tree.specs.declared.item.FunctionKind.TheVariants.{Trusted, Tainted}
+use Rattle.ckc_tree.specs.declared.item.FunctionKind.TheVariants.{Trusted, Tainted, Callback}
 use Rattle.ckc_tree.specs.Types.{TypeTree}
 use Rattle.ckc_tree.specs.Items.{ResultForm}
 use Rattle.ckc_tree.specs.Heights.{type_reach, result_reach}
@@ -28,6 +28,11 @@ scope_word _ = false
 pub data IsScope : TokenKind → Region → Type 0 where
   scope : {scope : CheckedScope} {region : Region} → SpellsRegion scope region → IsScope (kinds.Scope scope) region
 
+-- on which side a function runs
+pub data IsKindWord : TokenKind → FunctionKind → Type 0 where
+  tainted_word : IsKindWord kinds.Tainted Tainted
+  callback_word : IsKindWord kinds.Callback Callback
+
 -- of a function that can be another item so far, whether it is tainted
 pub data IsSide : FunctionKind → Bool → Type 0 where
   trusted : IsSide Trusted false
@@ -36,7 +41,7 @@ pub data IsSide : FunctionKind → Bool → Type 0 where
 -- whether an item is tainted, where it can be another than a function
 abbrev pub SideAnswers : FunctionKind → Option Mark → Option Bool → Type 0
 SideAnswers kind mark None = (result : ResultForm) → IsAlone kind mark result
-SideAnswers kind mark (Some tainted) = (mark ≡ None) × IsSide kind tainted
+SideAnswers kind mark (Some is) = (mark ≡ None) × IsSide kind is
 
 -- the words before the result of a function
 pub record IsLed (whole : List Token) (kind : FunctionKind) (mark : Option Mark) (rest : List Token) : Type 0 where
@@ -75,7 +80,7 @@ pub record IsNamed (stars : ℕ) (name : List ℕ) (span : Span) (ts rest : List
 
 pub data StuckNamed : List Token → Failure → Type 0 where
   name : {n : ℕ} {ts rest : List Token} → SpellsStars ts n rest → next_is name_token rest ≡ false → StuckNamed ts (unexpected rest)
-  open : {n : ℕ} {x : List ℕ} {s : Span} {ts rest : List Token} → SpellsStars ts n (token (kinds.Name x) s ∷ rest) → next_is open_paren rest ≡ false → StuckNamed ts (unexpected rest)
+  opens : {n : ℕ} {x : List ℕ} {s : Span} {ts rest : List Token} → SpellsStars ts n (token (kinds.Name x) s ∷ rest) → next_is open_paren rest ≡ false → StuckNamed ts (unexpected rest)
 
 pub data StuckResult : List Token → Failure → Type 0 where
   value : {ts : List Token} {f : Failure} → next_is void_word ts ≡ false → StuckType 0 ts f → StuckResult ts f

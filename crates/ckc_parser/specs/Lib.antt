@@ -17,3 +17,4 @@ pub mod StuckStatements
 pub mod StuckItems
 pub mod StatementReadings
 pub mod ItemReadings
+pub mod Faults

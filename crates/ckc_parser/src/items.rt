@@ -8,14 +8,14 @@ ghost use Rattle.ckc_tree.specs.Expressions.{bounds};
 ghost use Rattle.ckc_tree.specs.Statements as statements;
 ghost use Rattle.ckc_tree.specs.Items as views;
 ghost use Rattle.ckc_tree.specs.Heights.{type_reach, members_reach, result_reach, parameters_reach, optional_body_reach, item_reach};
-ghost use Rattle.ckc_parser.specs.Tokens.{next_is};
+ghost use Rattle.ckc_parser.specs.Tokens as words;
 ghost use Rattle.ckc_parser.specs.ItemGrammar.{SpellsTainted, SpellsKind, SpellsOptionalMark, SpellsMember, SpellsMembers, SpellsListed, SpellsParameters, SpellsResult, SpellsBody, SpellsRegion, SpellsItem, SpellsItems};
 ghost use Rattle.ckc_parser.specs.TypeGrammar.{SpellsType};
 ghost use Rattle.ckc_parser.specs.Failures.{Reads, ReadsMark, IsLow};
 ghost use Rattle.ckc_parser.specs.StuckItems as marks;
 ghost use Rattle.ckc_parser.specs.StuckItems.{IsLowMember, StuckMember, StuckMembers, StuckListed, StuckParameters, StuckBody, StuckItem};
 ghost use Rattle.ckc_parser.specs.StatementReadings.{ReadsWord};
-ghost use Rattle.ckc_parser.specs.ItemReadings.{scope_word, IsScope, SideAnswers, IsLed, IsBase, IsStructureHead, IsStructure, IsNamed, StuckNamed, StuckResult, IsHead};
+ghost use Rattle.ckc_parser.specs.ItemReadings.{scope_word, IsScope, IsKindWord, SideAnswers, IsLed, IsBase, IsStructureHead, IsStructure, IsNamed, StuckNamed, StuckResult, IsHead};
 
 use crate::declarations::{Read, declarators, from_first, optional_bounds};
 use crate::memory::push;
@@ -67,8 +67,29 @@ fn region(tokens: &[Token]) -> Result<(Region, Span, &[Token]), Stuck<'_>>
 {
     let (token, rest) = first(tokens)?;
     match &token.kind {
-        TokenKind::Scope(CheckedScope::On) => Ok((Region::On, token.span, rest)),
-        TokenKind::Scope(CheckedScope::Off) => Ok((Region::Off, token.span, rest)),
+        TokenKind::Scope(scope) => Ok((region_of(*scope), token.span, rest)),
+        _ => Err(Stuck::Unexpected { at: tokens }),
+    }
+}
+
+/// The region that a scope begins.
+fn region_of(scope: CheckedScope) -> Region
+    ensures { SpellsRegion scope result }
+{
+    match scope {
+        CheckedScope::On => Region::On,
+        CheckedScope::Off => Region::Off,
+    }
+}
+
+/// The word that says on which side a function runs, with its span.
+fn kind_word(tokens: &[Token]) -> Result<(FunctionKind, Span, &[Token]), Stuck<'_>>
+    ensures { ReadsWord IsKindWord words.kind_word tokens.now result }
+{
+    let (token, rest) = first(tokens)?;
+    match &token.kind {
+        TokenKind::Tainted => Ok((FunctionKind::Tainted, token.span, rest)),
+        TokenKind::Callback => Ok((FunctionKind::Callback, token.span, rest)),
         _ => Err(Stuck::Unexpected { at: tokens }),
     }
 }
@@ -77,13 +98,9 @@ fn region(tokens: &[Token]) -> Result<(Region, Span, &[Token]), Stuck<'_>>
 fn function_kind(tokens: &[Token]) -> (FunctionKind, &[Token])
     ensures { SpellsKind tokens.now result.0 result.1.now }
 {
-    match tokens.split_first() {
-        Some((token, rest)) => match &token.kind {
-            TokenKind::Tainted => (FunctionKind::Tainted, rest),
-            TokenKind::Callback => (FunctionKind::Callback, rest),
-            _ => (FunctionKind::Trusted, tokens),
-        },
-        None => (FunctionKind::Trusted, tokens),
+    match kind_word(tokens) {
+        Ok((kind, _, rest)) => (kind, rest),
+        Err(_) => (FunctionKind::Trusted, tokens),
     }
 }
 
@@ -118,10 +135,13 @@ pub fn item(alloc: Global, tokens: &[Token]) -> Result<(Item, &[Token]), Stuck<'
 fn side(kind: FunctionKind, mark: Option<Mark>) -> Option<bool>
     ensures { SideAnswers kind mark result }
 {
-    match (kind, mark) {
-        (FunctionKind::Trusted, None) => Some(false),
-        (FunctionKind::Tainted, None) => Some(true),
-        _ => None,
+    match mark {
+        Some(_) => None,
+        None => match kind {
+            FunctionKind::Trusted => Some(false),
+            FunctionKind::Tainted => Some(true),
+            FunctionKind::Callback => None,
+        },
     }
 }
 
