@@ -24,3 +24,8 @@ pub mod ContextSteps
 pub mod Selecting
 pub mod Arguments
 pub mod BoundsForms
+mod Ahead
+mod Lists
+mod Assignments
+mod Blocks
+mod FileLevel

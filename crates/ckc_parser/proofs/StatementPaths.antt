@@ -38,7 +38,7 @@ begun_array (b.bracket w) = next b.nothing (next (b.word w) (here (b.bracket w))
 begun_array (b.length w) = next b.nothing (next (b.word w) (next (b.bracket w) (here (b.length w))))
 begun_array (b.array w) = next b.nothing (next (b.word w) (next (b.bracket w) (next (b.length w) (here (b.array w)))))
 
-signed_path : {x : SignedConstant} {ts r : List Token} → SpellsSigned ts x r → Path (BeginsSigned ts) ts r
+pub signed_path : {x : SignedConstant} {ts r : List Token} → SpellsSigned ts x r → Path (BeginsSigned ts) ts r
 signed_path (g.plain c) = next b.nothing (here (b.signed (g.plain c)))
 signed_path (g.minus c) = next b.nothing (next b.minus (here (b.signed (g.minus c))))
 
@@ -66,7 +66,7 @@ begun_initializer b.nothing = here (fact b.nothing least)
 begun_initializer (b.value d) = next (fact b.nothing least) (part (λ us a. fact (b.value a.begins) a.low) (begun_binary d))
 begun_initializer (b.constants d) = next (fact b.nothing least) (next (fact (b.value (no_binary 10)) least) (part (λ us a. fact (b.constants a) least) (begun_constants d)))
 
-declarator_path : {x : Declarator} {ts r : List Token} → SpellsDeclarator ts x r → Path (Fact (BeginsDeclarator ts) (declarator_reach x)) ts r
+pub declarator_path : {x : Declarator} {ts r : List Token} → SpellsDeclarator ts x r → Path (Fact (BeginsDeclarator ts) (declarator_reach x)) ts r
 declarator_path (g.declarator st a c i) =
     past (part (λ us f. fact (b.stars f) least) (stars_path st))
     (on (part (λ us f. fact (b.array st f) least) (array_path a))
@@ -94,7 +94,7 @@ pub begun_declarators : {ts r : List Token} {q : Reach} → BeginsDeclarators ts
 begun_declarators (b.first d) = part (λ us a. fact (b.first a.begins) a.low) (begun_declarator d)
 begun_declarators (b.others d m) = past (part (λ us a. fact (b.first a.begins) (grow _ a.low)) (declarator_path d)) (part (λ us a. fact (b.others d a.begins) (along _ a.low)) (begun_declarators m))
 
-declaration_path : {x : Declaration} (start : ℕ) {ts r : List Token} → SpellsDeclaration ts x r → Path (Fact (BeginsDeclaration ts) (around start (declared_reach x))) ts r
+pub declaration_path : {x : Declaration} (start : ℕ) {ts r : List Token} → SpellsDeclaration ts x r → Path (Fact (BeginsDeclaration ts) (around start (declared_reach x))) ts r
 declaration_path start (g.declaration {ts} t d) =
     on (part (λ us a. fact (b.base a.begins) (begun_low ts us _ (grow _ a.low))) (type_path t))
     (part (λ us a. fact (b.declarators t a.begins) (deep _ _ (along _ a.low))) (declarators_path d))
@@ -110,7 +110,7 @@ begun_declaration (b.declarators {ts} t d) =
 no_assignment : {ts : List Token} {high : Reach} → Fact (BeginsAssignment ts) high ts
 no_assignment {ts} = fact (b.target (expressions.primary expressions.nothing)) (begun_none ts)
 
-assignment_path : {x : Assignment} {ts r : List Token} → SpellsAssignment ts x r → Path (Fact (BeginsAssignment ts) (assignment_reach x)) ts r
+pub assignment_path : {x : Assignment} {ts r : List Token} → SpellsAssignment ts x r → Path (Fact (BeginsAssignment ts) (assignment_reach x)) ts r
 assignment_path (g.store {ts} d w e) =
     past (part (λ us a. fact (b.target a.begins) (begun_low ts us _ (grow _ a.low))) (unary_path d))
     (part (λ us a. fact (b.value d w a.begins) (deep _ _ (along _ a.low))) (binary_path e))
@@ -128,7 +128,7 @@ begun_assignment (b.before w d) = next no_assignment (part (λ us a. fact (b.bef
 no_assignments : {ts : List Token} {high : Reach} → Fact (BeginsAssignments ts) high ts
 no_assignments {ts} = fact (b.first (b.target (expressions.primary expressions.nothing))) (begun_none ts)
 
-assignments_path : {x : List Assignment} {t : Span} {ts r : List Token} → SpellsAssignments ts x t r → Path (Fact (BeginsAssignments ts) (assignments_reach x)) ts r
+pub assignments_path : {x : List Assignment} {t : Span} {ts r : List Token} → SpellsAssignments ts x t r → Path (Fact (BeginsAssignments ts) (assignments_reach x)) ts r
 assignments_path g.none = next no_assignments (here (fact b.none same))
 assignments_path (g.more d m) = past (part (λ us a. fact (b.first a.begins) (grow _ a.low)) (assignment_path d)) (part (λ us a. fact (b.others d a.begins) (along _ a.low)) (assignments_path m))
 

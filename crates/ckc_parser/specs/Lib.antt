@@ -18,3 +18,6 @@ pub mod Contexts
 pub mod ContextAnswers
 pub mod StuckStatements
 pub mod StuckItems
+pub mod StatementReadings
+pub mod ItemReadings
+pub mod Faults

@@ -16,3 +16,4 @@ mod stuck;
 mod tests;
 mod tokens;
 mod types;
+mod words;

@@ -1,145 +1,191 @@
 // Reading statements.
 
-use crate::declarations::{assigned, assignment, declaration, starts_assignment};
+ghost use Rattle.std.specs.Prelude.{◌≡◌, ℕ, ◌∷◌, ◌≤◌, ◌<◌, suc, true, false, map, None, Some, IfOk, MatchOption};
+ghost use Rattle.std.specs.Option.{option_map};
+ghost use Rattle.ckc_lexer.specs.declared.token.TokenKind.TheVariants as kinds;
+ghost use Rattle.ckc_tree.specs.Expressions.{expression};
+ghost use Rattle.ckc_tree.specs.Statements as views;
+ghost use Rattle.ckc_tree.specs.Items.{statement_list};
+ghost use Rattle.ckc_tree.specs.Heights.{expression_reach, assignments_reach, for_initial_reach, optional_expression_reach, optional_assignment_reach, statement_reach, statements_reach};
+ghost use Rattle.ckc_parser.specs.Tokens.{token, join, next_is};
+ghost use Rattle.ckc_parser.specs.StatementGrammar.{SpellsAssignments, SpellsForInitial, SpellsForStep, SpellsStatement, SpellsStatements};
+ghost use Rattle.ckc_parser.specs.Failures.{Reads, IsLow};
+ghost use Rattle.ckc_parser.specs.StuckTypes.{type_word, name_token};
+ghost use Rattle.ckc_parser.specs.StuckStatements.{plain_word, statement_word, assignment_word, is_call_alone, StuckAssignments, StuckForInitial, StuckForCondition, StuckForStep, StuckCondition, StuckStatement, StuckStatements};
+ghost use Rattle.ckc_parser.specs.StatementReadings.{SpellsCondition, SpellsEnd, IsCallEnd, IsForHead};
+
+use crate::declarations::{Read, assigned, assignment, declaration, starts_assignment};
 use crate::expressions::{expression, unary};
 use crate::memory::{boxed, push};
 use crate::stuck::Stuck;
 use crate::tokens::{
-    MAX_DEPTH, close_brace, close_paren, first, join, open_brace, open_paren, semicolon,
+    MAX_DEPTH, close_brace, close_paren, first, join, name, open_brace, open_paren, semicolon,
 };
 use crate::types::starts_type;
+use crate::words::{else_word, mark};
 use ckc_lexer::token::{Token, TokenKind};
+use ckc_text::fault::NoMemory;
 use ckc_text::place::Span;
 use ckc_tree::expr::Expr;
 use ckc_tree::stmt::{Assignment, ForInitial, Mark, Stmt};
 use std::alloc::Global;
 
-/// A statement and the bytes that it stands on.
-#[derive(Drop)]
-pub struct ReadStmt {
-    pub stmt: Stmt,
-    pub span: Span,
-}
-
-/// What makes a block or a function a checked or an unchecked one.
-pub fn mark(kind: &TokenKind) -> Option<Mark> {
-    match kind {
-        TokenKind::Checked => Some(Mark::Checked),
-        TokenKind::Unchecked => Some(Mark::Unchecked),
-        _ => None,
-    }
+/// Whether a token is the first of a statement that begins with none of a type, an expression or an assignment.
+fn starts_plain(kind: &TokenKind) -> bool
+    ensures { result ≡ plain_word kind.now }
+{
+    matches!(
+        kind,
+        TokenKind::Checked
+            | TokenKind::Unchecked
+            | TokenKind::OpenBrace
+            | TokenKind::Bundled
+            | TokenKind::Semicolon
+            | TokenKind::If
+            | TokenKind::While
+            | TokenKind::For
+            | TokenKind::Return
+            | TokenKind::Break
+            | TokenKind::Continue
+    )
 }
 
 /// Whether a token is the first of a statement.
-fn starts_statement(kind: &TokenKind) -> bool {
-    mark(kind).is_some()
-        || starts_type(kind)
-        || starts_assignment(kind)
-        || matches!(
-            kind,
-            TokenKind::OpenBrace
-                | TokenKind::Bundled
-                | TokenKind::Semicolon
-                | TokenKind::If
-                | TokenKind::While
-                | TokenKind::For
-                | TokenKind::Return
-                | TokenKind::Break
-                | TokenKind::Continue
-        )
+fn starts_statement(kind: &TokenKind) -> bool
+    ensures { result ≡ statement_word kind.now }
+{
+    starts_plain(kind) || starts_type(kind) || starts_assignment(kind)
 }
 
 /// A statement with at most `depth` nodes around it.
 #[cycle(statements)]
-pub fn statement(
-    alloc: Global,
-    depth: u32,
-    tokens: &[Token],
-) -> Result<(ReadStmt, &[Token]), Stuck<'_>> {
-    let (token, rest) = first(tokens)?;
+pub fn statement(alloc: Global, depth: u32, tokens: &[Token]) -> Result<(Stmt, &[Token]), Stuck<'_>>
+    requires { depth ≤ 200 }
+    ensures { Reads (λ x rest. SpellsStatement tokens.now (views.statement x) rest × IsLow depth (statement_reach (views.statement x))) (StuckStatement depth tokens.now) result }
+{
+    let (token, _) = first(tokens)?;
     if !starts_statement(&token.kind) {
         return Err(Stuck::Unexpected { at: tokens });
     }
-    let start = token.span;
     if depth >= MAX_DEPTH {
-        return Err(Stuck::TooDeep { start: start.from });
+        let start = token.span.from;
+        return Err(Stuck::TooDeep { start });
     }
+    if starts_type(&token.kind) {
+        return declared(alloc, depth, tokens);
+    }
+    if starts_assignment(&token.kind) {
+        return stored_or_called(alloc, depth, tokens);
+    }
+    plain(alloc, depth, tokens)
+}
+
+/// A statement that begins with none of a type, an expression or an assignment.
+#[cycle(statements)]
+fn plain(alloc: Global, depth: u32, tokens: &[Token]) -> Result<(Stmt, &[Token]), Stuck<'_>>
+    requires deep { depth < 200 }
+    requires word { next_is plain_word tokens.now ≡ true }
+    ensures { Reads (λ x rest. SpellsStatement tokens.now (views.statement x) rest × IsLow depth (statement_reach (views.statement x))) (StuckStatement depth tokens.now) result }
+{
+    if let Ok((mark, start, rest)) = mark(tokens) {
+        let (_, rest) = open_brace(rest)?;
+        let (read, rest) = statements(alloc, depth + 1, rest)?;
+        let stmt = block(Some(mark), start, read);
+        return Ok((stmt, rest));
+    }
+    if let Ok((start, rest)) = open_brace(tokens) {
+        let (inner, rest) = statements(alloc, depth + 1, rest)?;
+        let unmarked = block(None, start, inner);
+        return Ok((unmarked, rest));
+    }
+    let (token, rest) = first(tokens)?;
+    let start = token.span;
     match &token.kind {
-        TokenKind::OpenBrace => block(alloc, depth + 1, None, start, rest),
-        TokenKind::Checked | TokenKind::Unchecked => {
-            let (_, behind) = open_brace(rest)?;
-            block(alloc, depth + 1, mark(&token.kind), start, behind)
-        }
-        TokenKind::Bundled => bundle(alloc, depth + 1, start, rest),
-        TokenKind::Semicolon => Ok((
-            ReadStmt {
-                stmt: Stmt::Empty { span: start },
-                span: start,
-            },
-            rest,
-        )),
-        TokenKind::If => if_statement(alloc, depth + 1, start, rest),
-        TokenKind::While => while_statement(alloc, depth + 1, start, rest),
-        TokenKind::For => for_statement(alloc, depth + 1, start, rest),
-        TokenKind::Return => return_statement(alloc, depth + 1, start, rest),
-        TokenKind::Break => {
-            let (end, rest) = semicolon(rest)?;
-            let span = join(start, end);
-            let stmt = Stmt::Break { span };
-            Ok((ReadStmt { stmt, span }, rest))
-        }
-        TokenKind::Continue => {
-            let (end, rest) = semicolon(rest)?;
-            let span = join(start, end);
-            let stmt = Stmt::Continue { span };
-            Ok((ReadStmt { stmt, span }, rest))
-        }
-        kind => {
-            if starts_type(kind) {
-                declared(alloc, depth, tokens)
-            } else {
-                stored_or_called(alloc, depth, tokens)
-            }
-        }
+        TokenKind::Bundled => bundle(alloc, depth, start, rest),
+        TokenKind::If => if_statement(alloc, depth, start, rest),
+        TokenKind::While => while_statement(alloc, depth, start, rest),
+        TokenKind::For => for_statement(alloc, depth, start, rest),
+        TokenKind::Return => return_statement(alloc, depth, start, rest),
+        TokenKind::Break => break_statement(start, rest),
+        TokenKind::Continue => continue_statement(start, rest),
+        TokenKind::Semicolon => Ok((Stmt::Empty { span: start }, rest)),
+        _ => Err(Stuck::Unexpected { at: tokens }),
     }
 }
 
-/// The statements of a block, and the brace behind them.
+/// What stands behind the word `break`.
+fn break_statement(start: Span, tokens: &[Token]) -> Result<(Stmt, &[Token]), Stuck<'_>>
+    ensures { (depth : ℕ) → depth < 200 → Reads (λ x rest. SpellsStatement (token kinds.Break start ∷ tokens.now) (views.statement x) rest × IsLow depth (statement_reach (views.statement x))) (StuckStatement depth (token kinds.Break start ∷ tokens.now)) result }
+{
+    let (end, rest) = semicolon(tokens)?;
+    let span = join(start, end);
+    Ok((Stmt::Break { span }, rest))
+}
+
+/// What stands behind the word `continue`.
+fn continue_statement(start: Span, tokens: &[Token]) -> Result<(Stmt, &[Token]), Stuck<'_>>
+    ensures { (depth : ℕ) → depth < 200 → Reads (λ x rest. SpellsStatement (token kinds.Continue start ∷ tokens.now) (views.statement x) rest × IsLow depth (statement_reach (views.statement x))) (StuckStatement depth (token kinds.Continue start ∷ tokens.now)) result }
+{
+    let (end, rest) = semicolon(tokens)?;
+    let span = join(start, end);
+    Ok((Stmt::Continue { span }, rest))
+}
+
+/// The statements of a block, and the brace behind them, whose span is given.
 #[cycle(statements)]
 pub fn statements(
     alloc: Global,
     depth: u32,
     tokens: &[Token],
-) -> Result<(Vec<Stmt>, Span, &[Token]), Stuck<'_>> {
-    let mut items = Vec::new(alloc);
+) -> Result<(Read<Vec<Stmt>>, &[Token]), Stuck<'_>>
+    requires { depth ≤ 200 }
+    ensures { Reads (λ x rest. SpellsStatements tokens.now (statement_list x.form.items) x.span rest × IsLow depth (statements_reach (statement_list x.form.items))) (StuckStatements depth tokens.now) result }
+{
+    let mut form = Vec::new(alloc);
     let mut rest = tokens;
-    loop {
-        if let Ok((end, rest)) = close_brace(rest) {
-            return Ok((items, end, rest));
+    'statements: loop {
+        if let Ok((span, behind)) = close_brace(rest) {
+            return Ok((Read { form, span }, behind));
         }
-        let (read, behind) = statement(alloc, depth, rest)?;
-        push(&mut items, read.stmt)?;
+        let (item, behind) = statement(alloc, depth, rest)?;
+        push(&mut form, item)?;
         rest = behind;
     }
 }
 
-/// A block whose brace is read.
-#[cycle(statements)]
-fn block(
-    alloc: Global,
-    depth: u32,
-    mark: Option<Mark>,
-    start: Span,
-    tokens: &[Token],
-) -> Result<(ReadStmt, &[Token]), Stuck<'_>> {
-    let (statements, end, rest) = statements(alloc, depth, tokens)?;
-    let span = join(start, end);
-    let stmt = Stmt::Block {
+/// The block of these statements.
+fn block(mark: Option<Mark>, start: Span, read: Read<Vec<Stmt>>) -> Stmt
+    ensures { views.statement result ≡ views.Block mark (statement_list read.form.items) (join start read.span) }
+{
+    let statements = read.form;
+    let span = join(start, read.span);
+    Stmt::Block {
         mark,
         statements,
         span,
-    };
-    Ok((ReadStmt { stmt, span }, rest))
+    }
+}
+
+/// Assignments with a semicolon behind each, and the brace behind them, whose span is given.
+fn assignments(
+    alloc: Global,
+    depth: u32,
+    tokens: &[Token],
+) -> Result<(Read<Vec<Assignment>>, &[Token]), Stuck<'_>>
+    requires { depth ≤ 200 }
+    ensures { Reads (λ x rest. SpellsAssignments tokens.now (map views.assignment x.form.items) x.span rest × IsLow depth (assignments_reach (map views.assignment x.form.items))) (StuckAssignments depth tokens.now) result }
+{
+    let mut form = Vec::new(alloc);
+    let mut rest = tokens;
+    'assignments: loop {
+        if let Ok((span, behind)) = close_brace(rest) {
+            return Ok((Read { form, span }, behind));
+        }
+        let (item, behind) = assignment(alloc, depth, rest)?;
+        let (_, behind) = semicolon(behind)?;
+        push(&mut form, item)?;
+        rest = behind;
+    }
 }
 
 /// What stands behind the word of a bundle.
@@ -148,75 +194,95 @@ fn bundle(
     depth: u32,
     start: Span,
     tokens: &[Token],
-) -> Result<(ReadStmt, &[Token]), Stuck<'_>> {
-    let (_, behind) = open_brace(tokens)?;
-    let mut assignments = Vec::new(alloc);
-    let mut rest = behind;
-    loop {
-        if let Ok((end, rest)) = close_brace(rest) {
-            let span = join(start, end);
-            let stmt = Stmt::Bundle { assignments, span };
-            return Ok((ReadStmt { stmt, span }, rest));
-        }
-        let (read, behind) = assignment(alloc, depth, rest)?;
-        let (_, behind) = semicolon(behind)?;
-        push(&mut assignments, read.form)?;
-        rest = behind;
-    }
+) -> Result<(Stmt, &[Token]), Stuck<'_>>
+    requires { depth < 200 }
+    ensures { Reads (λ x rest. SpellsStatement (token kinds.Bundled start ∷ tokens.now) (views.statement x) rest × IsLow depth (statement_reach (views.statement x))) (StuckStatement depth (token kinds.Bundled start ∷ tokens.now)) result }
+{
+    let (_, rest) = open_brace(tokens)?;
+    let (read, rest) = assignments(alloc, depth + 1, rest)?;
+    let assignments = read.form;
+    let span = join(start, read.span);
+    Ok((Stmt::Bundle { assignments, span }, rest))
 }
 
 /// A declaration and its semicolon.
-fn declared(
-    alloc: Global,
-    depth: u32,
-    tokens: &[Token],
-) -> Result<(ReadStmt, &[Token]), Stuck<'_>> {
-    let (read, rest) = declaration(alloc, depth, tokens)?;
+fn declared(alloc: Global, depth: u32, tokens: &[Token]) -> Result<(Stmt, &[Token]), Stuck<'_>>
+    requires deep { depth < 200 }
+    requires typed { next_is type_word tokens.now ≡ true }
+    ensures { Reads (λ x rest. SpellsStatement tokens.now (views.statement x) rest × IsLow depth (statement_reach (views.statement x))) (StuckStatement depth tokens.now) result }
+{
+    let (declaration, rest) = declaration(alloc, depth, tokens)?;
     let (end, rest) = semicolon(rest)?;
-    let span = join(read.span, end);
-    let declaration = read.form;
-    let stmt = Stmt::Declare { declaration, span };
-    Ok((ReadStmt { stmt, span }, rest))
+    let span = join(declaration.span, end);
+    Ok((Stmt::Declare { declaration, span }, rest))
 }
 
-/// An assignment or a call, and its semicolon. It is a call where a name is first and nothing but its arguments follow.
+/// An assignment or a call, and its semicolon.
 fn stored_or_called(
     alloc: Global,
     depth: u32,
     tokens: &[Token],
-) -> Result<(ReadStmt, &[Token]), Stuck<'_>> {
-    let (token, _) = first(tokens)?;
-    if !matches!(token.kind, TokenKind::Name(_)) {
-        let (read, rest) = assignment(alloc, depth, tokens)?;
-        return stored(read.form, read.span, rest);
+) -> Result<(Stmt, &[Token]), Stuck<'_>>
+    requires deep { depth < 200 }
+    requires word { next_is assignment_word tokens.now ≡ true }
+    ensures { Reads (λ x rest. SpellsStatement tokens.now (views.statement x) rest × IsLow depth (statement_reach (views.statement x))) (StuckStatement depth tokens.now) result }
+{
+    match name(tokens) {
+        Ok(_) => named(alloc, depth, tokens),
+        Err(_) => stored(alloc, depth, tokens),
     }
-    let (target, rest) = unary(alloc, depth + 1, tokens)?;
-    if matches!(target.expr, Expr::Call { .. }) {
-        if let Ok((end, rest)) = semicolon(rest) {
-            let span = join(target.outer, end);
-            let call = target.expr;
-            let stmt = Stmt::Call { call, span };
-            return Ok((ReadStmt { stmt, span }, rest));
-        }
-    }
-    let (read, rest) = assigned(alloc, depth, target, rest)?;
-    stored(read.form, read.span, rest)
 }
 
-/// The statement of an assignment, with its semicolon.
-fn stored(
-    assignment: Assignment,
-    span: Span,
-    tokens: &[Token],
-) -> Result<(ReadStmt, &[Token]), Stuck<'_>> {
-    let (end, rest) = semicolon(tokens)?;
-    let span = join(span, end);
-    let stmt = Stmt::Assign { assignment, span };
-    Ok((ReadStmt { stmt, span }, rest))
+/// An assignment that begins with no name, and its semicolon.
+fn stored(alloc: Global, depth: u32, tokens: &[Token]) -> Result<(Stmt, &[Token]), Stuck<'_>>
+    requires deep { depth < 200 }
+    requires word { next_is assignment_word tokens.now ≡ true }
+    requires unnamed { next_is name_token tokens.now ≡ false }
+    ensures { Reads (λ x rest. SpellsStatement tokens.now (views.statement x) rest × IsLow depth (statement_reach (views.statement x))) (StuckStatement depth tokens.now) result }
+{
+    let (assignment, rest) = assignment(alloc, depth, tokens)?;
+    let (end, rest) = semicolon(rest)?;
+    let span = join(assignment.span(), end);
+    Ok((Stmt::Assign { assignment, span }, rest))
+}
+
+/// The semicolon behind a call, and what stands behind it.
+fn call_end<'t>(target: &Expr, tokens: &'t [Token]) -> Option<(Span, &'t [Token])>
+    ensures { MatchOption result (is_call_alone (expression target.now) tokens.now ≡ false) (λ found. IsCallEnd (expression target.now) found.0 tokens.now found.1.now) }
+{
+    if !matches!(target, Expr::Call { .. }) {
+        return None;
+    }
+    match semicolon(tokens) {
+        Ok(end) => Some(end),
+        Err(_) => None,
+    }
+}
+
+/// What begins with a name, and its semicolon: a call where nothing but arguments stands behind the name, and else an
+/// assignment.
+fn named(alloc: Global, depth: u32, tokens: &[Token]) -> Result<(Stmt, &[Token]), Stuck<'_>>
+    requires deep { depth < 200 }
+    requires named { next_is name_token tokens.now ≡ true }
+    ensures { Reads (λ x rest. SpellsStatement tokens.now (views.statement x) rest × IsLow depth (statement_reach (views.statement x))) (StuckStatement depth tokens.now) result }
+{
+    let (target, rest) = unary(alloc, depth + 1, tokens)?;
+    if let Some((end, rest)) = call_end(&target.expr, rest) {
+        let span = join(target.outer, end);
+        let call = target.expr;
+        return Ok((Stmt::Call { call, span }, rest));
+    }
+    let (assignment, rest) = assigned(alloc, depth, target, rest)?;
+    let (end, rest) = semicolon(rest)?;
+    let span = join(assignment.span(), end);
+    Ok((Stmt::Assign { assignment, span }, rest))
 }
 
 /// An expression in parentheses that belong to a statement.
-fn condition(alloc: Global, depth: u32, tokens: &[Token]) -> Result<(Expr, &[Token]), Stuck<'_>> {
+fn condition(alloc: Global, depth: u32, tokens: &[Token]) -> Result<(Expr, &[Token]), Stuck<'_>>
+    requires { depth ≤ 200 }
+    ensures { Reads (λ x rest. SpellsCondition tokens.now (expression x) rest × IsLow depth (expression_reach (expression x))) (StuckCondition depth tokens.now) result }
+{
     let (_, rest) = open_paren(tokens)?;
     let (read, rest) = expression(alloc, depth, rest)?;
     let (_, rest) = close_paren(rest)?;
@@ -230,28 +296,55 @@ fn if_statement(
     depth: u32,
     start: Span,
     tokens: &[Token],
-) -> Result<(ReadStmt, &[Token]), Stuck<'_>> {
-    let (condition, rest) = condition(alloc, depth, tokens)?;
-    let (consequent, rest) = statement(alloc, depth, rest)?;
-    let mut span = join(start, consequent.span);
-    let mut alternative = None;
-    let mut rest = rest;
-    if let Some((token, behind)) = rest.split_first() {
-        if matches!(token.kind, TokenKind::Else) {
-            let (read, behind) = statement(alloc, depth, behind)?;
-            span = join(start, read.span);
-            alternative = Some(boxed(alloc, read.stmt)?);
-            rest = behind;
-        }
+) -> Result<(Stmt, &[Token]), Stuck<'_>>
+    requires { depth < 200 }
+    ensures { Reads (λ x rest. SpellsStatement (token kinds.If start ∷ tokens.now) (views.statement x) rest × IsLow depth (statement_reach (views.statement x))) (StuckStatement depth (token kinds.If start ∷ tokens.now)) result }
+{
+    let (condition, rest) = condition(alloc, depth + 1, tokens)?;
+    let (consequent, rest) = statement(alloc, depth + 1, rest)?;
+    if let Ok((_, behind)) = else_word(rest) {
+        let (alternative, behind) = statement(alloc, depth + 1, behind)?;
+        let stmt = if_else(alloc, start, condition, consequent, alternative)?;
+        return Ok((stmt, behind));
     }
-    let consequent = boxed(alloc, consequent.stmt)?;
-    let stmt = Stmt::If {
+    let alone = if_alone(alloc, start, condition, consequent)?;
+    Ok((alone, rest))
+}
+
+/// An `if` without `else`.
+fn if_alone(alloc: Global, start: Span, condition: Expr, consequent: Stmt) -> Result<Stmt, NoMemory>
+    ensures { IfOk result (λ x. views.statement x ≡ views.If (expression condition) (views.statement consequent) (join start (views.statement_span (views.statement consequent)))) }
+{
+    let span = join(start, consequent.span());
+    let consequent = boxed(alloc, consequent)?;
+    let alternative = None;
+    Ok(Stmt::If {
         condition,
         consequent,
         alternative,
         span,
-    };
-    Ok((ReadStmt { stmt, span }, rest))
+    })
+}
+
+/// An `if` with its `else`.
+fn if_else(
+    alloc: Global,
+    start: Span,
+    condition: Expr,
+    consequent: Stmt,
+    alternative: Stmt,
+) -> Result<Stmt, NoMemory>
+    ensures { IfOk result (λ x. views.statement x ≡ views.IfElse (expression condition) (views.statement consequent) (views.statement alternative) (join start (views.statement_span (views.statement alternative)))) }
+{
+    let span = join(start, alternative.span());
+    let consequent = boxed(alloc, consequent)?;
+    let alternative = Some(boxed(alloc, alternative)?);
+    Ok(Stmt::If {
+        condition,
+        consequent,
+        alternative,
+        span,
+    })
 }
 
 /// What stands behind the word `while`.
@@ -261,17 +354,27 @@ fn while_statement(
     depth: u32,
     start: Span,
     tokens: &[Token],
-) -> Result<(ReadStmt, &[Token]), Stuck<'_>> {
-    let (condition, rest) = condition(alloc, depth, tokens)?;
-    let (body, rest) = statement(alloc, depth, rest)?;
-    let span = join(start, body.span);
-    let body = boxed(alloc, body.stmt)?;
-    let stmt = Stmt::While {
+) -> Result<(Stmt, &[Token]), Stuck<'_>>
+    requires { depth < 200 }
+    ensures { Reads (λ x rest. SpellsStatement (token kinds.While start ∷ tokens.now) (views.statement x) rest × IsLow depth (statement_reach (views.statement x))) (StuckStatement depth (token kinds.While start ∷ tokens.now)) result }
+{
+    let (condition, rest) = condition(alloc, depth + 1, tokens)?;
+    let (body, rest) = statement(alloc, depth + 1, rest)?;
+    let stmt = while_loop(alloc, start, condition, body)?;
+    Ok((stmt, rest))
+}
+
+/// A `while` with its body.
+fn while_loop(alloc: Global, start: Span, condition: Expr, body: Stmt) -> Result<Stmt, NoMemory>
+    ensures { IfOk result (λ x. views.statement x ≡ views.While (expression condition) (views.statement body) (join start (views.statement_span (views.statement body)))) }
+{
+    let span = join(start, body.span());
+    let body = boxed(alloc, body)?;
+    Ok(Stmt::While {
         condition,
         body,
         span,
-    };
-    Ok((ReadStmt { stmt, span }, rest))
+    })
 }
 
 /// The first part of the head of a `for`, and its semicolon.
@@ -279,43 +382,50 @@ fn for_initial(
     alloc: Global,
     depth: u32,
     tokens: &[Token],
-) -> Result<(ForInitial, &[Token]), Stuck<'_>> {
+) -> Result<(ForInitial, &[Token]), Stuck<'_>>
+    requires { depth ≤ 200 }
+    ensures { Reads (λ x rest. SpellsForInitial tokens.now (views.for_initial x) rest × IsLow depth (for_initial_reach (views.for_initial x))) (StuckForInitial depth tokens.now) result }
+{
     if let Ok((_, rest)) = semicolon(tokens) {
         return Ok((ForInitial::Nothing, rest));
     }
-    let (token, _) = first(tokens)?;
-    if starts_type(&token.kind) {
-        let (read, rest) = declaration(alloc, depth, tokens)?;
+    if next_starts_type(tokens) {
+        let (declaration, rest) = declaration(alloc, depth, tokens)?;
         let (_, rest) = semicolon(rest)?;
-        return Ok((
-            ForInitial::Declare {
-                declaration: read.form,
-            },
-            rest,
-        ));
+        return Ok((ForInitial::Declare { declaration }, rest));
     }
-    let (read, rest) = assignment(alloc, depth, tokens)?;
+    let (assignment, rest) = assignment(alloc, depth, tokens)?;
     let (_, rest) = semicolon(rest)?;
-    Ok((
-        ForInitial::Assign {
-            assignment: read.form,
-        },
-        rest,
-    ))
+    Ok((ForInitial::Assign { assignment }, rest))
 }
 
-/// An expression that may be left out before a semicolon, and the semicolon with its span.
+/// Whether the first token is that of a type.
+fn next_starts_type(tokens: &[Token]) -> bool
+    ensures { result ≡ next_is type_word tokens.now }
+{
+    match tokens.split_first() {
+        Some((token, _)) => starts_type(&token.kind),
+        None => false,
+    }
+}
+
+/// An expression that may be left out before a semicolon, and the semicolon, whose span is given.
 fn optional_value(
     alloc: Global,
     depth: u32,
     tokens: &[Token],
-) -> Result<(Option<Expr>, Span, &[Token]), Stuck<'_>> {
-    if let Ok((end, rest)) = semicolon(tokens) {
-        return Ok((None, end, rest));
+) -> Result<(Read<Option<Expr>>, &[Token]), Stuck<'_>>
+    requires { depth ≤ 200 }
+    ensures { Reads (λ x rest. SpellsEnd tokens.now (option_map expression x.form) x.span rest × IsLow depth (optional_expression_reach (option_map expression x.form))) (StuckForCondition depth tokens.now) result }
+{
+    if let Ok((span, rest)) = semicolon(tokens) {
+        let form = None;
+        return Ok((Read { form, span }, rest));
     }
     let (read, rest) = expression(alloc, depth, tokens)?;
-    let (end, rest) = semicolon(rest)?;
-    Ok((Some(read.expr), end, rest))
+    let (span, rest) = semicolon(rest)?;
+    let form = Some(read.expr);
+    Ok((Read { form, span }, rest))
 }
 
 /// The last part of the head of a `for`, and its parenthesis.
@@ -323,13 +433,47 @@ fn for_step(
     alloc: Global,
     depth: u32,
     tokens: &[Token],
-) -> Result<(Option<Assignment>, &[Token]), Stuck<'_>> {
+) -> Result<(Option<Assignment>, &[Token]), Stuck<'_>>
+    requires { depth ≤ 200 }
+    ensures { Reads (λ x rest. SpellsForStep tokens.now (option_map views.assignment x) rest × IsLow depth (optional_assignment_reach (option_map views.assignment x))) (StuckForStep depth tokens.now) result }
+{
     if let Ok((_, rest)) = close_paren(tokens) {
         return Ok((None, rest));
     }
-    let (read, rest) = assignment(alloc, depth, tokens)?;
+    let (assignment, rest) = assignment(alloc, depth, tokens)?;
     let (_, rest) = close_paren(rest)?;
-    Ok((Some(read.form), rest))
+    Ok((Some(assignment), rest))
+}
+
+/// What stands in the parentheses of a `for`.
+#[derive(Drop)]
+struct ForHead {
+    initial: ForInitial,
+    condition: Option<Expr>,
+    step: Option<Assignment>,
+}
+
+/// What stands between the word `for` and its body.
+fn for_head(
+    alloc: Global,
+    depth: u32,
+    start: Span,
+    tokens: &[Token],
+) -> Result<(ForHead, &[Token]), Stuck<'_>>
+    requires { depth < 200 }
+    ensures { Reads (λ x rest. IsForHead depth tokens.now (views.for_initial x.initial) (option_map expression x.condition) (option_map views.assignment x.step) rest) (StuckStatement depth (token kinds.For start ∷ tokens.now)) result }
+{
+    let (_, rest) = open_paren(tokens)?;
+    let (initial, rest) = for_initial(alloc, depth + 1, rest)?;
+    let (read, rest) = optional_value(alloc, depth + 1, rest)?;
+    let (step, rest) = for_step(alloc, depth + 1, rest)?;
+    let condition = read.form;
+    let head = ForHead {
+        initial,
+        condition,
+        step,
+    };
+    Ok((head, rest))
 }
 
 /// What stands behind the word `for`.
@@ -339,22 +483,29 @@ fn for_statement(
     depth: u32,
     start: Span,
     tokens: &[Token],
-) -> Result<(ReadStmt, &[Token]), Stuck<'_>> {
-    let (_, rest) = open_paren(tokens)?;
-    let (initial, rest) = for_initial(alloc, depth, rest)?;
-    let (condition, _, rest) = optional_value(alloc, depth, rest)?;
-    let (step, rest) = for_step(alloc, depth, rest)?;
-    let (body, rest) = statement(alloc, depth, rest)?;
-    let span = join(start, body.span);
-    let body = boxed(alloc, body.stmt)?;
-    let stmt = Stmt::For {
-        initial,
-        condition,
-        step,
+) -> Result<(Stmt, &[Token]), Stuck<'_>>
+    requires { depth < 200 }
+    ensures { Reads (λ x rest. SpellsStatement (token kinds.For start ∷ tokens.now) (views.statement x) rest × IsLow depth (statement_reach (views.statement x))) (StuckStatement depth (token kinds.For start ∷ tokens.now)) result }
+{
+    let (head, rest) = for_head(alloc, depth, start, tokens)?;
+    let (body, rest) = statement(alloc, depth + 1, rest)?;
+    let stmt = for_loop(alloc, start, head, body)?;
+    Ok((stmt, rest))
+}
+
+/// A `for` with its body.
+fn for_loop(alloc: Global, start: Span, head: ForHead, body: Stmt) -> Result<Stmt, NoMemory>
+    ensures { IfOk result (λ x. views.statement x ≡ views.For (views.for_initial head.initial) (option_map expression head.condition) (option_map views.assignment head.step) (views.statement body) (join start (views.statement_span (views.statement body)))) }
+{
+    let span = join(start, body.span());
+    let body = boxed(alloc, body)?;
+    Ok(Stmt::For {
+        initial: head.initial,
+        condition: head.condition,
+        step: head.step,
         body,
         span,
-    };
-    Ok((ReadStmt { stmt, span }, rest))
+    })
 }
 
 /// What stands behind the word `return`.
@@ -363,9 +514,12 @@ fn return_statement(
     depth: u32,
     start: Span,
     tokens: &[Token],
-) -> Result<(ReadStmt, &[Token]), Stuck<'_>> {
-    let (value, end, rest) = optional_value(alloc, depth, tokens)?;
-    let span = join(start, end);
-    let stmt = Stmt::Return { value, span };
-    Ok((ReadStmt { stmt, span }, rest))
+) -> Result<(Stmt, &[Token]), Stuck<'_>>
+    requires { depth < 200 }
+    ensures { Reads (λ x rest. SpellsStatement (token kinds.Return start ∷ tokens.now) (views.statement x) rest × IsLow depth (statement_reach (views.statement x))) (StuckStatement depth (token kinds.Return start ∷ tokens.now)) result }
+{
+    let (read, rest) = optional_value(alloc, depth + 1, tokens)?;
+    let value = read.form;
+    let span = join(start, read.span);
+    Ok((Stmt::Return { value, span }, rest))
 }

@@ -1,0 +1,58 @@
+-- Words that say one thing each, and tokens of which several may stand.
+use Rattle.std.proofs.Common.{◌≡◌, ℕ, nat_lt, Bool, true, false, List, [], ◌∷◌, refl}
+use Rattle.ckc_text.specs.declared.place.Span.{Span}
+use Rattle.ckc_lexer.specs.declared.token.Token.{Token}
+use Rattle.ckc_lexer.specs.declared.token.TokenKind.{TokenKind}
+use Rattle.ckc_lexer.specs.declared.token.TokenKind.TheVariants as kinds
+use Rattle.ckc_tree.specs.Heights.{Reach, ◌beside◌}
+use Rattle.ckc_parser.specs.Tokens.{token, next_is, comma}
+use Rattle.ckc_parser.specs.Failures.{IsLow}
+use Rattle.ckc_parser.specs.StuckStatements.{constant_token, minus_or_constant, step_word, assign_word, comma_or_brace, close_brace}
+use Rattle.ckc_parser.specs.StatementReadings.{minus, store_word, IsNumber, number, WordAt}
+
+pub word_at : {W : Type 0} {Says : TokenKind → W → Type 0} {w : W} {t : Token} {k : TokenKind} {ts rest : List Token} → ts ≡ t ∷ rest → t.kind ≡ k → Says k w → WordAt Says w t.span ts rest
+word_at {t} at is says = record { kind = t.kind; says = rw is says; at = at }
+
+-- ---- none of several tokens stands next
+
+neither_minus : (k : TokenKind) → minus k ≡ false → constant_token k ≡ false → minus_or_constant k ≡ false
+neither_minus kinds.Minus m c = m
+neither_minus k m c = c
+
+pub no_minus_or_constant : (ts : List Token) → next_is minus ts ≡ false → next_is constant_token ts ≡ false → next_is minus_or_constant ts ≡ false
+no_minus_or_constant [] m c = refl
+no_minus_or_constant (t ∷ ts) m c = neither_minus t.kind m c
+
+neither_store : (k : TokenKind) → store_word k ≡ false → step_word k ≡ false → assign_word k ≡ false
+neither_store kinds.Equal m c = m
+neither_store kinds.PlusEqual m c = m
+neither_store kinds.MinusEqual m c = m
+neither_store k m c = c
+
+pub no_assign_word : (ts : List Token) → next_is store_word ts ≡ false → next_is step_word ts ≡ false → next_is assign_word ts ≡ false
+no_assign_word [] m c = refl
+no_assign_word (t ∷ ts) m c = neither_store t.kind m c
+
+neither_comma : (k : TokenKind) → comma k ≡ false → close_brace k ≡ false → comma_or_brace k ≡ false
+neither_comma kinds.Comma m c = m
+neither_comma kinds.CloseBrace m c = c
+neither_comma k m c = refl
+
+pub no_comma_or_brace : (ts : List Token) → next_is comma ts ≡ false → next_is close_brace ts ≡ false → next_is comma_or_brace ts ≡ false
+no_comma_or_brace [] m c = refl
+no_comma_or_brace (t ∷ ts) m c = neither_comma t.kind m c
+
+pub number_at : {n : ℕ} {s : Span} {ts rest : List Token} → WordAt IsNumber n s ts rest → ts ≡ token (kinds.Number n) s ∷ rest
+number_at w = number_of w.says w.at
+  where
+    number_of : {n : ℕ} {k : TokenKind} {s : Span} {ts rest : List Token} → IsNumber k n → ts ≡ token k s ∷ rest → ts ≡ token (kinds.Number n) s ∷ rest
+    number_of number at = at
+
+-- ---- heights
+
+pub low_beside : (d : ℕ) (p q : Reach) → IsLow d p → IsLow d q → IsLow d (p beside q)
+low_beside d p q low high = by_test (nat_lt p.height q.height) refl
+  where
+    by_test : (b : Bool) → nat_lt p.height q.height ≡ b → IsLow d (p beside q)
+    by_test true less = rw less high
+    by_test false less = rw less low

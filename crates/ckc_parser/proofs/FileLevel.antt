@@ -1,0 +1,143 @@
+-- What stands at file level: from what was read before a part and what the part answered.
+use Rattle.std.proofs.Common.{◌≡◌, ◌<◌, ℕ, length, Bool, true, false, List, [], ◌∷◌, Option, Some, None, refl, sym, ap, ◌∙◌, arith}
+use Rattle.ckc_text.specs.declared.place.Span.{Span}
+use Rattle.ckc_lexer.specs.declared.token.Token.{Token}
+use Rattle.ckc_lexer.specs.declared.token.TokenKind.{TokenKind}
+use Rattle.ckc_lexer.specs.declared.token.TokenKind.TheVariants as kinds
+use Rattle.ckc_tree.specs.declared.identifier.Identifier.{Identifier}
+use Rattle.ckc_tree.specs.declared.stmt.Mark.{Mark}
+use Rattle.ckc_tree.specs.declared.item.Region.{Region}
+use Rattle.ckc_tree.specs.declared.item.FunctionKind.{FunctionKind}
+use Rattle.ckc_tree.specs.Types.{TypeName}
+use Rattle.ckc_tree.specs.Expressions.{Bounds}
+use Rattle.ckc_tree.specs.Items.{Member, ResultForm, Void, RegionItem, Item}
+use Rattle.ckc_tree.specs.Heights.{result_reach, member_reach}
+use Rattle.ckc_parser.specs.Tokens as words
+use Rattle.ckc_parser.specs.Tokens.{token, next_is, star, tainted_word, mark_word, kind_word, open_paren}
+use Rattle.ckc_parser.specs.TypeGrammar as types
+use Rattle.ckc_parser.specs.TypeGrammar.{SpellsStars}
+use Rattle.ckc_parser.specs.ItemGrammar as g
+use Rattle.ckc_parser.specs.ItemGrammar.{SpellsTainted, SpellsKind, SpellsOptionalMark, SpellsMember, SpellsResult, SpellsRegion, SpellsItem}
+use Rattle.ckc_parser.specs.Failures.{Failure, unexpected, IsLow}
+use Rattle.ckc_parser.specs.StuckTypes.{name_token}
+use Rattle.ckc_parser.specs.StuckExpressions.{close_paren, comma_or_paren}
+use Rattle.ckc_parser.specs.StuckStatements.{open_brace, semicolon}
+use Rattle.ckc_parser.specs.StuckItems as stuck
+use Rattle.ckc_parser.specs.StuckItems.{struct_word, body_word, is_name_before, is_structure, is_function, IsAlone, IsLowMember, StuckBody, StuckItem}
+use Rattle.ckc_parser.specs.StatementReadings.{WordAt}
+use Rattle.ckc_parser.specs.ItemReadings as r
+use Rattle.ckc_parser.specs.ItemReadings.{IsScope, IsKindWord, IsSide, IsLed, IsStructureHead, StuckNamed, StuckResult}
+use Rattle.ckc_parser.proofs.Ahead.{low_beside}
+use Rattle.ckc_parser.proofs.Paths.{shorter}
+use Rattle.ckc_parser.proofs.TypePaths.{type_name_path}
+use Rattle.ckc_parser.proofs.StatementPaths.{optional_bounds_path}
+
+-- ---- words before an item
+
+pub is_region : {region : Region} {s : Span} {ts rest : List Token} → WordAt IsScope region s ts rest → SpellsItem ts (RegionItem region s) rest
+is_region w = by_word w.says w.at
+  where
+    by_word : {k : TokenKind} {region : Region} {s : Span} {ts rest : List Token} → IsScope k region → ts ≡ token k s ∷ rest → SpellsItem ts (RegionItem region s) rest
+    by_word (r.scope d) at = rw at (g.region d)
+
+pub is_kind : {kind : FunctionKind} {s : Span} {ts rest : List Token} → WordAt IsKindWord kind s ts rest → SpellsKind ts kind rest
+is_kind w = by_word w.says w.at
+  where
+    by_word : {k : TokenKind} {kind : FunctionKind} {s : Span} {ts rest : List Token} → IsKindWord k kind → ts ≡ token k s ∷ rest → SpellsKind ts kind rest
+    by_word r.tainted_word at = rw at g.tainted
+    by_word r.callback_word at = rw at g.callback
+
+pub is_led : {ts mid rest : List Token} {kind : FunctionKind} {mark : Option Mark} → SpellsKind ts kind mid → SpellsOptionalMark mid mark rest → IsLed ts kind mark rest
+is_led k m = record { marked = _; spelled_kind = k; spelled_mark = m }
+
+no_tainted : (k : TokenKind) → kind_word k ≡ false → tainted_word k ≡ false
+no_tainted kinds.Tainted none = none
+no_tainted k none = refl
+
+no_tainted_word : (ts : List Token) → next_is kind_word ts ≡ false → next_is tainted_word ts ≡ false
+no_tainted_word [] none = refl
+no_tainted_word (t ∷ ts) none = no_tainted t.kind none
+
+of_side : {ts rest : List Token} {kind : FunctionKind} {tainted : Bool} → SpellsKind ts kind rest → IsSide kind tainted → SpellsTainted ts tainted rest
+of_side (g.trusted none) r.trusted = g.absent (no_tainted_word _ none)
+of_side g.tainted r.tainted = g.present
+of_side g.callback side = elim side [ ]
+
+pub is_tainted : {ts mid rest : List Token} {kind : FunctionKind} {tainted : Bool} → SpellsKind ts kind mid → SpellsOptionalMark mid None rest → IsSide kind tainted → SpellsTainted ts tainted rest
+is_tainted k (g.absent none) side = of_side k side
+
+-- ---- what is seen some tokens ahead
+
+pub no_struct : (ts : List Token) → next_is struct_word ts ≡ false → is_structure ts ≡ false
+no_struct [] none = refl
+no_struct (t ∷ ts) none = rw none refl
+
+pub no_name : (is : TokenKind → Bool) (ts : List Token) → next_is name_token ts ≡ false → is_name_before is ts ≡ false
+no_name is [] none = refl
+no_name is (t ∷ ts) none = rw none refl
+
+function_here : (ts : List Token) → next_is star ts ≡ false → is_function ts ≡ is_name_before open_paren ts
+function_here [] none = refl
+function_here (t ∷ ts) none = rw none refl
+
+function_behind : {n : ℕ} {ts rest : List Token} → SpellsStars ts n rest → is_function ts ≡ is_name_before open_paren rest
+function_behind (types.none none) = function_here _ none
+function_behind (types.more d) = function_behind d
+
+pub no_function : {ts : List Token} {f : Failure} → StuckNamed ts f → is_function ts ≡ false
+no_function (r.name d none) = function_behind d ∙ no_name open_paren _ none
+no_function (r.opens d none) = function_behind d ∙ none
+
+pub structure_at : {x : List ℕ} {w s b : Span} {ts us vs rest : List Token} → ts ≡ token kinds.Struct w ∷ us → us ≡ token (kinds.Name x) s ∷ vs → vs ≡ token kinds.OpenBrace b ∷ rest → IsStructureHead x s ts rest
+structure_at {w} {b} word name brace = record { word = w; brace = b; at = rw (word, name, brace) refl }
+
+-- ---- functions
+
+pub void_result : {s : Span} {ts rest : List Token} → ts ≡ token kinds.Void s ∷ rest → SpellsResult ts (Void s) rest
+void_result at = rw at g.void
+
+pub stuck_result : {ts rest : List Token} {kind : FunctionKind} {mark : Option Mark} {f : Failure} → IsLed ts kind mark rest → StuckResult rest f → StuckItem ts f
+stuck_result led (r.value none fails) = stuck.result led.spelled_kind led.spelled_mark none fails
+
+pub stuck_callee : {ts mid rest : List Token} {kind : FunctionKind} {mark : Option Mark} {result : ResultForm} {f : Failure} → IsLed ts kind mark mid → SpellsResult mid result rest → IsLow 0 (result_reach result) → IsAlone kind mark result → StuckNamed rest f → StuckItem ts f
+stuck_callee led d low alone (r.name stars none) = stuck.function_name led.spelled_kind led.spelled_mark d low alone stars none
+stuck_callee led d low alone (r.opens stars none) = stuck.function_open led.spelled_kind led.spelled_mark d low alone stars none
+
+neither_comma : (k : TokenKind) → words.comma k ≡ false → close_paren k ≡ false → comma_or_paren k ≡ false
+neither_comma kinds.Comma m c = m
+neither_comma kinds.CloseParen m c = c
+neither_comma k m c = refl
+
+pub no_comma_or_paren : (ts : List Token) → next_is words.comma ts ≡ false → next_is close_paren ts ≡ false → next_is comma_or_paren ts ≡ false
+no_comma_or_paren [] m c = refl
+no_comma_or_paren (t ∷ ts) m c = neither_comma t.kind m c
+
+-- ---- bodies
+
+neither_body : (k : TokenKind) → semicolon k ≡ false → mark_word k ≡ false → open_brace k ≡ false → body_word k ≡ false
+neither_body kinds.Semicolon s m o = s
+neither_body kinds.OpenBrace s m o = o
+neither_body kinds.Checked s m o = m
+neither_body kinds.Unchecked s m o = m
+neither_body k s m o = refl
+
+no_body_word : (ts : List Token) → next_is semicolon ts ≡ false → next_is mark_word ts ≡ false → next_is open_brace ts ≡ false → next_is body_word ts ≡ false
+no_body_word [] s m o = refl
+no_body_word (t ∷ ts) s m o = neither_body t.kind s m o
+
+pub stuck_brace : {ts rest : List Token} {mark : Option Mark} → SpellsOptionalMark ts mark rest → next_is semicolon ts ≡ false → next_is open_brace rest ≡ false → StuckBody ts (unexpected rest)
+stuck_brace (g.absent none) ends opens = stuck.no_body (no_body_word _ ends none opens)
+stuck_brace (g.present w) ends opens = stuck.mark w opens
+
+-- ---- members and parameters
+
+pub low_member : (m : Member) → IsLowMember m.type m.bounds → IsLow 0 (member_reach m)
+low_member m low = low_beside _ _ _ low.0 low.1
+
+-- a parameter reads as a member does
+pub low_parameter : (p m : Member) → p ≡ m → IsLowMember m.type m.bounds → IsLow 0 (member_reach p)
+low_parameter p m same low = rw same (low_member m low)
+
+
+pub member_shorter : {ts rest : List Token} {type : TypeName} {name : Identifier} {written : Option Bounds} {o : Span} → SpellsMember ts type name written o rest → length rest < length ts
+member_shorter (g.member d b) = omega (arith, shorter (type_name_path d), shorter (optional_bounds_path b))

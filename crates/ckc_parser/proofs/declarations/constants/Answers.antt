@@ -1,0 +1,31 @@
+use Rattle.std.proofs.Common.{length, ap, arith}
+use Rattle.ckc_parser.proofs.Ahead.{no_comma_or_brace}
+use Rattle.ckc_parser.proofs.Lists.{goes_on, ends}
+use Rattle.ckc_parser.proofs.Paths.{shorter}
+use Rattle.ckc_parser.proofs.StatementPaths.{signed_path}
+use Rattle.ckc_parser.specs.StatementGrammar as g
+use Rattle.ckc_parser.specs.StuckStatements as stuck
+use Rattle.ckc_parser.proofs.Readings.{err}
+use Rattle.ckc_parser.proofs.declarations.constants.Goals as goal
+
+pub returns-in_err-item : goal.returns-in_err-item
+returns-in_err-item c = rw (err _ _ c.from_residual.ensures.1) (c.constants.invariant.fails _ (stuck.first c.in_err-item.ensures))
+
+pub returns-in_err-push : goal.returns-in_err-push
+returns-in_err-push c = rw (err _ _ c.from_residual-in_err-push.ensures.1) stuck.no_room
+
+pub returns-in-Ok : goal.returns-in-Ok
+returns-in-Ok c = ends c.in_ok-item.item c.in_ok-push.ensures c.constants.invariant (g.one (rw c.in-Ok.ensures at c.in_ok-item.ensures))
+
+pub returns-in_err-behind : goal.returns-in_err-behind
+returns-in_err-behind c =
+    rw (err _ _ c.from_residual-in_err-behind.ensures.1, c.in_err-behind.ensures.0)
+    (c.constants.invariant.fails _ (stuck.end c.in_ok-item.ensures (no_comma_or_brace _ c.in_err-behind.ensures.1 c.in_default.ensures.1)))
+
+pub constants-smaller : goal.constants-smaller
+constants-smaller c = omega (arith, shorter (signed_path c.in_ok-item.ensures), ap length c.in_ok-behind.ensures)
+
+pub constants-preserved : goal.constants-preserved
+constants-preserved c =
+    let item = rw c.in_ok-behind.ensures at c.in_ok-item.ensures in
+    goes_on c.in_ok-item.item c.in_ok-push.ensures c.constants.invariant (λ more w end d. g.more item d) (λ f d. stuck.others item d)

@@ -1,0 +1,11 @@
+use Rattle.std.proofs.Common.{length}
+use Rattle.ckc_parser.specs.StatementGrammar.{SpellsConstants}
+use Rattle.ckc_parser.specs.StuckStatements.{StuckConstants}
+use Rattle.ckc_parser.proofs.Lists.{GoesOn}
+use Rattle.ckc_parser.proofs.declarations.constants.Given as goal
+
+abbrev pub invariant-constants : goal.invariant-constants
+invariant-constants l = GoesOn SpellsConstants StuckConstants l.tokens l.form.items l.rest
+
+abbrev pub decreases-constants : goal.decreases-constants
+decreases-constants l = length l.rest

@@ -1,0 +1,11 @@
+use Rattle.ckc_parser.proofs.FileLevel.{is_kind}
+use Rattle.ckc_parser.specs.ItemGrammar as g
+use Rattle.ckc_parser.specs.StuckItems as stuck
+use Rattle.ckc_parser.proofs.Readings.{err}
+use Rattle.ckc_parser.proofs.items.function_kind.Goals as goal
+
+pub returns-in-Ok : goal.returns-in-Ok
+returns-in-Ok c = is_kind c.in-Ok.ensures
+
+pub returns-in-Err : goal.returns-in-Err
+returns-in-Err c = g.trusted c.in-Err.ensures.1

@@ -1,0 +1,10 @@
+use Rattle.std.proofs.Common.{length}
+use Rattle.ckc_parser.specs.StuckItems.{StuckListed}
+use Rattle.ckc_parser.proofs.Lists.{GoesOn, AreParameters}
+use Rattle.ckc_parser.proofs.items.listed.Given as goal
+
+abbrev pub invariant-listed : goal.invariant-listed
+invariant-listed l = GoesOn AreParameters StuckListed l.tokens l.form.items l.rest
+
+abbrev pub decreases-listed : goal.decreases-listed
+decreases-listed l = length l.rest

@@ -1,0 +1,10 @@
+use Rattle.std.proofs.Common.{length}
+use Rattle.ckc_parser.specs.StuckItems.{StuckMembers}
+use Rattle.ckc_parser.proofs.Lists.{GoesOn, AreMembers}
+use Rattle.ckc_parser.proofs.items.members.Given as goal
+
+abbrev pub invariant-members : goal.invariant-members
+invariant-members l = GoesOn AreMembers StuckMembers l.tokens l.members.items l.rest
+
+abbrev pub decreases-members : goal.decreases-members
+decreases-members l = length l.rest

@@ -1,0 +1,15 @@
+use Rattle.std.proofs.Common.{arith}
+use Rattle.ckc_parser.specs.ItemReadings as readings
+use Rattle.ckc_parser.specs.ItemGrammar as g
+use Rattle.ckc_parser.specs.StuckItems as stuck
+use Rattle.ckc_parser.proofs.Readings.{err}
+use Rattle.ckc_parser.proofs.items.returned.Goals as goal
+
+pub returns-in-Ok : goal.returns-in-Ok
+returns-in-Ok c = rw c.in-Ok.ensures (g.void, omega arith)
+
+pub returns-in_err-base : goal.returns-in_err-base
+returns-in_err-base c = rw (err _ _ c.from_residual.ensures.1) (readings.value c.in_default.ensures.1 c.in_err-base.ensures.reads)
+
+pub returns : goal.returns
+returns c = (g.value c.in_ok-base.ensures.reads.0, c.in_ok-base.ensures.reads.1)

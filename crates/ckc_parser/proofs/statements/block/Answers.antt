@@ -1,0 +1,8 @@
+use Rattle.ckc_parser.proofs.Blocks.{block_is}
+use Rattle.ckc_parser.specs.StatementGrammar as g
+use Rattle.ckc_parser.specs.StuckStatements as stuck
+use Rattle.ckc_parser.proofs.Readings.{err}
+use Rattle.ckc_parser.proofs.statements.block.Goals as goal
+
+pub returns : goal.returns
+returns c = rw c.join-span.ensures (block_is _ _ _)

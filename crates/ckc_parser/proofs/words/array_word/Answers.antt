@@ -1,0 +1,9 @@
+use Rattle.ckc_parser.specs.Tokens as words
+use Rattle.ckc_parser.proofs.Ahead.{word_at}
+use Rattle.ckc_parser.proofs.words.array_word.Goals as goal
+
+pub returns-in-Checked : goal.returns-in-Checked
+returns-in-Checked c = word_at c.in_ok-token.ensures c.in-Checked.is words.checked
+
+pub returns-in-NtChecked : goal.returns-in-NtChecked
+returns-in-NtChecked c = word_at c.in_ok-token.ensures c.in-NtChecked.is words.nt_checked

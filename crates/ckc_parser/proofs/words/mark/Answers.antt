@@ -1,0 +1,9 @@
+use Rattle.ckc_parser.specs.Tokens as words
+use Rattle.ckc_parser.proofs.Ahead.{word_at}
+use Rattle.ckc_parser.proofs.words.mark.Goals as goal
+
+pub returns-in-Checked : goal.returns-in-Checked
+returns-in-Checked c = word_at c.in_ok-token.ensures c.in-Checked.is words.checked
+
+pub returns-in-Unchecked : goal.returns-in-Unchecked
+returns-in-Unchecked c = word_at c.in_ok-token.ensures c.in-Unchecked.is words.unchecked

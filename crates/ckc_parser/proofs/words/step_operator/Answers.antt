@@ -1,0 +1,9 @@
+use Rattle.ckc_parser.specs.Tokens as words
+use Rattle.ckc_parser.proofs.Ahead.{word_at}
+use Rattle.ckc_parser.proofs.words.step_operator.Goals as goal
+
+pub returns-in-PlusPlus : goal.returns-in-PlusPlus
+returns-in-PlusPlus c = word_at c.in_ok-token.ensures c.in-PlusPlus.is words.increment
+
+pub returns-in-MinusMinus : goal.returns-in-MinusMinus
+returns-in-MinusMinus c = word_at c.in_ok-token.ensures c.in-MinusMinus.is words.decrement

@@ -1,0 +1,87 @@
+-- Inside: what the functions that read declarations, statements and items answer, in the code's types.
+use Rattle.std.specs.Prelude.{◌≡◌, ℕ, suc, Bool, true, false, List, ◌∷◌, Option, Some, None, Result, Ok, Err}
+use Rattle.std.specs.Borrow.{Bor}
+use Rattle.ckc_text.specs.declared.place.Span.{Span}
+use Rattle.ckc_lexer.specs.declared.token.Token.{Token}
+use Rattle.ckc_lexer.specs.declared.token.TokenKind.{TokenKind}
+use Rattle.ckc_lexer.specs.declared.token.TokenKind.TheVariants as kinds
+use Rattle.ckc_tree.specs.declared.stmt.StoreOperator.{StoreOperator}
+use Rattle.ckc_tree.specs.declared.stmt.StepOperator.{StepOperator}
+use Rattle.ckc_tree.specs.declared.stmt.StepSide.TheVariants.{After}
+use Rattle.ckc_tree.specs.Expressions.{Expression}
+use Rattle.ckc_tree.specs.Statements.{Assignment, Store, Step, ForInitial}
+use Rattle.ckc_tree.specs.Heights.{for_initial_reach, optional_expression_reach, optional_assignment_reach}
+use Rattle.ckc_parser.specs.declared.stuck.Stuck.{Stuck}
+use Rattle.ckc_parser.specs.Tokens.{token, join, IsStoreOperator, IsStepOperator, next_is}
+use Rattle.ckc_parser.specs.ExpressionGrammar.{SpellsExpression}
+use Rattle.ckc_parser.specs.StatementGrammar.{SpellsForInitial, SpellsForCondition, SpellsForStep}
+use Rattle.ckc_parser.specs.Failures.{Failure, failure, unexpected, no_memory, IsLow}
+use Rattle.ckc_parser.specs.StuckExpressions.{StuckExpression}
+use Rattle.ckc_parser.specs.StuckStatements.{assign_word, is_call}
+
+-- ---- words and marks that stand alone
+
+abbrev pub minus : TokenKind → Bool
+minus kinds.Minus = true
+minus _ = false
+
+abbrev pub store_word : TokenKind → Bool
+store_word kinds.Equal = true
+store_word kinds.PlusEqual = true
+store_word kinds.MinusEqual = true
+store_word _ = false
+
+pub data IsNumber : TokenKind → ℕ → Type 0 where
+  number : {n : ℕ} → IsNumber (kinds.Number n) n
+
+-- a word that says one thing, with its span, and the tokens behind it
+pub record WordAt {W : Type 0} (Says : TokenKind → W → Type 0) (word : W) (span : Span) (ts rest : List Token) : Type 0 where
+  pub kind : TokenKind
+  pub says : Says kind word
+  pub at : ts ≡ token kind span ∷ rest
+
+-- what a function that reads such a word answers: what it says and its span before these tokens, or that another token stands there
+abbrev pub ReadsWord : {W : Type 0} → (TokenKind → W → Type 0) → (TokenKind → Bool) → List Token → Result (W × Span × Bor (List Token)) Stuck → Type 0
+ReadsWord Says is ts (Ok found) = WordAt Says found.0 found.1 ts found.2.now
+ReadsWord Says is ts (Err e) = (failure e ≡ unexpected ts) × (next_is is ts ≡ false)
+
+-- ---- what stands behind the target of an assignment
+
+pub data SpellsAssigned : Expression → Span → List Token → Assignment → List Token → Type 0 where
+  store : {k : TokenKind} {s o w : Span} {us rest : List Token} {e target : Expression} {store_operator : StoreOperator} → IsStoreOperator k store_operator → SpellsExpression us e w rest → SpellsAssigned target o (token k s ∷ us) (Store store_operator target e (join o w)) rest
+  after : {k : TokenKind} {s o : Span} {rest : List Token} {target : Expression} {step_operator : StepOperator} → IsStepOperator k step_operator → SpellsAssigned target o (token k s ∷ rest) (Step step_operator After target (join o s)) rest
+
+pub data StuckAssigned : ℕ → List Token → Failure → Type 0 where
+  no_room : {d : ℕ} {ts : List Token} → StuckAssigned d ts no_memory
+  operator : {d : ℕ} {rest : List Token} → next_is assign_word rest ≡ false → StuckAssigned d rest (unexpected rest)
+  value : {d : ℕ} {k : TokenKind} {s : Span} {us : List Token} {store_operator : StoreOperator} {f : Failure} → IsStoreOperator k store_operator → StuckExpression (suc d) us f → StuckAssigned d (token k s ∷ us) f
+
+-- ---- parts of statements
+
+-- the condition of an if or a while, with its parentheses
+pub data SpellsCondition : List Token → Expression → List Token → Type 0 where
+  condition : {p q o : Span} {ts rest : List Token} {e : Expression} → SpellsExpression ts e o (token kinds.CloseParen q ∷ rest) → SpellsCondition (token kinds.OpenParen p ∷ ts) e rest
+
+-- an expression or none, and the semicolon with its span
+pub data SpellsEnd : List Token → Option Expression → Span → List Token → Type 0 where
+  absent : {s : Span} {rest : List Token} → SpellsEnd (token kinds.Semicolon s ∷ rest) None s rest
+  present : {s o : Span} {ts rest : List Token} {e : Expression} → SpellsExpression ts e o (token kinds.Semicolon s ∷ rest) → SpellsEnd ts (Some e) s rest
+
+-- a call, and the semicolon behind it
+pub record IsCallEnd (target : Expression) (end : Span) (ts rest : List Token) : Type 0 where
+  pub call : is_call target ≡ true
+  pub at : ts ≡ token kinds.Semicolon end ∷ rest
+
+-- what stands in the parentheses of a for, with so many nodes around the for
+pub record IsForHead (depth : ℕ) (ts : List Token) (initial : ForInitial) (condition : Option Expression) (step : Option Assignment) (rest : List Token) : Type 0 where
+  pub opening : Span
+  pub first : List Token
+  pub second : List Token
+  pub third : List Token
+  pub opened : ts ≡ token kinds.OpenParen opening ∷ first
+  pub begun : SpellsForInitial first initial second
+  pub begun_low : IsLow (suc depth) (for_initial_reach initial)
+  pub tested : SpellsForCondition second condition third
+  pub tested_low : IsLow (suc depth) (optional_expression_reach condition)
+  pub stepped : SpellsForStep third step rest
+  pub stepped_low : IsLow (suc depth) (optional_assignment_reach step)
