@@ -87,7 +87,7 @@ primary_class (grammar.bounded_cast w a d b) = cast_class w
 primary_class (grammar.malloc w a d) = malloc_class w
 primary_class (grammar.calloc w a d b) = calloc_class w
 
-class_low : {ts r : List Token} {e : Expression} {o : Span} (d : SpellsPrimary ts e o r) → (1 ≤ class_of d) × (class_of d ≤ 9)
+pub class_low : {ts r : List Token} {e : Expression} {o : Span} (d : SpellsPrimary ts e o r) → (1 ≤ class_of d) × (class_of d ≤ 9)
 class_low grammar.number = (omega arith, omega arith)
 class_low grammar.character = (omega arith, omega arith)
 class_low grammar.text = (omega arith, omega arith)

@@ -77,7 +77,7 @@ form {A} same = ap (λ (x : Read A). x.0) same
 
 -- ---- operators
 
-found_same : (ts : List Token) {w w' : BinaryOperator} {us us' : List Token} → operator_at ts ≡ Some (w, us) → operator_at ts ≡ Some (w', us') → ◌≡◌ {A = BinaryOperator × List Token} (w, us) (w', us')
+pub found_same : (ts : List Token) {w w' : BinaryOperator} {us us' : List Token} → operator_at ts ≡ Some (w, us) → operator_at ts ≡ Some (w', us') → ◌≡◌ {A = BinaryOperator × List Token} (w, us) (w', us')
 found_same ts {w'} {us'} e e' = same_Some _ (w', us') (sym e ∙ e')
 
 no_level : {n : ℕ} (ts : List Token) {us : List Token} {w : BinaryOperator} → has_operator (suc n) ts ≡ false → operator_at ts ≡ Some (w, us) → level w ≡ suc n → ⊥
@@ -165,7 +165,7 @@ mutual
   binary_same (g.operand d) (g.operand d') = unary_same d d'
   binary_same (g.operators d u) (g.operators d' u') = tail_same u (move_tail (binary_same d d') u')
 
-  tail_same : {n : ℕ} {ts r r' : List Token} {left whole whole' : Expression} {o w w' : Span} → SpellsTail n left o ts whole w r → SpellsTail n left o ts whole' w' r' → SameRead whole w r whole' w' r'
+  pub tail_same : {n : ℕ} {ts r r' : List Token} {left whole whole' : Expression} {o w w' : Span} → SpellsTail n left o ts whole w r → SpellsTail n left o ts whole' w' r' → SameRead whole w r whole' w' r'
   tail_same (g.level_done f) (g.level_done f') = refl
   tail_same (g.level_done {rest} f) (g.level_more e l d u) = absurd (no_level rest f e l)
   tail_same (g.level_more {ts} e l d u) (g.level_done f) = absurd (no_level ts f e l)
@@ -179,7 +179,7 @@ mutual
   unary_same (g.postfix p s) (g.operator w d) = absurd (not_primary w p)
   unary_same (g.postfix p s) (g.postfix p' s') = selectors_same s (move_selectors (primary_same p p') s')
 
-  selectors_same : {ts r r' : List Token} {e whole whole' : Expression} {o w w' : Span} → SpellsSelectors e o ts whole w r → SpellsSelectors e o ts whole' w' r' → SameRead whole w r whole' w' r'
+  pub selectors_same : {ts r r' : List Token} {e whole whole' : Expression} {o w w' : Span} → SpellsSelectors e o ts whole w r → SpellsSelectors e o ts whole' w' r' → SameRead whole w r whole' w' r'
   selectors_same (g.unselected f) (g.unselected f') = refl
   selectors_same (g.unselected f) (g.index d s) = absurd cc
   selectors_same (g.unselected f) (g.dot s) = absurd cc
@@ -223,7 +223,7 @@ mutual
   pub call_same : {ts r r' : List Token} {e e' : Expression} {o o' : Span} → SpellsCall ts e o r → SpellsCall ts e' o' r' → SameRead e o r e' o' r'
   call_same (g.call {x} {s} a) (g.call a') = ap (λ (y : Read Expressions). (trees.Call (identifier x s) y.0 (join s y.1), join s y.1, y.2)) (arguments_same a a')
 
-  arguments_same : {ts r r' : List Token} {e e' : Expressions} {o o' : Span} → SpellsArguments ts e o r → SpellsArguments ts e' o' r' → SameRead e o r e' o' r'
+  pub arguments_same : {ts r r' : List Token} {e e' : Expressions} {o o' : Span} → SpellsArguments ts e o r → SpellsArguments ts e' o' r' → SameRead e o r e' o' r'
   arguments_same g.no_argument g.no_argument = refl
   arguments_same g.no_argument (g.argument d m) = absurd (not_expression d)
   arguments_same (g.argument d m) g.no_argument = absurd (not_expression d)
@@ -231,7 +231,7 @@ mutual
       let first_is = binary_same d d' in
       rw (form first_is) (ap (λ (y : Read Expressions). (trees.Then e y.0, y.1, y.2)) (more_same m (move_more (behind first_is) m')))
 
-  more_same : {ts r r' : List Token} {e e' : Expressions} {o o' : Span} → SpellsMoreArguments ts e o r → SpellsMoreArguments ts e' o' r' → SameRead e o r e' o' r'
+  pub more_same : {ts r r' : List Token} {e e' : Expressions} {o o' : Span} → SpellsMoreArguments ts e o r → SpellsMoreArguments ts e' o' r' → SameRead e o r e' o' r'
   more_same g.no_other g.no_other = refl
   more_same (g.other d m) (g.other {e} d' m') =
       let first_is = binary_same d d' in

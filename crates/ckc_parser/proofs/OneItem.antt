@@ -29,13 +29,13 @@ use Rattle.ckc_parser.proofs.OneExpression.{Read, SameRead, first_kind, behind, 
 use Rattle.ckc_parser.proofs.Roles.{role_at, type_role, mark_role}
 use Rattle.ckc_parser.proofs.OneStatement.{first_name, stands, not_absent, mark_same, optional_bounds_same, declarators_from, statements_same}
 
-tainted_same : {ts r r' : List Token} {b b' : Bool} → SpellsTainted ts b r → SpellsTainted ts b' r' → Same b r b' r'
+pub tainted_same : {ts r r' : List Token} {b b' : Bool} → SpellsTainted ts b r → SpellsTainted ts b' r' → Same b r b' r'
 tainted_same (g.absent f) (g.absent f') = refl
 tainted_same (g.absent f) g.present = absurd cc
 tainted_same g.present (g.absent f) = absurd cc
 tainted_same g.present g.present = refl
 
-kind_same : {ts r r' : List Token} {k k' : FunctionKind} → SpellsKind ts k r → SpellsKind ts k' r' → Same k r k' r'
+pub kind_same : {ts r r' : List Token} {k k' : FunctionKind} → SpellsKind ts k r → SpellsKind ts k' r' → Same k r k' r'
 kind_same (g.trusted f) (g.trusted f') = refl
 kind_same (g.trusted f) g.tainted = absurd cc
 kind_same (g.trusted f) g.callback = absurd cc
@@ -148,27 +148,27 @@ body_same (g.present {ts} m d) (g.present {t = t'} {rest = r'} {statements = sta
 -- ---- items of two kinds start apart
 
 -- a star or a name
-abbrev names : TokenKind → Bool
+abbrev pub names : TokenKind → Bool
 names kinds.Star = true
 names (kinds.Name x) = true
 names _ = false
 
-abbrev names_at : List Token → Bool
+abbrev pub names_at : List Token → Bool
 names_at [] = false
 names_at (t ∷ ts) = names t.kind
 
-stars_name : {ts r : List Token} {n : ℕ} {x : List ℕ} {s : Span} → SpellsStars ts n (token (kinds.Name x) s ∷ r) → names_at ts ≡ true
+pub stars_name : {ts r : List Token} {n : ℕ} {x : List ℕ} {s : Span} → SpellsStars ts n (token (kinds.Name x) s ∷ r) → names_at ts ≡ true
 stars_name (types.none f) = refl
 stars_name (types.more d) = refl
 
-declarator_name : {ts r : List Token} {d : Declarator} → SpellsDeclarator ts d r → names_at ts ≡ true
+pub declarator_name : {ts r : List Token} {d : Declarator} → SpellsDeclarator ts d r → names_at ts ≡ true
 declarator_name (stmts.declarator st a b i) = stars_name st
 
-declarators_name : {ts r : List Token} {ds : List Declarator} {w : Span} → SpellsDeclarators ts ds w r → names_at ts ≡ true
+pub declarators_name : {ts r : List Token} {ds : List Declarator} {w : Span} → SpellsDeclarators ts ds w r → names_at ts ≡ true
 declarators_name (stmts.one d f) = declarator_name d
 declarators_name (stmts.more d m) = declarator_name d
 
-struct_rest : {ts r us : List Token} {b : TypeTree} {s t : Span} {x : List ℕ} → ts ≡ token kinds.Struct s ∷ token (kinds.Name x) t ∷ r → SpellsType ts b us → us ≡ r
+pub struct_rest : {ts r us : List Token} {b : TypeTree} {s t : Span} {x : List ℕ} → ts ≡ token kinds.Struct s ∷ token (kinds.Name x) t ∷ r → SpellsType ts b us → us ≡ r
 struct_rest same types.int = let h : kinds.Int ≡ kinds.Struct = ap first_kind same in absurd cc
 struct_rest same types.char = let h : kinds.Char ≡ kinds.Struct = ap first_kind same in absurd cc
 struct_rest same types.struct = ap (λ (x : List Token). rest_of (rest_of x)) same
@@ -186,7 +186,7 @@ brace_names : {us ts : List Token} {p : Span} → us ≡ token kinds.OpenBrace p
 brace_names same h = let e : false ≡ true = sym (ap names_at same) ∙ h in absurd cc
 
 -- behind the words before an item that starts with a type, none of them is left
-plain_kind : {tokens ts us : List Token} {b : Bool} {k : FunctionKind} → SpellsTainted tokens b ts → SpellsKind tokens k us → role_at ts ≡ 1 → ts ≡ us
+pub plain_kind : {tokens ts us : List Token} {b : Bool} {k : FunctionKind} → SpellsTainted tokens b ts → SpellsKind tokens k us → role_at ts ≡ 1 → ts ≡ us
 plain_kind (g.absent f) (g.trusted f') h = refl
 plain_kind (g.absent f) g.tainted h = absurd cc
 plain_kind (g.absent f) g.callback h = absurd (omega (arith, h))
@@ -197,7 +197,7 @@ plain_mark : {us vs : List Token} {m : Option Mark} → SpellsOptionalMark us m 
 plain_mark (g.absent f) h = refl
 plain_mark (g.present w) h = absurd (omega (arith, h, mark_role w))
 
-plain : {tokens ts us vs : List Token} {b : Bool} {k : FunctionKind} {m : Option Mark} → SpellsTainted tokens b ts → SpellsKind tokens k us → SpellsOptionalMark us m vs → role_at ts ≡ 1 → ts ≡ vs
+pub plain : {tokens ts us vs : List Token} {b : Bool} {k : FunctionKind} {m : Option Mark} → SpellsTainted tokens b ts → SpellsKind tokens k us → SpellsOptionalMark us m vs → role_at ts ≡ 1 → ts ≡ vs
 plain t k m h =
     let same = plain_kind t k h in
     same ∙ plain_mark m (subst (λ (x : List Token). role_at x ≡ 1) same h)
@@ -232,14 +232,14 @@ structure_global : {tokens ts us vs r : List Token} {b b' : Bool} {x : List ℕ}
     → SpellsTainted tokens b (token kinds.Struct s ∷ token (kinds.Name x) t ∷ token kinds.OpenBrace p ∷ ts) → SpellsTainted tokens b' us → SpellsType us base vs → SpellsDeclarators vs ds w r → ⊥
 structure_global t t' d e = brace_names (struct_rest (sym (after (tainted_same t t'))) d) (declarators_name e)
 
-structure_function : {tokens ts us vs ws zs : List Token} {b : Bool} {k : FunctionKind} {m : Option Mark} {x y : List ℕ} {s t p q : Span} {res : ResultForm} {n : ℕ}
+pub structure_function : {tokens ts us vs ws zs : List Token} {b : Bool} {k : FunctionKind} {m : Option Mark} {x y : List ℕ} {s t p q : Span} {res : ResultForm} {n : ℕ}
     → SpellsTainted tokens b (token kinds.Struct s ∷ token (kinds.Name x) t ∷ token kinds.OpenBrace p ∷ ts) → SpellsKind tokens k us → SpellsOptionalMark us m vs → SpellsResult vs res ws → SpellsStars ws n (token (kinds.Name y) q ∷ zs) → ⊥
 structure_function t k m d e =
     let same = plain t k m refl in
     let value = value_type d (subst (λ (x : List Token). role_at x ≡ 1) same refl) in
     brace_names (struct_rest (sym same) value.1) (stars_name e)
 
-global_function : {tokens ts us us' vs ws zs r : List Token} {b : Bool} {k : FunctionKind} {m : Option Mark} {y : List ℕ} {q q' o p : Span} {res : ResultForm} {n : ℕ} {base : TypeTree} {ds : List Declarator}
+pub global_function : {tokens ts us us' vs ws zs r : List Token} {b : Bool} {k : FunctionKind} {m : Option Mark} {y : List ℕ} {q q' o p : Span} {res : ResultForm} {n : ℕ} {base : TypeTree} {ds : List Declarator}
     → SpellsTainted tokens b ts → SpellsType ts base us' → SpellsDeclarators us' ds o (token kinds.Semicolon q' ∷ r) → SpellsKind tokens k us → SpellsOptionalMark us m vs → SpellsResult vs res ws → SpellsStars ws n (token (kinds.Name y) q ∷ token kinds.OpenParen p ∷ zs) → ⊥
 global_function {us'} {ws} {zs} {y} {q} {p} {n} t d e k m res st =
     let same = plain t k m (type_role d) in
@@ -247,10 +247,10 @@ global_function {us'} {ws} {zs} {y} {q} {p} {n} t d e k m res st =
     let base_is = type_same d (subst (λ (x : List Token). SpellsType x value.0 ws) (sym same) value.1) in
     not_call (subst (λ (x : List Token). SpellsStars x n (token (kinds.Name y) q ∷ token kinds.OpenParen p ∷ zs)) (sym (after base_is)) st) e
 
-scope_global : {ts us r : List Token} {b : Bool} {sc : CheckedScope} {s : Span} {base : TypeTree} → SpellsTainted (token (kinds.Scope sc) s ∷ r) b ts → SpellsType ts base us → ⊥
+pub scope_global : {ts us r : List Token} {b : Bool} {sc : CheckedScope} {s : Span} {base : TypeTree} → SpellsTainted (token (kinds.Scope sc) s ∷ r) b ts → SpellsType ts base us → ⊥
 scope_global (g.absent f) d = absurd (omega (arith, type_role d))
 
-scope_function : {ts us vs r : List Token} {k : FunctionKind} {m : Option Mark} {sc : CheckedScope} {s : Span} {t : ResultForm} → SpellsKind (token (kinds.Scope sc) s ∷ r) k ts → SpellsOptionalMark ts m us → SpellsResult us t vs → ⊥
+pub scope_function : {ts us vs r : List Token} {k : FunctionKind} {m : Option Mark} {sc : CheckedScope} {s : Span} {t : ResultForm} → SpellsKind (token (kinds.Scope sc) s ∷ r) k ts → SpellsOptionalMark ts m us → SpellsResult us t vs → ⊥
 scope_function (g.trusted f) (g.absent f') (g.value d) = absurd (omega (arith, type_role d))
 scope_function (g.trusted f) (g.present w) d = elim w [ ]
 
@@ -260,7 +260,7 @@ region_same g.off g.off = refl
 
 -- ---- two readings of a source are one
 
-item_same : {ts r r' : List Token} {i i' : Item} → SpellsItem ts i r → SpellsItem ts i' r' → Same i r i' r'
+pub item_same : {ts r r' : List Token} {i i' : Item} → SpellsItem ts i r → SpellsItem ts i' r' → Same i r i' r'
 item_same (g.region w) (g.region w') = rw (region_same w w') refl
 item_same (g.region w) (g.structure t m) = elim t [ ]
 item_same (g.region w) (g.global t d e) = absurd (scope_global t d)
@@ -298,7 +298,7 @@ no_item (g.structure t m) = elim t [ ]
 no_item (g.global (g.absent f) d e) = elim d [ ]
 no_item (g.function (g.trusted f) (g.absent f') (g.value d) e p b y) = elim d [ ]
 
-items_same : {ts : List Token} {is is' : List Item} → SpellsItems ts is → SpellsItems ts is' → is ≡ is'
+pub items_same : {ts : List Token} {is is' : List Item} → SpellsItems ts is → SpellsItems ts is' → is ≡ is'
 items_same g.none g.none = refl
 items_same g.none (g.more d m) = absurd (no_item d)
 items_same (g.more d m) g.none = absurd (no_item d)

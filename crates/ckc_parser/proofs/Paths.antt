@@ -21,7 +21,7 @@ trans a b = record { no_higher = omega (arith, a.no_higher, b.no_higher) }
 pub least : {r : Reach} → Low nowhere r
 least = record { no_higher = omega arith }
 
-around_height : (start : ℕ) (r : Reach) → (around start r).height ≡ suc r.height
+pub around_height : (start : ℕ) (r : Reach) → (around start r).height ≡ suc r.height
 around_height start r = by_height r.height refl
   where
     by_height : (n : ℕ) → r.height ≡ n → (around start r).height ≡ suc r.height

@@ -19,7 +19,7 @@ use Rattle.ckc_parser.specs.StatementBeginnings.{BeginsAssignments, BeginsStatem
 use Rattle.ckc_parser.specs.ItemBeginnings as ib
 use Rattle.ckc_parser.specs.ItemBeginnings.{BeginsBody, BeginsItem, BeginsItems}
 
-selectors_begin : {x whole : Expression} {o w : Span} {ts r : List Token} → SpellsSelectors x o ts whole w r → BeginsSelectors x o ts r (expression_reach whole)
+pub selectors_begin : {x whole : Expression} {o w : Span} {ts r : List Token} → SpellsSelectors x o ts whole w r → BeginsSelectors x o ts r (expression_reach whole)
 selectors_begin (e.unselected f) = eb.unselected
 selectors_begin (e.index d s) = eb.indexed d (selectors_begin s)
 selectors_begin (e.dot s) = eb.dotted (selectors_begin s)
@@ -70,13 +70,13 @@ body_begins : {ts r : List Token} {b : Option Body} {t : Span} → SpellsBody ts
 body_begins i.absent = ib.absent
 body_begins (i.present m d) = ib.statements m (statements_begin d)
 
-item_begins : {ts r : List Token} {x : Item} → SpellsItem ts x r → BeginsItem ts r (item_reach x)
+pub item_begins : {ts r : List Token} {x : Item} → SpellsItem ts x r → BeginsItem ts r (item_reach x)
 item_begins (i.region w) = ib.region
 item_begins (i.structure t m) = ib.structure t m
 item_begins (i.global t d l) = ib.global t d l
 item_begins (i.function k m d st p b y) = ib.function_body k m d st p b (body_begins y)
 
-items_begin : {ts : List Token} {list : List Item} → SpellsItems ts list → BeginsItems ts [] (items_reach list)
+pub items_begin : {ts : List Token} {list : List Item} → SpellsItems ts list → BeginsItems ts [] (items_reach list)
 items_begin i.none = ib.nothing
 items_begin (i.more d m) = ib.others d (items_begin m)
 

@@ -165,7 +165,7 @@ abbrev pub operator_at : List Token → Option (BinaryOperator × List Token)
 operator_at [] = None
 operator_at (t ∷ ts) = operator_with t.span ts t.kind
 
-abbrev is_of_level : ℕ → Option (BinaryOperator × List Token) → Bool
+abbrev pub is_of_level : ℕ → Option (BinaryOperator × List Token) → Bool
 is_of_level n None = false
 is_of_level n (Some found) = nat_eq (level found.0) n
 
