@@ -3,3 +3,7 @@ pub mod Arguments
 pub mod Forms
 pub mod Lines
 pub mod Blocks
+pub mod SignedTokens
+pub mod ReadTypes
+pub mod ReadOperators
+pub mod ReadExpressions
