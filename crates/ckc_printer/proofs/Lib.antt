@@ -7,3 +7,6 @@ pub mod SignedTokens
 pub mod ReadTypes
 pub mod ReadOperators
 pub mod ReadExpressions
+pub mod ReadDeclarations
+pub mod ReadStatements
+pub mod ReadItems

@@ -5,7 +5,7 @@ use Rattle.ckc_lexer.specs.declared.token.Token.{Token}
 use Rattle.ckc_lexer.specs.declared.token.TokenKind.{TokenKind}
 use Rattle.ckc_lexer.specs.declared.token.TokenKind.TheVariants as kinds
 use Rattle.ckc_parser.specs.Tokens.{token, next_is}
-use Rattle.ckc_printer.specs.Pieces.{Sign, One, RightShift}
+use Rattle.ckc_printer.specs.Pieces.{Sign, One, RightShift, with_commas, after_commas}
 use Rattle.ckc_printer.specs.ReadingBack.{AreSigns, none, one, shift}
 
 -- whether the first sign passes; none does where there is no sign
@@ -58,3 +58,15 @@ is_other is p b c s paren = p
 is_other is p b c s bracket = b
 is_other is p b c s comma = c
 is_other is p b c s semicolon = s
+
+-- ---- lists with commas between
+
+abbrev pub IsFilled : {A : Type 0} → List A → Type 0
+IsFilled [] = ⊥
+IsFilled (x ∷ xs) = Unit {0}
+
+-- behind one of a list the others stand behind a comma
+pub next_listed : {A : Type 0} (pieces : A → List Sign) (first : List Sign) (others : List A) (more : List Sign) {ts : List Token} → IsFilled others
+    → AreSigns ((first ++ after_commas pieces others) ++ more) ts → AreSigns (first ++ One kinds.Comma ∷ (with_commas pieces others ++ more)) ts
+next_listed pieces first [] more f h = elim f [ ]
+next_listed pieces first (x ∷ xs) more f h = part first _ more h

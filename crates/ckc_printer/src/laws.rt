@@ -6,6 +6,7 @@ ghost use Rattle.ckc_printer.specs.ExpressionPieces.{expression_pieces};
 ghost use Rattle.ckc_printer.specs.StatementPieces.{statement_pieces};
 ghost use Rattle.ckc_printer.specs.ItemPieces.{program_text};
 ghost use Rattle.ckc_printer.specs.Examples.{small_program, empty_program, region_program, shift, nested, string, nearest};
+ghost use Rattle.ckc_printer.specs.ReadingBack.{SignsSpellBack};
 
 /// The texts of small trees. An expression or a statement alone has a space behind it.
 pub fn examples()
@@ -16,4 +17,9 @@ pub fn examples()
     ensures parentheses { spaced_text (expression_pieces nested) ≡ codes "( a + ( b * c ) ) * ( - d ) " }
     ensures escapes { spaced_text (expression_pieces string) ≡ codes "\"a\\x22\\x27\\x5c\\x0a\\xff\" " }
     ensures alternative { spaced_text (statement_pieces nearest) ≡ codes "if ( a ) if ( b ) ; else ; " }
+{}
+
+/// The tokens that a tree is printed as spell the tree, but for its spans.
+pub fn signs_spell_back()
+    ensures { SignsSpellBack }
 {}
