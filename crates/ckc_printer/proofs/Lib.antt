@@ -10,3 +10,6 @@ pub mod ReadExpressions
 pub mod ReadDeclarations
 pub mod ReadStatements
 pub mod ReadItems
+pub mod Printable
+pub mod PrintableStatements
+pub mod PrintableItems
