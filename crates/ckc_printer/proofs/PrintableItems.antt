@@ -1,9 +1,8 @@
 -- What is printed of a tree that tokens spell can be read as tokens, since these are.
-use Rattle.std.proofs.Common.{ℕ, Bool, true, false, List, [], ◌∷◌, ◌++◌, map, Option, Some, None}
+use Rattle.std.proofs.Common.{ℕ, Bool, List, [], ◌∷◌, ◌++◌, map, Option}
 use Rattle.std.specs.List.{flat_map, AllByRecursion}
 use Rattle.ckc_text.specs.declared.place.Span.{Span}
 use Rattle.ckc_lexer.specs.declared.token.Token.{Token}
-use Rattle.ckc_lexer.specs.declared.token.TokenKind.TheVariants as kinds
 use Rattle.ckc_tree.specs.declared.identifier.Identifier.{Identifier}
 use Rattle.ckc_tree.specs.declared.stmt.Mark.{Mark}
 use Rattle.ckc_tree.specs.declared.item.FunctionKind.{FunctionKind}
@@ -12,12 +11,12 @@ use Rattle.ckc_tree.specs.Expressions.{Bounds}
 use Rattle.ckc_tree.specs.Items.{Member, ResultForm, Parameters, Body, Item, Tree}
 use Rattle.ckc_parser.specs.ItemGrammar as g
 use Rattle.ckc_parser.specs.ItemGrammar.{SpellsTainted, SpellsKind, SpellsOptionalMark, SpellsMember, SpellsMembers, SpellsResult, SpellsListed, SpellsParameters, SpellsBody, SpellsItem, SpellsItems, SpellsProgram}
-use Rattle.ckc_printer.specs.Pieces.{Sign, One, Piece, InLine, with_commas}
+use Rattle.ckc_printer.specs.Pieces.{Sign, Piece, InLine, with_commas}
 use Rattle.ckc_printer.specs.TypePieces.{name_sign, type_name_pieces}
-use Rattle.ckc_printer.specs.StatementPieces.{optional_bounds_pieces, mark_pieces}
+use Rattle.ckc_printer.specs.StatementPieces.{optional_bounds_pieces}
 use Rattle.ckc_printer.specs.ItemPieces.{tainted_pieces, member_pieces, ended_member_pieces, kind_pieces, result_pieces, parameters_pieces, body_pieces, item_pieces, program_pieces}
 use Rattle.ckc_printer.specs.ReadingBack.{IsLexical, CanSign, CanPrint}
-use Rattle.ckc_printer.proofs.Printable.{Lexical, Printable, Can, nothing, first, joined, stars_can, stars_on, type_can, type_name_can}
+use Rattle.ckc_printer.proofs.Printable.{Lexical, Can, nothing, first, joined, stars_can, stars_on, type_can, type_name_can}
 use Rattle.ckc_printer.proofs.PrintableStatements.{others_can, optional_bounds_can, declarators_can, mark_can, statements_can}
 
 tainted_can : {ts rest : List Token} {tainted : Bool} → SpellsTainted ts tainted rest → Lexical ts → Can (tainted_pieces tainted) rest

@@ -1,10 +1,9 @@
 -- What is printed of statements that tokens spell can be read as tokens, since these are.
-use Rattle.std.proofs.Common.{ℕ, Bool, true, false, List, [], ◌∷◌, ◌++◌, Option, Some, None}
+use Rattle.std.proofs.Common.{List, [], ◌∷◌, Option, Some, None}
 use Rattle.std.specs.List.{flat_map}
 use Rattle.ckc_text.specs.declared.place.Span.{Span}
 use Rattle.ckc_lexer.specs.declared.token.Token.{Token}
 use Rattle.ckc_lexer.specs.declared.token.TokenKind.{TokenKind}
-use Rattle.ckc_lexer.specs.declared.token.TokenKind.TheVariants as kinds
 use Rattle.ckc_tree.specs.declared.stmt.Mark.{Mark}
 use Rattle.ckc_tree.specs.declared.stmt.Mark.TheVariants as marks
 use Rattle.ckc_tree.specs.declared.stmt.ArrayForm.{ArrayForm}
@@ -24,10 +23,6 @@ use Rattle.ckc_printer.specs.Pieces.{Sign, One, with_commas, after_commas}
 use Rattle.ckc_printer.specs.StatementPieces.{optional_bounds_pieces, array_kind, array_pieces, constant_kind, constant_pieces, initializer_pieces, declarator_pieces, declaration_pieces, store_kind, step_kind, assignment_pieces, bundled_pieces, mark_kind, mark_pieces, initial_pieces, optional_expression_pieces, optional_assignment_pieces, statement_pieces, statements_pieces}
 use Rattle.ckc_printer.specs.ReadingBack.{IsLexical, CanSign}
 use Rattle.ckc_printer.proofs.Printable.{Lexical, Printable, Can, nothing, first, joined, target_can, stars_can, stars_on, type_can, expression_can, unary_expression_can, call_can, bounds_can}
-
--- one before the others of a list with commas between
-pub listed_can : {A : Type 0} (pieces : A → List Sign) (x : A) (others : List A) → Printable (pieces x) → Printable (after_commas pieces others) → Printable (with_commas pieces (x ∷ others))
-listed_can pieces x others p q = joined p q
 
 -- others behind a comma
 pub others_can : {A : Type 0} (pieces : A → List Sign) (others : List A) → Printable (with_commas pieces others) → Printable (after_commas pieces others)

@@ -17,8 +17,8 @@ use Rattle.ckc_tree.specs.declared.stmt.StoreOperator.TheVariants as stores
 use Rattle.ckc_tree.specs.declared.stmt.StepOperator.{StepOperator}
 use Rattle.ckc_tree.specs.declared.stmt.StepOperator.TheVariants as steps
 use Rattle.ckc_tree.specs.declared.stmt.StepSide.TheVariants.{Before, After}
-use Rattle.ckc_tree.specs.Types.{TypeTree, type_span}
-use Rattle.ckc_tree.specs.Expressions.{Expression, Bounds}
+use Rattle.ckc_tree.specs.Types.{type_span}
+use Rattle.ckc_tree.specs.Expressions.{Bounds}
 use Rattle.ckc_tree.specs.Statements.{Initializer, Value, Constants, Declarator, Declaration, Assignment, Store, Step}
 use Rattle.ckc_tree.specs.Bare.{bare_bounds, bare_array, bare_constant, bare_initializer, bare_declarator, bare_declaration, bare_assignment}
 use Rattle.ckc_parser.specs.Tokens as words
@@ -26,7 +26,7 @@ use Rattle.ckc_parser.specs.Tokens.{token, join, identifier, from_first, IsArray
 use Rattle.ckc_parser.specs.TypeGrammar.{SpellsStars}
 use Rattle.ckc_parser.specs.StatementGrammar as g
 use Rattle.ckc_parser.specs.StatementGrammar.{SpellsOptionalBounds, SpellsOptionalArray, SpellsConstant, SpellsSigned, SpellsConstants, SpellsOptionalInitializer, SpellsDeclarator, SpellsDeclarators, SpellsDeclaration, SpellsAssignment, SpellsAssignments}
-use Rattle.ckc_printer.specs.Pieces.{Sign, One, with_commas, after_commas}
+use Rattle.ckc_printer.specs.Pieces.{Sign, One, with_commas}
 use Rattle.ckc_printer.specs.TypePieces.{stars_pieces, type_pieces}
 use Rattle.ckc_printer.specs.ExpressionPieces.{expression_pieces, target_pieces}
 use Rattle.ckc_printer.specs.StatementPieces.{optional_bounds_pieces, array_kind, array_pieces, constant_kind, sign_pieces, constant_pieces, initializer_pieces, declarator_pieces, declaration_pieces, store_kind, step_kind, assignment_pieces, bundled_pieces}

@@ -2,7 +2,6 @@
 use Rattle.std.proofs.Common.{◌≡◌, ℕ, Bool, true, false, List, [], ◌∷◌, ◌++◌, codes, refl, ◌∙◌}
 use Rattle.ckc_text.specs.declared.place.Span.{Span}
 use Rattle.ckc_lexer.specs.declared.token.Token.{Token}
-use Rattle.ckc_lexer.specs.declared.token.TokenKind.{TokenKind}
 use Rattle.ckc_lexer.specs.declared.token.TokenKind.TheVariants as kinds
 use Rattle.ckc_tree.specs.declared.identifier.Identifier.{Identifier}
 use Rattle.ckc_tree.specs.declared.expr.UnaryOperator.{UnaryOperator}
@@ -13,14 +12,14 @@ use Rattle.ckc_tree.specs.declared.expr.CallocWord.{CallocWord}
 use Rattle.ckc_tree.specs.Types.{TypeName}
 use Rattle.ckc_tree.specs.Expressions.{Expression, Expressions, NoMore, Then, Number, Character, Text, Name, Call, SizeOf, Cast, BoundedCast, Malloc, Calloc, Index, Dot, Arrow, Unary, Binary, Bounds, Count, ByteCount, Unknown, Range}
 use Rattle.ckc_tree.specs.Bare.{bare_expression, bare_expressions, bare_bounds}
-use Rattle.ckc_parser.specs.Tokens.{token, join, identifier, open_paren, selector}
+use Rattle.ckc_parser.specs.Tokens.{join, identifier, open_paren, selector}
 use Rattle.ckc_parser.specs.ExpressionGrammar as g
 use Rattle.ckc_parser.specs.ExpressionGrammar.{SpellsBinary, SpellsUnary, SpellsSelectors, SpellsPrimary, SpellsCall, SpellsArguments, SpellsMoreArguments, SpellsBounds}
 use Rattle.ckc_printer.specs.Pieces.{Sign, One, around}
 use Rattle.ckc_printer.specs.TypePieces.{name_sign, type_name_pieces, angled_pieces}
 use Rattle.ckc_printer.specs.ExpressionPieces.{unary_kind, binary_sign, cast_kind, malloc_kind, calloc_kind, is_compound, is_binary, expression_pieces, arguments_pieces, more_pieces, bounds_pieces}
 use Rattle.ckc_printer.specs.ReadingBack.{AreSigns, one}
-use Rattle.ckc_printer.proofs.SignedTokens.{first_is, next_by_sign, Read, Somewhere, Ending, ended, part, Ends, paren, bracket, comma, is_other}
+use Rattle.ckc_printer.proofs.SignedTokens.{first_is, next_by_sign, Read, Somewhere, ended, part, Ends, paren, bracket, comma, is_other}
 use Rattle.ckc_printer.proofs.ReadTypes.{read_type_name, read_angled}
 use Rattle.ckc_printer.proofs.ReadOperators.{unary_word, cast_word, malloc_word, calloc_word, read_operator, no_paren, no_selector, operator_mark, no_operator, alone, between}
 

@@ -1,5 +1,5 @@
 -- The signs of a tree that was spelled are read as the tree.
-use Rattle.std.proofs.Common.{◌≡◌, ℕ, Bool, true, false, List, [], ◌∷◌, ◌++◌, map, Option, Some, None, refl, sym, ap, subst, ◌∙◌, append_assoc}
+use Rattle.std.proofs.Common.{◌≡◌, ℕ, Bool, true, false, List, [], ◌∷◌, ◌++◌, map, Option, Some, None, refl, ap, subst, ◌∙◌, append_assoc}
 use Rattle.std.proofs.lemmas.List.{map-append}
 use Rattle.std.specs.Option.{option_map}
 use Rattle.std.specs.List.{flat_map}
@@ -22,15 +22,15 @@ use Rattle.ckc_tree.specs.Expressions.{Bounds}
 use Rattle.ckc_tree.specs.Statements.{Declarator}
 use Rattle.ckc_tree.specs.Items.{Member, ResultForm, Void, Value, Parameters, Nothing, VoidAlone, Listed, Body, Item, RegionItem, StructureItem, GlobalItem, FunctionItem, Tree}
 use Rattle.ckc_tree.specs.Bare.{bare_type, bare_bounds, bare_declarator, bare_member, bare_result, bare_parameters, bare_body, bare_item, SameTree}
-use Rattle.ckc_parser.specs.Tokens.{token, join, identifier, from_first, next_is, colon, mark_word, kind_word, tainted_word}
+use Rattle.ckc_parser.specs.Tokens.{join, identifier, from_first, colon, mark_word, kind_word, tainted_word}
 use Rattle.ckc_parser.specs.TypeGrammar.{SpellsStars, SpellsType}
 use Rattle.ckc_parser.specs.StatementGrammar.{SpellsOptionalBounds, SpellsDeclarators}
 use Rattle.ckc_parser.specs.ItemGrammar as g
 use Rattle.ckc_parser.specs.ItemGrammar.{SpellsTainted, SpellsKind, SpellsOptionalMark, SpellsMember, SpellsMembers, SpellsResult, SpellsListed, SpellsParameters, SpellsBody, SpellsRegion, SpellsItem, SpellsItems, SpellsProgram}
-use Rattle.ckc_printer.specs.Pieces.{Sign, One, Piece, InLine, with_commas}
+use Rattle.ckc_printer.specs.Pieces.{Sign, One, InLine, with_commas}
 use Rattle.ckc_printer.specs.TypePieces.{name_sign, word_kind, stars_pieces, type_pieces, type_name_pieces}
 use Rattle.ckc_printer.specs.StatementPieces.{optional_bounds_pieces, declarator_pieces, mark_pieces, statements_pieces}
-use Rattle.ckc_printer.specs.ItemPieces.{tainted_pieces, member_pieces, ended_member_pieces, structure_pieces, global_pieces, kind_pieces, result_pieces, parameters_pieces, body_pieces, head_pieces, function_pieces, region_scope, item_pieces, program_pieces}
+use Rattle.ckc_printer.specs.ItemPieces.{tainted_pieces, member_pieces, ended_member_pieces, structure_pieces, global_pieces, kind_pieces, result_pieces, parameters_pieces, body_pieces, function_pieces, region_scope, item_pieces, program_pieces}
 use Rattle.ckc_printer.specs.ReadingBack.{AreSigns, none, one, sign_of}
 use Rattle.ckc_printer.proofs.SignedTokens.{first_is, next_by_sign, Read, Somewhere, Ending, ended, part, IsFilled, next_listed}
 use Rattle.ckc_printer.proofs.ReadTypes.{read_stars, read_type, read_type_name}
@@ -71,38 +71,23 @@ type_first is (CharType span) more other = other.char
 type_first is (StructType tag span) more other = other.struct
 type_first is (PointerType word element stars span) more other = other.pointer word.mode word.kind
 
+pointer_other : (is : TokenKind → Bool) → is kinds.Ptr ≡ false → is kinds.ArrayPtr ≡ false → is kinds.NtArrayPtr ≡ false → is kinds.TPtr ≡ false → is kinds.TArrayPtr ≡ false → is kinds.TNtArrayPtr ≡ false
+    → (mode : PointerMode) (kind : PointerKind) → is (word_kind mode kind) ≡ false
+pointer_other is p a n t u v Checked counts.One = p
+pointer_other is p a n t u v Checked counts.Array = a
+pointer_other is p a n t u v Checked counts.NullTerminated = n
+pointer_other is p a n t u v Tainted counts.One = t
+pointer_other is p a n t u v Tainted counts.Array = u
+pointer_other is p a n t u v Tainted counts.NullTerminated = v
+
 not_kind : NoType kind_word
-not_kind = record { int = refl; char = refl; struct = refl; pointer = by }
-  where
-    by : (mode : PointerMode) (kind : PointerKind) → kind_word (word_kind mode kind) ≡ false
-    by Checked counts.One = refl
-    by Checked counts.Array = refl
-    by Checked counts.NullTerminated = refl
-    by Tainted counts.One = refl
-    by Tainted counts.Array = refl
-    by Tainted counts.NullTerminated = refl
+not_kind = record { int = refl; char = refl; struct = refl; pointer = pointer_other kind_word refl refl refl refl refl refl }
 
 not_mark : NoType mark_word
-not_mark = record { int = refl; char = refl; struct = refl; pointer = by }
-  where
-    by : (mode : PointerMode) (kind : PointerKind) → mark_word (word_kind mode kind) ≡ false
-    by Checked counts.One = refl
-    by Checked counts.Array = refl
-    by Checked counts.NullTerminated = refl
-    by Tainted counts.One = refl
-    by Tainted counts.Array = refl
-    by Tainted counts.NullTerminated = refl
+not_mark = record { int = refl; char = refl; struct = refl; pointer = pointer_other mark_word refl refl refl refl refl refl }
 
 not_tainted : NoType tainted_word
-not_tainted = record { int = refl; char = refl; struct = refl; pointer = by }
-  where
-    by : (mode : PointerMode) (kind : PointerKind) → tainted_word (word_kind mode kind) ≡ false
-    by Checked counts.One = refl
-    by Checked counts.Array = refl
-    by Checked counts.NullTerminated = refl
-    by Tainted counts.One = refl
-    by Tainted counts.Array = refl
-    by Tainted counts.NullTerminated = refl
+not_tainted = record { int = refl; char = refl; struct = refl; pointer = pointer_other tainted_word refl refl refl refl refl refl }
 
 result_first : (is : TokenKind → Bool) (result : ResultForm) (more : List Sign) → is kinds.Void ≡ false → NoType is → first_is is (result_pieces result ++ more) ≡ false
 result_first is (Void span) more v other = v
@@ -235,11 +220,11 @@ read_item (g.function {n} {x = name} {written} {optional_mark} {result} {paramet
     let returned = result_pieces result ++ named in
     let not_first = λ (is : TokenKind → Bool) (void : is kinds.Void ≡ false) (type : NoType is). regrouped is (result_pieces result) named behind (result_first is result (named ++ behind) void type) in
     let k' = read_kind function_kind ((mark_pieces optional_mark ++ returned) ++ behind) ts (regrouped kind_word (mark_pieces optional_mark) returned behind (mark_first kind_word optional_mark (returned ++ behind) refl refl (not_first kind_word refl not_kind))) (part (kind_pieces function_kind) _ behind (part (kind_pieces function_kind ++ (mark_pieces optional_mark ++ returned)) _ more h)) in
-    let m' = read_mark optional_mark (returned ++ behind) k'.rest (not_first mark_word refl not_mark) (part (mark_pieces optional_mark) returned behind k'.on) in
-    let r = read_result result (named ++ behind) m'.rest (part (result_pieces result) named behind m'.on) in
-    let x = ended (ended (read_stars n (One (kinds.Name name) ∷ behind) r.rest refl (part (stars_pieces n) _ behind r.on))) in
-    let p = read_parameters ps (last ++ more) x.rest (part (parameters_pieces parameters) _ more x.on) in
-    let w = read_optional_bounds written (from_first ts p.spelled.0) (body_pieces body ++ more) p.rest (body_first body more) (part (optional_bounds_pieces written) _ more p.on) in
+    let m' = read_mark optional_mark (returned ++ behind) k'.rest (not_first mark_word refl not_mark) (part (mark_pieces optional_mark) returned behind {ts = k'.rest} k'.on) in
+    let r = read_result result (named ++ behind) m'.rest (part (result_pieces result) named behind {ts = m'.rest} m'.on) in
+    let x = ended (ended (read_stars n (One (kinds.Name name) ∷ behind) r.rest refl (part (stars_pieces n) _ behind {ts = r.rest} r.on))) in
+    let p = read_parameters ps (last ++ more) x.rest (part (parameters_pieces parameters) _ more {ts = x.rest} x.on) in
+    let w = read_optional_bounds written (from_first ts p.spelled.0) (body_pieces body ++ more) p.rest (body_first body more) (part (optional_bounds_pieces written) _ more {ts = p.rest} p.on) in
     function_of k' m' r x p w (read_body y more w.rest w.on)
 
 sign_map : (signs : List Sign) → map sign_of (map InLine signs) ≡ signs

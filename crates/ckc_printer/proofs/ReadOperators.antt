@@ -1,5 +1,5 @@
 -- The signs of operators are read as the operators, and their levels as those of an expression.
-use Rattle.std.proofs.Common.{◌≡◌, ℕ, zero, suc, ◌+◌, ◌-◌, ◌<◌, ◌≤◌, Bool, true, false, nat_eq, List, [], ◌∷◌, Option, Some, None, refl, sym, ap, subst, ◌∙◌, arith}
+use Rattle.std.proofs.Common.{◌≡◌, ℕ, zero, suc, ◌+◌, ◌-◌, ◌<◌, ◌≤◌, Bool, true, false, List, [], ◌∷◌, Option, Some, None, refl, ap, subst, arith}
 use Rattle.std.proofs.lemmas.Bool.{ne_eqb, eq-eqb}
 use Rattle.ckc_text.specs.declared.place.Span.{Span}
 use Rattle.ckc_lexer.specs.declared.token.Token.{Token}
@@ -110,7 +110,7 @@ other_level : (n : ℕ) (ts : List Token) {us : List Token} {w : BinaryOperator}
 other_level n ts {w} found other = rw found (ne_eqb (level w) n other)
 
 -- an expression with operators of at most one level has none of the levels above it, where none stands behind it
-pub raised : (d : ℕ) {m n : ℕ} {ts rest : List Token} {e : Expression} {o : Span} → d + m ≡ n → operator_at rest ≡ None → SpellsBinary m ts e o rest → SpellsBinary n ts e o rest
+raised : (d : ℕ) {m n : ℕ} {ts rest : List Token} {e : Expression} {o : Span} → d + m ≡ n → operator_at rest ≡ None → SpellsBinary m ts e o rest → SpellsBinary n ts e o rest
 raised zero {m} {n} {ts} {rest} {e} {o} same f d = let h : m ≡ n = omega arith in subst (λ (n : ℕ). SpellsBinary n ts e o rest) h d
 raised (suc d) {m} {rest} same f x = raised d {m = suc m} (omega arith) f (g.operators x (g.level_done (no_level (suc m) rest f)))
 

@@ -1,5 +1,5 @@
 -- The signs of a statement that was spelled are read as the statement.
-use Rattle.std.proofs.Common.{◌≡◌, ℕ, ◌≤◌, Bool, true, false, List, [], ◌∷◌, ◌++◌, map, Option, Some, None, refl, ◌∙◌, arith}
+use Rattle.std.proofs.Common.{◌≡◌, ◌≤◌, Bool, true, false, List, [], ◌∷◌, ◌++◌, Option, Some, None, refl, arith}
 use Rattle.std.specs.Option.{option_map}
 use Rattle.std.specs.List.{flat_map}
 use Rattle.ckc_text.specs.declared.place.Span.{Span}
@@ -21,7 +21,7 @@ use Rattle.ckc_parser.specs.StatementGrammar.{SpellsForInitial, SpellsForConditi
 use Rattle.ckc_parser.proofs.Roles.{role, role_at, statement_starts}
 use Rattle.ckc_printer.specs.Pieces.{Sign, One}
 use Rattle.ckc_printer.specs.ExpressionPieces.{expression_pieces}
-use Rattle.ckc_printer.specs.StatementPieces.{declaration_pieces, assignment_pieces, bundled_pieces, mark_kind, initial_pieces, optional_expression_pieces, optional_assignment_pieces, for_head_pieces, tested_pieces, statement_pieces, statements_pieces}
+use Rattle.ckc_printer.specs.StatementPieces.{declaration_pieces, assignment_pieces, bundled_pieces, mark_kind, initial_pieces, optional_expression_pieces, optional_assignment_pieces, statement_pieces, statements_pieces}
 use Rattle.ckc_printer.specs.ReadingBack.{AreSigns, one}
 use Rattle.ckc_printer.proofs.SignedTokens as follow
 use Rattle.ckc_printer.proofs.SignedTokens.{Read, Somewhere, Ending, ended, part}
@@ -52,8 +52,8 @@ read_step (Some step) more ts h =
     record { tree = Some x.tree; rest = x.rest; spelled = g.present x.spelled.1; same = cc; on = x.on }
 
 -- a condition in parentheses
-read_tested : (word : TokenKind) (condition : Expression) (more : List Sign) (ts : List Token) → AreSigns (expression_pieces condition ++ One kinds.CloseParen ∷ more) ts → Read bare_expression (Ending kinds.CloseParen (Somewhere (SpellsExpression ts))) condition more
-read_tested word condition more ts h = ended ((read_expression condition).alone (One kinds.CloseParen ∷ more) ts follow.paren h)
+read_tested : (condition : Expression) (more : List Sign) (ts : List Token) → AreSigns (expression_pieces condition ++ One kinds.CloseParen ∷ more) ts → Read bare_expression (Ending kinds.CloseParen (Somewhere (SpellsExpression ts))) condition more
+read_tested condition more ts h = ended ((read_expression condition).alone (One kinds.CloseParen ∷ more) ts follow.paren h)
 
 -- ---- an else belongs to the nearest if
 
@@ -83,6 +83,13 @@ pub mark_word : (mark : Mark) → IsMark (mark_kind mark) mark
 mark_word marks.Checked = words.checked
 mark_word marks.Unchecked = words.unchecked
 
+-- a for from its parts, one behind the other
+for_of : {initial : ForInitial} {condition : Option Expression} {step : Option Assignment} {body_statement : Statement} {more is cs ss : List Sign} {ts : List Token} (old : List Token) (s p o : Span) (x : Read bare_initial (SpellsForInitial ts) initial is) (y : Read (option_map bare_expression) (SpellsForCondition x.rest) condition cs)
+    (z : Read (option_map bare_assignment) (SpellsForStep y.rest) step ss) → Read bare_statement (Unless old z.rest) body_statement more
+    → Read bare_statement (Unless old (token kinds.For s ∷ token kinds.OpenParen p ∷ ts)) (trees.For initial condition step body_statement o) more
+for_of old s p o x y z w =
+    record { tree = trees.For x.tree y.tree z.tree w.tree (join s (statement_span w.tree)); rest = w.rest; spelled = λ follows. g.for x.spelled y.spelled z.spelled (w.spelled follows); same = cc; on = w.on }
+
 mutual
   read_statement : {x : Statement} {us r : List Token} → SpellsStatement us x r → (more : List Sign) (ts : List Token) → AreSigns (statement_pieces x ++ more) ts → Read bare_statement (Unless r ts) x more
   read_statement (g.block {statements} d) more ts (one {s} {ts = us} b h) =
@@ -105,28 +112,27 @@ mutual
       record { tree = trees.CallAlone x.tree (join x.spelled.1.0 x.spelled.0); rest = x.rest; spelled = λ f. g.call x.spelled.1.1; same = cc; on = x.on }
   read_statement g.empty more ts (one {s} {ts = us} b h) = record { tree = trees.Empty s; rest = us; spelled = λ f. g.empty; same = refl; on = h }
   read_statement (g.if {condition} {consequent} c d f) more ts (one {s} b (one {ts = us} o h)) =
-      let x = read_tested kinds.If condition (statement_pieces consequent ++ more) us (part (expression_pieces condition) _ _ (part (expression_pieces condition ++ One kinds.CloseParen ∷ []) _ more h)) in
+      let x = read_tested condition (statement_pieces consequent ++ more) us (part (expression_pieces condition) _ _ (part (expression_pieces condition ++ One kinds.CloseParen ∷ []) _ more h)) in
       let y = read_statement d more x.rest x.on in
       record { tree = trees.If x.tree y.tree (join s (statement_span y.tree)); rest = y.rest; spelled = λ follows. g.if x.spelled.1.1 (y.spelled follows) (not_else (next_is else_word y.rest) _ f follows); same = cc; on = y.on }
   read_statement (g.if_else {condition} {consequent} {alternative} c d a) more ts (one {s} b (one {ts = us} o h)) =
       let others = statement_pieces consequent ++ One kinds.Else ∷ statement_pieces alternative in
-      let x = read_tested kinds.If condition (others ++ more) us (part (expression_pieces condition) _ _ (part (expression_pieces condition ++ One kinds.CloseParen ∷ []) others more h)) in
+      let x = read_tested condition (others ++ more) us (part (expression_pieces condition) _ _ (part (expression_pieces condition ++ One kinds.CloseParen ∷ []) others more h)) in
       let y = ended (read_statement d (One kinds.Else ∷ (statement_pieces alternative ++ more)) x.rest (part (statement_pieces consequent) _ more x.on)) in
       let z = read_statement a more y.rest y.on in
       record { tree = trees.IfElse x.tree y.tree z.tree (join s (statement_span z.tree)); rest = z.rest; spelled = λ follows. g.if_else x.spelled.1.1 (y.spelled.1 (λ f. refl)) (z.spelled follows); same = cc; on = z.on }
   read_statement (g.while {condition} {body_statement} c d) more ts (one {s} b (one {ts = us} o h)) =
-      let x = read_tested kinds.While condition (statement_pieces body_statement ++ more) us (part (expression_pieces condition) _ _ (part (expression_pieces condition ++ One kinds.CloseParen ∷ []) _ more h)) in
+      let x = read_tested condition (statement_pieces body_statement ++ more) us (part (expression_pieces condition) _ _ (part (expression_pieces condition ++ One kinds.CloseParen ∷ []) _ more h)) in
       let y = read_statement d more x.rest x.on in
       record { tree = trees.While x.tree y.tree (join s (statement_span y.tree)); rest = y.rest; spelled = λ follows. g.while x.spelled.1.1 (y.spelled follows); same = cc; on = y.on }
-  read_statement (g.for {initial} {optional} {step} {body_statement} i c st d) more ts (one {s} b (one {ts = us} o h)) =
+  read_statement (g.for {rest} {initial} {optional} {step} {body_statement} i c st d) more ts (one {s} b (one {s = p} {ts = us} o h)) =
       let last = optional_assignment_pieces step ++ One kinds.CloseParen ∷ [] in
       let middle = optional_expression_pieces optional ++ One kinds.Semicolon ∷ last in
       let body = statement_pieces body_statement ++ more in
       let x = read_initial i (middle ++ body) us (part (initial_pieces initial) _ body (part (initial_pieces initial ++ One kinds.Semicolon ∷ middle) _ more h)) in
       let y = read_condition optional (last ++ body) x.rest (part (optional_expression_pieces optional) _ body x.on) in
       let z = read_step step body y.rest (part (optional_assignment_pieces step) _ body y.on) in
-      let w = read_statement d more z.rest z.on in
-      record { tree = trees.For x.tree y.tree z.tree w.tree (join s (statement_span w.tree)); rest = w.rest; spelled = λ follows. g.for x.spelled y.spelled z.spelled (w.spelled follows); same = cc; on = w.on }
+      for_of rest s p _ x y z (read_statement d more z.rest z.on)
   read_statement g.return_nothing more ts (one {s} b (one {s = t} {ts = us} c h)) = record { tree = trees.Return None (join s t); rest = us; spelled = λ f. g.return_nothing; same = refl; on = h }
   read_statement (g.return {e = value} d) more ts (one {s} {ts = us} b h) =
       let x = ended ((read_expression value).alone (One kinds.Semicolon ∷ more) us follow.semicolon (part (expression_pieces value) _ more h)) in
