@@ -13,3 +13,6 @@ pub mod ReadItems
 pub mod Printable
 pub mod PrintableStatements
 pub mod PrintableItems
+pub mod LexedTokens
+pub mod LexedQuotes
+pub mod LexedText

@@ -6,7 +6,7 @@ ghost use Rattle.ckc_printer.specs.ExpressionPieces.{expression_pieces};
 ghost use Rattle.ckc_printer.specs.StatementPieces.{statement_pieces};
 ghost use Rattle.ckc_printer.specs.ItemPieces.{program_text};
 ghost use Rattle.ckc_printer.specs.Examples.{small_program, empty_program, region_program, shift, nested, string, nearest};
-ghost use Rattle.ckc_printer.specs.ReadingBack.{SignsSpellBack, TreesCanPrint};
+ghost use Rattle.ckc_printer.specs.ReadingBack.{SignsSpellBack, PiecesLexBack, TreesCanPrint};
 
 /// The texts of small trees. An expression or a statement alone has a space behind it.
 pub fn examples()
@@ -27,4 +27,9 @@ pub fn signs_spell_back()
 /// What a tree that tokens of a source spell is printed as can be read as tokens.
 pub fn trees_can_print()
     ensures { TreesCanPrint }
+{}
+
+/// The text of pieces that can be printed has the tokens that they are.
+pub fn pieces_lex_back()
+    ensures { PiecesLexBack }
 {}
