@@ -39,11 +39,17 @@ IsFixed kind = Unit {0}
 abbrev pub StandsBefore : Bool → TokenKind → Piece → Type 0
 StandsBefore ends k piece = (first : Bool) (rest : List ℕ) → Stands first (kind_text k ++ gap_byte ends ∷ rest) piece (length (kind_text k))
 
+fixed_before : (k : TokenKind) → IsFixed k → StandsBefore true k (Lexeme k) × StandsBefore false k (Lexeme k)
+fixed_before (kinds.Name name) f = absurd f
+fixed_before (kinds.Number n) f = absurd f
+fixed_before (kinds.Character b) f = absurd f
+fixed_before (kinds.Text bytes) f = absurd f
+fixed_before (kinds.Scope scope) f = absurd f
+fixed_before k f = (λ first rest. search rules, λ first rest. search rules)
+
 pub fixed_stands : (ends : Bool) (k : TokenKind) → IsFixed k → StandsBefore ends k (Lexeme k)
-fixed_stands true k =
-    elim k as (λ k. IsFixed k → StandsBefore true k (Lexeme k)) [ kinds.Name name ↦ λ f first rest. absurd f | kinds.Number n ↦ λ f first rest. absurd f | kinds.Character b ↦ λ f first rest. absurd f | kinds.Text bytes ↦ λ f first rest. absurd f | kinds.Scope scope ↦ λ f first rest. absurd f | _ ↦ λ f first rest. search rules ]
-fixed_stands false k =
-    elim k as (λ k. IsFixed k → StandsBefore false k (Lexeme k)) [ kinds.Name name ↦ λ f first rest. absurd f | kinds.Number n ↦ λ f first rest. absurd f | kinds.Character b ↦ λ f first rest. absurd f | kinds.Text bytes ↦ λ f first rest. absurd f | kinds.Scope scope ↦ λ f first rest. absurd f | _ ↦ λ f first rest. search rules ]
+fixed_stands true k f = (fixed_before k f).0
+fixed_stands false k f = (fixed_before k f).1
 
 -- ---- names and numbers
 

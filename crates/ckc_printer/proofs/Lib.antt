@@ -16,3 +16,5 @@ pub mod PrintableItems
 pub mod LexedTokens
 pub mod LexedQuotes
 pub mod LexedText
+pub mod LexicalPieces
+pub mod LexicalTokens

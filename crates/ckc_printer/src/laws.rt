@@ -6,7 +6,7 @@ ghost use Rattle.ckc_printer.specs.ExpressionPieces.{expression_pieces};
 ghost use Rattle.ckc_printer.specs.StatementPieces.{statement_pieces};
 ghost use Rattle.ckc_printer.specs.ItemPieces.{program_text};
 ghost use Rattle.ckc_printer.specs.Examples.{small_program, empty_program, region_program, shift, nested, string, nearest};
-ghost use Rattle.ckc_printer.specs.ReadingBack.{SignsSpellBack, PiecesLexBack, TreesCanPrint};
+ghost use Rattle.ckc_printer.specs.ReadingBack.{SignsSpellBack, PiecesLexBack, TokensAreLexical, TreesCanPrint};
 
 /// The texts of small trees. An expression or a statement alone has a space behind it.
 pub fn examples()
@@ -32,4 +32,9 @@ pub fn trees_can_print()
 /// The text of pieces that can be printed has the tokens that they are.
 pub fn pieces_lex_back()
     ensures { PiecesLexBack }
+{}
+
+/// The tokens of a source can be spelled: names are names, and numbers and bytes are in their range.
+pub fn tokens_are_lexical()
+    ensures { TokensAreLexical }
 {}
