@@ -18,3 +18,4 @@ pub mod LexedQuotes
 pub mod LexedText
 pub mod LexicalPieces
 pub mod LexicalTokens
+pub mod ReadBack
