@@ -6,7 +6,7 @@ ghost use Rattle.ckc_printer.specs.ExpressionPieces.{expression_pieces};
 ghost use Rattle.ckc_printer.specs.StatementPieces.{statement_pieces};
 ghost use Rattle.ckc_printer.specs.ItemPieces.{program_text};
 ghost use Rattle.ckc_printer.specs.Examples.{small_program, empty_program, region_program, shift, nested, string, nearest};
-ghost use Rattle.ckc_printer.specs.ReadingBack.{SignsSpellBack, PiecesLexBack, TokensAreLexical, TreesCanPrint};
+ghost use Rattle.ckc_printer.specs.ReadingBack.{SignsSpellBack, PiecesLexBack, TokensAreLexical, TreesCanPrint, ReadsBack};
 
 /// The texts of small trees. An expression or a statement alone has a space behind it.
 pub fn examples()
@@ -37,4 +37,10 @@ pub fn pieces_lex_back()
 /// The tokens of a source can be spelled: names are names, and numbers and bytes are in their range.
 pub fn tokens_are_lexical()
     ensures { TokensAreLexical }
+{}
+
+/// What a tree that was read from a source is printed as reads to the same tree but for its spans, within the
+/// limits of a source.
+pub fn reads_back()
+    ensures { ReadsBack }
 {}
