@@ -1,9 +1,10 @@
 -- Pieces that can be printed are lexed as the tokens that they are: piece by piece, from their text's start on.
-use Rattle.std.proofs.Common.{◌≡◌, ℕ, ◌+◌, ◌<◌, ◌≤◌, Bool, true, false, cond, List, [], ◌∷◌, ◌++◌, length, drop, map, nat_lt, Result, Ok, refl, sym, ap, ◌∙◌, subst, append_assoc, append-nil, length-append, length-drop, drop-drop, arith}
-use Rattle.std.specs.List.{AllByRecursion}
+use Rattle.std.proofs.Common.{◌≡◌, ℕ, ◌+◌, ◌<◌, ◌≤◌, Bool, true, false, not, ◌||◌, ◌==◌, cond, List, [], ◌∷◌, ◌++◌, length, drop, map, nat_lt, codes, Result, Ok, refl, sym, ap, ◌∙◌, subst, append_assoc, append-nil, length-append, length-drop, drop-drop, arith}
+use Rattle.std.specs.List.{AllByRecursion, list_all}
 use Rattle.std.proofs.Math.Seq.{drop-append_seam}
 use Rattle.std.proofs.lemmas.Bool.Decides.{nat_tests}
 use Rattle.ckc_text.specs.declared.fault.SourceFault.{SourceFault}
+use Rattle.ckc_lexer.specs.declared.run.Run.TheVariants.{Directive}
 use Rattle.ckc_lexer.specs.declared.line.Line.{Line}
 use Rattle.ckc_lexer.specs.declared.line.Line.TheVariants.{Fresh, Marked, Behind}
 use Rattle.ckc_lexer.specs.declared.piece.Piece.TheVariants.{Gap, Lexeme, Named, Scope}
@@ -17,10 +18,10 @@ use Rattle.ckc_lexer.specs.declared.token.TokenKind.{TokenKind}
 use Rattle.ckc_lexer.specs.declared.token.TokenKind.TheVariants as kinds
 use Rattle.ckc_lexer.specs.Directives.{part, named_directive, pragma_of, scope_of}
 use Rattle.ckc_lexer.specs.Runs as runs
-use Rattle.ckc_lexer.specs.Runs.{goes}
+use Rattle.ckc_lexer.specs.Runs.{width, Extent}
 use Rattle.ckc_lexer.specs.Pieces.{Stands}
 use Rattle.ckc_lexer.specs.Tokens as tokens
-use Rattle.ckc_lexer.specs.Tokens.{State, Cut, token_at, push, behind_mark, change_scope, go_on, is_first, next}
+use Rattle.ckc_lexer.specs.Tokens.{State, Cut, token_at, push, behind_mark, go_on, is_first, next}
 use Rattle.ckc_printer.specs.Pieces as pieces
 use Rattle.ckc_printer.specs.Pieces.{Sign, One, RightShift, InLine, ScopeLine, kind_text, sign_text, scope_text, pieces_text}
 use Rattle.ckc_printer.specs.ReadingBack.{AreSigns, none, one, shift, sign_of, signed_tokens, CanSign, CanPrint, PiecesLexBack}
@@ -173,12 +174,21 @@ scope_word : CheckedScope → ScopeWord
 scope_word On = word.On
 scope_word Off = word.Off
 
+-- a byte that a directive runs past
+abbrev runs_past : ℕ → Bool
+runs_past b = not (b == 10 || b == 47)
+
+directive_extent : (w rest : List ℕ) → list_all runs_past w ≡ true → Extent Directive (w ++ 10 ∷ rest) (length w)
+directive_extent [] rest h = runs.ends refl
+directive_extent (b ∷ w) rest h =
+    let past : width Directive (b ∷ (w ++ 10 ∷ rest)) ≡ 1 = grind (arith, nat_tests) in
+    let others : list_all runs_past w ≡ true = grind (arith, nat_tests) in
+    subst (λ n. Extent Directive (b ∷ (w ++ 10 ∷ rest)) n) (omega arith) (runs.goes 0 past (directive_extent w rest others))
+
 scope_stands : (scope : CheckedScope) (rest : List ℕ) → Stands true (scope_text scope ++ 10 ∷ rest) (Scope (scope_word scope)) (length (scope_text scope))
 unfolding part named_directive pragma_of scope_of scope_word
-scope_stands On rest =
-    (23, (goes 0 refl (goes 0 refl (goes 0 refl (goes 0 refl (goes 0 refl (goes 0 refl (goes 0 refl (goes 0 refl (goes 0 refl (goes 0 refl (goes 0 refl (goes 0 refl (goes 0 refl (goes 0 refl (goes 0 refl (goes 0 refl (goes 0 refl (goes 0 refl (goes 0 refl (goes 0 refl (goes 0 refl (goes 0 refl (goes 0 refl (runs.ends refl)))))))))))))))))))))))), (refl, refl))
-scope_stands Off rest =
-    (24, (goes 0 refl (goes 0 refl (goes 0 refl (goes 0 refl (goes 0 refl (goes 0 refl (goes 0 refl (goes 0 refl (goes 0 refl (goes 0 refl (goes 0 refl (goes 0 refl (goes 0 refl (goes 0 refl (goes 0 refl (goes 0 refl (goes 0 refl (goes 0 refl (goes 0 refl (goes 0 refl (goes 0 refl (goes 0 refl (goes 0 refl (goes 0 refl (runs.ends refl))))))))))))))))))))))))), (refl, refl))
+scope_stands On rest = (23, directive_extent (codes "pragma CHECKED_SCOPE on") rest refl, (refl, refl))
+scope_stands Off rest = (24, directive_extent (codes "pragma CHECKED_SCOPE off") rest refl, (refl, refl))
 
 scope_leads : (new : CheckedScope) (at : ℕ) (read : List Token) (scope : CheckedScope) (kept : List CheckedScope) (n : ℕ) → length read < 200000
     → next (Scope (scope_word new)) (state at Fresh read scope kept) n ≡ Ok (state (at + n) (Behind at) (read ++ token_at at (at + n) (kinds.Scope new) ∷ []) new kept)
