@@ -132,7 +132,7 @@ word_chosen true d other h e = cc
 word_chosen false true other h e = refl
 word_chosen false false other h e = cc
 
-word_first : (b : ℕ) (bs : List ℕ) → front_of (b ∷ bs) ≡ Word → is_word_byte b ≡ true
+pub word_first : (b : ℕ) (bs : List ℕ) → front_of (b ∷ bs) ≡ Word → is_word_byte b ≡ true
 unfolding is_word_front
 word_first b bs e =
     let other = cond (b == 47) (slash_front bs) (quote_front b) in

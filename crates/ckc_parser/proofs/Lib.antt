@@ -1,7 +1,7 @@
 mod OneType
 mod Heads
 mod OneExpression
-mod Roles
+pub mod Roles
 mod OneStatement
 mod OneItem
 mod Whole

@@ -1,2 +1,3 @@
 mod Rows
 mod Decided
+pub mod SameHeights

@@ -22,7 +22,7 @@ abbrev pub node : ℕ → Reach
 node start = record { height = 1; start = start }
 
 -- the second where the first is less deep, as a test says
-abbrev deeper : Bool → Reach → Reach → Reach
+abbrev pub deeper : Bool → Reach → Reach → Reach
 deeper true first second = second
 deeper false first second = first
 
@@ -32,7 +32,7 @@ abbrev pub ◌beside◌ : Reach → Reach → Reach
 first beside second = deeper (nat_lt first.height second.height) first second
 
 -- the height and the start of what a node holds, which makes it deeper by one
-abbrev inside : ℕ → ℕ → ℕ → Reach
+abbrev pub inside : ℕ → ℕ → ℕ → Reach
 inside start zero held = node start
 inside start (suc n) held = record { height = suc (suc n); start = held }
 

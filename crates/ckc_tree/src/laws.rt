@@ -1,5 +1,9 @@
-// What the definition of placement says of small trees.
+// What holds of heights, and what the definition of placement says of small trees.
 
+ghost use Rattle.std.specs.Prelude.{◌≡◌};
+ghost use Rattle.ckc_tree.specs.Items.{Tree};
+ghost use Rattle.ckc_tree.specs.Heights.{height};
+ghost use Rattle.ckc_tree.specs.Bare.{SameTree};
 ghost use Rattle.ckc_tree.specs.Placement.{IsPlaced};
 ghost use Rattle.ckc_tree.specs.Examples.{span, difference};
 
@@ -10,4 +14,9 @@ pub fn examples_of_placement()
     ensures outside { IsPlaced 32 (difference (span 24 25) (span 29 30)) → ⊥ }
     ensures swapped { IsPlaced 32 (difference (span 28 29) (span 24 25)) → ⊥ }
     ensures longer { IsPlaced 31 (difference (span 24 25) (span 28 29)) → ⊥ }
+{}
+
+/// Trees that are the same but for their spans are equally high.
+pub fn same_heights()
+    ensures { (t u : Tree) → SameTree t u → height t ≡ height u }
 {}
