@@ -1,6 +1,6 @@
 -- Inside: where reading what stands at file level fails. One case for each part that can fail: those before it are
 -- spelled, and no node so far is too deep.
-use Rattle.std.specs.Prelude.{◌≡◌, ◌&&◌, cond, ℕ, Bool, true, false, List, [], ◌∷◌, Option, Some, None}
+use Rattle.std.specs.Prelude.{◌≡◌, ◌&&◌, cond, ℕ, Bool, true, false, List, [], ◌∷◌, Option, Some}
 use Rattle.ckc_text.specs.declared.place.Span.{Span}
 use Rattle.ckc_lexer.specs.declared.token.Token.{Token}
 use Rattle.ckc_lexer.specs.declared.token.TokenKind.{TokenKind}
@@ -28,6 +28,11 @@ use Rattle.ckc_parser.specs.StuckStatements.{semicolon, open_brace, close_brace,
 abbrev pub void_word : TokenKind → Bool
 void_word kinds.Void = true
 void_word _ = false
+
+-- a directive, which is an item of its own
+abbrev pub scope_word : TokenKind → Bool
+scope_word (kinds.Scope scope) = true
+scope_word _ = false
 
 abbrev pub struct_word : TokenKind → Bool
 struct_word kinds.Struct = true
@@ -99,7 +104,7 @@ pub data StuckBody : List Token → Failure → Type 0 where
 
 pub data StuckItem : List Token → Failure → Type 0 where
   no_room : {tokens : List Token} → StuckItem tokens no_memory
-  result : {ts us tokens : List Token} {optional_mark : Option Mark} {function_kind : FunctionKind} {f : Failure} → SpellsKind tokens function_kind ts → SpellsOptionalMark ts optional_mark us → next_is void_word us ≡ false → StuckType 0 us f → StuckItem tokens f
+  result : {ts us tokens : List Token} {optional_mark : Option Mark} {function_kind : FunctionKind} {f : Failure} → next_is scope_word tokens ≡ false → SpellsKind tokens function_kind ts → SpellsOptionalMark ts optional_mark us → next_is void_word us ≡ false → StuckType 0 us f → StuckItem tokens f
   members : {x : List ℕ} {s t p : Span} {ts tokens : List Token} {tainted : Bool} {f : Failure} → SpellsTainted tokens tainted (token kinds.Struct s ∷ token (kinds.Name x) t ∷ token kinds.OpenBrace p ∷ ts) → StuckMembers ts f → StuckItem tokens f
   structure_end : {x : List ℕ} {s t p : Span} {ts rest tokens : List Token} {tainted : Bool} {members : List Member} → SpellsTainted tokens tainted (token kinds.Struct s ∷ token (kinds.Name x) t ∷ token kinds.OpenBrace p ∷ ts) → SpellsMembers ts members rest → IsLow 0 (members_reach members) → next_is semicolon rest ≡ false → StuckItem tokens (unexpected rest)
   -- what a type begins is a function where a name and a parenthesis follow, and else a list of variables
