@@ -205,7 +205,9 @@ pub fn declaration(
 ) -> Result<(Read<Declaration>, &[Token]), Stuck<'_>> {
     let (token, rest) = first(tokens)?;
     if depth >= MAX_DEPTH {
-        return Err(Stuck::TooDeep { start: token.span.from });
+        return Err(Stuck::TooDeep {
+            start: token.span.from,
+        });
     }
     let (base, rest) = type_form(alloc, depth + 1, tokens)?;
     let (declarators, rest) = declarators(alloc, depth + 1, rest)?;
@@ -254,7 +256,9 @@ pub fn assignment(
         return Err(Stuck::Unexpected { at: tokens });
     }
     if depth >= MAX_DEPTH {
-        return Err(Stuck::TooDeep { start: token.span.from });
+        return Err(Stuck::TooDeep {
+            start: token.span.from,
+        });
     }
     if let Some(operator) = step_operator(&token.kind) {
         let (target, rest) = unary(alloc, depth + 1, behind)?;
