@@ -21,7 +21,7 @@ use Rattle.ckc_parser.proofs.TypePaths.{type_name_path, begun_type_name, angled_
 -- ---- operators
 
 -- one mark, or the two of a right shift
-data Marks : List Token → BinaryOperator → List Token → Type 0 where
+pub data Marks : List Token → BinaryOperator → List Token → Type 0 where
   mark : {t : Token} {us : List Token} {w : BinaryOperator} → Marks (t ∷ us) w us
   shift : {s t : Span} {us : List Token} → Marks (token kinds.Greater s ∷ token kinds.Greater t ∷ us) ShiftRight us
 
@@ -48,7 +48,7 @@ marks_first {us = []} s kinds.Greater same = marks_from mark same
 marks_first {us = t ∷ ts} s kinds.Greater same = marks_second s t.span t.kind same
 marks_first s k same = marks_of (token k s) (operator_of k) same
 
-marks_at : {us : List Token} {w : BinaryOperator} (ts : List Token) → operator_at ts ≡ Some (w, us) → Marks ts w us
+pub marks_at : {us : List Token} {w : BinaryOperator} (ts : List Token) → operator_at ts ≡ Some (w, us) → Marks ts w us
 marks_at [] found = absurd (none-some _ found)
 marks_at (t ∷ ts) found = marks_first t.span t.kind found
 

@@ -23,3 +23,9 @@ mod Lists
 mod Assignments
 mod Blocks
 mod FileLevel
+pub mod Contexts
+pub mod Waiting
+pub mod ContextSteps
+pub mod Selecting
+pub mod Arguments
+pub mod BoundsForms

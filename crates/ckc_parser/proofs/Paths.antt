@@ -37,7 +37,7 @@ up s {q} low = record { no_higher = omega (arith, around_height s q, low.no_high
 pub one : {s : ℕ} (t : ℕ) (r : Reach) → Low (node s) (around t r)
 one t r = record { no_higher = omega (arith, around_height t r) }
 
-beside_height : (p q : Reach) → (p.height ≤ (p beside q).height) × (q.height ≤ (p beside q).height) × (((p beside q).height ≡ p.height) ⊎ ((p beside q).height ≡ q.height))
+pub beside_height : (p q : Reach) → (p.height ≤ (p beside q).height) × (q.height ≤ (p beside q).height) × (((p beside q).height ≡ p.height) ⊎ ((p beside q).height ≡ q.height))
 beside_height p q = by_test (nat_lt p.height q.height) refl
   where
     by_test : (b : Bool) → nat_lt p.height q.height ≡ b → (p.height ≤ (p beside q).height) × (q.height ≤ (p beside q).height) × (((p beside q).height ≡ p.height) ⊎ ((p beside q).height ≡ q.height))

@@ -1,18 +1,16 @@
 -- What a function that reads a form answers, from what the functions that it calls answered.
-use Rattle.std.proofs.Common.{◌≡◌, ℕ, zero, suc, ◌+◌, ◌<◌, ◌≤◌, Bool, false, List, [], ◌∷◌, length, Option, Some, None, Result, Ok, Err, refl, sym, ap, subst, ◌∙◌, arith, add-one}
+use Rattle.std.proofs.Common.{◌≡◌, ℕ, zero, suc, ◌+◌, ◌<◌, ◌≤◌, Bool, true, false, List, [], ◌∷◌, Some, Result, Ok, Err, refl, ap, ◌∙◌, arith}
 use Rattle.std.proofs.lemmas.Option.{same_Some, none-some}
 use Rattle.std.specs.Result.{IsErrAnd}
-use Rattle.ckc_text.specs.declared.place.Span.{Span}
 use Rattle.ckc_lexer.specs.declared.token.Token.{Token}
 use Rattle.ckc_lexer.specs.declared.token.TokenKind.{TokenKind}
 use Rattle.ckc_lexer.specs.declared.token.TokenKind.TheVariants as kinds
 use Rattle.ckc_tree.specs.declared.type_form.PointerWord.{PointerWord}
 use Rattle.ckc_tree.specs.Heights.{Reach, around}
 use Rattle.ckc_parser.specs.declared.stuck.Stuck.{Stuck}
-use Rattle.ckc_parser.specs.declared.stuck.Stuck.TheVariants as code
 use Rattle.ckc_parser.specs.Tokens as words
-use Rattle.ckc_parser.specs.Tokens.{token, next_is, IsPointerWord}
-use Rattle.ckc_parser.specs.Failures.{Failure, unexpected, failure, IsLow, Reads}
+use Rattle.ckc_parser.specs.Tokens.{token, next_is, selector, IsPointerWord}
+use Rattle.ckc_parser.specs.Failures.{IsLow}
 use Rattle.ckc_parser.specs.Readings.{pointer_word_of}
 
 -- an error that is passed on
@@ -29,6 +27,15 @@ next is ts rest t b e h = ap (next_is is) e ∙ h
 
 pub next_none : (is : TokenKind → Bool) (ts : List Token) → ts ≡ [] → next_is is ts ≡ false
 next_none is ts e = ap (next_is is) e
+
+pub token_is : (t : Token) (k : TokenKind) → t.kind ≡ k → t ≡ token k t.span
+token_is t k is = ap (λ (kind : TokenKind). token kind t.span) is
+
+pub arrow_is : (k : TokenKind) → selector k ≡ true → (k ≡ kinds.OpenBracket → ⊥) → (k ≡ kinds.Dot → ⊥) → k ≡ kinds.Arrow
+arrow_is kinds.OpenBracket h bracket dot = absurd (bracket refl)
+arrow_is kinds.Dot h bracket dot = absurd (dot refl)
+arrow_is kinds.Arrow h bracket dot = refl
+arrow_is _ h bracket dot = absurd cc
 
 pub low_around : (d s : ℕ) (r : Reach) → d < 200 → IsLow (suc d) r → IsLow d (around s r)
 low_around d s r less low = around_low r.height r.start less low

@@ -50,3 +50,8 @@ ReadsName is ts (Err e) = (failure e ≡ unexpected ts) × (next_is is ts ≡ fa
 abbrev pub TakesTokens : {X : Type 0} → List Token → Result (X × Bor (List Token)) Stuck → Type 0
 TakesTokens ts (Ok found) = length found.1.now < length ts
 TakesTokens {X} ts (Err e) = Unit {0}
+
+-- the same of one that may take none
+abbrev pub MayTakeTokens : {X : Type 0} → List Token → Result (X × Bor (List Token)) Stuck → Type 0
+MayTakeTokens ts (Ok found) = length found.1.now ≤ length ts
+MayTakeTokens {X} ts (Err e) = Unit {0}

@@ -13,6 +13,9 @@ pub mod Failures
 pub mod Readings
 pub mod StuckTypes
 pub mod StuckExpressions
+pub mod Forms
+pub mod Contexts
+pub mod ContextAnswers
 pub mod StuckStatements
 pub mod StuckItems
 pub mod StatementReadings

@@ -1,13 +1,26 @@
 // Reading expressions. What the depth of a tree counts is read by recursion; parentheses, and operators whose operand
 // isn't read yet, wait on a stack of the heap.
 
+ghost use Rattle.std.specs.Prelude.{◌≡◌, ◌≤◌, ◌<◌, ◌∷◌, ◌+◌, ℕ, List, length, true, false, Some, IfOk, IfSome};
+ghost use Rattle.ckc_text.specs.declared.place.Span.{Span as Place};
+ghost use Rattle.ckc_lexer.specs.declared.token.Token.{Token as Sign};
+ghost use Rattle.ckc_lexer.specs.declared.token.TokenKind.TheVariants as kinds;
+ghost use Rattle.ckc_tree.specs.Expressions.{expression, Unary, Binary};
+ghost use Rattle.ckc_tree.specs.Heights.{expression_reach};
+ghost use Rattle.ckc_parser.specs.Tokens as words;
+ghost use Rattle.ckc_parser.specs.StuckExpressions.{unary_word, StuckBinary, StuckExpression, StuckUnary, StuckSelectors};
+ghost use Rattle.ckc_parser.specs.Failures.{Reads, TakesTokens, MayTakeTokens, IsLow};
+ghost use Rattle.ckc_parser.specs.Contexts.{frame, waiting, limit, looser_at, takes_before, Base, IsAround, NeedsOperand, HasOperand, HasTight, paren_start};
+ghost use Rattle.ckc_parser.specs.Readings.{IsBinary, IsUnary, IsSelected, SelectsOne, IsSelector};
+ghost use Rattle.ckc_parser.specs.ContextAnswers.{IsPrefix, IsPrefixed, IsRead, IsNextOperator, IsWaiting, IsUnwrapped, IsSmall, Applies};
+
 use crate::memory::{boxed, push};
-use crate::operand::{Operand, Reach};
+use crate::operand::Operand;
 use crate::primary::{primary, starts_primary};
 use crate::stuck::Stuck;
 use crate::tokens::{
     MAX_DEPTH, binary_operator, close_bracket, close_paren, copied, first, join, level, name,
-    unary_operator,
+    open_paren, unary_operator,
 };
 use ckc_lexer::token::{Token, TokenKind};
 use ckc_text::fault::NoMemory;
@@ -19,7 +32,7 @@ use std::alloc::Global;
 #[derive(Drop)]
 enum Pending {
     Paren {
-        open: Span,
+        start: Span,
     },
     Unary {
         operator: UnaryOperator,
@@ -37,15 +50,23 @@ struct Around {
     pending: Vec<Pending>,
     /// The nodes around it, those around the whole expression included.
     depth: u32,
-    /// The parentheses around it.
-    parens: u32,
     /// The loosest level of an operator that stands in no parentheses.
     loosest: u32,
 }
 
 /// Whether a token is the first of an expression without binary operators.
-pub fn starts_unary(kind: &TokenKind) -> bool {
-    unary_operator(kind).is_some() || matches!(kind, TokenKind::OpenParen) || starts_primary(kind)
+pub fn starts_unary(kind: &TokenKind) -> bool
+    ensures { result ≡ unary_word kind.now }
+{
+    matches!(
+        kind,
+        TokenKind::Star
+            | TokenKind::Ampersand
+            | TokenKind::Minus
+            | TokenKind::Not
+            | TokenKind::Tilde
+            | TokenKind::OpenParen
+    ) || starts_primary(kind)
 }
 
 /// An expression with at most `depth` nodes around it.
@@ -54,16 +75,20 @@ pub fn expression(
     alloc: Global,
     depth: u32,
     tokens: &[Token],
-) -> Result<(Operand, &[Token]), Stuck<'_>> {
+) -> Result<(Operand, &[Token]), Stuck<'_>>
+    requires { depth ≤ 200 }
+    ensures reads { Reads (λ x rest. IsBinary 10 depth tokens.now (expression x.expr) x.outer rest) (StuckExpression depth tokens.now) result }
+    ensures shorter { TakesTokens tokens.now result }
+{
     operators(alloc, depth, 10, tokens)
 }
 
 /// An expression without binary operators outside parentheses.
-pub fn unary(
-    alloc: Global,
-    depth: u32,
-    tokens: &[Token],
-) -> Result<(Operand, &[Token]), Stuck<'_>> {
+pub fn unary(alloc: Global, depth: u32, tokens: &[Token]) -> Result<(Operand, &[Token]), Stuck<'_>>
+    requires { depth ≤ 200 }
+    ensures reads { Reads (λ x rest. IsUnary depth tokens.now (expression x.expr) x.outer rest) (StuckUnary depth tokens.now) result }
+    ensures shorter { TakesTokens tokens.now result }
+{
     operators(alloc, depth, 0, tokens)
 }
 
@@ -74,11 +99,15 @@ fn operators(
     depth: u32,
     loosest: u32,
     tokens: &[Token],
-) -> Result<(Operand, &[Token]), Stuck<'_>> {
+) -> Result<(Operand, &[Token]), Stuck<'_>>
+    requires high { depth ≤ 200 }
+    requires loose { loosest ≤ 10 }
+    ensures reads { Reads (λ x rest. IsBinary loosest depth tokens.now (expression x.expr) x.outer rest) (StuckBinary loosest depth tokens.now) result }
+    ensures shorter { TakesTokens tokens.now result }
+{
     let mut around = Around {
         pending: Vec::new(alloc),
         depth,
-        parens: 0,
         loosest,
     };
     let mut rest = tokens;
@@ -95,25 +124,37 @@ fn operators(
 }
 
 /// Takes the operators and parentheses before an operand.
-fn prefixes<'t>(around: &mut Around, tokens: &'t [Token]) -> Result<&'t [Token], Stuck<'t>> {
+fn prefixes<'t>(around: &mut Around, tokens: &'t [Token]) -> Result<&'t [Token], Stuck<'t>>
+    ensures reads { (b : Base) → NeedsOperand b around.old tokens.now → IsPrefixed b around.new result }
+    ensures shorter { IfOk result (λ rest. length rest.now ≤ length tokens.now) }
+{
     let mut rest = tokens;
-    loop {
-        let (token, behind) = first(rest)?;
-        let start = token.span;
-        if matches!(token.kind, TokenKind::OpenParen) {
-            push(&mut around.pending, Pending::Paren { open: start })?;
-            around.parens += 1;
-        } else if let Some(operator) = unary_operator(&token.kind) {
-            if around.depth >= MAX_DEPTH {
-                return Err(Stuck::TooDeep { start: start.from });
-            }
-            push(&mut around.pending, Pending::Unary { operator, start })?;
-            around.depth += 1;
-        } else {
-            return Ok(rest);
-        }
+    while let Some(behind) = prefix(around, rest)? {
         rest = behind;
     }
+    Ok(rest)
+}
+
+/// Takes the operator or the parenthesis before an operand, where one stands next.
+fn prefix<'t>(around: &mut Around, tokens: &'t [Token]) -> Result<Option<&'t [Token]>, Stuck<'t>>
+    ensures reads { (b : Base) → NeedsOperand b around.old tokens.now → IsPrefix b around.new tokens.now result }
+    ensures shorter { IfOk result (λ found. IfSome found (λ rest. length rest.now < length tokens.now)) }
+{
+    if let Ok((start, behind)) = open_paren(tokens) {
+        push(&mut around.pending, Pending::Paren { start })?;
+        return Ok(Some(behind));
+    }
+    let (token, behind) = first(tokens)?;
+    let Some(operator) = unary_operator(&token.kind) else {
+        return Ok(None);
+    };
+    let start = token.span;
+    if around.depth >= MAX_DEPTH {
+        return Err(Stuck::TooDeep { start: start.from });
+    }
+    push(&mut around.pending, Pending::Unary { operator, start })?;
+    around.depth += 1;
+    Ok(Some(behind))
 }
 
 /// Reads on behind an operand: what selects a part of it, and the parentheses that end behind it. What comes back is
@@ -124,32 +165,60 @@ fn closed<'t>(
     around: &mut Around,
     operand: Operand,
     tokens: &'t [Token],
-) -> Result<(Operand, &'t [Token]), Stuck<'t>> {
+) -> Result<(Operand, &'t [Token]), Stuck<'t>>
+    requires { (b : Base) × HasOperand b around.old (expression operand.expr) operand.outer tokens.now }
+    ensures reads { (b : Base) → HasOperand b around.old (expression operand.expr) operand.outer tokens.now → IsRead b around.new result }
+    ensures shorter { MayTakeTokens tokens.now result }
+{
     let mut operand = operand;
     let mut rest = tokens;
     loop {
         let (selected, behind) = selectors(alloc, around.depth, operand, rest)?;
-        let looser = match next_operator(around, behind) {
-            Some((operator, _)) => level(operator),
-            None => 11,
-        };
+        let looser = looseness(behind);
         let whole = reduced(alloc, around, looser, selected)?;
-        if looser <= 10 || around.parens == 0 {
+        if looser <= 10 {
             return Ok((whole, behind));
         }
+        let Some(start) = last_paren(around.pending.as_slice()) else {
+            return Ok((whole, behind));
+        };
         let (close, behind) = close_paren(behind)?;
-        operand = unwrapped(around, whole, close);
+        operand = unwrapped(around, whole, join(start, close));
         rest = behind;
     }
 }
 
+/// The level of the operator that stands next, and 11 where none does.
+fn looseness(tokens: &[Token]) -> u32
+    ensures { result ≡ looser_at tokens.now }
+{
+    match binary_operator(tokens) {
+        Some((operator, _)) => level(operator),
+        None => 11,
+    }
+}
+
+/// The loosest level of an operator that belongs to the operand of the form that waits last; outside all forms it is
+/// given.
+fn loosest(pending: &[Pending], outside: u32) -> u32
+    ensures { result ≡ limit outside (waiting pending.now) }
+{
+    let Some((last, _)) = pending.split_last() else {
+        return outside;
+    };
+    match last {
+        Pending::Paren { .. } => 10,
+        Pending::Unary { .. } => 0,
+        Pending::Binary { operator, .. } => level(*operator) - 1,
+    }
+}
+
 /// The operator that stands next, where it belongs to this expression.
-fn next_operator<'t>(
-    around: &Around,
-    tokens: &'t [Token],
-) -> Option<(BinaryOperator, &'t [Token])> {
+fn next_operator<'t>(around: &Around, tokens: &'t [Token]) -> Option<(BinaryOperator, &'t [Token])>
+    ensures { IsNextOperator (limit around.now.loosest (waiting around.now.pending.items)) tokens.now result }
+{
     let (operator, rest) = binary_operator(tokens)?;
-    if around.parens > 0 || level(operator) <= around.loosest {
+    if level(operator) <= loosest(around.pending.as_slice(), around.loosest) {
         Some((operator, rest))
     } else {
         None
@@ -162,31 +231,58 @@ fn wait_for_right<'t>(
     operator: BinaryOperator,
     left: Operand,
     behind: &'t [Token],
-) -> Result<(), Stuck<'t>> {
+) -> Result<(), Stuck<'t>>
+    requires low { IsLow around.old.depth (expression_reach (expression left.expr)) }
+    requires depth { around.old.depth ≤ 200 }
+    ensures { (b : Base) (ts : List Sign) → words.operator_at ts ≡ Some (operator, behind.now) → words.level operator ≤ limit around.old.loosest (waiting around.old.pending.items)
+        → HasTight b around.old (words.level operator) (expression left.expr) left.outer ts → IsWaiting b around.new behind.now result }
+{
     if around.depth + left.reach.height >= MAX_DEPTH {
-        return Err(Stuck::TooDeep { start: left.reach.start });
+        return Err(Stuck::TooDeep {
+            start: left.reach.start,
+        });
     }
     push(&mut around.pending, Pending::Binary { operator, left })?;
     around.depth += 1;
     Ok(())
 }
 
-/// The operand with the parentheses around it that end with this one.
-fn unwrapped(around: &mut Around, operand: Operand, close: Span) -> Operand {
-    let mut operand = operand;
-    if let Some(Pending::Paren { open }) = around.pending.pop() {
-        around.parens -= 1;
-        operand.outer = join(open, close);
+/// Where the parenthesis starts that waits last, if one does.
+fn last_paren(pending: &[Pending]) -> Option<Span>
+    ensures { result ≡ paren_start (waiting pending.now) }
+{
+    let (last, _) = pending.split_last()?;
+    match last {
+        Pending::Paren { start } => Some(*start),
+        _ => None,
     }
-    operand
+}
+
+/// The operand with the parentheses around it, which were the last form that waited.
+fn unwrapped(around: &mut Around, operand: Operand, outer: Span) -> Operand
+    requires { 0 < length around.old.pending.items }
+    ensures { IsUnwrapped around.old around.new operand outer result }
+{
+    let others = around.pending.len() - 1;
+    around.pending.truncate(others);
+    Operand {
+        expr: operand.expr,
+        outer,
+        reach: operand.reach,
+    }
 }
 
 /// Whether the last form that waits takes an operand before an operator of this level.
-fn takes_before(pending: &[Pending], looser: u32) -> bool {
-    match pending.last() {
-        Some(Pending::Unary { .. }) => true,
-        Some(Pending::Binary { operator, .. }) => level(*operator) <= looser,
-        Some(Pending::Paren { .. }) | None => false,
+fn takes_before(pending: &[Pending], looser: u32) -> bool
+    ensures { result ≡ takes_before (waiting pending.now) looser }
+{
+    let Some((last, _)) = pending.split_last() else {
+        return false;
+    };
+    match last {
+        Pending::Paren { .. } => false,
+        Pending::Unary { .. } => true,
+        Pending::Binary { operator, .. } => level(*operator) <= looser,
     }
 }
 
@@ -196,7 +292,11 @@ fn reduced(
     around: &mut Around,
     looser: u32,
     operand: Operand,
-) -> Result<Operand, NoMemory> {
+) -> Result<Operand, NoMemory>
+    requires { (b : Base) × IsAround b around.old × IsLow around.old.depth (expression_reach (expression operand.expr)) }
+    ensures { (b : Base) (ts : List Sign) → looser ≡ looser_at ts → HasTight b around.old looser (expression operand.expr) operand.outer ts
+        → IfOk result (λ whole. HasTight b around.new looser (expression whole.expr) whole.outer ts × (takes_before (waiting around.new.pending.items) looser ≡ false)) }
+{
     let mut operand = operand;
     while takes_before(around.pending.as_slice(), looser) {
         if let Some(pending) = around.pending.pop() {
@@ -208,36 +308,63 @@ fn reduced(
 }
 
 /// The form that waited, with its last operand.
-fn applied(alloc: Global, pending: Pending, operand: Operand) -> Result<Operand, NoMemory> {
+fn applied(alloc: Global, pending: Pending, operand: Operand) -> Result<Operand, NoMemory>
+    requires last { operand.reach.height ≤ 200 }
+    requires others { IsSmall pending }
+    ensures { IfOk result (λ whole. Applies (frame pending) (expression operand.expr) operand.outer (expression whole.expr) whole.outer) }
+{
     match pending {
         Pending::Paren { .. } => Ok(operand),
-        Pending::Unary { operator, start } => {
-            let span = join(start, operand.outer);
-            let reach = operand.reach.around(span.from);
-            let operand = boxed(alloc, operand.expr)?;
-            let expr = Expr::Unary {
-                operator,
-                operand,
-                span,
-            };
-            let outer = span;
-            Ok(Operand { expr, outer, reach })
-        }
-        Pending::Binary { operator, left } => {
-            let span = join(left.outer, operand.outer);
-            let reach = left.reach.beside(operand.reach).around(span.from);
-            let left = boxed(alloc, left.expr)?;
-            let right = boxed(alloc, operand.expr)?;
-            let expr = Expr::Binary {
-                operator,
-                left,
-                right,
-                span,
-            };
-            let outer = span;
-            Ok(Operand { expr, outer, reach })
-        }
+        Pending::Unary { operator, start } => unary_with(alloc, operator, start, operand),
+        Pending::Binary { operator, left } => binary_with(alloc, operator, left, operand),
     }
+}
+
+/// The operator before its operand.
+fn unary_with(
+    alloc: Global,
+    operator: UnaryOperator,
+    start: Span,
+    operand: Operand,
+) -> Result<Operand, NoMemory>
+    requires { operand.reach.height ≤ 200 }
+    ensures { IfOk result (λ whole. (expression whole.expr ≡ Unary operator (expression operand.expr) (words.join start operand.outer)) × (whole.outer ≡ words.join start operand.outer)) }
+{
+    let span = join(start, operand.outer);
+    let reach = operand.reach.around(span.from);
+    let operand = boxed(alloc, operand.expr)?;
+    let expr = Expr::Unary {
+        operator,
+        operand,
+        span,
+    };
+    let outer = span;
+    Ok(Operand { expr, outer, reach })
+}
+
+/// The operator between its operands.
+fn binary_with(
+    alloc: Global,
+    operator: BinaryOperator,
+    left: Operand,
+    right: Operand,
+) -> Result<Operand, NoMemory>
+    requires left { left.reach.height ≤ 200 }
+    requires right { right.reach.height ≤ 200 }
+    ensures { IfOk result (λ whole. (expression whole.expr ≡ Binary operator (expression left.expr) (expression right.expr) (words.join left.outer right.outer)) × (whole.outer ≡ words.join left.outer right.outer)) }
+{
+    let span = join(left.outer, right.outer);
+    let reach = left.reach.beside(right.reach).around(span.from);
+    let left = boxed(alloc, left.expr)?;
+    let right = boxed(alloc, right.expr)?;
+    let expr = Expr::Binary {
+        operator,
+        left,
+        right,
+        span,
+    };
+    let outer = span;
+    Ok(Operand { expr, outer, reach })
 }
 
 /// Takes the indices and members behind an operand, each of which makes it deeper by one.
@@ -247,56 +374,118 @@ fn selectors(
     depth: u32,
     operand: Operand,
     tokens: &[Token],
-) -> Result<(Operand, &[Token]), Stuck<'_>> {
+) -> Result<(Operand, &[Token]), Stuck<'_>>
+    requires high { depth ≤ 200 }
+    requires low { IsLow depth (expression_reach (expression operand.expr)) }
+    ensures reads { Reads (λ x rest. IsSelected (expression operand.expr) operand.outer depth tokens.now (expression x.expr) x.outer rest) (StuckSelectors (expression operand.expr) operand.outer depth tokens.now) result }
+    ensures shorter { MayTakeTokens tokens.now result }
+{
     let mut operand = operand;
     let mut rest = tokens;
-    while let Some((token, behind)) = rest.split_first() {
-        if !matches!(
-            token.kind,
-            TokenKind::OpenBracket | TokenKind::Dot | TokenKind::Arrow
-        ) {
-            break;
-        }
+    while let Some((token, behind)) = selector(rest) {
         if depth + operand.reach.height >= MAX_DEPTH {
-            return Err(Stuck::TooDeep { start: operand.reach.start });
+            return Err(Stuck::TooDeep {
+                start: operand.reach.start,
+            });
         }
-        let (longer, behind) = selected(alloc, depth, operand, &token.kind, behind)?;
+        let (longer, behind) = selected(alloc, depth, operand, token, behind)?;
         operand = longer;
         rest = behind;
     }
     Ok((operand, rest))
 }
 
-/// The operand with what this first token of an index or a member selects of it.
+/// The first token and those behind it, where it is the first of an index or a member.
+fn selector(tokens: &[Token]) -> Option<(&Token, &[Token])>
+    ensures { IsSelector tokens.now result }
+{
+    let (token, rest) = tokens.split_first()?;
+    match token.kind {
+        TokenKind::OpenBracket | TokenKind::Dot | TokenKind::Arrow => Some((token, rest)),
+        _ => None,
+    }
+}
+
+/// The operand with what this first token of an index or a member, and those behind it, select of it.
 #[cycle(expressions)]
 fn selected<'t>(
     alloc: Global,
     depth: u32,
     operand: Operand,
-    kind: &TokenKind,
+    token: &Token,
     tokens: &'t [Token],
-) -> Result<(Operand, &'t [Token]), Stuck<'t>> {
-    if matches!(kind, TokenKind::OpenBracket) {
-        let (index, rest) = expression(alloc, depth + 1, tokens)?;
-        let (end, rest) = close_bracket(rest)?;
-        let outer = join(operand.outer, end);
-        let reach = operand.reach.beside(index.reach).around(outer.from);
-        let base = boxed(alloc, operand.expr)?;
-        let index = boxed(alloc, index.expr)?;
-        let span = outer;
-        let expr = Expr::Index { base, index, span };
-        return Ok((Operand { expr, outer, reach }, rest));
+) -> Result<(Operand, &'t [Token]), Stuck<'t>>
+    requires room { depth + operand.reach.height < 200 }
+    requires first { words.selector token.now.kind ≡ true }
+    ensures reads { Reads (λ x rest. SelectsOne (expression operand.expr) operand.outer depth (token.now ∷ tokens.now) (expression x.expr) x.outer rest) (StuckSelectors (expression operand.expr) operand.outer depth (token.now ∷ tokens.now)) result }
+    ensures shorter { TakesTokens tokens.now result }
+{
+    match token.kind {
+        TokenKind::OpenBracket => indexed(alloc, depth, operand, tokens),
+        TokenKind::Dot => dotted(alloc, operand, tokens),
+        _ => pointed(alloc, operand, tokens),
     }
+}
+
+/// The element of an array or a pointer with the index that these tokens give.
+#[cycle(expressions)]
+fn indexed<'t>(
+    alloc: Global,
+    depth: u32,
+    operand: Operand,
+    tokens: &'t [Token],
+) -> Result<(Operand, &'t [Token]), Stuck<'t>>
+    requires { depth + operand.reach.height < 200 }
+    ensures reads { (start : Place) → Reads (λ x rest. SelectsOne (expression operand.expr) operand.outer depth (words.token kinds.OpenBracket start ∷ tokens.now) (expression x.expr) x.outer rest) (StuckSelectors (expression operand.expr) operand.outer depth (words.token kinds.OpenBracket start ∷ tokens.now)) result }
+    ensures shorter { TakesTokens tokens.now result }
+{
+    let (index, rest) = expression(alloc, depth + 1, tokens)?;
+    let (end, rest) = close_bracket(rest)?;
+    let outer = join(operand.outer, end);
+    let reach = operand.reach.beside(index.reach).around(outer.from);
+    let base = boxed(alloc, operand.expr)?;
+    let index = boxed(alloc, index.expr)?;
+    let span = outer;
+    let expr = Expr::Index { base, index, span };
+    Ok((Operand { expr, outer, reach }, rest))
+}
+
+/// The member with the name that these tokens give.
+fn dotted<'t>(
+    alloc: Global,
+    operand: Operand,
+    tokens: &'t [Token],
+) -> Result<(Operand, &'t [Token]), Stuck<'t>>
+    requires { operand.reach.height < 200 }
+    ensures reads { (depth : ℕ) (start : Place) → depth + operand.reach.height < 200 → Reads (λ x rest. SelectsOne (expression operand.expr) operand.outer depth (words.token kinds.Dot start ∷ tokens.now) (expression x.expr) x.outer rest) (StuckSelectors (expression operand.expr) operand.outer depth (words.token kinds.Dot start ∷ tokens.now)) result }
+    ensures shorter { TakesTokens tokens.now result }
+{
     let (member, end, rest) = name(tokens)?;
     let member = copied(alloc, member, end)?;
     let outer = join(operand.outer, end);
     let reach = operand.reach.around(outer.from);
     let base = boxed(alloc, operand.expr)?;
     let span = outer;
-    let expr = if matches!(kind, TokenKind::Dot) {
-        Expr::Dot { base, member, span }
-    } else {
-        Expr::Arrow { base, member, span }
-    };
+    let expr = Expr::Dot { base, member, span };
+    Ok((Operand { expr, outer, reach }, rest))
+}
+
+/// The member of what a pointer points to, with the name that these tokens give.
+fn pointed<'t>(
+    alloc: Global,
+    operand: Operand,
+    tokens: &'t [Token],
+) -> Result<(Operand, &'t [Token]), Stuck<'t>>
+    requires { operand.reach.height < 200 }
+    ensures reads { (depth : ℕ) (start : Place) → depth + operand.reach.height < 200 → Reads (λ x rest. SelectsOne (expression operand.expr) operand.outer depth (words.token kinds.Arrow start ∷ tokens.now) (expression x.expr) x.outer rest) (StuckSelectors (expression operand.expr) operand.outer depth (words.token kinds.Arrow start ∷ tokens.now)) result }
+    ensures shorter { TakesTokens tokens.now result }
+{
+    let (member, end, rest) = name(tokens)?;
+    let member = copied(alloc, member, end)?;
+    let outer = join(operand.outer, end);
+    let reach = operand.reach.around(outer.from);
+    let base = boxed(alloc, operand.expr)?;
+    let span = outer;
+    let expr = Expr::Arrow { base, member, span };
     Ok((Operand { expr, outer, reach }, rest))
 }

@@ -1,20 +1,34 @@
 // Reading the smallest expressions, with what stands in their own parentheses.
 
-use crate::bounds::bounds;
+ghost use Rattle.std.specs.Prelude.{◌≡◌, ◌≤◌, ◌<◌, ◌∷◌, ◌++◌, [], IfOk};
+ghost use Rattle.ckc_lexer.specs.declared.token.TokenKind.{TokenKind as Kind};
+ghost use Rattle.ckc_lexer.specs.declared.token.TokenKind.TheVariants as kinds;
+ghost use Rattle.ckc_tree.specs.Expressions.{Cast, BoundedCast, expression, bounds as bounds_of};
+ghost use Rattle.ckc_tree.specs.Types.{type_name as type_name_of};
+ghost use Rattle.ckc_tree.specs.Heights.{node, expression_reach, expressions_reach};
+ghost use Rattle.ckc_parser.specs.Tokens.{token, IsCastWord, IsMallocWord, IsCallocWord};
+ghost use Rattle.ckc_parser.specs.StuckExpressions.{primary_word, StuckPrimary, StuckArguments, StuckMoreArguments};
+ghost use Rattle.ckc_parser.specs.Failures.{Reads, TakesTokens, MayTakeTokens, IsLow};
+ghost use Rattle.ckc_parser.specs.Readings.{reach_of, listed, IsPrimary, IsArguments, IsMore, FailsPrimary};
+
+use crate::bounds::{ReadBounds, bounds};
 use crate::expressions::expression;
 use crate::memory::{boxed, push};
 use crate::operand::{Operand, Reach};
 use crate::stuck::Stuck;
 use crate::tokens::{MAX_DEPTH, close_paren, comma, copied, first, join, open_paren};
-use crate::types::{angled, type_name};
+use crate::types::{ReadTypeName, angled, type_name};
 use ckc_lexer::token::{Token, TokenKind};
+use ckc_text::fault::NoMemory;
 use ckc_text::name::Name;
 use ckc_text::place::Span;
 use ckc_tree::expr::{CallocWord, CastWord, Expr, MallocWord};
 use std::alloc::Global;
 
 /// Whether a token is the first of an expression without operators and parentheses around it.
-pub fn starts_primary(kind: &TokenKind) -> bool {
+pub fn starts_primary(kind: &TokenKind) -> bool
+    ensures { result ≡ primary_word kind.now }
+{
     matches!(
         kind,
         TokenKind::Number(_)
@@ -32,7 +46,11 @@ pub fn starts_primary(kind: &TokenKind) -> bool {
 }
 
 /// An expression of one token.
-fn leaf(expr: Expr, span: Span) -> Operand {
+fn leaf(expr: Expr, span: Span) -> Operand
+    requires { expression_reach (expression expr) ≡ node span.from }
+    ensures same { result.expr ≡ expr }
+    ensures outer { result.outer ≡ span }
+{
     Operand {
         expr,
         outer: span,
@@ -46,7 +64,11 @@ pub fn primary(
     alloc: Global,
     depth: u32,
     tokens: &[Token],
-) -> Result<(Operand, &[Token]), Stuck<'_>> {
+) -> Result<(Operand, &[Token]), Stuck<'_>>
+    requires { depth ≤ 200 }
+    ensures reads { Reads (λ x rest. IsPrimary depth tokens.now (expression x.expr) x.outer rest) (FailsPrimary depth tokens.now) result }
+    ensures shorter { TakesTokens tokens.now result }
+{
     let (token, rest) = first(tokens)?;
     if !starts_primary(&token.kind) {
         return Err(Stuck::Unexpected { at: tokens });
@@ -87,7 +109,8 @@ pub fn primary(
         TokenKind::Malloc => malloc(alloc, depth, MallocWord::Malloc, span, rest),
         TokenKind::TMalloc => malloc(alloc, depth, MallocWord::TMalloc, span, rest),
         TokenKind::Calloc => calloc(alloc, depth, CallocWord::Calloc, span, rest),
-        _ => calloc(alloc, depth, CallocWord::NtCalloc, span, rest),
+        TokenKind::NtCalloc => calloc(alloc, depth, CallocWord::NtCalloc, span, rest),
+        _ => Err(Stuck::Unexpected { at: tokens }),
     }
 }
 
@@ -99,60 +122,94 @@ fn name_or_call<'t>(
     name: &Name,
     span: Span,
     tokens: &'t [Token],
-) -> Result<(Operand, &'t [Token]), Stuck<'t>> {
+) -> Result<(Operand, &'t [Token]), Stuck<'t>>
+    requires { depth < 200 }
+    ensures reads { Reads (λ x rest. IsPrimary depth (token (kinds.Name name.now) span ∷ tokens.now) (expression x.expr) x.outer rest) (StuckPrimary depth (token (kinds.Name name.now) span ∷ tokens.now)) result }
+    ensures shorter { MayTakeTokens tokens.now result }
+{
     let name = copied(alloc, name, span)?;
     let Ok((_, rest)) = open_paren(tokens) else {
         return Ok((leaf(Expr::Name { name }, span), tokens));
     };
-    let (read, rest) = arguments(alloc, depth + 1, rest)?;
-    let span = join(span, read.end);
+    let ((read, end), rest) = arguments(alloc, depth + 1, rest)?;
+    let outer = join(span, end);
+    let reach = read.reach.around(outer.from);
     let expr = Expr::Call {
         callee: name,
         arguments: read.items,
-        span,
+        span: outer,
     };
-    let reach = read.reach.around(span.from);
-    Ok((
-        Operand {
-            expr,
-            outer: span,
-            reach,
-        },
-        rest,
-    ))
+    Ok((Operand { expr, outer, reach }, rest))
 }
 
-/// The arguments of a call, their reach, and the span of the parenthesis behind them.
+/// The arguments of a call, and their reach.
 #[derive(Drop)]
 struct ReadArguments {
     items: Vec<Expr>,
     reach: Reach,
-    end: Span,
+    ghost exact: { reach_of reach ≡ expressions_reach (listed items.items) },
 }
 
-/// The arguments of a call, and the parenthesis behind them.
+/// No arguments.
+fn no_arguments(alloc: Global) -> ReadArguments
+    ensures { result.items.items ≡ [] }
+{
+    ReadArguments {
+        items: Vec::new(alloc),
+        reach: Reach::nowhere(),
+    }
+}
+
+/// The arguments with one more behind them.
+fn with_argument(arguments: ReadArguments, argument: Operand) -> Result<ReadArguments, NoMemory>
+    ensures { IfOk result (λ all. all.items.items ≡ arguments.items.items ++ argument.expr ∷ []) }
+{
+    let mut items = arguments.items;
+    let reach = arguments.reach.beside(argument.reach);
+    push(&mut items, argument.expr)?;
+    Ok(ReadArguments { items, reach })
+}
+
+/// The arguments of a call, and the parenthesis behind them, with its span.
 #[cycle(expressions)]
 fn arguments(
     alloc: Global,
     depth: u32,
     tokens: &[Token],
-) -> Result<(ReadArguments, &[Token]), Stuck<'_>> {
-    let mut items = Vec::new(alloc);
-    let mut reach = Reach::nowhere();
+) -> Result<((ReadArguments, Span), &[Token]), Stuck<'_>>
+    requires { depth ≤ 200 }
+    ensures reads { Reads (λ x rest. IsArguments depth tokens.now (listed x.0.items.items) x.1 rest) (StuckArguments depth tokens.now) result }
+    ensures shorter { TakesTokens tokens.now result }
+{
     if let Ok((end, rest)) = close_paren(tokens) {
-        return Ok((ReadArguments { items, reach, end }, rest));
+        return Ok(((no_arguments(alloc), end), rest));
     }
+    let (first, rest) = expression(alloc, depth, tokens)?;
+    let arguments = with_argument(no_arguments(alloc), first)?;
+    more_arguments(alloc, depth, arguments, rest)
+}
+
+/// The arguments and those that follow behind commas, up to the parenthesis.
+#[cycle(expressions)]
+fn more_arguments(
+    alloc: Global,
+    depth: u32,
+    mut arguments: ReadArguments,
+    tokens: &[Token],
+) -> Result<((ReadArguments, Span), &[Token]), Stuck<'_>>
+    requires high { depth ≤ 200 }
+    requires low { IsLow depth (expressions_reach (listed arguments.items.items)) }
+    ensures reads { Reads (λ x rest. IsMore depth arguments.items.items tokens.now x.0.items.items x.1 rest) (StuckMoreArguments depth tokens.now) result }
+    ensures shorter { TakesTokens tokens.now result }
+{
     let mut rest = tokens;
-    loop {
-        let (argument, behind) = expression(alloc, depth, rest)?;
-        reach = reach.beside(argument.reach);
-        push(&mut items, argument.expr)?;
-        if let Ok((end, rest)) = close_paren(behind) {
-            return Ok((ReadArguments { items, reach, end }, rest));
-        }
-        let (_, behind) = comma(behind)?;
+    while let Ok((_, behind)) = comma(rest) {
+        let (argument, behind) = expression(alloc, depth, behind)?;
+        arguments = with_argument(arguments, argument)?;
         rest = behind;
     }
+    let (end, rest) = close_paren(rest)?;
+    Ok(((arguments, end), rest))
 }
 
 /// The type and the parentheses behind the word `sizeof`.
@@ -161,7 +218,11 @@ fn size_of(
     depth: u32,
     word: Span,
     tokens: &[Token],
-) -> Result<(Operand, &[Token]), Stuck<'_>> {
+) -> Result<(Operand, &[Token]), Stuck<'_>>
+    requires { depth < 200 }
+    ensures reads { Reads (λ x rest. IsPrimary depth (token kinds.Sizeof word ∷ tokens.now) (expression x.expr) x.outer rest) (StuckPrimary depth (token kinds.Sizeof word ∷ tokens.now)) result }
+    ensures shorter { TakesTokens tokens.now result }
+{
     let (_, rest) = open_paren(tokens)?;
     let (read, rest) = type_name(alloc, depth + 1, rest)?;
     let (end, rest) = close_paren(rest)?;
@@ -181,39 +242,74 @@ fn cast(
     word: CastWord,
     start: Span,
     tokens: &[Token],
-) -> Result<(Operand, &[Token]), Stuck<'_>> {
+) -> Result<(Operand, &[Token]), Stuck<'_>>
+    requires { depth < 200 }
+    ensures reads { (k : Kind) → IsCastWord k word → Reads (λ x rest. IsPrimary depth (token k start ∷ tokens.now) (expression x.expr) x.outer rest) (StuckPrimary depth (token k start ∷ tokens.now)) result }
+    ensures shorter { TakesTokens tokens.now result }
+{
     let (read, rest) = angled(alloc, depth + 1, tokens)?;
     let (operand, rest) = expression(alloc, depth + 1, rest)?;
-    let reach = read.reach.beside(operand.reach);
-    let type_name = read.type_name;
-    let operand = boxed(alloc, operand.expr)?;
     if let Ok((end, rest)) = close_paren(rest) {
-        let span = join(start, end);
-        let reach = reach.around(span.from);
-        let expr = Expr::Cast {
-            word,
-            type_name,
-            operand,
-            bounds: None,
-            span,
-        };
-        let outer = span;
-        return Ok((Operand { expr, outer, reach }, rest));
+        let cast = plain_cast(alloc, word, read, operand, join(start, end))?;
+        return Ok((cast, rest));
     }
     let (_, rest) = comma(rest)?;
     let (written, rest) = bounds(alloc, depth + 1, rest)?;
     let (end, rest) = close_paren(rest)?;
-    let span = join(start, end);
-    let reach = reach.beside(written.reach).around(span.from);
+    let cast = bounded_cast(alloc, word, read, operand, written, join(start, end))?;
+    Ok((cast, rest))
+}
+
+/// A cast without bounds.
+fn plain_cast(
+    alloc: Global,
+    word: CastWord,
+    read: ReadTypeName,
+    operand: Operand,
+    outer: Span,
+) -> Result<Operand, NoMemory>
+    requires read { read.reach.height ≤ 200 }
+    requires operand { operand.reach.height ≤ 200 }
+    ensures { IfOk result (λ cast. (expression cast.expr ≡ Cast word (type_name_of read.type_name) (expression operand.expr) outer) × (cast.outer ≡ outer)) }
+{
+    let reach = read.reach.beside(operand.reach).around(outer.from);
     let expr = Expr::Cast {
         word,
-        type_name,
-        operand,
-        bounds: Some(boxed(alloc, written.text)?),
-        span,
+        type_name: read.type_name,
+        operand: boxed(alloc, operand.expr)?,
+        bounds: None,
+        span: outer,
     };
-    let outer = span;
-    Ok((Operand { expr, outer, reach }, rest))
+    Ok(Operand { expr, outer, reach })
+}
+
+/// A cast with bounds.
+fn bounded_cast(
+    alloc: Global,
+    word: CastWord,
+    read: ReadTypeName,
+    operand: Operand,
+    written: ReadBounds,
+    outer: Span,
+) -> Result<Operand, NoMemory>
+    requires read { read.reach.height ≤ 200 }
+    requires operand { operand.reach.height ≤ 200 }
+    requires written { written.reach.height ≤ 200 }
+    ensures { IfOk result (λ cast. (expression cast.expr ≡ BoundedCast word (type_name_of read.type_name) (expression operand.expr) (bounds_of written.text) outer) × (cast.outer ≡ outer)) }
+{
+    let reach = read
+        .reach
+        .beside(operand.reach)
+        .beside(written.reach)
+        .around(outer.from);
+    let expr = Expr::Cast {
+        word,
+        type_name: read.type_name,
+        operand: boxed(alloc, operand.expr)?,
+        bounds: Some(boxed(alloc, written.text)?),
+        span: outer,
+    };
+    Ok(Operand { expr, outer, reach })
 }
 
 /// What stands behind the word of an allocation of a size.
@@ -224,16 +320,22 @@ fn malloc(
     word: MallocWord,
     start: Span,
     tokens: &[Token],
-) -> Result<(Operand, &[Token]), Stuck<'_>> {
+) -> Result<(Operand, &[Token]), Stuck<'_>>
+    requires { depth < 200 }
+    ensures reads { (k : Kind) → IsMallocWord k word → Reads (λ x rest. IsPrimary depth (token k start ∷ tokens.now) (expression x.expr) x.outer rest) (StuckPrimary depth (token k start ∷ tokens.now)) result }
+    ensures shorter { TakesTokens tokens.now result }
+{
     let (read, rest) = angled(alloc, depth + 1, tokens)?;
     let (size, rest) = expression(alloc, depth + 1, rest)?;
     let (end, rest) = close_paren(rest)?;
     let span = join(start, end);
     let reach = read.reach.beside(size.reach).around(span.from);
+    let type_name = read.type_name;
+    let size = boxed(alloc, size.expr)?;
     let expr = Expr::Malloc {
         word,
-        type_name: read.type_name,
-        size: boxed(alloc, size.expr)?,
+        type_name,
+        size,
         span,
     };
     let outer = span;
@@ -248,7 +350,11 @@ fn calloc(
     word: CallocWord,
     start: Span,
     tokens: &[Token],
-) -> Result<(Operand, &[Token]), Stuck<'_>> {
+) -> Result<(Operand, &[Token]), Stuck<'_>>
+    requires { depth < 200 }
+    ensures reads { (k : Kind) → IsCallocWord k word → Reads (λ x rest. IsPrimary depth (token k start ∷ tokens.now) (expression x.expr) x.outer rest) (StuckPrimary depth (token k start ∷ tokens.now)) result }
+    ensures shorter { TakesTokens tokens.now result }
+{
     let (read, rest) = angled(alloc, depth + 1, tokens)?;
     let (count, rest) = expression(alloc, depth + 1, rest)?;
     let (_, rest) = comma(rest)?;
@@ -260,11 +366,14 @@ fn calloc(
         .beside(count.reach)
         .beside(size.reach)
         .around(span.from);
+    let type_name = read.type_name;
+    let count = boxed(alloc, count.expr)?;
+    let size = boxed(alloc, size.expr)?;
     let expr = Expr::Calloc {
         word,
-        type_name: read.type_name,
-        count: boxed(alloc, count.expr)?,
-        size: boxed(alloc, size.expr)?,
+        type_name,
+        count,
+        size,
         span,
     };
     let outer = span;
