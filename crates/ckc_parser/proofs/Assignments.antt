@@ -1,9 +1,8 @@
 -- What stands behind the target of an assignment, and the assignment.
-use Rattle.std.proofs.Common.{◌≡◌, ◌<◌, ℕ, suc, Bool, true, false, List, [], ◌∷◌, Result, Ok, Err}
+use Rattle.std.proofs.Common.{◌≡◌, ◌<◌, ℕ, suc, true, false, List, [], ◌∷◌, Result, Ok, Err}
 use Rattle.std.specs.Borrow.{Bor}
 use Rattle.ckc_text.specs.declared.place.Span.{Span}
 use Rattle.ckc_lexer.specs.declared.token.Token.{Token}
-use Rattle.ckc_lexer.specs.declared.token.TokenKind.{TokenKind}
 use Rattle.ckc_tree.specs.Expressions.{Expression}
 use Rattle.ckc_tree.specs.declared.stmt as code
 use Rattle.ckc_tree.specs.Statements.{Assignment, assignment}
@@ -13,7 +12,7 @@ use Rattle.ckc_parser.specs.Tokens.{next_is}
 use Rattle.ckc_parser.specs.ExpressionGrammar.{SpellsUnary}
 use Rattle.ckc_parser.specs.StatementGrammar as g
 use Rattle.ckc_parser.specs.StatementGrammar.{SpellsAssignment}
-use Rattle.ckc_parser.specs.Failures.{Failure, failure, Reads, IsLow}
+use Rattle.ckc_parser.specs.Failures.{Failure, Reads, IsLow}
 use Rattle.ckc_parser.specs.StuckExpressions.{unary_word}
 use Rattle.ckc_parser.specs.StuckStatements as stuck
 use Rattle.ckc_parser.specs.StuckStatements.{step_word, assignment_word, StuckAssignment}

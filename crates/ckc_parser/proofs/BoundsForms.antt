@@ -1,5 +1,5 @@
 -- The words of bounds, and the word `unknown`.
-use Rattle.std.proofs.Common.{◌⊎◌, inl, inr, nat_lt, ◌≡◌, ℕ, ◌<◌, ◌≤◌, Bool, true, false, List, [], ◌∷◌, refl, sym, ap, ◌∙◌, arith}
+use Rattle.std.proofs.Common.{inl, inr, nat_lt, ◌≡◌, ℕ, ◌<◌, ◌≤◌, Bool, true, false, List, [], ◌∷◌, refl, arith}
 use Rattle.std.specs.Prelude.{codes}
 use Rattle.std.proofs.lemmas.Bool.Decides.{nat_tests}
 use Rattle.ckc_text.specs.declared.place.Span.{Span}
@@ -10,7 +10,7 @@ use Rattle.ckc_parser.specs.declared.bounds.BoundsForm.{BoundsForm}
 use Rattle.ckc_parser.specs.declared.bounds.BoundsForm.TheVariants as forms
 use Rattle.ckc_parser.specs.Tokens.{token, next_is, comma}
 use Rattle.ckc_parser.specs.StuckTypes.{name_token}
-use Rattle.ckc_parser.specs.Failures.{Failure, too_deep, unexpected}
+use Rattle.ckc_parser.specs.Failures.{Failure}
 use Rattle.ckc_parser.specs.StuckExpressions as s
 use Rattle.ckc_parser.specs.StuckExpressions.{bounds_word, unknown_word, is_unknown, close_paren, comma_or_paren, goes_on, IsCountWord, StuckBinary, StuckBounds}
 use Rattle.ckc_parser.specs.Readings.{count_word, IsRefusal}

@@ -1,6 +1,5 @@
 -- What the parser keeps around an operand, step by step.
-use Rattle.std.proofs.Common.{◌≡◌, ℕ, zero, suc, ◌+◌, ◌-◌, ◌<◌, ◌≤◌, Bool, true, false, List, [], ◌∷◌, ◌++◌, length, Option, Some, None, Result, Ok, Err, refl, sym, ap, subst, ◌∙◌, arith}
-use Rattle.std.specs.Prelude.{nat_le}
+use Rattle.std.proofs.Common.{◌≡◌, ℕ, suc, ◌+◌, ◌-◌, ◌<◌, ◌≤◌, true, false, List, [], ◌∷◌, length, Option, Some, None, Result, Ok, Err, refl, sym, ap, subst, ◌∙◌, arith}
 use Rattle.std.proofs.lemmas.Bool.Decides.{nat_tests}
 use Rattle.std.proofs.lemmas.Option.{same_Some, none-some}
 use Rattle.ckc_text.specs.declared.place.Span.{Span}
@@ -10,7 +9,7 @@ use Rattle.ckc_lexer.specs.declared.token.TokenKind.TheVariants as kinds
 use Rattle.ckc_tree.specs.declared.expr.UnaryOperator.{UnaryOperator}
 use Rattle.ckc_tree.specs.declared.expr.BinaryOperator.{BinaryOperator}
 use Rattle.ckc_tree.specs.Expressions.{Expression, expression}
-use Rattle.ckc_tree.specs.Heights.{Reach, around, expression_reach, ◌beside◌}
+use Rattle.ckc_tree.specs.Heights.{Reach, expression_reach, ◌beside◌}
 use Rattle.std.specs.Borrow.{Bor}
 use Rattle.ckc_parser.specs.declared.stuck.Stuck.{Stuck}
 use Rattle.ckc_parser.specs.declared.operand.Operand.{Operand}
@@ -24,7 +23,7 @@ use Rattle.ckc_parser.specs.Failures.{Failure, unexpected, too_deep, IsLow, Read
 use Rattle.ckc_parser.specs.StuckExpressions as s
 use Rattle.ckc_parser.specs.StuckExpressions.{primary_word, unary_word, close_paren, StuckBinary, StuckUnary, StuckSelectors}
 use Rattle.ckc_parser.specs.Readings.{unary_operator_of, IsBinary, IsUnary, FailsPrimary, no_primary, in_primary}
-use Rattle.ckc_parser.specs.Contexts.{Frame, frame, InParens, OperandOf, RightOf, waiting, limit, depth_in, Fits, looseness, looser_at, takes_before, paren_start, Goes, Selects, Closes, Base, Fails, Completes, Needs, GoesIn, IsAround, NeedsOperand, HasOperand, HasTight, HasWhole}
+use Rattle.ckc_parser.specs.Contexts.{Frame, frame, InParens, OperandOf, RightOf, waiting, limit, depth_in, Fits, looseness, looser_at, takes_before, paren_start, Selects, Closes, Base, Fails, Completes, Needs, GoesIn, IsAround, NeedsOperand, HasOperand, HasTight, HasWhole}
 use Rattle.ckc_parser.specs.ContextAnswers.{prefix_word, Applies, IsSmall, IsUnwrapped}
 use Rattle.ckc_parser.proofs.Readings.{low_around}
 use Rattle.ckc_parser.proofs.Paths.{beside_height}

@@ -1,6 +1,5 @@
 -- What reading an operand leads to, step by step.
-use Rattle.std.proofs.Common.{◌≡◌, ℕ, zero, suc, ◌+◌, ◌-◌, ◌<◌, ◌≤◌, Bool, true, false, List, [], ◌∷◌, ◌++◌, Option, Some, None, refl, sym, ap, subst, ◌∙◌, arith}
-use Rattle.std.specs.Prelude.{nat_eq, nat_le}
+use Rattle.std.proofs.Common.{◌≡◌, ℕ, zero, suc, ◌+◌, ◌-◌, ◌<◌, ◌≤◌, false, List, [], ◌∷◌, Option, Some, None, refl, ap, subst, arith}
 use Rattle.std.proofs.lemmas.Bool.Decides.{nat_tests}
 use Rattle.std.proofs.lemmas.Option.{none-some}
 use Rattle.ckc_text.specs.declared.place.Span.{Span}
@@ -10,15 +9,15 @@ use Rattle.ckc_lexer.specs.declared.token.TokenKind.TheVariants as kinds
 use Rattle.ckc_tree.specs.declared.expr.UnaryOperator.{UnaryOperator}
 use Rattle.ckc_tree.specs.declared.expr.BinaryOperator.{BinaryOperator}
 use Rattle.ckc_tree.specs.declared.expr.BinaryOperator.TheVariants as binary
-use Rattle.ckc_tree.specs.Expressions.{Expression, Unary, Binary}
+use Rattle.ckc_tree.specs.Expressions.{Expression, Binary}
 use Rattle.ckc_tree.specs.Heights.{expression_reach}
-use Rattle.ckc_parser.specs.Tokens.{token, join, IsUnaryOperator, operator_at, level, has_operator, next_is}
+use Rattle.ckc_parser.specs.Tokens.{token, join, IsUnaryOperator, operator_at, level, has_operator}
 use Rattle.ckc_parser.specs.ExpressionGrammar as g
 use Rattle.ckc_parser.specs.ExpressionGrammar.{SpellsBinary, SpellsTail, SpellsUnary, SpellsPrimary, SpellsSelectors}
-use Rattle.ckc_parser.specs.Failures.{Failure, unexpected, too_deep, no_memory, IsLow}
+use Rattle.ckc_parser.specs.Failures.{Failure, too_deep, IsLow}
 use Rattle.ckc_parser.specs.StuckExpressions as s
 use Rattle.ckc_parser.specs.StuckExpressions.{StuckBinary, StuckTail, StuckUnary, StuckPrimary, StuckSelectors, unary_word, close_paren}
-use Rattle.ckc_parser.specs.Contexts.{Frame, InParens, OperandOf, RightOf, limit, depth_in, Fits, looseness, looser_at, Climbs, there, up, StuckClimb, stuck_here, stuck_above, Goes, Selects, Closes, Base, Fails, Completes, Needs, GoesIn}
+use Rattle.ckc_parser.specs.Contexts.{Frame, InParens, OperandOf, RightOf, limit, depth_in, Fits, looseness, looser_at, Climbs, there, up, StuckClimb, stuck_here, stuck_above, Selects, Base, Fails, Completes, Needs, GoesIn}
 use Rattle.ckc_parser.proofs.Readings.{low_around}
 
 -- ---- levels

@@ -1,36 +1,39 @@
 -- What stands at file level: from what was read before a part and what the part answered.
-use Rattle.std.proofs.Common.{◌≡◌, ◌<◌, ℕ, length, Bool, true, false, List, [], ◌∷◌, Option, Some, None, refl, sym, ap, ◌∙◌, arith}
+use Rattle.std.proofs.Common.{◌≡◌, ◌<◌, ◌≤◌, ℕ, length, Bool, false, List, [], ◌∷◌, Option, None, refl, ◌∙◌, arith}
 use Rattle.ckc_text.specs.declared.place.Span.{Span}
 use Rattle.ckc_lexer.specs.declared.token.Token.{Token}
 use Rattle.ckc_lexer.specs.declared.token.TokenKind.{TokenKind}
 use Rattle.ckc_lexer.specs.declared.token.TokenKind.TheVariants as kinds
 use Rattle.ckc_tree.specs.declared.identifier.Identifier.{Identifier}
 use Rattle.ckc_tree.specs.declared.stmt.Mark.{Mark}
+use Rattle.ckc_tree.specs.declared.item.Item as code
 use Rattle.ckc_tree.specs.declared.item.Region.{Region}
 use Rattle.ckc_tree.specs.declared.item.FunctionKind.{FunctionKind}
 use Rattle.ckc_tree.specs.Types.{TypeName}
 use Rattle.ckc_tree.specs.Expressions.{Bounds}
-use Rattle.ckc_tree.specs.Items.{Member, ResultForm, Void, RegionItem, Item}
+use Rattle.ckc_tree.specs.Items.{Member, ResultForm, Void, Parameters, Body, RegionItem, Item}
 use Rattle.ckc_tree.specs.Heights.{result_reach, member_reach}
 use Rattle.ckc_parser.specs.Tokens as words
 use Rattle.ckc_parser.specs.Tokens.{token, next_is, star, tainted_word, mark_word, kind_word, open_paren}
 use Rattle.ckc_parser.specs.TypeGrammar as types
 use Rattle.ckc_parser.specs.TypeGrammar.{SpellsStars}
 use Rattle.ckc_parser.specs.ItemGrammar as g
-use Rattle.ckc_parser.specs.ItemGrammar.{SpellsTainted, SpellsKind, SpellsOptionalMark, SpellsMember, SpellsResult, SpellsRegion, SpellsItem}
+use Rattle.ckc_parser.specs.ItemGrammar.{SpellsTainted, SpellsKind, SpellsOptionalMark, SpellsMember, SpellsListed, SpellsParameters, SpellsResult, SpellsBody, SpellsRegion, SpellsItem}
 use Rattle.ckc_parser.specs.Failures.{Failure, unexpected, IsLow}
 use Rattle.ckc_parser.specs.StuckTypes.{name_token}
 use Rattle.ckc_parser.specs.StuckExpressions.{close_paren, comma_or_paren}
 use Rattle.ckc_parser.specs.StuckStatements.{open_brace, semicolon}
 use Rattle.ckc_parser.specs.StuckItems as stuck
-use Rattle.ckc_parser.specs.StuckItems.{struct_word, body_word, is_name_before, is_structure, is_function, IsAlone, IsLowMember, StuckBody, StuckItem}
+use Rattle.ckc_parser.specs.StuckItems.{scope_word, struct_word, body_word, is_name_before, is_structure, is_function, IsAlone, IsLowMember, StuckBody, StuckItem, StuckItems}
 use Rattle.ckc_parser.specs.StatementReadings.{WordAt}
 use Rattle.ckc_parser.specs.ItemReadings as r
 use Rattle.ckc_parser.specs.ItemReadings.{IsScope, IsKindWord, IsSide, IsLed, IsStructureHead, StuckNamed, StuckResult}
 use Rattle.ckc_parser.proofs.Ahead.{low_beside}
+use Rattle.ckc_parser.proofs.Lists.{GoesOn, AreItems, ended}
 use Rattle.ckc_parser.proofs.Paths.{shorter}
-use Rattle.ckc_parser.proofs.TypePaths.{type_name_path}
-use Rattle.ckc_parser.proofs.StatementPaths.{optional_bounds_path}
+use Rattle.ckc_parser.proofs.TypePaths.{type_path, type_name_path, stars_path}
+use Rattle.ckc_parser.proofs.StatementPaths.{optional_bounds_path, declarators_path, statements_path}
+use Rattle.ckc_parser.proofs.ItemPaths.{members_path}
 
 -- ---- words before an item
 
@@ -47,8 +50,8 @@ is_kind w = by_word w.says w.at
     by_word r.tainted_word at = rw at g.tainted
     by_word r.callback_word at = rw at g.callback
 
-pub is_led : {ts mid rest : List Token} {kind : FunctionKind} {mark : Option Mark} → SpellsKind ts kind mid → SpellsOptionalMark mid mark rest → IsLed ts kind mark rest
-is_led k m = record { marked = _; spelled_kind = k; spelled_mark = m }
+pub is_led : {ts mid rest : List Token} {kind : FunctionKind} {mark : Option Mark} → next_is scope_word ts ≡ false → SpellsKind ts kind mid → SpellsOptionalMark mid mark rest → IsLed ts kind mark rest
+is_led none k m = record { marked = _; no_scope = none; spelled_kind = k; spelled_mark = m }
 
 no_tainted : (k : TokenKind) → kind_word k ≡ false → tainted_word k ≡ false
 no_tainted kinds.Tainted none = none
@@ -97,7 +100,7 @@ pub void_result : {s : Span} {ts rest : List Token} → ts ≡ token kinds.Void 
 void_result at = rw at g.void
 
 pub stuck_result : {ts rest : List Token} {kind : FunctionKind} {mark : Option Mark} {f : Failure} → IsLed ts kind mark rest → StuckResult rest f → StuckItem ts f
-stuck_result led (r.value none fails) = stuck.result led.spelled_kind led.spelled_mark none fails
+stuck_result led (r.value none fails) = stuck.result led.no_scope led.spelled_kind led.spelled_mark none fails
 
 pub stuck_callee : {ts mid rest : List Token} {kind : FunctionKind} {mark : Option Mark} {result : ResultForm} {f : Failure} → IsLed ts kind mark mid → SpellsResult mid result rest → IsLow 0 (result_reach result) → IsAlone kind mark result → StuckNamed rest f → StuckItem ts f
 stuck_callee led d low alone (r.name stars none) = stuck.function_name led.spelled_kind led.spelled_mark d low alone stars none
@@ -141,3 +144,49 @@ low_parameter p m same low = rw same (low_member m low)
 
 pub member_shorter : {ts rest : List Token} {type : TypeName} {name : Identifier} {written : Option Bounds} {o : Span} → SpellsMember ts type name written o rest → length rest < length ts
 member_shorter (g.member d b) = omega (arith, shorter (type_name_path d), shorter (optional_bounds_path b))
+
+-- ---- how many tokens an item takes
+
+tainted_shorter : {ts rest : List Token} {tainted : Bool} → SpellsTainted ts tainted rest → length rest ≤ length ts
+tainted_shorter (g.absent none) = omega arith
+tainted_shorter g.present = omega arith
+
+kind_shorter : {ts rest : List Token} {kind : FunctionKind} → SpellsKind ts kind rest → length rest ≤ length ts
+kind_shorter (g.trusted none) = omega arith
+kind_shorter g.tainted = omega arith
+kind_shorter g.callback = omega arith
+
+mark_shorter : {ts rest : List Token} {mark : Option Mark} → SpellsOptionalMark ts mark rest → length rest ≤ length ts
+mark_shorter (g.absent none) = omega arith
+mark_shorter (g.present w) = omega arith
+
+result_shorter : {ts rest : List Token} {result : ResultForm} → SpellsResult ts result rest → length rest ≤ length ts
+result_shorter g.void = omega arith
+result_shorter (g.value d) = omega (arith, shorter (type_path d))
+
+listed_shorter : {ts rest : List Token} {members : List Member} {t : Span} → SpellsListed ts members t rest → length rest ≤ length ts
+listed_shorter (g.one d) = omega (arith, member_shorter d)
+listed_shorter (g.more d m) = omega (arith, member_shorter d, listed_shorter m)
+
+parameters_shorter : {ts rest : List Token} {parameters : Parameters} {t : Span} → SpellsParameters ts parameters t rest → length rest ≤ length ts
+parameters_shorter g.nothing = omega arith
+parameters_shorter g.void = omega arith
+parameters_shorter (g.listed d) = omega (arith, listed_shorter d)
+
+body_shorter : {ts rest : List Token} {body : Option Body} {t : Span} → SpellsBody ts body t rest → length rest ≤ length ts
+body_shorter g.absent = omega arith
+body_shorter (g.present m d) = omega (arith, mark_shorter m, shorter (statements_path d))
+
+pub item_shorter : {ts rest : List Token} {item : Item} → SpellsItem ts item rest → length rest < length ts
+item_shorter (g.region d) = omega arith
+item_shorter (g.structure t d) = omega (arith, tainted_shorter t, shorter (members_path d))
+item_shorter (g.global t b d) = omega (arith, tainted_shorter t, shorter (type_path b), shorter (declarators_path d))
+item_shorter (g.function k m r st p b body) = omega (arith, kind_shorter k, mark_shorter m, result_shorter r, shorter (stars_path st), parameters_shorter p, shorter (optional_bounds_path b), body_shorter body)
+
+-- ---- the whole source
+
+pub stuck_first : {t : Token} {ts rest : List Token} {f : Failure} → ts ≡ t ∷ rest → StuckItem ts f → StuckItems ts f
+stuck_first {t} {rest} at fails = rw at (stuck.first {t = t} {ts = rest} (rw at at fails))
+
+pub none_left : {ts rest : List Token} {items : List code.Item} (w : Span) → GoesOn AreItems StuckItems ts items rest → rest ≡ [] → AreItems ts items w rest
+none_left {rest} w so_far none = ended {end = rest} {w = w} so_far (rw none (g.none, omega arith))

@@ -35,7 +35,7 @@ begun_member (b.bounds t c) =
 no_member : {ts : List Token} → BeginsMember ts ts nowhere
 no_member = b.type (types.base types.nothing)
 
-members_path : {x : List Member} {ts r : List Token} → SpellsMembers ts x r → Path (Fact (BeginsMembers ts) (members_reach x)) ts r
+pub members_path : {x : List Member} {ts r : List Token} → SpellsMembers ts x r → Path (Fact (BeginsMembers ts) (members_reach x)) ts r
 members_path (g.one d) =
     past (part (λ us a. fact (b.first a.begins) (grow _ a.low)) (member_path d))
     (next (fact (b.others d (b.first no_member)) same) (here (fact (b.last d) (grow _ same))))

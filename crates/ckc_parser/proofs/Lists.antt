@@ -1,5 +1,5 @@
 -- Loops that read a list: what is left completes the whole.
-use Rattle.std.proofs.Common.{◌≡◌, ℕ, List, [], ◌∷◌, ◌++◌, map, refl, append_assoc}
+use Rattle.std.proofs.Common.{◌≡◌, ℕ, List, [], ◌∷◌, ◌++◌, map, append_assoc}
 use Rattle.std.proofs.lemmas.List.{append-nil}
 use Rattle.ckc_text.specs.declared.place.Span.{Span}
 use Rattle.ckc_lexer.specs.declared.token.Token.{Token}

@@ -1,15 +1,13 @@
 -- What a function that reads a form answers, from what the functions that it calls answered.
-use Rattle.std.proofs.Common.{◌≡◌, ℕ, zero, suc, ◌+◌, ◌<◌, ◌≤◌, Bool, true, false, List, [], ◌∷◌, length, Option, Some, None, Result, Ok, Err, refl, sym, ap, subst, ◌∙◌, arith, add-one}
+use Rattle.std.proofs.Common.{◌≡◌, ℕ, zero, suc, ◌+◌, ◌<◌, ◌≤◌, Bool, true, false, List, [], ◌∷◌, Some, Result, Ok, Err, refl, ap, ◌∙◌, arith}
 use Rattle.std.proofs.lemmas.Option.{same_Some, none-some}
 use Rattle.std.specs.Result.{IsErrAnd}
-use Rattle.ckc_text.specs.declared.place.Span.{Span}
 use Rattle.ckc_lexer.specs.declared.token.Token.{Token}
 use Rattle.ckc_lexer.specs.declared.token.TokenKind.{TokenKind}
 use Rattle.ckc_lexer.specs.declared.token.TokenKind.TheVariants as kinds
 use Rattle.ckc_tree.specs.declared.type_form.PointerWord.{PointerWord}
 use Rattle.ckc_tree.specs.Heights.{Reach, around}
 use Rattle.ckc_parser.specs.declared.stuck.Stuck.{Stuck}
-use Rattle.ckc_parser.specs.declared.stuck.Stuck.TheVariants as code
 use Rattle.ckc_parser.specs.Tokens as words
 use Rattle.ckc_parser.specs.Tokens.{token, next_is, selector, IsPointerWord}
 use Rattle.ckc_parser.specs.Failures.{IsLow}

@@ -1,5 +1,5 @@
 -- The list of the forms that wait, and its last.
-use Rattle.std.proofs.Common.{◌≡◌, ℕ, zero, suc, ◌-◌, ◌+◌, ◌<◌, List, [], ◌∷◌, ◌++◌, Option, Some, None, length, take, refl, sym, ap, ◌∙◌, arith}
+use Rattle.std.proofs.Common.{◌≡◌, ℕ, ◌+◌, List, [], ◌∷◌, ◌++◌, None, length, take, refl, ap, ◌∙◌, arith}
 use Rattle.ckc_text.specs.declared.place.Span.{Span}
 use Rattle.ckc_parser.specs.declared.expressions.Pending.{Pending}
 use Rattle.ckc_parser.specs.declared.expressions.Pending.TheVariants as forms

@@ -1,10 +1,8 @@
 -- Inside: forms that wait for their last operand, and what reading an operand of theirs leads to. Parentheses nest without
 -- a limit, so the parser keeps these forms in a list, the last first; here the list has a meaning.
-use Rattle.std.specs.Prelude.{◌≡◌, ◌≤◌, ◌<◌, ◌+◌, ◌-◌, ℕ, zero, suc, Bool, true, false, nat_le, List, [], ◌∷◌, Option, Some, None, Result, Ok, Err}
-use Rattle.std.specs.Borrow.{Bor}
+use Rattle.std.specs.Prelude.{◌≡◌, ◌≤◌, ◌<◌, ◌-◌, ℕ, suc, Bool, true, false, nat_le, List, [], ◌∷◌, Option, Some, None}
 use Rattle.ckc_text.specs.declared.place.Span.{Span}
 use Rattle.ckc_lexer.specs.declared.token.Token.{Token}
-use Rattle.ckc_lexer.specs.declared.token.TokenKind.{TokenKind}
 use Rattle.ckc_lexer.specs.declared.token.TokenKind.TheVariants as kinds
 use Rattle.ckc_tree.specs.declared.expr.UnaryOperator.{UnaryOperator}
 use Rattle.ckc_tree.specs.declared.expr.BinaryOperator.{BinaryOperator}
@@ -13,11 +11,9 @@ use Rattle.ckc_tree.specs.Heights.{expression_reach}
 use Rattle.ckc_parser.specs.declared.expressions.Around.{Around}
 use Rattle.ckc_parser.specs.declared.expressions.Pending.{Pending}
 use Rattle.ckc_parser.specs.declared.expressions.Pending.TheVariants as forms
-use Rattle.ckc_parser.specs.declared.operand.Operand.{Operand}
-use Rattle.ckc_parser.specs.declared.stuck.Stuck.{Stuck}
 use Rattle.ckc_parser.specs.Tokens.{token, join, operator_at, level, next_is}
 use Rattle.ckc_parser.specs.ExpressionGrammar.{SpellsBinary, SpellsTail, SpellsSelectors}
-use Rattle.ckc_parser.specs.Failures.{Failure, unexpected, failure, IsLow}
+use Rattle.ckc_parser.specs.Failures.{Failure, unexpected, IsLow}
 use Rattle.ckc_parser.specs.StuckExpressions.{close_paren, StuckBinary, StuckTail, StuckSelectors}
 
 -- a form that waits for its last operand

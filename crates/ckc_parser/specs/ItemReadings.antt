@@ -1,5 +1,5 @@
 -- Inside: what the functions that read items answer, and what stands before the parts that they read.
-use Rattle.std.specs.Prelude.{◌≡◌, ℕ, Bool, true, false, List, [], ◌∷◌, Option, Some, None}
+use Rattle.std.specs.Prelude.{◌≡◌, ℕ, Bool, true, false, List, ◌∷◌, Option, Some, None}
 use Rattle.ckc_text.specs.declared.place.Span.{Span}
 use Rattle.ckc_lexer.specs.declared.token.Token.{Token}
 use Rattle.ckc_lexer.specs.declared.token.TokenKind.{TokenKind}
@@ -17,13 +17,9 @@ use Rattle.ckc_parser.specs.TypeGrammar.{SpellsStars, SpellsType}
 use Rattle.ckc_parser.specs.ItemGrammar.{SpellsTainted, SpellsKind, SpellsOptionalMark, SpellsRegion, SpellsResult}
 use Rattle.ckc_parser.specs.Failures.{Failure, unexpected, IsLow}
 use Rattle.ckc_parser.specs.StuckTypes.{name_token, StuckType}
-use Rattle.ckc_parser.specs.StuckItems.{void_word, is_structure, is_function, IsAlone}
+use Rattle.ckc_parser.specs.StuckItems.{scope_word, void_word, is_structure, is_function, IsAlone}
 
 -- ---- words before an item
-
-abbrev pub scope_word : TokenKind → Bool
-scope_word (kinds.Scope scope) = true
-scope_word _ = false
 
 pub data IsScope : TokenKind → Region → Type 0 where
   scope : {scope : CheckedScope} {region : Region} → SpellsRegion scope region → IsScope (kinds.Scope scope) region
@@ -43,9 +39,10 @@ abbrev pub SideAnswers : FunctionKind → Option Mark → Option Bool → Type 0
 SideAnswers kind mark None = (result : ResultForm) → IsAlone kind mark result
 SideAnswers kind mark (Some is) = (mark ≡ None) × IsSide kind is
 
--- the words before the result of a function
+-- the words before the result of a function, which are no directive
 pub record IsLed (whole : List Token) (kind : FunctionKind) (mark : Option Mark) (rest : List Token) : Type 0 where
   pub marked : List Token
+  pub no_scope : next_is scope_word whole ≡ false
   pub spelled_kind : SpellsKind whole kind marked
   pub spelled_mark : SpellsOptionalMark marked mark rest
 

@@ -20,4 +20,4 @@ pub mod StuckStatements
 pub mod StuckItems
 pub mod StatementReadings
 pub mod ItemReadings
-pub mod Faults
+pub mod Refusals

@@ -1,13 +1,13 @@
 // Reading bounds.
 
-ghost use Rattle.std.specs.Prelude.{◌≡◌, ◌≤◌, ◌∷◌, ◌⊎◌, List, ℕ, codes, false, true, length};
+ghost use Rattle.std.specs.Prelude.{◌≡◌, ◌≤◌, ◌∷◌, codes, false};
 ghost use Rattle.std.specs.Str.{bytes_eq};
 ghost use Rattle.ckc_text.specs.declared.place.Span.{Span as Place};
 ghost use Rattle.ckc_lexer.specs.declared.token.TokenKind.TheVariants as kinds;
 ghost use Rattle.ckc_tree.specs.Expressions.{bounds as bounds_of};
 ghost use Rattle.ckc_tree.specs.Heights.{bounds_reach};
 ghost use Rattle.ckc_parser.specs.Tokens.{token};
-ghost use Rattle.ckc_parser.specs.StuckExpressions.{goes_on, is_unknown, IsCountWord, StuckBounds};
+ghost use Rattle.ckc_parser.specs.StuckExpressions.{goes_on, is_unknown, StuckBounds};
 ghost use Rattle.ckc_parser.specs.Failures.{Reads, TakesTokens};
 ghost use Rattle.ckc_parser.specs.Forms.{IsBoundsForm};
 ghost use Rattle.ckc_parser.specs.Readings.{reach_of, count_word, IsBounds, ReadsUnknown, RefusesUnknown};
@@ -16,9 +16,7 @@ use crate::expressions::expression;
 use crate::memory::boxed;
 use crate::operand::Reach;
 use crate::stuck::Stuck;
-use crate::tokens::{
-    MAX_DEPTH, binary_operator, close_paren, comma, first, join, name, open_paren,
-};
+use crate::tokens::{MAX_DEPTH, binary_operator, close_paren, comma, join, name, open_paren};
 use ckc_lexer::token::{Token, TokenKind};
 use ckc_text::name::Name;
 use ckc_text::place::Span;

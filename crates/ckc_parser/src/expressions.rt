@@ -1,7 +1,7 @@
 // Reading expressions. What the depth of a tree counts is read by recursion; parentheses, and operators whose operand
 // isn't read yet, wait on a stack of the heap.
 
-ghost use Rattle.std.specs.Prelude.{◌≡◌, ◌≤◌, ◌<◌, ◌∷◌, ◌+◌, ℕ, List, [], length, true, false, Some, IfOk, IfSome};
+ghost use Rattle.std.specs.Prelude.{◌≡◌, ◌≤◌, ◌<◌, ◌∷◌, ◌+◌, ℕ, List, length, true, false, Some, IfOk, IfSome};
 ghost use Rattle.ckc_text.specs.declared.place.Span.{Span as Place};
 ghost use Rattle.ckc_lexer.specs.declared.token.Token.{Token as Sign};
 ghost use Rattle.ckc_lexer.specs.declared.token.TokenKind.TheVariants as kinds;
@@ -10,12 +10,12 @@ ghost use Rattle.ckc_tree.specs.Heights.{expression_reach};
 ghost use Rattle.ckc_parser.specs.Tokens as words;
 ghost use Rattle.ckc_parser.specs.StuckExpressions.{unary_word, StuckBinary, StuckExpression, StuckUnary, StuckSelectors};
 ghost use Rattle.ckc_parser.specs.Failures.{Reads, TakesTokens, MayTakeTokens, IsLow};
-ghost use Rattle.ckc_parser.specs.Contexts.{Frame, InParens, frame, waiting, limit, looser_at, takes_before, Base, IsAround, NeedsOperand, HasOperand, HasTight, paren_start};
+ghost use Rattle.ckc_parser.specs.Contexts.{frame, waiting, limit, looser_at, takes_before, Base, IsAround, NeedsOperand, HasOperand, HasTight, paren_start};
 ghost use Rattle.ckc_parser.specs.Readings.{IsBinary, IsUnary, IsSelected, SelectsOne, IsSelector};
 ghost use Rattle.ckc_parser.specs.ContextAnswers.{IsPrefix, IsPrefixed, IsRead, IsNextOperator, IsWaiting, IsUnwrapped, IsSmall, Applies};
 
 use crate::memory::{boxed, push};
-use crate::operand::{Operand, Reach};
+use crate::operand::Operand;
 use crate::primary::{primary, starts_primary};
 use crate::stuck::Stuck;
 use crate::tokens::{
@@ -84,11 +84,7 @@ pub fn expression(
 }
 
 /// An expression without binary operators outside parentheses.
-pub fn unary(
-    alloc: Global,
-    depth: u32,
-    tokens: &[Token],
-) -> Result<(Operand, &[Token]), Stuck<'_>>
+pub fn unary(alloc: Global, depth: u32, tokens: &[Token]) -> Result<(Operand, &[Token]), Stuck<'_>>
     requires { depth ≤ 200 }
     ensures reads { Reads (λ x rest. IsUnary depth tokens.now (expression x.expr) x.outer rest) (StuckUnary depth tokens.now) result }
     ensures shorter { TakesTokens tokens.now result }
@@ -140,10 +136,7 @@ fn prefixes<'t>(around: &mut Around, tokens: &'t [Token]) -> Result<&'t [Token],
 }
 
 /// Takes the operator or the parenthesis before an operand, where one stands next.
-fn prefix<'t>(
-    around: &mut Around,
-    tokens: &'t [Token],
-) -> Result<Option<&'t [Token]>, Stuck<'t>>
+fn prefix<'t>(around: &mut Around, tokens: &'t [Token]) -> Result<Option<&'t [Token]>, Stuck<'t>>
     ensures reads { (b : Base) → NeedsOperand b around.old tokens.now → IsPrefix b around.new tokens.now result }
     ensures shorter { IfOk result (λ found. IfSome found (λ rest. length rest.now < length tokens.now)) }
 {
@@ -221,10 +214,7 @@ fn loosest(pending: &[Pending], outside: u32) -> u32
 }
 
 /// The operator that stands next, where it belongs to this expression.
-fn next_operator<'t>(
-    around: &Around,
-    tokens: &'t [Token],
-) -> Option<(BinaryOperator, &'t [Token])>
+fn next_operator<'t>(around: &Around, tokens: &'t [Token]) -> Option<(BinaryOperator, &'t [Token])>
     ensures { IsNextOperator (limit around.now.loosest (waiting around.now.pending.items)) tokens.now result }
 {
     let (operator, rest) = binary_operator(tokens)?;
@@ -248,7 +238,9 @@ fn wait_for_right<'t>(
         → HasTight b around.old (words.level operator) (expression left.expr) left.outer ts → IsWaiting b around.new behind.now result }
 {
     if around.depth + left.reach.height >= MAX_DEPTH {
-        return Err(Stuck::TooDeep { start: left.reach.start });
+        return Err(Stuck::TooDeep {
+            start: left.reach.start,
+        });
     }
     push(&mut around.pending, Pending::Binary { operator, left })?;
     around.depth += 1;
@@ -392,7 +384,9 @@ fn selectors(
     let mut rest = tokens;
     while let Some((token, behind)) = selector(rest) {
         if depth + operand.reach.height >= MAX_DEPTH {
-            return Err(Stuck::TooDeep { start: operand.reach.start });
+            return Err(Stuck::TooDeep {
+                start: operand.reach.start,
+            });
         }
         let (longer, behind) = selected(alloc, depth, operand, token, behind)?;
         operand = longer;

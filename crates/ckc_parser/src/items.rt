@@ -15,7 +15,7 @@ ghost use Rattle.ckc_parser.specs.Failures.{Reads, ReadsMark, IsLow};
 ghost use Rattle.ckc_parser.specs.StuckItems as marks;
 ghost use Rattle.ckc_parser.specs.StuckItems.{IsLowMember, StuckMember, StuckMembers, StuckListed, StuckParameters, StuckBody, StuckItem};
 ghost use Rattle.ckc_parser.specs.StatementReadings.{ReadsWord};
-ghost use Rattle.ckc_parser.specs.ItemReadings.{scope_word, IsScope, IsKindWord, SideAnswers, IsLed, IsBase, IsStructureHead, IsStructure, IsNamed, StuckNamed, StuckResult, IsHead};
+ghost use Rattle.ckc_parser.specs.ItemReadings.{IsScope, IsKindWord, SideAnswers, IsLed, IsBase, IsStructureHead, IsStructure, IsNamed, StuckNamed, StuckResult, IsHead};
 
 use crate::declarations::{Read, declarators, from_first, optional_bounds};
 use crate::memory::push;
@@ -63,7 +63,7 @@ fn struct_word(tokens: &[Token]) -> Result<(Span, &[Token]), Stuck<'_>>
 
 /// What a directive says of all that stands behind it, with its span.
 fn region(tokens: &[Token]) -> Result<(Region, Span, &[Token]), Stuck<'_>>
-    ensures { ReadsWord IsScope scope_word tokens.now result }
+    ensures { ReadsWord IsScope marks.scope_word tokens.now result }
 {
     let (token, rest) = first(tokens)?;
     match &token.kind {

@@ -1,8 +1,19 @@
 // Reading a tree from tokens.
 
+ghost use Rattle.std.specs.Prelude.{◌≡◌, List, map, Err, MatchResult};
+ghost use Rattle.ckc_lexer.specs.declared.token.Token.{Token as TokenOf};
+ghost use Rattle.ckc_parser.specs.Parsing.{point, ParseAnswers};
+ghost use Rattle.ckc_parser.specs.Refusals.{FaultIs};
+ghost use Rattle.ckc_tree.specs.Items.{item};
+ghost use Rattle.ckc_tree.specs.Heights.{items_reach};
+ghost use Rattle.ckc_parser.specs.ItemGrammar.{SpellsItems};
+ghost use Rattle.ckc_parser.specs.StuckItems.{StuckItems};
+ghost use Rattle.ckc_parser.specs.Failures.{failure, IsLow};
+
 use crate::items::item;
 use crate::memory::push;
 use crate::stuck::Stuck;
+use crate::tokens::first;
 use ckc_lexer::token::Token;
 use ckc_text::code::Code;
 use ckc_text::fault::{Refused, SourceFault};
@@ -17,7 +28,9 @@ use std::alloc::Global;
 /// E06 at the first token with which the tokens so far begin no source, and at the end of the source where there is no
 /// such token. E07 at the first node of depth 201, as soon as the tokens so far have put it there. Where both could be
 /// named, the one whose token stands first.
-pub fn parse(alloc: Global, source_len: u32, tokens: &[Token]) -> Result<Program, Refused> {
+pub fn parse(alloc: Global, source_len: u32, tokens: &[Token]) -> Result<Program, Refused>
+    ensures { ParseAnswers source_len tokens.now result }
+{
     match items(alloc, tokens) {
         Ok(items) => {
             let span = Span {
@@ -31,19 +44,25 @@ pub fn parse(alloc: Global, source_len: u32, tokens: &[Token]) -> Result<Program
 }
 
 /// All items.
-fn items(alloc: Global, tokens: &[Token]) -> Result<Vec<Item>, Stuck<'_>> {
+fn items(alloc: Global, tokens: &[Token]) -> Result<Vec<Item>, Stuck<'_>>
+    ensures { MatchResult result (λ found. SpellsItems tokens.now (map item found.items) × IsLow 0 (items_reach (map item found.items))) (λ e. StuckItems tokens.now (failure e)) }
+{
     let mut items = Vec::new(alloc);
     let mut rest = tokens;
-    while !rest.is_empty() {
+    'items: loop {
+        let Ok(_) = first(rest) else {
+            return Ok(items);
+        };
         let (item, behind) = item(alloc, rest)?;
         push(&mut items, item)?;
         rest = behind;
     }
-    Ok(items)
 }
 
 /// The refusal of a source of so many bytes.
-fn refused(source_len: u32, stuck: Stuck<'_>) -> Refused {
+fn refused(source_len: u32, stuck: Stuck<'_>) -> Refused
+    ensures { (tokens : List TokenOf) → FaultIs source_len tokens (failure stuck.entry) → ParseAnswers source_len tokens (Err result) }
+{
     match stuck {
         Stuck::Unexpected { at } => {
             let span = match at.split_first() {
@@ -63,6 +82,8 @@ fn refused(source_len: u32, stuck: Stuck<'_>) -> Refused {
 }
 
 /// No bytes, at this one.
-fn point(at: u32) -> Span {
+fn point(at: u32) -> Span
+    ensures { result ≡ point at }
+{
     Span { from: at, to: at }
 }

@@ -1,6 +1,6 @@
 // Reading the smallest expressions, with what stands in their own parentheses.
 
-ghost use Rattle.std.specs.Prelude.{◌≡◌, ◌≤◌, ◌<◌, ◌∷◌, ◌++◌, [], length, IfOk};
+ghost use Rattle.std.specs.Prelude.{◌≡◌, ◌≤◌, ◌<◌, ◌∷◌, ◌++◌, [], IfOk};
 ghost use Rattle.ckc_lexer.specs.declared.token.TokenKind.{TokenKind as Kind};
 ghost use Rattle.ckc_lexer.specs.declared.token.TokenKind.TheVariants as kinds;
 ghost use Rattle.ckc_tree.specs.Expressions.{Cast, BoundedCast, expression, bounds as bounds_of};

@@ -228,9 +228,8 @@ fn greater_or_shift(to: u32, tokens: &[Token]) -> (BinaryOperator, &[Token])
     ensures { Some (result.0, result.1.now) ≡ words.behind_greater to tokens.now }
 {
     match tokens.split_first() {
-        Some((token, rest)) if matches!(token.kind, TokenKind::Greater) && token.span.from == to => {
-            (BinaryOperator::ShiftRight, rest)
-        }
+        Some((token, rest)) if matches!(token.kind, TokenKind::Greater) && token.span.from == to =>
+            { (BinaryOperator::ShiftRight, rest) }
         _ => (BinaryOperator::Greater, tokens),
     }
 }

@@ -1,4 +1,4 @@
-use Rattle.std.proofs.Common.{◌≡◌, ◌≤◌, ◌+◌, [], ◌∷◌, length, refl, sym, ap, subst, ◌∙◌, arith, add-one, rules}
+use Rattle.std.proofs.Common.{◌≤◌, ◌+◌, [], ◌∷◌, length, refl, sym, ap, subst, ◌∙◌, arith, add-one, rules}
 use Rattle.ckc_tree.specs.Expressions.{expression}
 use Rattle.ckc_tree.specs.Heights.{around, expression_reach, expressions_reach}
 use Rattle.ckc_parser.specs.Tokens as words
@@ -123,7 +123,7 @@ pub expressions::indexed-returns-clause-reads : goal.expressions::indexed-return
 expressions::indexed-returns-clause-reads t c = λ start. rw (c.in_ok-base.ensures, c.in_ok-index-2.ensures, c.join-outer.ensures) (index_selects (room _ c.args.operand c.requires) (rw c.in_ok-end.ensures at c.in_ok-index.ensures.reads.0) (rw add-one at c.in_ok-index.ensures.reads.1))
 
 pub expressions::operators-loop-around-init : goal.expressions::operators-loop-around-init
-expressions::operators-loop-around-init t c = 
+expressions::operators-loop-around-init t c =
     let b : Base = record { loosest = c.args.loosest; depth = c.args.depth; tokens = c.args.tokens.now } in
     (needs_in b _ _ [] (ap waiting c.new.ensures.items) refl refl (c.requires.loose, c.requires.high) (needs_first b), omega arith)
 
@@ -176,7 +176,7 @@ pub expressions::selectors-overflow_add-depth : goal.expressions::selectors-over
 expressions::selectors-overflow_add-depth t c = omega (arith, height_is c.loop-token.operand, c.loop-token.invariant.0.low)
 
 pub expressions::selectors-returns-then-depth-operand-ge-MAX_DEPTH-clause-reads : goal.expressions::selectors-returns-then-depth-operand-ge-MAX_DEPTH-clause-reads
-expressions::selectors-returns-then-depth-operand-ge-MAX_DEPTH-clause-reads t c = 
+expressions::selectors-returns-then-depth-operand-ge-MAX_DEPTH-clause-reads t c =
     let deep : 200 ≤ c.args.depth + (expression_reach (expression c.loop-token.operand.expr)).height = omega (arith, height_is c.loop-token.operand) in
     rw (start_is c.loop-token.operand) (c.loop-token.invariant.0.fails (rw c.in-Some.ensures.0 (s.selectors_deep c.in-Some.ensures.1 deep)))
 
@@ -199,7 +199,7 @@ pub primary::arguments-returns-in_err-arguments-clause-reads : goal.primary::arg
 primary::arguments-returns-in_err-arguments-clause-reads t c = rw (err _ _ c.from_residual-in_err-arguments.ensures.1) (s.arguments_no_room)
 
 pub primary::arguments-more_arguments-requires : goal.primary::arguments-more_arguments-requires
-primary::arguments-more_arguments-requires t c = 
+primary::arguments-more_arguments-requires t c =
     let one = rw c.no_arguments-2.ensures at c.in_ok-arguments.ensures in
     (search rules, (c.requires, low_pushed _ [] _ _ one (omega arith) c.in_ok-first.ensures.reads.1))
 
@@ -246,12 +246,12 @@ pub primary::cast-returns-in_err-cast-2-clause-reads : goal.primary::cast-return
 primary::cast-returns-in_err-cast-2-clause-reads t c = λ k is. rw (err _ _ c.from_residual-in_err-cast-2.ensures.1) (s.primary_no_room)
 
 pub primary::cast-returns-in-Ok-clause-reads : goal.primary::cast-returns-in-Ok-clause-reads
-primary::cast-returns-in-Ok-clause-reads t c = λ k is. 
+primary::cast-returns-in-Ok-clause-reads t c = λ k is.
     let low = low_around _ c.args.start.from _ c.requires (low_beside _ _ _ (rw add-one at c.in_ok-read.ensures.reads.1) (rw add-one at c.in_ok-operand.ensures.reads.1)) in
     rw (c.in_ok-cast.ensures.0, c.in_ok-cast.ensures.1, c.join.ensures) (g.cast is c.in_ok-read.ensures.reads.0 (rw c.in-Ok.ensures at c.in_ok-operand.ensures.reads.0), low)
 
 pub primary::cast-returns-clause-reads : goal.primary::cast-returns-clause-reads
-primary::cast-returns-clause-reads t c = λ k is. 
+primary::cast-returns-clause-reads t c = λ k is.
     let low = low_around _ c.args.start.from _ c.requires (low_beside _ _ _ (low_beside _ _ _ (rw add-one at c.in_ok-read.ensures.reads.1) (rw add-one at c.in_ok-operand.ensures.reads.1)) (rw add-one at c.in_ok-written.ensures.reads.1)) in
     rw (c.in_ok-cast-2.ensures.0, c.in_ok-cast-2.ensures.1, c.join-2.ensures) (g.bounded_cast is c.in_ok-read.ensures.reads.0 (rw c.in_ok-rest.ensures at c.in_ok-operand.ensures.reads.0) (rw c.in_ok-end.ensures at c.in_ok-written.ensures.reads.0), low)
 
@@ -268,7 +268,7 @@ pub primary::malloc-returns-in_err-size-2-clause-reads : goal.primary::malloc-re
 primary::malloc-returns-in_err-size-2-clause-reads t c = λ k is. rw (err _ _ c.from_residual-in_err-size-2.ensures.1) (s.primary_no_room)
 
 pub primary::malloc-returns-clause-reads : goal.primary::malloc-returns-clause-reads
-primary::malloc-returns-clause-reads t c = λ k is. 
+primary::malloc-returns-clause-reads t c = λ k is.
     let low = low_around _ c.args.start.from _ c.requires (low_beside _ _ _ (rw add-one at c.in_ok-read.ensures.reads.1) (rw add-one at c.in_ok-size.ensures.reads.1)) in
     rw (c.in_ok-size-2.ensures, c.join-span.ensures) (g.malloc is c.in_ok-read.ensures.reads.0 (rw c.in_ok-end.ensures at c.in_ok-size.ensures.reads.0), low)
 
@@ -294,7 +294,7 @@ pub primary::calloc-returns-in_err-size-2-clause-reads : goal.primary::calloc-re
 primary::calloc-returns-in_err-size-2-clause-reads t c = λ k is. rw (err _ _ c.from_residual-in_err-size-2.ensures.1) (s.primary_no_room)
 
 pub primary::calloc-returns-clause-reads : goal.primary::calloc-returns-clause-reads
-primary::calloc-returns-clause-reads t c = λ k is. 
+primary::calloc-returns-clause-reads t c = λ k is.
     let low = low_around _ c.args.start.from _ c.requires (low_beside _ _ _ (low_beside _ _ _ (rw add-one at c.in_ok-read.ensures.reads.1) (rw add-one at c.in_ok-count.ensures.reads.1)) (rw add-one at c.in_ok-size.ensures.reads.1)) in
     rw (c.in_ok-count-2.ensures, c.in_ok-size-2.ensures, c.join-span.ensures) (g.calloc is c.in_ok-read.ensures.reads.0 (rw c.in_ok-rest.ensures at c.in_ok-count.ensures.reads.0) (rw c.in_ok-end.ensures at c.in_ok-size.ensures.reads.0), low)
 

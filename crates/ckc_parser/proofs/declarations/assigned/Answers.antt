@@ -1,9 +1,7 @@
-use Rattle.std.proofs.Common.{arith, add-one}
+use Rattle.std.proofs.Common.{add-one}
 use Rattle.ckc_parser.specs.StatementReadings as readings
 use Rattle.ckc_parser.proofs.Readings.{low_around}
 use Rattle.ckc_parser.proofs.Ahead.{no_assign_word, low_beside}
-use Rattle.ckc_parser.specs.StatementGrammar as g
-use Rattle.ckc_parser.specs.StuckStatements as stuck
 use Rattle.ckc_parser.proofs.Readings.{err}
 use Rattle.ckc_parser.proofs.declarations.assigned.Goals as goal
 

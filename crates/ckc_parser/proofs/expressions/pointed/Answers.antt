@@ -1,8 +1,3 @@
-use Rattle.std.proofs.Common.{◌≡◌, ◌<◌, ◌≤◌, ◌+◌, suc, arith, ap}
-use Rattle.ckc_tree.specs.Heights.{Reach, expression_reach}
-use Rattle.ckc_tree.specs.Expressions.{expression}
-use Rattle.ckc_parser.specs.Failures.{IsLow}
-use Rattle.ckc_parser.specs.ExpressionGrammar as g
 use Rattle.ckc_parser.specs.StuckExpressions as s
 use Rattle.ckc_parser.proofs.Readings.{err}
 use Rattle.ckc_parser.proofs.Selecting.{room, arrow_selects}

@@ -1,4 +1,4 @@
-use Rattle.std.proofs.Common.{◌≡◌, ◌≤◌, ◌<◌, ◌+◌, suc, arith, ◌∙◌, add-one, ap, sym}
+use Rattle.std.proofs.Common.{◌≤◌, ◌<◌, suc, arith, ◌∙◌, add-one, ap, sym}
 use Rattle.ckc_parser.specs.StuckExpressions as s
 use Rattle.ckc_parser.proofs.Readings.{err, next_none}
 use Rattle.ckc_parser.proofs.Waiting.{waiting_last}

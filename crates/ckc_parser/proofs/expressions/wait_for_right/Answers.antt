@@ -1,4 +1,4 @@
-use Rattle.std.proofs.Common.{◌≡◌, ◌≤◌, ◌<◌, ◌+◌, suc, arith, ◌∙◌, add-one, ap, sym}
+use Rattle.std.proofs.Common.{◌≡◌, ◌<◌, ◌+◌, suc, arith, ◌∙◌, add-one, ap}
 use Rattle.ckc_tree.specs.Heights.{Reach, expression_reach}
 use Rattle.ckc_tree.specs.Expressions.{expression}
 use Rattle.ckc_parser.specs.Failures.{IsLow}

@@ -1,8 +1,5 @@
 use Rattle.std.proofs.Common.{arith}
 use Rattle.ckc_parser.proofs.FileLevel.{is_region, is_led, is_tainted}
-use Rattle.ckc_parser.specs.ItemGrammar as g
-use Rattle.ckc_parser.specs.StuckItems as stuck
-use Rattle.ckc_parser.proofs.Readings.{err}
 use Rattle.ckc_parser.proofs.items.item.Goals as goal
 
 pub returns-in-Ok : goal.returns-in-Ok
@@ -11,7 +8,7 @@ returns-in-Ok c = (is_region c.in-Ok.ensures, omega arith)
 pub unmarked-requires : goal.unmarked-requires
 unmarked-requires c =
     let none = rw c.in-Some.ensures.0 at c.optional_mark-mark.ensures in
-    record { led = is_led c.function_kind-kind.ensures none; tainted = is_tainted c.function_kind-kind.ensures none c.in-Some.ensures.1 }
+    record { led = is_led c.in_default.ensures.1 c.function_kind-kind.ensures none; tainted = is_tainted c.function_kind-kind.ensures none c.in-Some.ensures.1 }
 
 pub alone-requires : goal.alone-requires
-alone-requires c = record { led = is_led c.function_kind-kind.ensures c.optional_mark-mark.ensures; alone = c.in-None.ensures }
+alone-requires c = record { led = is_led c.in_default.ensures.1 c.function_kind-kind.ensures c.optional_mark-mark.ensures; alone = c.in-None.ensures }

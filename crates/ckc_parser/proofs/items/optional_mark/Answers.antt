@@ -1,6 +1,4 @@
 use Rattle.ckc_parser.specs.ItemGrammar as g
-use Rattle.ckc_parser.specs.StuckItems as stuck
-use Rattle.ckc_parser.proofs.Readings.{err}
 use Rattle.ckc_parser.proofs.items.optional_mark.Goals as goal
 
 pub returns-in-Ok : goal.returns-in-Ok

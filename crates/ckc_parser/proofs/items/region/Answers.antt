@@ -1,8 +1,5 @@
 use Rattle.ckc_parser.specs.ItemReadings as readings
 use Rattle.ckc_parser.proofs.Ahead.{word_at}
-use Rattle.ckc_parser.specs.ItemGrammar as g
-use Rattle.ckc_parser.specs.StuckItems as stuck
-use Rattle.ckc_parser.proofs.Readings.{err}
 use Rattle.ckc_parser.proofs.items.region.Goals as goal
 
 pub returns-in-Scope : goal.returns-in-Scope

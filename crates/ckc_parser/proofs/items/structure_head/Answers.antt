@@ -1,8 +1,5 @@
 use Rattle.ckc_parser.specs.StuckStatements.{open_brace}
 use Rattle.ckc_parser.proofs.FileLevel.{no_struct, no_name, structure_at}
-use Rattle.ckc_parser.specs.ItemGrammar as g
-use Rattle.ckc_parser.specs.StuckItems as stuck
-use Rattle.ckc_parser.proofs.Readings.{err}
 use Rattle.ckc_parser.proofs.items.structure_head.Goals as goal
 
 pub returns-in_default : goal.returns-in_default

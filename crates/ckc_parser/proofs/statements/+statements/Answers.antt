@@ -1,4 +1,4 @@
-use Rattle.std.proofs.Common.{◌≡◌, ◌≤◌, ◌<◌, length, true, sym, ap, arith, add-one}
+use Rattle.std.proofs.Common.{◌≡◌, ◌≤◌, length, true, sym, ap, arith, add-one}
 use Rattle.ckc_tree.specs.Statements.{statement}
 use Rattle.ckc_parser.specs.Tokens.{next_is}
 use Rattle.ckc_parser.specs.StuckStatements.{plain_word, statement_word}

@@ -1,7 +1,4 @@
 use Rattle.ckc_parser.proofs.Blocks.{block_is}
-use Rattle.ckc_parser.specs.StatementGrammar as g
-use Rattle.ckc_parser.specs.StuckStatements as stuck
-use Rattle.ckc_parser.proofs.Readings.{err}
 use Rattle.ckc_parser.proofs.statements.block.Goals as goal
 
 pub returns : goal.returns

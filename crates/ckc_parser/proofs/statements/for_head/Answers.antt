@@ -1,6 +1,5 @@
 use Rattle.std.proofs.Common.{add-one}
 use Rattle.ckc_parser.proofs.Blocks.{end_of}
-use Rattle.ckc_parser.specs.StatementGrammar as g
 use Rattle.ckc_parser.specs.StuckStatements as stuck
 use Rattle.ckc_parser.proofs.Readings.{err}
 use Rattle.ckc_parser.proofs.statements.for_head.Goals as goal

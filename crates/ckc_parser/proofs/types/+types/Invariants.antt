@@ -1,4 +1,4 @@
-use Rattle.std.proofs.Common.{◌+◌, ◌*◌, length}
+use Rattle.std.proofs.Common.{length}
 use Rattle.ckc_parser.proofs.types.+types.Given as goal
 
 abbrev pub decreases-pointer_type : goal.decreases-pointer_type

@@ -1,0 +1,10 @@
+use Rattle.std.proofs.Common.{length}
+use Rattle.ckc_parser.specs.StuckItems.{StuckItems}
+use Rattle.ckc_parser.proofs.Lists.{GoesOn, AreItems}
+use Rattle.ckc_parser.proofs.parser.items.Given as goal
+
+abbrev pub invariant-items : goal.invariant-items
+invariant-items l = GoesOn AreItems StuckItems l.tokens l.items.items l.rest
+
+abbrev pub decreases-items : goal.decreases-items
+decreases-items l = length l.rest
