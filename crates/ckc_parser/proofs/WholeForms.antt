@@ -13,7 +13,7 @@ use Rattle.ckc_parser.specs.Parsing.{IsFault}
 use Rattle.ckc_parser.specs.Failures.{Failure}
 use Rattle.ckc_parser.specs.StuckItems as stuck
 use Rattle.ckc_parser.specs.StuckItems.{StuckItems}
-use Rattle.ckc_parser.specs.Faults.{FaultIs}
+use Rattle.ckc_parser.specs.Refusals.{FaultIs}
 use Rattle.ckc_parser.proofs.OneItem.{items_same}
 use Rattle.ckc_parser.proofs.Whole.{items_begin}
 use Rattle.ckc_parser.proofs.Forms.{◌ends◌, all, later, end_length, end_trans, Read, Exact, seq_all, SeqS, SeqB, seq, in_first, in_second}
