@@ -109,7 +109,7 @@ record Steps (b : Base) (f : Frame) (p : List Frame) (e : Expression) : Type 0 w
   pub fits : Fits b.loosest b.depth p
   pub low : IsLow (depth_in b.depth p) (expression_reach e)
 
-pub steps : {b : Base} {whole : Expression} (e : Expression) (o w : Span) (f : Frame) (p : List Frame) (looser : ℕ) → takes_before (f ∷ p) looser ≡ true → Fits b.loosest b.depth (f ∷ p) → IsLow (depth_in b.depth (f ∷ p)) (expression_reach e) → Applies f e o whole w → Steps b f p whole
+steps : {b : Base} {whole : Expression} (e : Expression) (o w : Span) (f : Frame) (p : List Frame) (looser : ℕ) → takes_before (f ∷ p) looser ≡ true → Fits b.loosest b.depth (f ∷ p) → IsLow (depth_in b.depth (f ∷ p)) (expression_reach e) → Applies f e o whole w → Steps b f p whole
 steps e o w (InParens start) p looser takes fits low is = absurd cc
 steps e o w (OperandOf operator start) p looser takes fits low is = record { depth = refl; fits = fits.1; low = rw is.0 (low_around _ _ (expression_reach e) fits.0 low) }
 steps e o w (RightOf operator left outer) p looser takes fits low is = record {
