@@ -104,12 +104,12 @@ selectors_read {rest} has at d low = record {
 
 -- ---- giving an expression to the form that waits last
 
-pub record Steps (b : Base) (f : Frame) (p : List Frame) (e : Expression) : Type 0 where
+record Steps (b : Base) (f : Frame) (p : List Frame) (e : Expression) : Type 0 where
   pub depth : depth_in b.depth (f ∷ p) ≡ suc (depth_in b.depth p)
   pub fits : Fits b.loosest b.depth p
   pub low : IsLow (depth_in b.depth p) (expression_reach e)
 
-pub steps : {b : Base} {whole : Expression} (e : Expression) (o w : Span) (f : Frame) (p : List Frame) (looser : ℕ) → takes_before (f ∷ p) looser ≡ true → Fits b.loosest b.depth (f ∷ p) → IsLow (depth_in b.depth (f ∷ p)) (expression_reach e) → Applies f e o whole w → Steps b f p whole
+steps : {b : Base} {whole : Expression} (e : Expression) (o w : Span) (f : Frame) (p : List Frame) (looser : ℕ) → takes_before (f ∷ p) looser ≡ true → Fits b.loosest b.depth (f ∷ p) → IsLow (depth_in b.depth (f ∷ p)) (expression_reach e) → Applies f e o whole w → Steps b f p whole
 steps e o w (InParens start) p looser takes fits low is = absurd cc
 steps e o w (OperandOf operator start) p looser takes fits low is = record { depth = refl; fits = fits.1; low = rw is.0 (low_around _ _ (expression_reach e) fits.0 low) }
 steps e o w (RightOf operator left outer) p looser takes fits low is = record {
@@ -118,13 +118,13 @@ steps e o w (RightOf operator left outer) p looser takes fits low is = record {
   low = rw is.0 (low_around _ _ (expression_reach left beside expression_reach e) (omega (arith, fits.1.0)) (low_beside _ (expression_reach left) (expression_reach e) fits.1.0 low));
 }
 
-pub record GoesTight (b : Base) (p : List Frame) (looser : ℕ) (e : Expression) (o : Span) (ts : List Token) : Type 0 where
+record GoesTight (b : Base) (p : List Frame) (looser : ℕ) (e : Expression) (o : Span) (ts : List Token) : Type 0 where
   pub tightness : ℕ
   pub tight : tightness < looser
   pub within : tightness ≤ limit b.loosest p
   pub way : GoesIn b p tightness e o ts
 
-pub goes_tight : {b : Base} {n : ℕ} {o w : Span} {ts : List Token} {e whole : Expression} (f : Frame) (p : List Frame) (looser : ℕ) → takes_before (f ∷ p) looser ≡ true → Fits b.loosest b.depth (f ∷ p) → IsLow (depth_in b.depth (f ∷ p)) (expression_reach e)
+goes_tight : {b : Base} {n : ℕ} {o w : Span} {ts : List Token} {e whole : Expression} (f : Frame) (p : List Frame) (looser : ℕ) → takes_before (f ∷ p) looser ≡ true → Fits b.loosest b.depth (f ∷ p) → IsLow (depth_in b.depth (f ∷ p)) (expression_reach e)
     → looser ≡ looser_at ts → n < looser → n ≤ limit b.loosest (f ∷ p) → GoesIn b (f ∷ p) n e o ts → Applies f e o whole w → GoesTight b p looser whole w ts
 goes_tight (InParens start) p looser takes fits low at tight within way is = absurd cc
 goes_tight {b} (OperandOf operator start) p looser takes fits low at tight within way is = record {
@@ -179,7 +179,7 @@ pub right_deep : {b : Base} {a : Around} {o : Span} {ts us : List Token} {e : Ex
     → Fails b (too_deep (expression_reach e).start)
 right_deep has found within deep = right_too_deep _ _ has.way found has.tight (rw has.around.loosest at within) (rw has.around.depth at has.low) (rw has.around.depth at deep)
 
-pub parens : (p : List Frame) (start : Span) → paren_start p ≡ Some start → (q : List Frame) × (p ≡ InParens start ∷ q)
+parens : (p : List Frame) (start : Span) → paren_start p ≡ Some start → (q : List Frame) × (p ≡ InParens start ∷ q)
 parens [] start e = absurd (none-some _ e)
 parens (InParens other ∷ q) start e = (q, ap (λ (x : Span). InParens x ∷ q) (same_Some _ _ e))
 parens (OperandOf operator other ∷ q) start e = absurd (none-some _ e)

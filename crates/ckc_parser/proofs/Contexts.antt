@@ -45,7 +45,7 @@ level_positive binary.Remainder = omega arith
 level_below : (operator : BinaryOperator) → level operator ≡ suc (level operator - 1)
 level_below operator = omega (arith, level_positive operator)
 
-pub level_ten : (operator : BinaryOperator) → level operator ≤ 10
+level_ten : (operator : BinaryOperator) → level operator ≤ 10
 level_ten binary.Or = omega arith
 level_ten binary.And = omega arith
 level_ten binary.BitOr = omega arith

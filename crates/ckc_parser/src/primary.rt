@@ -78,26 +78,14 @@ pub fn primary(
         return Err(Stuck::TooDeep { start: span.from });
     }
     match &token.kind {
-        TokenKind::Number(value) => Ok((
-            leaf(
-                Expr::Number {
-                    value: *value,
-                    span,
-                },
-                span,
-            ),
-            rest,
-        )),
-        TokenKind::Character(value) => Ok((
-            leaf(
-                Expr::Character {
-                    value: *value,
-                    span,
-                },
-                span,
-            ),
-            rest,
-        )),
+        TokenKind::Number(value) => {
+            let value = *value;
+            Ok((leaf(Expr::Number { value, span }, span), rest))
+        }
+        TokenKind::Character(value) => {
+            let value = *value;
+            Ok((leaf(Expr::Character { value, span }, span), rest))
+        }
         TokenKind::Text(text) => {
             let bytes = Vec::from_slice(alloc, text.as_bytes())?;
             Ok((leaf(Expr::Text { bytes, span }, span), rest))
