@@ -170,6 +170,3 @@ statement_shorter g.return_nothing = omega arith
 statement_shorter (g.return d) = omega (arith, shorter (binary_path d))
 statement_shorter g.break = omega arith
 statement_shorter g.continue = omega arith
-
-pub behind_shorter : {t : Token} {ts rest : List Token} → ts ≡ t ∷ rest → length rest < length ts
-behind_shorter at = omega (arith, ap length at)

@@ -141,7 +141,6 @@ low_member m low = low_beside _ _ _ low.0 low.1
 pub low_parameter : (p m : Member) → p ≡ m → IsLowMember m.type m.bounds → IsLow 0 (member_reach p)
 low_parameter p m same low = rw same (low_member m low)
 
-
 pub member_shorter : {ts rest : List Token} {type : TypeName} {name : Identifier} {written : Option Bounds} {o : Span} → SpellsMember ts type name written o rest → length rest < length ts
 member_shorter (g.member d b) = omega (arith, shorter (type_name_path d), shorter (optional_bounds_path b))
 

@@ -112,10 +112,12 @@ pub statements-statements-smaller : goal.statements-statements-smaller
 statements-statements-smaller t c = omega (arith, statement_shorter c.in_ok-item.ensures.0)
 
 pub statements-statements-preserved : goal.statements-statements-preserved
-statements-statements-preserved t c =
-    (goes_on c.in_ok-item.item c.in_ok-push.ensures c.statements.invariant.0
-    (λ more w end d. (g.more c.in_ok-item.ensures.0 d.0, low_beside _ _ _ c.in_ok-item.ensures.1 d.1))
-    (λ f d. stuck.others c.in_ok-item.ensures.0 c.in_ok-item.ensures.1 d), omega (arith, statement_shorter c.in_ok-item.ensures.0, c.statements.invariant.1))
+statements-statements-preserved t c = (
+  goes_on c.in_ok-item.item c.in_ok-push.ensures c.statements.invariant.0
+      (λ more w end d. (g.more c.in_ok-item.ensures.0 d.0, low_beside _ _ _ c.in_ok-item.ensures.1 d.1))
+      (λ f d. stuck.others c.in_ok-item.ensures.0 c.in_ok-item.ensures.1 d),
+  omega (arith, statement_shorter c.in_ok-item.ensures.0, c.statements.invariant.1),
+)
 
 pub if_statement-statement-requires : goal.if_statement-statement-requires
 if_statement-statement-requires t c = let less = condition_shorter c.in_ok-condition.ensures.0 in (omega arith, omega arith)
