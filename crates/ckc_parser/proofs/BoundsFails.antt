@@ -52,9 +52,11 @@ word_at (kinds.Name x) so = by_first (bytes_eq x (codes "count")) refl
   where
     by_third : bytes_eq x (codes "bounds") ≡ true → Worded (kinds.Name x)
     by_third so = record { head = ranged; is = bounds.bounds (same_bytes x (codes "bounds") so) }
+
     by_second : (so : Bool) → bytes_eq x (codes "byte_count") ≡ so → bytes_eq x (codes "count") ≡ false → Worded (kinds.Name x)
     by_second true second first = record { head = counted; is = bounds.byte_count (same_bytes x (codes "byte_count") second) }
     by_second false second first = by_third (rw (first, second) at so)
+
     by_first : (so : Bool) → bytes_eq x (codes "count") ≡ so → Worded (kinds.Name x)
     by_first true first = record { head = counted; is = bounds.count (same_bytes x (codes "count") first) }
     by_first false first = by_second (bytes_eq x (codes "byte_count")) refl first
@@ -139,6 +141,7 @@ pair_fails {d} {ts} other room (unexpected {at} begun low whole further) = unexp
     no_whole : {us m : List Token} {q : Reach} → is_unknown us ≡ false → ((m : List Token) (q : Reach) → PairS us m q → ⊥) → RangeS us m q → ⊥
     no_whole {m} other whole (unknown {q} {t} y) = never (unknown_is q t m y) other
     no_whole other whole (range a) = whole _ _ a
+
     no_further : {us rest : List Token} {t : Token} {q : Reach} → is_unknown us ≡ false → ((t : Token) (rest : List Token) (q : Reach) → at ≡ t ∷ rest → PairB us rest q → ⊥) → at ≡ t ∷ rest → RangeB us rest q → ⊥
     no_further other further here (word y) = further _ _ _ here name_pair
     no_further {rest} other further here (unknown {q} {t} y) = never (unknown_is q t rest y) other
@@ -165,9 +168,11 @@ unknown_tokens (t ∷ ts) so = by_kind t.kind t.span ts so
     by_second : (y : List ℕ) (s : Span) (k : TokenKind) (p : Span) (m : List Token) → close_paren k ≡ true → UnknownTokens (token (kinds.Name y) s ∷ token k p ∷ m)
     by_second y s kinds.CloseParen p m so = known
     by_second y s _ p m so = absurd cc
+
     by_rest : (y : List ℕ) (s : Span) (us : List Token) → next_is close_paren us ≡ true → UnknownTokens (token (kinds.Name y) s ∷ us)
     by_rest y s [] so = absurd cc
     by_rest y s (u ∷ us) so = by_second y s u.kind u.span us so
+
     by_kind : (k : TokenKind) (s : Span) (us : List Token) → unknown_word k && next_is close_paren us ≡ true → UnknownTokens (token k s ∷ us)
     by_kind (kinds.Name y) s us so = by_rest y s us (and_true (bytes_eq y (codes "unknown")) (next_is close_paren us) so).1
     by_kind _ s us so = absurd cc
@@ -182,6 +187,7 @@ not_unknown {ts} {us} {e = i} {o} {q} e = by_test (is_unknown ts) refl
   where
     no_tokens : {xs : List Token} → UnknownTokens xs → SpellsBinary 10 xs i o (token kinds.Comma q ∷ us) → is_unknown xs ≡ false
     no_tokens known j = let h : kinds.CloseParen ≡ kinds.Comma = ap first_kind (behind (binary_same (name_spells 10) j)) in absurd cc
+
     by_test : (so : Bool) → is_unknown ts ≡ so → is_unknown ts ≡ false
     by_test true so = no_tokens (unknown_tokens ts so) e
     by_test false so = so
@@ -228,9 +234,11 @@ word_fails {d} {y} {q} {rest = at} low same none other = unexpected (word same) 
   where
     no_comma : {us vs : List Token} {i : Expression} {o p : Span} {A : Type 0} → goes_on us ≡ false → SpellsBinary 10 (token (kinds.Name y) q ∷ us) i o (token kinds.Comma p ∷ vs) → A
     no_comma {us} none i = never {b = next_is comma us} (ap (next_is comma) (behind (binary_same (alone 10 us none) i))) (no_after us (none_behind (is_some (operator_at us)) none)).2
+
     no_whole : {us m : List Token} {r : Reach} → next_is close_paren us ≡ false → goes_on us ≡ false → RangeS (token (kinds.Name y) q ∷ us) m r → ⊥
     no_whole other none (unknown z) = absurd cc
     no_whole other none (range (end (seq (end (binary i) it) j) k)) = no_comma none i
+
     no_further : {us rest : List Token} {t : Token} {r : Reach} → next_is close_paren us ≡ false → goes_on us ≡ false → us ≡ t ∷ rest → RangeB (token (kinds.Name y) q ∷ us) rest r → ⊥
     no_further other none here (word z) = absurd (omega (arith, ap length here))
     no_further other none here (unknown z) = absurd cc
@@ -312,11 +320,14 @@ operator_started {y} {q} {t} {us} {vs} {w} found = by_level (before (level w) (l
   where
     parts : (next_is open_paren (t ∷ us) ≡ false) × (next_is selector (t ∷ us) ≡ false)
     parts = operator_alone (t ∷ us) found
+
     begun_of : (n : ℕ) → level w ≡ suc n → (r : Reach) → q.from ≡ r.start → BeginsTail n (trees.Name (identifier y q)) q (t ∷ us) us r → Started y q t us
     begun_of n same r first c = record { reach = r; begun = before_end (in_first (before_end (raise 10 (suc n) (omega (arith, same, (level_within w).1)) (b.operators (alone_below n (t ∷ us) parts.0 parts.1 (λ k less. no_lower n k (t ∷ us) found same less)) c)))); first = first }
+
     by_marks : {x : Token} {xs ys : List Token} {o : BinaryOperator} (n : ℕ) → Marks (x ∷ xs) o ys → operator_at (x ∷ xs) ≡ Some (o, ys) → level o ≡ suc n → (r : Reach) × BeginsTail n (trees.Name (identifier y q)) q (x ∷ xs) xs r × (q.from ≡ r.start)
     by_marks n mark f l = (_, b.right f l (no_binary n), refl)
     by_marks n shift f l = (_, b.half f l, refl)
+
     by_level : (k : ℕ) × (level w ≡ suc k) → Started y q t us
     by_level (n, same) = let c = by_marks n (marks_at (t ∷ us) found) found same in begun_of n same c.0 c.2 c.1
 

@@ -59,27 +59,34 @@ range_below {n} e = record { one = one; spelled = spelled; longest = longest; no
   where
     p : ExactBelow n nowhere PairS PairB
     p = pair_below e
+
     not_comma : {y : List ℕ} {q t s : Span} {m us : List Token} {x : trees.Expression} {o : Span} {A : Type 0} → length (token (kinds.Name y) q ∷ token kinds.CloseParen t ∷ m) < n → SpellsBinary 10 (token (kinds.Name y) q ∷ token kinds.CloseParen t ∷ m) x o (token kinds.Comma s ∷ us) → A
     not_comma less d =
         let h : kinds.CloseParen ≡ kinds.Comma = ap first_kind (tokens_same (e.one less (binary (name_spells 10)) (binary d))) in
         absurd cc
+
     not_pair : {y : List ℕ} {q t : Span} {m m' : List Token} {r : Reach} {A : Type 0} → length (token (kinds.Name y) q ∷ token kinds.CloseParen t ∷ m) < n → PairS (token (kinds.Name y) q ∷ token kinds.CloseParen t ∷ m) m' r → A
     not_pair less (end (seq (end (binary d) it) x) i) = not_comma less d
+
     one : {ts m m' : List Token} {r r' : Reach} → length ts < n → RangeS ts m r → RangeS ts m' r' → ◌≡◌ {A = Read} (m, r) (m', r')
     one less (unknown y) (unknown y') = refl
     one less (unknown y) (range a) = not_pair less a
     one less (range a) (unknown y) = not_pair less a
     one less (range a) (range a') = p.one less a a'
+
     spelled : {ts m : List Token} {r : Reach} → length ts < n → RangeS ts m r → RangeB ts m r
     spelled less (unknown y) = unknown y
     spelled less (range a) = range (p.spelled less a)
+
     before_paren : {y : List ℕ} {q t : Span} {m rest : List Token} {r : Reach} → length (token (kinds.Name y) q ∷ token kinds.CloseParen t ∷ m) < n → PairB (token (kinds.Name y) q ∷ token kinds.CloseParen t ∷ m) rest r → m ends rest
     before_paren less (before_end (in_first (before_end c))) = end_trans (later all) (e.longest less (binary (name_spells 10)) c)
     before_paren less (before_end (in_first (end (binary d) it))) = not_comma less d
     before_paren less (before_end (in_second (end (binary d) it) c)) = not_comma less d
     before_paren less (end (seq (end (binary d) it) x) i) = not_comma less d
+
     behind_first : {t : Token} {rest m : List Token} {r : Reach} → length (t ∷ rest) < n → PairS (t ∷ rest) m r → m ends rest
     behind_first less (end a i) = end_tail ((seq_exact (ended_exact e) e).ended less ((seq_exact (ended_exact e) e).spelled less a))
+
     longest : {ts m rest : List Token} {r q : Reach} → length ts < n → RangeS ts m r → RangeB ts rest q → m ends rest
     longest less (unknown y) (word y') = later all
     longest less (unknown y) (unknown y') = all
@@ -87,10 +94,12 @@ range_below {n} e = record { one = one; spelled = spelled; longest = longest; no
     longest less (range a) (word y) = behind_first less a
     longest less (range a) (unknown y) = not_pair less a
     longest less (range a) (range c) = p.longest less a c
+
     nothing : {ts rest : List Token} {q : Reach} → length ts < n → RangeB ts rest q → rest ≡ ts → q ≡ nowhere
     nothing less (word y) is = refl
     nothing less (unknown y) is = refl
     nothing less (range c) is = p.nothing less c is
+
     ended : {ts rest : List Token} {q : Reach} → length ts < n → RangeB ts rest q → rest ends ts
     ended less (word y) = later all
     ended less (unknown y) = later (later all)

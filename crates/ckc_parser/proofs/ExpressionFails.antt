@@ -111,6 +111,7 @@ index_fails {d} {v} {s} {ts} room (unexpected {at} {r} begun low whole further) 
   where
     no_whole : (m : List Token) (q : Reach) → Linked reach (Selected v) (token kinds.OpenBracket s ∷ ts) m q → ⊥
     no_whole m q (a, links.index i, same) = whole _ _ (binary i)
+
     no_further : (t : Token) (rest : List Token) (q : Reach) → at ≡ t ∷ rest → Selecting v (token kinds.OpenBracket s ∷ ts) rest q → ⊥
     no_further t rest q here links.unselected = absurd (omega (arith, ap length here, end_length ((binary_exact 10).ended begun)))
     no_further t rest q here (links.index c) = further t rest _ here c
@@ -122,6 +123,7 @@ index_fails {d} {v} {s} {ts} room (too_deep {behind = us} {p} {r} {start} begun 
     index_only short links.unselected here = absurd (omega (arith, short, end_length ((binary_exact 10).ended begun)))
     index_only short (links.index {r = q'} c) here = deep_in d v.1.from (reach v) q' room (every q' (subst (λ (x : List Token). BeginsBinary 10 ts x q') here c))
     index_only short (links.indexed i) here = absurd (omega (arith, end_length ((binary_exact 10).longest (binary i) deep), ap length here))
+
     each : (q : Reach) → Selecting v (token kinds.OpenBracket s ∷ ts) us q → (200 < d + q.height) × (start ≤ q.start)
     each q c = index_only (omega arith) c refl
 
@@ -130,8 +132,10 @@ bracket_fails {d} {v} {s} {ts} {rest = at} {i} room e low other = unexpected (li
   where
     no_bracket : {j : Expression} {o t : Span} {m : List Token} → SpellsBinary 10 ts j o (token kinds.CloseBracket t ∷ m) → ⊥
     no_bracket j = never {b = next_is close_bracket at} (ap (next_is close_bracket) (behind (binary_same e j))) other
+
     no_whole : (m : List Token) (q : Reach) → Linked reach (Selected v) (token kinds.OpenBracket s ∷ ts) m q → ⊥
     no_whole m q (a, links.index j, same) = no_bracket j
+
     no_further : (t : Token) (rest : List Token) (q : Reach) → at ≡ t ∷ rest → Selecting v (token kinds.OpenBracket s ∷ ts) rest q → ⊥
     no_further t rest q here links.unselected = absurd (omega (arith, ap length here, end_length ((binary_exact 10).ended ((binary_exact 10).spelled (binary e)))))
     no_further t rest q here (links.index c) = absurd (omega (arith, ap length here, end_length ((binary_exact 10).longest (binary e) c)))
@@ -142,6 +146,7 @@ dot_fails {d} {v} {s} {at} room other = unexpected links.dot (low_around d v.1.f
   where
     no_whole : {us m : List Token} {q : Reach} → next_is name_token us ≡ false → Linked reach (Selected v) (token kinds.Dot s ∷ us) m q → ⊥
     no_whole none (a, links.dot, same) = absurd cc
+
     no_further : {us rest : List Token} {t : Token} {q : Reach} → next_is name_token us ≡ false → us ≡ t ∷ rest → Selecting v (token kinds.Dot s ∷ us) rest q → ⊥
     no_further none here links.unselected = absurd (omega (arith, ap length here))
     no_further none here links.dot = absurd (omega (arith, ap length here))
@@ -152,6 +157,7 @@ arrow_fails {d} {v} {s} {at} room other = unexpected links.arrow (low_around d v
   where
     no_whole : {us m : List Token} {q : Reach} → next_is name_token us ≡ false → Linked reach (Selected v) (token kinds.Arrow s ∷ us) m q → ⊥
     no_whole none (a, links.arrow, same) = absurd cc
+
     no_further : {us rest : List Token} {t : Token} {q : Reach} → next_is name_token us ≡ false → us ≡ t ∷ rest → Selecting v (token kinds.Arrow s ∷ us) rest q → ⊥
     no_further none here links.unselected = absurd (omega (arith, ap length here))
     no_further none here links.arrow = absurd (omega (arith, ap length here))
@@ -168,20 +174,25 @@ select_fails {d} {v} {k} {s} {ts} low high so = by_kind k so
   where
     deep : (q : Reach) → q ≡ reach v → (200 < d + (around v.1.from q).height) × ((reach v).start ≤ (around v.1.from q).start)
     deep q same = rw same (omega (arith, high, around_height v.1.from (reach v)), omega (arith, inner_start v.1.from (reach v) (some_node v.0)))
+
     index_deep : {us rest : List Token} {q : Reach} → length us ≤ length rest → Selecting v (token kinds.OpenBracket s ∷ us) rest q → rest ≡ us → (200 < d + q.height) × ((reach v).start ≤ q.start)
     index_deep short links.unselected here = absurd (omega (arith, ap length here))
     index_deep short (links.index {r} c) here = deep (reach v beside r) (ap (λ (x : Reach). reach v beside x) ((binary_exact 10).nothing c here) ∙ beside_nowhere (reach v))
     index_deep short (links.indexed i) here = absurd (omega (arith, short, end_length ((binary_exact 10).ended ((binary_exact 10).spelled (binary i)))))
+
     dot_deep : {us rest : List Token} {q : Reach} → Selecting v (token kinds.Dot s ∷ us) rest q → rest ≡ us → (200 < d + q.height) × ((reach v).start ≤ q.start)
     dot_deep links.unselected here = absurd (omega (arith, ap length here))
     dot_deep links.dot here = deep (reach v) refl
     dot_deep links.dotted here = absurd (omega (arith, ap length here))
+
     arrow_deep : {us rest : List Token} {q : Reach} → Selecting v (token kinds.Arrow s ∷ us) rest q → rest ≡ us → (200 < d + q.height) × ((reach v).start ≤ q.start)
     arrow_deep links.unselected here = absurd (omega (arith, ap length here))
     arrow_deep links.arrow here = deep (reach v) refl
     arrow_deep links.pointed here = absurd (omega (arith, ap length here))
+
     start_is : (reach v).start ≡ (around v.1.from (reach v)).start
     start_is = sym (inner_start v.1.from (reach v) (some_node v.0))
+
     by_kind : (j : TokenKind) → selector j ≡ true → Fails d (Linked reach (Selected v)) (Selecting v) (token j s ∷ ts) (failures.too_deep (reach v).start)
     by_kind kinds.OpenBracket so = too_deep links.unselected low (links.index (no_binary 10)) (start_is ∙ ap (λ (x : Reach). (around v.1.from x).start) (sym (beside_nowhere (reach v)))) (λ q c. index_deep (omega arith) c refl)
     by_kind kinds.Dot so = too_deep links.unselected low links.dot start_is (λ q c. dot_deep c refl)
@@ -196,8 +207,10 @@ right_fails {n} {d} {v} ts {us} found same room (unexpected {at} {r} begun low w
   where
     short : length at ≤ length us
     short = end_length ((binary_exact n).ended begun)
+
     no_whole : (m : List Token) (q : Reach) → Linked reach (Operated n v) ts m q → ⊥
     no_whole m q (a, operated f l e, is) = whole _ _ (binary (move_binary (after (found_same ts found f)) e))
+
     no_further : {xs : List Token} (t : Token) (rest : List Token) (q : Reach) → xs ≡ ts → at ≡ t ∷ rest → Operating n v xs rest q → ⊥
     no_further t rest q is here links.alone = absurd (omega (arith, ap length here, ap length is, short, operator_shrinks (marks_at ts found)))
     no_further t rest q is here (links.half f l) = absurd (omega (arith, ap length here, ap length is, short, operator_shrinks (marks_at ts found)))
@@ -207,6 +220,7 @@ right_fails {n} {d} {v} ts {us} found same room (too_deep {behind = rest} {p} {r
   where
     short : suc (length rest) ≤ length us
     short = end_length ((binary_exact n).ended begun)
+
     each : {xs ms : List Token} (q : Reach) → xs ≡ ts → ms ≡ rest → Operating n v xs ms q → (200 < d + q.height) × (start ≤ q.start)
     each q is here links.alone = absurd (omega (arith, ap length here, ap length is, short, operator_shrinks (marks_at ts found)))
     each q is here (links.half f l) = absurd (omega (arith, ap length here, ap length is, short, operator_shrinks (marks_at ts found)))
@@ -222,8 +236,10 @@ operate_fails {n} {d} {v} {t} {ts} {us} {w} low high found same =
   where
     deep : (q : Reach) → q ≡ reach v → (200 < d + (around v.1.from q).height) × ((reach v).start ≤ (around v.1.from q).start)
     deep q is = rw is (omega (arith, high, around_height v.1.from (reach v)), omega (arith, inner_start v.1.from (reach v) (some_node v.0)))
+
     start_is : (reach v).start ≡ (around v.1.from (reach v)).start
     start_is = sym (inner_start v.1.from (reach v) (some_node v.0))
+
     each : {xs ms : List Token} (q : Reach) → xs ≡ t ∷ ts → ms ≡ ts → Operating n v xs ms q → (200 < d + q.height) × ((reach v).start ≤ q.start)
     each q is here links.alone = absurd (omega (arith, ap length here, ap length is))
     each q is here (links.half f l) = deep (reach v) refl
@@ -232,6 +248,7 @@ operate_fails {n} {d} {v} {t} {ts} {us} {w} low high found same =
         let less = operator_shrinks (marks_at xs f) in
         let stays : ms ≡ ys = forms.end_same end (omega (arith, less, ap length is, ap length here)) in
         deep (reach v beside r) (ap (λ (x : Reach). reach v beside x) ((binary_exact n).nothing c stays) ∙ beside_nowhere (reach v))
+
     by_marks : {u : Token} {xs ys : List Token} {o : BinaryOperator} → Marks (u ∷ xs) o ys → operator_at (u ∷ xs) ≡ Some (o, ys) → level o ≡ suc n → (q : Reach) × Operating n v (u ∷ xs) xs q × ((reach v).start ≡ q.start)
     by_marks mark f l = (_, links.right f l (no_binary n), start_is ∙ ap (λ (x : Reach). (around v.1.from x).start) (sym (beside_nowhere (reach v))))
     by_marks shift f l = (_, links.half f l, start_is)
@@ -442,7 +459,7 @@ mutual
       head_fails (primaries.calloc w) (fails_node room (fails_before_end (seq_all typed_comma (binary_exact 10)) (fails_second typed_comma (binary_exact 10) (end (primaries.typed t i) it) (low_beside _ (type_reach type.base) (expression_reach count) high deep) (binary_fails room x))))
   primary_fails low (stuck.calloc_close {size} {count} {type} w t high i deep j deeper none) =
       head_fails (primaries.calloc w) (fails_node (omega (arith, high)) (fails_at_end close_is (seq_all typed_comma (binary_exact 10)) (seq (end (primaries.typed t i) it) (binary j))
-          (low_beside _ (type_reach type.base beside expression_reach count) (expression_reach size) (low_beside _ (type_reach type.base) (expression_reach count) high deep) deeper) none))
+      (low_beside _ (type_reach type.base beside expression_reach count) (expression_reach size) (low_beside _ (type_reach type.base) (expression_reach count) high deep) deeper) none))
 
   arguments_fails : {d : ℕ} {ts : List Token} {f : Failure} → d ≤ 200 → StuckArguments d ts f → Fails d ArgumentsS BeginsArguments ts f
   arguments_fails low stuck.arguments_no_room = failing.no_memory

@@ -74,6 +74,7 @@ value_below {n} {S} {X} {B} e to only = record { one = λ less a a'. only _ _ _ 
     by_end : (v : Value) {ts m : List Token} → m ends ts → (m ≡ ts → reach v ≡ nowhere) → length m < length ts
     by_end v all none = absurd (omega (arith, some_node v.0, ap (λ (x : Reach). x.height) (none refl)))
     by_end v (later end) none = omega (arith, end_length end)
+
     shrinks : {v : Value} {ts m : List Token} → length ts < n → S v ts m → length m < length ts
     shrinks {v} {ts} {m} less a = let begun = e.spelled less (to v ts m a) in by_end v (e.ended less begun) (e.nothing less begun)
 
@@ -85,6 +86,7 @@ primary_value e = value_below e to only
   where
     to : (v : Value) (ts m : List Token) → PrimaryValue v ts m → PrimaryS ts m (reach v)
     to v ts m (of_primary d) = primary d
+
     only : (v w : Value) (ts m m' : List Token) → PrimaryValue v ts m → PrimaryValue w ts m' → ◌≡◌ {A = Value × List Token} (v, m) (w, m')
     only v w ts m m' (of_primary d) (of_primary d') = pair_of (primary_same d d')
 
@@ -93,6 +95,7 @@ binary_value {k} e = value_below e to only
   where
     to : (v : Value) (ts m : List Token) → BinaryValue k v ts m → BinaryS k ts m (reach v)
     to v ts m (of_binary d) = binary d
+
     only : (v w : Value) (ts m m' : List Token) → BinaryValue k v ts m → BinaryValue k w ts m' → ◌≡◌ {A = Value × List Token} (v, m) (w, m')
     only v w ts m m' (of_binary d) (of_binary d') = pair_of (binary_same d d')
 
@@ -101,6 +104,7 @@ unary_value e = value_below e to only
   where
     to : (v : Value) (ts m : List Token) → UnaryValue v ts m → UnaryS ts m (reach v)
     to v ts m (of_unary d) = unary d
+
     only : (v w : Value) (ts m m' : List Token) → UnaryValue v ts m → UnaryValue w ts m' → ◌≡◌ {A = Value × List Token} (v, m) (w, m')
     only v w ts m m' (of_unary d) (of_unary d') = pair_of (unary_same d d')
 
@@ -202,6 +206,7 @@ arguments_into ts rest q (b.argument c) = by_test (next_is close_paren ts) refl
   where
     at_paren : {us : List Token} {p : Reach} → Untouched ts us p → next_is close_paren ts ≡ true → ArgumentListB ts us p
     at_paren untouched so = yes so not_yet
+
     by_test : (so : Bool) → next_is close_paren ts ≡ so → ArgumentListB ts rest q
     by_test true so = at_paren (binary_untouched c (no_class ts so)) so
     by_test false so = no so (in_first c)

@@ -47,14 +47,17 @@ selected_below {n} {v} e = record { one = one; spelled = spelled; longest = long
   where
     inner : {ts mid : List Token} {i : Expression} {p : Span} → length ts < n → SpellsBinary 10 ts i p mid → mid ends ts
     inner less d = e.ended less (e.spelled less (binary d))
+
     one : {a b : Value} {ts m m' : List Token} → length ts < suc n → Selected v a ts m → Selected v b ts m' → ◌≡◌ {A = Value × List Token} (a, m) (b, m')
     one less (index d) (index d') = ap (λ (x : Expression × Span × List Token). ((trees.Index v.0 x.0 (join v.1 (first_span x.2)), join v.1 (first_span x.2)), rest_of x.2)) (binary_same d d')
     one less dot dot = refl
     one less arrow arrow = refl
+
     spelled : {a : Value} {ts m : List Token} → length ts < suc n → Selected v a ts m → Selecting v ts m (reach a)
     spelled less (index d) = indexed d
     spelled less dot = dotted
     spelled less arrow = pointed
+
     ended : {ts rest : List Token} {q : Reach} → length ts < suc n → Selecting v ts rest q → rest ends ts
     ended less unselected = all
     ended less (index c) = later (e.ended (omega (arith, less)) c)
@@ -63,6 +66,7 @@ selected_below {n} {v} e = record { one = one; spelled = spelled; longest = long
     ended less dotted = later (later all)
     ended less arrow = later all
     ended less pointed = later (later all)
+
     longest : {a : Value} {ts m rest : List Token} {q : Reach} → length ts < suc n → Selected v a ts m → Selecting v ts rest q → m ends rest
     longest less a unselected = ended less (spelled less a)
     longest less (index d) (index c) = end_trans (later all) (e.longest (omega (arith, less)) (binary d) c)
@@ -71,6 +75,7 @@ selected_below {n} {v} e = record { one = one; spelled = spelled; longest = long
     longest less dot dotted = all
     longest less arrow arrow = later all
     longest less arrow pointed = all
+
     nothing : {ts rest : List Token} {q : Reach} → length ts < suc n → Selecting v ts rest q → rest ≡ ts → q ≡ reach v
     nothing less unselected is = refl
     nothing less (index c) is = absurd (omega (arith, end_length (e.ended (omega (arith, less)) c), ap length is))
@@ -79,6 +84,7 @@ selected_below {n} {v} e = record { one = one; spelled = spelled; longest = long
     nothing less dotted is = absurd (omega (arith, ap length is))
     nothing less arrow is = absurd (omega (arith, ap length is))
     nothing less pointed is = absurd (omega (arith, ap length is))
+
     shrinks : {a : Value} {ts m : List Token} → length ts < suc n → Selected v a ts m → length m < length ts
     shrinks less (index d) = omega (arith, end_length (inner (omega (arith, less)) d))
     shrinks less dot = omega arith
@@ -111,30 +117,39 @@ operated_below {m} {n} {v} e = record { one = one; spelled = spelled; longest = 
   where
     short : {w : BinaryOperator} (ts : List Token) {us : List Token} → length ts < suc m → operator_at ts ≡ Some (w, us) → length us < m
     short ts less found = omega (arith, less, operator_shrinks (marks_at ts found))
+
     inner : {us mid : List Token} {i : Expression} {p : Span} → length us < m → SpellsBinary n us i p mid → mid ends us
     inner less d = e.ended less (e.spelled less (binary d))
+
     one_from : {w w' : BinaryOperator} {us us' mid mid' : List Token} {i i' : Expression} {p p' : Span} → ◌≡◌ {A = BinaryOperator × List Token} (w, us) (w', us') → SpellsBinary n us i p mid → SpellsBinary n us' i' p' mid'
         → ◌≡◌ {A = Value × List Token} ((trees.Binary w v.0 i (join v.1 p), join v.1 p), mid) ((trees.Binary w' v.0 i' (join v.1 p'), join v.1 p'), mid')
     one_from {w'} found d d' =
         let same = binary_same d (move_binary (after found) d') in
         rw (typed found) (ap (λ (x : Expression × Span × List Token). ((trees.Binary w' v.0 x.0 (join v.1 x.1), join v.1 x.1), x.2)) same)
+
     one : {a b : Value} {ts k k' : List Token} → length ts < suc m → Operated n v a ts k → Operated n v b ts k' → ◌≡◌ {A = Value × List Token} (a, k) (b, k')
     one {ts} less (operated f l d) (operated f' l' d') = one_from (found_same ts f f') d d'
+
     spelled : {a : Value} {ts k : List Token} → length ts < suc m → Operated n v a ts k → Operating n v ts k (reach a)
     spelled less (operated f l d) = right f l (e.spelled (short _ less f) (binary d))
+
     ended : {ts rest : List Token} {q : Reach} → length ts < suc m → Operating n v ts rest q → rest ends ts
     ended less alone = all
     ended less (half f l) = later all
     ended less (right {ts} f l c) = end_trans (e.ended (short _ less f) c) (operator_ends (marks_at ts f))
+
     longest_half : {w : BinaryOperator} (t : Token) {us mid : List Token} (rest : List Token) {i : Expression} {p : Span} → length us < m → operator_at (t ∷ rest) ≡ Some (w, us) → SpellsBinary n us i p mid → mid ends rest
     longest_half t rest less f d = end_trans (inner less d) (behind_half (marks_at (t ∷ rest) f))
+
     longest : {a : Value} {ts k rest : List Token} {q : Reach} → length ts < suc m → Operated n v a ts k → Operating n v ts rest q → k ends rest
     longest less a alone = ended less (spelled less a)
     longest {rest} less (operated f l d) (half {s} f' l') = longest_half (token kinds.Greater s) rest (short (token kinds.Greater s ∷ rest) less f) f d
     longest {ts} less (operated f l d) (right f' l' c) = e.longest (short ts less f) (binary d) (move (BeginsBinary n) (after (found_same ts f f')) c)
+
     nothing : {ts rest : List Token} {q : Reach} → length ts < suc m → Operating n v ts rest q → rest ≡ ts → q ≡ reach v
     nothing less alone is = refl
     nothing less (half f l) is = absurd (omega (arith, ap length is))
     nothing less (right {ts} f l c) is = absurd (omega (arith, end_length (e.ended (short ts less f) c), operator_shrinks (marks_at ts f), ap length is))
+
     shrinks : {a : Value} {ts k : List Token} → length ts < suc m → Operated n v a ts k → length k < length ts
     shrinks {ts} less (operated f l d) = omega (arith, end_length (inner (short ts less f) d), operator_shrinks (marks_at ts f))

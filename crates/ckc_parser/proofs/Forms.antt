@@ -101,16 +101,20 @@ seq_exact {n} {S} {B} {T} {C} e f = record { one = one; spelled = spelled; longe
   where
     short : {ts mid : List Token} {p : Reach} → length ts < n → S ts mid p → length mid < n
     short less a = omega (arith, less, end_length (e.ended less (e.spelled less a)))
+
     one : {ts m m' : List Token} {r r' : Reach} → length ts < n → SeqS S T ts m r → SeqS S T ts m' r' → ◌≡◌ {A = Read} (m, r) (m', r')
     one less (seq a b) (seq a' b') =
         let first = e.one less a a' in
         let second = f.one (short less a) b (move T (tokens_same first) b') in
         pair_same (tokens_same second) (beside_same (reach_same first) (reach_same second))
+
     spelled : {ts m : List Token} {r : Reach} → length ts < n → SeqS S T ts m r → SeqB S B C ts m r
     spelled less (seq a b) = in_second a (f.spelled (short less a) b)
+
     longest : {ts m rest : List Token} {r q : Reach} → length ts < n → SeqS S T ts m r → SeqB S B C ts rest q → m ends rest
     longest less (seq a b) (in_first c) = end_trans (f.ended (short less a) (f.spelled (short less a) b)) (e.longest less a c)
     longest less (seq a b) (in_second a' c) = f.longest (short less a) b (move C (tokens_same (e.one less a a')) c)
+
     nothing : {ts rest : List Token} {q : Reach} → length ts < n → SeqB S B C ts rest q → rest ≡ ts → q ≡ nowhere
     nothing less (in_first c) is = e.nothing less c is
     nothing less (in_second a c) is =
@@ -118,6 +122,7 @@ seq_exact {n} {S} {B} {T} {C} e f = record { one = one; spelled = spelled; longe
         let behind = f.ended (short less a) c in
         let here = end_same (e.ended less begun) (omega (arith, end_length behind, ap length is)) in
         beside_same (e.nothing less begun here) (f.nothing (short less a) c (rw (is, here) refl))
+
     ended : {ts rest : List Token} {q : Reach} → length ts < n → SeqB S B C ts rest q → rest ends ts
     ended less (in_first c) = e.ended less c
     ended less (in_second a c) = end_trans (f.ended (short less a) c) (e.ended less (e.spelled less a))
@@ -149,14 +154,18 @@ ended_exact {n} {K} {base} {S} {B} e = record { one = one; spelled = spelled; lo
   where
     one : {ts m m' : List Token} {r r' : Reach} → length ts < n → EndedS K S ts m r → EndedS K S ts m' r' → ◌≡◌ {A = Read} (m, r) (m', r')
     one less (end a t) (end a' t') = ap (λ (x : Read). (tail x.0, x.1)) (e.one less a a')
+
     spelled : {ts m : List Token} {r : Reach} → length ts < n → EndedS K S ts m r → EndedB K S B ts m r
     spelled less (end a t) = end a t
+
     longest : {ts m rest : List Token} {r q : Reach} → length ts < n → EndedS K S ts m r → EndedB K S B ts rest q → m ends rest
     longest less (end a t) (before_end c) = end_trans (later all) (e.longest less a c)
     longest less (end {m} a t) (end a' t') = subst (λ (x : List Token). m ends x) (ap tail (tokens_same (e.one less a a'))) all
+
     ended : {ts rest : List Token} {q : Reach} → length ts < n → EndedB K S B ts rest q → rest ends ts
     ended less (before_end c) = e.ended less c
     ended less (end a t) = end_trans (later all) (e.ended less (e.spelled less a))
+
     nothing : {ts rest : List Token} {q : Reach} → length ts < n → EndedB K S B ts rest q → rest ≡ ts → q ≡ base
     nothing less (before_end c) is = e.nothing less c is
     nothing less (end a t) is = absurd (omega (arith, end_length (e.ended less (e.spelled less a)), ap length is))
@@ -175,14 +184,18 @@ after_exact {n} {K} {base} {S} {B} e = record { one = one; spelled = spelled; lo
   where
     one : {ts m m' : List Token} {r r' : Reach} → length ts < suc n → AfterS K S ts m r → AfterS K S ts m' r' → ◌≡◌ {A = Read} (m, r) (m', r')
     one less (after t a) (after t' a') = e.one (omega (arith, less)) a a'
+
     spelled : {ts m : List Token} {r : Reach} → length ts < suc n → AfterS K S ts m r → AfterB K B ts m r
     spelled less (after t a) = after t (e.spelled (omega (arith, less)) a)
+
     ended : {ts rest : List Token} {q : Reach} → length ts < suc n → AfterB K B ts rest q → rest ends ts
     ended less not_yet = all
     ended less (after t c) = later (e.ended (omega (arith, less)) c)
+
     longest : {ts m rest : List Token} {r q : Reach} → length ts < suc n → AfterS K S ts m r → AfterB K B ts rest q → m ends rest
     longest less (after t a) not_yet = later (e.ended (omega (arith, less)) (e.spelled (omega (arith, less)) a))
     longest less (after t a) (after t' c) = e.longest (omega (arith, less)) a c
+
     nothing : {ts rest : List Token} {q : Reach} → length ts < suc n → AfterB K B ts rest q → rest ≡ ts → q ≡ nowhere
     nothing less not_yet is = refl
     nothing less (after t c) is = absurd (omega (arith, end_length (e.ended (omega (arith, less)) c), ap length is))
@@ -197,12 +210,16 @@ node_exact {n} {start} {base} {S} {B} e = record { one = one; spelled = spelled;
   where
     one : {ts m m' : List Token} {r r' : Reach} → length ts < n → NodeS start S ts m r → NodeS start S ts m' r' → ◌≡◌ {A = Read} (m, r) (m', r')
     one less (node a) (node a') = ap (λ (x : Read). (x.0, around start x.1)) (e.one less a a')
+
     spelled : {ts m : List Token} {r : Reach} → length ts < n → NodeS start S ts m r → NodeS start B ts m r
     spelled less (node a) = node (e.spelled less a)
+
     longest : {ts m rest : List Token} {r q : Reach} → length ts < n → NodeS start S ts m r → NodeS start B ts rest q → m ends rest
     longest less (node a) (node c) = e.longest less a c
+
     nothing : {ts rest : List Token} {q : Reach} → length ts < n → NodeS start B ts rest q → rest ≡ ts → q ≡ around start base
     nothing less (node c) is = ap (around start) (e.nothing less c is)
+
     ended : {ts rest : List Token} {q : Reach} → length ts < n → NodeS start B ts rest q → rest ends ts
     ended less (node c) = e.ended less c
 
@@ -216,10 +233,13 @@ done_exact {n} = record { one = one; spelled = λ less a. a; longest = longest; 
   where
     one : {ts m m' : List Token} {r r' : Reach} → length ts < n → DoneS ts m r → DoneS ts m' r' → ◌≡◌ {A = Read} (m, r) (m', r')
     one less done done = refl
+
     longest : {ts m rest : List Token} {r q : Reach} → length ts < n → DoneS ts m r → DoneS ts rest q → m ends rest
     longest less done done = all
+
     nothing : {ts rest : List Token} {q : Reach} → length ts < n → DoneS ts rest q → rest ≡ ts → q ≡ nowhere
     nothing less done is = refl
+
     ended : {ts rest : List Token} {q : Reach} → length ts < n → DoneS ts rest q → rest ends ts
     ended less done = all
 
@@ -240,17 +260,21 @@ either_exact {n} {test} {base} {S} {B} {T} {C} e f = record { one = one; spelled
     one less (yes t a) (no t' a') = never t t'
     one less (no t a) (yes t' a') = never t' t
     one less (no t a) (no t' a') = f.one less a a'
+
     spelled : {ts m : List Token} {r : Reach} → length ts < n → EitherS test S T ts m r → EitherS test B C ts m r
     spelled less (yes t a) = yes t (e.spelled less a)
     spelled less (no t a) = no t (f.spelled less a)
+
     longest : {ts m rest : List Token} {r q : Reach} → length ts < n → EitherS test S T ts m r → EitherS test B C ts rest q → m ends rest
     longest less (yes t a) (yes t' c) = e.longest less a c
     longest less (yes t a) (no t' c) = never t t'
     longest less (no t a) (yes t' c) = never t' t
     longest less (no t a) (no t' c) = f.longest less a c
+
     nothing : {ts rest : List Token} {q : Reach} → length ts < n → EitherS test B C ts rest q → rest ≡ ts → q ≡ base
     nothing less (yes t c) is = e.nothing less c is
     nothing less (no t c) is = f.nothing less c is
+
     ended : {ts rest : List Token} {q : Reach} → length ts < n → EitherS test B C ts rest q → rest ends ts
     ended less (yes t c) = e.ended less c
     ended less (no t c) = f.ended less c
@@ -291,16 +315,21 @@ chain_exact {A} {n} {base} {reach} {S} {B} {T} {C} e f = record { one = one; spe
   where
     short : {a : A} {ts mid : List Token} → length ts < suc n → S a ts mid → length mid < n
     short less a = omega (arith, less, e.shrinks less a)
+
     one : {ts m m' : List Token} {r r' : Reach} → length ts < suc n → ChainS S T ts m r → ChainS S T ts m' r' → ◌≡◌ {A = Read} (m, r) (m', r')
     one less (chain a t) (chain a' t') = (f _).one (short less a) t (move_chain T (e.one less a a') t')
+
     spelled : {ts m : List Token} {r : Reach} → length ts < suc n → ChainS S T ts m r → ChainB S B C ts m r
     spelled less (chain a t) = behind_link a ((f _).spelled (short less a) t)
+
     longest : {ts m rest : List Token} {r q : Reach} → length ts < suc n → ChainS S T ts m r → ChainB S B C ts rest q → m ends rest
     longest less (chain a t) (in_link c) = end_trans ((f _).ended (short less a) ((f _).spelled (short less a) t)) (e.longest less a c)
     longest less (chain a t) (behind_link a' c) = (f _).longest (short less a) t (move_chain C (e.one less a a') c)
+
     nothing : {ts rest : List Token} {q : Reach} → length ts < suc n → ChainB S B C ts rest q → rest ≡ ts → q ≡ base
     nothing less (in_link c) is = e.nothing less c is
     nothing less (behind_link a c) is = absurd (omega (arith, e.shrinks less a, end_length ((f _).ended (short less a) c), ap length is))
+
     ended : {ts rest : List Token} {q : Reach} → length ts < suc n → ChainB S B C ts rest q → rest ends ts
     ended less (in_link c) = e.ended less c
     ended less (behind_link a c) = end_trans ((f _).ended (short less a) c) (e.ended less (e.spelled less a))
@@ -338,14 +367,18 @@ head_exact {H} {n} {Is} {base} {S} {B} only e = record { one = one; spelled = sp
   where
     one : {ts m m' : List Token} {r r' : Reach} → length ts < suc n → HeadS Is S ts m r → HeadS Is S ts m' r' → ◌≡◌ {A = Read} (m, r) (m', r')
     one less (headed i a) (headed i' a') = (e _ _).one (omega (arith, less)) a (move_head S (only _ _ _ i i') a')
+
     spelled : {ts m : List Token} {r : Reach} → length ts < suc n → HeadS Is S ts m r → HeadB Is B ts m r
     spelled less (headed i a) = headed i ((e _ _).spelled (omega (arith, less)) a)
+
     ended : {ts rest : List Token} {q : Reach} → length ts < suc n → HeadB Is B ts rest q → rest ends ts
     ended less none_yet = all
     ended less (headed i c) = later ((e _ _).ended (omega (arith, less)) c)
+
     longest : {ts m rest : List Token} {r q : Reach} → length ts < suc n → HeadS Is S ts m r → HeadB Is B ts rest q → m ends rest
     longest less (headed i a) none_yet = later ((e _ _).ended (omega (arith, less)) ((e _ _).spelled (omega (arith, less)) a))
     longest less (headed i a) (headed i' c) = (e _ _).longest (omega (arith, less)) a (move_head B (only _ _ _ i i') c)
+
     nothing : {ts rest : List Token} {q : Reach} → length ts < suc n → HeadB Is B ts rest q → rest ≡ ts → q ≡ nowhere
     nothing less none_yet is = refl
     nothing less (headed i c) is = absurd (omega (arith, end_length ((e _ _).ended (omega (arith, less)) c), ap length is))
@@ -358,10 +391,13 @@ never_exact {n} {base} = record { one = one; spelled = λ less a. a; longest = l
   where
     one : {ts m m' : List Token} {r r' : Reach} → length ts < n → NeverS ts m r → NeverS ts m' r' → ◌≡◌ {A = Read} (m, r) (m', r')
     one less a b = elim a [ ]
+
     longest : {ts m rest : List Token} {r q : Reach} → length ts < n → NeverS ts m r → NeverS ts rest q → m ends rest
     longest less a b = elim a [ ]
+
     nothing : {ts rest : List Token} {q : Reach} → length ts < n → NeverS ts rest q → rest ≡ ts → q ≡ base
     nothing less a is = elim a [ ]
+
     ended : {ts rest : List Token} {q : Reach} → length ts < n → NeverS ts rest q → rest ends ts
     ended less a = elim a [ ]
 
@@ -421,10 +457,13 @@ stays_exact {n} {base} = record { one = one; spelled = λ less a. a; longest = l
   where
     one : {ts m m' : List Token} {r r' : Reach} → length ts < n → StaysS base ts m r → StaysS base ts m' r' → ◌≡◌ {A = Read} (m, r) (m', r')
     one less stays stays = refl
+
     longest : {ts m rest : List Token} {r q : Reach} → length ts < n → StaysS base ts m r → StaysS base ts rest q → m ends rest
     longest less stays stays = all
+
     nothing : {ts rest : List Token} {q : Reach} → length ts < n → StaysS base ts rest q → rest ≡ ts → q ≡ base
     nothing less stays is = refl
+
     ended : {ts rest : List Token} {q : Reach} → length ts < n → StaysS base ts rest q → rest ends ts
     ended less stays = all
 

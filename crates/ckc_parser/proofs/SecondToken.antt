@@ -110,8 +110,8 @@ unary_second (b.operator w c) is = elim w [ ]
 unary_second (b.primary c) is = primary_second (primaries.into_b _ _ _ c) is
 unary_second {y} {q} {t} {us} {rest} {p} (b.selectors {o} {mid} {e} pr c) is =
     between (primary_exact.ended begun) (primary_read pr) ((selectors_exact (e, o)).ended c) is
-        (λ here. subst (Second q.from) (sym ((selectors_exact (e, o)).nothing c (is ∙ sym here))) (primary_second (primaries.into_b _ mid _ begun) here))
-        (λ here. selectors_second (primary_first (primaries.into_b _ mid _ begun) here) c here is)
+    (λ here. subst (Second q.from) (sym ((selectors_exact (e, o)).nothing c (is ∙ sym here))) (primary_second (primaries.into_b _ mid _ begun) here))
+    (λ here. selectors_second (primary_first (primaries.into_b _ mid _ begun) here) c here is)
   where
     begun : BeginsPrimary (token (kinds.Name y) q ∷ t ∷ us) mid (expression_reach e)
     begun = primary_exact.spelled (primary pr)
@@ -129,5 +129,5 @@ binary_second zero (b.operand c) is = unary_second c is
 binary_second (suc n) (b.first c) is = binary_second n c is
 binary_second (suc n) {q} (b.operators {o} {mid} {e} d c) is =
     between ((binary_exact n).ended ((binary_exact n).spelled (binary d))) (binary_read d) ((tail_exact n (e, o)).ended (whole.tail c)) is
-        (λ here. subst (Second q.from) (sym ((tail_exact n (e, o)).nothing (whole.tail c) (is ∙ sym here))) (binary_second n ((binary_exact n).spelled (binary d)) here))
-        (λ here. tail_second (binary_first n ((binary_exact n).spelled (binary d)) here) c here is)
+    (λ here. subst (Second q.from) (sym ((tail_exact n (e, o)).nothing (whole.tail c) (is ∙ sym here))) (binary_second n ((binary_exact n).spelled (binary d)) here))
+    (λ here. tail_second (binary_first n ((binary_exact n).spelled (binary d)) here) c here is)
