@@ -11,8 +11,6 @@ mod piece;
 mod pieces;
 mod quoted;
 mod run;
-#[cfg(test)]
-mod tests;
 pub mod text;
 pub mod token;
 mod word;

@@ -12,8 +12,6 @@ pub mod parser;
 mod primary;
 mod statements;
 mod stuck;
-#[cfg(test)]
-mod tests;
 mod tokens;
 mod types;
 mod words;

@@ -1,122 +1,24 @@
 // Small sources, with the place of their refusal or the shape of their tree.
 
-use crate::parser::parse;
-use ckc_lexer::token::{CheckedScope, Token, TokenKind};
-use ckc_text::code::Code;
+use ckc_lexer::lexer::lex;
+use ckc_parser::parser::parse;
 use ckc_text::fault::Refused;
-use ckc_text::name::Name;
-use ckc_text::place::Span;
 use ckc_tree::expr::Expr;
 use ckc_tree::item::{Item, Program};
-use ckc_tree::stmt::{Initializer, Stmt};
+use ckc_tree::stmt::Initializer;
 use std::alloc::Global;
 use std::process::Abort;
 use std::test::Fail;
 
-// The kind of a word: a number, a keyword or a name.
-fn word(alloc: Global, text: &str) -> Result<TokenKind, Fail> {
-    if text.as_bytes()[0].is_ascii_digit() {
-        return Ok(TokenKind::Number(7));
-    }
-    Ok(match text {
-        "int" => TokenKind::Int,
-        "char" => TokenKind::Char,
-        "void" => TokenKind::Void,
-        "struct" => TokenKind::Struct,
-        "if" => TokenKind::If,
-        "else" => TokenKind::Else,
-        "while" => TokenKind::While,
-        "for" => TokenKind::For,
-        "return" => TokenKind::Return,
-        "break" => TokenKind::Break,
-        "continue" => TokenKind::Continue,
-        "sizeof" => TokenKind::Sizeof,
-        "malloc" => TokenKind::Malloc,
-        "calloc" => TokenKind::Calloc,
-        "ptr" => TokenKind::Ptr,
-        "array_ptr" => TokenKind::ArrayPtr,
-        "_Checked" => TokenKind::Checked,
-        "_Unchecked" => TokenKind::Unchecked,
-        "_Bundled" => TokenKind::Bundled,
-        "_Tainted" => TokenKind::Tainted,
-        "_Callback" => TokenKind::Callback,
-        "_Dynamic_bounds_cast" => TokenKind::DynamicBoundsCast,
-        "REGION" => TokenKind::Scope(CheckedScope::On),
-        _ => TokenKind::Name(Name::copied(alloc, text.as_bytes())?),
-    })
+// The tree of a source.
+fn tree_of(alloc: Global, text: &str) -> Result<Program, Refused> {
+    let tokens = lex(alloc, text.as_bytes())?;
+    parse(alloc, text.len() as u32, tokens.as_slice())
 }
 
-// The kind of a mark, and how many bytes it has.
-fn mark(text: &[u8]) -> (TokenKind, usize) {
-    match text {
-        [b'+', b'+', ..] => (TokenKind::PlusPlus, 2),
-        [b'-', b'-', ..] => (TokenKind::MinusMinus, 2),
-        [b'+', b'=', ..] => (TokenKind::PlusEqual, 2),
-        [b'-', b'>', ..] => (TokenKind::Arrow, 2),
-        [b'>', b'=', ..] => (TokenKind::GreaterEqual, 2),
-        [b'<', b'<', ..] => (TokenKind::ShiftLeft, 2),
-        [b'=', b'=', ..] => (TokenKind::EqualEqual, 2),
-        [b'|', b'|', ..] => (TokenKind::OrOr, 2),
-        [b'&', b'&', ..] => (TokenKind::AndAnd, 2),
-        [b'{', ..] => (TokenKind::OpenBrace, 1),
-        [b'}', ..] => (TokenKind::CloseBrace, 1),
-        [b'(', ..] => (TokenKind::OpenParen, 1),
-        [b')', ..] => (TokenKind::CloseParen, 1),
-        [b'[', ..] => (TokenKind::OpenBracket, 1),
-        [b']', ..] => (TokenKind::CloseBracket, 1),
-        [b'<', ..] => (TokenKind::Less, 1),
-        [b'>', ..] => (TokenKind::Greater, 1),
-        [b'=', ..] => (TokenKind::Equal, 1),
-        [b'+', ..] => (TokenKind::Plus, 1),
-        [b'-', ..] => (TokenKind::Minus, 1),
-        [b'*', ..] => (TokenKind::Star, 1),
-        [b'&', ..] => (TokenKind::Ampersand, 1),
-        [b'!', ..] => (TokenKind::Not, 1),
-        [b'.', ..] => (TokenKind::Dot, 1),
-        [b',', ..] => (TokenKind::Comma, 1),
-        [b':', ..] => (TokenKind::Colon, 1),
-        _ => (TokenKind::Semicolon, 1),
-    }
-}
-
-fn is_word_byte(byte: u8) -> bool {
-    byte.is_ascii_alphanumeric() || byte == b'_'
-}
-
-// The tokens of a text without comments, strings and directives.
-fn tokens_of(alloc: Global, text: &str) -> Result<Vec<Token>, Fail> {
-    let bytes = text.as_bytes();
-    let mut tokens = Vec::new(alloc);
-    let mut at = 0;
-    while at < bytes.len() {
-        let from = at;
-        if bytes[at] == b' ' {
-            at += 1;
-            continue;
-        }
-        let kind = if is_word_byte(bytes[at]) {
-            while at < bytes.len() && is_word_byte(bytes[at]) {
-                at += 1;
-            }
-            word(alloc, &text[from..at])?
-        } else {
-            let (kind, len) = mark(&bytes[at..]);
-            at += len;
-            kind
-        };
-        let span = Span {
-            from: from as u32,
-            to: at as u32,
-        };
-        tokens.push(Token { kind, span })?;
-    }
-    Ok(tokens)
-}
-
-// What parsing answers: `ok`, or the code and the byte of the refusal.
+// What reading answers: `ok`, or the code and the byte of the refusal.
 fn answer(alloc: Global, text: &str) -> Result<String, Fail> {
-    let tokens = tokens_of(alloc, text)?;
-    match parse(alloc, text.len() as u32, tokens.as_slice()) {
+    match tree_of(alloc, text) {
         Ok(_) => Ok(format!(in alloc; "ok")?),
         Err(Refused::Source(fault)) => {
             Ok(format!(in alloc; "{} {}", fault.code.number(), fault.span.from)?)
@@ -133,7 +35,7 @@ fn answers(rt: HostRuntime) -> Result<(), Fail> {
         ("int main(void) { return 0;", "E06 26"),
         ("int main(void) { return 0; ", "E06 27"),
         (
-            "REGION int x, *y = 0, z _Checked[3] = {1, -2}; struct s { int n; array_ptr<int> p : count(n); }; struct s v;",
+            "#pragma CHECKED_SCOPE on\nint x, *y = 0, z _Checked[3] = {1, -2}; struct s { int n; array_ptr<int> p : count(n); }; struct s v;",
             "ok",
         ),
         ("struct s { };", "E06 11"),
@@ -228,6 +130,7 @@ fn heights(rt: HostRuntime) -> Result<(), Fail> {
         ("int x = ", "a + ", 199, "b", "", ";", "ok"),
         ("int x = ", "a + ", 200, "b", "", ";", "E07 8"),
         ("int x = ", "a + ", 200, "", "", ";", "E07 8"),
+        ("int x = ", "a + ", 94998, "a", "", ";", "E07 8"),
         ("int f() ", "{", 200, "", "}", "", "ok"),
         ("int f() ", "{", 201, "", "}", "", "E07 208"),
         ("int f() ", "{", 199, "x = 7;", "}", "", "E07 207"),
@@ -311,8 +214,7 @@ fn shapes(rt: HostRuntime) -> Result<(), Fail> {
         ("int x=a&b;", "[6-9 n6 n8]"),
     ];
     for (text, expected) in table {
-        let tokens = tokens_of(rt.alloc(), text)?;
-        let program = parse(rt.alloc(), text.len() as u32, tokens.as_slice())?;
+        let program = tree_of(rt.alloc(), text)?;
         let found = initial_shape(rt.alloc(), &program)?;
         assert_eq!(rt; found.as_str(), expected, "{text}");
     }

@@ -1,6 +1,6 @@
 // The limits of a source.
 
-use crate::lexer::lex;
+use ckc_lexer::lexer::lex;
 use ckc_text::fault::Refused;
 use std::alloc::Global;
 use std::fmt::Write;
