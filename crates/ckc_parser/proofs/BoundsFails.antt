@@ -24,7 +24,7 @@ use Rattle.ckc_parser.specs.Failures.{Failure, IsLow}
 use Rattle.ckc_parser.specs.StuckExpressions.{close_paren, bounds_word, unknown_word, is_unknown, goes_on, after_name}
 use Rattle.ckc_parser.proofs.OneExpression.{first_kind, binary_same, behind}
 use Rattle.ckc_parser.proofs.ExpressionPaths.{no_binary, Marks, mark, shift, marks_at}
-use Rattle.ckc_parser.proofs.Forms.{◌ends◌, all, later, end_length, end_same, Is, it, Exact, exact_on_all, below, never, SeqS, SeqB, seq, in_first, in_second, seq_all, EndedS, EndedB, before_end, end, ended_all, headed}
+use Rattle.ckc_parser.proofs.Forms.{◌ends◌, all, later, end_length, end_same, Is, it, Exact, exact_on_all, below, never, SeqS, SeqB, seq, in_first, in_second, seq_all, before_end, end, ended_all}
 use Rattle.ckc_parser.proofs.Failing as failing
 use Rattle.ckc_parser.proofs.Failing.{Fails, unexpected, too_deep, beside_nowhere, fails_first, fails_second, fails_before_end, fails_at_end, fails_at_first, fails_headed, fails_unheaded, fails_as}
 use Rattle.ckc_parser.proofs.TypeForms.{paren_is}
@@ -32,7 +32,7 @@ use Rattle.ckc_parser.proofs.ExpressionLinks.{BinaryS, binary}
 use Rattle.ckc_parser.proofs.PrimaryForms.{BoundsS}
 use Rattle.ckc_parser.proofs.BuiltBounds as bounds
 use Rattle.ckc_parser.proofs.BuiltBounds.{Head, IsHead, counted, ranged, BehindS, BehindB, CommaS, CommaB, PairS, PairB, RangeS, RangeB, unknown, word, range, range_below, name_spells}
-use Rattle.ckc_parser.proofs.ExpressionForms.{binary_exact, some_node}
+use Rattle.ckc_parser.proofs.ExpressionForms.{binary_exact}
 use Rattle.ckc_parser.proofs.SecondToken.{Second, name_second, binary_first, binary_second, binary_read}
 
 -- ---- the words of bounds

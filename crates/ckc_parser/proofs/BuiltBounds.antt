@@ -1,5 +1,5 @@
 -- Bounds as a form that is built of others, by their first word.
-use Rattle.std.proofs.Common.{◌≡◌, ◌<◌, ℕ, zero, suc, length, true, false, List, [], ◌∷◌, codes, refl, sym, ap, subst, ◌∙◌, arith}
+use Rattle.std.proofs.Common.{◌≡◌, ◌<◌, ℕ, zero, suc, length, List, ◌∷◌, codes, refl, sym, ap, subst, ◌∙◌}
 use Rattle.ckc_text.specs.declared.place.Span.{Span}
 use Rattle.ckc_lexer.specs.declared.token.Token.{Token}
 use Rattle.ckc_lexer.specs.declared.token.TokenKind.{TokenKind}
@@ -13,7 +13,7 @@ use Rattle.ckc_parser.specs.ExpressionBeginnings as b
 use Rattle.ckc_parser.specs.ExpressionBeginnings.{BeginsBinary, BeginsBounds}
 use Rattle.ckc_parser.proofs.OneExpression.{first_kind}
 use Rattle.ckc_parser.proofs.ExpressionPaths.{no_binary}
-use Rattle.ckc_parser.proofs.Forms.{◌ends◌, all, later, end_length, end_trans, Is, it, Read, ExactBelow, tokens_same, within, SeqS, SeqB, seq, in_first, in_second, seq_exact, EndedS, EndedB, before_end, end, ended_exact, AfterS, AfterB, not_yet, after, after_exact, HeadS, HeadB, none_yet, headed, head_exact, OneHead, same_exact}
+use Rattle.ckc_parser.proofs.Forms.{◌ends◌, all, later, end_trans, Is, it, Read, ExactBelow, tokens_same, within, SeqS, SeqB, seq, in_first, in_second, seq_exact, EndedS, EndedB, before_end, end, ended_exact, AfterS, AfterB, not_yet, after, after_exact, HeadS, HeadB, none_yet, headed, head_exact, OneHead, same_exact}
 use Rattle.ckc_parser.proofs.Failing.{beside_nowhere}
 use Rattle.ckc_parser.proofs.ExpressionLinks.{BinaryS, binary}
 use Rattle.ckc_parser.proofs.PrimaryForms.{BoundsS, written}

@@ -1,17 +1,14 @@
 -- Where reading an expression is stuck, it fails.
-use Rattle.std.proofs.Common.{◌≡◌, ◌≤◌, ◌<◌, ◌+◌, ◌⊎◌, inl, inr, ℕ, zero, suc, length, Bool, true, false, List, [], ◌∷◌, Some, refl, sym, ap, subst, ◌∙◌, arith}
+use Rattle.std.proofs.Common.{◌≡◌, ◌≤◌, ◌<◌, ◌+◌, ◌⊎◌, inl, inr, ℕ, suc, length, true, false, List, [], ◌∷◌, Some, refl, sym, ap, subst, ◌∙◌, arith}
 use Rattle.ckc_text.specs.declared.place.Span.{Span}
 use Rattle.ckc_lexer.specs.declared.token.Token.{Token}
 use Rattle.ckc_lexer.specs.declared.token.TokenKind.{TokenKind}
 use Rattle.ckc_lexer.specs.declared.token.TokenKind.TheVariants as kinds
 use Rattle.ckc_tree.specs.declared.expr.BinaryOperator.{BinaryOperator}
-use Rattle.ckc_tree.specs.Expressions as trees
 use Rattle.ckc_tree.specs.Expressions.{Expression}
-use Rattle.ckc_tree.specs.Types.{TypeName}
 use Rattle.ckc_tree.specs.Heights.{Reach, nowhere, node, around, ◌beside◌, type_reach, expression_reach}
 use Rattle.ckc_parser.specs.Tokens as words
 use Rattle.ckc_parser.specs.Tokens.{token, next_is, open_paren, comma, selector, operator_at, level}
-use Rattle.ckc_parser.specs.ExpressionGrammar as g
 use Rattle.ckc_parser.specs.ExpressionGrammar.{SpellsBinary}
 use Rattle.ckc_parser.specs.TypeBeginnings as tb
 use Rattle.ckc_parser.specs.ExpressionBeginnings as b
@@ -22,15 +19,14 @@ use Rattle.ckc_parser.specs.StuckTypes.{name_token}
 use Rattle.ckc_parser.specs.StuckExpressions as stuck
 use Rattle.ckc_parser.specs.StuckExpressions.{primary_word, unary_word, close_paren, close_bracket, comma_or_paren, StuckBinary, StuckTail, StuckUnary, StuckSelectors, StuckPrimary, StuckArguments, StuckMoreArguments, StuckBounds}
 use Rattle.ckc_parser.proofs.Heads.{class, class_at}
-use Rattle.ckc_parser.proofs.OneExpression.{binary_same, behind, found_same, move_binary, after, typed, first_kind}
-use Rattle.ckc_parser.proofs.OneType.{rest_of}
+use Rattle.ckc_parser.proofs.OneExpression.{binary_same, behind, found_same, move_binary, after}
 use Rattle.ckc_parser.proofs.Paths.{around_height, beside_height}
 use Rattle.ckc_parser.proofs.ExpressionPaths.{no_binary, Marks, mark, shift, marks_at}
 use Rattle.ckc_parser.proofs.Forms.{◌ends◌, all, later, end_length, end_trans, Is, it, Exact, ExactValue, exact_on_all, value_on_all, value_within, below, never, move, SeqS, SeqB, seq, in_first, in_second, seq_all, EndedS, EndedB, before_end, end, ended_all, AfterS, AfterB, not_yet, after_all, NodeS, node_all, DoneS, done_all, yes, no, either_all, headed}
 use Rattle.ckc_parser.proofs.Forms as forms
 use Rattle.ckc_parser.proofs.Failing as failing
 use Rattle.ckc_parser.proofs.Failing.{Fails, unexpected, too_deep, beside_nowhere, beside_higher, low_beside, low_around, inner_start, deep_around, fails_first, fails_second, fails_before_end, fails_at_end, fails_after, fails_at_first, fails_node, fails_yes, fails_no, fails_in_link, fails_behind_link, fails_headed, fails_unheaded, fails_deep_head, fails_as}
-use Rattle.ckc_parser.proofs.TypeForms.{named, angled, type_name_exact, type_name_fails, angled_exact, angled_fails, less_is, greater_is, paren_is, name_is}
+use Rattle.ckc_parser.proofs.TypeForms.{named, angled, type_name_exact, type_name_fails, angled_exact, angled_fails, paren_is}
 use Rattle.ckc_parser.proofs.ExpressionLinks as links
 use Rattle.ckc_parser.proofs.ExpressionLinks.{Value, reach, BinaryS, binary, Selected, Selecting, selected_below, Operated, operated, Operating, operated_below, behind_half, operator_shrinks}
 use Rattle.ckc_parser.proofs.PrimaryForms as primaries

@@ -1,5 +1,5 @@
 -- Expressions and bounds as forms that are built of others: reading them goes one way.
-use Rattle.std.proofs.Common.{◌≡◌, ◌≤◌, ◌<◌, ℕ, zero, suc, length, Bool, true, false, nat_eq, List, [], ◌∷◌, Some, refl, sym, ap, subst, ◌∙◌, arith}
+use Rattle.std.proofs.Common.{◌≡◌, ◌≤◌, ◌<◌, ℕ, zero, suc, length, Bool, true, false, List, [], ◌∷◌, Some, refl, ap, arith}
 use Rattle.std.proofs.lemmas.Bool.{eq-eqb}
 use Rattle.ckc_text.specs.declared.place.Span.{Span}
 use Rattle.ckc_lexer.specs.declared.token.Token.{Token}
@@ -9,14 +9,14 @@ use Rattle.ckc_tree.specs.declared.expr.UnaryOperator.{UnaryOperator}
 use Rattle.ckc_tree.specs.declared.expr.BinaryOperator.{BinaryOperator}
 use Rattle.ckc_tree.specs.Expressions as trees
 use Rattle.ckc_tree.specs.Expressions.{Expression}
-use Rattle.ckc_tree.specs.Heights.{Reach, nowhere, node, around, ◌beside◌, type_reach, expression_reach, expressions_reach, bounds_reach}
+use Rattle.ckc_tree.specs.Heights.{Reach, nowhere, around, ◌beside◌, type_reach, expression_reach, expressions_reach, bounds_reach}
 use Rattle.ckc_parser.specs.Tokens as words
 use Rattle.ckc_parser.specs.Tokens.{token, next_is, comma, selector, operator_at, level, has_operator, IsUnaryOperator}
 use Rattle.ckc_parser.specs.ExpressionGrammar as g
 use Rattle.ckc_parser.specs.ExpressionGrammar.{SpellsBinary, SpellsTail, SpellsUnary, SpellsSelectors, SpellsPrimary, SpellsArguments, SpellsMoreArguments}
 use Rattle.ckc_parser.specs.ExpressionBeginnings as b
 use Rattle.ckc_parser.specs.ExpressionBeginnings.{BeginsBinary, BeginsTail, BeginsUnary, BeginsSelectors, BeginsPrimary, BeginsArguments, BeginsMoreArguments, BeginsBounds}
-use Rattle.ckc_parser.specs.StuckExpressions.{close_paren, unary_word}
+use Rattle.ckc_parser.specs.StuckExpressions.{close_paren}
 use Rattle.ckc_parser.proofs.Heads.{class, class_at, primary_class, class_low, unary_class, starts}
 use Rattle.ckc_parser.proofs.OneExpression.{binary_same, unary_same, primary_same}
 use Rattle.ckc_parser.proofs.Paths.{around_height}
@@ -24,7 +24,6 @@ use Rattle.ckc_parser.proofs.Whole.{binary_begins, unary_begins, selectors_begin
 use Rattle.ckc_parser.proofs.ExpressionPaths.{no_binary}
 use Rattle.ckc_parser.proofs.Forms.{◌ends◌, all, later, end_length, Is, it, Read, ExactBelow, Exact, exact_on_all, none_below, ExactValueBelow, ExactValue, value_on_all, never, within, SeqS, SeqB, seq, in_first, in_second, seq_exact, AfterS, AfterB, not_yet, after, after_exact, NodeS, node_exact, DoneS, done, done_exact, EitherS, yes, no, either_exact, ChainS, ChainB, chain, in_link, behind_link, chain_exact, HeadS, HeadB, none_yet, headed, head_exact, OneHead, same_exact, StaysS, stays, stays_exact}
 use Rattle.ckc_parser.proofs.Forms as forms
-use Rattle.ckc_parser.proofs.Failing.{beside_nowhere}
 use Rattle.ckc_parser.proofs.ExpressionLinks as links
 use Rattle.ckc_parser.proofs.ExpressionLinks.{Value, reach, BinaryS, binary, Selected, Selecting, selected_below, Operated, operated, Operating, operated_below}
 use Rattle.ckc_parser.proofs.PrimaryForms as primaries

@@ -1,5 +1,5 @@
 -- What goes on with an expression so far: an index or a member, and an operator with its right operand.
-use Rattle.std.proofs.Common.{◌≡◌, ◌≤◌, ◌<◌, ℕ, zero, suc, length, Bool, true, false, List, [], ◌∷◌, Some, refl, sym, ap, subst, ◌∙◌, arith}
+use Rattle.std.proofs.Common.{◌≡◌, ◌<◌, ℕ, suc, length, List, ◌∷◌, Some, refl, ap, subst, arith}
 use Rattle.ckc_text.specs.declared.place.Span.{Span}
 use Rattle.ckc_lexer.specs.declared.token.Token.{Token}
 use Rattle.ckc_lexer.specs.declared.token.TokenKind.TheVariants as kinds
@@ -14,7 +14,7 @@ use Rattle.ckc_parser.specs.ExpressionBeginnings.{BeginsBinary}
 use Rattle.ckc_parser.proofs.OneExpression.{found_same, binary_same, move_binary, behind, typed, after}
 use Rattle.ckc_parser.proofs.ExpressionPaths.{Marks, mark, shift, marks_at}
 use Rattle.ckc_parser.proofs.OneType.{first_span, rest_of}
-use Rattle.ckc_parser.proofs.Forms.{◌ends◌, all, later, end_length, end_trans, Read, ExactBelow, ExactValueBelow, move}
+use Rattle.ckc_parser.proofs.Forms.{◌ends◌, all, later, end_length, end_trans, ExactBelow, ExactValueBelow, move}
 
 -- an expression, and the bytes that it stands on with the parentheses around it
 abbrev pub Value : Type 0

@@ -3,8 +3,8 @@ mod Heads
 mod OneExpression
 pub mod Roles
 mod OneStatement
-mod OneItem
-mod Whole
+pub mod OneItem
+pub mod Whole
 mod Early
 mod TokenOrder
 mod PlacedType
@@ -16,7 +16,7 @@ mod TypePaths
 mod ExpressionPaths
 mod StatementPaths
 mod ItemPaths
-mod OneFault
+pub mod OneFault
 pub mod Readings
 pub mod Contexts
 pub mod Waiting

@@ -1,6 +1,6 @@
 -- Expressions of which a name and one more token are read: the name is the first of their nodes, and no deeper node
 -- stands elsewhere.
-use Rattle.std.proofs.Common.{◌≡◌, ◌≤◌, ◌<◌, ℕ, zero, suc, length, Bool, true, false, List, [], ◌∷◌, refl, sym, ap, subst, ◌∙◌, arith}
+use Rattle.std.proofs.Common.{◌≡◌, ◌≤◌, ◌<◌, ℕ, zero, suc, length, List, ◌∷◌, refl, sym, ap, subst, ◌∙◌, arith}
 use Rattle.ckc_text.specs.declared.place.Span.{Span}
 use Rattle.ckc_lexer.specs.declared.token.Token.{Token}
 use Rattle.ckc_lexer.specs.declared.token.TokenKind.TheVariants as kinds
@@ -14,8 +14,7 @@ use Rattle.ckc_parser.specs.ExpressionBeginnings.{BeginsBinary, BeginsUnary, Beg
 use Rattle.ckc_parser.proofs.ExpressionPaths.{marks_at}
 use Rattle.ckc_parser.proofs.Forms.{◌ends◌, all, later, end_length, end_same, yes, no, HeadB, none_yet, headed, not_yet, after, in_link, behind_link, stays}
 use Rattle.ckc_parser.proofs.Forms as forms
-use Rattle.ckc_parser.proofs.ExpressionLinks as links
-use Rattle.ckc_parser.proofs.ExpressionLinks.{binary, operated, operator_shrinks}
+use Rattle.ckc_parser.proofs.ExpressionLinks.{binary, operator_shrinks}
 use Rattle.ckc_parser.proofs.PrimaryForms as primaries
 use Rattle.ckc_parser.proofs.PrimaryForms.{primary}
 use Rattle.ckc_parser.proofs.ExpressionForms as whole

@@ -1,6 +1,6 @@
 -- Inside: where reading what stands at file level fails. One case for each part that can fail: those before it are
 -- spelled, and no node so far is too deep.
-use Rattle.std.specs.Prelude.{◌≡◌, ◌&&◌, cond, ℕ, Bool, true, false, List, [], ◌∷◌, Option, Some, None}
+use Rattle.std.specs.Prelude.{◌≡◌, ◌&&◌, cond, ℕ, Bool, true, false, List, [], ◌∷◌, Option, Some}
 use Rattle.ckc_text.specs.declared.place.Span.{Span}
 use Rattle.ckc_lexer.specs.declared.token.Token.{Token}
 use Rattle.ckc_lexer.specs.declared.token.TokenKind.{TokenKind}
