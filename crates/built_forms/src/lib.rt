@@ -1,0 +1,4 @@
+// The forms of the language that are built so far: programs of them, and which trees are such programs.
+#![tactic(auto)]
+
+pub mod program;
