@@ -236,8 +236,11 @@ items_form (item ∷ next ∷ items) = with_item (global_form item) (prototype_f
 abbrev pub built : i.Tree → Option p.Tree
 built t = items_form t.items
 
--- what turning a tree into a program answers
+-- what turning a tree, or a part of it, into a form that is built answers: it is refused where there is no such form
+abbrev pub Gives : {X Y : Type 0} → (X → Y) → Option Y → Result X Refused → Type 0
+Gives view form (Ok x) = form ≡ Some (view x)
+Gives view form (Err (Source fault)) = (fault ≡ not_built) × (form ≡ None)
+Gives view form (Err NoMemory) = Unit {0}
+
 abbrev pub BuildsForms : i.Tree → Result code.Program Refused → Type 0
-BuildsForms t (Ok program) = built t ≡ Some (p.tree program)
-BuildsForms t (Err (Source fault)) = (fault ≡ not_built) × (built t ≡ None)
-BuildsForms t (Err NoMemory) = Unit {0}
+BuildsForms t result = Gives p.tree (built t) result
