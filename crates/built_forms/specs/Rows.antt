@@ -16,3 +16,11 @@ arguments_in (first ∷ others) = p.More (p.expression first) (arguments_in othe
 abbrev pub row_form : List written.Expr → Option p.Arguments
 row_form [] = Some p.Done
 row_form (first ∷ others) = option_map (λ x. p.More x.0 x.1) (both (expression_form (e.expression first)) (row_form others))
+
+-- arguments behind those in a list
+abbrev pub arguments_before : List code.Expr → p.Arguments → p.Arguments
+arguments_before [] more = more
+arguments_before (first ∷ others) more = p.More (p.expression first) (arguments_before others more)
+
+abbrev pub arguments_after : List code.Expr → Option p.Arguments → Option p.Arguments
+arguments_after front more = option_map (arguments_before front) more
