@@ -126,9 +126,16 @@ only _ _ = None
 abbrev pub local_form : Span → s.Declarator → Option p.Statement
 local_form span d = option_map (λ initial. p.Declare d.name.name initial span) (option_and_then expression_form (value_of d.initializer))
 
+abbrev pub declaration_form : s.Declaration → Span → Option p.Statement
+declaration_form d span = option_and_then (local_form span) (only (is_pointer d.base) d.declarators)
+
+abbrev pub store_form : s.Assignment → Span → Option p.Statement
+store_form (s.Store stores.Set target value inner) span = option_map (λ x. p.Assign x.0 x.1 span) (both (expression_form target) (expression_form value))
+store_form _ span = None
+
 abbrev pub statement_form : s.Statement → Option p.Statement
-statement_form (s.Declare d span) = option_and_then (local_form span) (only (is_pointer d.base) d.declarators)
-statement_form (s.Assign (s.Store stores.Set target value inner) span) = option_map (λ x. p.Assign x.0 x.1 span) (both (expression_form target) (expression_form value))
+statement_form (s.Declare d span) = declaration_form d span
+statement_form (s.Assign a span) = store_form a span
 statement_form (s.Return (Some value) span) = option_map (λ x. p.Return x span) (expression_form value)
 statement_form _ = None
 
@@ -136,21 +143,23 @@ abbrev pub statements_form : s.Statements → Option (List p.Statement)
 statements_form s.NoMore = Some []
 statements_form (s.Then first others) = option_map (λ x. x.0 ∷ x.1) (both (statement_form first) (statements_form others))
 
+abbrev pub is_empty : List p.Statement → Bool
+is_empty [] = true
+is_empty (first ∷ others) = false
+
 -- stores, and then one return
 abbrev pub is_rest : List p.Statement → Bool
 is_rest [] = false
 is_rest (p.Declare name initial span ∷ statements) = false
 is_rest (p.Assign target value span ∷ statements) = is_rest statements
-is_rest (p.Return value span ∷ []) = true
-is_rest (p.Return value span ∷ more ∷ statements) = false
+is_rest (p.Return value span ∷ statements) = is_empty statements
 
 -- locals, then stores, and then one return
 abbrev pub is_body : List p.Statement → Bool
 is_body [] = false
 is_body (p.Declare name initial span ∷ statements) = is_body statements
 is_body (p.Assign target value span ∷ statements) = is_rest statements
-is_body (p.Return value span ∷ []) = true
-is_body (p.Return value span ∷ more ∷ statements) = false
+is_body (p.Return value span ∷ statements) = is_empty statements
 
 abbrev pub body_form : i.Body → Option (List p.Statement)
 body_form b = provided (is_absent b.mark) (option_and_then (λ body. provided (is_body body) (Some body)) (statements_form b.statements))
@@ -166,8 +175,11 @@ initial_form _ = None
 abbrev pub variable_form : Span → s.Declarator → Option p.Variable
 variable_form span d = option_map (λ initial. record { name = d.name.name; initial = initial; span = span }) (initial_form d.initializer)
 
+abbrev pub variables_form : i.Global → Option p.Variable
+variables_form g = option_and_then (variable_form g.span) (only (not g.tainted && is_int g.base) g.declarators)
+
 abbrev pub global_form : i.Item → Option p.Variable
-global_form (i.GlobalItem g) = option_and_then (variable_form g.span) (only (not g.tainted && is_int g.base) g.declarators)
+global_form (i.GlobalItem g) = variables_form g
 global_form _ = None
 
 -- a parameter of type `int`, by its name
@@ -202,8 +214,12 @@ is_trusted _ = false
 abbrev pub declared_form : i.Function → Option p.Prototype
 declared_form f = option_map (λ row. record { name = f.name.name; parameters = row; span = f.span }) (listed_form f.parameters)
 
+-- a tainted function without a body
+abbrev pub is_prototype : i.Function → Bool
+is_prototype f = is_plain_function f && (is_tainted f.kind && is_absent f.body)
+
 abbrev pub prototype_form : i.Item → Option p.Prototype
-prototype_form (i.FunctionItem f) = provided (is_plain_function f && (is_tainted f.kind && is_absent f.body)) (declared_form f)
+prototype_form (i.FunctionItem f) = provided (is_prototype f) (declared_form f)
 prototype_form _ = None
 
 abbrev pub is_void : i.Parameters → Bool

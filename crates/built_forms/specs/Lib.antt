@@ -1,3 +1,4 @@
 pub mod Program
 pub mod Forms
 pub mod Rows
+pub mod Lists

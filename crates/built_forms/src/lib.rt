@@ -2,4 +2,7 @@
 #![tactic(auto)]
 
 mod expressions;
+pub mod forms;
+mod items;
 pub mod program;
+mod statements;
