@@ -59,7 +59,6 @@ pub front_done : (front : List code.Expr) → arguments_before front p.Done ≡ 
 front_done [] = refl
 front_done (x ∷ front) = ap (p.More (p.expression x)) (front_done front)
 
-
 -- one more argument
 pub row_goes_on : (front : List code.Expr) (all slice rest : List written.Expr) (first : written.Expr) (x : code.Expr) → slice ≡ first ∷ rest → arguments_after front (row_form slice) ≡ row_form all → expression_form (e.expression first) ≡ Some (p.expression x) → arguments_after (front ++ x ∷ []) (row_form rest) ≡ row_form all
 row_goes_on front all slice rest first x split before form =

@@ -7,9 +7,9 @@ use Rattle.ckc_text.specs.declared.fault.Refused.TheVariants.{Source, NoMemory}
 use Rattle.ckc_tree.specs.declared.item.Item as code
 use Rattle.ckc_tree.specs.Items as i
 use Rattle.built_forms.specs.Program as p
-use Rattle.built_forms.specs.Forms.{global_form, prototype_form, main_form, with_item, items_form}
+use Rattle.built_forms.specs.Forms.{Gives, global_form, prototype_form, main_form, with_item, items_form}
 use Rattle.built_forms.specs.declared.forms.Declared.{Declared}
-use Rattle.built_forms.specs.Lists.{ahead, joined, Declares, DeclaresOne}
+use Rattle.built_forms.specs.Lists.{ahead, joined, variables_of, prototypes_of, Declares, DeclaresOne}
 use Rattle.built_forms.proofs.Lists.{split_at, append_nothing}
 
 pub with_none : (v : Option p.Variable) (f : Option p.Prototype) → with_item v f None ≡ None
@@ -66,3 +66,20 @@ joined_alone globals prototypes body = rw (append_nothing globals, append_nothin
 pub refused_items : (items : List code.Item) (n : ℕ) (item : code.Item) (old new : Declared) (refused : Refused) → n < length items → item ≡ get_or items n item → DeclaresOne (i.item item) old new (Err refused) → Declares (map i.item items) (Err refused)
 refused_items items n item old new (Source fault) less is one = (one.0, λ t. ahead_fails items n item less is one.1.0 one.1.1 t)
 refused_items items n item old new NoMemory less is one = tt
+
+-- ---- a whole source, by its last item and those before it
+
+module _ (items front : List code.Item) (last : code.Item) (split : items ≡ front ++ last ∷ []) where
+  whole_form : items_form (map i.item items) ≡ ahead (map i.item front) (option_map with_body (main_form (i.item last)))
+  whole_form = ap (λ l. items_form (map i.item l)) split ∙ last_item front last
+
+  pub no_body : main_form (i.item last) ≡ None → items_form (map i.item items) ≡ None
+  no_body none = whole_form ∙ ap (λ b. ahead (map i.item front) (option_map with_body b)) none ∙ ahead_none (map i.item front)
+
+  pub not_declared : (refused : Refused) → Declares (map i.item front) (Err refused) → Gives p.tree (items_form (map i.item items)) (Err refused)
+  not_declared (Source fault) given = (given.0, whole_form ∙ given.1 (option_map with_body (main_form (i.item last))))
+  not_declared NoMemory given = tt
+
+  pub whole_built : (d : Declared) (body : List p.Statement) → main_form (i.item last) ≡ Some body → Declares (map i.item front) (Ok d) → items_form (map i.item items) ≡ Some (record { globals = variables_of d; prototypes = prototypes_of d; body = body })
+  whole_built d body main declared =
+      whole_form ∙ ap (λ b. ahead (map i.item front) (option_map with_body b)) main ∙ declared (with_body body) ∙ ap Some (joined_alone (variables_of d) (prototypes_of d) body)

@@ -15,7 +15,9 @@ use ckc_text::fault::Refused;
 use ckc_text::name::Name;
 use ckc_text::place::Span;
 use ckc_tree::expr::Expr;
-use ckc_tree::item::{Block, Function, FunctionKind, Global as Variables, Item, Parameter, Parameters, ResultForm};
+use ckc_tree::item::{
+    Block, Function, FunctionKind, Global as Variables, Item, Parameter, Parameters, ResultForm,
+};
 use ckc_tree::stmt;
 use ckc_tree::type_form::TypeName;
 use std::alloc::Global;
@@ -37,9 +39,11 @@ fn initial(written: &Option<stmt::Initializer>) -> Option<Option<u32>>
 {
     match written {
         None => Some(None),
-        Some(stmt::Initializer::Value {
-            value: Expr::Number { value, span: _ },
-        }) => Some(Some(*value)),
+        Some(
+            stmt::Initializer::Value {
+                value: Expr::Number { value, span: _ },
+            },
+        ) => Some(Some(*value)),
         _ => None,
     }
 }

@@ -78,11 +78,7 @@ pub fn only(test: bool, declarators: &[stmt::Declarator]) -> Option<&stmt::Decla
 }
 
 // The form of a declaration, with the span of its statement.
-fn local(
-    alloc: Global,
-    written: &stmt::Declaration,
-    span: Span,
-) -> Result<Stmt, Refused>
+fn local(alloc: Global, written: &stmt::Declaration, span: Span) -> Result<Stmt, Refused>
     ensures { Gives form_of (declaration_form (declaration written.now) span) result }
 {
     match only(is_pointer(&written.base), written.declarators.as_slice()) {
@@ -92,11 +88,7 @@ fn local(
 }
 
 // The form of a local variable, with the span of its statement.
-fn initialized(
-    alloc: Global,
-    written: &stmt::Declarator,
-    span: Span,
-) -> Result<Stmt, Refused>
+fn initialized(alloc: Global, written: &stmt::Declarator, span: Span) -> Result<Stmt, Refused>
     ensures { Gives form_of (local_form span (declarator written.now)) result }
 {
     match &written.initializer {

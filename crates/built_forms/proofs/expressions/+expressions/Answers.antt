@@ -17,7 +17,7 @@ expression-returns-in_err-arguments-in-Call t c =
     let calls = λ (row : forms.Arguments). forms.Call call.callee.name row call.span in
     rw (p.1, p.2)
     (refused_in (λ (v : Vec Expr Global). arguments_in v.items) forms.expression (row_form c.as_slice.result.now) (expression_form (tree_of c.args.written.now)) _ c.in_err-arguments-in-Call.ensures
-        (λ none. call_form c.args.written.now call.callee call.arguments call.span call.is ∙ ap (λ row. option_map calls (row_form row)) (sym c.as_slice.ensures.value) ∙ ap (option_map calls) none))
+    (λ none. call_form c.args.written.now call.callee call.arguments call.span call.is ∙ ap (λ row. option_map calls (row_form row)) (sym c.as_slice.ensures.value) ∙ ap (option_map calls) none))
 
 pub expression-returns-in_ok-callee-in-Call : goal.expression-returns-in_ok-callee-in-Call
 expression-returns-in_ok-callee-in-Call t c =
@@ -33,7 +33,7 @@ row-returns-in_err-expression t c =
     let p = err_from_is_err_and c.from_residual.result c.from_residual.ensures.1 in
     rw (p.1, p.2)
     (refused_in forms.expression (λ (v : Vec Expr Global). arguments_in v.items) (expression_form (tree_of c.argument-item.result)) (row_form c.args.arguments.now) _ c.in_err-expression.ensures
-        (λ none. row_refused c.loop-argument.built.items c.args.arguments.now c.loop-argument.argument-index c.argument-item.result (omega (arith, c.loop-argument-test.true)) c.argument-item.is c.loop-argument.invariant.whole none))
+    (λ none. row_refused c.loop-argument.built.items c.args.arguments.now c.loop-argument.argument-index c.argument-item.result (omega (arith, c.loop-argument-test.true)) c.argument-item.is c.loop-argument.invariant.whole none))
 
 pub row-loop-argument-preserved : goal.row-loop-argument-preserved
 row-loop-argument-preserved t c = record {

@@ -14,7 +14,7 @@ returns-in_err-parameter c =
     let all = c.args.written.now in
     rw (e.1, e.2)
     (refused_in (λ (x : Name). x) (λ (v : Vec Name Global). v.items) (parameter_form (parameter c.listed-item.result)) _ _ c.in_err-parameter.ensures
-        (λ none. parameters_collected all ∙ refused (λ x. parameter_form (parameter x)) c.loop-listed.names.items all c.loop-listed.listed-index c.listed-item.result (omega (arith, c.loop-listed-test.true)) c.listed-item.is c.loop-listed.invariant.whole none))
+    (λ none. parameters_collected all ∙ refused (λ x. parameter_form (parameter x)) c.loop-listed.names.items all c.loop-listed.listed-index c.listed-item.result (omega (arith, c.loop-listed-test.true)) c.listed-item.is c.loop-listed.invariant.whole none))
 
 pub returns : goal.returns
 returns c =

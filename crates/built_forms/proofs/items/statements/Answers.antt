@@ -15,13 +15,13 @@ returns-in_err-statement c =
     let all = c.args.written.now in
     rw (e.1, e.2)
     (refused_in forms.statement (λ (v : Vec Stmt Global). map forms.statement v.items) (statement_form (statement c.listed-item.result)) _ _ c.in_err-statement.ensures
-        (λ none. statements_collected all ∙ refused (λ x. statement_form (statement x)) (map forms.statement c.loop-listed.built.items) all c.loop-listed.listed-index c.listed-item.result (omega (arith, c.loop-listed-test.true)) c.listed-item.is c.loop-listed.invariant.whole none))
+    (λ none. statements_collected all ∙ refused (λ x. statement_form (statement x)) (map forms.statement c.loop-listed.built.items) all c.loop-listed.listed-index c.listed-item.result (omega (arith, c.loop-listed-test.true)) c.listed-item.is c.loop-listed.invariant.whole none))
 
 pub loop-listed-preserved : goal.loop-listed-preserved
 loop-listed-preserved c = record {
   whole = rw (c.in_ok-push.ensures.items, map_pushed forms.statement c.loop-listed.built.items c.in_ok-statement.field-0)
       (pushed (λ x. statement_form (statement x)) (map forms.statement c.loop-listed.built.items) c.args.written.now c.loop-listed.listed-index c.listed-item.result (forms.statement c.in_ok-statement.field-0)
-          (omega (arith, c.loop-listed-test.true)) c.listed-item.is c.loop-listed.invariant.whole c.in_ok-statement.ensures);
+      (omega (arith, c.loop-listed-test.true)) c.listed-item.is c.loop-listed.invariant.whole c.in_ok-statement.ensures);
 }
 
 pub returns : goal.returns
