@@ -1,6 +1,5 @@
 -- Items before the last one.
-use native.Mathlib.Numerals.{unary_clauses}
-use Rattle.std.proofs.Common.{◌≡◌, ℕ, zero, suc, ◌+◌, ◌<◌, length, drop, get_or, drop-cons, map, List, [], ◌∷◌, ◌++◌, Option, Some, None, Result, Ok, Err, refl, sym, ap, ◌∙◌, arith}
+use Rattle.std.proofs.Common.{◌≡◌, ℕ, zero, suc, ◌+◌, ◌<◌, length, drop, get_or, map, List, [], ◌∷◌, ◌++◌, Option, Some, None, Ok, Err, refl, sym, ap, ◌∙◌, arith}
 use Rattle.std.specs.Option.{option_map}
 use Rattle.ckc_text.specs.declared.fault.Refused.{Refused}
 use Rattle.ckc_text.specs.declared.fault.Refused.TheVariants.{Source, NoMemory}

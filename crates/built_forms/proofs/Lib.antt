@@ -1,3 +1,4 @@
 mod Calls
 mod Lists
 mod Fronts
+mod Heights

@@ -6,7 +6,6 @@ use Rattle.ckc_tree.specs.declared.stmt.Stmt as written
 use Rattle.ckc_tree.specs.declared.item.Parameter as written_parameter
 use Rattle.ckc_tree.specs.Statements.{statement}
 use Rattle.ckc_tree.specs.Items.{statement_list, parameter}
-use Rattle.built_forms.specs.Program as p
 use Rattle.built_forms.specs.Forms.{both, statement_form, statements_form, parameter_form, parameters_form}
 use Rattle.built_forms.specs.Lists.{collected, behind}
 

@@ -2,3 +2,4 @@ pub mod Program
 pub mod Forms
 pub mod Rows
 pub mod Lists
+pub mod Examples

@@ -4,5 +4,6 @@
 mod expressions;
 pub mod forms;
 mod items;
+pub mod laws;
 pub mod program;
 mod statements;

@@ -1,9 +1,9 @@
-use Rattle.std.proofs.Common.{ap, ◌∙◌, arith, Vec, Global}
+use Rattle.std.proofs.Common.{◌∙◌, arith, Vec, Global}
 use Rattle.std.proofs.lemmas.List.{drop_all}
 use Rattle.std.proofs.lemmas.Result.{err_from_is_err_and}
 use Rattle.ckc_text.specs.declared.name.Name.{Name}
 use Rattle.ckc_tree.specs.Items.{parameter}
-use Rattle.built_forms.specs.Forms.{parameter_form, parameters_form}
+use Rattle.built_forms.specs.Forms.{parameter_form}
 use Rattle.built_forms.proofs.Calls.{refused_in}
 use Rattle.built_forms.proofs.Lists.{refused, ended, parameters_collected}
 use Rattle.built_forms.proofs.items.parameters.Goals as goal

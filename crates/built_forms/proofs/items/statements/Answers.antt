@@ -1,4 +1,4 @@
-use Rattle.std.proofs.Common.{map, ap, ◌∙◌, arith, Vec, Global}
+use Rattle.std.proofs.Common.{map, ◌∙◌, arith, Vec, Global}
 use Rattle.std.proofs.lemmas.List.{drop_all}
 use Rattle.std.proofs.lemmas.Result.{err_from_is_err_and}
 use Rattle.ckc_tree.specs.Statements.{statement}
