@@ -1,4 +1,4 @@
 mod Calls
 mod Lists
 mod Fronts
-mod Heights
+pub mod Heights
