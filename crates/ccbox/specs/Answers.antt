@@ -1,5 +1,5 @@
 -- The Answer of the words over files: a text and a status. And what a call says of it.
-use Rattle.std.specs.Prelude.{◌≡◌, ◌≢◌, ℕ, ◌<◌, ◌≤◌, ◌⊎◌, List, ◌++◌, length, take, replicate, Option, Some, None, option_map}
+use Rattle.std.specs.Prelude.{◌≡◌, ℕ, ◌<◌, ◌≤◌, ◌⊎◌, List, ◌++◌, length, take, replicate, Option, Some, None, option_map}
 use Rattle.std.proofs.Common.{ℤ}
 use Rattle.ckc_io.specs.Files.{Files, file_at}
 use Rattle.ckc_io.specs.Written.{grown}
