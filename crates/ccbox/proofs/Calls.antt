@@ -1,13 +1,11 @@
 -- What the end of a call says: of its Answer, of its status and of the counts.
-use Rattle.std.proofs.Common.{◌≡◌, ℕ, ◌+◌, ◌<◌, ◌≤◌, ◌⊎◌, inl, inr, ⊎_elim, ℤ, List, take, length, Option, Some, None, refl, sym, ap, ◌∙◌, subst, arith}
-use Rattle.std.specs.Prelude.{◌≢◌, replicate}
-use Rattle.std.specs.List.{All}
+use Rattle.std.proofs.Common.{◌≡◌, ℕ, ◌≤◌, ◌⊎◌, inl, inr, ⊎_elim, ℤ, List, take, length, Option, Some, None, refl, sym, ap, ◌∙◌, subst, arith}
+use Rattle.std.specs.Prelude.{◌≢◌}
 use Rattle.std.proofs.lemmas.List.{take_all}
-use Rattle.std.proofs.lemmas.List.Elements.{All-nil}
 use Rattle.ckc_text.specs.declared.code.Code.{Code}
 use Rattle.ckc_text.specs.declared.place.Place.{Place}
-use Rattle.ckc_io.specs.Counts.{Rose, Rises}
-use Rattle.ckc_io.specs.Files.{Files, file_at, Told}
+use Rattle.ckc_text.specs.declared.fault.SourceFault.{SourceFault}
+use Rattle.ckc_io.specs.Files.{Files, Told}
 use Rattle.ckc_io.specs.Written.{grown}
 use Rattle.ckc_io.proofs.Fronts.{grown-nothing}
 use Rattle.act_words.specs.declared.ending.Ending.{Ending}
@@ -16,12 +14,12 @@ use Rattle.ckc_core.specs.Core.{Core}
 use Rattle.ckc_core.specs.States.{State}
 use Rattle.sandbox_actor.specs.ActLists.{ActList, RefusedLine}
 use Rattle.run_core.specs.Runs.{Counts}
-use Rattle.ccbox.specs.Requests.{Request, Run, Options, settings_of, request_of}
+use Rattle.ccbox.specs.Requests.{Run, Options, settings_of, request_of}
 use Rattle.ccbox.specs.Texts.{usage_text, missing_text}
 use Rattle.ccbox.specs.Acceptance.{Accepts, IsRefused}
 use Rattle.ccbox.specs.Answers.{RunsTo, needed_line, text_of, status_of, status_with, ListAnswer, ran, CoreAnswer, acts_missing, acts, SourceAnswer, refused, accepted, FileAnswer, missing, source, Answer, IsFailure, WritesFront, GivesFront, GivesWhole, Exactly, AsksToRun, AsksFor, SourceIsRefused, RunEndsWith, RunExits, CheckFails, RunStops, LineIsRefused, FileIsMissing, PrintsRun, PrintedRun, IsComplete, IsQuiet, IsUntouched}
 use Rattle.ccbox.specs.Answers as answers
-use Rattle.ccbox.specs.Calls.{TextGiven, all, failed, LineGiven, given, unmade, IsFoundStatus, StatusCounts, Gives, answered, output_failed, files_failed, no_memory, no_memory_behind, CallEnds, usage, asked}
+use Rattle.ccbox.specs.Calls.{TextGiven, all, failed, LineGiven, given, unmade, StatusCounts, Gives, answered, output_failed, files_failed, no_memory, no_memory_behind, CallEnds, usage, asked}
 use Rattle.ccbox.proofs.OneAnswer.{one_answer}
 use Rattle.ccbox.proofs.Runs.{ends_over, view_over}
 
@@ -32,8 +30,8 @@ pub run_answer : (files : Files) (words : List (List ℕ)) (options : Options) (
 run_answer files words options list c ending s a runs =
     answers.asked (Run a.asks.name options) a.asks.request (source a.src a.asks.there (accepted c a.accepted (acts list a.acts (ran ending s runs))))
 
-refused_answer : (files : Files) (words : List (List ℕ)) (options : Options) (src : List ℕ) → AsksToRun files words options src → IsRefused src → (text : List ℕ) × Answer files words text 1
-refused_answer files words options src a none = (_, answers.asked (Run a.name options) a.request (source src a.there (refused none)))
+refused_answer : (files : Files) (words : List (List ℕ)) (options : Options) (src : List ℕ) (fault : SourceFault) → AsksToRun files words options src → IsRefused src fault → (text : List ℕ) × Answer files words text 1
+refused_answer files words options src fault a r = (_, answers.asked (Run a.name options) a.request (source src a.there (refused fault r)))
 
 missing_answer : (files : Files) (words : List (List ℕ)) → FileIsMissing files words → (text : List ℕ) × Answer files words text 3
 missing_answer files words (inl m) = (missing_text m.0, answers.asked (Run m.0 m.1) m.2 (missing m.3))
@@ -55,7 +53,7 @@ core_cause files words options src c asks is (acts list there (ran ending s runs
     inr (inr (inr (needed_line list s.world.events, ending, refl, (options, list, c, s, record { src = src; asks = asks; accepted = is; acts = there }, runs, refl))))
 
 source_cause : (files : Files) (words : List (List ℕ)) (options : Options) (src : List ℕ) → AsksToRun files words options src → {text : List ℕ} {n : ℕ} → SourceAnswer files options src text n → Cause files words n
-source_cause files words options src asks (refused none) = inl (refl, (options, src, asks, none))
+source_cause files words options src asks (refused fault r) = inl (refl, (options, src, fault, asks, r))
 source_cause files words options src asks (accepted c is a) = core_cause files words options src c asks is a
 
 file_cause : (files : Files) (words : List (List ℕ)) (options : Options) (name : List ℕ) → request_of words ≡ Some (Run name options) → {text : List ℕ} {n : ℕ} → FileAnswer files options name text n → Cause files words n
@@ -279,7 +277,7 @@ module _ (words : List (List ℕ)) (told : Option Files) (old new : Option (List
     pub refuses : (result : ℕ) → CallEnds words told old new before after result → Exactly 1 result (SourceIsRefused files words)
     refuses result h =
         exactly 1 result (SourceIsRefused files words) h (safe 1 (omega arith) (omega arith) (omega arith))
-        (refused_from files words) (λ p. refused_answer files words p.0 p.1 p.2 p.3)
+        (refused_from files words) (λ p. refused_answer files words p.0 p.1 p.2 p.3 p.4)
 
     pub misses : (result : ℕ) → CallEnds words told old new before after result → Exactly 3 result (FileIsMissing files words)
     misses result h =

@@ -1,9 +1,14 @@
 -- How the parts of a call give their answers.
-use Rattle.std.proofs.Common.{◌≡◌, ℕ, ◌+◌, ◌≤◌, ◌⊎◌, inl, inr, List, ◌++◌, length, take, Option, Some, None, refl, sym, ap, ◌∙◌, subst, arith, length-append}
+use Rattle.std.proofs.Common.{◌≡◌, ℕ, ◌+◌, ◌<◌, ◌≤◌, nat_lt, Bool, true, false, inl, inr, List, ◌++◌, length, take, Option, Some, refl, sym, ap, ◌∙◌, subst, arith, length-append}
 use Rattle.std.specs.Prelude.{All}
+use Rattle.std.proofs.lemmas.Bool.{ltb-true, ltb-false}
 use Rattle.std.proofs.lemmas.List.{take-append-le, take_all, length-take}
 use Rattle.std.proofs.Math.Seq.{take-append_seam, take-append-add}
 use Rattle.ckc_text.specs.declared.code.Code.{Code}
+use Rattle.ckc_text.specs.declared.code.Code.TheVariants.{E08}
+use Rattle.ckc_text.specs.declared.fault.SourceFault.{SourceFault}
+use Rattle.ckc_text.specs.Places.{place_at}
+use Rattle.ckc_lexer.specs.Tokens.{great, fault_at}
 use Rattle.ckc_io.specs.Counts.{Rises}
 use Rattle.ckc_io.specs.Files.{Files, Told}
 use Rattle.ckc_io.specs.Written.{grown}
@@ -18,11 +23,12 @@ use Rattle.sandbox_actor.specs.ActLists.{ActList}
 use Rattle.code_words.specs.declared.image.Image.{Image}
 use Rattle.lowering.specs.Correct.{KeepsMeaning}
 use Rattle.run_core.specs.Runs.{Outcome, Ends, LineRefused, FileMissing, Comes, WritesAll, WritesFront, Counts}
-use Rattle.ccbox.specs.Texts.{act_refused_text}
+use Rattle.ccbox.specs.Texts.{refused_text, act_refused_text}
 use Rattle.ccbox.specs.Requests.{Options, settings_of}
-use Rattle.ccbox.specs.Acceptance.{Accepts, IsAcceptedCore}
+use Rattle.ccbox.specs.Acceptance.{IsAcceptedCore, no_tokens}
 use Rattle.ccbox.specs.Answers.{acts_at, status_of, ListAnswer, CoreAnswer, acts, SourceAnswer, refused, accepted}
-use Rattle.ccbox.specs.Calls.{TextGiven, all, failed, LineGiven, given, unmade, IsFoundStatus, StatusCounts, Gives, answered, output_failed, files_failed, no_memory, no_memory_behind}
+use Rattle.ccbox.specs.Calls.{all, failed, LineGiven, given, unmade, IsFoundStatus, StatusCounts, Gives, answered, output_failed, files_failed, no_memory, no_memory_behind}
+use Rattle.ccbox.proofs.Fronts.{core_or_fault, one_refusal}
 use Rattle.ccbox.proofs.ListRuns.{FromList, Answers, whole, front, answers}
 
 -- an answer of one kind is an answer of another
@@ -127,12 +133,22 @@ module _ (c : Core) (image : Image) (settings : Settings) (list : ActList) (is :
 pub list_core : (told : Option Files) (options : Options) (c : Core) (settings : Settings) (list : ActList) → settings ≡ settings_of options → ((files : Files) → told ≡ Some files → acts_at files options.acts ≡ Some list) → (text : List ℕ) (status : ℕ) → ListAnswer c settings list text status → Told told (λ files. CoreAnswer files options c text status)
 list_core told options c settings list same there text status a = λ files is. acts list (there files is) (subst (λ s. ListAnswer c s list text status) same a)
 
--- a file that isn't longer than a source may be is read whole, and a longer one is refused either way
+-- ---- a file is read up to one byte more than a source may have
+
 short_file : (file : List ℕ) → length file ≤ 1048576 → take 1048577 file ≡ file
 short_file file short = take_all 1048577 file (omega arith)
 
+-- a longer file is refused as what was read of it is
+long_file : (files : Files) (options : Options) (file : List ℕ) → 1048576 < length file → {text : List ℕ} {status : ℕ} → SourceAnswer files options (take 1048577 file) text status → SourceAnswer files options file text status
+long_file files options file long (refused fault r) =
+    let front = take 1048577 file in
+    let same : fault ≡ fault_at E08 0 = one_refusal r (no_tokens (great (omega (arith, length-take 1048577 file, long)))) in
+    subst (λ (f : SourceFault). SourceAnswer files options file (refused_text f.code (place_at front f.span.from)) 1) (sym same) (refused (fault_at E08 0) (no_tokens (great long)))
+long_file files options file long (accepted c a x) = absurd (core_or_fault a (no_tokens (great (omega (arith, length-take 1048577 file, long)))))
+
 pub whole_file : (files : Files) (options : Options) (file : List ℕ) {text : List ℕ} {status : ℕ} → SourceAnswer files options (take 1048577 file) text status → SourceAnswer files options file text status
-whole_file files options file (refused none) = refused (λ c a. none c (subst (λ f. Accepts f c) (sym (short_file file a.are_tokens.size)) a))
-whole_file files options file (accepted c a x) =
-    let short : length file ≤ 1048576 = omega (arith, length-take 1048577 file, a.are_tokens.size) in
-    accepted c (subst (λ f. Accepts f c) (short_file file short) a) x
+whole_file files options file {text} {status} a = by_test (nat_lt 1048576 (length file)) refl
+  where
+    by_test : (b : Bool) → nat_lt 1048576 (length file) ≡ b → SourceAnswer files options file text status
+    by_test true long = long_file files options file (ltb-true 1048576 (length file) long) a
+    by_test false short = subst (λ f. SourceAnswer files options f text status) (short_file file (ltb-false 1048576 (length file) short)) a

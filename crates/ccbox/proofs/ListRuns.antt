@@ -1,10 +1,8 @@
 -- What a run with the acts of a list comes to is what the program means over that list.
-use Rattle.std.proofs.Common.{◌≡◌, ℕ, ◌+◌, ◌≤◌, ◌⊎◌, inl, inr, List, [], ◌∷◌, ◌++◌, length, take, Option, Some, None, refl, sym, ap, ◌∙◌, subst, arith, length-append}
+use Rattle.std.proofs.Common.{◌≡◌, ℕ, List, [], ◌∷◌, ◌++◌, Option, Some, None, refl, sym, ap, ◌∙◌, subst}
 use Rattle.std.specs.Prelude.{All}
-use Rattle.std.proofs.lemmas.List.{append-nil, take_all}
 use Rattle.ckc_text.specs.declared.code.Code.{Code}
 use Rattle.ckc_io.specs.Files.{Files}
-use Rattle.ckc_io.specs.Written.{grown}
 use Rattle.act_words.specs.declared.ending.Ending.{Ending}
 use Rattle.act_words.specs.declared.settings.Settings.{Settings}
 use Rattle.act_words.specs.Acts.{Act, Seen, IsAct}
@@ -25,7 +23,7 @@ use Rattle.lowering.specs.Correct.{KeepsMeaning}
 use Rattle.run_core.specs.Texts.{run_text, front_text}
 use Rattle.run_core.specs.Moments.{due_from, due_in, before_due, IsDue}
 use Rattle.run_core.specs.Chains.{Chain, none, more}
-use Rattle.run_core.specs.Runs.{Outcome, Ends, LineRefused, FileMissing, EndsBefore, Comes, ended, ran_out, refused, missing}
+use Rattle.run_core.specs.Runs.{Outcome, Ends, LineRefused, EndsBefore, Comes, ended, ran_out, refused, missing}
 use Rattle.ccbox.specs.Texts.{act_refused_text}
 use Rattle.ccbox.specs.Acceptance.{IsAcceptedCore}
 use Rattle.ccbox.specs.Answers.{RunsTo, needed_from, needed_line, text_of, status_of, status_with, ListAnswer, ran}

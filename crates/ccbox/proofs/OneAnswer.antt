@@ -1,5 +1,7 @@
 -- Words have one Answer.
 use Rattle.std.proofs.Common.{◌≡◌, ℕ, List, Option, Some, None, option_map, refl, sym, ap, ◌∙◌, subst}
+use Rattle.ckc_text.specs.declared.fault.SourceFault.{SourceFault}
+use Rattle.ckc_text.specs.Places.{place_at}
 use Rattle.ckc_io.specs.Files.{Files, file_at}
 use Rattle.act_words.specs.declared.ending.Ending.{Ending}
 use Rattle.act_words.specs.declared.settings.Settings.{Settings}
@@ -7,11 +9,10 @@ use Rattle.act_words.specs.Outcome.{Outcome, Ends}
 use Rattle.ckc_core.specs.Core.{Core}
 use Rattle.ckc_core.specs.States.{State}
 use Rattle.sandbox_actor.specs.ActLists.{ActList, acts_of_file}
-use Rattle.ccbox.specs.Requests.{Request, Run, Options, settings_of, request_of}
-use Rattle.ccbox.specs.Texts.{missing_text}
-use Rattle.ccbox.specs.Acceptance.{Accepts}
+use Rattle.ccbox.specs.Requests.{Run, Options, settings_of, request_of}
+use Rattle.ccbox.specs.Texts.{missing_text, refused_text}
 use Rattle.ccbox.specs.Answers.{acts_at, RunsTo, needed_line, text_of, status_with, ListAnswer, ran, CoreAnswer, acts_missing, acts, SourceAnswer, refused, accepted, FileAnswer, missing, source, Answer, usage, asked}
-use Rattle.ccbox.proofs.Fronts.{one_core}
+use Rattle.ccbox.proofs.Fronts.{one_core, core_or_fault, one_refusal}
 
 -- two texts and statuses that are the same
 pub record Same (t u : List ℕ) (m n : ℕ) : Type 0 where
@@ -49,9 +50,9 @@ one_core_answer files options c {t} {u} {m} {n} (acts list there a) (acts other 
     one_list c (settings_of options) list a (subst (λ l. ListAnswer c (settings_of options) l u n) same b)
 
 one_source_answer : (files : Files) (options : Options) (src : List ℕ) {t u : List ℕ} {m n : ℕ} → SourceAnswer files options src t m → SourceAnswer files options src u n → Same t u m n
-one_source_answer files options src (refused none) (refused none') = record { text = refl; status = refl }
-one_source_answer files options src (refused none) (accepted c a x) = absurd (none c a)
-one_source_answer files options src (accepted c a x) (refused none) = absurd (none c a)
+one_source_answer files options src (refused fault r) (refused other s) = record { text = ap (λ (f : SourceFault). refused_text f.code (place_at src f.span.from)) (one_refusal r s); status = refl }
+one_source_answer files options src (refused fault r) (accepted c a x) = absurd (core_or_fault a r)
+one_source_answer files options src (accepted c a x) (refused fault r) = absurd (core_or_fault a r)
 one_source_answer files options src {t} {u} {m} {n} (accepted c a x) (accepted d b y) =
     one_core_answer files options c x (subst (λ z. CoreAnswer files options z u n) (one_core src d c b a) y)
 

@@ -1,5 +1,5 @@
 -- The run of an accepted program ends, and its code ends in the same way.
-use Rattle.std.proofs.Common.{◌≡◌, ℕ, ◌+◌, ◌*◌, ◌≤◌, true, List, map, length, Option, Some, None, option_map, refl, sym, ap, ◌∙◌, subst, arith}
+use Rattle.std.proofs.Common.{◌≡◌, ℕ, ◌≤◌, true, List, map, Option, Some, None, option_map, sym, subst, arith}
 use Rattle.std.specs.Prelude.{All, replicate}
 use Rattle.std.proofs.lemmas.List.{length-map}
 use Rattle.std.proofs.lemmas.List.Elements.{All-from_recursion, All-nil}
@@ -7,13 +7,11 @@ use Rattle.ckc_text.specs.declared.place.Place.{Place}
 use Rattle.ckc_text.specs.Places.{place_at}
 use Rattle.ckc_io.specs.Files.{Files, file_at}
 use Rattle.act_words.specs.declared.ending.Ending.{Ending}
-use Rattle.act_words.specs.declared.settings.Settings.{Settings}
 use Rattle.act_words.specs.Acts.{IsAct}
 use Rattle.act_words.specs.Checks.{is_word_number}
-use Rattle.act_words.specs.Limits.{AreAllowed}
-use Rattle.act_words.specs.World.{World}
 use Rattle.act_words.specs.View.{ViewIsFold}
-use Rattle.ckc_tree.specs.Tree as tree
+use Rattle.built_forms.specs.Program as tree
+use Rattle.built_forms.proofs.Heights.{body_is_low}
 use Rattle.ckc_core.specs.Core.{Core}
 use Rattle.ckc_core.specs.States.{State}
 use Rattle.sandbox_actor.specs.ActLists.{ActList, no_acts, acts_of_file, lines_of}
@@ -27,7 +25,7 @@ use Rattle.region_typing.specs.Typed.{NeverStuck}
 use Rattle.region_typing.proofs.Typing.{typed, few_imports, few_parameters}
 use Rattle.region_typing.proofs.Soundness.{never_stuck}
 use Rattle.ccbox.specs.Requests.{Options, settings_of}
-use Rattle.ccbox.specs.Acceptance.{Accepts, IsAcceptedCore}
+use Rattle.ccbox.specs.Acceptance.{IsAcceptedCore}
 use Rattle.ccbox.specs.Answers.{acts_at, RunsTo, AsksFor}
 use Rattle.ccbox.proofs.Settings.{allowed}
 use Rattle.ccbox.proofs.Stacks.{body_stack_low}
@@ -44,11 +42,11 @@ core_lowerable place t accepted height = record {
 }
 
 pub lowerable : (c : Core) → IsAcceptedCore c → IsLowerable c
-lowerable c a = let x = a.1 in subst IsLowerable (sym x.same) (core_lowerable (place_at a.0) x.tree x.accepted x.is_tree.height)
+lowerable c a = let x = a.1 in subst IsLowerable (sym x.same) (core_lowerable (place_at a.0) x.program x.accepted (omega (arith, body_is_low x.tree x.program x.forms, x.is_tree.low)))
 
 -- what is accepted never gets stuck
 pub ends : (c : Core) → IsAcceptedCore c → NeverStuck c
-ends c a = let x = a.1 in subst NeverStuck (sym x.same) (never_stuck (core_of (place_at a.0) x.tree) (typed (place_at a.0) x.tree x.accepted))
+ends c a = let x = a.1 in subst NeverStuck (sym x.same) (never_stuck (core_of (place_at a.0) x.program) (typed (place_at a.0) x.program x.accepted))
 
 -- what files say are acts
 acts_from_file : (o : Option (List ℕ)) (list : ActList) → option_map acts_of_file o ≡ Some list → All IsAct list.acts

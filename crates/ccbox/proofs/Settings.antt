@@ -1,12 +1,12 @@
 -- The settings that words ask for are allowed.
-use Rattle.std.proofs.Common.{◌≡◌, ℕ, ◌≤◌, Bool, true, false, nat_le, List, [], ◌∷◌, Option, Some, None, option_map, refl, sym, ap, ◌∙◌, subst, arith}
-use Rattle.std.specs.Prelude.{if◌then◌else◌, ◌&&◌, ◌==◌, codes, drop, unwrap_or}
+use Rattle.std.proofs.Common.{◌≡◌, ℕ, ◌≤◌, Bool, true, false, nat_le, List, [], ◌∷◌, Option, Some, None, option_map, refl, subst, arith}
+use Rattle.std.specs.Prelude.{if◌then◌else◌, ◌&&◌, ◌==◌, codes, drop}
 use Rattle.std.specs.Option.{option_and_then}
 use Rattle.std.specs.List.{starts_with}
 use Rattle.std.specs.Str.{bytes_eq}
 use Rattle.std.proofs.lemmas.Bool.Decides.{nat_tests}
 use Rattle.act_words.specs.Limits.{AreAllowed}
-use Rattle.ccbox.specs.Requests.{Options, no_options, Request, Run, settings_of, Choice, ActsFrom, SandboxOf, View, Releases, may_name_file, digits_number, size_in_range, acts_choice, sandbox_choice, word_choice, pair_choice, choice_then, choices_of, unless_chosen, unless_set, chosen, all_chosen, options_of, request_if, request_of}
+use Rattle.ccbox.specs.Requests.{Options, no_options, Run, settings_of, Choice, ActsFrom, SandboxOf, View, Releases, may_name_file, digits_number, size_in_range, acts_choice, sandbox_choice, word_choice, pair_choice, choice_then, choices_of, unless_chosen, unless_set, chosen, all_chosen, options_of, request_if, request_of}
 
 -- the sandbox's memory may have this size
 abbrev IsSize : ℕ → Type 0

@@ -1,14 +1,14 @@
 -- The stack of an accepted program is low enough for a frame.
-use Rattle.std.proofs.Common.{◌≡◌, ℕ, zero, suc, ◌+◌, ◌*◌, ◌≤◌, max, true, nat_le, List, [], ◌∷◌, map, length, Option, Some, None, refl, sym, ◌∙◌, arith}
-use Rattle.std.specs.Prelude.{◌&&◌, ◌==◌, slice_get}
+use Rattle.std.proofs.Common.{◌≡◌, ℕ, zero, suc, ◌+◌, ◌*◌, ◌≤◌, max, true, nat_le, List, [], ◌∷◌, map, length, Option, Some, None, refl, arith}
+use Rattle.std.specs.Prelude.{◌&&◌, slice_get}
 use Rattle.std.specs.Option.{option_and_then}
 use Rattle.std.specs.List.{list_all}
 use Rattle.std.specs.Cmp.{first_so, second_so}
 use Rattle.std.proofs.lemmas.Bool.Decides.{nat_tests}
 use Rattle.ckc_text.specs.declared.place.Place.{Place}
-use Rattle.ckc_tree.specs.Tree as tree
+use Rattle.built_forms.specs.Program as tree
 use Rattle.lowering.specs.Code.{expression_stack, arguments_stack, statement_stack, body_stack}
-use Rattle.region_typing.specs.Acceptance.{Scope, function_names, function_named, number_of_name, takes, are_distinct, is_free, is_number, are_numbers, is_pointer, is_target, is_statement, is_prototype, local_of, address_of, number_core, arguments_core, pointer_core, store_core, statement_core}
+use Rattle.region_typing.specs.Acceptance.{Scope, function_names, function_named, number_of_name, takes, are_distinct, is_free, is_number, are_numbers, is_target, is_statement, is_prototype, local_of, address_of, number_core, arguments_core, pointer_core, store_core, statement_core}
 
 expression_high : (e : tree.Expression) → 1 ≤ tree.expression_height e
 expression_high (tree.Number value span) = omega arith

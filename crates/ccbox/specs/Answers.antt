@@ -1,10 +1,11 @@
 -- The Answer of the words over files: a text and a status. And what a call says of it.
-use Rattle.std.specs.Prelude.{◌≡◌, ◌≢◌, ℕ, ◌<◌, ◌≤◌, ◌⊎◌, List, ◌++◌, length, take, replicate, Option, Some, None, option_map}
+use Rattle.std.specs.Prelude.{◌≡◌, ℕ, ◌<◌, ◌≤◌, ◌⊎◌, List, ◌++◌, length, take, replicate, Option, Some, None, option_map}
 use Rattle.std.proofs.Common.{ℤ}
 use Rattle.ckc_io.specs.Files.{Files, file_at}
 use Rattle.ckc_io.specs.Written.{grown}
 use Rattle.ckc_io.specs.Counts.{Rose}
-use Rattle.ckc_text.specs.declared.code.Code.TheVariants.{E09}
+use Rattle.ckc_text.specs.declared.fault.SourceFault.{SourceFault}
+use Rattle.ckc_text.specs.Places.{place_at}
 use Rattle.ckc_text.specs.declared.code.Code.{Code}
 use Rattle.ckc_text.specs.declared.place.Place.{Place}
 use Rattle.act_words.specs.declared.ending.Ending.{Ending}
@@ -71,7 +72,7 @@ pub data CoreAnswer (files : Files) (options : Options) (c : Core) : List ℕ �
 
 -- of a source
 pub data SourceAnswer (files : Files) (options : Options) (src : List ℕ) : List ℕ → ℕ → Type 0 where
-  refused : IsRefused src → SourceAnswer files options src (refused_text E09 (record { line = 1; col = 1 })) 1
+  refused : (fault : SourceFault) → IsRefused src fault → SourceAnswer files options src (refused_text fault.code (place_at src fault.span.from)) 1
   accepted : {text : List ℕ} {status : ℕ} (c : Core) → Accepts src c → CoreAnswer files options c text status → SourceAnswer files options src text status
 
 -- of a file
@@ -129,7 +130,7 @@ pub record AsksFor (files : Files) (words : List (List ℕ)) (options : Options)
   pub acts : acts_at files options.acts ≡ Some list
 
 abbrev pub SourceIsRefused : Files → List (List ℕ) → Type 0
-SourceIsRefused files words = (options : Options) × (src : List ℕ) × AsksToRun files words options src × IsRefused src
+SourceIsRefused files words = (options : Options) × (src : List ℕ) × (fault : SourceFault) × AsksToRun files words options src × IsRefused src fault
 
 -- the source is accepted, and its run ends so, or needs this refused line before
 abbrev pub RunEndsWith : Files → List (List ℕ) → Option RefusedLine → Ending → Type 0

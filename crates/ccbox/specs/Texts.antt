@@ -1,5 +1,5 @@
 -- The texts that are printed beside those of runs. Each line ends with a line feed.
-use Rattle.std.specs.Prelude.{ℕ, List, [], ◌∷◌, ◌++◌, codes, decimal}
+use Rattle.std.specs.Prelude.{ℕ, List, ◌++◌, codes, decimal}
 use Rattle.ckc_text.specs.declared.place.Place.{Place}
 use Rattle.ckc_text.specs.declared.code.Code.{Code}
 use Rattle.ckc_text.specs.Texts.{number_of, name_of}

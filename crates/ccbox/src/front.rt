@@ -2,6 +2,7 @@
 
 ghost use Rattle.ccbox.specs.Acceptance.{FrontAnswers};
 
+use built_forms::forms::built;
 use ckc_core::program::Core;
 use ckc_lexer::lexer::lex;
 use ckc_parser::parser::parse;
@@ -13,11 +14,12 @@ use std::alloc::Global;
 ///
 /// # Errors
 ///
-/// A refusal exactly where the source has none.
+/// The fault of its tokens, of its tree, or of what isn't built, exactly where the source has no core.
 pub fn front(alloc: Global, src: &[u8]) -> Result<Core, Refused>
     ensures { FrontAnswers src.now result }
 {
     let tokens = lex(alloc, src)?;
-    let program = parse(alloc, tokens.as_slice())?;
+    let tree = parse(alloc, src.len() as u32, tokens.as_slice())?;
+    let program = built(alloc, &tree)?;
     check(alloc, src, &program)
 }

@@ -1,15 +1,18 @@
 // What holds of the Answer over any files.
 
 ghost use Rattle.std.specs.Prelude.{◌≡◌, ℕ, List, [], ◌∷◌, Some, None, true, codes};
+ghost use Rattle.ckc_text.specs.declared.fault.SourceFault.{SourceFault};
 ghost use Rattle.ckc_io.specs.Files.{Files};
 ghost use Rattle.ckc_core.specs.Core.{Core};
-ghost use Rattle.ccbox.specs.Acceptance.{Accepts};
+ghost use Rattle.ccbox.specs.Acceptance.{Accepts, IsRefused};
 ghost use Rattle.ccbox.specs.Answers.{Answer};
 ghost use Rattle.ccbox.specs.Requests.{request_of, Run, no_options};
 
-/// A source has one core, and words have one text and one status.
+/// A source has one core, or one fault and no core. Words have one text and one status.
 pub fn one_answer()
     ensures core { (src : List ℕ) (c d : Core) → Accepts src c → Accepts src d → c ≡ d }
+    ensures fault { (src : List ℕ) (f g : SourceFault) → IsRefused src f → IsRefused src g → f ≡ g }
+    ensures core_or_fault { (src : List ℕ) (c : Core) (f : SourceFault) → Accepts src c → IsRefused src f → ⊥ }
     ensures text { (files : Files) (words : List (List ℕ)) (t u : List ℕ) (m n : ℕ) → Answer files words t m → Answer files words u n → t ≡ u }
     ensures status { (files : Files) (words : List (List ℕ)) (t u : List ℕ) (m n : ℕ) → Answer files words t m → Answer files words u n → m ≡ n }
 {}

@@ -4,9 +4,10 @@ ghost use Rattle.std.specs.Prelude.{◌≡◌, List, ℕ};
 ghost use Rattle.std.specs.List.{All};
 ghost use Rattle.act_words.specs.Acts.{IsAct};
 ghost use Rattle.act_words.specs.Limits.{AreAllowed};
+ghost use Rattle.ckc_text.specs.Places.{place_at};
 ghost use Rattle.ckc_io.specs.Files.{Told};
 ghost use Rattle.ckc_core.specs.Core.{core};
-ghost use Rattle.ccbox.specs.Acceptance.{IsAcceptedCore};
+ghost use Rattle.ccbox.specs.Acceptance.{IsAcceptedCore, IsRefused};
 ghost use Rattle.ccbox.specs.Answers.{ListAnswer, CoreAnswer, SourceAnswer, FileAnswer, status_of as status_of_ending};
 ghost use Rattle.ccbox.specs.Requested.{options as options_view};
 ghost use Rattle.ccbox.specs.Requests.{settings_of};
@@ -23,8 +24,8 @@ use ckc_io::shelf::Shelf;
 use ckc_io::sink::Sink;
 use ckc_io::whole::{ReadFault, read_whole};
 use ckc_lexer::lexer::MAX_SOURCE;
-use ckc_text::fault::Refused;
-use ckc_text::place::place_of;
+use ckc_text::fault::{Refused, SourceFault};
+use ckc_text::place::{Place, place_of};
 use lowering::emit::lower;
 use run_core::run::{RunFault, run};
 use sandbox_actor::actor::ActorFault;
@@ -76,11 +77,21 @@ fn run_source<F: Shelf, K: Sink>(
     match front(alloc, src) {
         Ok(program) => run_program(alloc, &program, options, shelf, sink),
         Err(Refused::Source(fault)) => {
-            let place = place_of(src, fault.span.from as usize);
+            let place = place_of_fault(src, &fault);
             give_line(sink, refused_line(alloc, fault.code, place), 1)
         }
         Err(Refused::NoMemory) => NO_MEMORY,
     }
+}
+
+// The place of a fault: where its span starts.
+fn place_of_fault(src: &[u8], fault: &SourceFault) -> Place
+    requires { IsRefused src.now fault.now }
+    ensures { result ≡ place_at src.now fault.now.span.from }
+{
+    // Behind the last byte every place is the same.
+    let at = (fault.span.from as usize).min(src.len());
+    place_of(src, at)
 }
 
 // Runs a program with the acts that the options ask for.

@@ -7,9 +7,9 @@ use Rattle.ckc_text.specs.declared.place.Place.{Place}
 use Rattle.ckc_text.specs.declared.place.Span.{Span}
 use Rattle.ckc_text.specs.declared.fault.Refused.{Refused}
 use Rattle.ckc_text.specs.declared.fault.Refused.TheVariants.{Source, NoMemory}
-use Rattle.ckc_tree.specs.Tree as tree
-use Rattle.ckc_tree.specs.declared.tree.Expr as trees
-use Rattle.ckc_tree.specs.declared.tree.Expr.TheBlock as tree_rows
+use Rattle.built_forms.specs.Program as tree
+use Rattle.built_forms.specs.declared.program.Expr as trees
+use Rattle.built_forms.specs.declared.program.Expr.TheBlock as tree_rows
 use Rattle.ckc_core.specs.Core as core
 use Rattle.ckc_core.specs.declared.program.Expr as cores
 use Rattle.ckc_core.specs.declared.program.Expr.TheBlock as core_rows

@@ -6,8 +6,8 @@ use Rattle.std.proofs.lemmas.Grind.{common_steps}
 use Rattle.ckc_text.specs.declared.fault.Refused.{Refused}
 use Rattle.ckc_text.specs.declared.fault.Refused.TheVariants.{Source, NoMemory}
 use Rattle.ckc_text.specs.Places.{place_at}
-use Rattle.ckc_tree.specs.Tree.{Tree, Prototype, tree, variable, prototype}
-use Rattle.ckc_tree.specs.declared.tree as code
+use Rattle.built_forms.specs.Program.{Tree, Prototype, tree, variable, prototype}
+use Rattle.built_forms.specs.declared.program as code
 use Rattle.ckc_core.specs.declared.program.Core.{Core}
 use Rattle.ckc_core.specs.Core.{import_of as core_import, statement as core_statement}
 use Rattle.region_typing.specs.Acceptance.{Scope, scope_of, variable_names, function_names, local_names, declared_names, are_distinct, is_free, is_initial, is_prototype, is_statement, IsAccepted, initial_number, import_of, statement_core}

@@ -5,8 +5,8 @@ use Rattle.std.specs.List.{position_or_len}
 use Rattle.std.specs.Str.{bytes_eq}
 use Rattle.std.proofs.lemmas.List.{length-map}
 use Rattle.std.proofs.lemmas.List.Recursion.{is_position_or_len}
-use Rattle.ckc_tree.specs.declared.tree.Prototype.{Prototype}
-use Rattle.ckc_tree.specs.Tree.{prototype}
+use Rattle.built_forms.specs.declared.program.Prototype.{Prototype}
+use Rattle.built_forms.specs.Program.{prototype}
 use Rattle.region_typing.specs.Acceptance.{function_names, number_of_name}
 
 turned : (test : Bool) (n : ℕ) → cond (not test) (1 + n) 0 ≡ cond test 0 (1 + n)

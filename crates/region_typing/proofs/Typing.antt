@@ -11,7 +11,7 @@ use Rattle.std.proofs.lemmas.List.Quantifiers.{position-Some}
 use Rattle.std.proofs.lemmas.Bool.Decides.{nat_tests}
 use Rattle.ckc_text.specs.declared.place.Place.{Place}
 use Rattle.act_words.specs.Checks.{is_word_number}
-use Rattle.ckc_tree.specs.Tree as tree
+use Rattle.built_forms.specs.Program as tree
 use Rattle.ckc_core.specs.Core as core
 use Rattle.ckc_core.specs.Meaning as meaning
 use Rattle.region_typing.specs.Acceptance.{Scope, scope_of, function_names, function_named, takes, local_names, number_of_name, is_among, are_distinct, is_free, is_local, is_variable, is_number, are_numbers, is_pointer, is_target, is_statement, is_initial, is_prototype, IsAccepted, number_in, local_of, address_of, number_core, arguments_core, pointer_core, store_core, statement_core, initial_number, import_of, core_of}

@@ -6,9 +6,9 @@ use Rattle.std.specs.List.{list_all}
 use Rattle.std.specs.Str.{bytes_eq}
 use Rattle.ckc_text.specs.declared.place.Place.{Place}
 use Rattle.ckc_text.specs.declared.place.Span.{Span}
-use Rattle.ckc_tree.specs.declared.tree.BinaryOperator.{BinaryOperator}
-use Rattle.ckc_tree.specs.declared.tree.BinaryOperator.TheVariants as binary
-use Rattle.ckc_tree.specs.Tree as tree
+use Rattle.built_forms.specs.declared.program.BinaryOperator.{BinaryOperator}
+use Rattle.built_forms.specs.declared.program.BinaryOperator.TheVariants as binary
+use Rattle.built_forms.specs.Program as tree
 use Rattle.ckc_core.specs.declared.program.Operator.{Operator}
 use Rattle.ckc_core.specs.declared.program.Operator.TheVariants as operators
 use Rattle.ckc_core.specs.declared.program.Site.{Site}

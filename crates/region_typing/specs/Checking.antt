@@ -4,7 +4,7 @@ use Rattle.ckc_text.specs.declared.fault.Refused.{Refused}
 use Rattle.ckc_text.specs.declared.fault.Refused.TheVariants.{Source, NoMemory}
 use Rattle.ckc_text.specs.Refusals.{not_built}
 use Rattle.ckc_text.specs.Places.{place_at}
-use Rattle.ckc_tree.specs.Tree.{Tree}
+use Rattle.built_forms.specs.Program.{Tree}
 use Rattle.ckc_core.specs.declared.program.Core.{Core}
 use Rattle.ckc_core.specs.Core.{core}
 use Rattle.region_typing.specs.Acceptance.{IsAccepted, core_of}

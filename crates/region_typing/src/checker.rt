@@ -1,7 +1,7 @@
 // Checking a tree.
 
 ghost use Rattle.std.specs.Prelude.{◌≡◌, ◌≤◌, length, IfOk};
-ghost use Rattle.ckc_tree.specs.Tree.{tree};
+ghost use Rattle.built_forms.specs.Program.{tree};
 ghost use Rattle.region_typing.specs.Acceptance.{declared_names};
 ghost use Rattle.region_typing.specs.Checking.{CheckAnswers};
 
@@ -10,10 +10,10 @@ use crate::names::{all_distinct, all_free, push_functions, push_locals, push_var
 use crate::scope::Scope;
 use crate::sites::Sites;
 use crate::statements::statements;
+use built_forms::program::Program;
 use ckc_core::program::{Core, Function};
 use ckc_text::fault::{NoMemory, Refused};
 use ckc_text::name::Name;
-use ckc_tree::tree::Program;
 use std::alloc::Global;
 
 /// The most file-level variables: each takes 32 of the 32,768 bytes of static blocks.

@@ -2,16 +2,16 @@
 
 ghost use Rattle.std.specs.Prelude.{map};
 ghost use Rattle.std.specs.List.{list_all};
-ghost use Rattle.ckc_tree.specs.Tree.{variable, prototype};
+ghost use Rattle.built_forms.specs.Program.{variable, prototype};
 ghost use Rattle.ckc_core.specs.Core.{import_of as core_of};
 ghost use Rattle.region_typing.specs.Acceptance.{is_initial, initial_number, is_prototype, import_of};
 ghost use Rattle.region_typing.specs.Building.{Builds};
 
 use crate::names::{all_distinct, all_free};
+use built_forms::program::{Global as Variable, Prototype};
 use ckc_core::program::Import;
 use ckc_text::fault::Refused;
 use ckc_text::name::Name;
-use ckc_tree::tree::{Global as Variable, Prototype};
 use std::alloc::Global;
 
 /// The most parameters of a function.

@@ -3,17 +3,17 @@
 ghost use Rattle.std.specs.Prelude.{◌≡◌, map, pos};
 ghost use Rattle.std.specs.List.{list_all};
 ghost use Rattle.ckc_text.specs.Places.{place_at};
-ghost use Rattle.ckc_tree.specs.Tree.{expression as tree_of};
+ghost use Rattle.built_forms.specs.Program.{expression as tree_of};
 ghost use Rattle.ckc_core.specs.Core.{expression as core_of, Object, Number};
 ghost use Rattle.region_typing.specs.Acceptance.{is_among, number_in, is_small, is_local, is_variable, is_number, is_pointer, local_of, address_of, number_core, pointer_core, operator_of};
 ghost use Rattle.region_typing.specs.Building.{Builds};
 
 use crate::scope::Scope;
 use crate::sites::Sites;
+use built_forms::program;
 use ckc_core::program::{Expr, Operator};
 use ckc_text::fault::Refused;
 use ckc_text::name::Name;
-use ckc_tree::tree;
 use std::alloc::Global;
 
 /// The core of an expression that is a number.
@@ -22,25 +22,25 @@ pub fn number(
     alloc: Global,
     sites: &Sites,
     scope: &Scope,
-    expr: &tree::Expr,
+    expr: &program::Expr,
 ) -> Result<Expr, Refused>
     ensures { Builds (is_number scope.now (tree_of expr.now)) core_of (number_core (place_at sites.now) scope.now (tree_of expr.now)) result }
 {
     match expr {
-        tree::Expr::Number { value, span: _ } => small_number(*value),
-        tree::Expr::Name { name, span: _ } => variable(scope, name),
-        tree::Expr::Deref { operand, span } => {
+        program::Expr::Number { value, span: _ } => small_number(*value),
+        program::Expr::Name { name, span: _ } => variable(scope, name),
+        program::Expr::Deref { operand, span } => {
             let pointer = Box::new(alloc, local(scope, operand)?)?;
             Ok(Expr::Load {
                 pointer,
                 site: sites.site(*span),
             })
         }
-        tree::Expr::AddressOf {
+        program::Expr::AddressOf {
             operand: _,
             span: _,
         } => Err(Refused::not_built()),
-        tree::Expr::Binary {
+        program::Expr::Binary {
             operator,
             left,
             right,
@@ -55,7 +55,7 @@ pub fn number(
                 site: sites.site(*span),
             })
         }
-        tree::Expr::Call {
+        program::Expr::Call {
             callee,
             arguments,
             span,
@@ -78,7 +78,7 @@ fn numbers(
     alloc: Global,
     sites: &Sites,
     scope: &Scope,
-    arguments: &[tree::Expr],
+    arguments: &[program::Expr],
 ) -> Result<Vec<Expr>, Refused>
     ensures { Builds (list_all (is_number scope.now) (map tree_of arguments.now)) (λ v. map core_of v.items)
         (map (number_core (place_at sites.now) scope.now) (map tree_of arguments.now)) result }
@@ -91,21 +91,21 @@ fn numbers(
 }
 
 /// The core of an expression that a local begins with: the address of a variable, or null.
-pub fn pointer(scope: &Scope, expr: &tree::Expr) -> Result<Expr, Refused>
+pub fn pointer(scope: &Scope, expr: &program::Expr) -> Result<Expr, Refused>
     ensures { Builds (is_pointer scope.now (tree_of expr.now)) core_of (pointer_core scope.now (tree_of expr.now)) result }
 {
     match expr {
-        tree::Expr::Number { value: 0, span: _ } => Ok(Expr::Null),
-        tree::Expr::AddressOf { operand, span: _ } => address(scope, operand),
+        program::Expr::Number { value: 0, span: _ } => Ok(Expr::Null),
+        program::Expr::AddressOf { operand, span: _ } => address(scope, operand),
         _ => Err(Refused::not_built()),
     }
 }
 
 /// The core of an expression that is a local pointer.
-pub fn local(scope: &Scope, expr: &tree::Expr) -> Result<Expr, Refused>
+pub fn local(scope: &Scope, expr: &program::Expr) -> Result<Expr, Refused>
     ensures { Builds (is_local scope.now (tree_of expr.now)) core_of (local_of scope.now (tree_of expr.now)) result }
 {
-    if let tree::Expr::Name { name, span: _ } = expr {
+    if let program::Expr::Name { name, span: _ } = expr {
         if let Some(number) = scope.local(name) {
             return Ok(Expr::Local(number));
         }
@@ -114,10 +114,10 @@ pub fn local(scope: &Scope, expr: &tree::Expr) -> Result<Expr, Refused>
 }
 
 // The address of an expression that is a variable.
-fn address(scope: &Scope, expr: &tree::Expr) -> Result<Expr, Refused>
+fn address(scope: &Scope, expr: &program::Expr) -> Result<Expr, Refused>
     ensures { Builds (is_variable scope.now (tree_of expr.now)) core_of (address_of scope.now (tree_of expr.now)) result }
 {
-    if let tree::Expr::Name { name, span: _ } = expr {
+    if let program::Expr::Name { name, span: _ } = expr {
         if let Some(number) = scope.variable(name) {
             return Ok(Expr::AddressOf(number));
         }
@@ -146,11 +146,11 @@ fn small_number(value: u32) -> Result<Expr, Refused>
 }
 
 // The operator of the core.
-fn operator_from(operator: tree::BinaryOperator) -> Operator
+fn operator_from(operator: program::BinaryOperator) -> Operator
     ensures { result ≡ operator_of operator }
 {
     match operator {
-        tree::BinaryOperator::Add => Operator::Add,
-        tree::BinaryOperator::Subtract => Operator::Subtract,
+        program::BinaryOperator::Add => Operator::Add,
+        program::BinaryOperator::Subtract => Operator::Subtract,
     }
 }

@@ -2,7 +2,7 @@
 
 ghost use Rattle.std.specs.Prelude.{ℕ, ◌≤◌, All, length};
 ghost use Rattle.ckc_text.specs.declared.place.Place.{Place};
-ghost use Rattle.ckc_tree.specs.Tree.{Tree};
+ghost use Rattle.built_forms.specs.Program.{Tree};
 ghost use Rattle.ckc_core.specs.Core.{Core};
 ghost use Rattle.region_typing.specs.Acceptance.{IsAccepted, core_of};
 ghost use Rattle.region_typing.specs.Typed.{IsTyped, NeverStuck};

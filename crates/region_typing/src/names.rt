@@ -1,13 +1,13 @@
 // Names, and their numbers.
 
 ghost use Rattle.std.specs.Prelude.{◌≡◌, ◌≤◌, ◌++◌, map, length, OnOk};
-ghost use Rattle.ckc_tree.specs.Tree.{statement, variable, prototype};
+ghost use Rattle.built_forms.specs.Program.{statement, variable, prototype};
 ghost use Rattle.region_typing.specs.Acceptance.{variable_names, function_names, local_names, number_of_name, is_among, are_distinct, reserved_names, is_free};
 ghost use Rattle.std.specs.List.{list_all};
 
+use built_forms::program::{Global as Variable, Prototype, Stmt};
 use ckc_text::fault::NoMemory;
 use ckc_text::name::Name;
-use ckc_tree::tree::{Global as Variable, Prototype, Stmt};
 use std::alloc::Global;
 
 /// The number of a name among names, if it is there: its first position.

@@ -1,14 +1,14 @@
 // The names that are known.
 
 ghost use Rattle.std.specs.Prelude.{◌≡◌, ◌≤◌, length, map};
-ghost use Rattle.ckc_tree.specs.Tree.{prototype};
+ghost use Rattle.built_forms.specs.Program.{prototype};
 ghost use Rattle.region_typing.specs.Acceptance.{number_of_name, number_in, function_names, function_named, takes};
 ghost use Rattle.region_typing.specs.Building.{Builds};
 
 use crate::names::{function_number, number_of};
+use built_forms::program::Prototype;
 use ckc_text::fault::Refused;
 use ckc_text::name::Name;
-use ckc_tree::tree::Prototype;
 use std::marker::Model;
 
 /// The names that are known, by what they name. Contracts see the names, and the functions as they stand in the tree.
@@ -21,7 +21,7 @@ pub struct Scope<'a> {
 
 impl<'a> Model for Scope<'a> {
     ghost use Rattle.std.specs.Prelude.{◌≤◌, length, map};
-    ghost use Rattle.ckc_tree.specs.Tree.{prototype};
+    ghost use Rattle.built_forms.specs.Program.{prototype};
     ghost use Rattle.region_typing.specs.Acceptance as acceptance;
 
     ghost Value = { acceptance.Scope };

@@ -3,7 +3,7 @@
 ghost use Rattle.std.specs.Prelude.{map};
 ghost use Rattle.std.specs.List.{list_all};
 ghost use Rattle.ckc_text.specs.Places.{place_at};
-ghost use Rattle.ckc_tree.specs.Tree.{statement as tree_of, expression as expression_tree};
+ghost use Rattle.built_forms.specs.Program.{statement as tree_of, expression as expression_tree};
 ghost use Rattle.ckc_core.specs.Core.{statement as core_of, expression as expression_core};
 ghost use Rattle.region_typing.specs.Acceptance.{is_statement, is_target, statement_core, store_core};
 ghost use Rattle.region_typing.specs.Building.{Builds};
@@ -11,9 +11,9 @@ ghost use Rattle.region_typing.specs.Building.{Builds};
 use crate::expressions::{local, number, pointer};
 use crate::scope::Scope;
 use crate::sites::Sites;
+use built_forms::program;
 use ckc_core::program::{Expr, Stmt};
 use ckc_text::fault::Refused;
-use ckc_tree::tree;
 use std::alloc::Global;
 
 /// The core of a body's statements.
@@ -21,7 +21,7 @@ pub fn statements(
     alloc: Global,
     sites: &Sites,
     scope: &Scope,
-    body: &[tree::Stmt],
+    body: &[program::Stmt],
 ) -> Result<Vec<Stmt>, Refused>
     ensures { Builds (list_all (is_statement scope.now) (map tree_of body.now)) (λ v. map core_of v.items)
         (map (statement_core (place_at sites.now) scope.now) (map tree_of body.now)) result }
@@ -38,13 +38,13 @@ fn statement(
     alloc: Global,
     sites: &Sites,
     scope: &Scope,
-    stmt: &tree::Stmt,
+    stmt: &program::Stmt,
 ) -> Result<Stmt, Refused>
     ensures { Builds (is_statement scope.now (tree_of stmt.now)) core_of
         (statement_core (place_at sites.now) scope.now (tree_of stmt.now)) result }
 {
     match stmt {
-        tree::Stmt::Declare {
+        program::Stmt::Declare {
             name,
             initial,
             span: _,
@@ -53,7 +53,7 @@ fn statement(
             let local = scope.local(name).unwrap_or(0);
             Ok(Stmt::SetLocal { local, value })
         }
-        tree::Stmt::Assign {
+        program::Stmt::Assign {
             target,
             value,
             span: _,
@@ -61,7 +61,7 @@ fn statement(
             let value = number(alloc, sites, scope, value)?;
             store(sites, scope, target, value)
         }
-        tree::Stmt::Return { value, span: _ } => {
+        program::Stmt::Return { value, span: _ } => {
             let value = number(alloc, sites, scope, value)?;
             Ok(Stmt::Return { value })
         }
@@ -69,16 +69,16 @@ fn statement(
 }
 
 // The core of a store of a value.
-fn store(sites: &Sites, scope: &Scope, target: &tree::Expr, value: Expr) -> Result<Stmt, Refused>
+fn store(sites: &Sites, scope: &Scope, target: &program::Expr, value: Expr) -> Result<Stmt, Refused>
     ensures { Builds (is_target scope.now (expression_tree target.now)) core_of
         (store_core (place_at sites.now) scope.now (expression_tree target.now) (expression_core value)) result }
 {
     match target {
-        tree::Expr::Name { name, span: _ } => match scope.variable(name) {
+        program::Expr::Name { name, span: _ } => match scope.variable(name) {
             Some(object) => Ok(Stmt::SetObject { object, value }),
             None => Err(Refused::not_built()),
         },
-        tree::Expr::Deref { operand, span } => {
+        program::Expr::Deref { operand, span } => {
             let pointer = local(scope, operand)?;
             Ok(Stmt::Store {
                 pointer,

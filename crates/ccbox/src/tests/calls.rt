@@ -118,6 +118,26 @@ fn runs(rt: HostRuntime) -> Result<(), Fail> {
             0,
         ),
         ("int main(void) { return 3; }", "[exit 3]\n", 0),
+        (
+            "int main(void) { return 5 - (2 - 1); } // four\n",
+            "[exit 4]\n",
+            0,
+        ),
+        (
+            "#include <stdio.h>\n#define N 40\nint g = N; /* two\nlines */ int main(void) { return (g) + 0x2; }",
+            "[exit 42]\n",
+            0,
+        ),
+        (
+            "int x; int main(void) { (x) = 3; return (x); }",
+            "[exit 3]\n",
+            0,
+        ),
+        (
+            "int g = 2147483647; int main(void) { return 0 + (g + 1); }",
+            "[check C6 1:50 overflow]\n",
+            6,
+        ),
     ];
     for (source, text, status) in cases {
         expect_run(&rt, source.as_bytes(), text, status)?;
@@ -132,27 +152,87 @@ fn refusals(rt: HostRuntime) -> Result<(), Fail> {
         "int main(void) { while (1) { } }\n",
         "int a; int a; int main(void) { return 0; }",
         "int a; int main(void) { ptr<int> a = 0; return 0; }",
-        "int while; int main(void) { return 0; }",
         "int putchar; int main(void) { return 0; }",
         "int main(void) { return x; }",
         "int g; int main(void) { return *g; }",
         "int main(void) { ptr<int> p = 1; return 0; }",
         "int main(void) { ptr<int> p = 0; return p; }",
-        "int g = 2147483648; int main(void) { return g; }",
         "int x; int main(void) { x = 1; ptr<int> p = 0; return 0; }",
         "int start(void) { return 0; }",
         "int main(void) { }",
-        "int main(void) { return 1 - ; }",
-        "int main(void) { return 0; } int",
-        "int main(void) { return 0; } ;",
-        "int main(void) { return 0;",
-        "int main(void) { return 0 }",
         "// int main(void) { return 0; }",
     ];
     for source in sources {
         expect_run(&rt, source.as_bytes(), NOT_BUILT, 1)?;
     }
     Ok(())
+}
+
+#[test]
+fn faults(rt: HostRuntime) -> Result<(), Fail> {
+    let cases = [
+        ("int\x0b", "[refused E01 1:4 byte not allowed]\n"),
+        (
+            "int main(void) { return 08; }",
+            "[refused E02 1:25 no token]\n",
+        ),
+        ("/*", "[refused E03 1:1 open comment or string]\n"),
+        (
+            "int g = 2147483648; int main(void) { return g; }",
+            "[refused E04 1:9 number too large]\n",
+        ),
+        (
+            "int g;\n#pragma CHECKED_SCOPE pop\n",
+            "[refused E05 2:1 directive]\n",
+        ),
+        (
+            "int while; int main(void) { return 0; }",
+            "[refused E06 1:5 syntax]\n",
+        ),
+        (
+            "int main(void) { return 1 - ; }",
+            "[refused E06 1:29 syntax]\n",
+        ),
+        (
+            "int main(void) { return 0; } int",
+            "[refused E06 1:33 syntax]\n",
+        ),
+        (
+            "int main(void) { return 0; } ;",
+            "[refused E06 1:30 syntax]\n",
+        ),
+        ("int main(void) { return 0;", "[refused E06 1:27 syntax]\n"),
+        ("int main(void) { return 0 }", "[refused E06 1:27 syntax]\n"),
+    ];
+    for (source, text) in cases {
+        expect_run(&rt, source.as_bytes(), text, 1)?;
+    }
+    Ok(())
+}
+
+// A program with these many differences, each inside the one before.
+fn with_differences(alloc: Global, count: u32) -> Result<String, Fail> {
+    let mut source = String::new(alloc);
+    source.push_str("int main(void) { return ")?;
+    for _ in 1..count {
+        source.push_str("0 - (")?;
+    }
+    source.push_str("0 - 1")?;
+    for _ in 1..count {
+        source.push_str(")")?;
+    }
+    source.push_str("; }")?;
+    Ok(source)
+}
+
+#[test]
+fn depths(rt: HostRuntime) -> Result<(), Fail> {
+    // The body, the statement, the differences and the last numbers stand one inside the other.
+    let highest = with_differences(rt.alloc(), 197)?;
+    expect_run(&rt, highest.as_bytes(), "[exit -1]\n", 0)?;
+    let text = "[refused E07 1:1010 nesting too deep]\n";
+    let higher = with_differences(rt.alloc(), 198)?;
+    expect_run(&rt, higher.as_bytes(), text, 1)
 }
 
 #[test]
@@ -211,7 +291,7 @@ fn sizes(rt: HostRuntime) -> Result<(), Fail> {
         (4096, "[exit 7]\n", 0),
         (4097, "[exit 7]\n", 0),
         (1_048_576, "[exit 7]\n", 0),
-        (1_048_577, NOT_BUILT, 1),
+        (1_048_577, "[refused E08 1:1 limit]\n", 1),
     ] {
         let source = padded(rt.alloc(), len)?;
         expect_run(&rt, source.as_slice(), text, status)?;

@@ -6,13 +6,14 @@ ghost use Rattle.ccbox.specs.Requests.{no_options, settings_of};
 
 use crate::front::front;
 use act_words::settings::Settings;
+use built_forms::forms::built;
+use built_forms::program::{Expr, Stmt};
 use ckc_core::program::{Site, Stmt as CoreStmt};
 use ckc_lexer::lexer::lex;
 use ckc_parser::parser::parse;
 use ckc_text::code::Code;
 use ckc_text::line_index::LineIndex;
 use ckc_text::place::{Place, Span, place_of};
-use ckc_tree::tree::{Expr, Stmt};
 use code_words::image::Image;
 use code_words::lists::Listed;
 use lowering::emit::lower;
@@ -88,9 +89,12 @@ fn counts_of_tokens(rt: HostRuntime) {
         ("007", None),
         ("12ab", None),
         ("_Tainted t(a, b)", Some(7)),
-        ("while", None),
-        ("_Checked", None),
-        ("a / b", None),
+        ("while", Some(1)),
+        ("_Checked", Some(1)),
+        ("a / b", Some(3)),
+        ("a // b", Some(1)),
+        ("a >>= b", Some(4)),
+        ("#define N -4\nN", Some(2)),
         ("a\x0bb", None),
     ];
     for (source, count) in cases {
@@ -102,11 +106,13 @@ fn counts_of_tokens(rt: HostRuntime) {
 #[test]
 fn a_tree(rt: HostRuntime) -> Result<(), Fail> {
     let tokens = lex(rt.alloc(), SOURCE)?;
-    let tree = parse(rt.alloc(), tokens.as_slice())?;
-    assert_eq!(rt; tree.globals.len(), 1);
+    let tree = parse(rt.alloc(), SOURCE.len() as u32, tokens.as_slice())?;
+    assert_eq!(rt; tree.items.len(), 2);
+    let program = built(rt.alloc(), &tree)?;
+    assert_eq!(rt; program.globals.len(), 1);
     assert!(rt;
         matches!(
-            tree.body.as_slice(),
+            program.body.as_slice(),
             [
                 Stmt::Declare { .. },
                 Stmt::Assign {

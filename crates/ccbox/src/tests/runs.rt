@@ -199,7 +199,7 @@ fn missing_acts(rt: HostRuntime) -> Result<(), Fail> {
         3,
     )?;
     // A refused source is named first.
-    let refused = "[refused E09 1:1 not built yet]\n";
+    let refused = "[refused E06 1:4 syntax]\n";
     expect_acts(&rt, &["run", "a.c", "--acts", "g"], "int", "", refused, 1)?;
     // Without acts the sandbox does nothing, and a program that doesn't call it needs none.
     expect_acts(
@@ -306,9 +306,6 @@ fn calls_and_prototypes(rt: HostRuntime) -> Result<(), Fail> {
         "_Tainted int t(int strlen); int main(void) { return 0; }",
         "_Tainted int putchar(int x); int main(void) { return 0; }",
         "_Tainted int t(); int main(void) { return 0; }",
-        "_Tainted int t(int x,); int main(void) { return 0; }",
-        "_Tainted int t(void) int main(void) { return 0; }",
-        "_Tainted int t(int x); int main(void) { return t(1,); }",
         "_Tainted int t(int x); int main(void) { t(1); return 0; }",
         "_Tainted int t(int x); int main(void) { ptr<int> p = 0; return t(p); }",
         "_Tainted int t(int x); int main(void) { return t; }",
@@ -323,6 +320,23 @@ fn calls_and_prototypes(rt: HostRuntime) -> Result<(), Fail> {
             "[refused E09 1:1 not built yet]\n",
             1,
         )?;
+    }
+    let faults = [
+        (
+            "_Tainted int t(int x,); int main(void) { return 0; }",
+            "[refused E06 1:22 syntax]\n",
+        ),
+        (
+            "_Tainted int t(void) int main(void) { return 0; }",
+            "[refused E06 1:22 syntax]\n",
+        ),
+        (
+            "_Tainted int t(int x); int main(void) { return t(1,); }",
+            "[refused E06 1:52 syntax]\n",
+        ),
+    ];
+    for (source, text) in faults {
+        expect_acts(&rt, &words, source, "", text, 1)?;
     }
     Ok(())
 }

@@ -1,6 +1,4 @@
 use Rattle.std.proofs.Common.{sym, map}
-use Rattle.ccbox.specs.Requests.{Run}
-use Rattle.ccbox.specs.Requested.{request}
 use Rattle.ccbox.specs.Calls.{asked}
 use Rattle.ccbox.proofs.Settings.{allowed}
 use Rattle.ccbox.proofs.call.status_of_call.Goals as goal

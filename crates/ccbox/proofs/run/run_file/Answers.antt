@@ -1,4 +1,4 @@
-use Rattle.std.proofs.Common.{refl, sym, ap, ◌∙◌, subst, inl, arith}
+use Rattle.std.proofs.Common.{refl, ◌∙◌, subst, inl, arith}
 use Rattle.ccbox.specs.Requested.{options as options_view}
 use Rattle.ccbox.specs.Answers.{SourceAnswer, missing, source}
 use Rattle.ccbox.specs.Calls.{files_failed, no_memory}

@@ -1,7 +1,4 @@
-use Rattle.std.proofs.Common.{◌≡◌, refl, sym, ap, ◌∙◌, subst, inl, inr, arith}
-use Rattle.ckc_text.specs.declared.fault.SourceFault.{SourceFault}
-use Rattle.ckc_text.specs.Places.{place_at}
-use Rattle.ckc_text.specs.declared.code.Code.TheVariants.{E09}
+use Rattle.std.proofs.Common.{refl, sym, ap, subst, inl, inr, arith}
 use Rattle.ckc_core.specs.Core.{core}
 use Rattle.ccbox.specs.Texts.{refused_text}
 use Rattle.ccbox.specs.Requested.{options as options_view}
@@ -17,8 +14,8 @@ pub returns-in-Err-Source : goal.returns-in-Err-Source
 returns-in-Err-Source g c =
     let h = rw c.in-Err-Source.field-0-is at c.in-Err-Source.ensures in
     let f = c.in-Err-Source.fault in
-    let is = ap (refused_text f.code) c.place_of-place.ensures ∙ ap (λ (x : SourceFault). refused_text x.code (place_at c.args.src.now x.span.from)) h.0 in
-    line_gives _ 1 (λ files told. subst (λ t. SourceAnswer files (options_view c.args.options.now) c.args.src.now t 1) (sym is) (refused h.1)) (refl, inr (inr (inl refl), refl)) (omega arith)
+    let is = ap (refused_text f.code) c.place_of_fault-place.ensures in
+    line_gives _ 1 (λ files told. subst (λ t. SourceAnswer files (options_view c.args.options.now) c.args.src.now t 1) (sym is) (refused f h)) (refl, inr (inr (inl refl), refl)) (omega arith)
     (c.give_line.ensures _ c.refused_line.ensures)
 
 pub returns-in-Err-NoMemory : goal.returns-in-Err-NoMemory

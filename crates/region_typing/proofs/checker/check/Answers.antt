@@ -1,6 +1,6 @@
 use Rattle.std.proofs.Common.{length, drop, sym, ap, ◌∙◌, arith}
 use Rattle.std.proofs.lemmas.Result.{err_from_is_err_and}
-use Rattle.ckc_tree.specs.Tree.{tree}
+use Rattle.built_forms.specs.Program.{tree}
 use Rattle.region_typing.proofs.Checks.{refused_by, same_scope, built}
 use Rattle.region_typing.proofs.checker.check.Goals as goal
 

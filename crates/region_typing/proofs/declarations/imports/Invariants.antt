@@ -1,6 +1,6 @@
 use Rattle.std.proofs.Common.{◌≡◌, ◌++◌, map, drop}
 use Rattle.std.specs.List.{list_all}
-use Rattle.ckc_tree.specs.Tree.{prototype}
+use Rattle.built_forms.specs.Program.{prototype}
 use Rattle.ckc_core.specs.Core.{import_of as core_of}
 use Rattle.region_typing.specs.Acceptance.{is_prototype, import_of}
 use Rattle.region_typing.proofs.declarations.imports.Given as goal

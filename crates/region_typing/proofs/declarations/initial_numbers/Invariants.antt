@@ -1,6 +1,6 @@
 use Rattle.std.proofs.Common.{◌≡◌, ◌++◌, map, drop}
 use Rattle.std.specs.List.{list_all}
-use Rattle.ckc_tree.specs.Tree.{variable}
+use Rattle.built_forms.specs.Program.{variable}
 use Rattle.region_typing.specs.Acceptance.{is_initial, initial_number}
 use Rattle.region_typing.proofs.declarations.initial_numbers.Given as goal
 

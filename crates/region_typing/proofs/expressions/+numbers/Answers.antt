@@ -3,7 +3,7 @@ use Rattle.std.specs.Prelude.{◌&&◌}
 use Rattle.std.specs.List.{list_all}
 use Rattle.std.proofs.lemmas.Result.{err_from_is_err_and}
 use Rattle.ckc_text.specs.Places.{place_at}
-use Rattle.ckc_tree.specs.Tree.{expression as tree_of}
+use Rattle.built_forms.specs.Program.{expression as tree_of}
 use Rattle.region_typing.specs.Acceptance.{is_number}
 use Rattle.region_typing.proofs.Arguments.{refused_part, call_test, call_core}
 use Rattle.region_typing.proofs.expressions.+numbers.Goals as goal

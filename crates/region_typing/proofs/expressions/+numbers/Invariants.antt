@@ -1,7 +1,7 @@
 use Rattle.std.proofs.Common.{◌≡◌, ◌++◌, map, drop}
 use Rattle.std.specs.List.{list_all}
 use Rattle.ckc_text.specs.Places.{place_at}
-use Rattle.ckc_tree.specs.Tree.{expression as tree_of}
+use Rattle.built_forms.specs.Program.{expression as tree_of}
 use Rattle.ckc_core.specs.Core.{expression as core_of}
 use Rattle.region_typing.specs.Acceptance.{is_number, number_core}
 use Rattle.region_typing.proofs.expressions.+numbers.Given as goal

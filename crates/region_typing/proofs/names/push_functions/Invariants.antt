@@ -1,5 +1,5 @@
 use Rattle.std.proofs.Common.{◌≡◌, ◌++◌, map, take}
-use Rattle.ckc_tree.specs.Tree.{prototype}
+use Rattle.built_forms.specs.Program.{prototype}
 use Rattle.region_typing.specs.Acceptance.{function_names}
 use Rattle.region_typing.proofs.names.push_functions.Given as goal
 

@@ -1,5 +1,5 @@
 use Rattle.std.proofs.Common.{◌≡◌, ◌++◌, map, drop}
-use Rattle.ckc_tree.specs.Tree.{statement}
+use Rattle.built_forms.specs.Program.{statement}
 use Rattle.region_typing.specs.Acceptance.{local_names}
 use Rattle.region_typing.proofs.names.push_locals.Given as goal
 

@@ -1,5 +1,5 @@
 use Rattle.std.proofs.Common.{◌≡◌, ◌++◌, map, take}
-use Rattle.ckc_tree.specs.Tree.{variable}
+use Rattle.built_forms.specs.Program.{variable}
 use Rattle.region_typing.specs.Acceptance.{variable_names}
 use Rattle.region_typing.proofs.names.push_variables.Given as goal
 

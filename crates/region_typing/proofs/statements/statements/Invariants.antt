@@ -1,7 +1,7 @@
 use Rattle.std.proofs.Common.{◌≡◌, ◌++◌, map, drop}
 use Rattle.std.specs.List.{list_all}
 use Rattle.ckc_text.specs.Places.{place_at}
-use Rattle.ckc_tree.specs.Tree.{statement as tree_of}
+use Rattle.built_forms.specs.Program.{statement as tree_of}
 use Rattle.ckc_core.specs.Core.{statement as core_of}
 use Rattle.region_typing.specs.Acceptance.{is_statement, statement_core}
 use Rattle.region_typing.proofs.statements.statements.Given as goal
