@@ -173,8 +173,8 @@ fn faults(rt: HostRuntime) -> Result<(), Fail> {
     let cases = [
         ("int\x0b", "[refused E01 1:4 byte not allowed]\n"),
         (
-            "int main(void) { return 08; }",
-            "[refused E02 1:25 no token]\n",
+            "int x = 08; int main(void) { return 0; }",
+            "[refused E02 1:9 no token]\n",
         ),
         ("/*", "[refused E03 1:1 open comment or string]\n"),
         (
@@ -182,7 +182,7 @@ fn faults(rt: HostRuntime) -> Result<(), Fail> {
             "[refused E04 1:9 number too large]\n",
         ),
         (
-            "int g;\n#pragma CHECKED_SCOPE pop\n",
+            "#define N 4\n#define N 5\n",
             "[refused E05 2:1 directive]\n",
         ),
         (
