@@ -1,5 +1,5 @@
 -- Items before the last one.
-use Rattle.std.proofs.Common.{◌≡◌, ℕ, zero, suc, ◌+◌, ◌<◌, length, drop, get_or, map, List, [], ◌∷◌, ◌++◌, Option, Some, None, Ok, Err, refl, sym, ap, ◌∙◌, arith}
+use Rattle.std.proofs.Common.{◌≡◌, ℕ, zero, suc, ◌<◌, length, get_or, map, List, [], ◌∷◌, ◌++◌, Option, Some, None, Ok, Err, refl, sym, ap, ◌∙◌, arith}
 use Rattle.std.specs.Option.{option_map}
 use Rattle.ckc_text.specs.declared.fault.Refused.{Refused}
 use Rattle.ckc_text.specs.declared.fault.Refused.TheVariants.{Source, NoMemory}
@@ -9,7 +9,7 @@ use Rattle.built_forms.specs.Program as p
 use Rattle.built_forms.specs.Forms.{Gives, global_form, prototype_form, main_form, with_item, items_form}
 use Rattle.built_forms.specs.declared.forms.Declared.{Declared}
 use Rattle.built_forms.specs.Lists.{ahead, joined, variables_of, prototypes_of, Declares, DeclaresOne}
-use Rattle.built_forms.proofs.Lists.{split_at, append_nothing}
+use Rattle.built_forms.proofs.Lists.{append_nothing}
 
 pub with_none : (v : Option p.Variable) (f : Option p.Prototype) → with_item v f None ≡ None
 with_none (Some v) f = refl
@@ -30,24 +30,6 @@ ahead_fails (first ∷ others) zero item less is g f t =
 ahead_fails (first ∷ others) (suc n) item less is g f t =
     ap (with_item (global_form (i.item first)) (prototype_form (i.item first))) (ahead_fails others n item (omega (arith, less)) is g f t)
     ∙ with_none (global_form (i.item first)) (prototype_form (i.item first))
-
--- one item more, whatever stands behind
-one_more : (old new : p.Tree → p.Tree) (v : Option p.Variable) (f : Option p.Prototype) → ((t : p.Tree) → option_map old (with_item v f (Some t)) ≡ Some (new t)) → (rest : Option p.Tree) → option_map new rest ≡ option_map old (with_item v f rest)
-one_more old new v f all None = ap (option_map old) (sym (with_none v f))
-one_more old new v f all (Some t) = sym (all t)
-
-pub goes_on : (old new : p.Tree → p.Tree) (items : List code.Item) (n : ℕ) (item : code.Item) → n < length items → item ≡ get_or items n item → ((t : p.Tree) → option_map old (with_item (global_form (i.item item)) (prototype_form (i.item item)) (Some t)) ≡ Some (new t))
-    → ((t : p.Tree) → option_map old (ahead (map i.item (drop n items)) (Some t)) ≡ ahead (map i.item items) (Some t)) → (t : p.Tree) → option_map new (ahead (map i.item (drop (n + 1) items)) (Some t)) ≡ ahead (map i.item items) (Some t)
-goes_on old new items n item less is one before t =
-    one_more old new (global_form (i.item item)) (prototype_form (i.item item)) one (ahead (map i.item (drop (n + 1) items)) (Some t))
-    ∙ ap (λ l. option_map old (ahead (map i.item l) (Some t))) (sym (split_at items n item less is)) ∙ before t
-
-pub nothing_joined : (t : Option p.Tree) → option_map (joined [] []) t ≡ t
-nothing_joined None = refl
-nothing_joined (Some t) = refl
-
-pub all_joined : (change : p.Tree → p.Tree) (items slice : List code.Item) → slice ≡ [] → ((t : p.Tree) → option_map change (ahead (map i.item slice) (Some t)) ≡ ahead (map i.item items) (Some t)) → (t : p.Tree) → ahead (map i.item items) (Some t) ≡ Some (change t)
-all_joined change items slice empty before t = sym (before t) ∙ ap (λ l. option_map change (ahead (map i.item l) (Some t))) empty
 
 -- the last item is `main`
 abbrev pub with_body : List p.Statement → p.Tree

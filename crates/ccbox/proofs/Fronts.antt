@@ -1,10 +1,10 @@
 -- Each part of the front end is exact, so the whole is.
-use Rattle.std.proofs.Common.{◌≡◌, ℕ, ◌≤◌, ◌⊎◌, inl, inr, List, length, Some, None, Result, Ok, Err, refl, sym, ap, ◌∙◌, subst, arith}
+use Rattle.std.proofs.Common.{◌≡◌, ℕ, List, length, Some, None, Result, Ok, Err, refl, sym, ap, ◌∙◌, subst}
 use Rattle.ckc_text.specs.declared.fault.Refused.{Refused}
 use Rattle.ckc_text.specs.declared.fault.Refused.TheVariants.{Source, NoMemory}
 use Rattle.ckc_text.specs.declared.fault.SourceFault.{SourceFault}
 use Rattle.ckc_text.specs.Places.{place_at}
-use Rattle.ckc_lexer.specs.Tokens.{AreTokens, HasFault, LexAnswers, great, cut}
+use Rattle.ckc_lexer.specs.Tokens.{AreTokens, HasFault, LexAnswers}
 use Rattle.ckc_lexer.specs.declared.token.Token.{Token}
 use Rattle.ckc_lexer.proofs.Cuts.{same_answer}
 use Rattle.ckc_tree.specs.Items.{Tree}
@@ -18,10 +18,6 @@ use Rattle.region_typing.specs.Checking.{CheckAnswers}
 use Rattle.ckc_core.specs.declared.program as code
 use Rattle.ckc_core.specs.Core.{Core}
 use Rattle.ccbox.specs.Acceptance.{Accepts, IsRefused, no_tokens, no_tree, not_built, FrontAnswers}
-
--- a source that has tokens isn't long
-pub size : {src : List ℕ} {tokens : List Token} → AreTokens src tokens → length src ≤ 1048576
-size (cut small pieces) = small
 
 -- ---- a source has one list of tokens, one tree and one program, or one fault
 
@@ -70,13 +66,6 @@ one_refusal (no_tree tokens read f) (not_built others t again is none) = absurd 
 one_refusal (not_built tokens t read is none) (no_tokens g) = absurd (tokens_or_fault read g)
 one_refusal (not_built tokens t read is none) (no_tree others again g) = absurd (tree_or_fault read again is g)
 one_refusal (not_built tokens t read is none) (not_built others u again is' none') = refl
-
--- where a source is long, its fault stands at its start
-pub near : {src : List ℕ} {fault : SourceFault} → IsRefused src fault → (fault.span.from ≤ 1048576) ⊎ (length src ≤ 1048576)
-near (no_tokens (great long)) = inl (omega arith)
-near (no_tokens (cut small pieces)) = inr small
-near (no_tree tokens read f) = inr (size read)
-near (not_built tokens t read is none) = inr (size read)
 
 -- ---- what the parts answer is what the front end does
 
