@@ -17,10 +17,12 @@ use std::env;
 use std::io::{self, Write};
 
 /// A function behind the digits of its name, up to its line feed.
-const FUNCTION: &[u8] = b"(int first, int second) {\n    int total = first * 3 + second; // what both make\n    while (total < 100000) {\n        total = total + first - second; // one step nearer\n    }\n    if (total == second) total += 1; // never the second\n    return -total;\n}\n";
+const FUNCTION: &[u8] =
+    b"(int first, int second) {\n    int total = first * 3 + second; // what both make\n    while (total < 100000) {\n        total = total + first - second; // one step nearer\n    }\n    if (total == second) total += 1; // never the second\n    return -total;\n}\n";
 
 /// A comment of 144 bytes with its line feed.
-const COMMENT: &[u8] = b"// A thousand functions stand above this line. They differ in their names alone, and none of them is called, neither by another, nor from main.\n";
+const COMMENT: &[u8] =
+    b"// A thousand functions stand above this line. They differ in their names alone, and none of them is called, neither by another, nor from main.\n";
 
 // Puts a number of five digits.
 fn push_digits(out: &mut Vec<u8>, number: u32) -> Result<(), NoMemory> {
@@ -60,12 +62,16 @@ fn main(rt: HostRuntime) -> anyhow::Result<()> {
     let functions = number.as_str().parse::<u32>()?;
     let how = words.next().context("wanted: read or print")?;
     ensure!(functions <= 4000, "wanted: at most 4,000 functions");
-    let source = source(rt.alloc(), functions).ok().context("memory ran out")?;
+    let source = source(rt.alloc(), functions)
+        .ok()
+        .context("memory ran out")?;
     if how.as_str() == "print" {
         io::writer(&rt).write_all(source.as_slice())?;
         return Ok(());
     }
-    let items = items(rt.alloc(), source.as_slice()).ok().context("the source was refused")?;
+    let items = items(rt.alloc(), source.as_slice())
+        .ok()
+        .context("the source was refused")?;
     println!(rt; "{items} functions were read")?;
     Ok(())
 }

@@ -25,7 +25,10 @@ fn texts(rt: HostRuntime) -> Result<(), Fail> {
             "int g = 1 ; int main ( void ) { ptr < int > p = & g ; * p = 41 ; return g + 1 ; }\n",
         ),
         ("int x=a>>b>c;", "int x = ( a >> b ) > c ;\n"),
-        ("int x=((a+b))*-c[d-(e)];", "int x = ( a + b ) * ( - c [ d - e ] ) ;\n"),
+        (
+            "int x=((a+b))*-c[d-(e)];",
+            "int x = ( a + b ) * ( - c [ d - e ] ) ;\n",
+        ),
         (
             "#pragma CHECKED_SCOPE ON\nint x;\n#pragma CHECKED_SCOPE off\n",
             "#pragma CHECKED_SCOPE on\nint x ;\n#pragma CHECKED_SCOPE off\n",

@@ -10,21 +10,45 @@ use std::test::Fail;
 
 // Keywords, names and marks.
 const WORDS: [(&[u8], &str); 7] = [
-    ( b"int char void struct if else while for return break continue sizeof malloc calloc nt_calloc t_malloc ptr _Ptr array_ptr _Array_ptr nt_array_ptr _Nt_array_ptr _TPtr _TArray_ptr _TNt_array_ptr _Checked _Nt_checked _Unchecked _Bundled _Tainted _Callback _Dynamic_bounds_cast _Assume_bounds_cast", "int char void struct if else while for return break continue sizeof malloc calloc nt_calloc t_malloc ptr ptr array_ptr array_ptr nt_array_ptr nt_array_ptr _TPtr _TArray_ptr _TNt_array_ptr _Checked _Nt_checked _Unchecked _Bundled _Tainted _Callback _Dynamic_bounds_cast _Assume_bounds_cast", ),
-    ( b"{ } ( ) [ ] < > <= >= == != = += -= ++ -- + - * / % & && | || ^ ~ ! << . -> , ; :", "{ } ( ) [ ] < > <= >= == != = += -= ++ -- + - * / % & && | || ^ ~ ! << . -> , ; :", ),
-    ( b"{}()[]<=>===!=+=-=++--&&||<<->", "{ } ( ) [ ] <= >= == != += -= ++ -- && || << ->", ),
+    (
+        b"int char void struct if else while for return break continue sizeof malloc calloc nt_calloc t_malloc ptr _Ptr array_ptr _Array_ptr nt_array_ptr _Nt_array_ptr _TPtr _TArray_ptr _TNt_array_ptr _Checked _Nt_checked _Unchecked _Bundled _Tainted _Callback _Dynamic_bounds_cast _Assume_bounds_cast",
+        "int char void struct if else while for return break continue sizeof malloc calloc nt_calloc t_malloc ptr ptr array_ptr array_ptr nt_array_ptr nt_array_ptr _TPtr _TArray_ptr _TNt_array_ptr _Checked _Nt_checked _Unchecked _Bundled _Tainted _Callback _Dynamic_bounds_cast _Assume_bounds_cast",
+    ),
+    (
+        b"{ } ( ) [ ] < > <= >= == != = += -= ++ -- + - * / % & && | || ^ ~ ! << . -> , ; :",
+        "{ } ( ) [ ] < > <= >= == != = += -= ++ -- + - * / % & && | || ^ ~ ! << . -> , ; :",
+    ),
+    (
+        b"{}()[]<=>===!=+=-=++--&&||<<->",
+        "{ } ( ) [ ] <= >= == != += -= ++ -- && || << ->",
+    ),
     (b"a >>= b", "name:a > >= name:b"),
     (b"<<=", "<< ="),
-    ( b"intx _ x9 NULL count byte_count bounds unknown", "name:intx name:_ name:x9 name:NULL name:count name:byte_count name:bounds name:unknown", ),
+    (
+        b"intx _ x9 NULL count byte_count bounds unknown",
+        "name:intx name:_ name:x9 name:NULL name:count name:byte_count name:bounds name:unknown",
+    ),
     (b"\t\r\n ", ""),
 ];
 
 // Numbers, characters, strings and comments.
 const CONSTANTS: [(&[u8], &str); 7] = [
-    ( b"0 7 0x0 0XfF 2147483647 0x7fffffff 1.5", "number:0 number:7 number:0 number:255 number:2147483647 number:2147483647 number:1 . number:5", ),
-    ( b"'a' '\\n' '\\t' '\\r' '\\0' '\\\\' '\\'' '\\\"' '\"' '\\xfF'", "character:97 character:10 character:9 character:13 character:0 character:92 character:39 character:34 character:34 character:255", ),
-    ( b"\"\" \"b\" \"a\\n\\t\\r\\0\\\\\\'\\\"\\x41'\"", "text text:98 text:97,10,9,13,0,92,39,34,65,39", ),
-    ( b"a // b\nc /* d\n * / e */ f /**/ /*/ g */", "name:a name:c name:f", ),
+    (
+        b"0 7 0x0 0XfF 2147483647 0x7fffffff 1.5",
+        "number:0 number:7 number:0 number:255 number:2147483647 number:2147483647 number:1 . number:5",
+    ),
+    (
+        b"'a' '\\n' '\\t' '\\r' '\\0' '\\\\' '\\'' '\\\"' '\"' '\\xfF'",
+        "character:97 character:10 character:9 character:13 character:0 character:92 character:39 character:34 character:34 character:255",
+    ),
+    (
+        b"\"\" \"b\" \"a\\n\\t\\r\\0\\\\\\'\\\"\\x41'\"",
+        "text text:98 text:97,10,9,13,0,92,39,34,65,39",
+    ),
+    (
+        b"a // b\nc /* d\n * / e */ f /**/ /*/ g */",
+        "name:a name:c name:f",
+    ),
     (b"\"\xc3\xa9\"", "text:195,169"),
     (b"// \xc3\xa9\na", "name:a"),
     (b"/* \xc3 */ a", "name:a"),
@@ -136,11 +160,20 @@ const DEFINED: [(&[u8], &str); 14] = [
     (b"/* c\n*/ #define N 4\nN", "number:4"),
     (b"N\n#define N 4\nN", "name:N number:4"),
     (b"#define NULL 4\nNULL", "number:4"),
-    ( b"#define N 4\n#define M 5\n#define N 4\nM N", "number:5 number:4", ),
+    (
+        b"#define N 4\n#define M 5\n#define N 4\nM N",
+        "number:5 number:4",
+    ),
     (b"#include <a/*b>\na", "name:a"),
     (b"  #include\"x\"", ""),
-    ( b"#pragma CHECKED_SCOPE Off\n#pragma CHECKED_SCOPE PUSH\n# pragma  CHECKED_SCOPE on // c\n#pragma CHECKED_SCOPE pop\n", "off off on off", ),
-    ( b"#pragma CHECKED_SCOPE push\n#pragma CHECKED_SCOPE pop\n#pragma CHECKED_SCOPE pop", "E05 53", ),
+    (
+        b"#pragma CHECKED_SCOPE Off\n#pragma CHECKED_SCOPE PUSH\n# pragma  CHECKED_SCOPE on // c\n#pragma CHECKED_SCOPE pop\n",
+        "off off on off",
+    ),
+    (
+        b"#pragma CHECKED_SCOPE push\n#pragma CHECKED_SCOPE pop\n#pragma CHECKED_SCOPE pop",
+        "E05 53",
+    ),
     (b"#include \xc3\na", "name:a"),
     (b"#define N 4 // \xc3\nN", "number:4"),
 ];
