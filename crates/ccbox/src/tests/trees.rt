@@ -31,6 +31,9 @@ fn answer(alloc: Global, text: &str) -> Result<String, Fail> {
 fn answers(rt: HostRuntime) -> Result<(), Fail> {
     let table = [
         ("", "ok"),
+        ("; int x;", "E06 0"),
+        ("return", "E06 0"),
+        ("int int x;", "E06 4"),
         ("int main(void) { return 0; }", "ok"),
         ("int main(void) { return 0;", "E06 26"),
         ("int main(void) { return 0; ", "E06 27"),
