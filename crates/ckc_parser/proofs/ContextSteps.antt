@@ -167,7 +167,7 @@ reduces_tight {b} {a} {a'} {ts} x looser e whole o w at has top takes is depth l
 pub is_small : (loosest d : ℕ) (x : Pending) (p : List Frame) → Fits loosest d (frame x ∷ p) → IsSmall x
 is_small loosest d (forms.Paren start) p fits = tt
 is_small loosest d (forms.Unary operator start) p fits = tt
-is_small loosest d (forms.Binary operator left) p fits = let height : left.reach.height ≡ (expression_reach (expression left.expr)).height = ap (λ (r : Reach). r.height) left.exact in omega (arith, fits.1.0)
+is_small loosest d (forms.Binary operator left) p fits = let height : left.reach.height ≡ (expression_reach (expression left.expr.value)).height = ap (λ (r : Reach). r.height) left.exact in omega (arith, fits.1.0)
 
 -- ---- what the expression is for
 
@@ -196,13 +196,13 @@ closes {b} {a} {start} {o} {looser} {ts} {e} {q} has at is none =
 pub unclosed : {b : Base} {a : Around} {start o : Span} {looser : ℕ} {ts : List Token} {e : Expression} → HasTight b a looser e o ts → looser ≡ looser_at ts → paren_start (waiting a.pending.items) ≡ Some start → 10 < looser → next_is close_paren ts ≡ false → Fails b (unexpected ts)
 unclosed {a} {start} has at is none next = let inside = parens (waiting a.pending.items) start is in (closes has at inside.1 none).unclosed next
 
-pub closed_again : {b : Base} {a a' : Around} {start t outer o : Span} {looser : ℕ} {ts rest : List Token} (x y : Operand) → HasTight b a looser (expression x.expr) o ts → looser ≡ looser_at ts → paren_start (waiting a.pending.items) ≡ Some start → 10 < looser
-    → ts ≡ token kinds.CloseParen t ∷ rest → outer ≡ join start t → IsUnwrapped a a' x outer y → HasOperand b a' (expression y.expr) y.outer rest
+pub closed_again : {b : Base} {a a' : Around} {start t outer o : Span} {looser : ℕ} {ts rest : List Token} (x y : Operand) → HasTight b a looser (expression x.expr.value) o ts → looser ≡ looser_at ts → paren_start (waiting a.pending.items) ≡ Some start → 10 < looser
+    → ts ≡ token kinds.CloseParen t ∷ rest → outer ≡ join start t → IsUnwrapped a a' x outer y → HasOperand b a' (expression y.expr.value) y.outer rest
 closed_again {b} {a} {a'} {start} {t} {outer} {o} {looser} {ts} {rest} x y has at is none closing span left =
     let inside = parens (waiting a.pending.items) start is in
     let q : List Frame = inside.0 in
     let now : waiting a'.pending.items ≡ q = left.left (InParens start) q inside.1 in
-    let selects : Selects (Completes b q) (Fails b) (depth_in b.depth q) (limit b.loosest q) (expression x.expr) (join start t) rest = (closes has at inside.1 none).closed closing in
+    let selects : Selects (Completes b q) (Fails b) (depth_in b.depth q) (limit b.loosest q) (expression x.expr.value) (join start t) rest = (closes has at inside.1 none).closed closing in
     let depth : a.depth ≡ depth_in b.depth (InParens start ∷ q) = rw inside.1 at has.around.depth in
     let fits : Fits b.loosest b.depth (InParens start ∷ q) = rw inside.1 at has.around.fits in
     record {
@@ -249,6 +249,6 @@ pub tight_before : {b : Base} {a : Around} {o : Span} {ts us : List Token} {e : 
 tight_before {b} {a} {o} {ts} {us} {e} {operator} whole found = subst (λ (n : ℕ). HasTight b a n e o ts) (ap looseness found) whole.read
 
 -- an expression without binary operators
-pub unary_reads : (d : ℕ) (ts : List Token) (r : Result (Operand × Bor (List Token)) Stuck) → Reads (λ x rest. IsBinary 0 d ts (expression x.expr) x.outer rest) (StuckBinary 0 d ts) r → Reads (λ x rest. IsUnary d ts (expression x.expr) x.outer rest) (StuckUnary d ts) r
+pub unary_reads : (d : ℕ) (ts : List Token) (r : Result (Operand × Bor (List Token)) Stuck) → Reads (λ x rest. IsBinary 0 d ts (expression x.expr.value) x.outer rest) (StuckBinary 0 d ts) r → Reads (λ x rest. IsUnary d ts (expression x.expr.value) x.outer rest) (StuckUnary d ts) r
 unary_reads d ts (Ok found) read = (unary_spelled read.0, read.1)
 unary_reads d ts (Err e) stuck = unary_stuck stuck

@@ -18,13 +18,13 @@ use Rattle.ckc_parser.specs.Readings.{SelectsOne, IsPrimary, FailsPrimary, in_pr
 use Rattle.ckc_parser.proofs.Readings.{low_around}
 use Rattle.ckc_parser.proofs.Paths.{beside_height}
 
-pub height_is : (x : Operand) → x.reach.height ≡ (expression_reach (expression x.expr)).height
+pub height_is : (x : Operand) → x.reach.height ≡ (expression_reach (expression x.expr.value)).height
 height_is x = ap (λ (r : Reach). r.height) x.exact
 
-pub start_is : (x : Operand) → x.reach.start ≡ (expression_reach (expression x.expr)).start
+pub start_is : (x : Operand) → x.reach.start ≡ (expression_reach (expression x.expr.value)).start
 start_is x = ap (λ (r : Reach). r.start) x.exact
 
-pub room : (d : ℕ) (x : Operand) → d + x.reach.height < 200 → d + (expression_reach (expression x.expr)).height < 200
+pub room : (d : ℕ) (x : Operand) → d + x.reach.height < 200 → d + (expression_reach (expression x.expr.value)).height < 200
 room d x less = omega (arith, height_is x)
 
 pub dot_selects : {d : ℕ} {x : List ℕ} {o start end : Span} {rest : List Token} {e : Expression} → d + (expression_reach e).height < 200 → SelectsOne e o d (token kinds.Dot start ∷ token (kinds.Name x) end ∷ rest) (Dot e (identifier x end) (join o end)) (join o end) rest
@@ -48,6 +48,6 @@ pub selects_more : {d : ℕ} {o p w : Span} {ts mid rest : List Token} {e longer
 selects_more first second = record { selects = λ d. first.selects (second.selects d); fails = λ d. first.fails (second.fails d); low = second.low }
 
 -- a failure of a form that a word begins is one of the smallest expressions
-pub primary_reads : (d : ℕ) (ts : List Token) (r : Result (Operand × Bor (List Token)) Stuck) → Reads (λ x rest. IsPrimary d ts (expression x.expr) x.outer rest) (StuckPrimary d ts) r → Reads (λ x rest. IsPrimary d ts (expression x.expr) x.outer rest) (FailsPrimary d ts) r
+pub primary_reads : (d : ℕ) (ts : List Token) (r : Result (Operand × Bor (List Token)) Stuck) → Reads (λ x rest. IsPrimary d ts (expression x.expr.value) x.outer rest) (StuckPrimary d ts) r → Reads (λ x rest. IsPrimary d ts (expression x.expr.value) x.outer rest) (FailsPrimary d ts) r
 primary_reads d ts (Ok found) read = read
 primary_reads d ts (Err e) stuck = in_primary stuck

@@ -39,7 +39,7 @@ IsPrefixed b a (Err e) = Fails b (failure e)
 
 -- reading what stands behind an operand, up to an operator that takes it or to the end
 abbrev pub IsRead : Base → Around → Result (Operand × Bor (List Token)) Stuck → Type 0
-IsRead b a (Ok found) = HasWhole b a (expression found.0.expr) found.0.outer found.1.now
+IsRead b a (Ok found) = HasWhole b a (expression found.0.expr.value) found.0.outer found.1.now
 IsRead b a (Err e) = Fails b (failure e)
 
 -- the operator that stands next, of this level or a tighter one
@@ -57,7 +57,7 @@ pub record IsUnwrapped (old new : Around) (operand : Operand) (outer : Span) (re
   pub left : (f : Frame) (p : List Frame) → waiting old.pending.items ≡ f ∷ p → waiting new.pending.items ≡ p
   pub depth : new.depth ≡ old.depth
   pub loosest : new.loosest ≡ old.loosest
-  pub same : expression result.expr ≡ expression operand.expr
+  pub same : expression result.expr.value ≡ expression operand.expr.value
   pub outer_is : result.outer ≡ outer
 
 -- the left operand that waits has no more nodes one inside the other than a tree

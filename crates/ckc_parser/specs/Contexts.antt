@@ -26,7 +26,7 @@ pub data Frame : Type 0 where
 abbrev pub frame : Pending → Frame
 frame (forms.Paren start) = InParens start
 frame (forms.Unary operator start) = OperandOf operator start
-frame (forms.Binary operator left) = RightOf operator (expression left.expr) left.outer
+frame (forms.Binary operator left) = RightOf operator (expression left.expr.value) left.outer
 
 abbrev pub onto : List Frame → List Pending → List Frame
 onto outer [] = outer

@@ -10,6 +10,7 @@ pub mod ItemBeginnings
 pub mod Parsing
 pub mod Examples
 pub mod Failures
+pub mod Reaches
 pub mod Readings
 pub mod StuckTypes
 pub mod StuckExpressions

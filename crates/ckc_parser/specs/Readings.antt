@@ -11,11 +11,10 @@ use Rattle.ckc_tree.specs.declared.type_form.PointerKind.TheVariants as counts
 use Rattle.ckc_tree.specs.declared.expr.UnaryOperator.{UnaryOperator}
 use Rattle.ckc_tree.specs.declared.expr.UnaryOperator.TheVariants as unary
 use Rattle.ckc_tree.specs.Types.{TypeTree, TypeName}
-use Rattle.ckc_tree.specs.Heights as heights
 use Rattle.ckc_tree.specs.declared.expr.Expr.{Expr}
 use Rattle.ckc_tree.specs.Expressions.{Expression, Expressions, NoMore, Then, Bounds, expression}
 use Rattle.ckc_tree.specs.Heights.{type_reach, expression_reach, expressions_reach, bounds_reach}
-use Rattle.ckc_parser.specs.declared.operand as code
+use Rattle.ckc_parser.specs.declared.operand.Operand.{Operand}
 use Rattle.ckc_parser.specs.TypeGrammar.{SpellsType, SpellsTypeName, SpellsAngled}
 use Rattle.ckc_parser.specs.ExpressionGrammar.{SpellsBinary, SpellsUnary, SpellsSelectors, SpellsPrimary, SpellsArguments, SpellsMoreArguments, SpellsBounds}
 use Rattle.ckc_parser.specs.declared.stuck.Stuck.{Stuck}
@@ -23,9 +22,9 @@ use Rattle.ckc_parser.specs.Failures.{Failure, unexpected, too_deep, failure, Is
 use Rattle.ckc_parser.specs.StuckExpressions.{primary_word, unknown_word, is_unknown, goes_on, StuckSelectors, StuckPrimary}
 use Rattle.ckc_parser.specs.Tokens.{token, next_is, selector}
 
--- the reach that a value of the code's type stands for
-abbrev pub reach_of : code.Reach.Reach → heights.Reach
-reach_of r = record { height = r.height; start = r.start }
+-- the operand is this expression, with these bytes around it
+abbrev pub IsBuilt : Expression → Span → Operand → Type 0
+IsBuilt e o operand = (expression operand.expr.value ≡ e) × (operand.outer ≡ o)
 
 -- the operator that a token is before an operand
 abbrev pub unary_operator_of : TokenKind → Option UnaryOperator

@@ -10,10 +10,10 @@ ghost use Rattle.ckc_parser.specs.Tokens.{token};
 ghost use Rattle.ckc_parser.specs.StuckExpressions.{goes_on, is_unknown, StuckBounds};
 ghost use Rattle.ckc_parser.specs.Failures.{Reads, TakesTokens};
 ghost use Rattle.ckc_parser.specs.Forms.{IsBoundsForm};
-ghost use Rattle.ckc_parser.specs.Readings.{reach_of, count_word, IsBounds, ReadsUnknown, RefusesUnknown};
+ghost use Rattle.ckc_parser.specs.Reaches.{reach_of};
+ghost use Rattle.ckc_parser.specs.Readings.{count_word, IsBounds, ReadsUnknown, RefusesUnknown};
 
 use crate::expressions::expression;
-use crate::memory::boxed;
 use crate::operand::Reach;
 use crate::stuck::Stuck;
 use crate::tokens::{MAX_DEPTH, binary_operator, close_paren, comma, join, name, open_paren};
@@ -102,7 +102,7 @@ fn count(
     let (end, rest) = close_paren(rest)?;
     let span = join(start, end);
     let reach = read.reach;
-    let count = boxed(alloc, read.expr)?;
+    let count = read.expr;
     if is_count {
         let text = BoundsText::Count { count, span };
         return Ok((ReadBounds { text, span, reach }, rest));
@@ -188,9 +188,11 @@ fn range(
     let (end, rest) = close_paren(rest)?;
     let span = join(start, end);
     let reach = low.reach.beside(high.reach);
-    let low = boxed(alloc, low.expr)?;
-    let high = boxed(alloc, high.expr)?;
-    let text = BoundsText::Range { low, high, span };
+    let text = BoundsText::Range {
+        low: low.expr,
+        high: high.expr,
+        span,
+    };
     Ok((ReadBounds { text, span, reach }, rest))
 }
 

@@ -168,7 +168,9 @@ fn optional_initializer(
     }
     let (read, rest) = expression(alloc, depth, rest)?;
     let span = join(so_far, read.outer);
-    let form = Some(Initializer::Value { value: read.expr });
+    let form = Some(Initializer::Value {
+        value: Box::into_inner(read.expr),
+    });
     Ok((Read { form, span }, rest))
 }
 
@@ -277,7 +279,7 @@ pub fn assignment(
     if let Ok((operator, start, rest)) = step_operator(tokens) {
         let (read, rest) = unary(alloc, depth + 1, rest)?;
         let side = StepSide::Before;
-        let target = read.expr;
+        let target = Box::into_inner(read.expr);
         let span = join(start, read.outer);
         let step = Assignment::Step {
             operator,
@@ -299,12 +301,12 @@ pub fn assigned(
     tokens: &[Token],
 ) -> Result<(Assignment, &[Token]), Stuck<'_>>
     requires deep { depth < 200 }
-    requires low { IsLow (suc depth) (expression_reach (expression read.expr)) }
-    ensures { Reads (λ x rest. SpellsAssigned (expression read.expr) read.outer tokens.now (views.assignment x) rest × IsLow depth (assignment_reach (views.assignment x))) (StuckAssigned depth tokens.now) result }
+    requires low { IsLow (suc depth) (expression_reach (expression read.expr.value)) }
+    ensures { Reads (λ x rest. SpellsAssigned (expression read.expr.value) read.outer tokens.now (views.assignment x) rest × IsLow depth (assignment_reach (views.assignment x))) (StuckAssigned depth tokens.now) result }
 {
-    let target = read.expr;
     if let Ok((operator, end, rest)) = step_operator(tokens) {
         let side = StepSide::After;
+        let target = Box::into_inner(read.expr);
         let span = join(read.outer, end);
         let step = Assignment::Step {
             operator,
@@ -317,7 +319,8 @@ pub fn assigned(
     let (operator, _, rest) = store_operator(tokens)?;
     let (stored, rest) = expression(alloc, depth + 1, rest)?;
     let span = join(read.outer, stored.outer);
-    let value = stored.expr;
+    let target = Box::into_inner(read.expr);
+    let value = Box::into_inner(stored.expr);
     let store = Assignment::Store {
         operator,
         target,

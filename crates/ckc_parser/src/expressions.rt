@@ -5,7 +5,7 @@ ghost use Rattle.std.specs.Prelude.{◌≡◌, ◌≤◌, ◌<◌, ◌∷◌, �
 ghost use Rattle.ckc_text.specs.declared.place.Span.{Span as Place};
 ghost use Rattle.ckc_lexer.specs.declared.token.Token.{Token as Sign};
 ghost use Rattle.ckc_lexer.specs.declared.token.TokenKind.TheVariants as kinds;
-ghost use Rattle.ckc_tree.specs.Expressions.{expression, Unary, Binary};
+ghost use Rattle.ckc_tree.specs.Expressions.{expression};
 ghost use Rattle.ckc_tree.specs.Heights.{expression_reach};
 ghost use Rattle.ckc_parser.specs.Tokens as words;
 ghost use Rattle.ckc_parser.specs.StuckExpressions.{unary_word, StuckBinary, StuckExpression, StuckUnary, StuckSelectors};
@@ -14,7 +14,8 @@ ghost use Rattle.ckc_parser.specs.Contexts.{frame, waiting, limit, looser_at, ta
 ghost use Rattle.ckc_parser.specs.Readings.{IsBinary, IsUnary, IsSelected, SelectsOne, IsSelector};
 ghost use Rattle.ckc_parser.specs.ContextAnswers.{IsPrefix, IsPrefixed, IsRead, IsNextOperator, IsWaiting, IsUnwrapped, IsSmall, Applies};
 
-use crate::memory::{boxed, push};
+use crate::build::{arrow_with, binary_with, dot_with, index_with, unary_with};
+use crate::memory::push;
 use crate::operand::Operand;
 use crate::primary::{primary, starts_primary};
 use crate::stuck::Stuck;
@@ -25,7 +26,7 @@ use crate::tokens::{
 use ckc_lexer::token::{Token, TokenKind};
 use ckc_text::fault::NoMemory;
 use ckc_text::place::Span;
-use ckc_tree::expr::{BinaryOperator, Expr, UnaryOperator};
+use ckc_tree::expr::{BinaryOperator, UnaryOperator};
 use std::alloc::Global;
 
 /// A form whose last operand isn't read yet.
@@ -77,7 +78,7 @@ pub fn expression(
     tokens: &[Token],
 ) -> Result<(Operand, &[Token]), Stuck<'_>>
     requires { depth ≤ 200 }
-    ensures reads { Reads (λ x rest. IsBinary 10 depth tokens.now (expression x.expr) x.outer rest) (StuckExpression depth tokens.now) result }
+    ensures reads { Reads (λ x rest. IsBinary 10 depth tokens.now (expression x.expr.value) x.outer rest) (StuckExpression depth tokens.now) result }
     ensures shorter { TakesTokens tokens.now result }
 {
     operators(alloc, depth, 10, tokens)
@@ -86,7 +87,7 @@ pub fn expression(
 /// An expression without binary operators outside parentheses.
 pub fn unary(alloc: Global, depth: u32, tokens: &[Token]) -> Result<(Operand, &[Token]), Stuck<'_>>
     requires { depth ≤ 200 }
-    ensures reads { Reads (λ x rest. IsUnary depth tokens.now (expression x.expr) x.outer rest) (StuckUnary depth tokens.now) result }
+    ensures reads { Reads (λ x rest. IsUnary depth tokens.now (expression x.expr.value) x.outer rest) (StuckUnary depth tokens.now) result }
     ensures shorter { TakesTokens tokens.now result }
 {
     operators(alloc, depth, 0, tokens)
@@ -102,7 +103,7 @@ fn operators(
 ) -> Result<(Operand, &[Token]), Stuck<'_>>
     requires high { depth ≤ 200 }
     requires loose { loosest ≤ 10 }
-    ensures reads { Reads (λ x rest. IsBinary loosest depth tokens.now (expression x.expr) x.outer rest) (StuckBinary loosest depth tokens.now) result }
+    ensures reads { Reads (λ x rest. IsBinary loosest depth tokens.now (expression x.expr.value) x.outer rest) (StuckBinary loosest depth tokens.now) result }
     ensures shorter { TakesTokens tokens.now result }
 {
     let mut around = Around {
@@ -166,8 +167,8 @@ fn closed<'t>(
     operand: Operand,
     tokens: &'t [Token],
 ) -> Result<(Operand, &'t [Token]), Stuck<'t>>
-    requires { (b : Base) × HasOperand b around.old (expression operand.expr) operand.outer tokens.now }
-    ensures reads { (b : Base) → HasOperand b around.old (expression operand.expr) operand.outer tokens.now → IsRead b around.new result }
+    requires { (b : Base) × HasOperand b around.old (expression operand.expr.value) operand.outer tokens.now }
+    ensures reads { (b : Base) → HasOperand b around.old (expression operand.expr.value) operand.outer tokens.now → IsRead b around.new result }
     ensures shorter { MayTakeTokens tokens.now result }
 {
     let mut operand = operand;
@@ -232,10 +233,10 @@ fn wait_for_right<'t>(
     left: Operand,
     behind: &'t [Token],
 ) -> Result<(), Stuck<'t>>
-    requires low { IsLow around.old.depth (expression_reach (expression left.expr)) }
+    requires low { IsLow around.old.depth (expression_reach (expression left.expr.value)) }
     requires depth { around.old.depth ≤ 200 }
     ensures { (b : Base) (ts : List Sign) → words.operator_at ts ≡ Some (operator, behind.now) → words.level operator ≤ limit around.old.loosest (waiting around.old.pending.items)
-        → HasTight b around.old (words.level operator) (expression left.expr) left.outer ts → IsWaiting b around.new behind.now result }
+        → HasTight b around.old (words.level operator) (expression left.expr.value) left.outer ts → IsWaiting b around.new behind.now result }
 {
     if around.depth + left.reach.height >= MAX_DEPTH {
         return Err(Stuck::TooDeep {
@@ -293,9 +294,9 @@ fn reduced(
     looser: u32,
     operand: Operand,
 ) -> Result<Operand, NoMemory>
-    requires { (b : Base) × IsAround b around.old × IsLow around.old.depth (expression_reach (expression operand.expr)) }
-    ensures { (b : Base) (ts : List Sign) → looser ≡ looser_at ts → HasTight b around.old looser (expression operand.expr) operand.outer ts
-        → IfOk result (λ whole. HasTight b around.new looser (expression whole.expr) whole.outer ts × (takes_before (waiting around.new.pending.items) looser ≡ false)) }
+    requires { (b : Base) × IsAround b around.old × IsLow around.old.depth (expression_reach (expression operand.expr.value)) }
+    ensures { (b : Base) (ts : List Sign) → looser ≡ looser_at ts → HasTight b around.old looser (expression operand.expr.value) operand.outer ts
+        → IfOk result (λ whole. HasTight b around.new looser (expression whole.expr.value) whole.outer ts × (takes_before (waiting around.new.pending.items) looser ≡ false)) }
 {
     let mut operand = operand;
     while takes_before(around.pending.as_slice(), looser) {
@@ -311,60 +312,13 @@ fn reduced(
 fn applied(alloc: Global, pending: Pending, operand: Operand) -> Result<Operand, NoMemory>
     requires last { operand.reach.height ≤ 200 }
     requires others { IsSmall pending }
-    ensures { IfOk result (λ whole. Applies (frame pending) (expression operand.expr) operand.outer (expression whole.expr) whole.outer) }
+    ensures { IfOk result (λ whole. Applies (frame pending) (expression operand.expr.value) operand.outer (expression whole.expr.value) whole.outer) }
 {
     match pending {
         Pending::Paren { .. } => Ok(operand),
         Pending::Unary { operator, start } => unary_with(alloc, operator, start, operand),
         Pending::Binary { operator, left } => binary_with(alloc, operator, left, operand),
     }
-}
-
-/// The operator before its operand.
-fn unary_with(
-    alloc: Global,
-    operator: UnaryOperator,
-    start: Span,
-    operand: Operand,
-) -> Result<Operand, NoMemory>
-    requires { operand.reach.height ≤ 200 }
-    ensures { IfOk result (λ whole. (expression whole.expr ≡ Unary operator (expression operand.expr) (words.join start operand.outer)) × (whole.outer ≡ words.join start operand.outer)) }
-{
-    let span = join(start, operand.outer);
-    let reach = operand.reach.around(span.from);
-    let operand = boxed(alloc, operand.expr)?;
-    let expr = Expr::Unary {
-        operator,
-        operand,
-        span,
-    };
-    let outer = span;
-    Ok(Operand { expr, outer, reach })
-}
-
-/// The operator between its operands.
-fn binary_with(
-    alloc: Global,
-    operator: BinaryOperator,
-    left: Operand,
-    right: Operand,
-) -> Result<Operand, NoMemory>
-    requires left { left.reach.height ≤ 200 }
-    requires right { right.reach.height ≤ 200 }
-    ensures { IfOk result (λ whole. (expression whole.expr ≡ Binary operator (expression left.expr) (expression right.expr) (words.join left.outer right.outer)) × (whole.outer ≡ words.join left.outer right.outer)) }
-{
-    let span = join(left.outer, right.outer);
-    let reach = left.reach.beside(right.reach).around(span.from);
-    let left = boxed(alloc, left.expr)?;
-    let right = boxed(alloc, right.expr)?;
-    let expr = Expr::Binary {
-        operator,
-        left,
-        right,
-        span,
-    };
-    let outer = span;
-    Ok(Operand { expr, outer, reach })
 }
 
 /// Takes the indices and members behind an operand, each of which makes it deeper by one.
@@ -376,8 +330,8 @@ fn selectors(
     tokens: &[Token],
 ) -> Result<(Operand, &[Token]), Stuck<'_>>
     requires high { depth ≤ 200 }
-    requires low { IsLow depth (expression_reach (expression operand.expr)) }
-    ensures reads { Reads (λ x rest. IsSelected (expression operand.expr) operand.outer depth tokens.now (expression x.expr) x.outer rest) (StuckSelectors (expression operand.expr) operand.outer depth tokens.now) result }
+    requires low { IsLow depth (expression_reach (expression operand.expr.value)) }
+    ensures reads { Reads (λ x rest. IsSelected (expression operand.expr.value) operand.outer depth tokens.now (expression x.expr.value) x.outer rest) (StuckSelectors (expression operand.expr.value) operand.outer depth tokens.now) result }
     ensures shorter { MayTakeTokens tokens.now result }
 {
     let mut operand = operand;
@@ -417,7 +371,7 @@ fn selected<'t>(
 ) -> Result<(Operand, &'t [Token]), Stuck<'t>>
     requires room { depth + operand.reach.height < 200 }
     requires first { words.selector token.now.kind ≡ true }
-    ensures reads { Reads (λ x rest. SelectsOne (expression operand.expr) operand.outer depth (token.now ∷ tokens.now) (expression x.expr) x.outer rest) (StuckSelectors (expression operand.expr) operand.outer depth (token.now ∷ tokens.now)) result }
+    ensures reads { Reads (λ x rest. SelectsOne (expression operand.expr.value) operand.outer depth (token.now ∷ tokens.now) (expression x.expr.value) x.outer rest) (StuckSelectors (expression operand.expr.value) operand.outer depth (token.now ∷ tokens.now)) result }
     ensures shorter { TakesTokens tokens.now result }
 {
     match token.kind {
@@ -436,18 +390,13 @@ fn indexed<'t>(
     tokens: &'t [Token],
 ) -> Result<(Operand, &'t [Token]), Stuck<'t>>
     requires { depth + operand.reach.height < 200 }
-    ensures reads { (start : Place) → Reads (λ x rest. SelectsOne (expression operand.expr) operand.outer depth (words.token kinds.OpenBracket start ∷ tokens.now) (expression x.expr) x.outer rest) (StuckSelectors (expression operand.expr) operand.outer depth (words.token kinds.OpenBracket start ∷ tokens.now)) result }
+    ensures reads { (start : Place) → Reads (λ x rest. SelectsOne (expression operand.expr.value) operand.outer depth (words.token kinds.OpenBracket start ∷ tokens.now) (expression x.expr.value) x.outer rest) (StuckSelectors (expression operand.expr.value) operand.outer depth (words.token kinds.OpenBracket start ∷ tokens.now)) result }
     ensures shorter { TakesTokens tokens.now result }
 {
     let (index, rest) = expression(alloc, depth + 1, tokens)?;
     let (end, rest) = close_bracket(rest)?;
-    let outer = join(operand.outer, end);
-    let reach = operand.reach.beside(index.reach).around(outer.from);
-    let base = boxed(alloc, operand.expr)?;
-    let index = boxed(alloc, index.expr)?;
-    let span = outer;
-    let expr = Expr::Index { base, index, span };
-    Ok((Operand { expr, outer, reach }, rest))
+    let element = index_with(alloc, operand, index, end)?;
+    Ok((element, rest))
 }
 
 /// The member with the name that these tokens give.
@@ -457,17 +406,13 @@ fn dotted<'t>(
     tokens: &'t [Token],
 ) -> Result<(Operand, &'t [Token]), Stuck<'t>>
     requires { operand.reach.height < 200 }
-    ensures reads { (depth : ℕ) (start : Place) → depth + operand.reach.height < 200 → Reads (λ x rest. SelectsOne (expression operand.expr) operand.outer depth (words.token kinds.Dot start ∷ tokens.now) (expression x.expr) x.outer rest) (StuckSelectors (expression operand.expr) operand.outer depth (words.token kinds.Dot start ∷ tokens.now)) result }
+    ensures reads { (depth : ℕ) (start : Place) → depth + operand.reach.height < 200 → Reads (λ x rest. SelectsOne (expression operand.expr.value) operand.outer depth (words.token kinds.Dot start ∷ tokens.now) (expression x.expr.value) x.outer rest) (StuckSelectors (expression operand.expr.value) operand.outer depth (words.token kinds.Dot start ∷ tokens.now)) result }
     ensures shorter { TakesTokens tokens.now result }
 {
     let (member, end, rest) = name(tokens)?;
     let member = copied(alloc, member, end)?;
-    let outer = join(operand.outer, end);
-    let reach = operand.reach.around(outer.from);
-    let base = boxed(alloc, operand.expr)?;
-    let span = outer;
-    let expr = Expr::Dot { base, member, span };
-    Ok((Operand { expr, outer, reach }, rest))
+    let selected = dot_with(alloc, operand, member)?;
+    Ok((selected, rest))
 }
 
 /// The member of what a pointer points to, with the name that these tokens give.
@@ -477,15 +422,11 @@ fn pointed<'t>(
     tokens: &'t [Token],
 ) -> Result<(Operand, &'t [Token]), Stuck<'t>>
     requires { operand.reach.height < 200 }
-    ensures reads { (depth : ℕ) (start : Place) → depth + operand.reach.height < 200 → Reads (λ x rest. SelectsOne (expression operand.expr) operand.outer depth (words.token kinds.Arrow start ∷ tokens.now) (expression x.expr) x.outer rest) (StuckSelectors (expression operand.expr) operand.outer depth (words.token kinds.Arrow start ∷ tokens.now)) result }
+    ensures reads { (depth : ℕ) (start : Place) → depth + operand.reach.height < 200 → Reads (λ x rest. SelectsOne (expression operand.expr.value) operand.outer depth (words.token kinds.Arrow start ∷ tokens.now) (expression x.expr.value) x.outer rest) (StuckSelectors (expression operand.expr.value) operand.outer depth (words.token kinds.Arrow start ∷ tokens.now)) result }
     ensures shorter { TakesTokens tokens.now result }
 {
     let (member, end, rest) = name(tokens)?;
     let member = copied(alloc, member, end)?;
-    let outer = join(operand.outer, end);
-    let reach = operand.reach.around(outer.from);
-    let base = boxed(alloc, operand.expr)?;
-    let span = outer;
-    let expr = Expr::Arrow { base, member, span };
-    Ok((Operand { expr, outer, reach }, rest))
+    let selected = arrow_with(alloc, operand, member)?;
+    Ok((selected, rest))
 }

@@ -2,6 +2,7 @@
 #![tactic(auto)]
 
 mod bounds;
+mod build;
 mod declarations;
 mod expressions;
 mod items;

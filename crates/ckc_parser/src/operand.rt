@@ -4,7 +4,7 @@ ghost use Rattle.std.specs.Prelude.{◌≡◌, ◌<◌};
 ghost use Rattle.ckc_tree.specs.Heights as heights;
 ghost use Rattle.ckc_tree.specs.Heights.{nowhere, ◌beside◌, expression_reach};
 ghost use Rattle.ckc_tree.specs.Expressions.{expression};
-ghost use Rattle.ckc_parser.specs.Readings.{reach_of};
+ghost use Rattle.ckc_parser.specs.Reaches.{reach_of};
 
 use ckc_text::place::Span;
 use ckc_tree::expr::Expr;
@@ -57,8 +57,8 @@ impl Reach {
 /// An expression, the bytes that it stands on with the parentheses around it, and its reach.
 #[derive(Drop)]
 pub struct Operand {
-    pub expr: Expr,
+    pub expr: Box<Expr>,
     pub outer: Span,
     pub reach: Reach,
-    ghost exact: { reach_of reach ≡ expression_reach (expression expr) },
+    ghost exact: { reach_of reach ≡ expression_reach (expression expr.value) },
 }

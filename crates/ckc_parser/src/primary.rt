@@ -3,21 +3,24 @@
 ghost use Rattle.std.specs.Prelude.{◌≡◌, ◌≤◌, ◌<◌, ◌∷◌, ◌++◌, [], IfOk};
 ghost use Rattle.ckc_lexer.specs.declared.token.TokenKind.{TokenKind as Kind};
 ghost use Rattle.ckc_lexer.specs.declared.token.TokenKind.TheVariants as kinds;
-ghost use Rattle.ckc_tree.specs.Expressions.{Cast, BoundedCast, expression, bounds as bounds_of};
-ghost use Rattle.ckc_tree.specs.Types.{type_name as type_name_of};
-ghost use Rattle.ckc_tree.specs.Heights.{node, expression_reach, expressions_reach};
+ghost use Rattle.ckc_tree.specs.Expressions.{expression};
+ghost use Rattle.ckc_tree.specs.Heights.{expressions_reach};
 ghost use Rattle.ckc_parser.specs.Tokens.{token, IsCastWord, IsMallocWord, IsCallocWord};
 ghost use Rattle.ckc_parser.specs.StuckExpressions.{primary_word, StuckPrimary, StuckArguments, StuckMoreArguments};
 ghost use Rattle.ckc_parser.specs.Failures.{Reads, TakesTokens, MayTakeTokens, IsLow};
-ghost use Rattle.ckc_parser.specs.Readings.{reach_of, listed, IsPrimary, IsArguments, IsMore, FailsPrimary};
+ghost use Rattle.ckc_parser.specs.Reaches.{reach_of};
+ghost use Rattle.ckc_parser.specs.Readings.{listed, IsPrimary, IsArguments, IsMore, FailsPrimary};
 
-use crate::bounds::{ReadBounds, bounds};
+use crate::bounds::bounds;
+use crate::build::{
+    bounded_cast_with, call_with, calloc_with, cast_with, leaf, malloc_with, size_of_with,
+};
 use crate::expressions::expression;
-use crate::memory::{boxed, push};
+use crate::memory::push;
 use crate::operand::{Operand, Reach};
 use crate::stuck::Stuck;
 use crate::tokens::{MAX_DEPTH, close_paren, comma, copied, first, join, open_paren};
-use crate::types::{ReadTypeName, angled, type_name};
+use crate::types::{angled, type_name};
 use ckc_lexer::token::{Token, TokenKind};
 use ckc_text::fault::NoMemory;
 use ckc_text::name::Name;
@@ -45,19 +48,6 @@ pub fn starts_primary(kind: &TokenKind) -> bool
     )
 }
 
-/// An expression of one token.
-fn leaf(expr: Expr, span: Span) -> Operand
-    requires { expression_reach (expression expr) ≡ node span.from }
-    ensures same { result.expr ≡ expr }
-    ensures outer { result.outer ≡ span }
-{
-    Operand {
-        expr,
-        outer: span,
-        reach: Reach::nowhere().around(span.from),
-    }
-}
-
 /// An expression without operators and parentheses around it, with at most `depth` nodes around it.
 #[cycle(expressions)]
 pub fn primary(
@@ -66,7 +56,7 @@ pub fn primary(
     tokens: &[Token],
 ) -> Result<(Operand, &[Token]), Stuck<'_>>
     requires { depth ≤ 200 }
-    ensures reads { Reads (λ x rest. IsPrimary depth tokens.now (expression x.expr) x.outer rest) (FailsPrimary depth tokens.now) result }
+    ensures reads { Reads (λ x rest. IsPrimary depth tokens.now (expression x.expr.value) x.outer rest) (FailsPrimary depth tokens.now) result }
     ensures shorter { TakesTokens tokens.now result }
 {
     let (token, rest) = first(tokens)?;
@@ -80,15 +70,18 @@ pub fn primary(
     match &token.kind {
         TokenKind::Number(value) => {
             let value = *value;
-            Ok((leaf(Expr::Number { value, span }, span), rest))
+            let number = leaf(alloc, Expr::Number { value, span }, span)?;
+            Ok((number, rest))
         }
         TokenKind::Character(value) => {
             let value = *value;
-            Ok((leaf(Expr::Character { value, span }, span), rest))
+            let character = leaf(alloc, Expr::Character { value, span }, span)?;
+            Ok((character, rest))
         }
         TokenKind::Text(text) => {
             let bytes = Vec::from_slice(alloc, text.as_bytes())?;
-            Ok((leaf(Expr::Text { bytes, span }, span), rest))
+            let text = leaf(alloc, Expr::Text { bytes, span }, span)?;
+            Ok((text, rest))
         }
         TokenKind::Name(callee) => name_or_call(alloc, depth, callee, span, rest),
         TokenKind::Sizeof => size_of(alloc, depth, span, rest),
@@ -112,29 +105,24 @@ fn name_or_call<'t>(
     tokens: &'t [Token],
 ) -> Result<(Operand, &'t [Token]), Stuck<'t>>
     requires { depth < 200 }
-    ensures reads { Reads (λ x rest. IsPrimary depth (token (kinds.Name name.now) span ∷ tokens.now) (expression x.expr) x.outer rest) (StuckPrimary depth (token (kinds.Name name.now) span ∷ tokens.now)) result }
+    ensures reads { Reads (λ x rest. IsPrimary depth (token (kinds.Name name.now) span ∷ tokens.now) (expression x.expr.value) x.outer rest) (StuckPrimary depth (token (kinds.Name name.now) span ∷ tokens.now)) result }
     ensures shorter { MayTakeTokens tokens.now result }
 {
     let name = copied(alloc, name, span)?;
     let Ok((_, rest)) = open_paren(tokens) else {
-        return Ok((leaf(Expr::Name { name }, span), tokens));
+        let name = leaf(alloc, Expr::Name { name }, span)?;
+        return Ok((name, tokens));
     };
     let ((read, end), rest) = arguments(alloc, depth + 1, rest)?;
-    let outer = join(span, end);
-    let reach = read.reach.around(outer.from);
-    let expr = Expr::Call {
-        callee: name,
-        arguments: read.items,
-        span: outer,
-    };
-    Ok((Operand { expr, outer, reach }, rest))
+    let call = call_with(alloc, name, read, end)?;
+    Ok((call, rest))
 }
 
 /// The arguments of a call, and their reach.
 #[derive(Drop)]
-struct ReadArguments {
-    items: Vec<Expr>,
-    reach: Reach,
+pub struct ReadArguments {
+    pub items: Vec<Expr>,
+    pub reach: Reach,
     ghost exact: { reach_of reach ≡ expressions_reach (listed items.items) },
 }
 
@@ -150,11 +138,11 @@ fn no_arguments(alloc: Global) -> ReadArguments
 
 /// The arguments with one more behind them.
 fn with_argument(arguments: ReadArguments, argument: Operand) -> Result<ReadArguments, NoMemory>
-    ensures { IfOk result (λ all. all.items.items ≡ arguments.items.items ++ argument.expr ∷ []) }
+    ensures { IfOk result (λ all. all.items.items ≡ arguments.items.items ++ argument.expr.value ∷ []) }
 {
     let mut items = arguments.items;
     let reach = arguments.reach.beside(argument.reach);
-    push(&mut items, argument.expr)?;
+    push(&mut items, Box::into_inner(argument.expr))?;
     Ok(ReadArguments { items, reach })
 }
 
@@ -208,18 +196,14 @@ fn size_of(
     tokens: &[Token],
 ) -> Result<(Operand, &[Token]), Stuck<'_>>
     requires { depth < 200 }
-    ensures reads { Reads (λ x rest. IsPrimary depth (token kinds.Sizeof word ∷ tokens.now) (expression x.expr) x.outer rest) (StuckPrimary depth (token kinds.Sizeof word ∷ tokens.now)) result }
+    ensures reads { Reads (λ x rest. IsPrimary depth (token kinds.Sizeof word ∷ tokens.now) (expression x.expr.value) x.outer rest) (StuckPrimary depth (token kinds.Sizeof word ∷ tokens.now)) result }
     ensures shorter { TakesTokens tokens.now result }
 {
     let (_, rest) = open_paren(tokens)?;
     let (read, rest) = type_name(alloc, depth + 1, rest)?;
     let (end, rest) = close_paren(rest)?;
-    let span = join(word, end);
-    let reach = read.reach.around(span.from);
-    let type_name = read.type_name;
-    let expr = Expr::SizeOf { type_name, span };
-    let outer = span;
-    Ok((Operand { expr, outer, reach }, rest))
+    let size = size_of_with(alloc, read, join(word, end))?;
+    Ok((size, rest))
 }
 
 /// What stands behind the word of a cast.
@@ -232,72 +216,20 @@ fn cast(
     tokens: &[Token],
 ) -> Result<(Operand, &[Token]), Stuck<'_>>
     requires { depth < 200 }
-    ensures reads { (k : Kind) → IsCastWord k word → Reads (λ x rest. IsPrimary depth (token k start ∷ tokens.now) (expression x.expr) x.outer rest) (StuckPrimary depth (token k start ∷ tokens.now)) result }
+    ensures reads { (k : Kind) → IsCastWord k word → Reads (λ x rest. IsPrimary depth (token k start ∷ tokens.now) (expression x.expr.value) x.outer rest) (StuckPrimary depth (token k start ∷ tokens.now)) result }
     ensures shorter { TakesTokens tokens.now result }
 {
     let (read, rest) = angled(alloc, depth + 1, tokens)?;
     let (operand, rest) = expression(alloc, depth + 1, rest)?;
     if let Ok((end, rest)) = close_paren(rest) {
-        let cast = plain_cast(alloc, word, read, operand, join(start, end))?;
+        let cast = cast_with(alloc, word, read, operand, join(start, end))?;
         return Ok((cast, rest));
     }
     let (_, rest) = comma(rest)?;
     let (written, rest) = bounds(alloc, depth + 1, rest)?;
     let (end, rest) = close_paren(rest)?;
-    let cast = bounded_cast(alloc, word, read, operand, written, join(start, end))?;
+    let cast = bounded_cast_with(alloc, word, read, operand, written, join(start, end))?;
     Ok((cast, rest))
-}
-
-/// A cast without bounds.
-fn plain_cast(
-    alloc: Global,
-    word: CastWord,
-    read: ReadTypeName,
-    operand: Operand,
-    outer: Span,
-) -> Result<Operand, NoMemory>
-    requires read { read.reach.height ≤ 200 }
-    requires operand { operand.reach.height ≤ 200 }
-    ensures { IfOk result (λ cast. (expression cast.expr ≡ Cast word (type_name_of read.type_name) (expression operand.expr) outer) × (cast.outer ≡ outer)) }
-{
-    let reach = read.reach.beside(operand.reach).around(outer.from);
-    let expr = Expr::Cast {
-        word,
-        type_name: read.type_name,
-        operand: boxed(alloc, operand.expr)?,
-        bounds: None,
-        span: outer,
-    };
-    Ok(Operand { expr, outer, reach })
-}
-
-/// A cast with bounds.
-fn bounded_cast(
-    alloc: Global,
-    word: CastWord,
-    read: ReadTypeName,
-    operand: Operand,
-    written: ReadBounds,
-    outer: Span,
-) -> Result<Operand, NoMemory>
-    requires read { read.reach.height ≤ 200 }
-    requires operand { operand.reach.height ≤ 200 }
-    requires written { written.reach.height ≤ 200 }
-    ensures { IfOk result (λ cast. (expression cast.expr ≡ BoundedCast word (type_name_of read.type_name) (expression operand.expr) (bounds_of written.text) outer) × (cast.outer ≡ outer)) }
-{
-    let reach = read
-        .reach
-        .beside(operand.reach)
-        .beside(written.reach)
-        .around(outer.from);
-    let expr = Expr::Cast {
-        word,
-        type_name: read.type_name,
-        operand: boxed(alloc, operand.expr)?,
-        bounds: Some(boxed(alloc, written.text)?),
-        span: outer,
-    };
-    Ok(Operand { expr, outer, reach })
 }
 
 /// What stands behind the word of an allocation of a size.
@@ -310,24 +242,14 @@ fn malloc(
     tokens: &[Token],
 ) -> Result<(Operand, &[Token]), Stuck<'_>>
     requires { depth < 200 }
-    ensures reads { (k : Kind) → IsMallocWord k word → Reads (λ x rest. IsPrimary depth (token k start ∷ tokens.now) (expression x.expr) x.outer rest) (StuckPrimary depth (token k start ∷ tokens.now)) result }
+    ensures reads { (k : Kind) → IsMallocWord k word → Reads (λ x rest. IsPrimary depth (token k start ∷ tokens.now) (expression x.expr.value) x.outer rest) (StuckPrimary depth (token k start ∷ tokens.now)) result }
     ensures shorter { TakesTokens tokens.now result }
 {
     let (read, rest) = angled(alloc, depth + 1, tokens)?;
     let (size, rest) = expression(alloc, depth + 1, rest)?;
     let (end, rest) = close_paren(rest)?;
-    let span = join(start, end);
-    let reach = read.reach.beside(size.reach).around(span.from);
-    let type_name = read.type_name;
-    let size = boxed(alloc, size.expr)?;
-    let expr = Expr::Malloc {
-        word,
-        type_name,
-        size,
-        span,
-    };
-    let outer = span;
-    Ok((Operand { expr, outer, reach }, rest))
+    let allocation = malloc_with(alloc, word, read, size, join(start, end))?;
+    Ok((allocation, rest))
 }
 
 /// What stands behind the word of an allocation of elements.
@@ -340,7 +262,7 @@ fn calloc(
     tokens: &[Token],
 ) -> Result<(Operand, &[Token]), Stuck<'_>>
     requires { depth < 200 }
-    ensures reads { (k : Kind) → IsCallocWord k word → Reads (λ x rest. IsPrimary depth (token k start ∷ tokens.now) (expression x.expr) x.outer rest) (StuckPrimary depth (token k start ∷ tokens.now)) result }
+    ensures reads { (k : Kind) → IsCallocWord k word → Reads (λ x rest. IsPrimary depth (token k start ∷ tokens.now) (expression x.expr.value) x.outer rest) (StuckPrimary depth (token k start ∷ tokens.now)) result }
     ensures shorter { TakesTokens tokens.now result }
 {
     let (read, rest) = angled(alloc, depth + 1, tokens)?;
@@ -348,22 +270,6 @@ fn calloc(
     let (_, rest) = comma(rest)?;
     let (size, rest) = expression(alloc, depth + 1, rest)?;
     let (end, rest) = close_paren(rest)?;
-    let span = join(start, end);
-    let reach = read
-        .reach
-        .beside(count.reach)
-        .beside(size.reach)
-        .around(span.from);
-    let type_name = read.type_name;
-    let count = boxed(alloc, count.expr)?;
-    let size = boxed(alloc, size.expr)?;
-    let expr = Expr::Calloc {
-        word,
-        type_name,
-        count,
-        size,
-        span,
-    };
-    let outer = span;
-    Ok((Operand { expr, outer, reach }, rest))
+    let allocation = calloc_with(alloc, word, read, count, size, join(start, end))?;
+    Ok((allocation, rest))
 }

@@ -24,7 +24,6 @@ use crate::tokens::{
 use crate::types::starts_type;
 use crate::words::{else_word, mark};
 use ckc_lexer::token::{Token, TokenKind};
-use ckc_text::fault::NoMemory;
 use ckc_text::place::Span;
 use ckc_tree::expr::Expr;
 use ckc_tree::stmt::{Assignment, ForInitial, Mark, Stmt};
@@ -59,9 +58,13 @@ fn starts_statement(kind: &TokenKind) -> bool
 
 /// A statement with at most `depth` nodes around it.
 #[cycle(statements)]
-pub fn statement(alloc: Global, depth: u32, tokens: &[Token]) -> Result<(Stmt, &[Token]), Stuck<'_>>
+pub fn statement(
+    alloc: Global,
+    depth: u32,
+    tokens: &[Token],
+) -> Result<(Box<Stmt>, &[Token]), Stuck<'_>>
     requires { depth ≤ 200 }
-    ensures { Reads (λ x rest. SpellsStatement tokens.now (views.statement x) rest × IsLow depth (statement_reach (views.statement x))) (StuckStatement depth tokens.now) result }
+    ensures { Reads (λ x rest. SpellsStatement tokens.now (views.statement x.value) rest × IsLow depth (statement_reach (views.statement x.value))) (StuckStatement depth tokens.now) result }
 {
     let (token, _) = first(tokens)?;
     if !starts_statement(&token.kind) {
@@ -82,20 +85,20 @@ pub fn statement(alloc: Global, depth: u32, tokens: &[Token]) -> Result<(Stmt, &
 
 /// A statement that begins with none of a type, an expression or an assignment.
 #[cycle(statements)]
-fn plain(alloc: Global, depth: u32, tokens: &[Token]) -> Result<(Stmt, &[Token]), Stuck<'_>>
+fn plain(alloc: Global, depth: u32, tokens: &[Token]) -> Result<(Box<Stmt>, &[Token]), Stuck<'_>>
     requires deep { depth < 200 }
     requires word { next_is plain_word tokens.now ≡ true }
-    ensures { Reads (λ x rest. SpellsStatement tokens.now (views.statement x) rest × IsLow depth (statement_reach (views.statement x))) (StuckStatement depth tokens.now) result }
+    ensures { Reads (λ x rest. SpellsStatement tokens.now (views.statement x.value) rest × IsLow depth (statement_reach (views.statement x.value))) (StuckStatement depth tokens.now) result }
 {
     if let Ok((mark, start, rest)) = mark(tokens) {
         let (_, rest) = open_brace(rest)?;
         let (read, rest) = statements(alloc, depth + 1, rest)?;
-        let stmt = block(Some(mark), start, read);
+        let stmt = boxed(alloc, block(Some(mark), start, read))?;
         return Ok((stmt, rest));
     }
     if let Ok((start, rest)) = open_brace(tokens) {
         let (inner, rest) = statements(alloc, depth + 1, rest)?;
-        let unmarked = block(None, start, inner);
+        let unmarked = boxed(alloc, block(None, start, inner))?;
         return Ok((unmarked, rest));
     }
     let (token, rest) = first(tokens)?;
@@ -106,29 +109,42 @@ fn plain(alloc: Global, depth: u32, tokens: &[Token]) -> Result<(Stmt, &[Token])
         TokenKind::While => while_statement(alloc, depth, start, rest),
         TokenKind::For => for_statement(alloc, depth, start, rest),
         TokenKind::Return => return_statement(alloc, depth, start, rest),
-        TokenKind::Break => break_statement(start, rest),
-        TokenKind::Continue => continue_statement(start, rest),
-        TokenKind::Semicolon => Ok((Stmt::Empty { span: start }, rest)),
+        TokenKind::Break => break_statement(alloc, start, rest),
+        TokenKind::Continue => continue_statement(alloc, start, rest),
+        TokenKind::Semicolon => {
+            let empty = boxed(alloc, Stmt::Empty { span: start })?;
+            Ok((empty, rest))
+        }
         _ => Err(Stuck::Unexpected { at: tokens }),
     }
 }
 
 /// What stands behind the word `break`.
-fn break_statement(start: Span, tokens: &[Token]) -> Result<(Stmt, &[Token]), Stuck<'_>>
-    ensures { (depth : ℕ) → depth < 200 → Reads (λ x rest. SpellsStatement (token kinds.Break start ∷ tokens.now) (views.statement x) rest × IsLow depth (statement_reach (views.statement x))) (StuckStatement depth (token kinds.Break start ∷ tokens.now)) result }
+fn break_statement(
+    alloc: Global,
+    start: Span,
+    tokens: &[Token],
+) -> Result<(Box<Stmt>, &[Token]), Stuck<'_>>
+    ensures { (depth : ℕ) → depth < 200 → Reads (λ x rest. SpellsStatement (token kinds.Break start ∷ tokens.now) (views.statement x.value) rest × IsLow depth (statement_reach (views.statement x.value))) (StuckStatement depth (token kinds.Break start ∷ tokens.now)) result }
 {
     let (end, rest) = semicolon(tokens)?;
     let span = join(start, end);
-    Ok((Stmt::Break { span }, rest))
+    let stmt = boxed(alloc, Stmt::Break { span })?;
+    Ok((stmt, rest))
 }
 
 /// What stands behind the word `continue`.
-fn continue_statement(start: Span, tokens: &[Token]) -> Result<(Stmt, &[Token]), Stuck<'_>>
-    ensures { (depth : ℕ) → depth < 200 → Reads (λ x rest. SpellsStatement (token kinds.Continue start ∷ tokens.now) (views.statement x) rest × IsLow depth (statement_reach (views.statement x))) (StuckStatement depth (token kinds.Continue start ∷ tokens.now)) result }
+fn continue_statement(
+    alloc: Global,
+    start: Span,
+    tokens: &[Token],
+) -> Result<(Box<Stmt>, &[Token]), Stuck<'_>>
+    ensures { (depth : ℕ) → depth < 200 → Reads (λ x rest. SpellsStatement (token kinds.Continue start ∷ tokens.now) (views.statement x.value) rest × IsLow depth (statement_reach (views.statement x.value))) (StuckStatement depth (token kinds.Continue start ∷ tokens.now)) result }
 {
     let (end, rest) = semicolon(tokens)?;
     let span = join(start, end);
-    Ok((Stmt::Continue { span }, rest))
+    let stmt = boxed(alloc, Stmt::Continue { span })?;
+    Ok((stmt, rest))
 }
 
 /// The statements of a block, and the brace behind them, whose span is given.
@@ -148,7 +164,7 @@ pub fn statements(
             return Ok((Read { form, span }, behind));
         }
         let (item, behind) = statement(alloc, depth, rest)?;
-        push(&mut form, item)?;
+        push(&mut form, Box::into_inner(item))?;
         rest = behind;
     }
 }
@@ -194,27 +210,29 @@ fn bundle(
     depth: u32,
     start: Span,
     tokens: &[Token],
-) -> Result<(Stmt, &[Token]), Stuck<'_>>
+) -> Result<(Box<Stmt>, &[Token]), Stuck<'_>>
     requires { depth < 200 }
-    ensures { Reads (λ x rest. SpellsStatement (token kinds.Bundled start ∷ tokens.now) (views.statement x) rest × IsLow depth (statement_reach (views.statement x))) (StuckStatement depth (token kinds.Bundled start ∷ tokens.now)) result }
+    ensures { Reads (λ x rest. SpellsStatement (token kinds.Bundled start ∷ tokens.now) (views.statement x.value) rest × IsLow depth (statement_reach (views.statement x.value))) (StuckStatement depth (token kinds.Bundled start ∷ tokens.now)) result }
 {
     let (_, rest) = open_brace(tokens)?;
     let (read, rest) = assignments(alloc, depth + 1, rest)?;
     let assignments = read.form;
     let span = join(start, read.span);
-    Ok((Stmt::Bundle { assignments, span }, rest))
+    let stmt = boxed(alloc, Stmt::Bundle { assignments, span })?;
+    Ok((stmt, rest))
 }
 
 /// A declaration and its semicolon.
-fn declared(alloc: Global, depth: u32, tokens: &[Token]) -> Result<(Stmt, &[Token]), Stuck<'_>>
+fn declared(alloc: Global, depth: u32, tokens: &[Token]) -> Result<(Box<Stmt>, &[Token]), Stuck<'_>>
     requires deep { depth < 200 }
     requires typed { next_is type_word tokens.now ≡ true }
-    ensures { Reads (λ x rest. SpellsStatement tokens.now (views.statement x) rest × IsLow depth (statement_reach (views.statement x))) (StuckStatement depth tokens.now) result }
+    ensures { Reads (λ x rest. SpellsStatement tokens.now (views.statement x.value) rest × IsLow depth (statement_reach (views.statement x.value))) (StuckStatement depth tokens.now) result }
 {
     let (declaration, rest) = declaration(alloc, depth, tokens)?;
     let (end, rest) = semicolon(rest)?;
     let span = join(declaration.span, end);
-    Ok((Stmt::Declare { declaration, span }, rest))
+    let stmt = boxed(alloc, Stmt::Declare { declaration, span })?;
+    Ok((stmt, rest))
 }
 
 /// An assignment or a call, and its semicolon.
@@ -222,10 +240,10 @@ fn stored_or_called(
     alloc: Global,
     depth: u32,
     tokens: &[Token],
-) -> Result<(Stmt, &[Token]), Stuck<'_>>
+) -> Result<(Box<Stmt>, &[Token]), Stuck<'_>>
     requires deep { depth < 200 }
     requires word { next_is assignment_word tokens.now ≡ true }
-    ensures { Reads (λ x rest. SpellsStatement tokens.now (views.statement x) rest × IsLow depth (statement_reach (views.statement x))) (StuckStatement depth tokens.now) result }
+    ensures { Reads (λ x rest. SpellsStatement tokens.now (views.statement x.value) rest × IsLow depth (statement_reach (views.statement x.value))) (StuckStatement depth tokens.now) result }
 {
     match name(tokens) {
         Ok(_) => named(alloc, depth, tokens),
@@ -234,16 +252,17 @@ fn stored_or_called(
 }
 
 /// An assignment that begins with no name, and its semicolon.
-fn stored(alloc: Global, depth: u32, tokens: &[Token]) -> Result<(Stmt, &[Token]), Stuck<'_>>
+fn stored(alloc: Global, depth: u32, tokens: &[Token]) -> Result<(Box<Stmt>, &[Token]), Stuck<'_>>
     requires deep { depth < 200 }
     requires word { next_is assignment_word tokens.now ≡ true }
     requires unnamed { next_is name_token tokens.now ≡ false }
-    ensures { Reads (λ x rest. SpellsStatement tokens.now (views.statement x) rest × IsLow depth (statement_reach (views.statement x))) (StuckStatement depth tokens.now) result }
+    ensures { Reads (λ x rest. SpellsStatement tokens.now (views.statement x.value) rest × IsLow depth (statement_reach (views.statement x.value))) (StuckStatement depth tokens.now) result }
 {
     let (assignment, rest) = assignment(alloc, depth, tokens)?;
     let (end, rest) = semicolon(rest)?;
     let span = join(assignment.span(), end);
-    Ok((Stmt::Assign { assignment, span }, rest))
+    let stmt = boxed(alloc, Stmt::Assign { assignment, span })?;
+    Ok((stmt, rest))
 }
 
 /// The semicolon behind a call, and what stands behind it.
@@ -261,21 +280,23 @@ fn call_end<'t>(target: &Expr, tokens: &'t [Token]) -> Option<(Span, &'t [Token]
 
 /// What begins with a name, and its semicolon: a call where nothing but arguments stands behind the name, and else an
 /// assignment.
-fn named(alloc: Global, depth: u32, tokens: &[Token]) -> Result<(Stmt, &[Token]), Stuck<'_>>
+fn named(alloc: Global, depth: u32, tokens: &[Token]) -> Result<(Box<Stmt>, &[Token]), Stuck<'_>>
     requires deep { depth < 200 }
     requires named { next_is name_token tokens.now ≡ true }
-    ensures { Reads (λ x rest. SpellsStatement tokens.now (views.statement x) rest × IsLow depth (statement_reach (views.statement x))) (StuckStatement depth tokens.now) result }
+    ensures { Reads (λ x rest. SpellsStatement tokens.now (views.statement x.value) rest × IsLow depth (statement_reach (views.statement x.value))) (StuckStatement depth tokens.now) result }
 {
     let (target, rest) = unary(alloc, depth + 1, tokens)?;
     if let Some((end, rest)) = call_end(&target.expr, rest) {
         let span = join(target.outer, end);
-        let call = target.expr;
-        return Ok((Stmt::Call { call, span }, rest));
+        let call = Box::into_inner(target.expr);
+        let stmt = boxed(alloc, Stmt::Call { call, span })?;
+        return Ok((stmt, rest));
     }
     let (assignment, rest) = assigned(alloc, depth, target, rest)?;
     let (end, rest) = semicolon(rest)?;
     let span = join(assignment.span(), end);
-    Ok((Stmt::Assign { assignment, span }, rest))
+    let stmt = boxed(alloc, Stmt::Assign { assignment, span })?;
+    Ok((stmt, rest))
 }
 
 /// An expression in parentheses that belong to a statement.
@@ -286,7 +307,7 @@ fn condition(alloc: Global, depth: u32, tokens: &[Token]) -> Result<(Expr, &[Tok
     let (_, rest) = open_paren(tokens)?;
     let (read, rest) = expression(alloc, depth, rest)?;
     let (_, rest) = close_paren(rest)?;
-    Ok((read.expr, rest))
+    Ok((Box::into_inner(read.expr), rest))
 }
 
 /// What stands behind the word `if`.
@@ -296,55 +317,45 @@ fn if_statement(
     depth: u32,
     start: Span,
     tokens: &[Token],
-) -> Result<(Stmt, &[Token]), Stuck<'_>>
+) -> Result<(Box<Stmt>, &[Token]), Stuck<'_>>
     requires { depth < 200 }
-    ensures { Reads (λ x rest. SpellsStatement (token kinds.If start ∷ tokens.now) (views.statement x) rest × IsLow depth (statement_reach (views.statement x))) (StuckStatement depth (token kinds.If start ∷ tokens.now)) result }
+    ensures { Reads (λ x rest. SpellsStatement (token kinds.If start ∷ tokens.now) (views.statement x.value) rest × IsLow depth (statement_reach (views.statement x.value))) (StuckStatement depth (token kinds.If start ∷ tokens.now)) result }
 {
     let (condition, rest) = condition(alloc, depth + 1, tokens)?;
     let (consequent, rest) = statement(alloc, depth + 1, rest)?;
     if let Ok((_, behind)) = else_word(rest) {
         let (alternative, behind) = statement(alloc, depth + 1, behind)?;
-        let stmt = if_else(alloc, start, condition, consequent, alternative)?;
+        let stmt = boxed(alloc, if_else(start, condition, consequent, alternative))?;
         return Ok((stmt, behind));
     }
-    let alone = if_alone(alloc, start, condition, consequent)?;
+    let alone = boxed(alloc, if_alone(start, condition, consequent))?;
     Ok((alone, rest))
 }
 
 /// An `if` without `else`.
-fn if_alone(alloc: Global, start: Span, condition: Expr, consequent: Stmt) -> Result<Stmt, NoMemory>
-    ensures { IfOk result (λ x. views.statement x ≡ views.If (expression condition) (views.statement consequent) (join start (views.statement_span (views.statement consequent)))) }
+fn if_alone(start: Span, condition: Expr, consequent: Box<Stmt>) -> Stmt
+    ensures { views.statement result ≡ views.If (expression condition) (views.statement consequent.value) (join start (views.statement_span (views.statement consequent.value))) }
 {
     let span = join(start, consequent.span());
-    let consequent = boxed(alloc, consequent)?;
-    let alternative = None;
-    Ok(Stmt::If {
+    Stmt::If {
         condition,
         consequent,
-        alternative,
+        alternative: None,
         span,
-    })
+    }
 }
 
 /// An `if` with its `else`.
-fn if_else(
-    alloc: Global,
-    start: Span,
-    condition: Expr,
-    consequent: Stmt,
-    alternative: Stmt,
-) -> Result<Stmt, NoMemory>
-    ensures { IfOk result (λ x. views.statement x ≡ views.IfElse (expression condition) (views.statement consequent) (views.statement alternative) (join start (views.statement_span (views.statement alternative)))) }
+fn if_else(start: Span, condition: Expr, consequent: Box<Stmt>, alternative: Box<Stmt>) -> Stmt
+    ensures { views.statement result ≡ views.IfElse (expression condition) (views.statement consequent.value) (views.statement alternative.value) (join start (views.statement_span (views.statement alternative.value))) }
 {
     let span = join(start, alternative.span());
-    let consequent = boxed(alloc, consequent)?;
-    let alternative = Some(boxed(alloc, alternative)?);
-    Ok(Stmt::If {
+    Stmt::If {
         condition,
         consequent,
-        alternative,
+        alternative: Some(alternative),
         span,
-    })
+    }
 }
 
 /// What stands behind the word `while`.
@@ -354,27 +365,26 @@ fn while_statement(
     depth: u32,
     start: Span,
     tokens: &[Token],
-) -> Result<(Stmt, &[Token]), Stuck<'_>>
+) -> Result<(Box<Stmt>, &[Token]), Stuck<'_>>
     requires { depth < 200 }
-    ensures { Reads (λ x rest. SpellsStatement (token kinds.While start ∷ tokens.now) (views.statement x) rest × IsLow depth (statement_reach (views.statement x))) (StuckStatement depth (token kinds.While start ∷ tokens.now)) result }
+    ensures { Reads (λ x rest. SpellsStatement (token kinds.While start ∷ tokens.now) (views.statement x.value) rest × IsLow depth (statement_reach (views.statement x.value))) (StuckStatement depth (token kinds.While start ∷ tokens.now)) result }
 {
     let (condition, rest) = condition(alloc, depth + 1, tokens)?;
     let (body, rest) = statement(alloc, depth + 1, rest)?;
-    let stmt = while_loop(alloc, start, condition, body)?;
+    let stmt = boxed(alloc, while_loop(start, condition, body))?;
     Ok((stmt, rest))
 }
 
 /// A `while` with its body.
-fn while_loop(alloc: Global, start: Span, condition: Expr, body: Stmt) -> Result<Stmt, NoMemory>
-    ensures { IfOk result (λ x. views.statement x ≡ views.While (expression condition) (views.statement body) (join start (views.statement_span (views.statement body)))) }
+fn while_loop(start: Span, condition: Expr, body: Box<Stmt>) -> Stmt
+    ensures { views.statement result ≡ views.While (expression condition) (views.statement body.value) (join start (views.statement_span (views.statement body.value))) }
 {
     let span = join(start, body.span());
-    let body = boxed(alloc, body)?;
-    Ok(Stmt::While {
+    Stmt::While {
         condition,
         body,
         span,
-    })
+    }
 }
 
 /// The first part of the head of a `for`, and its semicolon.
@@ -424,7 +434,7 @@ fn optional_value(
     }
     let (read, rest) = expression(alloc, depth, tokens)?;
     let (span, rest) = semicolon(rest)?;
-    let form = Some(read.expr);
+    let form = Some(Box::into_inner(read.expr));
     Ok((Read { form, span }, rest))
 }
 
@@ -459,9 +469,9 @@ fn for_head(
     depth: u32,
     start: Span,
     tokens: &[Token],
-) -> Result<(ForHead, &[Token]), Stuck<'_>>
+) -> Result<(Box<ForHead>, &[Token]), Stuck<'_>>
     requires { depth < 200 }
-    ensures { Reads (λ x rest. IsForHead depth tokens.now (views.for_initial x.initial) (option_map expression x.condition) (option_map views.assignment x.step) rest) (StuckStatement depth (token kinds.For start ∷ tokens.now)) result }
+    ensures { Reads (λ x rest. IsForHead depth tokens.now (views.for_initial x.value.initial) (option_map expression x.value.condition) (option_map views.assignment x.value.step) rest) (StuckStatement depth (token kinds.For start ∷ tokens.now)) result }
 {
     let (_, rest) = open_paren(tokens)?;
     let (initial, rest) = for_initial(alloc, depth + 1, rest)?;
@@ -473,6 +483,7 @@ fn for_head(
         condition,
         step,
     };
+    let head = boxed(alloc, head)?;
     Ok((head, rest))
 }
 
@@ -483,29 +494,29 @@ fn for_statement(
     depth: u32,
     start: Span,
     tokens: &[Token],
-) -> Result<(Stmt, &[Token]), Stuck<'_>>
+) -> Result<(Box<Stmt>, &[Token]), Stuck<'_>>
     requires { depth < 200 }
-    ensures { Reads (λ x rest. SpellsStatement (token kinds.For start ∷ tokens.now) (views.statement x) rest × IsLow depth (statement_reach (views.statement x))) (StuckStatement depth (token kinds.For start ∷ tokens.now)) result }
+    ensures { Reads (λ x rest. SpellsStatement (token kinds.For start ∷ tokens.now) (views.statement x.value) rest × IsLow depth (statement_reach (views.statement x.value))) (StuckStatement depth (token kinds.For start ∷ tokens.now)) result }
 {
     let (head, rest) = for_head(alloc, depth, start, tokens)?;
     let (body, rest) = statement(alloc, depth + 1, rest)?;
-    let stmt = for_loop(alloc, start, head, body)?;
+    let stmt = boxed(alloc, for_loop(start, head, body))?;
     Ok((stmt, rest))
 }
 
 /// A `for` with its body.
-fn for_loop(alloc: Global, start: Span, head: ForHead, body: Stmt) -> Result<Stmt, NoMemory>
-    ensures { IfOk result (λ x. views.statement x ≡ views.For (views.for_initial head.initial) (option_map expression head.condition) (option_map views.assignment head.step) (views.statement body) (join start (views.statement_span (views.statement body)))) }
+fn for_loop(start: Span, head: Box<ForHead>, body: Box<Stmt>) -> Stmt
+    ensures { views.statement result ≡ views.For (views.for_initial head.value.initial) (option_map expression head.value.condition) (option_map views.assignment head.value.step) (views.statement body.value) (join start (views.statement_span (views.statement body.value))) }
 {
     let span = join(start, body.span());
-    let body = boxed(alloc, body)?;
-    Ok(Stmt::For {
+    let head = Box::into_inner(head);
+    Stmt::For {
         initial: head.initial,
         condition: head.condition,
         step: head.step,
         body,
         span,
-    })
+    }
 }
 
 /// What stands behind the word `return`.
@@ -514,12 +525,13 @@ fn return_statement(
     depth: u32,
     start: Span,
     tokens: &[Token],
-) -> Result<(Stmt, &[Token]), Stuck<'_>>
+) -> Result<(Box<Stmt>, &[Token]), Stuck<'_>>
     requires { depth < 200 }
-    ensures { Reads (λ x rest. SpellsStatement (token kinds.Return start ∷ tokens.now) (views.statement x) rest × IsLow depth (statement_reach (views.statement x))) (StuckStatement depth (token kinds.Return start ∷ tokens.now)) result }
+    ensures { Reads (λ x rest. SpellsStatement (token kinds.Return start ∷ tokens.now) (views.statement x.value) rest × IsLow depth (statement_reach (views.statement x.value))) (StuckStatement depth (token kinds.Return start ∷ tokens.now)) result }
 {
     let (read, rest) = optional_value(alloc, depth + 1, tokens)?;
     let value = read.form;
     let span = join(start, read.span);
-    Ok((Stmt::Return { value, span }, rest))
+    let stmt = boxed(alloc, Stmt::Return { value, span })?;
+    Ok((stmt, rest))
 }

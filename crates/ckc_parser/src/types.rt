@@ -6,7 +6,8 @@ ghost use Rattle.ckc_tree.specs.Types.{type_tree, type_span, type_name as type_n
 ghost use Rattle.ckc_parser.specs.TypeGrammar.{SpellsStars};
 ghost use Rattle.ckc_parser.specs.StuckTypes.{type_word, StuckType, StuckTypeName, StuckAngled};
 ghost use Rattle.ckc_parser.specs.Failures.{Reads, TakesTokens};
-ghost use Rattle.ckc_parser.specs.Readings.{reach_of, pointer_word_of, IsType, IsTypeName, IsAngled};
+ghost use Rattle.ckc_parser.specs.Reaches.{reach_of};
+ghost use Rattle.ckc_parser.specs.Readings.{pointer_word_of, IsType, IsTypeName, IsAngled};
 ghost use Rattle.ckc_parser.specs.Tokens.{token, IsPointerWord};
 ghost use Rattle.ckc_lexer.specs.declared.token.TokenKind.{TokenKind as Kind};
 ghost use Rattle.ckc_lexer.specs.declared.token.TokenKind.TheVariants as kinds;

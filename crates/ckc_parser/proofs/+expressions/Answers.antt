@@ -43,14 +43,11 @@ bounds::count-returns-in_err-read-clause-reads t c = λ p. rw (err _ _ c.from_re
 pub bounds::count-returns-in_err-end-clause-reads : goal.bounds::count-returns-in_err-end-clause-reads
 bounds::count-returns-in_err-end-clause-reads t c = λ p. rw (err _ _ c.from_residual-in_err-end.ensures.1, c.in_err-end.ensures.0) (s.count_close (word_of_count c.args.is_count) c.in_ok-read.ensures.reads.0 c.in_ok-read.ensures.reads.1 c.in_err-end.ensures.1)
 
-pub bounds::count-returns-in_err-count-clause-reads : goal.bounds::count-returns-in_err-count-clause-reads
-bounds::count-returns-in_err-count-clause-reads t c = λ p. rw (err _ _ c.from_residual-in_err-count.ensures.1) (s.bounds_no_room)
-
 pub bounds::count-returns-then-is_count-clause-reads : goal.bounds::count-returns-then-is_count-clause-reads
-bounds::count-returns-then-is_count-clause-reads t c = λ p. rw (c.if-is_count.true, c.in_ok-count.ensures, c.join-span.ensures) (g.count refl (rw c.in_ok-end.ensures at c.in_ok-read.ensures.reads.0), c.in_ok-read.ensures.reads.1)
+bounds::count-returns-then-is_count-clause-reads t c = λ p. rw (c.if-is_count.true, c.join-span.ensures) (g.count refl (rw c.in_ok-end.ensures at c.in_ok-read.ensures.reads.0), c.in_ok-read.ensures.reads.1)
 
 pub bounds::count-returns-clause-reads : goal.bounds::count-returns-clause-reads
-bounds::count-returns-clause-reads t c = λ p. rw (c.if-is_count.false, c.in_ok-count.ensures, c.join-span.ensures) (g.byte_count refl (rw c.in_ok-end.ensures at c.in_ok-read.ensures.reads.0), c.in_ok-read.ensures.reads.1)
+bounds::count-returns-clause-reads t c = λ p. rw (c.if-is_count.false, c.join-span.ensures) (g.byte_count refl (rw c.in_ok-end.ensures at c.in_ok-read.ensures.reads.0), c.in_ok-read.ensures.reads.1)
 
 pub bounds::ends-returns-in-Some-clause-reads : goal.bounds::ends-returns-in-Some-clause-reads
 bounds::ends-returns-in-Some-clause-reads t c = λ p. rw (c.in-Some.ensures.1, c.join-span.ensures) (g.unknown refl refl, omega arith)
@@ -73,14 +70,8 @@ bounds::range-returns-in_err-high-clause-reads t c = λ p. rw (err _ _ c.from_re
 pub bounds::range-returns-in_err-end-clause-reads : goal.bounds::range-returns-in_err-end-clause-reads
 bounds::range-returns-in_err-end-clause-reads t c = λ p. rw (err _ _ c.from_residual-in_err-end.ensures.1, c.in_err-end.ensures.0) (s.bounds_close refl (rw c.in_ok-rest.ensures at c.in_ok-low.ensures.reads.0) c.in_ok-low.ensures.reads.1 c.in_ok-high.ensures.reads.0 c.in_ok-high.ensures.reads.1 c.in_err-end.ensures.1)
 
-pub bounds::range-returns-in_err-low-2-clause-reads : goal.bounds::range-returns-in_err-low-2-clause-reads
-bounds::range-returns-in_err-low-2-clause-reads t c = λ p. rw (err _ _ c.from_residual-in_err-low-2.ensures.1) (s.bounds_no_room)
-
-pub bounds::range-returns-in_err-high-2-clause-reads : goal.bounds::range-returns-in_err-high-2-clause-reads
-bounds::range-returns-in_err-high-2-clause-reads t c = λ p. rw (err _ _ c.from_residual-in_err-high-2.ensures.1) (s.bounds_no_room)
-
 pub bounds::range-returns-clause-reads : goal.bounds::range-returns-clause-reads
-bounds::range-returns-clause-reads t c = λ p. rw (c.in_ok-low-2.ensures, c.in_ok-high-2.ensures, c.join-span.ensures)
+bounds::range-returns-clause-reads t c = λ p. rw c.join-span.ensures
     (g.range refl (rw c.in_ok-rest.ensures at c.in_ok-low.ensures.reads.0) (rw c.in_ok-end.ensures at c.in_ok-high.ensures.reads.0), low_beside _ _ _ c.in_ok-low.ensures.reads.1 c.in_ok-high.ensures.reads.1)
 
 pub expressions::closed-reduced-requires : goal.expressions::closed-reduced-requires
@@ -113,14 +104,11 @@ expressions::indexed-returns-in_err-index-clause-reads t c = λ start. rw (err _
 pub expressions::indexed-returns-in_err-end-clause-reads : goal.expressions::indexed-returns-in_err-end-clause-reads
 expressions::indexed-returns-in_err-end-clause-reads t c = λ start. rw (err _ _ c.from_residual-in_err-end.ensures.1, c.in_err-end.ensures.0) (s.selectors_close (room _ c.args.operand c.requires) c.in_ok-index.ensures.reads.0 (rw add-one at c.in_ok-index.ensures.reads.1) c.in_err-end.ensures.1)
 
-pub expressions::indexed-returns-in_err-base-clause-reads : goal.expressions::indexed-returns-in_err-base-clause-reads
-expressions::indexed-returns-in_err-base-clause-reads t c = λ start. rw (err _ _ c.from_residual-in_err-base.ensures.1) (s.selectors_no_room)
-
-pub expressions::indexed-returns-in_err-index-2-clause-reads : goal.expressions::indexed-returns-in_err-index-2-clause-reads
-expressions::indexed-returns-in_err-index-2-clause-reads t c = λ start. rw (err _ _ c.from_residual-in_err-index-2.ensures.1) (s.selectors_no_room)
+pub expressions::indexed-returns-in_err-element-clause-reads : goal.expressions::indexed-returns-in_err-element-clause-reads
+expressions::indexed-returns-in_err-element-clause-reads t c = λ start. rw (err _ _ c.from_residual-in_err-element.ensures.1) (s.selectors_no_room)
 
 pub expressions::indexed-returns-clause-reads : goal.expressions::indexed-returns-clause-reads
-expressions::indexed-returns-clause-reads t c = λ start. rw (c.in_ok-base.ensures, c.in_ok-index-2.ensures, c.join-outer.ensures) (index_selects (room _ c.args.operand c.requires) (rw c.in_ok-end.ensures at c.in_ok-index.ensures.reads.0) (rw add-one at c.in_ok-index.ensures.reads.1))
+expressions::indexed-returns-clause-reads t c = λ start. rw (c.in_ok-element.ensures.0, c.in_ok-element.ensures.1) (index_selects (room _ c.args.operand c.requires) (rw c.in_ok-end.ensures at c.in_ok-index.ensures.reads.0) (rw add-one at c.in_ok-index.ensures.reads.1))
 
 pub expressions::operators-loop-around-init : goal.expressions::operators-loop-around-init
 expressions::operators-loop-around-init t c =
@@ -177,7 +165,7 @@ expressions::selectors-overflow_add-depth t c = omega (arith, height_is c.loop-t
 
 pub expressions::selectors-returns-then-depth-operand-ge-MAX_DEPTH-clause-reads : goal.expressions::selectors-returns-then-depth-operand-ge-MAX_DEPTH-clause-reads
 expressions::selectors-returns-then-depth-operand-ge-MAX_DEPTH-clause-reads t c =
-    let deep : 200 ≤ c.args.depth + (expression_reach (expression c.loop-token.operand.expr)).height = omega (arith, height_is c.loop-token.operand) in
+    let deep : 200 ≤ c.args.depth + (expression_reach (expression c.loop-token.operand.expr.value)).height = omega (arith, height_is c.loop-token.operand) in
     rw (start_is c.loop-token.operand) (c.loop-token.invariant.0.fails (rw c.in-Some.ensures.0 (s.selectors_deep c.in-Some.ensures.1 deep)))
 
 pub expressions::selectors-returns-in_err-longer-clause-reads : goal.expressions::selectors-returns-in_err-longer-clause-reads
@@ -264,13 +252,13 @@ primary::malloc-returns-in_err-size-clause-reads t c = λ k is. rw (err _ _ c.fr
 pub primary::malloc-returns-in_err-end-clause-reads : goal.primary::malloc-returns-in_err-end-clause-reads
 primary::malloc-returns-in_err-end-clause-reads t c = λ k is. rw (err _ _ c.from_residual-in_err-end.ensures.1, c.in_err-end.ensures.0) (s.malloc_close is c.in_ok-read.ensures.reads.0 (rw add-one at c.in_ok-read.ensures.reads.1) c.in_ok-size.ensures.reads.0 (rw add-one at c.in_ok-size.ensures.reads.1) c.in_err-end.ensures.1)
 
-pub primary::malloc-returns-in_err-size-2-clause-reads : goal.primary::malloc-returns-in_err-size-2-clause-reads
-primary::malloc-returns-in_err-size-2-clause-reads t c = λ k is. rw (err _ _ c.from_residual-in_err-size-2.ensures.1) (s.primary_no_room)
+pub primary::malloc-returns-in_err-allocation-clause-reads : goal.primary::malloc-returns-in_err-allocation-clause-reads
+primary::malloc-returns-in_err-allocation-clause-reads t c = λ k is. rw (err _ _ c.from_residual-in_err-allocation.ensures.1) (s.primary_no_room)
 
 pub primary::malloc-returns-clause-reads : goal.primary::malloc-returns-clause-reads
 primary::malloc-returns-clause-reads t c = λ k is.
     let low = low_around _ c.args.start.from _ c.requires (low_beside _ _ _ (rw add-one at c.in_ok-read.ensures.reads.1) (rw add-one at c.in_ok-size.ensures.reads.1)) in
-    rw (c.in_ok-size-2.ensures, c.join-span.ensures) (g.malloc is c.in_ok-read.ensures.reads.0 (rw c.in_ok-end.ensures at c.in_ok-size.ensures.reads.0), low)
+    rw (c.in_ok-allocation.ensures.0, c.in_ok-allocation.ensures.1, c.join.ensures) (g.malloc is c.in_ok-read.ensures.reads.0 (rw c.in_ok-end.ensures at c.in_ok-size.ensures.reads.0), low)
 
 pub primary::calloc-returns-in_err-read-clause-reads : goal.primary::calloc-returns-in_err-read-clause-reads
 primary::calloc-returns-in_err-read-clause-reads t c = λ k is. rw (err _ _ c.from_residual.ensures.1) (s.calloc_type is c.requires (rw add-one at c.in_err-read.ensures.reads))
@@ -287,16 +275,13 @@ primary::calloc-returns-in_err-size-clause-reads t c = λ k is. rw (err _ _ c.fr
 pub primary::calloc-returns-in_err-end-clause-reads : goal.primary::calloc-returns-in_err-end-clause-reads
 primary::calloc-returns-in_err-end-clause-reads t c = λ k is. rw (err _ _ c.from_residual-in_err-end.ensures.1, c.in_err-end.ensures.0) (s.calloc_close is c.in_ok-read.ensures.reads.0 (rw add-one at c.in_ok-read.ensures.reads.1) (rw c.in_ok-rest.ensures at c.in_ok-count.ensures.reads.0) (rw add-one at c.in_ok-count.ensures.reads.1) c.in_ok-size.ensures.reads.0 (rw add-one at c.in_ok-size.ensures.reads.1) c.in_err-end.ensures.1)
 
-pub primary::calloc-returns-in_err-count-2-clause-reads : goal.primary::calloc-returns-in_err-count-2-clause-reads
-primary::calloc-returns-in_err-count-2-clause-reads t c = λ k is. rw (err _ _ c.from_residual-in_err-count-2.ensures.1) (s.primary_no_room)
-
-pub primary::calloc-returns-in_err-size-2-clause-reads : goal.primary::calloc-returns-in_err-size-2-clause-reads
-primary::calloc-returns-in_err-size-2-clause-reads t c = λ k is. rw (err _ _ c.from_residual-in_err-size-2.ensures.1) (s.primary_no_room)
+pub primary::calloc-returns-in_err-allocation-clause-reads : goal.primary::calloc-returns-in_err-allocation-clause-reads
+primary::calloc-returns-in_err-allocation-clause-reads t c = λ k is. rw (err _ _ c.from_residual-in_err-allocation.ensures.1) (s.primary_no_room)
 
 pub primary::calloc-returns-clause-reads : goal.primary::calloc-returns-clause-reads
 primary::calloc-returns-clause-reads t c = λ k is.
     let low = low_around _ c.args.start.from _ c.requires (low_beside _ _ _ (low_beside _ _ _ (rw add-one at c.in_ok-read.ensures.reads.1) (rw add-one at c.in_ok-count.ensures.reads.1)) (rw add-one at c.in_ok-size.ensures.reads.1)) in
-    rw (c.in_ok-count-2.ensures, c.in_ok-size-2.ensures, c.join-span.ensures) (g.calloc is c.in_ok-read.ensures.reads.0 (rw c.in_ok-rest.ensures at c.in_ok-count.ensures.reads.0) (rw c.in_ok-end.ensures at c.in_ok-size.ensures.reads.0), low)
+    rw (c.in_ok-allocation.ensures.0, c.in_ok-allocation.ensures.1, c.join.ensures) (g.calloc is c.in_ok-read.ensures.reads.0 (rw c.in_ok-rest.ensures at c.in_ok-count.ensures.reads.0) (rw c.in_ok-end.ensures at c.in_ok-size.ensures.reads.0), low)
 
 pub primary::name_or_call-returns-in_err-name-clause-reads : goal.primary::name_or_call-returns-in_err-name-clause-reads
 primary::name_or_call-returns-in_err-name-clause-reads t c = rw (err _ _ c.from_residual.ensures.1) (s.primary_no_room)
@@ -305,19 +290,21 @@ pub primary::name_or_call-leaf-requires : goal.primary::name_or_call-leaf-requir
 primary::name_or_call-leaf-requires t c = rw c.in_ok-name.ensures refl
 
 pub primary::name_or_call-returns-in_default-clause-reads : goal.primary::name_or_call-returns-in_default-clause-reads
-primary::name_or_call-returns-in_default-clause-reads t c = rw (c.leaf.ensures.same, c.leaf.ensures.outer, c.in_ok-name.ensures) (g.name c.in_default.ensures.1, omega arith)
+primary::name_or_call-returns-in_default-clause-reads t c = rw (c.in_ok-name-2.ensures.0, c.in_ok-name-2.ensures.1, c.in_ok-name.ensures) (g.name c.in_default.ensures.1, omega arith)
 
 pub primary::name_or_call-returns-in_err-read-clause-reads : goal.primary::name_or_call-returns-in_err-read-clause-reads
 primary::name_or_call-returns-in_err-read-clause-reads t c = rw (err _ _ c.from_residual-in_err-read.ensures.1, c.in-Ok.ensures) (s.arguments c.requires (rw add-one at c.in_err-read.ensures.reads))
 
-pub primary::name_or_call-invariant_of-result : goal.primary::name_or_call-invariant_of-result
-primary::name_or_call-invariant_of-result t c = record { exact = c.around-reach.ensures ∙ ap (around c.join-outer.result.from) c.in_ok-read.read.exact ∙ ap expression_reach (sym (call_is c.in_ok-name.name c.in_ok-read.read.items c.join-outer.result)) }
+pub primary::name_or_call-returns-in_err-name-2-clause-reads : goal.primary::name_or_call-returns-in_err-name-2-clause-reads
+primary::name_or_call-returns-in_err-name-2-clause-reads t c = rw (err _ _ c.from_residual-in_err-name-2.ensures.1) s.primary_no_room
+
+pub primary::name_or_call-returns-in_err-call-clause-reads : goal.primary::name_or_call-returns-in_err-call-clause-reads
+primary::name_or_call-returns-in_err-call-clause-reads t c = rw (err _ _ c.from_residual-in_err-call.ensures.1) s.primary_no_room
 
 pub primary::name_or_call-returns-clause-reads : goal.primary::name_or_call-returns-clause-reads
 primary::name_or_call-returns-clause-reads t c =
-    let is = call_is c.in_ok-name.name c.in_ok-read.read.items c.join-outer.result in
-    let low = low_around c.args.depth c.join-outer.result.from (expressions_reach (listed c.in_ok-read.read.items.items)) c.requires (rw add-one at c.in_ok-read.ensures.reads.1) in
-    ((rw (c.in-Ok.ensures, is, c.in_ok-name.ensures, c.join-outer.ensures) (g.called (g.call c.in_ok-read.ensures.reads.0))), subst (λ x. IsLow c.args.depth (expression_reach x)) (sym is) low)
+    let low = low_around c.args.depth c.args.span.from (expressions_reach (listed c.in_ok-read.read.items.items)) c.requires (rw add-one at c.in_ok-read.ensures.reads.1) in
+    rw (c.in-Ok.ensures, c.in_ok-call.ensures.0, c.in_ok-call.ensures.1, c.in_ok-name.ensures) (g.called (g.call c.in_ok-read.ensures.reads.0), low)
 
 pub primary::primary-returns-in_err-token-clause-reads : goal.primary::primary-returns-in_err-token-clause-reads
 primary::primary-returns-in_err-token-clause-reads t c = rw (err _ _ c.from_residual.ensures.1, c.in_err-token.ensures.0) (no_primary (next_none _ _ c.in_err-token.ensures.1))
@@ -331,14 +318,23 @@ primary::primary-returns-then-depth-ge-MAX_DEPTH-clause-reads t c = let full : 2
 pub primary::primary-returns-in_err-bytes-in-Text-clause-reads : goal.primary::primary-returns-in_err-bytes-in-Text-clause-reads
 primary::primary-returns-in_err-bytes-in-Text-clause-reads t c = rw (err _ _ c.from_residual-in_err-bytes-in-Text.ensures.1) (in_primary s.primary_no_room)
 
-pub primary::primary-returns-in-Number-clause-reads : goal.primary::primary-returns-in-Number-clause-reads
-primary::primary-returns-in-Number-clause-reads t c = rw (begins _ _ _ _ c.in_ok-token.ensures c.in-Number.is, c.leaf.ensures.same, c.leaf.ensures.outer) (g.number, omega arith)
+pub primary::primary-returns-in_err-number-in-Number-clause-reads : goal.primary::primary-returns-in_err-number-in-Number-clause-reads
+primary::primary-returns-in_err-number-in-Number-clause-reads t c = rw (err _ _ c.from_residual-in_err-number-in-Number.ensures.1) (in_primary s.primary_no_room)
 
-pub primary::primary-returns-in-Character-clause-reads : goal.primary::primary-returns-in-Character-clause-reads
-primary::primary-returns-in-Character-clause-reads t c = rw (begins _ _ _ _ c.in_ok-token.ensures c.in-Character.is, c.leaf-in-Character.ensures.same, c.leaf-in-Character.ensures.outer) (g.character, omega arith)
+pub primary::primary-returns-in_ok-number-in-Number-clause-reads : goal.primary::primary-returns-in_ok-number-in-Number-clause-reads
+primary::primary-returns-in_ok-number-in-Number-clause-reads t c = rw (begins _ _ _ _ c.in_ok-token.ensures c.in-Number.is, c.in_ok-number-in-Number.ensures.0, c.in_ok-number-in-Number.ensures.1) (g.number, omega arith)
 
-pub primary::primary-returns-in_ok-bytes-in-Text-clause-reads : goal.primary::primary-returns-in_ok-bytes-in-Text-clause-reads
-primary::primary-returns-in_ok-bytes-in-Text-clause-reads t c = rw (begins _ _ _ _ c.in_ok-token.ensures c.in-Text.is, c.leaf-in-Text.ensures.same, c.leaf-in-Text.ensures.outer, c.in_ok-bytes-in-Text.ensures.items, c.as_bytes.ensures) (g.text, omega arith)
+pub primary::primary-returns-in_err-character-in-Character-clause-reads : goal.primary::primary-returns-in_err-character-in-Character-clause-reads
+primary::primary-returns-in_err-character-in-Character-clause-reads t c = rw (err _ _ c.from_residual-in_err-character-in-Character.ensures.1) (in_primary s.primary_no_room)
+
+pub primary::primary-returns-in_ok-character-in-Character-clause-reads : goal.primary::primary-returns-in_ok-character-in-Character-clause-reads
+primary::primary-returns-in_ok-character-in-Character-clause-reads t c = rw (begins _ _ _ _ c.in_ok-token.ensures c.in-Character.is, c.in_ok-character-in-Character.ensures.0, c.in_ok-character-in-Character.ensures.1) (g.character, omega arith)
+
+pub primary::primary-returns-in_err-text-in-Text-clause-reads : goal.primary::primary-returns-in_err-text-in-Text-clause-reads
+primary::primary-returns-in_err-text-in-Text-clause-reads t c = rw (err _ _ c.from_residual-in_err-text-in-Text.ensures.1) (in_primary s.primary_no_room)
+
+pub primary::primary-returns-in_ok-text-in-Text-clause-reads : goal.primary::primary-returns-in_ok-text-in-Text-clause-reads
+primary::primary-returns-in_ok-text-in-Text-clause-reads t c = rw (begins _ _ _ _ c.in_ok-token.ensures c.in-Text.is, c.in_ok-text-in-Text.ensures.0, c.in_ok-text-in-Text.ensures.1, c.in_ok-bytes-in-Text.ensures.items, c.as_bytes.ensures) (g.text, omega arith)
 
 pub primary::primary-returns-in-Name-clause-reads : goal.primary::primary-returns-in-Name-clause-reads
 primary::primary-returns-in-Name-clause-reads t c = rw (begins _ _ _ _ c.in_ok-token.ensures c.in-Name.is) (primary_reads c.args.depth (token (kinds.Name c.in-Name.callee) c.in_ok-token.token.now.span ∷ c.in_ok-token.rest.now) c.name_or_call.result (c.name_or_call.ensures.reads))

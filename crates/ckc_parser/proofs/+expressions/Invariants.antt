@@ -67,13 +67,13 @@ decreases-expressions::operators-loop-around l = length l.rest
 
 abbrev pub invariant-expressions::closed-loop-selected : goal.invariant-expressions::closed-loop-selected
 invariant-expressions::closed-loop-selected l =
-    ((b : Base) → HasOperand b l.fn.around (expression l.fn.operand.expr) l.fn.operand.outer l.tokens → HasOperand b l.around (expression l.operand.expr) l.operand.outer l.rest) × (length l.rest ≤ length l.tokens)
+    ((b : Base) → HasOperand b l.fn.around (expression l.fn.operand.expr.value) l.fn.operand.outer l.tokens → HasOperand b l.around (expression l.operand.expr.value) l.operand.outer l.rest) × (length l.rest ≤ length l.tokens)
 
 abbrev pub decreases-expressions::closed-loop-selected : goal.decreases-expressions::closed-loop-selected
 decreases-expressions::closed-loop-selected l = length l.rest
 
 abbrev pub invariant-expressions::selectors-loop-token : goal.invariant-expressions::selectors-loop-token
-invariant-expressions::selectors-loop-token l = SelectsOne (expression l.fn.operand.expr) l.fn.operand.outer l.depth l.tokens (expression l.operand.expr) l.operand.outer l.rest × (length l.rest ≤ length l.tokens)
+invariant-expressions::selectors-loop-token l = SelectsOne (expression l.fn.operand.expr.value) l.fn.operand.outer l.depth l.tokens (expression l.operand.expr.value) l.operand.outer l.rest × (length l.rest ≤ length l.tokens)
 
 abbrev pub decreases-expressions::selectors-loop-token : goal.decreases-expressions::selectors-loop-token
 decreases-expressions::selectors-loop-token l = length l.rest

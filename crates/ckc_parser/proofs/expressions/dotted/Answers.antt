@@ -9,9 +9,9 @@ returns-in_err-member-clause-reads c = λ d start less. rw (err _ _ c.from_resid
 pub returns-in_err-member-2-clause-reads : goal.returns-in_err-member-2-clause-reads
 returns-in_err-member-2-clause-reads c = λ d start less. rw (err _ _ c.from_residual-in_err-member-2.ensures.1) s.selectors_no_room
 
-pub returns-in_err-base-clause-reads : goal.returns-in_err-base-clause-reads
-returns-in_err-base-clause-reads c = λ d start less. rw (err _ _ c.from_residual-in_err-base.ensures.1) s.selectors_no_room
+pub returns-in_err-selected-clause-reads : goal.returns-in_err-selected-clause-reads
+returns-in_err-selected-clause-reads c = λ d start less. rw (err _ _ c.from_residual-in_err-selected.ensures.1) s.selectors_no_room
 
 pub returns-clause-reads : goal.returns-clause-reads
 returns-clause-reads c = λ d start less.
-    rw (c.in_ok-member.ensures, c.in_ok-base.ensures, c.in_ok-member-2.ensures, c.join-outer.ensures) (dot_selects (room d c.args.operand less))
+    rw (c.in_ok-member.ensures, c.in_ok-selected.ensures.0, c.in_ok-selected.ensures.1, c.in_ok-member-2.ensures) (dot_selects (room d c.args.operand less))

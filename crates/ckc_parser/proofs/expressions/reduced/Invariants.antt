@@ -8,8 +8,8 @@ use Rattle.ckc_parser.proofs.expressions.reduced.Given as goal
 
 abbrev pub invariant-loop-alloc : goal.invariant-loop-alloc
 invariant-loop-alloc l =
-    ((b : Base) → IsAround b l.fn.around → IsLow l.fn.around.depth (expression_reach (expression l.fn.operand.expr)) → IsAround b l.around × IsLow l.around.depth (expression_reach (expression l.operand.expr)))
-    × ((b : Base) (ts : List Token) → l.looser ≡ looser_at ts → HasTight b l.fn.around l.looser (expression l.fn.operand.expr) l.fn.operand.outer ts → HasTight b l.around l.looser (expression l.operand.expr) l.operand.outer ts)
+    ((b : Base) → IsAround b l.fn.around → IsLow l.fn.around.depth (expression_reach (expression l.fn.operand.expr.value)) → IsAround b l.around × IsLow l.around.depth (expression_reach (expression l.operand.expr.value)))
+    × ((b : Base) (ts : List Token) → l.looser ≡ looser_at ts → HasTight b l.fn.around l.looser (expression l.fn.operand.expr.value) l.fn.operand.outer ts → HasTight b l.around l.looser (expression l.operand.expr.value) l.operand.outer ts)
 
 abbrev pub decreases-loop-alloc : goal.decreases-loop-alloc
 decreases-loop-alloc l = length l.around.pending.items

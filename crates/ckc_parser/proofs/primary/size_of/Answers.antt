@@ -14,7 +14,10 @@ pub returns-in_err-end-clause-reads : goal.returns-in_err-end-clause-reads
 returns-in_err-end-clause-reads c =
     rw (err _ _ c.from_residual-in_err-end.ensures.1, c.in_err-end.ensures.0, c.in_ok-rest.ensures) (s.size_of_close c.in_ok-read.ensures.reads.0 (rw add-one at c.in_ok-read.ensures.reads.1) c.in_err-end.ensures.1)
 
+pub returns-in_err-size-clause-reads : goal.returns-in_err-size-clause-reads
+returns-in_err-size-clause-reads c = rw (err _ _ c.from_residual-in_err-size.ensures.1) s.primary_no_room
+
 pub returns-clause-reads : goal.returns-clause-reads
 returns-clause-reads c =
     let low = low_around _ c.args.word.from _ c.requires (rw add-one at c.in_ok-read.ensures.reads.1) in
-    rw (c.in_ok-rest.ensures, c.join-span.ensures) (g.size_of (rw c.in_ok-end.ensures at c.in_ok-read.ensures.reads.0), low)
+    rw (c.in_ok-rest.ensures, c.in_ok-size.ensures.0, c.in_ok-size.ensures.1, c.join.ensures) (g.size_of (rw c.in_ok-end.ensures at c.in_ok-read.ensures.reads.0), low)

@@ -1,4 +1,4 @@
-use Rattle.std.proofs.Common.{◌≡◌, ◌≤◌, length, true, sym, ap, arith, add-one}
+use Rattle.std.proofs.Common.{◌≡◌, ◌≤◌, [], ◌∷◌, ◌++◌, length, true, sym, ap, ◌∙◌, arith, add-one}
 use Rattle.ckc_tree.specs.Statements.{statement}
 use Rattle.ckc_parser.specs.Tokens.{next_is}
 use Rattle.ckc_parser.specs.StuckStatements.{plain_word, statement_word}
@@ -52,7 +52,7 @@ plain-returns-in_err-read t c =
 
 pub plain-returns-in-Ok : goal.plain-returns-in-Ok
 plain-returns-in-Ok t c =
-    rw (c.in-Ok.ensures.at, c.in_ok-rest.ensures, c.block-stmt.ensures) (g.marked_block c.in-Ok.ensures.says c.in_ok-read.ensures.0, low_around _ _ _ c.requires.deep (rw add-one at c.in_ok-read.ensures.1))
+    rw (c.in-Ok.ensures.at, c.in_ok-rest.ensures, c.in_ok-stmt.ensures, c.block.ensures) (g.marked_block c.in-Ok.ensures.says c.in_ok-read.ensures.0, low_around _ _ _ c.requires.deep (rw add-one at c.in_ok-read.ensures.1))
 
 pub plain-statements-requires-in-Ok-open_brace : goal.plain-statements-requires-in-Ok-open_brace
 plain-statements-requires-in-Ok-open_brace t c =
@@ -64,7 +64,7 @@ plain-returns-in_err-inner t c = rw (err _ _ c.from_residual-in_err-inner.ensure
 
 pub plain-returns-in-Ok-open_brace : goal.plain-returns-in-Ok-open_brace
 plain-returns-in-Ok-open_brace t c =
-    rw (c.in-Ok-open_brace.ensures, c.block-unmarked.ensures) (g.block c.in_ok-inner.ensures.0, low_around _ _ _ c.requires.deep (rw add-one at c.in_ok-inner.ensures.1))
+    rw (c.in-Ok-open_brace.ensures, c.in_ok-unmarked.ensures, c.block-in-Ok-open_brace.ensures) (g.block c.in_ok-inner.ensures.0, low_around _ _ _ c.requires.deep (rw add-one at c.in_ok-inner.ensures.1))
 
 pub plain-if_statement-requires : goal.plain-if_statement-requires
 plain-if_statement-requires t c = let less = ap length c.in_ok-token.ensures in (omega arith, c.requires.deep)
@@ -96,8 +96,17 @@ plain-returns-in-Break t c = rw (begins _ _ _ _ c.in_ok-token.ensures c.in-Break
 pub plain-returns-in-Continue : goal.plain-returns-in-Continue
 plain-returns-in-Continue t c = rw (begins _ _ _ _ c.in_ok-token.ensures c.in-Continue.is) (c.continue_statement.ensures _ c.requires.deep)
 
-pub plain-returns-in-Semicolon : goal.plain-returns-in-Semicolon
-plain-returns-in-Semicolon t c = rw (begins _ _ _ _ c.in_ok-token.ensures c.in-Semicolon.is) (g.empty, omega arith)
+pub plain-returns-in_err-stmt : goal.plain-returns-in_err-stmt
+plain-returns-in_err-stmt t c = rw (err _ _ c.from_residual-in_err-stmt.ensures.1) stuck.statement_no_room
+
+pub plain-returns-in_err-unmarked : goal.plain-returns-in_err-unmarked
+plain-returns-in_err-unmarked t c = rw (err _ _ c.from_residual-in_err-unmarked.ensures.1) stuck.statement_no_room
+
+pub plain-returns-in_err-empty-in-Semicolon : goal.plain-returns-in_err-empty-in-Semicolon
+plain-returns-in_err-empty-in-Semicolon t c = rw (err _ _ c.from_residual-in_err-empty-in-Semicolon.ensures.1) stuck.statement_no_room
+
+pub plain-returns-in_ok-empty-in-Semicolon : goal.plain-returns-in_ok-empty-in-Semicolon
+plain-returns-in_ok-empty-in-Semicolon t c = rw (begins _ _ _ _ c.in_ok-token.ensures c.in-Semicolon.is, c.in_ok-empty-in-Semicolon.ensures) (g.empty, omega arith)
 
 pub statements-returns-in-Ok : goal.statements-returns-in-Ok
 statements-returns-in-Ok t c = ended c.statements.invariant.0 (rw c.in-Ok.ensures (g.none, omega arith))
@@ -113,7 +122,7 @@ statements-statements-smaller t c = omega (arith, statement_shorter c.in_ok-item
 
 pub statements-statements-preserved : goal.statements-statements-preserved
 statements-statements-preserved t c = (
-  goes_on c.in_ok-item.item c.in_ok-push.ensures c.statements.invariant.0
+  goes_on c.in_ok-item.item.value (c.in_ok-push.ensures ∙ ap (λ x. c.statements.form.items ++ x ∷ []) c.into_inner.ensures) c.statements.invariant.0
       (λ more w end d. (g.more c.in_ok-item.ensures.0 d.0, low_beside _ _ _ c.in_ok-item.ensures.1 d.1))
       (λ f d. stuck.others c.in_ok-item.ensures.0 c.in_ok-item.ensures.1 d),
   omega (arith, statement_shorter c.in_ok-item.ensures.0, c.statements.invariant.1),
@@ -151,7 +160,7 @@ if_statement-returns-in-Ok t c =
     let consequent = rw c.in-Ok.ensures at c.in_ok-consequent.ensures.0 in
     let condition_low = rw add-one at c.in_ok-condition.ensures.1 in
     let consequent_low = rw add-one at c.in_ok-consequent.ensures.1 in
-    rw c.in_ok-stmt.ensures
+    rw (c.in_ok-stmt.ensures, c.if_else.ensures)
     (blocks.is_if_else c.in_ok-condition.ensures.0 consequent c.in_ok-alternative.ensures.0, low_around _ _ _ c.requires (low_beside _ _ _ (low_beside _ _ _ condition_low consequent_low) (rw add-one at c.in_ok-alternative.ensures.1)))
 
 pub if_statement-returns-in_err-alone : goal.if_statement-returns-in_err-alone
@@ -160,7 +169,7 @@ if_statement-returns-in_err-alone t c = rw (err _ _ c.from_residual-in_err-alone
 pub if_statement-returns : goal.if_statement-returns
 if_statement-returns t c =
     let condition_low = rw add-one at c.in_ok-condition.ensures.1 in
-    rw c.in_ok-alone.ensures
+    rw (c.in_ok-alone.ensures, c.if_alone.ensures)
     (blocks.is_if c.in_ok-condition.ensures.0 c.in_ok-consequent.ensures.0 c.in_default.ensures.1, low_around _ _ _ c.requires (low_beside _ _ _ condition_low (rw add-one at c.in_ok-consequent.ensures.1)))
 
 pub while_statement-statement-requires : goal.while_statement-statement-requires
@@ -180,7 +189,7 @@ while_statement-returns-in_err-stmt t c = rw (err _ _ c.from_residual-in_err-stm
 pub while_statement-returns : goal.while_statement-returns
 while_statement-returns t c =
     let condition_low = rw add-one at c.in_ok-condition.ensures.1 in
-    rw c.in_ok-stmt.ensures
+    rw (c.in_ok-stmt.ensures, c.while_loop.ensures)
     (blocks.is_while c.in_ok-condition.ensures.0 c.in_ok-body.ensures.0, low_around _ _ _ c.requires (low_beside _ _ _ condition_low (rw add-one at c.in_ok-body.ensures.1)))
 
 pub for_statement-statement-requires : goal.for_statement-statement-requires
@@ -198,5 +207,5 @@ for_statement-returns-in_err-stmt t c = rw (err _ _ c.from_residual-in_err-stmt.
 
 pub for_statement-returns : goal.for_statement-returns
 for_statement-returns t c =
-    rw c.in_ok-stmt.ensures
-    (blocks.is_for c.in_ok-head.ensures c.in_ok-body.ensures.0, blocks.low_for (statement c.in_ok-body.body) c.args.start.from c.requires c.in_ok-head.ensures (rw add-one at c.in_ok-body.ensures.1))
+    rw (c.in_ok-stmt.ensures, c.for_loop.ensures)
+    (blocks.is_for c.in_ok-head.ensures c.in_ok-body.ensures.0, blocks.low_for (statement c.in_ok-body.body.value) c.args.start.from c.requires c.in_ok-head.ensures (rw add-one at c.in_ok-body.ensures.1))

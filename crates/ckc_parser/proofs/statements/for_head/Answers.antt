@@ -21,7 +21,7 @@ returns-in_err-step c =
     (stuck.for_step c.requires c.in_ok-initial.ensures.0 (rw add-one at c.in_ok-initial.ensures.1) (end_of c.in_ok-read.ensures.0) (rw add-one at c.in_ok-read.ensures.1) (rw add-one at c.in_err-step.ensures))
 
 pub returns : goal.returns
-returns c = record {
+returns c = rw c.in_ok-head.ensures (record {
   opening = _;
   first = _;
   second = _;
@@ -33,4 +33,7 @@ returns c = record {
   tested_low = rw add-one at c.in_ok-read.ensures.1;
   stepped = c.in_ok-step.ensures.0;
   stepped_low = rw add-one at c.in_ok-step.ensures.1;
-}
+})
+
+pub returns-in_err-head : goal.returns-in_err-head
+returns-in_err-head c = rw (err _ _ c.from_residual-in_err-head.ensures.1) stuck.statement_no_room

@@ -12,4 +12,7 @@ returns-in_err-end c = rw (err _ _ c.from_residual-in_err-end.ensures.1, c.in_er
 pub returns : goal.returns
 returns c =
     let assigned = rw c.in_ok-end.ensures at c.in_ok-assignment.ensures.0 in
-    rw (c.join-span.ensures, c.span.ensures) (g.assign assigned, c.in_ok-assignment.ensures.1)
+    rw (c.in_ok-stmt.ensures, c.join-span.ensures, c.span.ensures) (g.assign assigned, c.in_ok-assignment.ensures.1)
+
+pub returns-in_err-stmt : goal.returns-in_err-stmt
+returns-in_err-stmt c = rw (err _ _ c.from_residual-in_err-stmt.ensures.1) stuck.statement_no_room
