@@ -168,9 +168,7 @@ fn optional_initializer(
     }
     let (read, rest) = expression(alloc, depth, rest)?;
     let span = join(so_far, read.outer);
-    let form = Some(Initializer::Value {
-        value: Box::into_inner(read.expr),
-    });
+    let form = Some(Initializer::Value { value: read.expr });
     Ok((Read { form, span }, rest))
 }
 
@@ -279,7 +277,7 @@ pub fn assignment(
     if let Ok((operator, start, rest)) = step_operator(tokens) {
         let (read, rest) = unary(alloc, depth + 1, rest)?;
         let side = StepSide::Before;
-        let target = Box::into_inner(read.expr);
+        let target = read.expr;
         let span = join(start, read.outer);
         let step = Assignment::Step {
             operator,
@@ -306,7 +304,7 @@ pub fn assigned(
 {
     if let Ok((operator, end, rest)) = step_operator(tokens) {
         let side = StepSide::After;
-        let target = Box::into_inner(read.expr);
+        let target = read.expr;
         let span = join(read.outer, end);
         let step = Assignment::Step {
             operator,
@@ -319,8 +317,8 @@ pub fn assigned(
     let (operator, _, rest) = store_operator(tokens)?;
     let (stored, rest) = expression(alloc, depth + 1, rest)?;
     let span = join(read.outer, stored.outer);
-    let target = Box::into_inner(read.expr);
-    let value = Box::into_inner(stored.expr);
+    let target = read.expr;
+    let value = stored.expr;
     let store = Assignment::Store {
         operator,
         target,

@@ -288,7 +288,7 @@ fn named(alloc: Global, depth: u32, tokens: &[Token]) -> Result<(Box<Stmt>, &[To
     let (target, rest) = unary(alloc, depth + 1, tokens)?;
     if let Some((end, rest)) = call_end(&target.expr, rest) {
         let span = join(target.outer, end);
-        let call = Box::into_inner(target.expr);
+        let call = target.expr;
         let stmt = boxed(alloc, Stmt::Call { call, span })?;
         return Ok((stmt, rest));
     }
@@ -300,14 +300,18 @@ fn named(alloc: Global, depth: u32, tokens: &[Token]) -> Result<(Box<Stmt>, &[To
 }
 
 /// An expression in parentheses that belong to a statement.
-fn condition(alloc: Global, depth: u32, tokens: &[Token]) -> Result<(Expr, &[Token]), Stuck<'_>>
+fn condition(
+    alloc: Global,
+    depth: u32,
+    tokens: &[Token],
+) -> Result<(Box<Expr>, &[Token]), Stuck<'_>>
     requires { depth ≤ 200 }
-    ensures { Reads (λ x rest. SpellsCondition tokens.now (expression x) rest × IsLow depth (expression_reach (expression x))) (StuckCondition depth tokens.now) result }
+    ensures { Reads (λ x rest. SpellsCondition tokens.now (expression x.value) rest × IsLow depth (expression_reach (expression x.value))) (StuckCondition depth tokens.now) result }
 {
     let (_, rest) = open_paren(tokens)?;
     let (read, rest) = expression(alloc, depth, rest)?;
     let (_, rest) = close_paren(rest)?;
-    Ok((Box::into_inner(read.expr), rest))
+    Ok((read.expr, rest))
 }
 
 /// What stands behind the word `if`.
@@ -333,8 +337,8 @@ fn if_statement(
 }
 
 /// An `if` without `else`.
-fn if_alone(start: Span, condition: Expr, consequent: Box<Stmt>) -> Stmt
-    ensures { views.statement result ≡ views.If (expression condition) (views.statement consequent.value) (join start (views.statement_span (views.statement consequent.value))) }
+fn if_alone(start: Span, condition: Box<Expr>, consequent: Box<Stmt>) -> Stmt
+    ensures { views.statement result ≡ views.If (expression condition.value) (views.statement consequent.value) (join start (views.statement_span (views.statement consequent.value))) }
 {
     let span = join(start, consequent.span());
     Stmt::If {
@@ -346,8 +350,8 @@ fn if_alone(start: Span, condition: Expr, consequent: Box<Stmt>) -> Stmt
 }
 
 /// An `if` with its `else`.
-fn if_else(start: Span, condition: Expr, consequent: Box<Stmt>, alternative: Box<Stmt>) -> Stmt
-    ensures { views.statement result ≡ views.IfElse (expression condition) (views.statement consequent.value) (views.statement alternative.value) (join start (views.statement_span (views.statement alternative.value))) }
+fn if_else(start: Span, condition: Box<Expr>, consequent: Box<Stmt>, alternative: Box<Stmt>) -> Stmt
+    ensures { views.statement result ≡ views.IfElse (expression condition.value) (views.statement consequent.value) (views.statement alternative.value) (join start (views.statement_span (views.statement alternative.value))) }
 {
     let span = join(start, alternative.span());
     Stmt::If {
@@ -376,8 +380,8 @@ fn while_statement(
 }
 
 /// A `while` with its body.
-fn while_loop(start: Span, condition: Expr, body: Box<Stmt>) -> Stmt
-    ensures { views.statement result ≡ views.While (expression condition) (views.statement body.value) (join start (views.statement_span (views.statement body.value))) }
+fn while_loop(start: Span, condition: Box<Expr>, body: Box<Stmt>) -> Stmt
+    ensures { views.statement result ≡ views.While (expression condition.value) (views.statement body.value) (join start (views.statement_span (views.statement body.value))) }
 {
     let span = join(start, body.span());
     Stmt::While {
@@ -424,9 +428,9 @@ fn optional_value(
     alloc: Global,
     depth: u32,
     tokens: &[Token],
-) -> Result<(Read<Option<Expr>>, &[Token]), Stuck<'_>>
+) -> Result<(Read<Option<Box<Expr>>>, &[Token]), Stuck<'_>>
     requires { depth ≤ 200 }
-    ensures { Reads (λ x rest. SpellsEnd tokens.now (option_map expression x.form) x.span rest × IsLow depth (optional_expression_reach (option_map expression x.form))) (StuckForCondition depth tokens.now) result }
+    ensures { Reads (λ x rest. SpellsEnd tokens.now (option_map views.on_heap x.form) x.span rest × IsLow depth (optional_expression_reach (option_map views.on_heap x.form))) (StuckForCondition depth tokens.now) result }
 {
     if let Ok((span, rest)) = semicolon(tokens) {
         let form = None;
@@ -434,7 +438,7 @@ fn optional_value(
     }
     let (read, rest) = expression(alloc, depth, tokens)?;
     let (span, rest) = semicolon(rest)?;
-    let form = Some(Box::into_inner(read.expr));
+    let form = Some(read.expr);
     Ok((Read { form, span }, rest))
 }
 
@@ -459,7 +463,7 @@ fn for_step(
 #[derive(Drop)]
 struct ForHead {
     initial: ForInitial,
-    condition: Option<Expr>,
+    condition: Option<Box<Expr>>,
     step: Option<Assignment>,
 }
 
@@ -471,7 +475,7 @@ fn for_head(
     tokens: &[Token],
 ) -> Result<(Box<ForHead>, &[Token]), Stuck<'_>>
     requires { depth < 200 }
-    ensures { Reads (λ x rest. IsForHead depth tokens.now (views.for_initial x.value.initial) (option_map expression x.value.condition) (option_map views.assignment x.value.step) rest) (StuckStatement depth (token kinds.For start ∷ tokens.now)) result }
+    ensures { Reads (λ x rest. IsForHead depth tokens.now (views.for_initial x.value.initial) (option_map views.on_heap x.value.condition) (option_map views.assignment x.value.step) rest) (StuckStatement depth (token kinds.For start ∷ tokens.now)) result }
 {
     let (_, rest) = open_paren(tokens)?;
     let (initial, rest) = for_initial(alloc, depth + 1, rest)?;
@@ -506,7 +510,7 @@ fn for_statement(
 
 /// A `for` with its body.
 fn for_loop(start: Span, head: Box<ForHead>, body: Box<Stmt>) -> Stmt
-    ensures { views.statement result ≡ views.For (views.for_initial head.value.initial) (option_map expression head.value.condition) (option_map views.assignment head.value.step) (views.statement body.value) (join start (views.statement_span (views.statement body.value))) }
+    ensures { views.statement result ≡ views.For (views.for_initial head.value.initial) (option_map views.on_heap head.value.condition) (option_map views.assignment head.value.step) (views.statement body.value) (join start (views.statement_span (views.statement body.value))) }
 {
     let span = join(start, body.span());
     let head = Box::into_inner(head);

@@ -3,7 +3,7 @@
 ghost use Rattle.std.specs.Prelude.{◌≡◌, ◌++◌, OnOk};
 ghost use Rattle.std.specs.Option.{option_map};
 ghost use Rattle.ckc_tree.specs.Expressions.{expression};
-ghost use Rattle.ckc_tree.specs.Statements.{assignment, for_initial, statement};
+ghost use Rattle.ckc_tree.specs.Statements.{assignment, for_initial, on_heap, statement};
 ghost use Rattle.ckc_tree.specs.Items.{statement_list};
 ghost use Rattle.ckc_lexer.specs.declared.token.TokenKind.TheVariants as kinds;
 ghost use Rattle.ckc_printer.specs.StatementPieces.{mark_pieces, initial_pieces, optional_expression_pieces, optional_assignment_pieces, for_head_pieces, tested_pieces, statement_pieces, statements_pieces};
@@ -40,8 +40,8 @@ fn for_start(out: &mut Vec<u8>, initial: &ForInitial) -> Result<(), NoMemory>
 }
 
 /// An expression, if one is written.
-fn optional_expr(out: &mut Vec<u8>, written: &Option<Expr>) -> Result<(), NoMemory>
-    ensures { OnOk result (out.new.items ≡ out.old.items ++ spaced_text (optional_expression_pieces (option_map expression written.now))) }
+fn optional_expr(out: &mut Vec<u8>, written: &Option<Box<Expr>>) -> Result<(), NoMemory>
+    ensures { OnOk result (out.new.items ≡ out.old.items ++ spaced_text (optional_expression_pieces (option_map on_heap written.now))) }
 {
     match written {
         Some(expr) => put_expr(out, expr),
@@ -64,10 +64,10 @@ fn optional_assignment(out: &mut Vec<u8>, written: &Option<Assignment>) -> Resul
 fn for_head(
     out: &mut Vec<u8>,
     initial: &ForInitial,
-    condition: &Option<Expr>,
+    condition: &Option<Box<Expr>>,
     step: &Option<Assignment>,
 ) -> Result<(), NoMemory>
-    ensures { OnOk result (out.new.items ≡ out.old.items ++ spaced_text (for_head_pieces (for_initial initial.now) (option_map expression condition.now) (option_map assignment step.now))) }
+    ensures { OnOk result (out.new.items ≡ out.old.items ++ spaced_text (for_head_pieces (for_initial initial.now) (option_map on_heap condition.now) (option_map assignment step.now))) }
 {
     put(out, b"for (")?;
     for_start(out, initial)?;

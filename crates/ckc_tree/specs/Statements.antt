@@ -1,8 +1,10 @@
 -- Statements as plain data, and the view from the types of the code to them.
-use Rattle.std.specs.Prelude.{ℕ, List, map, Option, Some, None}
+use Rattle.std.specs.Prelude.{ℕ, List, map, Option, Some, None, Box}
+use Rattle.std.proofs.Common.{Global}
 use Rattle.std.specs.Option.{option_map}
 use Rattle.ckc_text.specs.declared.place.Span.{Span}
 use Rattle.ckc_tree.specs.declared.identifier.Identifier.{Identifier}
+use Rattle.ckc_tree.specs.declared.expr.Expr.{Expr}
 use Rattle.ckc_tree.specs.declared.stmt as code
 use Rattle.ckc_tree.specs.declared.stmt.Stmt.{Row_of-Stmt, end_of-Stmt, more_of-Stmt, Held-Stmt-If-2, None', Some'}
 use Rattle.ckc_tree.specs.declared.stmt.Stmt.TheVariants as stmts
@@ -92,9 +94,13 @@ statement_span (Return value span) = span
 statement_span (Break span) = span
 statement_span (Continue span) = span
 
+-- the expression that stands on the heap
+abbrev pub on_heap : Box Expr Global → Expression
+on_heap expr = expression expr.value
+
 -- what a value of the code's type stands for
 abbrev pub initializer : code.Initializer.Initializer → Initializer
-initializer (initializers.Value value) = Value (expression value)
+initializer (initializers.Value value) = Value (expression value.value)
 initializer (initializers.List constants span) = Constants constants.items span
 
 abbrev pub declarator : code.Declarator.Declarator → Declarator
@@ -104,8 +110,8 @@ abbrev pub declaration : code.Declaration.Declaration → Declaration
 declaration d = record { base = type_tree d.base; declarators = map declarator d.declarators.items; span = d.span }
 
 abbrev pub assignment : code.Assignment.Assignment → Assignment
-assignment (assignments.Store operator target value span) = Store operator (expression target) (expression value) span
-assignment (assignments.Step operator side target span) = Step operator side (expression target) span
+assignment (assignments.Store operator target value span) = Store operator (expression target.value) (expression value.value) span
+assignment (assignments.Step operator side target span) = Step operator side (expression target.value) span
 
 abbrev pub for_initial : code.ForInitial.ForInitial → ForInitial
 for_initial initials.Nothing = Nothing
@@ -123,12 +129,12 @@ abbrev mutual
   statement (stmts.Bundle inner span) = Bundle (map assignment inner.items) span
   statement (stmts.Declare d span) = Declare (declaration d) span
   statement (stmts.Assign a span) = Assign (assignment a) span
-  statement (stmts.Call call span) = CallAlone (expression call) span
+  statement (stmts.Call call span) = CallAlone (expression call.value) span
   statement (stmts.Empty span) = Empty span
-  statement (stmts.If' condition p consequent written span) = if_of (expression condition) (statement consequent) (alternative_of written) span
-  statement (stmts.While' condition p body span) = While (expression condition) (statement body) span
-  statement (stmts.For' initial condition step p body span) = For (for_initial initial) (option_map expression condition) (option_map assignment step) (statement body) span
-  statement (stmts.Return value span) = Return (option_map expression value) span
+  statement (stmts.If' condition p consequent written span) = if_of (expression condition.value) (statement consequent) (alternative_of written) span
+  statement (stmts.While' condition p body span) = While (expression condition.value) (statement body) span
+  statement (stmts.For' initial condition step p body span) = For (for_initial initial) (option_map on_heap condition) (option_map assignment step) (statement body) span
+  statement (stmts.Return value span) = Return (option_map on_heap value) span
   statement (stmts.Break span) = Break span
   statement (stmts.Continue span) = Continue span
 

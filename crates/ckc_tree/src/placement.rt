@@ -4,7 +4,7 @@ ghost use Rattle.std.specs.Prelude.{◌≡◌, map};
 ghost use Rattle.std.specs.Option.{option_map};
 ghost use Rattle.ckc_tree.specs.Types.{type_tree};
 ghost use Rattle.ckc_tree.specs.Expressions.{expression, expression_span, bounds as bounds_of, bounds_span};
-ghost use Rattle.ckc_tree.specs.Statements.{initializer as initializer_of, declarator as declarator_of, declaration as declaration_of, assignment as assignment_of, assignment_span, for_initial, statement};
+ghost use Rattle.ckc_tree.specs.Statements.{initializer as initializer_of, declarator as declarator_of, declaration as declaration_of, assignment as assignment_of, assignment_span, for_initial, on_heap, statement};
 ghost use Rattle.ckc_tree.specs.Items.{member as member_of, parameter as parameter_of, parameters as parameters_of, result_form, statement_list, body as body_of, function as function_of, item as item_of, tree};
 ghost use Rattle.ckc_tree.specs.Placement.{initializer_span, listed, member_span, body_span};
 ghost use Rattle.ckc_tree.specs.PlacementTests as tests;
@@ -301,8 +301,8 @@ fn initial_is_placed(initial: &ForInitial) -> bool
     }
 }
 
-fn optional_expression_span(expr: &Option<Expr>) -> Option<Span>
-    ensures { result ≡ option_map expression_span (option_map expression expr.now) }
+fn optional_expression_span(expr: &Option<Box<Expr>>) -> Option<Span>
+    ensures { result ≡ option_map expression_span (option_map on_heap expr.now) }
 {
     match expr {
         None => None,
@@ -310,8 +310,8 @@ fn optional_expression_span(expr: &Option<Expr>) -> Option<Span>
     }
 }
 
-fn optional_expression_is_placed(expr: &Option<Expr>) -> bool
-    ensures { result ≡ tests.optional_placed tests.expression_placed (option_map expression expr.now) }
+fn optional_expression_is_placed(expr: &Option<Box<Expr>>) -> bool
+    ensures { result ≡ tests.optional_placed tests.expression_placed (option_map on_heap expr.now) }
 {
     match expr {
         None => true,
@@ -338,8 +338,12 @@ fn optional_assignment_is_placed(assignment: &Option<Assignment>) -> bool
 }
 
 // Whether the parts in the head of a `for` are placed.
-fn head_is_placed(initial: &ForInitial, condition: &Option<Expr>, step: &Option<Assignment>) -> bool
-    ensures { result ≡ tests.head_placed (for_initial initial.now) (option_map expression condition.now) (option_map assignment_of step.now) }
+fn head_is_placed(
+    initial: &ForInitial,
+    condition: &Option<Box<Expr>>,
+    step: &Option<Assignment>,
+) -> bool
+    ensures { result ≡ tests.head_placed (for_initial initial.now) (option_map on_heap condition.now) (option_map assignment_of step.now) }
 {
     initial_is_placed(initial)
         && optional_expression_is_placed(condition)
@@ -350,11 +354,11 @@ fn head_is_placed(initial: &ForInitial, condition: &Option<Expr>, step: &Option<
 fn loop_is_in_order(
     span: Span,
     initial: &ForInitial,
-    condition: &Option<Expr>,
+    condition: &Option<Box<Expr>>,
     step: &Option<Assignment>,
     body: Span,
 ) -> bool
-    ensures { result ≡ tests.holds span (tests.loop_spans (for_initial initial.now) (option_map expression condition.now) (option_map assignment_of step.now) body) }
+    ensures { result ≡ tests.holds span (tests.loop_spans (for_initial initial.now) (option_map on_heap condition.now) (option_map assignment_of step.now) body) }
 {
     let initial = initial_span(initial);
     let condition = optional_expression_span(condition);

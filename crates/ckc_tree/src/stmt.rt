@@ -50,7 +50,7 @@ pub struct SignedConstant {
 #[derive(Drop)]
 pub enum Initializer {
     Value {
-        value: Expr,
+        value: Box<Expr>,
     },
     List {
         constants: Vec<SignedConstant>,
@@ -109,14 +109,14 @@ pub enum StepSide {
 pub enum Assignment {
     Store {
         operator: StoreOperator,
-        target: Expr,
-        value: Expr,
+        target: Box<Expr>,
+        value: Box<Expr>,
         span: Span,
     },
     Step {
         operator: StepOperator,
         side: StepSide,
-        target: Expr,
+        target: Box<Expr>,
         span: Span,
     },
 }
@@ -150,32 +150,32 @@ pub enum Stmt {
         span: Span,
     },
     Call {
-        call: Expr,
+        call: Box<Expr>,
         span: Span,
     },
     Empty {
         span: Span,
     },
     If {
-        condition: Expr,
+        condition: Box<Expr>,
         consequent: Box<Stmt>,
         alternative: Option<Box<Stmt>>,
         span: Span,
     },
     While {
-        condition: Expr,
+        condition: Box<Expr>,
         body: Box<Stmt>,
         span: Span,
     },
     For {
         initial: ForInitial,
-        condition: Option<Expr>,
+        condition: Option<Box<Expr>>,
         step: Option<Assignment>,
         body: Box<Stmt>,
         span: Span,
     },
     Return {
-        value: Option<Expr>,
+        value: Option<Box<Expr>>,
         span: Span,
     },
     Break {

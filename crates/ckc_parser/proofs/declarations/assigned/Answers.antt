@@ -6,7 +6,7 @@ use Rattle.ckc_parser.proofs.Readings.{err}
 use Rattle.ckc_parser.proofs.declarations.assigned.Goals as goal
 
 pub returns-in-Ok : goal.returns-in-Ok
-returns-in-Ok c = rw (c.in-Ok.ensures.at, c.into_inner-target.ensures, c.join-span.ensures) (readings.after c.in-Ok.ensures.says, low_around _ _ _ c.requires.deep c.requires.low)
+returns-in-Ok c = rw (c.in-Ok.ensures.at, c.join-span.ensures) (readings.after c.in-Ok.ensures.says, low_around _ _ _ c.requires.deep c.requires.low)
 
 pub returns-in_err-operator : goal.returns-in_err-operator
 returns-in_err-operator c = rw (err _ _ c.from_residual.ensures.1, c.in_err-operator.ensures.0) (readings.operator (no_assign_word _ c.in_err-operator.ensures.1 c.in_default.ensures.1))
@@ -16,5 +16,5 @@ returns-in_err-stored c = rw (err _ _ c.from_residual-in_err-stored.ensures.1, c
 
 pub returns : goal.returns
 returns c =
-    rw (c.in_ok-operator.ensures.at, c.into_inner-target-2.ensures, c.into_inner-value.ensures, c.join-span-2.ensures)
+    rw (c.in_ok-operator.ensures.at, c.join-span-2.ensures)
     (readings.store c.in_ok-operator.ensures.says c.in_ok-stored.ensures.reads.0, low_around _ _ _ c.requires.deep (low_beside _ _ _ c.requires.low (rw add-one at c.in_ok-stored.ensures.reads.1)))

@@ -27,7 +27,7 @@ returns-in_err-read c =
 pub returns-in-Ok : goal.returns-in-Ok
 returns-in-Ok c =
     let deep : c.args.depth < 200 = omega arith in
-    rw (c.in-Ok.ensures.at, c.into_inner-target.ensures, c.join-span.ensures) (g.before c.in-Ok.ensures.says c.in_ok-read.ensures.reads.0, low_around _ _ _ deep (rw add-one at c.in_ok-read.ensures.reads.1))
+    rw (c.in-Ok.ensures.at, c.join-span.ensures) (g.before c.in-Ok.ensures.says c.in_ok-read.ensures.reads.0, low_around _ _ _ deep (rw add-one at c.in_ok-read.ensures.reads.1))
 
 pub returns-in_err-target : goal.returns-in_err-target
 returns-in_err-target c =

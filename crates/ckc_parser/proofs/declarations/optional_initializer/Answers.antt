@@ -17,4 +17,4 @@ pub returns-in_err-read-2 : goal.returns-in_err-read-2
 returns-in_err-read-2 c = rw (err _ _ c.from_residual-in_err-read-2.ensures.1, c.in-Ok.ensures) (stuck.value c.in_default-open_brace.ensures.1 c.in_err-read-2.ensures.reads)
 
 pub returns : goal.returns
-returns c = rw (c.in-Ok.ensures, c.into_inner.ensures, c.join-span-2.ensures) (g.value c.in_ok-read-2.ensures.reads.0, c.in_ok-read-2.ensures.reads.1)
+returns c = rw (c.in-Ok.ensures, c.join-span-2.ensures) (g.value c.in_ok-read-2.ensures.reads.0, c.in_ok-read-2.ensures.reads.1)

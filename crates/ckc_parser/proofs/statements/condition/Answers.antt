@@ -15,4 +15,4 @@ returns-in_err-rest-2 c = rw (err _ _ c.from_residual-in_err-rest-2.ensures.1, c
 pub returns : goal.returns
 returns c =
     let inside = rw c.in_ok-rest-2.ensures at c.in_ok-read.ensures.reads.0 in
-    rw (c.in_ok-rest.ensures, c.into_inner.ensures) (readings.condition inside, c.in_ok-read.ensures.reads.1)
+    rw c.in_ok-rest.ensures (readings.condition inside, c.in_ok-read.ensures.reads.1)

@@ -13,7 +13,7 @@ returns-in_err-target c = rw (err _ _ c.from_residual.ensures.1) (stuck.named c.
 pub returns-in-Some : goal.returns-in-Some
 returns-in-Some c =
     let call = rw c.in-Some.ensures.at at (is_called c.requires.named c.in_ok-target.ensures.reads.0 (rw c.deref.ensures at c.in-Some.ensures.call)) in
-    rw (c.in_ok-stmt.ensures, c.into_inner-call.ensures, c.join-span.ensures) (g.call call, low_around _ _ _ c.requires.deep (rw add-one at c.in_ok-target.ensures.reads.1))
+    rw (c.in_ok-stmt.ensures, c.join-span.ensures) (g.call call, low_around _ _ _ c.requires.deep (rw add-one at c.in_ok-target.ensures.reads.1))
 
 pub returns-in_err-assignment : goal.returns-in_err-assignment
 returns-in_err-assignment c =

@@ -16,4 +16,4 @@ returns-in_err-span c = rw (err _ _ c.from_residual-in_err-span.ensures.1, c.in_
 pub returns : goal.returns
 returns c =
     let value = rw c.in_ok-span.ensures at c.in_ok-read.ensures.reads.0 in
-    rw c.into_inner.ensures (readings.present value, c.in_ok-read.ensures.reads.1)
+    (readings.present value, c.in_ok-read.ensures.reads.1)
