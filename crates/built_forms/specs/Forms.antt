@@ -166,11 +166,16 @@ body_form b = provided (is_absent b.mark) (option_and_then (λ body. provided (i
 
 -- ---- items
 
--- a file-level variable with its initial number, if one is written
+-- the number that an expression is
+abbrev pub number_form : e.Expression → Option ℕ
+number_form (e.Number value span) = Some value
+number_form _ = None
+
+-- the initial number of a file-level variable, if one is written
 abbrev pub initial_form : Option s.Initializer → Option (Option ℕ)
 initial_form None = Some None
-initial_form (Some (s.Value (e.Number value span))) = Some (Some value)
-initial_form _ = None
+initial_form (Some (s.Value value)) = option_map Some (number_form value)
+initial_form (Some (s.Constants constants span)) = None
 
 abbrev pub variable_form : Span → s.Declarator → Option p.Variable
 variable_form span d = option_map (λ initial. record { name = d.name.name; initial = initial; span = span }) (initial_form d.initializer)

@@ -3,10 +3,11 @@
 ghost use Rattle.std.specs.Prelude.{◌≡◌, map};
 ghost use Rattle.std.specs.Option.{option_map};
 ghost use Rattle.ckc_tree.specs.Types.{type_name};
+ghost use Rattle.ckc_tree.specs.Expressions.{expression};
 ghost use Rattle.ckc_tree.specs.Statements.{initializer, declarator};
 ghost use Rattle.ckc_tree.specs.Items as items;
 ghost use Rattle.built_forms.specs.Program.{statement as form_of, variable as variable_of, prototype as prototype_of};
-ghost use Rattle.built_forms.specs.Forms.{Gives, provided, initial_form, variable_form, variables_form, parameter_form, parameters_form, listed_form, is_int_name, is_plain_function, is_prototype, declared_form, is_main, is_body, body_form, statements_form, main_form};
+ghost use Rattle.built_forms.specs.Forms.{Gives, provided, number_form, initial_form, variable_form, variables_form, parameter_form, parameters_form, listed_form, is_int_name, is_plain_function, is_prototype, declared_form, is_main, is_body, body_form, statements_form, main_form};
 
 use crate::expressions::copied;
 use crate::program::{Global as Variable, Prototype, Stmt};
@@ -33,17 +34,26 @@ pub fn variables(alloc: Global, written: &Variables) -> Result<Variable, Refused
     }
 }
 
+// The number that an expression is.
+fn number(expr: &Expr) -> Option<u32>
+    ensures { result ≡ number_form (expression expr.now) }
+{
+    match expr {
+        Expr::Number { value, span: _ } => Some(*value),
+        _ => None,
+    }
+}
+
 // The initial number of a variable, if one is written.
 fn initial(written: &Option<stmt::Initializer>) -> Option<Option<u32>>
     ensures { result ≡ initial_form (option_map initializer written.now) }
 {
     match written {
         None => Some(None),
-        Some(
-            stmt::Initializer::Value {
-                value: Expr::Number { value, span: _ },
-            },
-        ) => Some(Some(*value)),
+        Some(stmt::Initializer::Value { value }) => {
+            let value = number(value)?;
+            Some(Some(value))
+        }
         _ => None,
     }
 }
