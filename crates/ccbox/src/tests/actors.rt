@@ -1,5 +1,6 @@
 // The actor of a file, over files in memory.
 
+use super::calls::{field, written_out};
 use act_words::act::Turn;
 use act_words::writing::write_act;
 use ckc_io::mem_shelf::MemShelf;
@@ -8,111 +9,123 @@ use sandbox_actor::list_actor::ListActor;
 use std::alloc::Global;
 use std::test::Fail;
 
-// The actor of the file `acts` with this text, over a shelf whose reads of these numbers fail.
-fn actor_of(
-    alloc: Global,
-    text: &[u8],
-    failing: &[u64],
-) -> Result<(MemShelf, ListActor), ActorFault> {
+// The files of a test: `acts`, with this text.
+fn shelf_of(alloc: Global, text: &[u8]) -> Result<MemShelf, Fail> {
     let mut shelf = MemShelf::new(alloc);
-    if shelf.add("acts", text).is_err() {
-        return Err(ActorFault::NoMemory);
-    }
-    for call in failing {
-        if shelf.fail_at(*call).is_err() {
-            return Err(ActorFault::NoMemory);
-        }
-    }
-    let actor = ListActor::start(alloc, &mut shelf, "acts")?;
-    Ok((shelf, actor))
+    shelf.add("acts", text)?;
+    Ok(shelf)
 }
 
-// The lines of the acts that the file gives, and then why no more came.
-fn given(alloc: Global, text: &[u8]) -> Result<Vec<u8>, Fail> {
-    let (mut shelf, mut actor) = actor_of(alloc, text, &[])?;
-    let now = Now {
-        turn: Turn::Trusted,
-        last: None,
-    };
-    let mut lines = Vec::new(alloc);
-    for _ in 0..8 {
-        match actor.next(&mut shelf, &now) {
-            Ok(act) => lines.extend_from_slice(write_act(alloc, &act)?.as_slice())?,
-            Err(ActorFault::Ended) => {
-                lines.extend_from_slice(b"end")?;
-                return Ok(lines);
-            }
-            Err(ActorFault::Line { line, code }) => {
-                let number = code.number();
-                lines.extend_from_slice(format!(in alloc; "{line} {number}")?.as_bytes())?;
-                return Ok(lines);
-            }
-            Err(fault) => return Err(Fail::from(fault)),
+// The line of the next act, or why none came.
+fn given(
+    alloc: Global,
+    shelf: &mut MemShelf,
+    actor: &mut ListActor,
+    turn: Turn,
+) -> Result<Vec<u8>, Fail> {
+    match actor.next(shelf, &Now { turn, last: None }) {
+        Ok(act) => Ok(write_act(alloc, &act)?),
+        Err(ActorFault::Ended) => Ok(Vec::from_slice(alloc, b"end\n")?),
+        Err(ActorFault::Line { line, code }) => {
+            Ok(format!(in alloc; "{line} {}\n", code.number())?.into_bytes())
         }
+        Err(fault) => Err(Fail::from(fault)),
     }
-    Ok(lines)
 }
+
+// Fails unless the actor gives this next, with a line feed behind it.
+fn expect_next(
+    alloc: Global,
+    shelf: &mut MemShelf,
+    actor: &mut ListActor,
+    turn: Turn,
+    expected: &str,
+) -> Result<(), Fail> {
+    let found = given(alloc, shelf, actor, turn)?;
+    if found.as_slice().strip_suffix(b"\n") == Some(expected.as_bytes()) {
+        Ok(())
+    } else {
+        Err(Fail::new(expected))
+    }
+}
+
+// Fails unless the lines of the acts that a file gives, and then why no more came, are these.
+fn expect_all(alloc: Global, shelf: &mut MemShelf, turn: Turn, expected: &str) -> Result<(), Fail> {
+    let mut actor = ListActor::start(alloc, shelf, "acts")?;
+    for line in expected.lines() {
+        expect_next(alloc, shelf, &mut actor, turn, line)?;
+    }
+    Ok(())
+}
+
+// Fails unless a file of this text gives these lines.
+fn expect_given(alloc: Global, text: &[u8], expected: &str) -> Result<(), Fail> {
+    let mut shelf = shelf_of(alloc, text)?;
+    expect_all(alloc, &mut shelf, Turn::Trusted, expected)
+}
+
+// A row has the lines and the file.
+fn expect_row(alloc: Global, row: &str) -> Result<(), Fail> {
+    let row = written_out(alloc, row)?;
+    let (expected, text) = field(row.as_str());
+    expect_given(alloc, text.as_bytes(), expected)
+}
+
+const FILES: &str = "end@
+{\"act\":\"go\"}~{\"act\":\"stop\"}~end@{\"act\":\"go\"}~~{\"act\":\"stop\"}
+{\"act\":\"return\",\"value\":7}~end@ \t\r~{\"value\":7,\"act\":\"return\"}\r~~
+{\"act\":\"go\"}~3 A1@{\"act\":\"go\"}~ ~x~{\"act\":\"go\"}~
+2 A5@~{\"act\":\"read\",\"at\":0,\"len\":65}
+1 A1@\u{b}~
+end@`4096× `
+1 A4@`4097× `
+end@`1048576×~`
+1048577 A4@`1048577×~`
+1048577 A4@`1048600×~`";
 
 #[test]
 fn files_to_their_ends(rt: HostRuntime) -> Result<(), Fail> {
-    let alloc = rt.alloc();
-    let cases = [
-        ("", "end"),
-        (
-            "{\"act\":\"go\"}\n\n{\"act\":\"stop\"}",
-            "{\"act\":\"go\"}\n{\"act\":\"stop\"}\nend",
-        ),
-        (
-            " \t\r\n{\"value\":7,\"act\":\"return\"}\r\n\n",
-            "{\"act\":\"return\",\"value\":7}\nend",
-        ),
-        (
-            "{\"act\":\"go\"}\n \nx\n{\"act\":\"go\"}\n",
-            "{\"act\":\"go\"}\n3 A1",
-        ),
-        ("\n{\"act\":\"read\",\"at\":0,\"len\":65}", "2 A5"),
-        ("\u{b}\n", "1 A1"),
-    ];
-    for (text, want) in cases {
-        assert_eq!(rt; given(alloc, text.as_bytes())?.as_slice(), want.as_bytes());
+    for row in FILES.lines() {
+        expect_row(rt.alloc(), row)?;
     }
     Ok(())
 }
 
 #[test]
-fn long_lines_and_files(rt: HostRuntime) -> Result<(), Fail> {
-    let alloc = rt.alloc();
-    let cases = [
-        (b' ', 4_096, "end"),
-        (b' ', 4_097, "1 A4"),
-        (b'\n', 1_048_576, "end"),
-        (b'\n', 1_048_577, "1048577 A4"),
-        (b'\n', 1_048_600, "1048577 A4"),
-    ];
-    for (byte, count, want) in cases {
-        let text = vec![in alloc; byte; count]?;
-        assert_eq!(rt; given(alloc, text.as_slice())?.as_slice(), want.as_bytes());
+fn missing_file(rt: HostRuntime) -> Result<(), Fail> {
+    let mut empty = MemShelf::new(rt.alloc());
+    match ListActor::start(rt.alloc(), &mut empty, "acts") {
+        Err(ActorFault::Missing) => Ok(()),
+        _ => Err(Fail::new("the file is not missing")),
     }
-    Ok(())
+}
+
+const GO: &[u8] = b"{\"act\":\"go\"}\n";
+
+// Fails unless no actor starts where the read of this number fails.
+fn expect_failed(alloc: Global, read: u64) -> Result<(), Fail> {
+    let mut shelf = shelf_of(alloc, GO)?;
+    shelf.fail_at(read)?;
+    match ListActor::start(alloc, &mut shelf, "acts") {
+        Err(ActorFault::Failed) => Ok(()),
+        _ => Err(Fail::new("the file was read")),
+    }
 }
 
 #[test]
-fn missing_and_failing_files(rt: HostRuntime) -> Result<(), Fail> {
-    let alloc = rt.alloc();
-    let mut empty = MemShelf::new(alloc);
-    let missing = ListActor::start(alloc, &mut empty, "acts");
-    assert!(rt; matches!(missing, Err(ActorFault::Missing)));
-    let text = b"{\"act\":\"go\"}\n";
-    for call in [1, 2] {
-        let failed = actor_of(alloc, text, &[call]);
-        assert!(rt; matches!(failed, Err(ActorFault::Failed)));
-    }
-    let (mut shelf, mut actor) = actor_of(alloc, text, &[3])?;
-    let now = Now {
-        turn: Turn::Sandbox,
-        last: None,
-    };
-    let _go = actor.next(&mut shelf, &now)?;
-    assert!(rt; matches!(actor.next(&mut shelf, &now), Err(ActorFault::Ended)));
-    Ok(())
+fn failing_files(rt: HostRuntime) -> Result<(), Fail> {
+    expect_failed(rt.alloc(), 1)?;
+    expect_failed(rt.alloc(), 2)
+}
+
+#[test]
+fn reads_no_more_than_the_file(rt: HostRuntime) -> Result<(), Fail> {
+    let mut shelf = shelf_of(rt.alloc(), GO)?;
+    shelf.fail_at(3)?;
+    expect_all(
+        rt.alloc(),
+        &mut shelf,
+        Turn::Sandbox,
+        "{\"act\":\"go\"}\nend",
+    )
 }

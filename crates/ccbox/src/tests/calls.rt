@@ -5,14 +5,15 @@ use ckc_io::mem_shelf::MemShelf;
 use ckc_io::mem_sink::MemSink;
 use ckc_io::shelf::{Shelf, ShelfFault};
 use std::alloc::Global;
-use std::process::Abort;
+use std::str;
 use std::test::Fail;
+
+// A row of a table is a case, with fields between `@`s. A `~` stands for a line feed, and a count, a `×` and a piece
+// between two backticks for so many of the piece. No case has one of these characters.
 
 const FIRST_RUN: &str = "int g = 1; int main(void) { ptr<int> p = &g; *p = 41; return g + 1; }\n";
 
-const NOT_BUILT: &str = "[refused E09 1:1 not built yet]\n";
-
-const USAGE: &str = "[usage] ccbox check|split|run|record|big|exec\n";
+const RUN: [&str; 2] = ["run", "a.c"];
 
 // A shelf that gives one byte a call, and tells nothing of its files.
 #[derive(Drop)]
@@ -35,268 +36,197 @@ impl Shelf for OneByteShelf {
     }
 }
 
-// What a call with these words writes over a shelf, and its status. The output takes one byte at a time, and
-// the put of this number fails, if there is one.
-pub fn call_over<F: Shelf>(
-    alloc: Global,
-    words: &[&str],
-    shelf: &mut F,
-    failing: Option<u64>,
-) -> Result<(Vec<u8>, u8), Fail> {
-    let mut sink = MemSink::with_room(alloc, 512, 1)?;
-    if let Some(failing) = failing {
-        sink.fail_at(failing)?;
-    }
-    let status = ccbox(alloc, words, shelf, &mut sink);
-    Ok((Vec::from_slice(alloc, sink.bytes())?, status.number))
+// What stands before the first `@`, and behind it.
+pub fn field(row: &str) -> (&str, &str) {
+    row.split_once('@').unwrap_or((row, ""))
 }
 
-// The files of a test: `a.c`, with this source.
-pub fn files(alloc: Global, source: &[u8]) -> Result<MemShelf, Fail> {
+// What a part of a row between backticks, or outside of them, stands for.
+fn repeated(alloc: Global, part: &str) -> Result<String, Fail> {
+    match part.split_once('×') {
+        Some((times, piece)) => Ok(piece.repeat(alloc, times.parse::<usize>()?)?),
+        None => Ok(String::from_str(alloc, part)?),
+    }
+}
+
+// What a row stands for.
+pub fn written_out(alloc: Global, row: &str) -> Result<String, Fail> {
+    let mut text = String::new(alloc);
+    for part in row.split('`') {
+        text.push_str(repeated(alloc, part)?.as_str())?;
+    }
+    Ok(text.replace(alloc, '~', "\n")?)
+}
+
+// The words of a text, with one space between two of them; an empty text has none.
+fn words_of(alloc: Global, text: &str) -> Result<Vec<&str>, Fail> {
+    let mut words = Vec::new(alloc);
+    if !text.is_empty() {
+        for word in text.split(' ') {
+            words.push(word)?;
+        }
+    }
+    Ok(words)
+}
+
+// The files of a test: `a.c` with this source, and `f` with these acts.
+fn files(alloc: Global, source: &str, acts: &str) -> Result<MemShelf, Fail> {
     let mut shelf = MemShelf::new(alloc);
-    shelf.add("a.c", source)?;
+    shelf.add("a.c", source.as_bytes())?;
+    shelf.add("f", acts.as_bytes())?;
     Ok(shelf)
 }
 
-// Words, and what a call with them prints over a source and ends with.
-fn expect<R: AllocGlobal + Abort>(
-    rt: &R,
+// An output that takes one byte at a time.
+fn output(alloc: Global) -> Result<MemSink, Fail> {
+    Ok(MemSink::with_room(alloc, 512, 1)?)
+}
+
+// Fails unless a call with these words over a shelf prints a text and ends with a status.
+fn expect_call<F: Shelf>(
+    alloc: Global,
     words: &[&str],
-    source: &[u8],
+    shelf: &mut F,
+    sink: &mut MemSink,
+    text: &[u8],
+    status: u8,
+) -> Result<(), Fail> {
+    let ended = ccbox(alloc, words, shelf, sink);
+    if sink.bytes() == text && ended.number == status {
+        Ok(())
+    } else {
+        Err(Fail::new(str::from_utf8(sink.bytes())?))
+    }
+}
+
+// Fails unless a call with these words over a source and acts prints a text and ends with a status.
+fn expect(
+    alloc: Global,
+    words: &[&str],
+    source: &str,
+    acts: &str,
     text: &str,
     status: u8,
 ) -> Result<(), Fail> {
-    let mut shelf = files(rt.alloc(), source)?;
-    let (written, number) = call_over(rt.alloc(), words, &mut shelf, None)?;
-    assert_eq!(rt; written.as_slice(), text.as_bytes(), "{text}");
-    assert_eq!(rt; number, status, "{text}");
+    let mut shelf = files(alloc, source, acts)?;
+    let mut sink = output(alloc)?;
+    expect_call(alloc, words, &mut shelf, &mut sink, text.as_bytes(), status)
+}
+
+// A row has the status, the words, the text, the acts and the source.
+fn expect_row(alloc: Global, row: &str) -> Result<(), Fail> {
+    let row = written_out(alloc, row)?;
+    let (status, row) = field(row.as_str());
+    let (words, row) = field(row);
+    let (text, row) = field(row);
+    let (acts, source) = field(row);
+    let words = words_of(alloc, words)?;
+    expect(
+        alloc,
+        words.as_slice(),
+        source,
+        acts,
+        text,
+        status.parse::<u8>()?,
+    )
+}
+
+// Fails unless each row of a table has what its call answers.
+pub fn expect_rows(alloc: Global, table: &str) -> Result<(), Fail> {
+    for row in table.lines() {
+        expect_row(alloc, row)?;
+    }
     Ok(())
 }
 
-// A source, and what its run prints and ends with.
-fn expect_run<R: AllocGlobal + Abort>(
-    rt: &R,
-    source: &[u8],
-    text: &str,
-    status: u8,
-) -> Result<(), Fail> {
-    expect(rt, &["run", "a.c"], source, text, status)
-}
+const RUNS: &str =
+    "0@run a.c@[exit 42]~@@int g = 1; int main(void) { ptr<int> p = &g; *p = 41; return g + 1; }~
+6@run a.c@[check C1 1:41 null]~@@int main(void) { ptr<int> p = 0; return *p; }~
+6@run a.c@[check C1 1:34 null]~@@int main(void) { ptr<int> p = 0; *p = 1; return 0; }
+6@run a.c@[check C6 1:45 overflow]~@@int g = 2147483647; int main(void) { return g + 1; }~
+0@run a.c@[exit -2147483648]~@@int main(void) { return 0 - 2147483647 - 1; }
+6@run a.c@[check C6 2:10 overflow]~@@int main(void) {~  return 0 - 2147483647 - 1 - 1;~}~
+0@run a.c@[exit 5]~@@int a = 7; int b; int main(void) { ptr<int> p = &a; ptr<int> q = &b; *q = *p - 2; a = b + b; return *p - b; }
+0@run a.c@[exit 3]~@@int main(void) { return 3; }
+0@run a.c@[exit 4]~@@int main(void) { return 5 - (2 - 1); } // four~
+0@run a.c@[exit 42]~@@#include <stdio.h>~#define N 40~int g = N; /* two~lines */ int main(void) { return (g) + 0x2; }
+0@run a.c@[exit 3]~@@int x; int main(void) { (x) = 3; return (x); }
+6@run a.c@[check C6 1:50 overflow]~@@int g = 2147483647; int main(void) { return 0 + (g + 1); }";
 
 #[test]
 fn runs(rt: HostRuntime) -> Result<(), Fail> {
-    let cases = [
-        (FIRST_RUN, "[exit 42]\n", 0),
-        (
-            "int main(void) { ptr<int> p = 0; return *p; }\n",
-            "[check C1 1:41 null]\n",
-            6,
-        ),
-        (
-            "int main(void) { ptr<int> p = 0; *p = 1; return 0; }",
-            "[check C1 1:34 null]\n",
-            6,
-        ),
-        (
-            "int g = 2147483647; int main(void) { return g + 1; }\n",
-            "[check C6 1:45 overflow]\n",
-            6,
-        ),
-        (
-            "int main(void) { return 0 - 2147483647 - 1; }",
-            "[exit -2147483648]\n",
-            0,
-        ),
-        (
-            "int main(void) {\n  return 0 - 2147483647 - 1 - 1;\n}\n",
-            "[check C6 2:10 overflow]\n",
-            6,
-        ),
-        (
-            "int a = 7; int b; int main(void) { ptr<int> p = &a; ptr<int> q = &b; *q = *p - 2; a = b + b; return *p - b; }",
-            "[exit 5]\n",
-            0,
-        ),
-        ("int main(void) { return 3; }", "[exit 3]\n", 0),
-        (
-            "int main(void) { return 5 - (2 - 1); } // four\n",
-            "[exit 4]\n",
-            0,
-        ),
-        (
-            "#include <stdio.h>\n#define N 40\nint g = N; /* two\nlines */ int main(void) { return (g) + 0x2; }",
-            "[exit 42]\n",
-            0,
-        ),
-        (
-            "int x; int main(void) { (x) = 3; return (x); }",
-            "[exit 3]\n",
-            0,
-        ),
-        (
-            "int g = 2147483647; int main(void) { return 0 + (g + 1); }",
-            "[check C6 1:50 overflow]\n",
-            6,
-        ),
-    ];
-    for (source, text, status) in cases {
-        expect_run(&rt, source.as_bytes(), text, status)?;
-    }
-    Ok(())
+    expect_rows(rt.alloc(), RUNS)
 }
+
+const REFUSALS: &str = "1@run a.c@[refused E09 1:1 not built yet]~@@
+1@run a.c@[refused E09 1:1 not built yet]~@@int main(void) { while (1) { } }~
+1@run a.c@[refused E09 1:1 not built yet]~@@int a; int a; int main(void) { return 0; }
+1@run a.c@[refused E09 1:1 not built yet]~@@int a; int main(void) { ptr<int> a = 0; return 0; }
+1@run a.c@[refused E09 1:1 not built yet]~@@int putchar; int main(void) { return 0; }
+1@run a.c@[refused E09 1:1 not built yet]~@@int main(void) { return x; }
+1@run a.c@[refused E09 1:1 not built yet]~@@int g; int main(void) { return *g; }
+1@run a.c@[refused E09 1:1 not built yet]~@@int main(void) { ptr<int> p = 1; return 0; }
+1@run a.c@[refused E09 1:1 not built yet]~@@int main(void) { ptr<int> p = 0; return p; }
+1@run a.c@[refused E09 1:1 not built yet]~@@int x; int main(void) { x = 1; ptr<int> p = 0; return 0; }
+1@run a.c@[refused E09 1:1 not built yet]~@@int start(void) { return 0; }
+1@run a.c@[refused E09 1:1 not built yet]~@@int main(void) { }
+1@run a.c@[refused E09 1:1 not built yet]~@@// int main(void) { return 0; }
+1@run a.c@[refused E01 1:4 byte not allowed]~@@int\x0b
+1@run a.c@[refused E02 1:9 no token]~@@int x = 08; int main(void) { return 0; }
+1@run a.c@[refused E03 1:1 open comment or string]~@@/*
+1@run a.c@[refused E04 1:9 number too large]~@@int g = 2147483648; int main(void) { return g; }
+1@run a.c@[refused E05 2:1 directive]~@@#define N 4~#define N 5~
+1@run a.c@[refused E06 1:5 syntax]~@@int while; int main(void) { return 0; }
+1@run a.c@[refused E06 1:29 syntax]~@@int main(void) { return 1 - ; }
+1@run a.c@[refused E06 1:33 syntax]~@@int main(void) { return 0; } int
+1@run a.c@[refused E06 1:30 syntax]~@@int main(void) { return 0; } ;
+1@run a.c@[refused E06 1:27 syntax]~@@int main(void) { return 0;
+1@run a.c@[refused E06 1:27 syntax]~@@int main(void) { return 0 }";
 
 #[test]
 fn refusals(rt: HostRuntime) -> Result<(), Fail> {
-    let sources = [
-        "",
-        "int main(void) { while (1) { } }\n",
-        "int a; int a; int main(void) { return 0; }",
-        "int a; int main(void) { ptr<int> a = 0; return 0; }",
-        "int putchar; int main(void) { return 0; }",
-        "int main(void) { return x; }",
-        "int g; int main(void) { return *g; }",
-        "int main(void) { ptr<int> p = 1; return 0; }",
-        "int main(void) { ptr<int> p = 0; return p; }",
-        "int x; int main(void) { x = 1; ptr<int> p = 0; return 0; }",
-        "int start(void) { return 0; }",
-        "int main(void) { }",
-        "// int main(void) { return 0; }",
-    ];
-    for source in sources {
-        expect_run(&rt, source.as_bytes(), NOT_BUILT, 1)?;
-    }
-    Ok(())
+    expect_rows(rt.alloc(), REFUSALS)
 }
 
-#[test]
-fn faults(rt: HostRuntime) -> Result<(), Fail> {
-    let cases = [
-        ("int\x0b", "[refused E01 1:4 byte not allowed]\n"),
-        (
-            "int x = 08; int main(void) { return 0; }",
-            "[refused E02 1:9 no token]\n",
-        ),
-        ("/*", "[refused E03 1:1 open comment or string]\n"),
-        (
-            "int g = 2147483648; int main(void) { return g; }",
-            "[refused E04 1:9 number too large]\n",
-        ),
-        (
-            "#define N 4\n#define N 5\n",
-            "[refused E05 2:1 directive]\n",
-        ),
-        (
-            "int while; int main(void) { return 0; }",
-            "[refused E06 1:5 syntax]\n",
-        ),
-        (
-            "int main(void) { return 1 - ; }",
-            "[refused E06 1:29 syntax]\n",
-        ),
-        (
-            "int main(void) { return 0; } int",
-            "[refused E06 1:33 syntax]\n",
-        ),
-        (
-            "int main(void) { return 0; } ;",
-            "[refused E06 1:30 syntax]\n",
-        ),
-        ("int main(void) { return 0;", "[refused E06 1:27 syntax]\n"),
-        ("int main(void) { return 0 }", "[refused E06 1:27 syntax]\n"),
-    ];
-    for (source, text) in cases {
-        expect_run(&rt, source.as_bytes(), text, 1)?;
-    }
-    Ok(())
-}
-
-// A program with these many differences, each inside the one before.
-fn with_differences(alloc: Global, count: u32) -> Result<String, Fail> {
-    let mut source = String::new(alloc);
-    source.push_str("int main(void) { return ")?;
-    for _ in 1..count {
-        source.push_str("0 - (")?;
-    }
-    source.push_str("0 - 1")?;
-    for _ in 1..count {
-        source.push_str(")")?;
-    }
-    source.push_str("; }")?;
-    Ok(source)
-}
-
-#[test]
-fn depths(rt: HostRuntime) -> Result<(), Fail> {
-    // The body, the statement, the differences and the last numbers stand one inside the other.
-    let highest = with_differences(rt.alloc(), 197)?;
-    expect_run(&rt, highest.as_bytes(), "[exit -1]\n", 0)?;
-    let text = "[refused E07 1:1010 nesting too deep]\n";
-    let higher = with_differences(rt.alloc(), 198)?;
-    expect_run(&rt, higher.as_bytes(), text, 1)
-}
+const WORDS: &str =
+    "3@run nofile@[missing nofile]~@@int g = 1; int main(void) { ptr<int> p = &g; *p = 41; return g + 1; }~
+3@run @[missing ]~@@int g = 1; int main(void) { ptr<int> p = &g; *p = 41; return g + 1; }~
+2@@[usage] ccbox check|split|run|record|big|exec~@@int g = 1; int main(void) { ptr<int> p = &g; *p = 41; return g + 1; }~
+2@run@[usage] ccbox check|split|run|record|big|exec~@@int g = 1; int main(void) { ptr<int> p = &g; *p = 41; return g + 1; }~
+2@run a.c b.c@[usage] ccbox check|split|run|record|big|exec~@@int g = 1; int main(void) { ptr<int> p = &g; *p = 41; return g + 1; }~
+2@check a.c@[usage] ccbox check|split|run|record|big|exec~@@int g = 1; int main(void) { ptr<int> p = &g; *p = 41; return g + 1; }~
+2@run -a@[usage] ccbox check|split|run|record|big|exec~@@int g = 1; int main(void) { ptr<int> p = &g; *p = 41; return g + 1; }~
+2@ a.c@[usage] ccbox check|split|run|record|big|exec~@@int g = 1; int main(void) { ptr<int> p = &g; *p = 41; return g + 1; }~
+2@run a.c --view --view@[usage] ccbox check|split|run|record|big|exec~@@int g = 1; int main(void) { ptr<int> p = &g; *p = 41; return g + 1; }~
+2@run a.c --acts@[usage] ccbox check|split|run|record|big|exec~@@int g = 1; int main(void) { ptr<int> p = &g; *p = 41; return g + 1; }~
+2@run a.c --acts -f@[usage] ccbox check|split|run|record|big|exec~@@int g = 1; int main(void) { ptr<int> p = &g; *p = 41; return g + 1; }~
+2@run a.c --acts=-f@[usage] ccbox check|split|run|record|big|exec~@@int g = 1; int main(void) { ptr<int> p = &g; *p = 41; return g + 1; }~
+2@run a.c --acts=f --acts f@[usage] ccbox check|split|run|record|big|exec~@@int g = 1; int main(void) { ptr<int> p = &g; *p = 41; return g + 1; }~
+2@run a.c --sandbox 65535@[usage] ccbox check|split|run|record|big|exec~@@int g = 1; int main(void) { ptr<int> p = &g; *p = 41; return g + 1; }~
+2@run a.c --sandbox=16777217@[usage] ccbox check|split|run|record|big|exec~@@int g = 1; int main(void) { ptr<int> p = &g; *p = 41; return g + 1; }~
+2@run a.c --sandbox=+65536@[usage] ccbox check|split|run|record|big|exec~@@int g = 1; int main(void) { ptr<int> p = &g; *p = 41; return g + 1; }~
+2@run a.c --sandbox=@[usage] ccbox check|split|run|record|big|exec~@@int g = 1; int main(void) { ptr<int> p = &g; *p = 41; return g + 1; }~
+2@run a.c --view=1@[usage] ccbox check|split|run|record|big|exec~@@int g = 1; int main(void) { ptr<int> p = &g; *p = 41; return g + 1; }~
+2@run --view a.c@[usage] ccbox check|split|run|record|big|exec~@@int g = 1; int main(void) { ptr<int> p = &g; *p = 41; return g + 1; }~
+0@run a.c --releases --sandbox 00016777216 --view@[exit 42]~@@int g = 1; int main(void) { ptr<int> p = &g; *p = 41; return g + 1; }~";
 
 #[test]
 fn words_and_files(rt: HostRuntime) -> Result<(), Fail> {
-    let cases: [(&[&str], &str, u8); 20] = [
-        (&["run", "nofile"], "[missing nofile]\n", 3),
-        (&["run", ""], "[missing ]\n", 3),
-        (&[], USAGE, 2),
-        (&["run"], USAGE, 2),
-        (&["run", "a.c", "b.c"], USAGE, 2),
-        (&["check", "a.c"], USAGE, 2),
-        (&["run", "-a"], USAGE, 2),
-        (&["", "a.c"], USAGE, 2),
-        (&["run", "a.c", "--view", "--view"], USAGE, 2),
-        (&["run", "a.c", "--acts"], USAGE, 2),
-        (&["run", "a.c", "--acts", "-f"], USAGE, 2),
-        (&["run", "a.c", "--acts=-f"], USAGE, 2),
-        (&["run", "a.c", "--acts=f", "--acts", "f"], USAGE, 2),
-        (&["run", "a.c", "--sandbox", "65535"], USAGE, 2),
-        (&["run", "a.c", "--sandbox=16777217"], USAGE, 2),
-        (&["run", "a.c", "--sandbox=+65536"], USAGE, 2),
-        (&["run", "a.c", "--sandbox="], USAGE, 2),
-        (&["run", "a.c", "--view=1"], USAGE, 2),
-        (&["run", "--view", "a.c"], USAGE, 2),
-        (
-            &[
-                "run",
-                "a.c",
-                "--releases",
-                "--sandbox",
-                "00016777216",
-                "--view",
-            ],
-            "[exit 42]\n",
-            0,
-        ),
-    ];
-    for (words, text, status) in cases {
-        expect(&rt, words, FIRST_RUN.as_bytes(), text, status)?;
-    }
-    Ok(())
+    expect_rows(rt.alloc(), WORDS)
 }
 
-// A program of these many bytes that exits with 7, padded with spaces.
-fn padded(alloc: Global, len: usize) -> Result<Vec<u8>, Fail> {
-    let mut source = Vec::from_slice(alloc, b"int main(void) { return 7; }")?;
-    for _ in source.len()..len {
-        source.push(b' ')?;
-    }
-    Ok(source)
-}
+// The body, the statement, the differences and the last numbers stand one inside the other. A source has up to
+// 1048576 bytes.
+const LIMITS: &str = "0@run a.c@[exit -1]~@@int main(void) { return `196×0 - (`0 - 1`196×)`; }
+1@run a.c@[refused E07 1:1010 nesting too deep]~@@int main(void) { return `197×0 - (`0 - 1`197×)`; }
+0@run a.c@[exit 7]~@@int main(void) { return 7; }`4068× `
+0@run a.c@[exit 7]~@@int main(void) { return 7; }`4069× `
+0@run a.c@[exit 7]~@@int main(void) { return 7; }`1048548× `
+1@run a.c@[refused E08 1:1 limit]~@@int main(void) { return 7; }`1048549× `";
 
 #[test]
-fn sizes(rt: HostRuntime) -> Result<(), Fail> {
-    for (len, text, status) in [
-        (4096, "[exit 7]\n", 0),
-        (4097, "[exit 7]\n", 0),
-        (1_048_576, "[exit 7]\n", 0),
-        (1_048_577, "[refused E08 1:1 limit]\n", 1),
-    ] {
-        let source = padded(rt.alloc(), len)?;
-        expect_run(&rt, source.as_slice(), text, status)?;
-    }
-    Ok(())
+fn depths_and_sizes(rt: HostRuntime) -> Result<(), Fail> {
+    expect_rows(rt.alloc(), LIMITS)
 }
 
 // A program with these many variables that exits with the last one's value, its number.
@@ -313,60 +243,90 @@ fn with_variables(alloc: Global, count: u32) -> Result<String, Fail> {
     Ok(source)
 }
 
+// Fails unless the run of a program with these many variables answers so.
+fn expect_variables(alloc: Global, count: u32, text: &str, status: u8) -> Result<(), Fail> {
+    let source = with_variables(alloc, count)?;
+    expect(alloc, &RUN, source.as_str(), "", text, status)
+}
+
 #[test]
 fn many_variables(rt: HostRuntime) -> Result<(), Fail> {
-    for (count, text, status) in [
-        (300, "[exit 299]\n", 0),
-        (1024, "[exit 1023]\n", 0),
-        (1025, NOT_BUILT, 1),
-    ] {
-        let source = with_variables(rt.alloc(), count)?;
-        expect_run(&rt, source.as_bytes(), text, status)?;
-    }
-    Ok(())
+    expect_variables(rt.alloc(), 300, "[exit 299]\n", 0)?;
+    expect_variables(rt.alloc(), 1024, "[exit 1023]\n", 0)?;
+    expect_variables(rt.alloc(), 1025, "[refused E09 1:1 not built yet]\n", 1)
 }
 
 #[test]
 fn one_byte_a_read(rt: HostRuntime) -> Result<(), Fail> {
-    let inner = files(rt.alloc(), FIRST_RUN.as_bytes())?;
+    let inner = files(rt.alloc(), FIRST_RUN, "")?;
     let mut shelf = OneByteShelf { inner };
-    let (written, status) = call_over(rt.alloc(), &["run", "a.c"], &mut shelf, None)?;
-    assert_eq!(rt; written.as_slice(), b"[exit 42]\n".as_slice());
-    assert_eq!(rt; status, 0);
-    Ok(())
+    let mut sink = output(rt.alloc())?;
+    expect_call(rt.alloc(), &RUN, &mut shelf, &mut sink, b"[exit 42]\n", 0)
 }
 
-// What the first run prints and ends with where the read or the put of a number fails.
-fn expect_failure<R: AllocGlobal + Abort>(
-    rt: &R,
-    read: Option<u64>,
-    put: Option<u64>,
-    text: &[u8],
-    status: u8,
+// Fails unless a call prints nothing where the read of this number fails.
+fn expect_read(
+    alloc: Global,
+    words: &[&str],
+    source: &str,
+    acts: &str,
+    read: u64,
 ) -> Result<(), Fail> {
-    let mut shelf = files(rt.alloc(), FIRST_RUN.as_bytes())?;
-    if let Some(read) = read {
-        shelf.fail_at(read)?;
+    let mut shelf = files(alloc, source, acts)?;
+    shelf.fail_at(read)?;
+    let mut sink = output(alloc)?;
+    expect_call(alloc, words, &mut shelf, &mut sink, b"", 4)
+}
+
+// Fails unless a call prints nothing where one of its first reads fails.
+pub fn expect_reads(
+    alloc: Global,
+    words: &[&str],
+    source: &str,
+    acts: &str,
+    reads: u64,
+) -> Result<(), Fail> {
+    for read in 1..=reads {
+        expect_read(alloc, words, source, acts, read)?;
     }
-    let (written, number) = call_over(rt.alloc(), &["run", "a.c"], &mut shelf, put)?;
-    assert_eq!(rt; written.as_slice(), text);
-    assert_eq!(rt; number, status);
     Ok(())
 }
 
 #[test]
 fn failing_files(rt: HostRuntime) -> Result<(), Fail> {
-    for failing in [1, 2] {
-        expect_failure(&rt, Some(failing), None, b"", 4)?;
+    expect_reads(rt.alloc(), &RUN, FIRST_RUN, "", 2)
+}
+
+// Fails unless a call prints just this where the put of this number fails.
+fn expect_put(
+    alloc: Global,
+    words: &[&str],
+    source: &str,
+    acts: &str,
+    put: usize,
+    text: &[u8],
+) -> Result<(), Fail> {
+    let mut shelf = files(alloc, source, acts)?;
+    let mut sink = output(alloc)?;
+    sink.fail_at(put as u64)?;
+    expect_call(alloc, words, &mut shelf, &mut sink, text, 5)
+}
+
+// Fails unless a call prints a front of its text where one of its puts fails.
+pub fn expect_puts(
+    alloc: Global,
+    words: &[&str],
+    source: &str,
+    acts: &str,
+    text: &[u8],
+) -> Result<(), Fail> {
+    for put in 1..=text.len() {
+        expect_put(alloc, words, source, acts, put, &text[..put - 1])?;
     }
     Ok(())
 }
 
 #[test]
 fn failing_output(rt: HostRuntime) -> Result<(), Fail> {
-    let text = b"[exit 42]\n";
-    for failing in 1..=text.len() {
-        expect_failure(&rt, None, Some(failing as u64), &text[..failing - 1], 5)?;
-    }
-    Ok(())
+    expect_puts(rt.alloc(), &RUN, FIRST_RUN, "", b"[exit 42]\n")
 }

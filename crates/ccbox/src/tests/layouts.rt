@@ -44,47 +44,60 @@ fn structs_with(alloc: Global, members: Vec<Member>) -> Result<Structs, Refused>
     Ok(structs)
 }
 
-// The offsets of the cells of a type.
-fn offsets_of(alloc: Global, structs: &Structs, t: &CType) -> Result<Vec<u32>, NoMemory> {
-    let mut offsets = Vec::new(alloc);
+// Whether a type has this size and cells at these offsets.
+fn lies_so(structs: &Structs, t: &CType, size: u32, offsets: &[u32]) -> bool {
+    let mut same = structs.size_of(t) == size && structs.cells_of(t) as usize == offsets.len();
     for i in 0..structs.cells_of(t) {
-        offsets.push(structs.offset_of_cell(t, i))?;
+        let offset = structs.offset_of_cell(t, i);
+        same = same && offsets.get(i as usize).copied() == Some(offset);
     }
-    Ok(offsets)
+    same
+}
+
+// The types of the members of a struct, the offsets, and the size.
+const STRUCTS: [(&str, &[u32], u32); 5] = [
+    ("c", &[0], 1),
+    ("ci", &[0, 4], 8),
+    ("ic", &[0, 4], 8),
+    ("ccc", &[0, 1, 2], 3),
+    ("cpcct", &[0, 4, 8, 9, 12], 16),
+];
+
+// Whether a struct is tainted, has as many members as there are offsets and lies so, and no other one is tainted.
+fn is_laid_out(structs: &Structs, size: u32, offsets: &[u32]) -> bool {
+    structs.members(0).len() == offsets.len()
+        && structs.is_tainted(0)
+        && !structs.is_tainted(1)
+        && lies_so(structs, &CType::Struct(0), size, offsets)
 }
 
 #[test]
 fn lays_out_structs(rt: HostRuntime) -> Result<(), Fail> {
     let alloc = rt.alloc();
-    let cases = [
-        ("c", [0].as_slice(), 1),
-        ("ci", [0, 4].as_slice(), 8),
-        ("ic", [0, 4].as_slice(), 8),
-        ("ccc", [0, 1, 2].as_slice(), 3),
-        ("cpcct", [0, 4, 8, 9, 12].as_slice(), 16),
-    ];
-    for (types, offsets, size) in cases {
+    for (types, offsets, size) in &STRUCTS {
         let structs = structs_with(alloc, members_of(alloc, b"abcde", types.as_bytes())?)?;
-        let t = CType::Struct(0);
-        assert_eq!(rt; offsets_of(alloc, &structs, &t)?.as_slice(), offsets);
-        assert_eq!(rt; structs.size_of(&t), size);
-        assert_eq!(rt; structs.members(0).len(), offsets.len());
-        assert!(rt; structs.is_tainted(0) && !structs.is_tainted(1));
+        if !is_laid_out(&structs, *size, offsets) {
+            return Err(Fail::new(*types));
+        }
     }
     Ok(())
 }
 
+// Whether the type of a letter has this size, and one cell.
+fn is_scalar(alloc: Global, letter: u8, size: u32) -> Result<bool, NoMemory> {
+    let t = type_of(alloc, letter)?;
+    Ok(lies_so(&Structs::new(alloc), &t, size, &[0]))
+}
+
+// The letters of scalar types, and their sizes.
+const SCALARS: [(u8, u32); 4] = [(b'i', 4), (b'c', 1), (b'p', 4), (b't', 4)];
+
 #[test]
 fn lays_out_scalars(rt: HostRuntime) -> Result<(), Fail> {
-    let structs = Structs::new(rt.alloc());
-    for (letter, size) in [(b'i', 4), (b'c', 1), (b'p', 4), (b't', 4)] {
-        let t = type_of(rt.alloc(), letter)?;
-        assert_eq!(rt; structs.cells_of(&t), 1);
-        assert_eq!(rt; structs.size_of(&t), size);
-        assert_eq!(rt;
-            offsets_of(rt.alloc(), &structs, &t)?.as_slice(),
-            [0].as_slice()
-        );
+    for (letter, size) in &SCALARS {
+        if !is_scalar(rt.alloc(), *letter, *size)? {
+            return Err(Fail::new("another layout"));
+        }
     }
     Ok(())
 }
@@ -104,33 +117,46 @@ fn refusal_of(alloc: Global, members: Vec<Member>) -> Result<Option<SourceFault>
 
 const LETTERS: &[u8; 65] = b"abcdefghijklmnopqrstuvwxyzABCDEFGHIJKLMNOPQRSTUVWXYZ0123456789_+-";
 
+// The names and types of members, and the code and the number of the member that they are refused for.
+const REFUSED: [(&[u8], &[u8], Code, u32); 5] = [
+    (b"aba", b"iii", Code::E11, 2),
+    (b"abb", b"ssi", Code::E11, 2),
+    (b"abc", b"iss", Code::E27, 1),
+    (&[b'a'; 65], &[b's'; 65], Code::E08, 64),
+    (LETTERS, &[b'i'; 65], Code::E08, 64),
+];
+
 #[test]
 fn refuses_members(rt: HostRuntime) -> Result<(), Fail> {
     let alloc = rt.alloc();
-    let cases = [
-        (b"aba".as_slice(), b"iii".as_slice(), Code::E11, 2),
-        (b"abb".as_slice(), b"ssi".as_slice(), Code::E11, 2),
-        (b"abc".as_slice(), b"iss".as_slice(), Code::E27, 1),
-        ([b'a'; 65].as_slice(), [b's'; 65].as_slice(), Code::E08, 64),
-        (LETTERS.as_slice(), [b'i'; 65].as_slice(), Code::E08, 64),
-    ];
-    for (names, types, code, at) in cases {
-        let span = Span { from: at, to: at };
-        assert_eq!(rt;
-            refusal_of(alloc, members_of(alloc, names, types)?)?,
-            Some(SourceFault { code, span })
-        );
+    for (names, types, code, at) in &REFUSED {
+        let span = Span { from: *at, to: *at };
+        let fault = SourceFault { code: *code, span };
+        if refusal_of(alloc, members_of(alloc, names, types)?)? != Some(fault) {
+            return Err(Fail::new("another refusal"));
+        }
     }
-    let many = structs_with(alloc, members_of(alloc, &LETTERS[..64], &[b'i'; 64])?)?;
-    assert_eq!(rt; many.size_of(&CType::Struct(0)), 256);
     Ok(())
+}
+
+#[test]
+fn takes_64_members(rt: HostRuntime) -> Result<(), Fail> {
+    let members = members_of(rt.alloc(), LETTERS, &[b'i'; 64])?;
+    let structs = structs_with(rt.alloc(), members)?;
+    if structs.size_of(&CType::Struct(0)) == 256 {
+        Ok(())
+    } else {
+        Err(Fail::new("another size"))
+    }
 }
 
 #[test]
 fn declares_4096_structs(rt: HostRuntime) -> Result<(), Fail> {
     let mut structs = Structs::new(rt.alloc());
     for k in 0..4096u32 {
-        assert_eq!(rt; structs.declare(false, DECLARED)?, k);
+        if structs.declare(false, DECLARED)? != k {
+            return Err(Fail::new("another number"));
+        }
     }
     match structs.declare(false, DECLARED) {
         Err(
@@ -141,6 +167,6 @@ fn declares_4096_structs(rt: HostRuntime) -> Result<(), Fail> {
                 },
             ),
         ) => Ok(()),
-        _ => Ok(assert!(rt; false, "4,096 structs are declared")),
+        _ => Err(Fail::new("4,096 structs are declared")),
     }
 }

@@ -5,7 +5,6 @@ use ckc_lexer::token::{CheckedScope, TokenKind};
 use ckc_text::fault::Refused;
 use std::alloc::Global;
 use std::fmt::Write;
-use std::process::Abort;
 use std::test::Fail;
 
 // Keywords, names and marks.
@@ -301,56 +300,37 @@ fn line_of(alloc: Global, src: &[u8]) -> Result<String, Fail> {
     Ok(line)
 }
 
-// Each text with the line of its tokens, or its fault.
-fn expect_lines<R: Abort>(rt: &R, alloc: Global, rows: &[(&[u8], &str)]) -> Result<(), Fail> {
+// Fails unless each text has the line of its tokens, or its fault.
+fn expect_lines(alloc: Global, rows: &[(&[u8], &str)]) -> Result<(), Fail> {
     for (src, want) in rows {
         let line = line_of(alloc, src)?;
-        assert_eq!(rt; line.as_str(), *want, "{src:?}");
+        if line.as_str() != *want {
+            return Err(Fail::new(line));
+        }
     }
     Ok(())
 }
 
 #[test]
-fn words_and_marks(rt: HostRuntime) -> Result<(), Fail> {
-    expect_lines(&rt, rt.alloc(), &WORDS)
+fn lines_of_tokens(rt: HostRuntime) -> Result<(), Fail> {
+    let alloc = rt.alloc();
+    expect_lines(alloc, &WORDS)?;
+    expect_lines(alloc, &CONSTANTS)?;
+    expect_lines(alloc, &DEFINED)
 }
 
 #[test]
-fn constants_and_comments(rt: HostRuntime) -> Result<(), Fail> {
-    expect_lines(&rt, rt.alloc(), &CONSTANTS)
-}
-
-#[test]
-fn refused_numbers(rt: HostRuntime) -> Result<(), Fail> {
-    expect_lines(&rt, rt.alloc(), &NUMBERS)
-}
-
-#[test]
-fn refused_bytes(rt: HostRuntime) -> Result<(), Fail> {
-    expect_lines(&rt, rt.alloc(), &BYTES)
-}
-
-#[test]
-fn no_tokens(rt: HostRuntime) -> Result<(), Fail> {
-    expect_lines(&rt, rt.alloc(), &NO_TOKENS)
-}
-
-#[test]
-fn open_ends(rt: HostRuntime) -> Result<(), Fail> {
-    expect_lines(&rt, rt.alloc(), &OPEN)
+fn refused_tokens(rt: HostRuntime) -> Result<(), Fail> {
+    let alloc = rt.alloc();
+    expect_lines(alloc, &NUMBERS)?;
+    expect_lines(alloc, &BYTES)?;
+    expect_lines(alloc, &NO_TOKENS)?;
+    expect_lines(alloc, &OPEN)
 }
 
 #[test]
 fn refused_directives(rt: HostRuntime) -> Result<(), Fail> {
-    expect_lines(&rt, rt.alloc(), &DIRECTIVES)
-}
-
-#[test]
-fn refused_definitions(rt: HostRuntime) -> Result<(), Fail> {
-    expect_lines(&rt, rt.alloc(), &DEFINITIONS)
-}
-
-#[test]
-fn directives(rt: HostRuntime) -> Result<(), Fail> {
-    expect_lines(&rt, rt.alloc(), &DEFINED)
+    let alloc = rt.alloc();
+    expect_lines(alloc, &DIRECTIVES)?;
+    expect_lines(alloc, &DEFINITIONS)
 }
