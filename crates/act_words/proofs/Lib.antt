@@ -1,5 +1,4 @@
 pub mod Plain
 mod Each
 pub mod Back
-pub mod Views
 pub mod Said

@@ -64,6 +64,8 @@ pub data InSandbox : Type 0 where
   Keeps : (world : World) → InSandbox
   -- the innermost tainted call ends with this word
   Answers : (word : ℕ) (world : World) → InSandbox
+  -- the sandbox calls a callback with these words
+  Calls : (fun : ℕ) (words : List ℕ) (world : World) → InSandbox
   Ends : (ending : Ending) (world : World) → InSandbox
 
 abbrev pub waits_or_ends : Option World → World → BeforeTouch
@@ -83,11 +85,10 @@ act_before_touch (Call fun args) w = BeforeTouch.Ends (stopped_by_act S5 w) w
 act_before_touch (Return value) w = BeforeTouch.Ends (stopped_by_act S5 w) w
 act_before_touch Stop w = BeforeTouch.Ends sandbox_ended w
 
--- no function can be called by the sandbox
 abbrev pub act_in_sandbox : Act → World → InSandbox
 act_in_sandbox Go w = InSandbox.Keeps w
 act_in_sandbox (Read at len) w = keeps_or_ends (shown at len w) w
 act_in_sandbox (Write at bytes) w = keeps_or_ends (written at bytes w) w
-act_in_sandbox (Call fun args) w = InSandbox.Ends (stopped_by_act S5 w) w
+act_in_sandbox (Call fun args) w = InSandbox.Calls fun args w
 act_in_sandbox (Return value) w = InSandbox.Answers value (in_turn turns.Trusted w)
 act_in_sandbox Stop w = InSandbox.Ends sandbox_ended w

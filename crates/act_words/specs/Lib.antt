@@ -2,6 +2,7 @@ pub mod World
 pub mod Outcome
 pub mod Checks
 pub mod Numbers
+pub mod Arithmetic
 pub mod Limits
 pub mod Rows
 pub mod Acts

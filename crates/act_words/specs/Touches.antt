@@ -1,13 +1,14 @@
--- Touches: the acts before them, what they release, and a call of a tainted function.
-use Rattle.std.specs.Prelude.{ℕ, Bool, true, false, nat_lt, List, [], ◌∷◌}
-use Rattle.ckc_text.specs.declared.code.Code.TheVariants.{S1, S2}
-use Rattle.std.specs.Prelude.{None}
+-- Touches: the acts before them, what they release, and a call of a tainted function; and what else a run asks the world for.
+use Rattle.std.specs.Prelude.{ℕ, Bool, true, false, nat_lt, List, [], ◌∷◌, length, None, pos}
+use Rattle.std.proofs.Common.{ℤ}
+use Rattle.ckc_text.specs.declared.code.Code.TheVariants.{S1, S2, S5}
+use Rattle.flat_bytes.specs.Blocks.{is_refused, counter_after}
 use Rattle.act_words.specs.declared.act.Turn.TheVariants as turns
 use Rattle.act_words.specs.declared.ending.Ending.{Ending}
 use Rattle.act_words.specs.declared.ending.Ending.TheVariants as endings
 use Rattle.act_words.specs.Acts.{Act, Release, Looked, Wrote, Passed, Replied, SeenCall, SeenReply}
-use Rattle.act_words.specs.World.{World, Released, Showed, NoAct, telling, holding, in_turn, taken_one, spent_one}
-use Rattle.act_words.specs.Acting.{BeforeTouch, InSandbox, act_before_touch, act_in_sandbox, with_bytes, sandbox_ended}
+use Rattle.act_words.specs.World.{World, Output, Released, Showed, NoAct, telling, holding, in_turn, taken_one, spent_one, with_inputs}
+use Rattle.act_words.specs.Acting.{BeforeTouch, InSandbox, act_before_touch, act_in_sandbox, with_bytes, sandbox_ended, stopped_by_act}
 
 -- what the world answers where a meaning asks it for something: a value, or the run's end
 pub data Asked (A : Type 0) : Type 0 where
@@ -44,9 +45,11 @@ touch release w = asking (before_touch w.acts w) (λ _ v. Got _ (released releas
 
 -- ---- the sandbox's turn
 
+-- where there is no callback, a call of one breaks the protocol (S5)
 abbrev pub on_with_reply : InSandbox → (World → Asked ℕ) → Asked ℕ
 on_with_reply (InSandbox.Keeps w) next = next w
 on_with_reply (InSandbox.Answers word w) next = Got word w
+on_with_reply (InSandbox.Calls fun words w) next = Ended (stopped_by_act S5 w) w
 on_with_reply (InSandbox.Ends ending w) next = Ended ending w
 
 -- acts are taken until the `return` of the innermost tainted call. The sandbox ends with the list
@@ -76,3 +79,26 @@ enter_call depth w = entered_if (nat_lt depth 1000) w
 abbrev pub tainted_call : ℕ → ℕ → List ℕ → World → Asked ℕ
 tainted_call depth fun words w =
     asking (enter_call depth w) (λ _ u. asking (touch (Passed fun words) u) (λ _ v. until_return v.acts v))
+
+-- ---- input, output, and room
+
+abbrev pub input_from : List ℤ → World → Asked ℤ
+input_from [] w = Got (pos 0) w
+input_from (number ∷ inputs) w = Got number (with_inputs inputs w)
+
+-- the next input number, and 0 behind the last
+abbrev pub next_input : World → Asked ℤ
+next_input w = input_from w.inputs w
+
+-- the program writes
+abbrev pub write : List ℕ → World → World
+write bytes w = telling (Output bytes ∷ []) w
+
+abbrev pub offset_unless : Bool → ℕ → ℕ
+offset_unless true offset = 0
+offset_unless false offset = offset
+
+-- a block of so many bytes of the sandbox's memory: its offset, and 0 where it is refused
+abbrev pub make_block : ℕ → World → Asked ℕ
+make_block bytes w =
+    Got (offset_unless (is_refused (length w.sandbox) w.room bytes) w.room) (record w { room = counter_after (length w.sandbox) w.room bytes })

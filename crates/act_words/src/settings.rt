@@ -15,6 +15,8 @@ pub struct Settings {
     pub view: bool,
     /// Whether what is released is printed.
     pub releases: bool,
+    /// Whether the last blocks of the trusted memory are printed.
+    pub dump: bool,
 }
 
 impl Settings {
@@ -26,5 +28,6 @@ impl Settings {
         base: 65_536,
         view: false,
         releases: false,
+        dump: false,
     };
 }

@@ -1,12 +1,16 @@
--- Programs as plain data, which definitions speak of, and the view from the types of the code to them.
-use Rattle.std.specs.Prelude.{ℕ, suc, List, map}
+-- Programs as plain data: names are numbers, each check has its place, and each access its type.
+use Rattle.std.specs.Prelude.{ℕ, suc, Bool, List, [], ◌∷◌, Option, map, option_map}
 use Rattle.std.proofs.Common.{ℤ}
+use Rattle.pointer_modes.specs.Types.{CType, ctype}
 use Rattle.ckc_core.specs.declared.program as code
 use Rattle.ckc_core.specs.declared.program.Expr.{Row_of-Expr, end_of-Expr, more_of-Expr}
+use Rattle.ckc_core.specs.declared.program.Stmt.{Row_of-Stmt, end_of-Stmt, more_of-Stmt}
+use Rattle.ckc_core.specs.declared.program.Expr.TheVariants as exprs
+use Rattle.ckc_core.specs.declared.program.CellPlace.TheVariants as places
+use Rattle.ckc_core.specs.declared.program.Stmt.TheVariants as stmts
 use Rattle.ckc_core.specs.declared.program.Site.{Site}
 use Rattle.ckc_core.specs.declared.program.Operator.{Operator}
-use Rattle.ckc_core.specs.declared.program.Expr.TheVariants as exprs
-use Rattle.ckc_core.specs.declared.program.Stmt.TheVariants as stmts
+use Rattle.ckc_core.specs.declared.program.Comparison.{Comparison}
 
 mutual
   -- an expression
@@ -14,44 +18,103 @@ mutual
     Number : (number : ℤ) → Expression
     Null : Expression
     Local : (local : ℕ) → Expression
-    Object : (object : ℕ) → Expression
-    AddressOf : (object : ℕ) → Expression
-    Load : (pointer : Expression) (site : Site) → Expression
+    -- what a cell of this type holds
+    Load : (type : CType) (place : Place) → Expression
+    -- a pointer to a cell of a file-level variable, and to one behind a pointer, which isn't null (C1); the cell stands so many
+    -- bytes behind the one that is pointed to
+    AddressOf : (object cell : ℕ) → Expression
+    AddressThrough : (pointer : Expression) (cell offset : ℕ) (site : Site) → Expression
+    Negate : (operand : Expression) (site : Site) → Expression
+    Complement : (operand : Expression) → Expression
+    -- 1 where a scalar is 0 or null, and else 0
+    Not : (operand : Expression) → Expression
     Arithmetic : (operator : Operator) (left right : Expression) (site : Site) → Expression
+    Compare : (comparison : Comparison) (left right : Expression) → Expression
+    -- whether two pointers are the same
+    Same : (left right : Expression) → Expression
+    AndAlso : (left right : Expression) → Expression
+    OrElse : (left right : Expression) → Expression
+    -- a number modulo 256
+    LowByte : (operand : Expression) → Expression
+    -- a call of a trusted function, and of a tainted one, with a result
+    Call : (function : ℕ) (arguments : Arguments) → Expression
     TaintedCall : (import : ℕ) (arguments : Arguments) (site : Site) → Expression
+    NextInput : Expression
 
   -- the arguments of a call, from left to right
   pub data Arguments : Type 0 where
     Done : Arguments
     More : (first : Expression) (rest : Arguments) → Arguments
 
+  -- where a cell stands: in a file-level variable, or behind a pointer, which isn't null (C1), and so many bytes behind the cell
+  -- that is pointed to
+  pub data Place : Type 0 where
+    Direct : (object cell : ℕ) → Place
+    Through : (pointer : Expression) (cell offset : ℕ) (site : Site) → Place
+
+mutual
+  -- a statement
+  pub data Statement : Type 0 where
+    Nothing : Statement
+    SetLocal : (local : ℕ) (value : Expression) → Statement
+    Store : (type : CType) (place : Place) (value : Expression) → Statement
+    -- the old value and an operator with another one; a local of type `char` keeps the result modulo 256
+    UpdateLocal : (is_char : Bool) (local : ℕ) (operator : Operator) (value : Expression) (site : Site) → Statement
+    Update : (type : CType) (place : Place) (operator : Operator) (value : Expression) (site : Site) → Statement
+    -- a value that is left
+    Evaluate : (value : Expression) → Statement
+    -- calls without a result
+    CallAlone : (function : ℕ) (arguments : Arguments) → Statement
+    TaintedAlone : (import : ℕ) (arguments : Arguments) (site : Site) → Statement
+    Print : (number : Expression) → Statement
+    PutByte : (number : Expression) → Statement
+    Block : (statements : Statements) → Statement
+    If : (condition : Expression) (consequent alternative : Statement) → Statement
+    -- a loop with what follows each turn
+    Loop : (condition : Expression) (body step : Statement) → Statement
+    Return : (value : Expression) → Statement
+    ReturnNothing : Statement
+    Break : Statement
+    Continue : Statement
+
+  pub data Statements : Type 0 where
+    NoMore : Statements
+    Then : (first : Statement) (others : Statements) → Statements
+
 -- how many arguments there are
 abbrev pub count : Arguments → ℕ
 count Done = 0
 count (More first rest) = suc (count rest)
 
--- a statement
-pub data Statement : Type 0 where
-  SetLocal : (local : ℕ) (value : Expression) → Statement
-  SetObject : (object : ℕ) (value : Expression) → Statement
-  Store : (pointer value : Expression) (site : Site) → Statement
-  Return : (value : Expression) → Statement
-
--- a function
+-- a trusted function: how many of its locals are parameters, the types of all of them, what it returns, and its body
 pub record Function : Type 0 where
-  pub locals : ℕ
-  pub body : List Statement
+  pub name : List ℕ
+  pub parameters : ℕ
+  pub locals : List CType
+  pub result : Option CType
+  pub body : Statements
 
--- a tainted function that is called: its name, and how many parameters it has
+-- a tainted function: its name, how many parameters it has, and what it returns
 pub record Import : Type 0 where
   pub name : List ℕ
   pub parameters : ℕ
+  pub result : Option CType
 
--- a whole program
+-- a cell of a file-level variable before the run: its type, the bytes from its first one to that of the next cell, or to the
+-- variable's end, and its number; a pointer is null
+pub record Initial : Type 0 where
+  pub type : CType
+  pub stride : ℕ
+  pub number : ℤ
+
+-- a whole program: its file-level variables, each with its cells, its functions, and the number of `main`
 pub record Core : Type 0 where
-  pub objects : List ℤ
+  pub objects : List (List Initial)
   pub imports : List Import
-  pub main : Function
+  pub functions : List Function
+  pub main : ℕ
+
+-- ---- the views from the types of the code
 
 abbrev mutual
   -- the expression that a value of the code's type stands for
@@ -59,31 +122,77 @@ abbrev mutual
   expression (exprs.Number number) = Number number
   expression exprs.Null = Null
   expression (exprs.Local local) = Local local
-  expression (exprs.Object object) = Object object
-  expression (exprs.AddressOf object) = AddressOf object
-  expression (exprs.Load' p pointer site) = Load (expression pointer) site
+  expression (exprs.Load type cell) = Load (ctype type) (place cell)
+  expression (exprs.AddressOf object cell) = AddressOf object cell
+  expression (exprs.AddressThrough' p pointer cell offset site) = AddressThrough (expression pointer) cell offset site
+  expression (exprs.Negate' p operand site) = Negate (expression operand) site
+  expression (exprs.Complement' p operand) = Complement (expression operand)
+  expression (exprs.Not' p operand) = Not (expression operand)
   expression (exprs.Arithmetic' operator p left q right site) = Arithmetic operator (expression left) (expression right) site
+  expression (exprs.Compare' comparison p left q right) = Compare comparison (expression left) (expression right)
+  expression (exprs.Same' p left q right) = Same (expression left) (expression right)
+  expression (exprs.AndAlso' p left q right) = AndAlso (expression left) (expression right)
+  expression (exprs.OrElse' p left q right) = OrElse (expression left) (expression right)
+  expression (exprs.LowByte' p operand) = LowByte (expression operand)
+  expression (exprs.Call' function shape row) = Call function (arguments row)
   expression (exprs.TaintedCall' import shape row site) = TaintedCall import (arguments row) site
+  expression exprs.NextInput = NextInput
 
   pub arguments : {m : _} → Row_of-Expr m → Arguments
   arguments end_of-Expr = Done
   arguments (more_of-Expr first rest) = More (expression first) (arguments rest)
 
--- the statement
-abbrev pub statement : code.Stmt.Stmt → Statement
-statement (stmts.SetLocal local value) = SetLocal local (expression value)
-statement (stmts.SetObject object value) = SetObject object (expression value)
-statement (stmts.Store pointer value site) = Store (expression pointer) (expression value) site
-statement (stmts.Return value) = Return (expression value)
+  pub place : code.CellPlace.CellPlace → Place
+  place (places.Direct object cell) = Direct object cell
+  place (places.Through' p pointer cell offset site) = Through (expression pointer) cell offset site
 
--- the function
+-- the arguments in a slice
+abbrev pub arguments_of : List code.Expr.Expr → Arguments
+arguments_of [] = Done
+arguments_of (first ∷ rest) = More (expression first) (arguments_of rest)
+
+abbrev mutual
+  -- the statement
+  pub statement : code.Stmt.Stmt → Statement
+  statement stmts.Nothing = Nothing
+  statement (stmts.SetLocal local value) = SetLocal local (expression value)
+  statement (stmts.Store type cell value) = Store (ctype type) (place cell) (expression value)
+  statement (stmts.UpdateLocal is_char local operator value site) = UpdateLocal is_char local operator (expression value) site
+  statement (stmts.Update type cell operator value site) = Update (ctype type) (place cell) operator (expression value) site
+  statement (stmts.Evaluate value) = Evaluate (expression value)
+  statement (stmts.CallAlone function values) = CallAlone function (arguments_of values.items)
+  statement (stmts.TaintedAlone import values site) = TaintedAlone import (arguments_of values.items) site
+  statement (stmts.Print number) = Print (expression number)
+  statement (stmts.PutByte number) = PutByte (expression number)
+  statement (stmts.Block' shape row) = Block (statements row)
+  statement (stmts.If' condition p consequent q alternative) = If (expression condition) (statement consequent) (statement alternative)
+  statement (stmts.Loop' condition p body q step) = Loop (expression condition) (statement body) (statement step)
+  statement (stmts.Return value) = Return (expression value)
+  statement stmts.ReturnNothing = ReturnNothing
+  statement stmts.Break = Break
+  statement stmts.Continue = Continue
+
+  pub statements : {m : _} → Row_of-Stmt m → Statements
+  statements end_of-Stmt = NoMore
+  statements (more_of-Stmt first rest) = Then (statement first) (statements rest)
+
+-- the statements in a slice
+abbrev pub statements_of : List code.Stmt.Stmt → Statements
+statements_of [] = NoMore
+statements_of (first ∷ rest) = Then (statement first) (statements_of rest)
+
 abbrev pub function : code.Function.Function → Function
-function f = record { locals = f.locals; body = map statement f.body.items }
+function f = record { name = f.name; parameters = f.parameters; locals = map ctype f.locals.items; result = option_map ctype f.result; body = statements_of f.body.items }
 
--- the tainted function
 abbrev pub import_of : code.Import.Import → Import
-import_of i = record { name = i.name; parameters = i.parameters }
+import_of i = record { name = i.name; parameters = i.parameters; result = option_map ctype i.result }
+
+abbrev pub initial : code.Initial.Initial → Initial
+initial i = record { type = ctype i.ctype; stride = i.stride; number = i.number }
+
+abbrev pub object : code.Object.Object → List Initial
+object o = map initial o.cells.items
 
 -- the whole program
 abbrev pub core : code.Core.Core → Core
-core c = record { objects = c.objects.items; imports = map import_of c.imports.items; main = function c.main }
+core c = record { objects = map object c.objects.items; imports = map import_of c.imports.items; functions = map function c.functions.items; main = c.main }

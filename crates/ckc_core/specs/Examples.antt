@@ -1,105 +1,114 @@
 -- Small programs, written down as plain data.
-use Rattle.std.specs.Prelude.{◌≡◌, ℕ, List, [], ◌∷◌, codes, pos, false}
+use Rattle.std.specs.Prelude.{◌≡◌, ℕ, List, [], ◌∷◌, Option, Some, None, codes, pos, negsuc, true, false, replicate, length}
 use Rattle.act_words.specs.declared.ending.Ending.{Ending}
-use Rattle.act_words.specs.declared.settings.Settings.{Settings}
-use Rattle.act_words.specs.Acts.{Act, Passed, SeenCall}
-use Rattle.act_words.specs.World.{Event, Released, Showed}
+use Rattle.act_words.specs.declared.ending.Ending.TheVariants.{Exit, Check, Stop}
+use Rattle.ckc_text.specs.declared.code.Code.TheVariants.{C6, S1, S2, S3}
 use Rattle.act_words.specs.Outcome.{Outcome, Gives, Ends, Stuck, Short}
+use Rattle.pointer_modes.specs.declared.ctype.Mode.TheVariants as modes
+use Rattle.pointer_modes.specs.declared.ctype.Kind.TheVariants as kinds
+use Rattle.pointer_modes.specs.Types.{CType, Int, Char, Struct, Pointer}
+use Rattle.act_words.specs.World.{World, new_world}
 use Rattle.ckc_core.specs.declared.program.Site.{Site}
-use Rattle.ckc_core.specs.declared.program.Operator.TheVariants.{Add, Subtract}
-use Rattle.ckc_core.specs.Core.{Core, Expression, Number, Null, Local, Object, AddressOf, Load, Arithmetic, TaintedCall, Done, More, Statement, SetLocal, SetObject, Store, Return}
+use Rattle.ckc_core.specs.declared.program.Operator.TheVariants as operators
+use Rattle.ckc_core.specs.declared.program.Comparison.TheVariants as comparisons
+use Rattle.ckc_core.specs.Core
+use Rattle.ckc_core.specs.Core.{Core, Expression, Statement, Statements, Function}
 use Rattle.ckc_core.specs.States.{State}
-use Rattle.ckc_core.specs.Meaning.{meaning}
+use Rattle.ckc_core.specs.Meaning.{Setting, run_from, initial}
 
-abbrev pub site : ℕ → ℕ → Site
+abbrev site : ℕ → ℕ → Site
 site line col = record { place = record { line = line; col = col } }
 
-abbrev pub usual : Settings
-usual = record { budget = 10000000; sandbox = 65536; trusted = 1048576; base = 65536; view = false; releases = false }
+abbrev world : World
+world = new_world (replicate 64 0) 16 [] []
 
--- the run ends so
-abbrev pub ends_as : Outcome State (Unit {0}) → Ending → Type 0
+-- the run of a program with a budget, in which the sandbox ends at once
+abbrev runs : Core → ℕ → Outcome State (Unit {0})
+runs program budget = run_from (record { program = program; budget = budget }) (initial program world)
+
+abbrev ends_as : Outcome State (Unit {0}) → Ending → Type 0
 ends_as (Gives value s) ending = ⊥
 ends_as (Ends how s) ending = how ≡ ending
 ends_as Stuck ending = ⊥
 ends_as Short ending = ⊥
 
-abbrev pub ends_with : Core → Ending → Type 0
-ends_with program ending = ends_as (meaning program usual []) ending
+abbrev body : List Statement → Statements
+body [] = Core.NoMore
+body (s ∷ others) = Core.Then s (body others)
 
--- over these acts the run ends so
-abbrev pub ends_over : Core → List Act → Ending → Type 0
-ends_over program acts ending = ends_as (meaning program usual acts) ending
+abbrev main_with : List CType → List Statement → Function
+main_with locals statements = record { name = codes "main"; parameters = 0; locals = locals; result = Some Int; body = body statements }
 
--- what a run released, and what the sandbox was shown
-abbrev pub events_of : Outcome State (Unit {0}) → List Event
-events_of (Gives value s) = []
-events_of (Ends how s) = s.world.events
-events_of Stuck = []
-events_of Short = []
+abbrev one : List CType → List (List Core.Initial) → List Statement → Core
+one locals objects statements = record { objects = objects; imports = []; functions = main_with locals statements ∷ []; main = 0 }
 
-abbrev pub Happens : Core → List Act → List Event → Type 0
-Happens program acts events = events_of (meaning program usual acts) ≡ events
+abbrev number : ℕ → Expression
+number n = Core.Number (pos n)
 
-abbrev pub IsStuck : Core → Type 0
-IsStuck program = meaning program usual [] ≡ Stuck
+abbrev int_cell : ℕ → Core.Initial
+int_cell n = record { type = Int; stride = 4; number = pos n }
 
 -- int g = 1; int main(void) { ptr<int> p = &g; *p = 41; return g + 1; }
-abbrev pub first_run : Core
-first_run =
+abbrev pub first_run_ends : Type 0
+first_run_ends =
+    ends_as
+    (runs
+      (one (Pointer modes.Checked kinds.One Int ∷ []) ((int_cell 1 ∷ []) ∷ [])
+        (Core.SetLocal 0 (Core.AddressOf 0 0)
+        ∷ (Core.Store Int (Core.Through (Core.Local 0) 0 0 (site 1 46)) (number 41)
+        ∷ (Core.Return (Core.Arithmetic operators.Add (Core.Load Int (Core.Direct 0 0)) (number 1) (site 1 62)) ∷ []))))
+      100)
+    (Exit (pos 42))
+
+-- int main(void) { int x = 2147483647; x = x + 1; return 0; }
+abbrev pub overflow_ends : Type 0
+overflow_ends =
+    ends_as
+    (runs
+      (one (Int ∷ []) []
+        (Core.SetLocal 0 (number 2147483647)
+        ∷ (Core.SetLocal 0 (Core.Arithmetic operators.Add (Core.Local 0) (number 1) (site 1 42)) ∷ (Core.Return (number 0) ∷ []))))
+      100)
+    (Check C6 (record { line = 1; col = 42 }))
+
+-- int main(void) { int i = 0; while (i < 3) { i = i + 1; } return i; }
+abbrev counting : Core
+counting =
+    one (Int ∷ []) []
+    (Core.SetLocal 0 (number 0)
+    ∷ (Core.Loop (Core.Compare comparisons.Less (Core.Local 0) (number 3)) (Core.SetLocal 0 (Core.Arithmetic operators.Add (Core.Local 0) (number 1) (site 1 46))) Core.Nothing
+    ∷ (Core.Return (Core.Local 0) ∷ [])))
+
+abbrev pub loop_ends : Type 0
+loop_ends = ends_as (runs counting 3) (Exit (pos 3))
+
+abbrev pub loop_budget : Type 0
+loop_budget = ends_as (runs counting 2) (Stop S1 None)
+
+-- int f(int n) { return f(n); } int main(void) { return f(0); }
+abbrev falling : Core
+falling =
     record {
-      objects = pos 1 ∷ [];
+      objects = [];
       imports = [];
-      main = record {
-        locals = 1;
-        body = SetLocal 0 (AddressOf 0) ∷ Store (Local 0) (Number (pos 41)) (site 1 46) ∷ Return (Arithmetic Add (Object 0) (Number (pos 1)) (site 1 62)) ∷ [];
-      };
+      functions =
+          (record { name = codes "f"; parameters = 1; locals = Int ∷ []; result = Some Int; body = body (Core.Return (Core.Call 0 (Core.More (Core.Local 0) Core.Done)) ∷ []) })
+          ∷ (main_with [] (Core.Return (Core.Call 0 (Core.More (number 0) Core.Done)) ∷ []) ∷ []);
+      main = 1;
     }
 
--- int main(void) { ptr<int> p = 0; return *p; }
-abbrev pub null_load : Core
-null_load = record { objects = []; imports = []; main = record { locals = 1; body = SetLocal 0 Null ∷ Return (Load (Local 0) (site 1 41)) ∷ [] } }
+abbrev pub depth_and_budget : Type 0
+depth_and_budget = ends_as (runs falling 1000) (Stop S2 None) × ends_as (runs falling 999) (Stop S1 None)
 
--- int g = 2147483647; int main(void) { return g + 1; }
-abbrev pub sum_overflow : Core
-sum_overflow =
-    record { objects = pos 2147483647 ∷ []; imports = []; main = record { locals = 0; body = Return (Arithmetic Add (Object 0) (Number (pos 1)) (site 1 45)) ∷ [] } }
-
--- 0 - 2147483647 - 1, and one less
-abbrev pub fall : List Statement → Core
-fall body = record { objects = []; imports = []; main = record { locals = 0; body = body } }
-
-abbrev pub least : Expression
-least = Arithmetic Subtract (Arithmetic Subtract (Number (pos 0)) (Number (pos 2147483647)) (site 1 1)) (Number (pos 1)) (site 1 1)
-
-abbrev pub greatest_fall : Core
-greatest_fall = fall (Return least ∷ [])
-
-abbrev pub past_fall : Core
-past_fall = fall (Return (Arithmetic Subtract least (Number (pos 1)) (site 2 1)) ∷ [])
-
--- a local that isn't there
-abbrev pub wrong_local : Core
-wrong_local = fall (Return (Local 0) ∷ [])
-
--- _Tainted int t(int x); int main(void) { return t(1) + 1; }
-abbrev pub asked_once : Core
-asked_once =
-    record {
-      objects = [];
-      imports = (record { name = codes "t"; parameters = 1 }) ∷ [];
-      main = record { locals = 0; body = Return (Arithmetic Add (TaintedCall 0 (More (Number (pos 1)) Done) (site 2 25)) (Number (pos 1)) (site 2 25)) ∷ [] };
-    }
-
--- a call with an argument too few
-abbrev pub wrong_call : Core
-wrong_call =
-    record {
-      objects = [];
-      imports = (record { name = codes "t"; parameters = 1 }) ∷ [];
-      main = record { locals = 0; body = Return (TaintedCall 0 Done (site 2 25)) ∷ [] };
-    }
-
--- a call is passed, and shown, once it is let through
-abbrev pub passed_one : List Event
-passed_one = Released (Passed 0 (1 ∷ [])) ∷ Showed (SeenCall 0 (1 ∷ [])) ∷ []
+-- struct s { char c; int v; }; struct s a; int main(void) { ptr<struct s> p = &a; p->v = 7; a.c = 300; return p->v + a.c; }
+abbrev pub struct_ends : Type 0
+struct_ends =
+    ends_as
+    (runs
+      (one (Pointer modes.Checked kinds.One (Struct 0) ∷ []) (((record { type = Char; stride = 4; number = pos 0 }) ∷ (int_cell 0 ∷ [])) ∷ [])
+        (Core.SetLocal 0 (Core.AddressOf 0 0)
+        ∷ (Core.Store Int (Core.Through (Core.Local 0) 1 4 (site 3 40)) (number 7)
+        ∷ (Core.Store Char (Core.Direct 0 0) (Core.LowByte (number 300))
+        ∷ (Core.Return (Core.Arithmetic operators.Add (Core.Load Int (Core.Through (Core.Local 0) 1 4 (site 3 65))) (Core.Load Char (Core.Direct 0 0)) (site 3 65)) ∷ [])))))
+      100)
+    (Exit (pos 51))

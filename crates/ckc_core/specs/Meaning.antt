@@ -1,192 +1,400 @@
 -- What a program means: values with places, each check at its place, and stuck where nothing is meant.
-use Rattle.std.specs.Prelude.{ℕ, zero, suc, Bool, true, false, ◌&&◌, ◌==◌, List, [], ◌∷◌, Option, Some, None, option_map, slice_get, slice_set, nat_lt, length}
-use Rattle.std.proofs.Common.{ℤ, ◌+ℤ◌, ◌-ℤ◌, pos}
-use Rattle.ckc_text.specs.declared.code.Code.TheVariants.{C1}
+use Rattle.std.specs.Prelude.{ℕ, zero, suc, ◌+◌, ◌-◌, ◌%◌, ◌^◌, Bool, true, false, not, ◌&&◌, ◌==◌, List, [], ◌∷◌, ◌++◌, Option, Some, None, option_map, slice_get, slice_set, nat_lt, length, map, drop, replicate, int_lt, int_le, bit_and, bit_or, bit_xor, decimal, pos, negsuc}
+use Rattle.std.proofs.Common.{ℤ}
+use Rattle.ckc_text.specs.declared.code.Code.TheVariants.{C1, C9}
 use Rattle.act_words.specs.declared.ending.Ending.{Ending}
 use Rattle.act_words.specs.declared.ending.Ending.TheVariants.{Check, Exit}
 use Rattle.act_words.specs.declared.settings.Settings.{Settings}
+use Rattle.act_words.specs.declared.act.Turn.TheVariants as turns
 use Rattle.act_words.specs.Acts.{Act}
 use Rattle.act_words.specs.Outcome.{Outcome, Gives, Ends, Stuck, Short, and_then}
-use Rattle.act_words.specs.Numbers.{signed, word}
-use Rattle.act_words.specs.Touches.{Asked, Got, Ended, spend_tick, tainted_call}
-use Rattle.act_words.specs.Checks.{Checked, Holds, Fails, without_overflow, is_word_number}
+use Rattle.act_words.specs.Numbers.{signed, word, number_line}
+use Rattle.act_words.specs.Checks.{Checked, Holds, Fails, is_word_number}
+use Rattle.pointer_modes.specs.Types.{CType, Int, Char, Struct, Pointer}
+use Rattle.act_words.specs.Arithmetic as arithmetic
+use Rattle.act_words.specs.World.{World}
+use Rattle.act_words.specs.Touches.{Asked, Got, Ended, spend_tick, enter_call, next_input, write, tainted_call}
 use Rattle.ckc_core.specs.declared.program.Site.{Site}
 use Rattle.ckc_core.specs.declared.program.Operator.{Operator}
-use Rattle.ckc_core.specs.declared.program.Operator.TheVariants.{Add, Subtract}
+use Rattle.ckc_core.specs.declared.program.Operator.TheVariants as operators
+use Rattle.ckc_core.specs.declared.program.Comparison.{Comparison}
+use Rattle.ckc_core.specs.declared.program.Comparison.TheVariants as comparisons
 use Rattle.ckc_core.specs.Core as core
-use Rattle.ckc_core.specs.States.{Value, Number, Null, At, CellType, Int, same_type, has_type, Cell, Block, State, in_world, cell_at, with_cell, initial}
+use Rattle.ckc_core.specs.States.{Value, Number, Null, At, Cell, Block, State, in_world, cell_at, with_cell, stands_behind, same_type, has_type, zero_of, object_block}
 
 -- the outcome of a step of the meaning
 abbrev pub Result : Type 0 → Type 0
 Result A = Outcome State A
 
--- a value that is there
+-- how a statement ends
+pub data Flow : Type 0 where
+  Next : Flow
+  Broke : Flow
+  Continued : Flow
+  Returned : (value : Option Value) → Flow
+
+-- What is no recursion on the tree: a call of a function, whose result may be nothing, and a further turn of a loop. Both
+-- come behind a tick.
+pub record Knot : Type 0 where
+  pub call : ℕ → List Value → State → Result (Option Value)
+  pub turn : core.Expression → core.Statement → core.Statement → State → Result Flow
+
+-- what all of a run knows: the program, and its budget
+pub record Setting : Type 0 where
+  pub program : core.Core
+  pub budget : ℕ
+
+-- ---- values
+
 abbrev pub given : Option Value → State → Result Value
 given None s = Stuck
 given (Some value) s = Gives value s
 
--- what a check says
+-- a check's number, or its ending
 abbrev pub checked : Checked ℤ → State → Result Value
 checked (Holds number) s = Gives (Number number) s
 checked (Fails ending) s = Ends ending s
 
--- a number has 32 bits
-abbrev pub number_if : Bool → ℤ → State → Result Value
-number_if true number s = Gives (Number number) s
-number_if false number s = Stuck
-
--- the value of a cell of the type that is asked for
 abbrev pub value_if : Bool → Value → State → Result Value
 value_if true value s = Gives value s
 value_if false value s = Stuck
 
-abbrev pub value_in : CellType → Option Cell → State → Result Value
+-- the value of a cell of the type that is asked for
+abbrev pub value_in : CType → Option Cell → State → Result Value
 value_in type None s = Stuck
 value_in type (Some cell) s = value_if (same_type type cell.type) cell.value s
 
--- loads from a place
-abbrev pub load : CellType → ℕ → ℕ → State → Result Value
-load type block cell s = value_in type (cell_at s.blocks block cell) s
+abbrev pub place_where : Bool → ℕ → ℕ → State → Result (ℕ × ℕ)
+place_where true block cell s = Gives (block, cell) s
+place_where false block cell s = Stuck
 
--- loads through a pointer, which isn't null (C1)
-abbrev pub load_through : CellType → Site → Value → State → Result Value
-load_through type site (Number number) s = Stuck
-load_through type site Null s = Ends (Check C1 site.place) s
-load_through type site (At block cell) s = load type block cell s
+-- what a place is, behind the check of its pointer (C1): so many cells and bytes behind the one that is pointed to
+abbrev pub place_through : ℕ → ℕ → Site → Value → State → Result (ℕ × ℕ)
+place_through cell offset site (Number number) s = Stuck
+place_through cell offset site Null s = Ends (Check C1 site.place) s
+place_through cell offset site (At block first) s = place_where (stands_behind (slice_get s.blocks block) first cell offset) block (first + cell) s
 
--- a pointer to the first cell of a block that is there
-abbrev pub place_in : Option Block → ℕ → State → Result Value
-place_in None block s = Stuck
-place_in (Some cells) block s = Gives (At block 0) s
+abbrev pub load_at : CType → ℕ × ℕ → State → Result Value
+load_at type place s = value_in type (cell_at s.blocks place.0 place.1) s
 
--- an operation on two numbers, whose result has 32 bits (C6)
-abbrev pub result_of : Operator → ℤ → ℤ → ℤ
-result_of Add a b = a +ℤ b
-result_of Subtract a b = a -ℤ b
+-- a place that is there
+abbrev pub place_if : Option Cell → ℕ → ℕ → State → Result Value
+place_if None block cell s = Stuck
+place_if (Some there) block cell s = Gives (At block cell) s
 
-abbrev pub arithmetic : Operator → Site → Value → Value → State → Result Value
-arithmetic operator site (Number a) (Number b) s = checked (without_overflow site.place (result_of operator a b)) s
-arithmetic operator site (Number a) Null s = Stuck
-arithmetic operator site (Number a) (At block cell) s = Stuck
-arithmetic operator site Null b s = Stuck
-arithmetic operator site (At block cell) b s = Stuck
+-- a pointer to a cell that is there
+abbrev pub pointer_to : ℕ × ℕ → State → Result Value
+pointer_to place s = place_if (cell_at s.blocks place.0 place.1) place.0 place.1 s
+
+-- a scalar as a condition: a number that isn't 0, or a pointer that isn't null
+abbrev pub truth : Value → Bool
+truth (Number number) = not (arithmetic.is_zero number)
+truth Null = false
+truth (At block cell) = true
+
+abbrev pub number_of_test : Bool → Value
+number_of_test true = Number (pos 1)
+number_of_test false = Number (pos 0)
+
+abbrev pub same_place : Value → Value → Option Bool
+same_place (Number a) b = None
+same_place a (Number b) = None
+same_place Null Null = Some true
+same_place Null (At block cell) = Some false
+same_place (At block cell) Null = Some false
+same_place (At block cell) (At block' cell') = Some (block == block' && cell == cell')
+
+abbrev pub test_given : Option Bool → State → Result Value
+test_given None s = Stuck
+test_given (Some test) s = Gives (number_of_test test) s
+
+-- an operator on two numbers, with its checks
+abbrev pub result_of : Operator → Site → ℤ → ℤ → Checked ℤ
+result_of operators.Add site a b = arithmetic.sum site.place a b
+result_of operators.Subtract site a b = arithmetic.difference site.place a b
+result_of operators.Multiply site a b = arithmetic.product site.place a b
+result_of operators.Divide site a b = arithmetic.quotient site.place a b
+result_of operators.Remainder site a b = arithmetic.remainder site.place a b
+result_of operators.ShiftLeft site a b = arithmetic.shifted_left site.place a b
+result_of operators.ShiftRight site a b = arithmetic.shifted_right site.place a b
+result_of operators.And site a b = Holds (signed (bit_and (word a) (word b)))
+result_of operators.Or site a b = Holds (signed (bit_or (word a) (word b)))
+result_of operators.Xor site a b = Holds (signed (bit_xor (word a) (word b)))
+
+abbrev pub arithmetic_of : Operator → Site → Value → Value → State → Result Value
+arithmetic_of operator site (Number a) (Number b) s = checked (result_of operator site a b) s
+arithmetic_of operator site _ _ s = Stuck
+
+abbrev pub holds : Comparison → ℤ → ℤ → Bool
+holds comparisons.Equal a b = int_le a b && int_le b a
+holds comparisons.NotEqual a b = not (int_le a b && int_le b a)
+holds comparisons.Less a b = int_lt a b
+holds comparisons.LessEqual a b = int_le a b
+holds comparisons.Greater a b = int_lt b a
+holds comparisons.GreaterEqual a b = int_le b a
+
+abbrev pub compared : Comparison → Value → Value → State → Result Value
+compared comparison (Number a) (Number b) s = Gives (number_of_test (holds comparison a b)) s
+compared comparison _ _ s = Stuck
+
+abbrev pub negated : Site → Value → State → Result Value
+negated site (Number b) s = checked (arithmetic.negation site.place b) s
+negated site _ s = Stuck
+
+abbrev pub complemented : Value → State → Result Value
+complemented (Number b) s = Gives (Number (signed (arithmetic.complement (word b)))) s
+complemented _ s = Stuck
+
+-- a number modulo 256
+abbrev pub low_byte : ℤ → ℤ
+low_byte number = pos (word number % 256)
+
+abbrev pub low_byte_of : Value → State → Result Value
+low_byte_of (Number b) s = Gives (Number (low_byte b)) s
+low_byte_of _ s = Stuck
 
 -- goes on from what the world gave, or ends with it
 abbrev pub asked : {A B : Type 0} → Asked A → State → (A → State → Result B) → Result B
 asked (Got answer w) s next = next answer (in_world w s)
 asked (Ended ending w) s next = Ends ending (in_world w s)
 
+-- ---- calls
+
 -- the words of numbers
 abbrev pub words_of : List Value → Option (List ℕ)
 words_of [] = Some []
-words_of (Number number ∷ values) = option_map (λ words. word number ∷ words) (words_of values)
+words_of (Number number ∷ values) = option_map (λ more. word number ∷ more) (words_of values)
 words_of (Null ∷ values) = None
 words_of (At block cell ∷ values) = None
 
--- there is a function that takes as many arguments
-abbrev pub takes : Option core.Import → ℕ → Bool
-takes None count = false
-takes (Some import) count = import.parameters == count
+-- a word that came back stands for a number, and nothing is there where no result is (C9)
+abbrev pub reply_as : Option CType → Site → ℕ → State → Result (Option Value)
+reply_as None site reply s = Gives None s
+reply_as (Some Int) site reply s = Gives (Some (Number (signed reply))) s
+reply_as (Some Char) site reply s = char_if (nat_lt reply 256)
+  where
+    char_if : Bool → Result (Option Value)
+    char_if true = Gives (Some (Number (signed reply))) s
+    char_if false = Ends (Check C9 site.place) s
+reply_as (Some (Struct number)) site reply s = Stuck
+reply_as (Some (Pointer mode kind target)) site reply s = Stuck
 
--- a call of a tainted function: it spends its tick, and is then counted among the open calls until its reply
-abbrev pub call_with : Bool → ℕ → ℕ → Option (List ℕ) → State → Result Value
-call_with false budget import words s = Stuck
-call_with true budget import None s = Stuck
-call_with true budget import (Some words) s =
-    asked (spend_tick budget s.world) s (λ _ t. asked (tainted_call t.depth import words t.world) t (λ reply u. Gives (Number (signed reply)) u))
+abbrev pub cross : Setting → ℕ → core.Import → Site → Option (List ℕ) → State → Result (Option Value)
+cross g import i site None s = Stuck
+cross g import i site (Some passed) s =
+    asked (spend_tick g.budget s.world) s (λ _ t. asked (tainted_call t.depth import passed t.world) t (reply_as i.result site))
+
+abbrev pub cross_if : Bool → Setting → ℕ → core.Import → Site → List Value → State → Result (Option Value)
+cross_if true g import i site values s = cross g import i site (words_of values) s
+cross_if false g import i site values s = Stuck
+
+-- a call of a tainted function that is there and takes as many arguments
+abbrev pub call_tainted : Setting → ℕ → Option core.Import → Site → List Value → State → Result (Option Value)
+call_tainted g import None site values s = Stuck
+call_tainted g import (Some i) site values s = cross_if (i.parameters == length values) g import i site values s
+
+-- a call of a trusted function: its tick, its depth, and then the function
+abbrev pub call_trusted : Setting → Knot → ℕ → List Value → State → Result (Option Value)
+call_trusted g k function values s = asked (spend_tick g.budget s.world) s (λ _ t. asked (enter_call t.depth t.world) t (λ _ u. k.call function values u))
+
+-- the result of a call that has one
+abbrev pub result_given : Option Value → State → Result Value
+result_given None s = Stuck
+result_given (Some value) s = Gives value s
+
+abbrev pub choose : {A : Type 0} → Bool → Result A → Result A → Result A
+choose true first second = first
+choose false first second = second
 
 abbrev mutual
   -- the value of an expression, from left to right
-  pub value : core.Core → ℕ → core.Expression → State → Result Value
-  value program budget (core.Number number) s = number_if (is_word_number number) number s
-  value program budget core.Null s = Gives Null s
-  value program budget (core.Local local) s = given (slice_get s.locals local) s
-  value program budget (core.Object object) s = load Int object 0 s
-  value program budget (core.AddressOf object) s = place_in (slice_get s.blocks object) object s
-  value program budget (core.Load pointer site) s = and_then (value program budget pointer s) (load_through Int site)
-  value program budget (core.Arithmetic operator left right site) s =
-      and_then (value program budget left s) (λ a t. and_then (value program budget right t) (arithmetic operator site a))
-  value program budget (core.TaintedCall import arguments site) s =
-      and_then (values program budget arguments s) (λ vs t. call_with (takes (slice_get program.imports import) (length vs)) budget import (words_of vs) t)
+  pub value : Setting → Knot → core.Expression → State → Result Value
+  value g k (core.Number number) s = value_if (is_word_number number) (Number number) s
+  value g k core.Null s = Gives Null s
+  value g k (core.Local local) s = given (slice_get s.locals local) s
+  value g k (core.Load type p) s = and_then (place g k p s) (load_at type)
+  value g k (core.AddressOf object cell) s = pointer_to (object, cell) s
+  value g k (core.AddressThrough pointer cell offset site) s = and_then (value g k pointer s) (λ p t. and_then (place_through cell offset site p t) pointer_to)
+  value g k (core.Negate operand site) s = and_then (value g k operand s) (negated site)
+  value g k (core.Complement operand) s = and_then (value g k operand s) complemented
+  value g k (core.Not operand) s = and_then (value g k operand s) (λ v t. Gives (number_of_test (not (truth v))) t)
+  value g k (core.Arithmetic operator left right site) s = and_then (value g k left s) (λ a t. and_then (value g k right t) (arithmetic_of operator site a))
+  value g k (core.Compare comparison left right) s = and_then (value g k left s) (λ a t. and_then (value g k right t) (compared comparison a))
+  value g k (core.Same left right) s = and_then (value g k left s) (λ a t. and_then (value g k right t) (λ b u. test_given (same_place a b) u))
+  value g k (core.AndAlso left right) s =
+      and_then (value g k left s) (λ a t. choose (truth a) (and_then (value g k right t) (λ b u. Gives (number_of_test (truth b)) u)) (Gives (number_of_test false) t))
+  value g k (core.OrElse left right) s =
+      and_then (value g k left s) (λ a t. choose (truth a) (Gives (number_of_test true) t) (and_then (value g k right t) (λ b u. Gives (number_of_test (truth b)) u)))
+  value g k (core.LowByte operand) s = and_then (value g k operand s) low_byte_of
+  value g k (core.Call function arguments) s = and_then (values g k arguments s) (λ vs t. and_then (call_trusted g k function vs t) result_given)
+  value g k (core.TaintedCall import arguments site) s = and_then (values g k arguments s) (λ vs t. and_then (call_tainted g import (slice_get g.program.imports import) site vs t) result_given)
+  value g k core.NextInput s = asked (next_input s.world) s (λ number t. Gives (Number number) t)
 
   -- the values of arguments, from left to right
-  pub values : core.Core → ℕ → core.Arguments → State → Result (List Value)
-  values program budget core.Done s = Gives [] s
-  values program budget (core.More first rest) s = and_then (value program budget first s) (λ v t. and_then (values program budget rest t) (λ vs u. Gives (v ∷ vs) u))
+  pub values : Setting → Knot → core.Arguments → State → Result (List Value)
+  values g k core.Done s = Gives [] s
+  values g k (core.More first rest) s = and_then (value g k first s) (λ v t. and_then (values g k rest t) (λ vs u. Gives (v ∷ vs) u))
 
--- how a statement ends: the next one follows, or the function returns
-pub data Flow : Type 0 where
-  Next : Flow
-  Returned : (value : Value) → Flow
+  -- where a cell stands
+  pub place : Setting → Knot → core.Place → State → Result (ℕ × ℕ)
+  place g k (core.Direct object cell) s = Gives (object, cell) s
+  place g k (core.Through pointer cell offset site) s = and_then (value g k pointer s) (place_through cell offset site)
+
+-- ---- stores
 
 -- puts a value into a cell, where both are of the type that is asked for
 abbrev pub store_if : Bool → Cell → ℕ → ℕ → State → Result Flow
-store_if true new block cell s = Gives Next (record { blocks = with_cell s.blocks block cell new; locals = s.locals; depth = s.depth; world = s.world })
+store_if true new block cell s = Gives Next (record s { blocks = with_cell s.blocks block cell new })
 store_if false new block cell s = Stuck
 
-abbrev pub store_over : Option Cell → CellType → Value → ℕ → ℕ → State → Result Flow
+abbrev pub store_over : Option Cell → CType → Value → ℕ → ℕ → State → Result Flow
 store_over None type value block cell s = Stuck
-store_over (Some old) type value block cell s = store_if (same_type type old.type && has_type type value) (record { type = old.type; value = value }) block cell s
+store_over (Some old) type value block cell s = store_if (same_type type old.type && has_type type value) (record old { value = value }) block cell s
 
--- stores at a place
-abbrev pub store : CellType → ℕ → ℕ → Value → State → Result Flow
-store type block cell value s = store_over (cell_at s.blocks block cell) type value block cell s
+abbrev pub store_at : CType → ℕ × ℕ → Value → State → Result Flow
+store_at type place value s = store_over (cell_at s.blocks place.0 place.1) type value place.0 place.1 s
 
--- stores at the place that a value is
-abbrev pub store_to : CellType → Value → Value → State → Result Flow
-store_to type (Number number) value s = Stuck
-store_to type Null value s = Stuck
-store_to type (At block cell) value s = store type block cell value s
-
--- stores through a pointer, which isn't null (C1)
-abbrev pub store_through : CellType → Site → Value → Value → State → Result Flow
-store_through type site (Number number) value s = Stuck
-store_through type site Null value s = Ends (Check C1 site.place) s
-store_through type site (At block cell) value s = store type block cell value s
-
--- puts a value into a local variable that is there
 abbrev pub set_local_if : Bool → ℕ → Value → State → Result Flow
-set_local_if true local value s = Gives Next (record { blocks = s.blocks; locals = slice_set s.locals local value; depth = s.depth; world = s.world })
+set_local_if true local value s = Gives Next (record s { locals = slice_set s.locals local value })
 set_local_if false local value s = Stuck
 
+-- puts a value into a local variable that is there
 abbrev pub set_local : ℕ → Value → State → Result Flow
 set_local local value s = set_local_if (nat_lt local (length s.locals)) local value s
 
--- the effect of a statement. A store evaluates its place, then its value, and then makes its check
-abbrev pub effect : core.Core → ℕ → core.Statement → State → Result Flow
-effect program budget (core.SetLocal local e) s = and_then (value program budget e s) (set_local local)
-effect program budget (core.SetObject object e) s =
-    and_then (place_in (slice_get s.blocks object) object s) (λ p t. and_then (value program budget e t) (store_to Int p))
-effect program budget (core.Store pointer e site) s =
-    and_then (value program budget pointer s) (λ p t. and_then (value program budget e t) (store_through Int site p))
-effect program budget (core.Return e) s = and_then (value program budget e s) (λ v t. Gives (Returned v) t)
+-- A store evaluates its pointer, then its value, and makes its checks behind both.
+abbrev pub pointer_of : Setting → Knot → core.Place → State → Result Value
+pointer_of g k (core.Direct object cell) s = Gives (At object 0) s
+pointer_of g k (core.Through pointer cell offset site) s = value g k pointer s
 
--- goes on where no statement has returned
-abbrev pub unless_returned : (State → Result Flow) → Flow → State → Result Flow
-unless_returned rest Next s = rest s
-unless_returned rest (Returned v) s = Gives (Returned v) s
+abbrev pub place_from : core.Place → Value → State → Result (ℕ × ℕ)
+place_from (core.Direct object cell) p s = Gives (object, cell) s
+place_from (core.Through pointer cell offset site) p s = place_through cell offset site p s
 
--- the effect of statements in their order
-abbrev pub effects : core.Core → ℕ → List core.Statement → State → Result Flow
-effects program budget [] s = Gives Next s
-effects program budget (statement ∷ statements) s = and_then (effect program budget statement s) (unless_returned (effects program budget statements))
+-- the value that a cell or a local of type `char` keeps
+abbrev pub kept_if : Bool → Value → State → Result Value
+kept_if true v s = low_byte_of v s
+kept_if false v s = Gives v s
 
--- what a body gives back: 0 where it ends without a return
-abbrev pub answer : Flow → State → Result Value
-answer Next s = Gives (Number (pos 0)) s
-answer (Returned v) s = Gives v s
+abbrev pub is_char : CType → Bool
+is_char Int = false
+is_char Char = true
+is_char (Struct number) = false
+is_char (Pointer mode kind target) = false
 
--- a call of `main`, which may go on for a number of ticks
-abbrev pub call : ℕ → ℕ → core.Core → State → Result Value
-call budget zero program s = Short
-call budget (suc ticks) program s = and_then (effects program budget program.main.body s) answer
+-- ---- output
+
+abbrev pub printed : Value → State → Result Flow
+printed (Number number) s = Gives Next (in_world (write (number_line number) s.world) s)
+printed _ s = Stuck
+
+abbrev pub put : Value → State → Result Flow
+put (Number number) s = Gives Next (in_world (write (word number % 256 ∷ []) s.world) s)
+put _ s = Stuck
+
+-- ---- flow
+
+-- goes on where a statement leads to the next one
+abbrev pub on_next : (State → Result Flow) → Flow → State → Result Flow
+on_next rest Next s = rest s
+on_next rest Broke s = Gives Broke s
+on_next rest Continued s = Gives Continued s
+on_next rest (Returned v) s = Gives (Returned v) s
+
+-- behind the body of a turn: the step and a further turn, or the end of the loop
+abbrev pub behind_turn : (State → Result Flow) → Flow → State → Result Flow
+behind_turn further Next s = further s
+behind_turn further Continued s = further s
+behind_turn further Broke s = Gives Next s
+behind_turn further (Returned v) s = Gives (Returned v) s
+
+-- a call without a result
+abbrev pub no_result : Option Value → State → Result Flow
+no_result None s = Gives Next s
+no_result (Some value) s = Stuck
+
+abbrev mutual
+  -- the effect of a statement
+  pub effect : Setting → Knot → core.Statement → State → Result Flow
+  effect g k core.Nothing s = Gives Next s
+  effect g k (core.SetLocal local e) s = and_then (value g k e s) (set_local local)
+  effect g k (core.Store type p e) s = and_then (pointer_of g k p s) (λ q t. and_then (value g k e t) (λ v u. and_then (place_from p q u) (λ place w. store_at type place v w)))
+  effect g k (core.UpdateLocal char local operator e site) s =
+      and_then (given (slice_get s.locals local) s) (λ old t. and_then (value g k e t) (λ v u. and_then (arithmetic_of operator site old v u) (λ new w. and_then (kept_if char new w) (set_local local))))
+  effect g k (core.Update type p operator e site) s =
+      and_then (place g k p s) (λ at t. and_then (load_at type at t) (λ old u. and_then (value g k e u) (λ v w. and_then (arithmetic_of operator site old v w) (λ new x. and_then (kept_if (is_char type) new x) (store_at type at)))))
+  effect g k (core.Evaluate e) s = and_then (value g k e s) (λ _ t. Gives Next t)
+  effect g k (core.CallAlone function arguments) s = and_then (values g k arguments s) (λ vs t. and_then (call_trusted g k function vs t) no_result)
+  effect g k (core.TaintedAlone import arguments site) s =
+      and_then (values g k arguments s) (λ vs t. and_then (call_tainted g import (slice_get g.program.imports import) site vs t) no_result)
+  effect g k (core.Print e) s = and_then (value g k e s) printed
+  effect g k (core.PutByte e) s = and_then (value g k e s) put
+  effect g k (core.Block statements) s = effects g k statements s
+  effect g k (core.If condition consequent alternative) s =
+      and_then (value g k condition s) (λ v t. choose (truth v) (effect g k consequent t) (effect g k alternative t))
+  effect g k (core.Loop condition body step) s =
+      and_then (value g k condition s) (λ v t. choose (truth v)
+        (asked (spend_tick g.budget t.world) t (λ _ u. and_then (effect g k body u) (behind_turn (λ w. and_then (effect g k step w) (on_next (k.turn condition body step))))))
+        (Gives Next t))
+  effect g k (core.Return e) s = and_then (value g k e s) (λ v t. Gives (Returned (Some v)) t)
+  effect g k core.ReturnNothing s = Gives (Returned None) s
+  effect g k core.Break s = Gives Broke s
+  effect g k core.Continue s = Gives Continued s
+
+  -- the effect of statements in their order
+  pub effects : Setting → Knot → core.Statements → State → Result Flow
+  effects g k core.NoMore s = Gives Next s
+  effects g k (core.Then first others) s = and_then (effect g k first s) (on_next (effects g k others))
+
+-- ---- functions
+
+-- what a body gives back: 0 or null where it ends without a return
+abbrev pub default_result : Option CType → Option Value
+default_result None = None
+default_result (Some type) = Some (zero_of type)
+
+abbrev pub answer : Option CType → Flow → State → Result (Option Value)
+answer result Next s = Gives (default_result result) s
+answer result (Returned v) s = Gives v s
+answer result Broke s = Stuck
+answer result Continued s = Stuck
+
+-- the locals of a function that is called: the arguments, and zeros
+abbrev pub locals_for : core.Function → List Value → List Value
+locals_for f values = values ++ map zero_of (drop f.parameters f.locals)
+
+-- back in the function that called, with its own locals
+abbrev pub back : State → Option Value → State → Result (Option Value)
+back before v after = Gives v (record after { locals = before.locals; depth = before.depth })
+
+abbrev pub body_if : Bool → Setting → Knot → core.Function → List Value → State → Result (Option Value)
+body_if true g k f values s = and_then (and_then (effects g k f.body (record s { locals = locals_for f values; depth = s.depth + 1 })) (answer f.result)) (back s)
+body_if false g k f values s = Stuck
+
+abbrev pub body_of : Setting → Knot → Option core.Function → List Value → State → Result (Option Value)
+body_of g k None values s = Stuck
+body_of g k (Some f) values s = body_if (f.parameters == length values) g k f values s
+
+-- calls and turns that may go on for a number of ticks
+abbrev pub knot : Setting → ℕ → Knot
+knot g zero = record { call = λ function values s. Short; turn = λ condition body step s. Short }
+knot g (suc ticks) =
+    record {
+      call = λ function values s. body_of g (knot g ticks) (slice_get g.program.functions function) values s;
+      turn = λ condition body step s. effect g (knot g ticks) (core.Loop condition body step) s;
+    }
 
 -- the run ends with the number that `main` returned
-abbrev pub exit : Value → State → Result (Unit {0})
-exit (Number number) s = Ends (Exit number) s
-exit Null s = Stuck
-exit (At block cell) s = Stuck
+abbrev pub exit : Option Value → State → Result (Unit {0})
+exit (Some (Number number)) s = Ends (Exit number) s
+exit (Some Null) s = Stuck
+exit (Some (At block cell)) s = Stuck
+exit None s = Stuck
 
--- the run of a program over these acts: how it ends and in which state, or stuck
-abbrev pub meaning : core.Core → Settings → List Act → Result (Unit {0})
-meaning program settings acts = and_then (call settings.budget (suc settings.budget) program (initial program settings acts)) exit
+-- `main` is the first open call, and costs no tick
+abbrev pub run_from : Setting → State → Result (Unit {0})
+run_from g s = and_then (body_of g (knot g g.budget) (slice_get g.program.functions g.program.main) [] s) exit
+
+-- before `main` runs
+abbrev pub initial : core.Core → World → State
+initial program w = record { blocks = map object_block program.objects; locals = []; depth = 0; world = w }

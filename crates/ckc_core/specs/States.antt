@@ -1,11 +1,15 @@
 -- The states of the meaning: blocks of typed cells, local variables, and the world. No address stands in a state.
-use Rattle.std.specs.Prelude.{◌≡◌, ℕ, Bool, true, false, List, [], ◌∷◌, Option, Some, None, map, replicate, slice_get, slice_set}
+use Rattle.std.specs.Prelude.{◌≡◌, ℕ, zero, suc, ◌+◌, ◌==◌, ◌&&◌, Bool, true, false, List, [], ◌∷◌, Option, Some, None, map, replicate, slice_get, slice_set, nat_lt, pos, negsuc}
 use Rattle.std.specs.Option.{option_and_then}
 use Rattle.std.proofs.Common.{ℤ}
-use Rattle.act_words.specs.declared.settings.Settings.{Settings}
-use Rattle.act_words.specs.Acts.{Act}
-use Rattle.act_words.specs.World.{World, new_world}
-use Rattle.ckc_core.specs.Core.{Core}
+use Rattle.act_words.specs.Checks.{is_word_number}
+use Rattle.pointer_modes.specs.declared.ctype.Mode.{Mode}
+use Rattle.pointer_modes.specs.declared.ctype.Mode.TheVariants as modes
+use Rattle.pointer_modes.specs.declared.ctype.Kind.{Kind}
+use Rattle.pointer_modes.specs.declared.ctype.Kind.TheVariants as kinds
+use Rattle.pointer_modes.specs.Types.{CType, Int, Char, Struct, Pointer}
+use Rattle.act_words.specs.World.{World}
+use Rattle.ckc_core.specs.Core.{Core, Initial, Function}
 
 -- a number, null, or a place: a cell of a block
 pub data Value : Type 0 where
@@ -13,21 +17,48 @@ pub data Value : Type 0 where
   Null : Value
   At : (block cell : ℕ) → Value
 
--- what a cell holds
-pub data CellType : Type 0 where
-  Int : CellType
+abbrev pub same_mode : Mode → Mode → Bool
+same_mode modes.Checked modes.Checked = true
+same_mode modes.Tainted modes.Tainted = true
+same_mode modes.Raw modes.Raw = true
+same_mode _ _ = false
 
-abbrev pub same_type : CellType → CellType → Bool
+abbrev pub same_kind : Kind → Kind → Bool
+same_kind kinds.One kinds.One = true
+same_kind kinds.Array kinds.Array = true
+same_kind kinds.Nt kinds.Nt = true
+same_kind _ _ = false
+
+abbrev pub same_type : CType → CType → Bool
 same_type Int Int = true
+same_type Char Char = true
+same_type (Struct m) (Struct n) = m == n
+same_type (Pointer mode kind target) (Pointer mode' kind' target') = same_mode mode mode' && (same_kind kind kind' && same_type target target')
+same_type _ _ = false
 
--- the value is of the type
-abbrev pub has_type : CellType → Value → Bool
-has_type Int (Number number) = true
-has_type Int Null = false
-has_type Int (At block cell) = false
+abbrev is_byte : ℤ → Bool
+is_byte (pos n) = nat_lt n 256
+is_byte (negsuc n) = false
 
+-- the value is one of the type
+abbrev pub has_type : CType → Value → Bool
+has_type Int (Number number) = is_word_number number
+has_type Char (Number number) = is_byte number
+has_type (Pointer mode kind target) Null = true
+has_type (Pointer mode kind target) (At block cell) = true
+has_type _ _ = false
+
+-- what a variable of the type holds before it is given a value
+abbrev pub zero_of : CType → Value
+zero_of Int = Number (pos 0)
+zero_of Char = Number (pos 0)
+zero_of (Struct number) = Null
+zero_of (Pointer mode kind target) = Null
+
+-- a cell: its type, the bytes from its first one to that of the next cell, or to the block's end, and what it holds
 pub record Cell : Type 0 where
-  pub type : CellType
+  pub type : CType
+  pub stride : ℕ
   pub value : Value
 
 -- a block never changes its length
@@ -43,7 +74,7 @@ pub record State : Type 0 where
 
 -- in another world
 abbrev pub in_world : World → State → State
-in_world w s = record { blocks = s.blocks; locals = s.locals; depth = s.depth; world = w }
+in_world w s = record s { world = w }
 
 -- the cell at a place
 abbrev pub cell_at : List Block → ℕ → ℕ → Option Cell
@@ -57,11 +88,23 @@ with_cell blocks block cell new = with_block (slice_get blocks block)
     with_block None = blocks
     with_block (Some cells) = slice_set blocks block (slice_set cells cell new)
 
--- a file-level variable is a block of one cell
-abbrev pub object_block : ℤ → Block
-object_block number = record { type = Int; value = Number number } ∷ []
+-- the byte place of a cell: how many bytes stand before it
+abbrev pub byte_place : Block → ℕ → ℕ
+byte_place cells zero = 0
+byte_place [] (suc cell) = 0
+byte_place (first ∷ cells) (suc cell) = first.stride + byte_place cells cell
 
--- before `main` runs, over these acts: each file-level variable has its initial number, and each local variable is null
-abbrev pub initial : Core → Settings → List Act → State
-initial core settings acts =
-    record { blocks = map object_block core.objects; locals = replicate core.main.locals Null; depth = 1; world = new_world settings.sandbox acts }
+-- a cell stands so many bytes behind another one of its block
+abbrev pub stands_behind : Option Block → ℕ → ℕ → ℕ → Bool
+stands_behind None first cell offset = false
+stands_behind (Some cells) first cell offset = byte_place cells (first + cell) == byte_place cells first + offset
+
+abbrev initial_value : CType → ℤ → Value
+initial_value Int number = Number number
+initial_value Char number = Number number
+initial_value (Struct n) number = Null
+initial_value (Pointer mode kind target) number = Null
+
+-- a file-level variable before the run
+abbrev pub object_block : List Initial → Block
+object_block cells = map (λ (i : Initial). record { type = i.type; stride = i.stride; value = initial_value i.type i.number }) cells

@@ -1,7 +1,8 @@
-// The core: what is left of a source once each name is a number and each check has its place.
+// The core: what is left of a source once each name is a number, each check has its place and each access its type.
 
 use ckc_text::name::Name;
 use ckc_text::place::Place;
+use pointer_modes::ctype::CType;
 
 /// Where an access or an operation stands, which its failed check names.
 #[derive(Clone, Copy)]
@@ -9,39 +10,116 @@ pub struct Site {
     pub place: Place,
 }
 
-/// An operator on two numbers.
+/// An operator on two numbers with a number for a result.
 #[derive(Clone, Copy)]
 pub enum Operator {
     Add,
     Subtract,
+    Multiply,
+    Divide,
+    Remainder,
+    ShiftLeft,
+    ShiftRight,
+    And,
+    Or,
+    Xor,
 }
 
-/// An expression. Locals and objects are numbered from 0 in the order of their declarations.
+/// A comparison of two numbers.
+#[derive(Clone, Copy)]
+pub enum Comparison {
+    Equal,
+    NotEqual,
+    Less,
+    LessEqual,
+    Greater,
+    GreaterEqual,
+}
+
+/// An expression. Locals, file-level variables and functions are numbered from 0 in the order of their declarations.
+#[cycle(core)]
 #[derive(Drop)]
 pub enum Expr {
     Number(i32),
     Null,
     /// What a local variable holds.
     Local(u32),
-    /// The number that a file-level variable holds.
-    Object(u32),
-    /// A pointer to a file-level variable.
-    AddressOf(u32),
-    /// The number that a pointer points to.
+    /// What a cell of this type holds.
     Load {
+        ctype: CType,
+        cell: CellPlace,
+    },
+    /// A pointer to a cell of a file-level variable.
+    AddressOf {
+        object: u32,
+        cell: u32,
+    },
+    /// A pointer to a cell behind the one that a pointer points to, by a number of cells and of bytes.
+    AddressThrough {
         pointer: Box<Expr>,
+        cell: u32,
+        offset: u32,
         site: Site,
     },
+    Negate {
+        operand: Box<Expr>,
+        site: Site,
+    },
+    Complement(Box<Expr>),
+    /// 1 where a scalar is 0 or null, and else 0.
+    Not(Box<Expr>),
     Arithmetic {
         operator: Operator,
         left: Box<Expr>,
         right: Box<Expr>,
         site: Site,
     },
-    /// The number that a tainted function returns. Its arguments are numbers, from left to right.
+    Compare {
+        comparison: Comparison,
+        left: Box<Expr>,
+        right: Box<Expr>,
+    },
+    /// Whether two pointers are the same.
+    Same {
+        left: Box<Expr>,
+        right: Box<Expr>,
+    },
+    AndAlso {
+        left: Box<Expr>,
+        right: Box<Expr>,
+    },
+    OrElse {
+        left: Box<Expr>,
+        right: Box<Expr>,
+    },
+    /// A number modulo 256.
+    LowByte(Box<Expr>),
+    /// What a trusted function returns. Its arguments stand from left to right.
+    Call {
+        function: u32,
+        arguments: Vec<Expr>,
+    },
+    /// What a tainted function returns. Its arguments are numbers.
     TaintedCall {
         import: u32,
-        args: Vec<Expr>,
+        arguments: Vec<Expr>,
+        site: Site,
+    },
+    NextInput,
+}
+
+/// Where a cell stands: in a file-level variable, or behind a pointer, by a number of cells and of bytes.
+#[cycle(core)]
+#[derive(Drop)]
+pub enum CellPlace {
+    Direct {
+        object: u32,
+        cell: u32,
+    },
+    Through {
+        pointer: Box<Expr>,
+        cell: u32,
+        offset: u32,
         site: Site,
     },
 }
@@ -49,43 +127,103 @@ pub enum Expr {
 /// A statement.
 #[derive(Drop)]
 pub enum Stmt {
+    Nothing,
     SetLocal {
         local: u32,
         value: Expr,
     },
-    SetObject {
-        object: u32,
+    Store {
+        ctype: CType,
+        cell: CellPlace,
         value: Expr,
     },
-    /// Stores a number where a pointer points to.
-    Store {
-        pointer: Expr,
+    /// The old value and an operator with another one. A local of type `char` keeps the result modulo 256.
+    UpdateLocal {
+        is_char: bool,
+        local: u32,
+        operator: Operator,
         value: Expr,
         site: Site,
     },
-    Return {
+    Update {
+        ctype: CType,
+        cell: CellPlace,
+        operator: Operator,
         value: Expr,
+        site: Site,
     },
+    /// A value that is left.
+    Evaluate(Expr),
+    /// A call of a trusted function without a result.
+    CallAlone {
+        function: u32,
+        arguments: Vec<Expr>,
+    },
+    /// A call of a tainted function without a result.
+    TaintedAlone {
+        import: u32,
+        arguments: Vec<Expr>,
+        site: Site,
+    },
+    Print(Expr),
+    PutByte(Expr),
+    Block(Vec<Stmt>),
+    If {
+        condition: Expr,
+        consequent: Box<Stmt>,
+        alternative: Box<Stmt>,
+    },
+    /// A loop with what follows each turn.
+    Loop {
+        condition: Expr,
+        body: Box<Stmt>,
+        step: Box<Stmt>,
+    },
+    Return(Expr),
+    ReturnNothing,
+    Break,
+    Continue,
 }
 
-/// A function: how many local variables it has, and its body.
+/// A trusted function: its name, how many of its locals are parameters, the types of all of them, what it returns, and
+/// its body.
 #[derive(Drop)]
 pub struct Function {
-    pub locals: u32,
+    pub name: Name,
+    pub parameters: u32,
+    pub locals: Vec<CType>,
+    pub result: Option<CType>,
     pub body: Vec<Stmt>,
 }
 
-/// A tainted function that is called: its name, and how many parameters it has.
+/// A tainted function: its name, how many parameters it has, and what it returns.
 #[derive(Drop)]
 pub struct Import {
     pub name: Name,
     pub parameters: u32,
+    pub result: Option<CType>,
 }
 
-/// A whole program: the initial numbers of its file-level variables, the tainted functions, and `main`.
+/// A cell of a file-level variable before the run: its type, the bytes from its first one to that of the next cell or to
+/// the variable's end, and its number. A pointer is null.
+#[derive(Drop)]
+pub struct Initial {
+    pub ctype: CType,
+    pub stride: u32,
+    pub number: i32,
+}
+
+/// The cells of a file-level variable.
+#[derive(Drop)]
+pub struct Object {
+    pub cells: Vec<Initial>,
+}
+
+/// A whole program: its file-level variables, the tainted functions, the trusted ones, and the number of `main`.
 #[derive(Drop)]
 pub struct Core {
-    pub objects: Vec<i32>,
+    pub objects: Vec<Object>,
     pub imports: Vec<Import>,
-    pub main: Function,
+    pub functions: Vec<Function>,
+    pub main: u32,
 }

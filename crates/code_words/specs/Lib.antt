@@ -1,4 +1,7 @@
-pub mod Words
-pub mod Blocks
-pub mod Machine
+pub mod Marshalling
+pub mod Table
+pub mod Moves
+pub mod SandboxCode
+pub mod Runs
+pub mod Paced
 pub mod Fitting

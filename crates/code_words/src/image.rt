@@ -3,6 +3,37 @@
 use crate::lists::Listed;
 use crate::op::Op;
 use ckc_text::name::Name;
+use ckc_text::place::Place;
+
+/// What a word stands for that crosses between the sides, and what a function returns.
+#[derive(Clone, Copy)]
+pub enum WordKind {
+    Int,
+    Char,
+    Pointer,
+    Void,
+}
+
+/// The bounds of a pointer that the sandbox passes: from parameter `base` plus `low` elements to it plus `high`
+/// elements, each end with the number of a parameter added, if there is one, and `more` bytes behind them.
+#[derive(Clone, Copy)]
+pub struct Region {
+    pub base: u32,
+    pub low_var: Option<u32>,
+    pub low_plus: i64,
+    pub high_var: Option<u32>,
+    pub high_plus: i64,
+    pub size: u32,
+    pub more: u32,
+}
+
+/// A parameter of a callback: what it is, where it is declared, and the bounds that it has, if it has some.
+#[derive(Clone, Copy)]
+pub struct Param {
+    pub kind: WordKind,
+    pub place: Place,
+    pub region: Option<Region>,
+}
 
 /// The instructions of a function.
 pub type Ops = Listed<Op>;
@@ -13,7 +44,7 @@ pub type Blocks = Listed<Listed<u8>>;
 /// Functions, in order of number.
 pub type Funs = Listed<Func>;
 
-/// A function: its number and name, the number of its arguments, and the words of its frame.
+/// A function: its number and name, the number of its arguments, the words of its frame, and what it returns.
 #[derive(Drop)]
 pub struct Func {
     pub number: u32,
@@ -21,6 +52,7 @@ pub struct Func {
     pub args: u32,
     pub slots: u32,
     pub stack: u32,
+    pub result: WordKind,
     pub ops: Ops,
 }
 
@@ -31,21 +63,38 @@ pub struct SideCode {
     pub funs: Funs,
 }
 
-/// Tainted functions that are called, in order of number.
+/// Tainted functions, in order of number.
 pub type Imports = Listed<Import>;
 
-/// A tainted function that is called: its number and name, and the number of its arguments.
+/// A tainted function: its number and name, the number of its arguments, and what it returns.
 #[derive(Drop)]
 pub struct Import {
     pub number: u32,
     pub name: Name,
     pub args: u32,
+    pub result: WordKind,
 }
 
-/// What ties an image together: the tainted functions, and the number of `main`, if it has one.
+/// The parameters of a callback.
+pub type Signature = Listed<Param>;
+
+/// Callbacks, in order of number.
+pub type Callbacks = Listed<Callback>;
+
+/// A callback: its number, the trusted function that it is, its parameters, and what it returns.
+#[derive(Drop)]
+pub struct Callback {
+    pub number: u32,
+    pub fun: u32,
+    pub signature: Signature,
+    pub result: WordKind,
+}
+
+/// What ties an image together: the tainted functions, the callbacks, and the number of `main`, if it has one.
 #[derive(Drop)]
 pub struct Layout {
     pub imports: Imports,
+    pub callbacks: Callbacks,
     pub main: Option<u32>,
 }
 
@@ -53,5 +102,6 @@ pub struct Layout {
 #[derive(Drop)]
 pub struct Image {
     pub trusted: SideCode,
+    pub sandbox: SideCode,
     pub layout: Layout,
 }

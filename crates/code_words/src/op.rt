@@ -2,7 +2,8 @@
 
 use ckc_text::place::Place;
 
-/// An instruction. Words have 32 bits, and are pushed to and popped from the frame's stack.
+/// An instruction. Words have 32 bits, and are pushed to and popped from the frame's stack; `a` stands for the word
+/// below the topmost one, `b` for the topmost. A place is where a failed check stands in the source.
 #[derive(Clone, Copy)]
 pub enum Op {
     /// Pushes a number.
@@ -11,23 +12,140 @@ pub enum Op {
     Local(u32),
     /// Pops a word into a slot.
     Set(u32),
-    /// Pushes the address of a block of trusted memory.
+    /// Pops a word.
+    Discard,
+    /// Pushes the topmost word again.
+    Duplicate,
+    /// Pushes the address of a static block of trusted memory.
     BlockAddress(u32),
-    /// Pops the right and the left number, and pushes their sum, which has to have 32 bits (C6).
+    /// Pushes the offset of a static block of sandbox memory.
+    BlockOffset(u32),
+    /// `a + b` (C6).
     Add { place: Place },
-    /// Pops the right and the left number, and pushes their difference, which has to have 32 bits (C6).
+    /// `a - b` (C6).
     Sub { place: Place },
-    /// The topmost word isn't 0 (C1). It stays.
+    /// `a * b` (C6).
+    Mul { place: Place },
+    /// `a / b`, rounded toward zero (C7, C6).
+    Div { place: Place },
+    /// The remainder of `a / b` (C7, C6).
+    Rem { place: Place },
+    /// `-b` (C6).
+    Neg { place: Place },
+    /// `a << b` (C8).
+    Shl { place: Place },
+    /// `a >> b`, which keeps the sign (C8).
+    Shr { place: Place },
+    /// The same modulo 2^32; shifts take their count modulo 32.
+    WrapAdd,
+    WrapSub,
+    WrapMul,
+    WrapNeg,
+    WrapShl,
+    WrapShr,
+    /// In sandbox code: a zero divisor makes the act `stop`.
+    WrapDiv,
+    WrapRem,
+    And,
+    Or,
+    Xor,
+    Not,
+    /// Comparisons of numbers with a sign: 1 or 0.
+    Equal,
+    NotEqual,
+    Less,
+    LessEqual,
+    Greater,
+    GreaterEqual,
+    /// Comparisons of words without a sign: 1 or 0.
+    UnsignedLess,
+    UnsignedLessEqual,
+    UnsignedGreater,
+    UnsignedGreaterEqual,
+    /// 1 where `b` is 0, and else 0.
+    Zero,
+    /// `b` modulo 256.
+    Byte,
+    /// The address `a` plus `b` elements of a size.
+    Index { size: u32 },
+    /// `b` isn't 0 (C1). It stays.
     NonNull { place: Place },
-    /// Pops an address, and pushes the word of the four bytes there.
+    /// Pops an upper end, a lower end, a base, an index and a pointer: the element lies between the ends (C2).
+    In {
+        low: i64,
+        high: i64,
+        size: u32,
+        place: Place,
+    },
+    /// The same, where it may also be at the upper end.
+    UpTo {
+        low: i64,
+        high: i64,
+        size: u32,
+        place: Place,
+    },
+    /// Pops a value, an upper end, a base, an index and a pointer: at the upper end the value is 0 (C3).
+    Term { high: i64, size: u32, place: Place },
+    /// Pops new ends with their base, and old ones with theirs: the new ones lie within the old ones, unless the pointer
+    /// below is null or the new ends are turned (C5).
+    Contain {
+        old_low: i64,
+        old_high: i64,
+        new_low: i64,
+        new_high: i64,
+        size: u32,
+        place: Place,
+    },
+    /// Pops ends with their base: they lie in sandbox memory, with so many bytes more, unless the pointer below is null
+    /// or the ends are turned (C5).
+    Lies {
+        low: i64,
+        high: i64,
+        size: u32,
+        more: u32,
+        place: Place,
+    },
+    /// The bytes from `b` plus an offset on lie in sandbox memory (C4). `b` stays.
+    Range { offset: u32, len: u32, place: Place },
+    /// Pops an address, and pushes the byte or the word there.
+    Load1,
     Load4,
-    /// Pops a word and an address, and stores the word in the four bytes there.
+    /// Pops a value and an address, and stores its lowest byte or all of it there.
+    Store1,
     Store4,
+    /// The same as touches of sandbox memory.
+    TouchLoad1,
+    TouchLoad4,
+    TouchStore1,
+    TouchStore4,
+    /// Goes on at an instruction of this function.
+    Jump(u32),
+    /// Pops a word, and goes on there where it is 0.
+    JumpIfZero(u32),
+    /// Pops the arguments of a function of the same side, the last on top, and calls it (S2).
+    Call(u32),
+    /// Pops the arguments of a tainted function, the last on top, calls it, and pushes its reply (S2, C9).
+    TaintedCall { import: u32, place: Place },
+    /// In sandbox code: pops the arguments of a callback, calls it, and pushes its reply.
+    CallBack(u32),
     /// Returns the topmost word.
     Return,
-    /// Spends a tick, unless as many as the budget were spent (S1).
+    /// Returns nothing.
+    ReturnNothing,
+    /// Spends a tick (S1).
     Tick,
-    /// Pops the arguments of a tainted function, the last on top, calls it, and pushes its reply. It counts as an open
-    /// call until then (S2).
-    TaintedCall { import: u32, place: Place },
+    /// Pushes the next input number, and 0 behind the last.
+    NextInput,
+    /// Pops a number, and writes it in decimal with a line feed.
+    Print,
+    /// Pops a word, and writes its lowest byte.
+    PutByte,
+    /// Pops a count, makes so many elements of trusted memory, and pushes their address, or 0 where there are none.
+    Alloc { size: u32 },
+    /// The same with one element more.
+    AllocTerminated { size: u32 },
+    /// The same as the first, in sandbox memory.
+    SandboxAlloc { size: u32 },
+    /// Pops an address, and pushes how many bytes stand before the first 0 from there; each byte spends a tick.
+    TextLength,
 }

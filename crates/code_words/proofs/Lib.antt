@@ -1,3 +1,0 @@
-mod Keeps
-pub mod Runs
-pub mod Worlds
