@@ -21,8 +21,8 @@ mutual
     -- what a cell of this type holds
     Load : (type : CType) (place : Place) → Expression
     -- a pointer to a cell of a file-level variable, and to one behind a pointer, which isn't null (C1); the cell stands so many
-    -- bytes behind the one that is pointed to
-    AddressOf : (object cell : ℕ) → Expression
+    -- bytes behind the first one, or behind the one that is pointed to
+    AddressOf : (object cell offset : ℕ) → Expression
     AddressThrough : (pointer : Expression) (cell offset : ℕ) (site : Site) → Expression
     Negate : (operand : Expression) (site : Site) → Expression
     Complement : (operand : Expression) → Expression
@@ -46,10 +46,10 @@ mutual
     Done : Arguments
     More : (first : Expression) (rest : Arguments) → Arguments
 
-  -- where a cell stands: in a file-level variable, or behind a pointer, which isn't null (C1), and so many bytes behind the cell
-  -- that is pointed to
+  -- where a cell stands: in a file-level variable, or behind a pointer, which isn't null (C1), and so many bytes behind the first
+  -- cell, or behind the one that is pointed to
   pub data Place : Type 0 where
-    Direct : (object cell : ℕ) → Place
+    Direct : (object cell offset : ℕ) → Place
     Through : (pointer : Expression) (cell offset : ℕ) (site : Site) → Place
 
 mutual
@@ -123,7 +123,7 @@ abbrev mutual
   expression exprs.Null = Null
   expression (exprs.Local local) = Local local
   expression (exprs.Load type cell) = Load (ctype type) (place cell)
-  expression (exprs.AddressOf object cell) = AddressOf object cell
+  expression (exprs.AddressOf object cell offset) = AddressOf object cell offset
   expression (exprs.AddressThrough' p pointer cell offset site) = AddressThrough (expression pointer) cell offset site
   expression (exprs.Negate' p operand site) = Negate (expression operand) site
   expression (exprs.Complement' p operand) = Complement (expression operand)
@@ -143,7 +143,7 @@ abbrev mutual
   arguments (more_of-Expr first rest) = More (expression first) (arguments rest)
 
   pub place : code.CellPlace.CellPlace → Place
-  place (places.Direct object cell) = Direct object cell
+  place (places.Direct object cell offset) = Direct object cell offset
   place (places.Through' p pointer cell offset site) = Through (expression pointer) cell offset site
 
 -- the arguments in a slice

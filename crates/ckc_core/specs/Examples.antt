@@ -16,49 +16,48 @@ use Rattle.ckc_core.specs.Core.{Core, Expression, Statement, Statements, Functio
 use Rattle.ckc_core.specs.States.{State}
 use Rattle.ckc_core.specs.Meaning.{Setting, run_from, initial}
 
-abbrev site : ℕ → ℕ → Site
+abbrev pub site : ℕ → ℕ → Site
 site line col = record { place = record { line = line; col = col } }
 
-abbrev world : World
+abbrev pub world : World
 world = new_world (replicate 64 0) 16 [] []
 
 -- the run of a program with a budget, in which the sandbox ends at once
-abbrev runs : Core → ℕ → Outcome State (Unit {0})
+abbrev pub runs : Core → ℕ → Outcome State (Unit {0})
 runs program budget = run_from (record { program = program; budget = budget }) (initial program world)
 
-abbrev ends_as : Outcome State (Unit {0}) → Ending → Type 0
+abbrev pub ends_as : Outcome State (Unit {0}) → Ending → Type 0
 ends_as (Gives value s) ending = ⊥
 ends_as (Ends how s) ending = how ≡ ending
 ends_as Stuck ending = ⊥
 ends_as Short ending = ⊥
 
-abbrev body : List Statement → Statements
+abbrev pub body : List Statement → Statements
 body [] = Core.NoMore
 body (s ∷ others) = Core.Then s (body others)
 
-abbrev main_with : List CType → List Statement → Function
+abbrev pub main_with : List CType → List Statement → Function
 main_with locals statements = record { name = codes "main"; parameters = 0; locals = locals; result = Some Int; body = body statements }
 
-abbrev one : List CType → List (List Core.Initial) → List Statement → Core
+abbrev pub one : List CType → List (List Core.Initial) → List Statement → Core
 one locals objects statements = record { objects = objects; imports = []; functions = main_with locals statements ∷ []; main = 0 }
 
-abbrev number : ℕ → Expression
+abbrev pub number : ℕ → Expression
 number n = Core.Number (pos n)
 
-abbrev int_cell : ℕ → Core.Initial
+abbrev pub int_cell : ℕ → Core.Initial
 int_cell n = record { type = Int; stride = 4; number = pos n }
 
 -- int g = 1; int main(void) { ptr<int> p = &g; *p = 41; return g + 1; }
+abbrev pub first_run : Core
+first_run =
+    one (Pointer modes.Checked kinds.One Int ∷ []) ((int_cell 1 ∷ []) ∷ [])
+    (Core.SetLocal 0 (Core.AddressOf 0 0 0)
+    ∷ (Core.Store Int (Core.Through (Core.Local 0) 0 0 (site 1 46)) (number 41)
+    ∷ (Core.Return (Core.Arithmetic operators.Add (Core.Load Int (Core.Direct 0 0 0)) (number 1) (site 1 62)) ∷ [])))
+
 abbrev pub first_run_ends : Type 0
-first_run_ends =
-    ends_as
-    (runs
-      (one (Pointer modes.Checked kinds.One Int ∷ []) ((int_cell 1 ∷ []) ∷ [])
-        (Core.SetLocal 0 (Core.AddressOf 0 0)
-        ∷ (Core.Store Int (Core.Through (Core.Local 0) 0 0 (site 1 46)) (number 41)
-        ∷ (Core.Return (Core.Arithmetic operators.Add (Core.Load Int (Core.Direct 0 0)) (number 1) (site 1 62)) ∷ []))))
-      100)
-    (Exit (pos 42))
+first_run_ends = ends_as (runs first_run 100) (Exit (pos 42))
 
 -- int main(void) { int x = 2147483647; x = x + 1; return 0; }
 abbrev pub overflow_ends : Type 0
@@ -72,7 +71,7 @@ overflow_ends =
     (Check C6 (record { line = 1; col = 42 }))
 
 -- int main(void) { int i = 0; while (i < 3) { i = i + 1; } return i; }
-abbrev counting : Core
+abbrev pub counting : Core
 counting =
     one (Int ∷ []) []
     (Core.SetLocal 0 (number 0)
@@ -86,7 +85,7 @@ abbrev pub loop_budget : Type 0
 loop_budget = ends_as (runs counting 2) (Stop S1 None)
 
 -- int f(int n) { return f(n); } int main(void) { return f(0); }
-abbrev falling : Core
+abbrev pub falling : Core
 falling =
     record {
       objects = [];
@@ -101,14 +100,13 @@ abbrev pub depth_and_budget : Type 0
 depth_and_budget = ends_as (runs falling 1000) (Stop S2 None) × ends_as (runs falling 999) (Stop S1 None)
 
 -- struct s { char c; int v; }; struct s a; int main(void) { ptr<struct s> p = &a; p->v = 7; a.c = 300; return p->v + a.c; }
-abbrev pub struct_ends : Type 0
-struct_ends =
-    ends_as
-    (runs
+abbrev pub members : Core
+members =
       (one (Pointer modes.Checked kinds.One (Struct 0) ∷ []) (((record { type = Char; stride = 4; number = pos 0 }) ∷ (int_cell 0 ∷ [])) ∷ [])
-        (Core.SetLocal 0 (Core.AddressOf 0 0)
+        (Core.SetLocal 0 (Core.AddressOf 0 0 0)
         ∷ (Core.Store Int (Core.Through (Core.Local 0) 1 4 (site 3 40)) (number 7)
-        ∷ (Core.Store Char (Core.Direct 0 0) (Core.LowByte (number 300))
-        ∷ (Core.Return (Core.Arithmetic operators.Add (Core.Load Int (Core.Through (Core.Local 0) 1 4 (site 3 65))) (Core.Load Char (Core.Direct 0 0)) (site 3 65)) ∷ [])))))
-      100)
-    (Exit (pos 51))
+        ∷ (Core.Store Char (Core.Direct 0 0 0) (Core.LowByte (number 300))
+        ∷ (Core.Return (Core.Arithmetic operators.Add (Core.Load Int (Core.Through (Core.Local 0) 1 4 (site 3 65))) (Core.Load Char (Core.Direct 0 0 0)) (site 3 65)) ∷ [])))))
+
+abbrev pub struct_ends : Type 0
+struct_ends = ends_as (runs members 100) (Exit (pos 51))

@@ -10,9 +10,10 @@ use Rattle.act_words.specs.Acts.{Act}
 use Rattle.act_words.specs.Outcome.{Outcome, Gives, Ends, Stuck, Short, and_then}
 use Rattle.act_words.specs.Numbers.{signed, word, number_line}
 use Rattle.act_words.specs.Checks.{Checked, Holds, Fails, is_word_number}
+use Rattle.flat_bytes.specs.Blocks.{first_offset}
 use Rattle.pointer_modes.specs.Types.{CType, Int, Char, Struct, Pointer}
 use Rattle.act_words.specs.Arithmetic as arithmetic
-use Rattle.act_words.specs.World.{World}
+use Rattle.act_words.specs.World.{World, new_world}
 use Rattle.act_words.specs.Touches.{Asked, Got, Ended, spend_tick, enter_call, next_input, write, tainted_call}
 use Rattle.ckc_core.specs.declared.program.Site.{Site}
 use Rattle.ckc_core.specs.declared.program.Operator.{Operator}
@@ -20,7 +21,7 @@ use Rattle.ckc_core.specs.declared.program.Operator.TheVariants as operators
 use Rattle.ckc_core.specs.declared.program.Comparison.{Comparison}
 use Rattle.ckc_core.specs.declared.program.Comparison.TheVariants as comparisons
 use Rattle.ckc_core.specs.Core as core
-use Rattle.ckc_core.specs.States.{Value, Number, Null, At, Cell, Block, State, in_world, cell_at, with_cell, stands_behind, same_type, has_type, zero_of, object_block}
+use Rattle.ckc_core.specs.States.{Value, Number, Null, At, Cell, Block, State, in_world, cell_at, with_cell, stands_at, stands_behind, same_type, has_type, zero_of, object_block}
 
 -- the outcome of a step of the meaning
 abbrev pub Result : Type 0 → Type 0
@@ -67,6 +68,10 @@ value_in type (Some cell) s = value_if (same_type type cell.type) cell.value s
 abbrev pub place_where : Bool → ℕ → ℕ → State → Result (ℕ × ℕ)
 place_where true block cell s = Gives (block, cell) s
 place_where false block cell s = Stuck
+
+-- a cell of a file-level variable
+abbrev pub place_in : ℕ → ℕ → ℕ → State → Result (ℕ × ℕ)
+place_in object cell offset s = place_where (stands_at (slice_get s.blocks object) cell offset) object cell s
 
 -- what a place is, behind the check of its pointer (C1): so many cells and bytes behind the one that is pointed to
 abbrev pub place_through : ℕ → ℕ → Site → Value → State → Result (ℕ × ℕ)
@@ -213,7 +218,7 @@ abbrev mutual
   value g k core.Null s = Gives Null s
   value g k (core.Local local) s = given (slice_get s.locals local) s
   value g k (core.Load type p) s = and_then (place g k p s) (load_at type)
-  value g k (core.AddressOf object cell) s = pointer_to (object, cell) s
+  value g k (core.AddressOf object cell offset) s = and_then (place_in object cell offset s) pointer_to
   value g k (core.AddressThrough pointer cell offset site) s = and_then (value g k pointer s) (λ p t. and_then (place_through cell offset site p t) pointer_to)
   value g k (core.Negate operand site) s = and_then (value g k operand s) (negated site)
   value g k (core.Complement operand) s = and_then (value g k operand s) complemented
@@ -237,7 +242,7 @@ abbrev mutual
 
   -- where a cell stands
   pub place : Setting → Knot → core.Place → State → Result (ℕ × ℕ)
-  place g k (core.Direct object cell) s = Gives (object, cell) s
+  place g k (core.Direct object cell offset) s = place_in object cell offset s
   place g k (core.Through pointer cell offset site) s = and_then (value g k pointer s) (place_through cell offset site)
 
 -- ---- stores
@@ -264,11 +269,11 @@ set_local local value s = set_local_if (nat_lt local (length s.locals)) local va
 
 -- A store evaluates its pointer, then its value, and makes its checks behind both.
 abbrev pub pointer_of : Setting → Knot → core.Place → State → Result Value
-pointer_of g k (core.Direct object cell) s = Gives (At object 0) s
+pointer_of g k (core.Direct object cell offset) s = Gives (At object 0) s
 pointer_of g k (core.Through pointer cell offset site) s = value g k pointer s
 
 abbrev pub place_from : core.Place → Value → State → Result (ℕ × ℕ)
-place_from (core.Direct object cell) p s = Gives (object, cell) s
+place_from (core.Direct object cell offset) p s = place_in object cell offset s
 place_from (core.Through pointer cell offset site) p s = place_through cell offset site p s
 
 -- the value that a cell or a local of type `char` keeps
@@ -398,3 +403,8 @@ run_from g s = and_then (body_of g (knot g g.budget) (slice_get g.program.functi
 -- before `main` runs
 abbrev pub initial : core.Core → World → State
 initial program w = record { blocks = map object_block program.objects; locals = []; depth = 0; world = w }
+
+-- what a program means under settings, with these input numbers and acts: how it ends, and the last state
+abbrev pub meaning : core.Core → Settings → List ℤ → List Act → Result (Unit {0})
+meaning program settings inputs acts =
+    run_from (record { program = program; budget = settings.budget }) (initial program (new_world (replicate settings.sandbox 0) first_offset inputs acts))

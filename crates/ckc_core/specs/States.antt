@@ -94,12 +94,17 @@ byte_place cells zero = 0
 byte_place [] (suc cell) = 0
 byte_place (first ∷ cells) (suc cell) = first.stride + byte_place cells cell
 
--- a cell stands so many bytes behind another one of its block
+-- a cell of a block has this byte place
+abbrev pub stands_at : Option Block → ℕ → ℕ → Bool
+stands_at None cell place = false
+stands_at (Some cells) cell place = byte_place cells cell == place
+
+-- a cell of a block stands so many bytes behind another one
 abbrev pub stands_behind : Option Block → ℕ → ℕ → ℕ → Bool
 stands_behind None first cell offset = false
 stands_behind (Some cells) first cell offset = byte_place cells (first + cell) == byte_place cells first + offset
 
-abbrev initial_value : CType → ℤ → Value
+abbrev pub initial_value : CType → ℤ → Value
 initial_value Int number = Number number
 initial_value Char number = Number number
 initial_value (Struct n) number = Null

@@ -49,10 +49,11 @@ pub enum Expr {
         ctype: CType,
         cell: CellPlace,
     },
-    /// A pointer to a cell of a file-level variable.
+    /// A pointer to a cell of a file-level variable, which stands so many bytes behind the first one.
     AddressOf {
         object: u32,
         cell: u32,
+        offset: u32,
     },
     /// A pointer to a cell behind the one that a pointer points to, by a number of cells and of bytes.
     AddressThrough {
@@ -115,6 +116,7 @@ pub enum CellPlace {
     Direct {
         object: u32,
         cell: u32,
+        offset: u32,
     },
     Through {
         pointer: Box<Expr>,

@@ -38,7 +38,7 @@ main_of image = number (image.layout.main)
     number None = 0
     number (Some k) = k
 
-abbrev main_frame : ℕ → Option Func → Frame
+abbrev pub main_frame : ℕ → Option Func → Frame
 main_frame number None = record { function = number; next = 0; slots = []; stack = [] }
 main_frame number (Some fun) = frame_for number fun []
 

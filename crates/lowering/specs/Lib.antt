@@ -1,3 +1,5 @@
 pub mod Code
-pub mod Slices
+pub mod Stacks
+pub mod Images
 pub mod Correct
+pub mod Examples

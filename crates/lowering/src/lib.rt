@@ -1,5 +1,4 @@
-// From programs to code, and that the code does what the program means.
+// From cores to code that does what they mean.
 #![tactic(auto)]
 
-pub mod emit;
 pub mod laws;

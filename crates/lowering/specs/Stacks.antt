@@ -1,0 +1,70 @@
+-- How many words the parts of a program have on the stack at most.
+use Rattle.std.specs.Prelude.{ℕ, zero, suc, ◌+◌, max}
+use Rattle.ckc_core.specs.Core as core
+
+-- an offset is added to an address on the stack
+abbrev pub offset_stack : ℕ → ℕ
+offset_stack zero = 1
+offset_stack (suc n) = 2
+
+abbrev mutual
+  pub expression_stack : core.Expression → ℕ
+  expression_stack (core.Number number) = 1
+  expression_stack core.Null = 1
+  expression_stack (core.Local local) = 1
+  expression_stack (core.Load type p) = place_stack p
+  expression_stack (core.AddressOf object cell offset) = offset_stack offset
+  expression_stack (core.AddressThrough pointer cell offset site) = max (expression_stack pointer) (offset_stack offset)
+  expression_stack (core.Negate operand site) = expression_stack operand
+  expression_stack (core.Complement operand) = expression_stack operand
+  expression_stack (core.Not operand) = expression_stack operand
+  expression_stack (core.Arithmetic operator left right site) = max (expression_stack left) (1 + expression_stack right)
+  expression_stack (core.Compare comparison left right) = max (expression_stack left) (1 + expression_stack right)
+  expression_stack (core.Same left right) = max (expression_stack left) (1 + expression_stack right)
+  expression_stack (core.AndAlso left right) = max (expression_stack left) (expression_stack right)
+  expression_stack (core.OrElse left right) = max (expression_stack left) (expression_stack right)
+  expression_stack (core.LowByte operand) = expression_stack operand
+  expression_stack (core.Call function arguments) = max 1 (arguments_stack arguments)
+  expression_stack (core.TaintedCall import arguments site) = max 1 (arguments_stack arguments)
+  expression_stack core.NextInput = 1
+
+  pub arguments_stack : core.Arguments → ℕ
+  arguments_stack core.Done = 0
+  arguments_stack (core.More first rest) = max (expression_stack first) (1 + arguments_stack rest)
+
+  pub place_stack : core.Place → ℕ
+  place_stack (core.Direct object cell offset) = offset_stack offset
+  place_stack (core.Through pointer cell offset site) = max (expression_stack pointer) (offset_stack offset)
+
+-- a store has its address or its pointer on the stack while its value is computed, and two words, or three, when it is checked
+abbrev pub store_stack : core.Place → core.Expression → ℕ
+store_stack (core.Direct object cell offset) value = max (offset_stack offset) (1 + expression_stack value)
+store_stack (core.Through pointer cell offset site) value = max (expression_stack pointer) (max (1 + expression_stack value) 2)
+
+abbrev mutual
+  pub statement_stack : core.Statement → ℕ
+  statement_stack core.Nothing = 0
+  statement_stack (core.SetLocal local value) = expression_stack value
+  statement_stack (core.Store type p value) = store_stack p value
+  statement_stack (core.UpdateLocal char local operator value site) = 1 + expression_stack value
+  statement_stack (core.Update type p operator value site) = max (place_stack p) (2 + expression_stack value)
+  statement_stack (core.Evaluate value) = expression_stack value
+  statement_stack (core.CallAlone function arguments) = arguments_stack arguments
+  statement_stack (core.TaintedAlone import arguments site) = arguments_stack arguments
+  statement_stack (core.Print number) = expression_stack number
+  statement_stack (core.PutByte number) = expression_stack number
+  statement_stack (core.Block inner) = statements_stack inner
+  statement_stack (core.If condition consequent alternative) = max (expression_stack condition) (max (statement_stack consequent) (statement_stack alternative))
+  statement_stack (core.Loop condition body step) = max (expression_stack condition) (max (statement_stack body) (statement_stack step))
+  statement_stack (core.Return value) = expression_stack value
+  statement_stack core.ReturnNothing = 0
+  statement_stack core.Break = 0
+  statement_stack core.Continue = 0
+
+  pub statements_stack : core.Statements → ℕ
+  statements_stack core.NoMore = 0
+  statements_stack (core.Then first others) = max (statement_stack first) (statements_stack others)
+
+-- a body that runs to its end pushes one word
+abbrev pub body_stack : core.Function → ℕ
+body_stack f = max 1 (statements_stack f.body)
