@@ -1,4 +1,8 @@
-pub mod Acceptance
-pub mod Checking
-pub mod Typed
-pub mod Building
+pub mod Verdicts
+pub mod Scopes
+pub mod Types
+pub mod Expressions
+pub mod Statements
+pub mod Items
+pub mod Cores
+pub mod Examples

@@ -1,11 +1,4 @@
-// From trees to cores, by the rules of names and types.
+// The rules of names, types and regions.
 #![tactic(auto)]
 
-pub mod checker;
-mod declarations;
-mod expressions;
 pub mod laws;
-mod names;
-mod scope;
-mod sites;
-mod statements;
