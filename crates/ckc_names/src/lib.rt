@@ -1,0 +1,4 @@
+// The names of a program: which are visible where, and which stand twice.
+#![tactic(auto)]
+
+pub mod laws;
