@@ -2,3 +2,6 @@ pub mod Mentions
 pub mod Scopes
 pub mod Naming
 pub mod Examples
+pub mod State
+pub mod NameLists
+pub mod Insides
