@@ -1,5 +1,6 @@
 -- Inside: how a table holds the open blocks and the names.
-use Rattle.std.specs.Prelude.{◌≡◌, ℕ, ◌<◌, ◌≤◌, ◌==◌, cond, List, [], ◌∷◌, length, reverse, slice_index_or, Option, Some, None, IsSome}
+use Rattle.std.specs.Prelude.{◌≡◌, ℕ, ◌<◌, ◌≤◌, ◌==◌, cond, List, [], ◌∷◌, length, reverse, slice_index_or, slice_get, nat_lt, Option, Some, None, IsSome}
+use Rattle.std.specs.Option.{option_and_then}
 use Rattle.ckc_names.specs.declared.table.Meaning as code
 use Rattle.ckc_names.specs.declared.table.Meaning.TheVariants as meanings
 use Rattle.ckc_names.specs.declared.table.Held.{Held}
@@ -57,3 +58,19 @@ pub record IsTable (names : List (List ℕ)) (current : List (Option ℕ)) (mark
 abbrev pub meaning_of : Held → Option Meaning
 meaning_of (held.Block outer) = None
 meaning_of (held.Name number stands hides) = Some (meaning stands)
+
+-- what stands at a place, if it is one
+abbrev pub meaning_at : List Held → Option ℕ → Option Meaning
+meaning_at marks None = None
+meaning_at marks (Some place) = option_and_then meaning_of (slice_get marks place)
+
+-- a place in the innermost block
+abbrev pub within : Option ℕ → Option ℕ → Option ℕ
+within None block = None
+within (Some place) None = None
+within (Some place) (Some block) = cond (nat_lt place block) None (Some place)
+
+-- room for one name more, and nothing else is changed
+pub record HasRoom (count : ℕ) (old new : List (Option ℕ)) : Type 0 where
+  pub room : count ≤ length new
+  pub same : (number : ℕ) → slice_index_or new number None ≡ slice_index_or old number None

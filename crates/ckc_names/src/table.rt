@@ -1,13 +1,12 @@
 // What is visible: the open blocks with their names, and the tags.
 
-ghost use Rattle.std.specs.Prelude.{◌≡◌, ◌<◌, ◌++◌, ◌∷◌, [], length, Option, Some, None, IfOk, OnOk, OnErr};
-ghost use Rattle.std.specs.Option.{option_map, option_and_then};
-ghost use Rattle.std.specs.List.{slice_get};
+ghost use Rattle.std.specs.Prelude.{◌≡◌, ◌+◌, ◌<◌, ◌≤◌, ◌∷◌, [], false, length, IfOk, OnOk};
+ghost use Rattle.std.specs.Option.{option_map};
 ghost use Rattle.ckc_names.specs.Scopes.{is_among, innermost as innermost_of, visible as visible_in, with_entry, outside};
 ghost use Rattle.ckc_names.specs.Naming.{with_new};
 ghost use Rattle.ckc_names.specs.NameLists.{name_at};
 ghost use Rattle.ckc_names.specs.State.{nothing_known, with_blocks, with_tags, with_names};
-ghost use Rattle.ckc_names.specs.Insides.{meaning as meaning_in, meaning_of};
+ghost use Rattle.ckc_names.specs.Insides.{meaning as meaning_in, meaning_at as meaning_found, within, HasRoom};
 
 use crate::name_list::NameList;
 use ckc_text::fault::NoMemory;
@@ -60,14 +59,34 @@ impl Model for Table {
     ghost invariant = { λ a. IsTable a.names a.current.items a.held.items a.block };
 }
 
-// What stands at a place, where a name does.
-fn meaning_at(held: &[Held], place: usize) -> Option<Meaning>
-    ensures { option_map meaning_in result ≡ option_and_then meaning_of (slice_get held.now place) }
+// What the name at a place stands for, where there is one.
+fn meaning_at(held: &[Held], place: Option<usize>) -> Option<Meaning>
+    ensures { option_map meaning_in result ≡ meaning_found held.now place }
 {
-    match held.get(place) {
+    match held.get(place?) {
         Some(Held::Name { meaning, .. }) => Some(*meaning),
         _ => None,
     }
+}
+
+// A place, where it stands in the innermost block.
+fn within(place: Option<usize>, block: Option<usize>) -> Option<usize>
+    ensures { result ≡ within place block }
+{
+    let place = place?;
+    if place < block? { None } else { Some(place) }
+}
+
+// Makes room for one more name, which stands nowhere yet.
+fn make_room(current: &mut Vec<Option<usize>>, count: usize) -> Result<(), NoMemory>
+    requires { count ≤ length current.old.items }
+    ensures room { OnOk result (HasRoom (count + 1) current.old.items current.new.items) }
+    ensures kept { HasRoom count current.old.items current.new.items }
+{
+    if current.len() == count {
+        current.push(None)?;
+    }
+    Ok(())
 }
 
 impl Table {
@@ -90,9 +109,7 @@ impl Table {
         ensures within { IfOk result (λ number. number < length self.new.names) }
         ensures stands { IfOk result (λ number. name_at self.new.names number ≡ name.now) }
     {
-        if self.current.len() == self.names.len() {
-            self.current.push(None)?;
-        }
+        make_room(&mut self.current, self.names.len())?;
         let alloc = *self.current.allocator();
         self.names.number(alloc, name)
     }
@@ -127,7 +144,7 @@ impl Table {
         requires { number < length self.now.names }
         ensures { option_map meaning_in result ≡ visible_in self.now.scopes.blocks (name_at self.now.names number) }
     {
-        meaning_at(self.held.as_slice(), self.current[number]?)
+        meaning_at(self.held.as_slice(), self.current[number])
     }
 
     /// What a name stands for in the innermost block.
@@ -135,10 +152,7 @@ impl Table {
         requires { number < length self.now.names }
         ensures { option_map meaning_in result ≡ innermost_of self.now.scopes.blocks (name_at self.now.names number) }
     {
-        let place = self.current[number]?;
-        if place < self.block? {
-            return None;
-        }
+        let place = within(self.current[number], self.block);
         meaning_at(self.held.as_slice(), place)
     }
 
