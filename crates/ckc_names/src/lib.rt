@@ -2,5 +2,6 @@
 #![tactic(auto)]
 
 pub mod laws;
+mod mentions;
 pub mod name_list;
-pub mod table;
+mod table;
