@@ -5,3 +5,4 @@ pub mod Examples
 pub mod State
 pub mod NameLists
 pub mod Insides
+pub mod Slices

@@ -1,7 +1,10 @@
 // The names of a program: which are visible where, and which stand twice.
 #![tactic(auto)]
 
+mod declarations;
+mod expressions;
 pub mod laws;
 mod mentions;
 pub mod name_list;
+mod statements;
 mod table;
