@@ -77,3 +77,12 @@ part_refused f xs i x r less is err first rest =
 pub flat_shown : {X Y : Type 0} (f : Y → List Mention) (g : X → Y) (xs : List X) → flat_map f (map g xs) ≡ flat_map (λ x. f (g x)) xs
 flat_shown f g [] = refl
 flat_shown f g (x ∷ xs) = ap (λ ms. f (g x) ++ ms) (flat_shown f g xs)
+
+-- the parts of a for, those of its head first
+pub for_parts : (first second third body behind : List Mention) → (first ++ (second ++ (third ++ body))) ++ behind ≡ (first ++ (second ++ third)) ++ (body ++ behind)
+for_parts first second third body behind = simp append_assoc
+
+-- one mention of each part
+pub each_shown : {X Y : Type 0} (f : Y → Mention) (g : X → Y) (xs : List X) → map f (map g xs) ≡ flat_map (λ x. f (g x) ∷ []) xs
+each_shown f g [] = refl
+each_shown f g (x ∷ xs) = ap (λ ms. f (g x) ∷ ms) (each_shown f g xs)

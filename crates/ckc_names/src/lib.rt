@@ -3,6 +3,7 @@
 
 mod declarations;
 mod expressions;
+mod items;
 pub mod laws;
 mod mentions;
 pub mod name_list;
