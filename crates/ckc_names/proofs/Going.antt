@@ -1,6 +1,7 @@
 -- Mentions behind one another.
-use Rattle.std.proofs.Common.{◌≡◌, ℕ, ◌+◌, ◌<◌, List, [], ◌∷◌, ◌++◌, length, map, take, drop, get_or, Result, Ok, Err, refl, sym, ap, ◌∙◌, append_assoc}
-use Rattle.std.specs.List.{flat_map}
+use Rattle.std.proofs.Common.{◌≡◌, ℕ, ◌+◌, ◌<◌, Bool, ◌||◌, List, [], ◌∷◌, ◌++◌, length, map, take, drop, get_or, Option, Some, None, is_some, Result, Ok, Err, refl, sym, ap, ◌∙◌, append_assoc}
+use Rattle.std.specs.List.{flat_map, list_any}
+use Rattle.std.specs.Option.{option_map}
 use Rattle.std.specs.Result.{IsErrAnd}
 use Rattle.std.proofs.lemmas.List.{append-nil, take_more, take-append-drop, drop_more}
 use Rattle.std.proofs.lemmas.Result.{err_from_is_err_and}
@@ -86,3 +87,11 @@ for_parts first second third body behind = simp append_assoc
 pub each_shown : {X Y : Type 0} (f : Y → Mention) (g : X → Y) (xs : List X) → map f (map g xs) ≡ flat_map (λ x. f (g x) ∷ []) xs
 each_shown f g [] = refl
 each_shown f g (x ∷ xs) = ap (λ ms. f (g x) ∷ ms) (each_shown f g xs)
+
+pub some_shown : {X Y : Type 0} (g : X → Y) (o : Option X) → is_some (option_map g o) ≡ is_some o
+some_shown g None = refl
+some_shown g (Some x) = refl
+
+pub any_shown : {X Y : Type 0} (p : Y → Bool) (g : X → Y) (xs : List X) → list_any p (map g xs) ≡ list_any (λ x. p (g x)) xs
+any_shown p g [] = refl
+any_shown p g (x ∷ xs) = ap (λ b. p (g x) || b) (any_shown p g xs)

@@ -6,3 +6,4 @@ pub mod State
 pub mod NameLists
 pub mod Insides
 pub mod Slices
+pub mod Named
