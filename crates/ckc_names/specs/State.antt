@@ -3,7 +3,7 @@ use Rattle.std.specs.Prelude.{◌≡◌, ℕ, List, [], Result, Ok, Err}
 use Rattle.ckc_text.specs.declared.fault.Refused.{Refused}
 use Rattle.ckc_text.specs.declared.fault.Refused.TheVariants.{Source, NoMemory}
 use Rattle.ckc_names.specs.Mentions.{Mention}
-use Rattle.ckc_names.specs.Scopes.{Block, Scopes, at_file_level, all_mentioned, with_entry}
+use Rattle.ckc_names.specs.Scopes.{Block, Scopes, all_mentioned}
 use Rattle.ckc_names.specs.Naming.{names_seen}
 
 -- what is visible, and the names that were seen so far, each once
@@ -14,10 +14,6 @@ pub record State : Type 0 where
 -- with nothing open yet
 abbrev pub nothing_known : State
 nothing_known = record { scopes = record { blocks = []; tags = [] }; names = [] }
-
--- before the first item
-abbrev pub at_start : State
-at_start = record { scopes = at_file_level; names = [] }
 
 -- the same with other blocks
 abbrev pub with_blocks : List Block → State → State

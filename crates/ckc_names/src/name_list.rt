@@ -31,7 +31,8 @@ impl Model for NameList {
 }
 
 impl NameList {
-    pub fn new(alloc: Global) -> NameList
+    /// No names.
+    pub(crate) fn new(alloc: Global) -> NameList
         ensures { result ≡ [] }
     {
         NameList {
@@ -55,14 +56,14 @@ impl NameList {
     }
 
     /// Whether a name is in the list.
-    pub fn has(&self, name: &[u8]) -> bool
+    pub(crate) fn has(&self, name: &[u8]) -> bool
         ensures { result ≡ is_among self.now name.now }
     {
         self.names.contains(name)
     }
 
     /// The number of a name, which goes last where it is new.
-    pub fn number(&mut self, alloc: Global, name: &[u8]) -> Result<usize, NoMemory>
+    pub(crate) fn number(&mut self, alloc: Global, name: &[u8]) -> Result<usize, NoMemory>
         ensures names { OnOk result (self.new ≡ with_new (is_among self.old name.now) name.now self.old) }
         ensures within { IfOk result (λ number. number < length self.new) }
         ensures stands { IfOk result (λ number. name_at self.new number ≡ name.now) }

@@ -15,12 +15,12 @@ pub struct Named {
 
 impl Model for Named {
     ghost use Rattle.std.specs.Coded.{codes};
-    ghost use Rattle.ckc_tree.specs.contracts.item.Program as program;
+    ghost use Rattle.ckc_tree.specs.contracts.item.Program as e;
     ghost use Rattle.ckc_names.specs.Named.{NamedProgram};
 
     ghost Value = { NamedProgram };
 
-    ghost coded = { Prim.hlevel (codes, program.the_row.coded) };
+    ghost coded = { Prim.hlevel (codes, e.the_row.coded) };
 
     ghost view = { λ a. record { program = a.program; names = a.names } };
 }
