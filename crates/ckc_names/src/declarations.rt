@@ -86,10 +86,7 @@ pub fn assignment(table: &mut Table, written: &Assignment) -> Result<(), Refused
 }
 
 /// The names in an assignment, where one is written.
-pub fn optional_assignment(
-    table: &mut Table,
-    written: &Option<Assignment>,
-) -> Result<(), Refused>
+pub fn optional_assignment(table: &mut Table, written: &Option<Assignment>) -> Result<(), Refused>
     ensures { Goes (optional_mentions assignment_mentions (option_map assignment_of written.now)) table.old result table.new }
 {
     match written {

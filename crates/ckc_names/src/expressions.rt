@@ -33,7 +33,9 @@ pub fn expression(table: &mut Table, written: &Expr) -> Result<(), Refused>
         Expr::Number { .. } | Expr::Character { .. } | Expr::Text { .. } => Ok(()),
         Expr::Name { name } => use_value(table, name),
         Expr::Call {
-            callee, arguments, ..
+            callee,
+            arguments,
+            ..
         } => {
             call(table, callee)?;
             expressions(table, arguments.as_slice())
@@ -56,7 +58,9 @@ pub fn expression(table: &mut Table, written: &Expr) -> Result<(), Refused>
             }
         },
         Expr::Malloc {
-            type_name, size, ..
+            type_name,
+            size,
+            ..
         } => {
             type_form(table, &type_name.base)?;
             expression(table, size)

@@ -135,11 +135,7 @@ pub fn declare(table: &mut Table, name: &Identifier) -> Result<(), Refused>
 }
 
 /// Declares a function, with its body or without.
-pub fn declare_function(
-    table: &mut Table,
-    name: &Identifier,
-    defined: bool,
-) -> Result<(), Refused>
+pub fn declare_function(table: &mut Table, name: &Identifier, defined: bool) -> Result<(), Refused>
     ensures { Goes (m.DeclareFunction name.now defined ∷ []) table.old result table.new }
 {
     let number = table.see(name.name.as_bytes())?;

@@ -48,18 +48,26 @@ pub fn statement(table: &mut Table, written: &Stmt) -> Result<(), Refused>
     ensures { Goes (statement_mentions (statement_of written.now)) table.old result table.new }
 {
     match written {
-        Stmt::Block { statements: inner, .. } => {
+        Stmt::Block {
+            statements: inner,
+            ..
+        } => {
             open(table)?;
             statements(table, inner.as_slice())?;
             close(table);
             Ok(())
         }
-        Stmt::Bundle { assignments: inner, .. } => assignments(table, inner.as_slice()),
+        Stmt::Bundle {
+            assignments: inner,
+            ..
+        } => assignments(table, inner.as_slice()),
         Stmt::Declare {
-            declaration: inner, ..
+            declaration: inner,
+            ..
         } => declaration(table, inner),
         Stmt::Assign {
-            assignment: inner, ..
+            assignment: inner,
+            ..
         } => assignment(table, inner),
         Stmt::Call { call, .. } => expression(table, call),
         Stmt::If {
@@ -79,7 +87,9 @@ pub fn statement(table: &mut Table, written: &Stmt) -> Result<(), Refused>
             }
         },
         Stmt::While {
-            condition, body, ..
+            condition,
+            body,
+            ..
         } => {
             expression(table, condition)?;
             nested(table, body)

@@ -26,7 +26,9 @@ pub enum Meaning {
 #[derive(Clone, Copy)]
 enum Held {
     /// With the place of the mark of the block around.
-    Block { outer: Option<usize> },
+    Block {
+        outer: Option<usize>,
+    },
     /// With the place of the entry that is hidden.
     Name {
         number: usize,

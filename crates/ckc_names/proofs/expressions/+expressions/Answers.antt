@@ -1,7 +1,6 @@
 use Rattle.std.proofs.Common.{[], ◌∷◌, ◌++◌, refl, arith}
-use Rattle.ckc_tree.specs.Types.{type_tree}
 use Rattle.ckc_tree.specs.Expressions.{expression as expression_of, bounds as bounds_of}
-use Rattle.ckc_names.specs.Mentions.{Select, type_mentions, expression_mentions, bounds_mentions}
+use Rattle.ckc_names.specs.Mentions.{Select, expression_mentions, bounds_mentions}
 use Rattle.ckc_names.proofs.Going.{goes_on, refused, part_more, part_refused}
 use Rattle.ckc_names.proofs.Rows.{call_mentions}
 use Rattle.ckc_names.proofs.expressions.+expressions.Goals as goal

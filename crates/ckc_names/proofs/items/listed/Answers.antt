@@ -1,4 +1,4 @@
-use Rattle.std.proofs.Common.{[], ◌∷◌, ◌++◌, refl}
+use Rattle.std.proofs.Common.{◌∷◌, refl}
 use Rattle.std.specs.Option.{option_map}
 use Rattle.ckc_tree.specs.Expressions.{bounds}
 use Rattle.ckc_names.specs.Mentions.{Declare, optional_mentions, bounds_mentions}

@@ -1,6 +1,6 @@
 use Rattle.std.proofs.Common.{[], ◌∷◌, ◌++◌, map, ap, ◌∙◌}
 use Rattle.std.specs.List.{flat_map}
-use Rattle.ckc_tree.specs.Items.{Member, parameter}
+use Rattle.ckc_tree.specs.Items.{parameter}
 use Rattle.ckc_names.specs.Mentions.{Reveal, member_mentions}
 use Rattle.ckc_names.proofs.Going.{goes_on, refused, flat_shown, each_shown}
 use Rattle.ckc_names.proofs.items.parameters.Goals as goal

@@ -1,8 +1,7 @@
-use Rattle.std.proofs.Common.{sym, ap, ◌∙◌, subst}
+use Rattle.std.proofs.Common.{sym, ap, ◌∙◌}
 use Rattle.std.proofs.lemmas.Slice.Eq.{bytes_eq-Decides}
 use Rattle.ckc_names.specs.Naming.{with_new}
-use Rattle.ckc_names.specs.Scopes.{is_among}
-use Rattle.ckc_names.specs.NameLists.{name_at, names_in, Distinct}
+use Rattle.ckc_names.specs.NameLists.{names_in}
 use Rattle.ckc_names.proofs.Names.{number_in, number_within, name_of_key, put_in, distinct_names}
 use Rattle.ckc_names.proofs.name_list.NameList.number.Goals as goal
 

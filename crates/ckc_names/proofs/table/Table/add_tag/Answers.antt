@@ -1,5 +1,4 @@
-use Rattle.std.proofs.Common.{◌≡◌, List, ℕ, ap, false}
-use Rattle.ckc_names.specs.Scopes.{is_among}
+use Rattle.std.proofs.Common.{List, ℕ, ap}
 use Rattle.ckc_names.specs.State.{with_tags}
 use Rattle.ckc_names.specs.Insides.{state_of}
 use Rattle.ckc_names.proofs.Tables.{tag_added}

@@ -1,4 +1,4 @@
-use Rattle.std.proofs.Common.{◌+◌, subst, rules}
+use Rattle.std.proofs.Common.{◌+◌, subst}
 use Rattle.ckc_names.specs.Scopes.{is_among}
 use Rattle.ckc_names.specs.Insides.{HasRoom}
 use Rattle.ckc_names.proofs.Tables.{seen_table, seen_state}
