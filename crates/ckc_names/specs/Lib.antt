@@ -1,0 +1,9 @@
+pub mod Mentions
+pub mod Scopes
+pub mod Naming
+pub mod Examples
+pub mod State
+pub mod NameLists
+pub mod Insides
+pub mod Slices
+pub mod Named
