@@ -1,5 +1,1 @@
-pub mod Program
-pub mod Forms
-pub mod Rows
-pub mod Lists
-pub mod Examples
+pub mod Built

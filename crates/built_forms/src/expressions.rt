@@ -1,129 +1,85 @@
-// Which expressions are of the forms that are built.
+// Types and expressions of built forms.
 
-ghost use Rattle.std.specs.Prelude.{◌≡◌, IfOk};
-ghost use Rattle.ckc_tree.specs.Expressions.{expression as tree_of};
-ghost use Rattle.built_forms.specs.Program.{expression as form_of};
-ghost use Rattle.built_forms.specs.Forms.{Gives, expression_form, unary_form, binary_form};
-ghost use Rattle.built_forms.specs.Rows.{arguments_in, row_form};
+ghost use Rattle.std.specs.Prelude.{◌≡◌};
+ghost use Rattle.std.specs.List.{list_all};
+ghost use Rattle.ckc_tree.specs.Types.{type_tree};
+ghost use Rattle.ckc_tree.specs.Expressions.{expression};
+ghost use Rattle.built_forms.specs.Built as built;
 
-use crate::program::{BinaryOperator, Expr};
-use ckc_text::fault::{NoMemory, Refused};
-use ckc_text::name::Name;
-use ckc_text::place::Span;
-use ckc_tree::expr;
-use std::alloc::Global;
+use ckc_tree::expr::Expr;
+use ckc_tree::type_form::{PointerKind, PointerMode, TypeForm};
 
-/// The form of an expression.
+/// Whether a type has only forms that are built.
+pub fn built_type(base: &TypeForm) -> bool
+    ensures { result ≡ built.built_type (type_tree base.now) }
+{
+    match base {
+        TypeForm::Int { .. } | TypeForm::Char { .. } | TypeForm::Struct { .. } => true,
+        TypeForm::Pointer { word, element, .. } => {
+            is_checked(word.mode) && is_one(word.kind) && built_type(element)
+        }
+    }
+}
+
+fn is_checked(mode: PointerMode) -> bool
+    ensures { result ≡ built.is_checked_mode mode }
+{
+    match mode {
+        PointerMode::Checked => true,
+        PointerMode::Tainted => false,
+    }
+}
+
+fn is_one(kind: PointerKind) -> bool
+    ensures { result ≡ built.is_one kind }
+{
+    match kind {
+        PointerKind::One => true,
+        PointerKind::Array | PointerKind::NullTerminated => false,
+    }
+}
+
+/// Whether a type is that of a number.
+pub fn is_number_type(base: &TypeForm) -> bool
+    ensures { result ≡ built.is_number_type (type_tree base.now) }
+{
+    match base {
+        TypeForm::Int { .. } | TypeForm::Char { .. } => true,
+        TypeForm::Struct { .. } | TypeForm::Pointer { .. } => false,
+    }
+}
+
+/// Whether an expression has only forms that are built.
 #[cycle(expressions)]
-pub fn expression(alloc: Global, written: &expr::Expr) -> Result<Expr, Refused>
-    ensures { Gives form_of (expression_form (tree_of written.now)) result }
+pub fn built_expression(written: &Expr) -> bool
+    ensures { result ≡ built.built_expression (expression written.now) }
 {
     match written {
-        expr::Expr::Number { value, span } => Ok(Expr::Number {
-            value: *value,
-            span: *span,
-        }),
-        expr::Expr::Name { name } => Ok(Expr::Name {
-            name: copied(alloc, &name.name)?,
-            span: name.span,
-        }),
-        expr::Expr::Call {
+        Expr::Number { .. } | Expr::Character { .. } | Expr::Name { .. } => true,
+        Expr::Text { .. } | Expr::Cast { .. } | Expr::Malloc { .. } | Expr::Calloc { .. } => false,
+        Expr::Call {
             callee,
             arguments,
-            span,
-        } => {
-            let arguments = row(alloc, arguments.as_slice())?;
-            let callee = copied(alloc, &callee.name)?;
-            Ok(Expr::Call {
-                callee,
-                arguments,
-                span: *span,
-            })
-        }
-        expr::Expr::Unary {
-            operator,
-            operand,
-            span,
-        } => {
-            let operand = expression(alloc, operand)?;
-            unary(alloc, *operator, operand, *span)
-        }
-        expr::Expr::Binary {
-            operator,
-            left,
-            right,
-            span,
-        } => {
-            let left = expression(alloc, left)?;
-            let right = expression(alloc, right)?;
-            binary(alloc, *operator, left, right, *span)
-        }
-        _ => Err(Refused::not_built()),
+            ..
+        } => callee.name.as_bytes() != b"strlen".as_slice()
+            && built_arguments(arguments.as_slice()),
+        Expr::SizeOf { type_name, .. } => built_type(&type_name.base),
+        Expr::Index { base, index, .. } => built_expression(base) && built_expression(index),
+        Expr::Dot { base, .. } | Expr::Arrow { base, .. } => built_expression(base),
+        Expr::Unary { operand, .. } => built_expression(operand),
+        Expr::Binary { left, right, .. } => built_expression(left) && built_expression(right),
     }
 }
 
-// The forms of arguments, from left to right.
+// Whether all arguments have only forms that are built.
 #[cycle(expressions)]
-fn row(alloc: Global, arguments: &[expr::Expr]) -> Result<Vec<Expr>, Refused>
-    ensures { Gives (λ v. arguments_in v.items) (row_form arguments.now) result }
+fn built_arguments(arguments: &[Expr]) -> bool
+    ensures { result ≡ list_all (λ x. built.built_expression (expression x)) arguments.now }
 {
-    let mut built = Vec::new(alloc);
     for argument in arguments {
-        built.push(expression(alloc, argument)?)?;
-    }
-    Ok(built)
-}
-
-// An operator before its operand.
-fn unary(
-    alloc: Global,
-    operator: expr::UnaryOperator,
-    operand: Expr,
-    span: Span,
-) -> Result<Expr, Refused>
-    ensures { Gives form_of (unary_form operator (form_of operand) span) result }
-{
-    match operator {
-        expr::UnaryOperator::Deref => {
-            let operand = Box::new(alloc, operand)?;
-            Ok(Expr::Deref { operand, span })
+        if !built_expression(argument) {
+            return false;
         }
-        expr::UnaryOperator::AddressOf => {
-            let operand = Box::new(alloc, operand)?;
-            Ok(Expr::AddressOf { operand, span })
-        }
-        _ => Err(Refused::not_built()),
     }
-}
-
-// An operator between its operands.
-fn binary(
-    alloc: Global,
-    operator: expr::BinaryOperator,
-    left: Expr,
-    right: Expr,
-    span: Span,
-) -> Result<Expr, Refused>
-    ensures { Gives form_of (binary_form operator (form_of left) (form_of right) span) result }
-{
-    let operator = match operator {
-        expr::BinaryOperator::Add => BinaryOperator::Add,
-        expr::BinaryOperator::Subtract => BinaryOperator::Subtract,
-        _ => return Err(Refused::not_built()),
-    };
-    let left = Box::new(alloc, left)?;
-    let right = Box::new(alloc, right)?;
-    Ok(Expr::Binary {
-        operator,
-        left,
-        right,
-        span,
-    })
-}
-
-/// A name of its own.
-pub fn copied(alloc: Global, name: &Name) -> Result<Name, NoMemory>
-    ensures { IfOk result (λ copy. copy ≡ name.now) }
-{
-    Name::copied(alloc, name.as_bytes())
+    true
 }

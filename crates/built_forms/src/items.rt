@@ -1,212 +1,162 @@
-// Which items are of the forms that are built.
+// Items of built forms.
 
-ghost use Rattle.std.specs.Prelude.{◌≡◌, map};
-ghost use Rattle.std.specs.Option.{option_map};
-ghost use Rattle.ckc_tree.specs.Types.{type_name};
-ghost use Rattle.ckc_tree.specs.Expressions.{expression};
-ghost use Rattle.ckc_tree.specs.Statements.{initializer, declarator};
-ghost use Rattle.ckc_tree.specs.Items as items;
-ghost use Rattle.built_forms.specs.Program.{statement as form_of, variable as variable_of, prototype as prototype_of};
-ghost use Rattle.built_forms.specs.Forms.{Gives, provided, number_form, initial_form, variable_form, variables_form, parameter_form, parameters_form, listed_form, is_int_name, is_plain_function, is_prototype, declared_form, is_main, is_body, body_form, statements_form, main_form};
+ghost use Rattle.std.specs.Prelude.{◌≡◌};
+ghost use Rattle.std.specs.List.{list_all};
+ghost use Rattle.ckc_tree.specs.Items.{member, parameter, parameters as parameters_of, result_form, function, structure as structure_of, global as global_of, StructureItem, GlobalItem, item, tree};
+ghost use Rattle.built_forms.specs.Built as built;
 
-use crate::expressions::copied;
-use crate::program::{Global as Variable, Prototype, Stmt};
-use crate::statements::{is_int, only, statement};
-use ckc_text::fault::Refused;
-use ckc_text::name::Name;
-use ckc_text::place::Span;
-use ckc_tree::expr::Expr;
+use crate::expressions::{built_type, is_number_type};
+use crate::statements::{built_block, built_declarators};
 use ckc_tree::item::{
-    Block, Function, FunctionKind, Global as Variables, Item, Parameter, Parameters, ResultForm,
+    Function, FunctionKind, Global, Item, Member, Parameter, Parameters, Program, ResultForm,
+    Structure,
 };
-use ckc_tree::stmt;
-use ckc_tree::type_form::TypeName;
-use std::alloc::Global;
 
-/// The form of a file-level variable.
-pub fn variables(alloc: Global, written: &Variables) -> Result<Variable, Refused>
-    ensures { Gives variable_of (variables_form (items.global written.now)) result }
+fn built_member(written: &Member) -> bool
+    ensures { result ≡ built.built_member (member written.now) }
 {
-    let test = !written.tainted && is_int(&written.base);
-    match only(test, written.declarators.as_slice()) {
-        Some(declarator) => variable(alloc, written.span, declarator),
-        None => Err(Refused::not_built()),
-    }
+    built_type(&written.type_name.base) && written.bounds.is_none()
 }
 
-// The number that an expression is.
-fn number(expr: &Expr) -> Option<u32>
-    ensures { result ≡ number_form (expression expr.now) }
+fn built_parameter(written: &Parameter) -> bool
+    ensures { result ≡ built.built_member (parameter written.now) }
 {
-    match expr {
-        Expr::Number { value, span: _ } => Some(*value),
-        _ => None,
-    }
+    built_type(&written.type_name.base) && written.bounds.is_none()
 }
 
-// The initial number of a variable, if one is written.
-fn initial(written: &Option<stmt::Initializer>) -> Option<Option<u32>>
-    ensures { result ≡ initial_form (option_map initializer written.now) }
+fn is_number_parameter(written: &Parameter) -> bool
+    ensures { result ≡ built.is_number_parameter (parameter written.now) }
+{
+    is_number_type(&written.type_name.base)
+        && written.type_name.stars == 0
+        && written.bounds.is_none()
+}
+
+fn all_built(parameters: &[Parameter]) -> bool
+    ensures { result ≡ list_all (λ p. built.built_member (parameter p)) parameters.now }
+{
+    parameters.iter().all(|p| built_parameter(p))
+}
+
+fn all_numbers(parameters: &[Parameter]) -> bool
+    ensures { result ≡ list_all (λ p. built.is_number_parameter (parameter p)) parameters.now }
+{
+    parameters.iter().all(|p| is_number_parameter(p))
+}
+
+fn built_members(members: &[Member]) -> bool
+    ensures { result ≡ list_all (λ m. built.built_member (member m)) members.now }
+{
+    members.iter().all(|m| built_member(m))
+}
+
+fn built_items(items: &[Item]) -> bool
+    ensures { result ≡ list_all (λ x. built.built_item (item x)) items.now }
+{
+    items.iter().all(|x| built_item(x))
+}
+
+fn built_parameters(written: &Parameters) -> bool
+    ensures { result ≡ built.built_parameters built.built_member (parameters_of written.now) }
 {
     match written {
-        None => Some(None),
-        Some(stmt::Initializer::Value { value }) => {
-            let value = number(value)?;
-            Some(Some(value))
-        }
-        _ => None,
+        Parameters::Nothing | Parameters::Void => true,
+        Parameters::Listed { parameters } => all_built(parameters.as_slice()),
     }
 }
 
-// The form of a file-level variable, with the span of its item.
-fn variable(alloc: Global, span: Span, written: &stmt::Declarator) -> Result<Variable, Refused>
-    ensures { Gives variable_of (variable_form span (declarator written.now)) result }
-{
-    match initial(&written.initializer) {
-        Some(initial) => Ok(Variable {
-            name: copied(alloc, &written.name.name)?,
-            initial,
-            span,
-        }),
-        None => Err(Refused::not_built()),
-    }
-}
-
-// Whether a type is `int`, without stars.
-fn is_int_name(written: &TypeName) -> bool
-    ensures { result ≡ is_int_name (type_name written.now) }
-{
-    is_int(&written.base) && written.stars == 0
-}
-
-// The name of a parameter of type `int`.
-fn parameter(alloc: Global, written: &Parameter) -> Result<Name, Refused>
-    ensures { Gives (λ x. x) (parameter_form (items.parameter written.now)) result }
-{
-    if !is_int_name(&written.type_name) || written.bounds.is_some() {
-        return Err(Refused::not_built());
-    }
-    Ok(copied(alloc, &written.name.name)?)
-}
-
-// The names of parameters.
-fn parameters(alloc: Global, written: &[Parameter]) -> Result<Vec<Name>, Refused>
-    ensures { Gives (λ v. v.items) (parameters_form (map items.parameter written.now)) result }
-{
-    let mut names = Vec::new(alloc);
-    for listed in written {
-        names.push(parameter(alloc, listed)?)?;
-    }
-    Ok(names)
-}
-
-// The names of the parameters of a function.
-fn listed(alloc: Global, written: &Parameters) -> Result<Vec<Name>, Refused>
-    ensures { Gives (λ v. v.items) (listed_form (items.parameters written.now)) result }
+fn are_number_parameters(written: &Parameters) -> bool
+    ensures { result ≡ built.built_parameters built.is_number_parameter (parameters_of written.now) }
 {
     match written {
-        Parameters::Nothing => Err(Refused::not_built()),
-        Parameters::Void => Ok(Vec::new(alloc)),
-        Parameters::Listed { parameters: names } => parameters(alloc, names.as_slice()),
+        Parameters::Nothing | Parameters::Void => true,
+        Parameters::Listed { parameters } => all_numbers(parameters.as_slice()),
     }
 }
 
-// Whether a function returns `int`, without mark and bounds.
-fn is_plain_function(written: &Function) -> bool
-    ensures { result ≡ is_plain_function (items.function written.now) }
+fn built_result(written: &ResultForm) -> bool
+    ensures { result ≡ built.built_result (result_form written.now) }
 {
-    let returns_int = match &written.result {
-        ResultForm::Value { base } => is_int(base) && written.stars == 0,
-        ResultForm::Void { span: _ } => false,
-    };
-    written.mark.is_none() && written.bounds.is_none() && returns_int
-}
-
-/// The form of a tainted function without a body.
-pub fn prototype(alloc: Global, written: &Function) -> Result<Prototype, Refused>
-    ensures { Gives prototype_of (provided (is_prototype (items.function written.now)) (declared_form (items.function written.now))) result }
-{
-    if !is_plain_function(written)
-        || !matches!(written.kind, FunctionKind::Tainted)
-        || written.body.is_some()
-    {
-        return Err(Refused::not_built());
-    }
-    let parameters = listed(alloc, &written.parameters)?;
-    let name = copied(alloc, &written.name.name)?;
-    Ok(Prototype {
-        name,
-        parameters,
-        span: written.span,
-    })
-}
-
-// Whether a function is `int main(void)`.
-fn is_main(written: &Function) -> bool
-    ensures { result ≡ is_main (items.function written.now) }
-{
-    is_plain_function(written)
-        && matches!(written.kind, FunctionKind::Trusted)
-        && matches!(written.parameters, Parameters::Void)
-        && written.name.name.as_bytes() == b"main".as_slice()
-}
-
-// The forms of statements.
-fn statements(alloc: Global, written: &[stmt::Stmt]) -> Result<Vec<Stmt>, Refused>
-    ensures { Gives (λ v. map form_of v.items) (statements_form (items.statement_list written.now)) result }
-{
-    let mut built = Vec::new(alloc);
-    for listed in written {
-        built.push(statement(alloc, listed)?)?;
-    }
-    Ok(built)
-}
-
-// Whether locals come first, then stores, and last one return.
-fn is_body(body: &[Stmt]) -> bool
-    ensures { result ≡ is_body (map form_of body.now) }
-{
-    let mut stored = false;
-    let mut returned = false;
-    for listed in body {
-        let fits = match listed {
-            Stmt::Declare { .. } => !stored && !returned,
-            Stmt::Assign { .. } | Stmt::Return { .. } => !returned,
-        };
-        if !fits {
-            return false;
-        }
-        stored = stored || matches!(listed, Stmt::Assign { .. });
-        returned = matches!(listed, Stmt::Return { .. });
-    }
-    returned
-}
-
-// The statements of a body.
-fn body(alloc: Global, written: &Block) -> Result<Vec<Stmt>, Refused>
-    ensures { Gives (λ v. map form_of v.items) (body_form (items.body written.now)) result }
-{
-    if written.mark.is_some() {
-        return Err(Refused::not_built());
-    }
-    let built = statements(alloc, written.statements.as_slice())?;
-    if is_body(built.as_slice()) {
-        Ok(built)
-    } else {
-        Err(Refused::not_built())
+    match written {
+        ResultForm::Void { .. } => true,
+        ResultForm::Value { base } => built_type(base),
     }
 }
 
-/// The statements of `main`, where an item is that function.
-pub fn main_body(alloc: Global, written: &Item) -> Result<Vec<Stmt>, Refused>
-    ensures { Gives (λ v. map form_of v.items) (main_form (items.item written.now)) result }
+fn is_number_result(written: &ResultForm) -> bool
+    ensures { result ≡ built.is_number_result (result_form written.now) }
 {
-    if let Item::Function { function } = written {
-        if is_main(function) {
-            if let Some(block) = &function.body {
-                return body(alloc, block);
-            }
-        }
+    match written {
+        ResultForm::Void { .. } => true,
+        ResultForm::Value { base } => is_number_type(base),
     }
-    Err(Refused::not_built())
+}
+
+// Whether a trusted function has only forms that are built.
+fn built_trusted(written: &Function) -> bool
+    ensures { result ≡ built.built_of_kind FunctionKind.Trusted (function written.now) }
+{
+    if !built_result(&written.result) || !built_parameters(&written.parameters) {
+        return false;
+    }
+    match &written.body {
+        None => true,
+        Some(body) => built_block(body.statements.as_slice()),
+    }
+}
+
+// Whether a tainted function is without a body, and takes and gives numbers.
+fn built_tainted(written: &Function) -> bool
+    ensures { result ≡ built.built_of_kind FunctionKind.Tainted (function written.now) }
+{
+    is_number_result(&written.result)
+        && written.stars == 0
+        && are_number_parameters(&written.parameters)
+        && written.body.is_none()
+}
+
+fn built_function(written: &Function) -> bool
+    ensures { result ≡ built.built_function (function written.now) }
+{
+    if written.bounds.is_some() {
+        return false;
+    }
+    match written.kind {
+        FunctionKind::Trusted => built_trusted(written),
+        FunctionKind::Tainted => built_tainted(written),
+        FunctionKind::Callback => false,
+    }
+}
+
+fn built_structure(written: &Structure) -> bool
+    ensures { result ≡ built.built_item (StructureItem (structure_of written.now)) }
+{
+    !written.tainted && built_members(written.members.as_slice())
+}
+
+fn built_global(written: &Global) -> bool
+    ensures { result ≡ built.built_item (GlobalItem (global_of written.now)) }
+{
+    if written.tainted || !built_type(&written.base) {
+        return false;
+    }
+    built_declarators(written.declarators.as_slice())
+}
+
+fn built_item(written: &Item) -> bool
+    ensures { result ≡ built.built_item (item written.now) }
+{
+    match written {
+        Item::Region { .. } => true,
+        Item::Structure { structure } => built_structure(structure),
+        Item::Global { global } => built_global(global),
+        Item::Function { function } => built_function(function),
+    }
+}
+
+/// Whether a program has only forms that are built.
+pub fn is_built(program: &Program) -> bool
+    ensures { result ≡ built.is_built (tree program.now) }
+{
+    built_items(program.items.as_slice())
 }

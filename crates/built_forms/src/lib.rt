@@ -1,9 +1,6 @@
-// The forms of the language that are built so far: programs of them, and which trees are such programs.
+// Which programs have only forms that are built.
 #![tactic(auto)]
 
-mod expressions;
-pub mod forms;
-mod items;
-pub mod laws;
-pub mod program;
-mod statements;
+pub mod expressions;
+pub mod items;
+pub mod statements;

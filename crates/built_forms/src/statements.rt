@@ -1,129 +1,147 @@
-// Which statements are of the forms that are built.
+// Statements of built forms.
 
-ghost use Rattle.std.specs.Prelude.{◌≡◌, map};
+ghost use Rattle.std.specs.Prelude.{◌≡◌, ◌&&◌};
+ghost use Rattle.std.specs.List.{list_all};
 ghost use Rattle.std.specs.Option.{option_map};
-ghost use Rattle.ckc_tree.specs.Types.{type_tree};
-ghost use Rattle.ckc_tree.specs.Statements.{statement as tree_of, declaration, assignment, declarator};
-ghost use Rattle.built_forms.specs.Program.{statement as form_of};
-ghost use Rattle.built_forms.specs.Forms.{Gives, is_int, is_pointer, is_plain, only, statement_form, declaration_form, store_form, local_form};
+ghost use Rattle.ckc_tree.specs.Statements.{initializer, declarator, declaration, assignment, for_initial, on_heap, statement};
+ghost use Rattle.built_forms.specs.Built as built;
 
-use crate::expressions::{copied, expression};
-use crate::program::Stmt;
-use ckc_text::fault::Refused;
-use ckc_text::place::Span;
-use ckc_tree::stmt;
-use ckc_tree::type_form::{PointerKind, PointerMode, TypeForm};
-use std::alloc::Global;
+use crate::expressions::{built_expression, built_type};
+use ckc_tree::expr::Expr;
+use ckc_tree::stmt::{Assignment, Declaration, Declarator, ForInitial, Initializer, Stmt};
 
-/// The form of a statement.
-pub fn statement(alloc: Global, written: &stmt::Stmt) -> Result<Stmt, Refused>
-    ensures { Gives form_of (statement_form (tree_of written.now)) result }
+fn built_initializer(written: &Initializer) -> bool
+    ensures { result ≡ built.built_initializer (initializer written.now) }
 {
     match written {
-        stmt::Stmt::Declare { declaration, span } => local(alloc, declaration, *span),
-        stmt::Stmt::Assign { assignment, span } => store(alloc, assignment, *span),
-        stmt::Stmt::Return {
-            value: Some(value),
-            span,
-        } => Ok(Stmt::Return {
-            value: expression(alloc, value)?,
-            span: *span,
-        }),
-        _ => Err(Refused::not_built()),
+        Initializer::Value { value } => built_expression(value),
+        Initializer::List { .. } => true,
     }
 }
 
-/// Whether a type is `int`.
-pub fn is_int(base: &TypeForm) -> bool
-    ensures { result ≡ is_int (type_tree base.now) }
+// Whether a variable has only forms that are built: no array, and no bounds.
+fn built_declarator(written: &Declarator) -> bool
+    ensures { result ≡ built.built_declarator (declarator written.now) }
 {
-    matches!(base, TypeForm::Int { .. })
-}
-
-// Whether a type is `ptr<int>`.
-fn is_pointer(base: &TypeForm) -> bool
-    ensures { result ≡ is_pointer (type_tree base.now) }
-{
-    match base {
-        TypeForm::Pointer {
-            word,
-            element,
-            stars,
-            span: _,
-        } => {
-            matches!(word.mode, PointerMode::Checked)
-                && matches!(word.kind, PointerKind::One)
-                && is_int(element)
-                && *stars == 0
-        }
-        _ => false,
+    if written.array.is_some() || written.bounds.is_some() {
+        return false;
     }
-}
-
-// Whether a variable stands alone: without stars, array and bounds.
-fn is_plain(written: &stmt::Declarator) -> bool
-    ensures { result ≡ is_plain (declarator written.now) }
-{
-    written.stars == 0 && written.array.is_none() && written.bounds.is_none()
-}
-
-/// The one variable of a declaration whose type passes a test, where it stands alone.
-pub fn only(test: bool, declarators: &[stmt::Declarator]) -> Option<&stmt::Declarator>
-    ensures { option_map (λ d. declarator d.now) result ≡ only test (map declarator declarators.now) }
-{
-    match declarators {
-        [declarator] if test && is_plain(declarator) => Some(declarator),
-        _ => None,
-    }
-}
-
-// The form of a declaration, with the span of its statement.
-fn local(alloc: Global, written: &stmt::Declaration, span: Span) -> Result<Stmt, Refused>
-    ensures { Gives form_of (declaration_form (declaration written.now) span) result }
-{
-    match only(is_pointer(&written.base), written.declarators.as_slice()) {
-        Some(declarator) => initialized(alloc, declarator, span),
-        None => Err(Refused::not_built()),
-    }
-}
-
-// The form of a local variable, with the span of its statement.
-fn initialized(alloc: Global, written: &stmt::Declarator, span: Span) -> Result<Stmt, Refused>
-    ensures { Gives form_of (local_form span (declarator written.now)) result }
-{
     match &written.initializer {
-        Some(stmt::Initializer::Value { value }) => {
-            let initial = expression(alloc, value)?;
-            let name = copied(alloc, &written.name.name)?;
-            Ok(Stmt::Declare {
-                name,
-                initial,
-                span,
-            })
-        }
-        _ => Err(Refused::not_built()),
+        None => true,
+        Some(initializer) => built_initializer(initializer),
     }
 }
 
-// The form of an assignment, with the span of its statement.
-fn store(alloc: Global, written: &stmt::Assignment, span: Span) -> Result<Stmt, Refused>
-    ensures { Gives form_of (store_form (assignment written.now) span) result }
+/// Whether variables have only forms that are built.
+pub fn built_declarators(declarators: &[Declarator]) -> bool
+    ensures { result ≡ list_all (λ d. built.built_declarator (declarator d)) declarators.now }
+{
+    declarators.iter().all(|d| built_declarator(d))
+}
+
+fn built_declaration(written: &Declaration) -> bool
+    ensures { result ≡ built.built_declaration (declaration written.now) }
+{
+    built_type(&written.base) && built_declarators(written.declarators.as_slice())
+}
+
+fn built_assignment(written: &Assignment) -> bool
+    ensures { result ≡ built.built_assignment (assignment written.now) }
 {
     match written {
-        stmt::Assignment::Store {
-            operator: stmt::StoreOperator::Set,
-            target,
-            value,
-            span: _,
-        } => {
-            let target = expression(alloc, target)?;
-            let value = expression(alloc, value)?;
-            Ok(Stmt::Assign {
-                target,
-                value,
-                span,
-            })
+        Assignment::Store { target, value, .. } => {
+            built_expression(target) && built_expression(value)
         }
-        _ => Err(Refused::not_built()),
+        Assignment::Step { target, .. } => built_expression(target),
     }
+}
+
+fn built_initial(written: &ForInitial) -> bool
+    ensures { result ≡ built.built_initial (for_initial written.now) }
+{
+    match written {
+        ForInitial::Nothing => true,
+        ForInitial::Declare { declaration } => built_declaration(declaration),
+        ForInitial::Assign { assignment } => built_assignment(assignment),
+    }
+}
+
+fn built_optional(written: &Option<Box<Expr>>) -> bool
+    ensures { result ≡ built.optional built.built_expression (option_map on_heap written.now) }
+{
+    match written {
+        None => true,
+        Some(value) => built_expression(value),
+    }
+}
+
+// Whether the head of a `for` has only forms that are built.
+fn built_head(
+    initial: &ForInitial,
+    condition: &Option<Box<Expr>>,
+    step: &Option<Assignment>,
+) -> bool
+    ensures { result ≡ (built.built_initial (for_initial initial.now)
+        && (built.optional built.built_expression (option_map on_heap condition.now)
+        && built.optional built.built_assignment (option_map assignment step.now))) }
+{
+    let steps = match step {
+        None => true,
+        Some(step) => built_assignment(step),
+    };
+    built_initial(initial) && built_optional(condition) && steps
+}
+
+/// Whether a statement has only forms that are built.
+#[cycle(statements)]
+pub fn built_statement(written: &Stmt) -> bool
+    ensures { result ≡ built.built_statement (statement written.now) }
+{
+    match written {
+        Stmt::Block { statements, .. } => built_block(statements.as_slice()),
+        Stmt::Bundle { .. } => false,
+        Stmt::Declare { declaration, .. } => built_declaration(declaration),
+        Stmt::Assign { assignment, .. } => built_assignment(assignment),
+        Stmt::Call { call, .. } => built_expression(call),
+        Stmt::Empty { .. } | Stmt::Break { .. } | Stmt::Continue { .. } => true,
+        Stmt::If {
+            condition,
+            consequent,
+            alternative,
+            ..
+        } => match alternative {
+            None => built_expression(condition) && built_statement(consequent),
+            Some(alternative) => {
+                built_expression(condition)
+                    && built_statement(consequent)
+                    && built_statement(alternative)
+            }
+        },
+        Stmt::While {
+            condition,
+            body,
+            ..
+        } => built_expression(condition) && built_statement(body),
+        Stmt::For {
+            initial,
+            condition,
+            step,
+            body,
+            ..
+        } => built_head(initial, condition, step) && built_statement(body),
+        Stmt::Return { value, .. } => built_optional(value),
+    }
+}
+
+/// Whether the statements of a block have only forms that are built.
+#[cycle(statements)]
+pub fn built_block(statements: &[Stmt]) -> bool
+    ensures { result ≡ list_all (λ x. built.built_statement (statement x)) statements.now }
+{
+    for inner in statements {
+        if !built_statement(inner) {
+            return false;
+        }
+    }
+    true
 }

@@ -1,9 +1,11 @@
-use Rattle.std.proofs.Common.{◌≡◌, drop}
-use Rattle.built_forms.specs.Rows.{arguments_after, row_form}
+use Rattle.std.proofs.Common.{◌≡◌, true, take}
+use Rattle.std.specs.List.{list_all}
+use Rattle.ckc_tree.specs.Expressions.{expression}
+use Rattle.built_forms.specs.Built as built
 use Rattle.built_forms.proofs.expressions.+expressions.Given as goal
 
--- the forms of the arguments that are left, behind what was built, are those of all
-abbrev pub invariant-row-loop-argument : goal.invariant-row-loop-argument
-invariant-row-loop-argument l = record {
-  whole : arguments_after l.built.items (row_form (drop l.argument-index l.arguments)) ≡ row_form l.arguments;
+-- the arguments so far are built
+abbrev pub invariant-built_arguments-loop-argument : goal.invariant-built_arguments-loop-argument
+invariant-built_arguments-loop-argument l = record {
+  so_far : list_all (λ x. built.built_expression (expression x)) (take l.argument-index l.arguments) ≡ true;
 }
