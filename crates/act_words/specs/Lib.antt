@@ -14,3 +14,4 @@ pub mod Readings
 pub mod Lines
 pub mod Answers
 pub mod Values
+pub mod Shown

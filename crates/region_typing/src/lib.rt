@@ -1,4 +1,4 @@
-// The rules of names, types and regions.
+// Whether a program keeps the rules of names, types and regions, and what it becomes.
 #![tactic(auto)]
 
-pub mod laws;
+pub mod sites;

@@ -5,10 +5,10 @@ use Rattle.ckc_text.specs.declared.fault.Refused.TheVariants.{Source, NoMemory}
 use Rattle.ckc_tree.specs.Items.{Tree}
 use Rattle.ckc_core.specs.Core as core
 use Rattle.ckc_core.specs.Core.{Core}
-use Rattle.region_typing.specs.Verdicts.{Verdict, Passes, Breaks, passing, picked}
-use Rattle.region_typing.specs.Scopes.{Signature}
-use Rattle.region_typing.specs.Expressions.{Places, is_import, side_number}
-use Rattle.region_typing.specs.Items.{Walk, walked}
+use Rattle.typing_rules.specs.Verdicts.{Verdict, Passes, Breaks, passing, picked}
+use Rattle.typing_rules.specs.Scopes.{Signature}
+use Rattle.typing_rules.specs.Expressions.{Places, is_import, side_number}
+use Rattle.typing_rules.specs.Items.{Walk, walked}
 
 -- a function without a body that is called nowhere; no trusted function of a program that breaks no rule is one
 abbrev pub without_body : Signature → core.Function

@@ -4,7 +4,7 @@ use Rattle.std.specs.Prelude.{◌≡◌, ℕ, zero, suc, ◌+◌, Bool, true, fa
 use Rattle.ckc_tree.specs.declared.item.FunctionKind.{FunctionKind}
 use Rattle.pointer_modes.specs.Types.{CType, Structure}
 use Rattle.ckc_core.specs.Core as core
-use Rattle.region_typing.specs.Verdicts.{picked}
+use Rattle.typing_rules.specs.Verdicts.{picked}
 
 -- a declared function: its kind, its parameters, and what it returns
 pub record Signature : Type 0 where

@@ -13,8 +13,8 @@ use Rattle.pointer_modes.specs.declared.ctype.Kind.{Kind}
 use Rattle.pointer_modes.specs.declared.ctype.Kind.TheVariants as kinds
 use Rattle.pointer_modes.specs.Types.{CType, Int, Char, Struct, Pointer}
 use Rattle.ckc_core.specs.States.{same_mode, same_type}
-use Rattle.region_typing.specs.Verdicts.{Verdict, Passes, passing, needs}
-use Rattle.region_typing.specs.Scopes.{Scope, struct_named}
+use Rattle.typing_rules.specs.Verdicts.{Verdict, Passes, passing, needs}
+use Rattle.typing_rules.specs.Scopes.{Scope, struct_named}
 
 abbrev pub mode_of : PointerMode → Mode
 mode_of written_modes.Checked = modes.Checked

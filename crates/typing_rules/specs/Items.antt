@@ -22,11 +22,11 @@ use Rattle.pointer_modes.specs.Layout.{Cell, cells_of, size_of}
 use Rattle.ckc_core.specs.Core as core
 use Rattle.ckc_core.specs.States.{same_type}
 use Rattle.ckc_core.specs.Meaning.{low_byte}
-use Rattle.region_typing.specs.Verdicts.{Verdict, Passes, passing, needs, breaks, picked}
-use Rattle.region_typing.specs.Scopes.{Scope, Signature, Variable, function_named}
-use Rattle.region_typing.specs.Types.{base_type, without_stars, type_named, is_scalar}
-use Rattle.region_typing.specs.Expressions.{Places, Typed, Value, AStruct, typed}
-use Rattle.region_typing.specs.Statements.{statements, with_local, is_unchecked, is_checked}
+use Rattle.typing_rules.specs.Verdicts.{Verdict, Passes, passing, needs, breaks, picked}
+use Rattle.typing_rules.specs.Scopes.{Scope, Signature, Variable, function_named}
+use Rattle.typing_rules.specs.Types.{base_type, without_stars, type_named, is_scalar}
+use Rattle.typing_rules.specs.Expressions.{Places, Typed, Value, AStruct, typed}
+use Rattle.typing_rules.specs.Statements.{statements, with_local, is_unchecked, is_checked}
 
 -- what is known behind an item: what stands at file level, the cells of the file-level variables with the bytes that their
 -- blocks take, and the functions that have bodies, in the order of these

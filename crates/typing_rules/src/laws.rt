@@ -1,6 +1,6 @@
 // Worked examples of the rules.
 
-ghost use Rattle.region_typing.specs.Examples as examples;
+ghost use Rattle.typing_rules.specs.Examples as examples;
 
 /// Programs and what they become, worked out from the rules.
 pub fn examples()

@@ -25,9 +25,9 @@ use Rattle.pointer_modes.specs.Types.{CType, Int, Pointer}
 use Rattle.ckc_core.specs.declared.program.Site.{Site}
 use Rattle.ckc_core.specs.declared.program.Operator.TheVariants as operators
 use Rattle.ckc_core.specs.Core as core
-use Rattle.region_typing.specs.Verdicts.{Verdict, Passes, Breaks}
+use Rattle.typing_rules.specs.Verdicts.{Verdict, Passes, Breaks}
 use Rattle.ckc_core.specs.Core.{Core}
-use Rattle.region_typing.specs.Cores.{checked}
+use Rattle.typing_rules.specs.Cores.{checked}
 
 -- spans that no place is asked of
 abbrev here : Span

@@ -21,9 +21,9 @@ use Rattle.ckc_core.specs.declared.program.Operator.TheVariants as operators
 use Rattle.ckc_core.specs.declared.program.Comparison.{Comparison}
 use Rattle.ckc_core.specs.declared.program.Comparison.TheVariants as comparisons
 use Rattle.ckc_core.specs.Core as core
-use Rattle.region_typing.specs.Verdicts.{Verdict, Passes, Breaks, passing, needs, breaks, picked}
-use Rattle.region_typing.specs.Scopes.{Scope, Signature, Named, Local, Object, Nothing, named, function_named}
-use Rattle.region_typing.specs.Types.{type_named, is_number, is_pointer, is_scalar, are_comparable, converts}
+use Rattle.typing_rules.specs.Verdicts.{Verdict, Passes, Breaks, passing, needs, breaks, picked}
+use Rattle.typing_rules.specs.Scopes.{Scope, Signature, Named, Local, Object, Nothing, named, function_named}
+use Rattle.typing_rules.specs.Types.{type_named, is_number, is_pointer, is_scalar, are_comparable, converts}
 
 -- where a value may be stored: a local, or a cell
 pub data Lvalue : Type 0 where

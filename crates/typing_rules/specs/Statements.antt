@@ -17,10 +17,10 @@ use Rattle.ckc_core.specs.declared.program.Site.{Site}
 use Rattle.ckc_core.specs.declared.program.Operator.{Operator}
 use Rattle.ckc_core.specs.declared.program.Operator.TheVariants as operators
 use Rattle.ckc_core.specs.Core as core
-use Rattle.region_typing.specs.Verdicts.{Verdict, Passes, passing, needs, breaks}
-use Rattle.region_typing.specs.Scopes.{Scope}
-use Rattle.region_typing.specs.Types.{starred_type, is_number, is_pointer, is_scalar, without_stars, base_type}
-use Rattle.region_typing.specs.Expressions.{Places, Typed, Value, AStruct, Called, Gives, GivesNothing, Lvalue, OfLocal, OfCell, site_at, typed, call_typed, scalar_of, converted, summands}
+use Rattle.typing_rules.specs.Verdicts.{Verdict, Passes, passing, needs, breaks}
+use Rattle.typing_rules.specs.Scopes.{Scope}
+use Rattle.typing_rules.specs.Types.{starred_type, is_number, is_pointer, is_scalar, without_stars, base_type}
+use Rattle.typing_rules.specs.Expressions.{Places, Typed, Value, AStruct, Called, Gives, GivesNothing, Lvalue, OfLocal, OfCell, site_at, typed, call_typed, scalar_of, converted, summands}
 
 -- what a statement becomes, and what is known behind it
 abbrev pub Walked : Type 0

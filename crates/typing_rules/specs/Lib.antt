@@ -6,3 +6,4 @@ pub mod Statements
 pub mod Items
 pub mod Cores
 pub mod Examples
+pub mod NeverStuck
