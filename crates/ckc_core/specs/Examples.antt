@@ -64,10 +64,10 @@ abbrev pub overflow_ends : Type 0
 overflow_ends =
     ends_as
     (runs
-      (one (Int ∷ []) []
-        (Core.SetLocal 0 (number 2147483647)
-        ∷ (Core.SetLocal 0 (Core.Arithmetic operators.Add (Core.Local 0) (number 1) (site 1 42)) ∷ (Core.Return (number 0) ∷ []))))
-      100)
+    (one (Int ∷ []) []
+    (Core.SetLocal 0 (number 2147483647)
+    ∷ (Core.SetLocal 0 (Core.Arithmetic operators.Add (Core.Local 0) (number 1) (site 1 42)) ∷ (Core.Return (number 0) ∷ []))))
+    100)
     (Check C6 (record { line = 1; col = 42 }))
 
 -- int main(void) { int i = 0; while (i < 3) { i = i + 1; } return i; }
@@ -102,11 +102,11 @@ depth_and_budget = ends_as (runs falling 1000) (Stop S2 None) × ends_as (runs f
 -- struct s { char c; int v; }; struct s a; int main(void) { ptr<struct s> p = &a; p->v = 7; a.c = 300; return p->v + a.c; }
 abbrev pub members : Core
 members =
-      (one (Pointer modes.Checked kinds.One (Struct 0) ∷ []) (((record { type = Char; stride = 4; number = pos 0 }) ∷ (int_cell 0 ∷ [])) ∷ [])
-        (Core.SetLocal 0 (Core.AddressOf 0 0 0)
-        ∷ (Core.Store Int (Core.Through (Core.Local 0) 1 4 (site 3 40)) (number 7)
-        ∷ (Core.Store Char (Core.Direct 0 0 0) (Core.LowByte (number 300))
-        ∷ (Core.Return (Core.Arithmetic operators.Add (Core.Load Int (Core.Through (Core.Local 0) 1 4 (site 3 65))) (Core.Load Char (Core.Direct 0 0 0)) (site 3 65)) ∷ [])))))
+    (one (Pointer modes.Checked kinds.One (Struct 0) ∷ []) (((record { type = Char; stride = 4; number = pos 0 }) ∷ (int_cell 0 ∷ [])) ∷ [])
+    (Core.SetLocal 0 (Core.AddressOf 0 0 0)
+    ∷ (Core.Store Int (Core.Through (Core.Local 0) 1 4 (site 3 40)) (number 7)
+    ∷ (Core.Store Char (Core.Direct 0 0 0) (Core.LowByte (number 300))
+    ∷ (Core.Return (Core.Arithmetic operators.Add (Core.Load Int (Core.Through (Core.Local 0) 1 4 (site 3 65))) (Core.Load Char (Core.Direct 0 0 0)) (site 3 65)) ∷ [])))))
 
 abbrev pub struct_ends : Type 0
 struct_ends = ends_as (runs members 100) (Exit (pos 51))

@@ -198,9 +198,18 @@ abbrev pub call_tainted : Setting → ℕ → Option core.Import → Site → Li
 call_tainted g import None site values s = Stuck
 call_tainted g import (Some i) site values s = cross_if (i.parameters == length values) g import i site values s
 
--- a call of a trusted function: its tick, its depth, and then the function
+-- a function that is there takes as many arguments
+abbrev pub takes : Option core.Function → ℕ → Bool
+takes None count = false
+takes (Some f) count = f.parameters == count
+
+abbrev pub enter_if : Bool → Setting → Knot → ℕ → List Value → State → Result (Option Value)
+enter_if true g k function values s = asked (spend_tick g.budget s.world) s (λ _ t. asked (enter_call t.depth t.world) t (λ _ u. k.call function values u))
+enter_if false g k function values s = Stuck
+
+-- a call of a trusted function that is there and takes as many arguments: its tick, its depth, and then the function
 abbrev pub call_trusted : Setting → Knot → ℕ → List Value → State → Result (Option Value)
-call_trusted g k function values s = asked (spend_tick g.budget s.world) s (λ _ t. asked (enter_call t.depth t.world) t (λ _ u. k.call function values u))
+call_trusted g k function values s = enter_if (takes (slice_get g.program.functions function) (length values)) g k function values s
 
 -- the result of a call that has one
 abbrev pub result_given : Option Value → State → Result Value
@@ -267,9 +276,9 @@ set_local_if false local value s = Stuck
 abbrev pub set_local : ℕ → Value → State → Result Flow
 set_local local value s = set_local_if (nat_lt local (length s.locals)) local value s
 
--- A store evaluates its pointer, then its value, and makes its checks behind both.
+-- A store evaluates its pointer, then its value, and makes its checks behind both. A file-level variable is there before.
 abbrev pub pointer_of : Setting → Knot → core.Place → State → Result Value
-pointer_of g k (core.Direct object cell offset) s = Gives (At object 0) s
+pointer_of g k (core.Direct object cell offset) s = and_then (place_in object cell offset s) (λ place t. Gives (At place.0 place.1) t)
 pointer_of g k (core.Through pointer cell offset site) s = value g k pointer s
 
 abbrev pub place_from : core.Place → Value → State → Result (ℕ × ℕ)
@@ -313,6 +322,13 @@ behind_turn further Continued s = further s
 behind_turn further Broke s = Gives Next s
 behind_turn further (Returned v) s = Gives (Returned v) s
 
+-- behind the step of a turn, which leads to a further one, or returns
+abbrev pub behind_step : (State → Result Flow) → Flow → State → Result Flow
+behind_step further Next s = further s
+behind_step further Broke s = Stuck
+behind_step further Continued s = Stuck
+behind_step further (Returned v) s = Gives (Returned v) s
+
 -- a call without a result
 abbrev pub no_result : Option Value → State → Result Flow
 no_result None s = Gives Next s
@@ -339,8 +355,8 @@ abbrev mutual
       and_then (value g k condition s) (λ v t. choose (truth v) (effect g k consequent t) (effect g k alternative t))
   effect g k (core.Loop condition body step) s =
       and_then (value g k condition s) (λ v t. choose (truth v)
-        (asked (spend_tick g.budget t.world) t (λ _ u. and_then (effect g k body u) (behind_turn (λ w. and_then (effect g k step w) (on_next (k.turn condition body step))))))
-        (Gives Next t))
+      (asked (spend_tick g.budget t.world) t (λ _ u. and_then (effect g k body u) (behind_turn (λ w. and_then (effect g k step w) (behind_step (k.turn condition body step))))))
+      (Gives Next t))
   effect g k (core.Return e) s = and_then (value g k e s) (λ v t. Gives (Returned (Some v)) t)
   effect g k core.ReturnNothing s = Gives (Returned None) s
   effect g k core.Break s = Gives Broke s
