@@ -1,0 +1,7 @@
+pub mod Numbers
+pub mod Shapes
+pub mod Bytes
+pub mod Memory
+pub mod Worlds
+pub mod Steps
+pub mod Expressions
