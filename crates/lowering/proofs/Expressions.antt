@@ -1,17 +1,20 @@
 -- What single instructions of an expression leave on the stack.
-use Rattle.std.proofs.Common.{◌≡◌, ◌≢◌, ℕ, zero, suc, ◌+◌, ◌-◌, ◌*◌, ◌%◌, ◌^◌, ◌<◌, ◌≤◌, Bool, true, false, ℤ, pos, negsuc, List, [], ◌∷◌, ◌++◌, length, map, Option, Some, None, refl, sym, ap, ◌∙◌, subst, arith}
-use Rattle.std.specs.Prelude.{slice_get, nat_le, nat_lt, not, ◌&&◌, ◌==◌, int_le, int_div, bit_and, bit_or, bit_xor}
+use Rattle.std.proofs.Common.{◌≡◌, ◌≢◌, ℕ, zero, suc, ◌+◌, ◌-◌, ◌*◌, ◌%◌, ◌^◌, ◌<◌, ◌≤◌, Bool, true, false, ℤ, ◌+ℤ◌, ◌-ℤ◌, ◌*ℤ◌, neg_ℤ, pos, negsuc, List, [], ◌∷◌, ◌++◌, length, map, Option, Some, None, refl, sym, ap, ◌∙◌, subst, arith}
+use Rattle.std.specs.Prelude.{slice_get, nat_le, nat_lt, not, ◌&&◌, ◌==◌, int_le, int_div, int_rem, bit_and, bit_or, bit_xor}
 use Rattle.std.specs.List.{AllByRecursion}
 use Rattle.std.specs.Int.Bits.{and_lt}
 use Rattle.std.proofs.lemmas.Nat.{or_lt, xor_lt}
 use Rattle.std.proofs.lemmas.Bool.Decides.{nat_tests}
 use Rattle.ckc_text.specs.declared.place.Place.{Place}
+use Rattle.ckc_text.specs.declared.code.Code.TheVariants.{C6, C7, C8, S1}
 use Rattle.act_words.specs.declared.ending.Ending.{Ending}
+use Rattle.act_words.specs.declared.ending.Ending.TheVariants.{Check, Stop}
+use Rattle.act_words.specs.Outcome.{Gives}
 use Rattle.act_words.specs.Checks.{Checked, Holds, Fails, held_if, is_word_number, without_overflow}
 use Rattle.act_words.specs.Numbers.{word, signed}
 use Rattle.act_words.specs.Arithmetic as arithmetic
 use Rattle.act_words.specs.Arithmetic.{bit, checked_then, is_zero, is_count, is_not_negative, halved, count_of}
-use Rattle.act_words.specs.World.{World}
+use Rattle.act_words.specs.World.{World, spent_one, with_inputs}
 use Rattle.act_words.specs.Touches.{Asked, Got, Ended, input_from, next_input, spent_if, spend_tick}
 use Rattle.ckc_core.specs.declared.program.Site.{Site}
 use Rattle.ckc_core.specs.declared.program.Operator.{Operator}
@@ -21,13 +24,16 @@ use Rattle.ckc_core.specs.declared.program.Comparison.TheVariants as comparisons
 use Rattle.ckc_core.specs.States.{Value, Number, Null, At}
 use Rattle.ckc_core.specs.States as meaning
 use Rattle.ckc_core.specs.Meaning.{Result, given, checked, value_if, truth, number_of_test, result_of, arithmetic_of, holds, compared, negated, complemented, low_byte_of}
+use Rattle.ckc_core.specs.Meaning as meanings
+use Rattle.code_words.specs.Table as table
 use Rattle.code_words.specs.Table.{State, Step, Goes, Over, act, push, push_some, push_checked, jump_if, jump_if_zero}
 use Rattle.code_words.specs.declared.op.Op.{Op}
 use Rattle.code_words.specs.declared.op.Op.TheVariants as ops
 use Rattle.lowering.specs.Code.{operator_code, comparison_code}
 use Rattle.lowering.proofs.Numbers.{signed-word, word_small, word-signed, signed_fits, zero_word, equal_words, halved_fits, remainder_fits, complement_fits}
 use Rattle.lowering.proofs.Worlds.{IsNumber, KeptWorld}
-use Rattle.lowering.proofs.Steps.{Leads, Asks, Execution, image, word_of, Finishes, IsKept, Layout, code, frame, standing, Kept, Here, kept_in, moved, pushes, ended, Arrives, Evaluates}
+use Rattle.lowering.proofs.Executions.{Execution, image, word_of, state, IsKept}
+use Rattle.lowering.proofs.Steps.{Leads, Asks, Finishes, Layout, code, frame, standing, Kept, Here, kept_in, moved, pushes_in, pushes, ended, here_at, Arrives, Evaluates}
 
 -- ---- lists
 
@@ -65,27 +71,21 @@ abbrev pub IfHolds : (ℤ → Type 0) → Checked ℤ → Type 0
 IfHolds P (Holds z) = P z
 IfHolds P (Fails ending) = Unit {0}
 
-overflow_fits : (place : Place) (z : ℤ) (fits : Bool) (ending : Ending) → is_word_number z ≡ fits → IfHolds IsNumber (held_if fits z ending)
-overflow_fits place z true ending h = h
-overflow_fits place z false ending h = tt
+held_fits : (test : Bool) (z : ℤ) (ending : Ending) → (test ≡ true → IsNumber z) → IfHolds IsNumber (held_if test z ending)
+held_fits true z ending h = h refl
+held_fits false z ending h = tt
+
+overflow_fits : (place : Place) (z : ℤ) → IfHolds IsNumber (without_overflow place z)
+overflow_fits place z = held_fits (is_word_number z) z (Check C6 place) (λ h. h)
 
 divided_fits : (test : Bool) (ending : Ending) (next : Checked ℤ) → (test ≡ true → IfHolds IsNumber next) → IfHolds IsNumber (checked_then test ending next)
 divided_fits true ending next h = h refl
 divided_fits false ending next h = tt
 
-remainder_held : (test : Bool) (a b : ℤ) (ending : Ending) → IsNumber (arithmetic.int_rem a b) → IfHolds IsNumber (held_if test (arithmetic.int_rem a b) ending)
-remainder_held true a b ending h = h
-remainder_held false a b ending h = tt
-
-shifted_held : (count not_negative fits : Bool) (z : ℤ) (ending : Ending) → is_word_number z ≡ fits → IfHolds IsNumber (held_if (count && (not_negative && fits)) z ending)
-shifted_held true true true z ending h = h
-shifted_held true true false z ending h = tt
-shifted_held true false fits z ending h = tt
-shifted_held false not_negative fits z ending h = tt
-
-halved_held : (test : Bool) (z : ℤ) (ending : Ending) → IsNumber z → IfHolds IsNumber (held_if test z ending)
-halved_held true z ending h = h
-halved_held false z ending h = tt
+last_true : (a b c : Bool) → (a && (b && c)) ≡ true → c ≡ true
+last_true true true c h = h
+last_true true false c h = absurd (cc)
+last_true false b c h = absurd (cc)
 
 not_true : (b : Bool) → not b ≡ true → b ≡ false
 not_true true h = absurd (cc)
@@ -93,16 +93,25 @@ not_true false h = refl
 
 -- an operator's number has 32 bits
 pub result_fits : (operator : Operator) (site : Site) (a b : ℤ) → IsNumber a → IsNumber b → IfHolds IsNumber (result_of operator site a b)
-result_fits operators.Add site a b ha hb = overflow_fits site.place _ _ _ refl
-result_fits operators.Subtract site a b ha hb = overflow_fits site.place _ _ _ refl
-result_fits operators.Multiply site a b ha hb = overflow_fits site.place _ _ _ refl
-result_fits operators.Divide site a b ha hb = divided_fits _ _ _ (λ _. overflow_fits site.place (int_div a b) _ _ refl)
-result_fits operators.Remainder site a b ha hb = divided_fits (not (is_zero b)) _ _ (λ h. remainder_held _ a b _ (remainder_fits a b hb (not_true (is_zero b) h)))
-result_fits operators.ShiftLeft site a b ha hb = shifted_held (is_count b) (is_not_negative a) _ _ _ refl
-result_fits operators.ShiftRight site a b ha hb = halved_held (is_count b) (halved a (count_of b)) _ (halved_fits a (count_of b) ha)
+result_fits operators.Add site a b ha hb = overflow_fits site.place (a +ℤ b)
+result_fits operators.Subtract site a b ha hb = overflow_fits site.place (a -ℤ b)
+result_fits operators.Multiply site a b ha hb = overflow_fits site.place (a *ℤ b)
+result_fits operators.Divide site a b ha hb = divided_fits (not (is_zero b)) (Check C7 site.place) (without_overflow site.place (int_div a b)) (λ h. overflow_fits site.place (int_div a b))
+result_fits operators.Remainder site a b ha hb =
+    divided_fits (not (is_zero b)) (Check C7 site.place) (held_if (is_word_number (int_div a b)) (int_rem a b) (Check C6 site.place))
+    (λ h. held_fits (is_word_number (int_div a b)) (int_rem a b) (Check C6 site.place) (λ k. remainder_fits a b hb (not_true (is_zero b) h)))
+result_fits operators.ShiftLeft site a b ha hb =
+    let z = a *ℤ pos (2 ^ count_of b) in
+    held_fits (is_count b && (is_not_negative a && is_word_number z)) z (Check C8 site.place) (last_true (is_count b) (is_not_negative a) (is_word_number z))
+result_fits operators.ShiftRight site a b ha hb = held_fits (is_count b) (halved a (count_of b)) (Check C8 site.place) (λ h. halved_fits a (count_of b) ha)
 result_fits operators.And site a b ha hb = signed_fits (bit_and (word a) (word b)) (and_lt 32 (word a) (word b) (word_small a ha) (word_small b hb))
 result_fits operators.Or site a b ha hb = signed_fits (bit_or (word a) (word b)) (or_lt 32 (word a) (word b) (word_small a ha) (word_small b hb))
 result_fits operators.Xor site a b ha hb = signed_fits (bit_xor (word a) (word b)) (xor_lt 32 (word a) (word b) (word_small a ha) (word_small b hb))
+
+-- where a branch goes
+abbrev pub chosen : Bool → ℕ → ℕ → ℕ
+chosen true target next = target
+chosen false target next = next
 
 module _ (g : Execution) (l : Layout g) where
   -- ---- values that are pushed
@@ -171,7 +180,7 @@ module _ (g : Execution) (l : Layout g) where
 
   pub negation_runs : (next : ℕ) (stack : List ℕ) (s : meaning.State) (site : Site) (v : Value) → IsKept g v → Here g l next (word_of g v ∷ stack) s → slice_get (code g l).ops next ≡ Some (ops.Neg site.place) → length stack < (code g l).stack → Evaluates g l (next + 1) stack (negated site v s)
   negation_runs next stack s site (Number b) hv here at room =
-      checked_runs next (word b ∷ stack) stack s (ops.Neg site.place) (arithmetic.negation site.place b) (overflow_fits site.place _ _ _ refl) here at room (λ scratch. rw (signed-word b hv) refl)
+      checked_runs next (word b ∷ stack) stack s (ops.Neg site.place) (arithmetic.negation site.place b) (overflow_fits site.place (neg_ℤ b)) here at room (λ scratch. rw (signed-word b hv) refl)
   negation_runs next stack s site Null hv here at room = tt
   negation_runs next stack s site (At block cell) hv here at room = tt
 
@@ -191,10 +200,35 @@ module _ (g : Execution) (l : Layout g) where
 
   -- ---- what the world gives
 
-  input_runs : (inputs : List ℤ) (next : ℕ) (stack : List ℕ) (s : meaning.State) → s.world.inputs ≡ inputs → Here g l next stack s → slice_get (code g l).ops next ≡ Some ops.NextInput → length stack < (code g l).stack → Evaluates g l (next + 1) stack (meanings.asked (input_from inputs s.world) s (λ number t. Gives (Number number) t))
-  input_runs inputs next stack s e here at room = ?
+  input_from_runs : (inputs : List ℤ) (next : ℕ) (stack : List ℕ) (s : meaning.State) → AllByRecursion IsNumber inputs → Here g l next stack s → slice_get (code g l).ops next ≡ Some ops.NextInput → length stack < (code g l).stack → ((scratch : ℕ) → act (image g) g.settings (code g l) ops.NextInput (frame g l next scratch stack s.locals) (standing g l next scratch stack s) ≡ table.asked (input_from inputs s.world) (standing g l next scratch stack s) (λ number t. push (code g l) (word number) stack (frame g l next scratch stack s.locals) t)) → Evaluates g l (next + 1) stack (meanings.asked (input_from inputs s.world) s (λ number t. Gives (Number number) t))
+  input_from_runs [] next stack s all here at room is = (pushes g l next stack s ops.NextInput 0 stack here at room is, refl)
+  input_from_runs (z ∷ inputs) next stack s all here at room is =
+      let kept : KeptWorld (with_inputs inputs s.world) = record { acts = here.kept.world.acts; inputs = all.1 } in
+      (pushes_in g l next stack s ops.NextInput (word z) stack (with_inputs inputs s.world) kept here at room is, all.0)
+
+  pub input_runs : (next : ℕ) (stack : List ℕ) (s : meaning.State) → Here g l next stack s → slice_get (code g l).ops next ≡ Some ops.NextInput → length stack < (code g l).stack → Evaluates g l (next + 1) stack (meanings.asked (next_input s.world) s (λ number t. Gives (Number number) t))
+  input_runs next stack s here at room = input_from_runs s.world.inputs next stack s here.kept.world.inputs here at room (λ scratch. refl)
 
   -- a tick is spent, or the budget is
   spent_runs : (next : ℕ) (stack : List ℕ) (s : meaning.State) (left : Bool) → nat_lt s.world.ticks g.settings.budget ≡ left → Here g l next stack s → slice_get (code g l).ops next ≡ Some ops.Tick → Asks (λ u w. Here g l (next + 1) stack (meaning.in_world w s)) (λ ending w. Finishes g ending (meaning.in_world w s)) (spent_if left s.world)
-  spent_runs next stack s true test here at = ?
-  spent_runs next stack s false test here at = ?
+  spent_runs next stack s true test here at =
+      let kept : KeptWorld (spent_one s.world) = record { acts = here.kept.world.acts; inputs = here.kept.world.inputs } in
+      moved g l next stack s ops.Tick (next + 1) stack (meaning.in_world (spent_one s.world) s) here at (kept_in g l s (spent_one s.world) here.kept kept) (λ scratch. rw test refl)
+  spent_runs next stack s false test here at =
+      ended g l next stack s ops.Tick (Stop S1 None) s here at here.kept.blocks (λ scratch. rw test refl)
+
+  pub tick_runs : (next : ℕ) (stack : List ℕ) (s : meaning.State) → Here g l next stack s → slice_get (code g l).ops next ≡ Some ops.Tick → Asks (λ u w. Here g l (next + 1) stack (meaning.in_world w s)) (λ ending w. Finishes g ending (meaning.in_world w s)) (spend_tick g.settings.budget s.world)
+  tick_runs next stack s here at = spent_runs next stack s (nat_lt s.world.ticks g.settings.budget) refl here at
+
+  -- ---- jumps
+
+  -- to an instruction that is there
+  pub jump_runs : (next : ℕ) (old stack : List ℕ) (s : meaning.State) (op : Op) (target : ℕ) → target < length (code g l).ops → Here g l next old s → slice_get (code g l).ops next ≡ Some op → ((w : ℕ) → act (image g) g.settings (code g l) op (frame g l next w old s.locals) (standing g l next w old s) ≡ table.jump (code g l) target stack (frame g l next w old s.locals) (standing g l next w old s)) → Here g l target stack s
+  jump_runs next old stack s op target low here at is =
+      let test : nat_lt target (length (code g l).ops) ≡ true = grind (arith, nat_tests) in
+      moved g l next old s op target stack s here at here.kept (λ scratch. is scratch ∙ rw test refl)
+
+  -- by a condition's word: to the target where it is 0, and else to the next instruction
+  pub branch_runs : (next : ℕ) (w : ℕ) (stack : List ℕ) (s : meaning.State) (target : ℕ) (zero_ : Bool) → (w == 0) ≡ zero_ → target < length (code g l).ops → Here g l next (w ∷ stack) s → slice_get (code g l).ops next ≡ Some (ops.JumpIfZero target) → Here g l (chosen zero_ target (next + 1)) stack s
+  branch_runs next w stack s target true test low here at = jump_runs next (w ∷ stack) stack s (ops.JumpIfZero target) target low here at (λ scratch. rw test refl)
+  branch_runs next w stack s target false test low here at = moved g l next (w ∷ stack) s (ops.JumpIfZero target) (next + 1) stack s here at here.kept (λ scratch. rw test refl)

@@ -27,9 +27,8 @@ use Rattle.code_words.specs.declared.image.Func.{Func}
 use Rattle.code_words.specs.declared.image.Image.{Image}
 use Rattle.lowering.specs.Images.{object_bytes, function_code, functions_from, image_of}
 use Rattle.lowering.specs.Correct.{IsLowerable, SameEnd}
-use Rattle.lowering.proofs.Shapes.{shape, row_of, word_in}
-use Rattle.lowering.proofs.Memory.{HasRoom, memory_bytes}
-use Rattle.lowering.proofs.Worlds.{IsNumber, KeptWorld}
+use Rattle.lowering.proofs.Worlds.{KeptWorld}
+use Rattle.lowering.proofs.Executions.{Execution, image, word_of, state, IsKept, KeptBlocks, same_end}
 
 -- ---- code in a function
 
@@ -85,42 +84,6 @@ asks_on G H E (Ended ending w) s next l more = l
 
 -- ---- the code's run
 
--- a run of a program's code, from a state on
-pub record Execution : Type 0 where
-  pub program : Core
-  pub lowerable : IsLowerable program
-  pub settings : Settings
-  pub allowed : AreAllowed settings
-  pub start : State
-
-abbrev pub image : Execution → Image
-image g = image_of g.program
-
-abbrev pub rows : Execution → List (List ℕ)
-rows g = shape (map object_block g.program.objects)
-
-abbrev pub word_of : Execution → Value → ℕ
-word_of g v = word_in g.settings.base (rows g) v
-
-abbrev pub tail : Execution → List ℕ
-tail g = replicate (g.settings.trusted - counter_behind first_offset (map object_bytes g.program.objects)) 0
-
-abbrev pub memory : Execution → List Block → Memory
-memory g blocks =
-    record {
-      bytes = memory_bytes g.settings.base (rows g) (tail g) blocks;
-      base = g.settings.base;
-      counter = counter_behind first_offset (map object_bytes g.program.objects);
-    }
-
--- the static blocks
-abbrev pub static : Execution → List flat.Block
-static g = blocks_of g.settings.trusted (map length (map object_bytes g.program.objects))
-
--- a state of the code, with the memory and the world of a state of the meaning
-abbrev pub state : Execution → Control → List Caller → meaning.State → State
-state g control callers s = record { memory = memory g s.blocks; blocks = static g; control = control; callers = callers; world = s.world }
-
 -- the run comes to this state
 pub record Reached (g : Execution) (u : State) : Type 0 where
   pub by : (k : ℕ) → (j : ℕ) × (exec (image g) g.settings j g.start ≡ exec (image g) g.settings k u)
@@ -138,24 +101,6 @@ one_move g t u r h = record { by = λ k. let p = r.by (suc k) in (p.0, p.1 ∙ a
 
 pub last_move : (g : Execution) (t u : State) (ending : Ending) (s : meaning.State) → Reached g t → move (image g) g.settings t ≡ Over ending u → SameEnd g.settings.base s u → Finishes g ending s
 last_move g t u ending s r h same = let p = r.by 1 in record { steps = p.0; last = u; is = p.1 ∙ ap (λ x. go_on x (exec (image g) g.settings 0)) h; same = same }
-
--- ---- what is so of each state of the meaning
-
--- a number has 32 bits, and a place is one of a cell
-abbrev pub IsKept : Execution → Value → Type 0
-IsKept g (Number number) = IsNumber number
-IsKept g Null = Unit {0}
-IsKept g (At block cell) = cell < length (row_of (rows g) block)
-
--- a cell has room for its word, and its value is of its type
-pub record KeptCell (g : Execution) (c : Cell) : Type 0 where
-  pub room : HasRoom c
-  pub typed : has_type c.type c.value ≡ true
-  pub value : IsKept g c.value
-
-pub record KeptBlocks (g : Execution) (blocks : List Block) : Type 0 where
-  pub shape : shape blocks ≡ rows g
-  pub cells : AllByRecursion (AllByRecursion (KeptCell g)) blocks
 
 -- ---- frames
 
@@ -215,15 +160,15 @@ pub moved : (g : Execution) (l : Layout g) (next : ℕ) (old : List ℕ) (s : me
 moved g l next old s op next' new t here at kept goes =
     record { scratch = here.scratch; kept = kept; reached = one_move g _ _ here.reached (fetched g l next here.scratch old s op at ∙ goes here.scratch) }
 
--- a word is pushed onto a stack that has room
-pub pushes : (g : Execution) (l : Layout g) (next : ℕ) (old : List ℕ) (s : meaning.State) (op : Op) (w : ℕ) (stack : List ℕ) → Here g l next old s → slice_get (code g l).ops next ≡ Some op → length stack < (code g l).stack → ((scratch : ℕ) → act (image g) g.settings (code g l) op (frame g l next scratch old s.locals) (standing g l next scratch old s) ≡ push (code g l) w stack (frame g l next scratch old s.locals) (standing g l next scratch old s)) → Here g l (next + 1) (w ∷ stack) s
-pushes g l next old s op w stack here at room is =
+-- a word is pushed onto a stack that has room, in a world
+pub pushes_in : (g : Execution) (l : Layout g) (next : ℕ) (old : List ℕ) (s : meaning.State) (op : Op) (w : ℕ) (stack : List ℕ) (world : World) → KeptWorld world → Here g l next old s → slice_get (code g l).ops next ≡ Some op → length stack < (code g l).stack → ((scratch : ℕ) → act (image g) g.settings (code g l) op (frame g l next scratch old s.locals) (standing g l next scratch old s) ≡ push (code g l) w stack (frame g l next scratch old s.locals) (standing g l next scratch old (meaning.in_world world s))) → Here g l (next + 1) (w ∷ stack) (meaning.in_world world s)
+pushes_in g l next old s op w stack world kept here at room is =
     let test : nat_lt (length stack) (code g l).stack ≡ true = grind (arith, nat_tests) in
-    moved g l next old s op (next + 1) (w ∷ stack) s here at here.kept (λ scratch. is scratch ∙ rw test refl)
+    moved g l next old s op (next + 1) (w ∷ stack) (meaning.in_world world s) here at (kept_in g l s world here.kept kept) (λ scratch. is scratch ∙ rw test refl)
 
--- the last states agree
-pub same_end : (g : Execution) (control : Control) (callers : List Caller) (s : meaning.State) → KeptBlocks g s.blocks → SameEnd g.settings.base s (state g control callers s)
-same_end g control callers s kept = record { world = refl; blocks = ? }
+-- the same, in the same world
+pub pushes : (g : Execution) (l : Layout g) (next : ℕ) (old : List ℕ) (s : meaning.State) (op : Op) (w : ℕ) (stack : List ℕ) → Here g l next old s → slice_get (code g l).ops next ≡ Some op → length stack < (code g l).stack → ((scratch : ℕ) → act (image g) g.settings (code g l) op (frame g l next scratch old s.locals) (standing g l next scratch old s) ≡ push (code g l) w stack (frame g l next scratch old s.locals) (standing g l next scratch old s)) → Here g l (next + 1) (w ∷ stack) s
+pushes g l next old s op w stack here at room is = pushes_in g l next old s op w stack s.world here.kept.world here at room is
 
 -- an instruction ends the run
 pub ended : (g : Execution) (l : Layout g) (next : ℕ) (old : List ℕ) (s : meaning.State) (op : Op) (ending : Ending) (t : meaning.State) → Here g l next old s → slice_get (code g l).ops next ≡ Some op → KeptBlocks g t.blocks → ((w : ℕ) → act (image g) g.settings (code g l) op (frame g l next w old s.locals) (standing g l next w old s) ≡ Over ending (state g (Runs (frame g l next w old s.locals)) l.callers t)) → Finishes g ending t
@@ -236,3 +181,10 @@ Arrives g l next stack v s = Here g l next (word_of g v ∷ stack) s × IsKept g
 
 abbrev pub Evaluates : (g : Execution) → Layout g → ℕ → List ℕ → Result Value → Type 0
 Evaluates g l next stack o = Leads (Arrives g l next stack) (Finishes g) o
+
+-- the same with the place written otherwise
+pub here_at : (g : Execution) (l : Layout g) (m n : ℕ) (stack : List ℕ) (s : meaning.State) → m ≡ n → Here g l m stack s → Here g l n stack s
+here_at g l m n stack s e h = subst (λ k. Here g l k stack s) e h
+
+pub evaluates_at : (g : Execution) (l : Layout g) (m n : ℕ) (stack : List ℕ) (o : Result Value) → m ≡ n → Evaluates g l m stack o → Evaluates g l n stack o
+evaluates_at g l m n stack o e h = subst (λ k. Evaluates g l k stack o) e h
