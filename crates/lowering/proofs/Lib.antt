@@ -6,3 +6,4 @@ pub mod Worlds
 pub mod Executions
 pub mod Steps
 pub mod Expressions
+pub mod Places
