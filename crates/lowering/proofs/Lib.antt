@@ -7,3 +7,5 @@ pub mod Executions
 pub mod Steps
 pub mod Expressions
 pub mod Places
+pub mod Calls
+pub mod Tainted

@@ -73,6 +73,13 @@ leads_on G H E (Ends ending s) next l more = l
 leads_on G H E Stuck next l more = tt
 leads_on G H E Short next l more = tt
 
+-- another way to the same
+pub leads_to : {A : Type 0} (G H : A → meaning.State → Type 0) (E : Ending → meaning.State → Type 0) (o : Result A) → ((value : A) (s : meaning.State) → G value s → H value s) → Leads G E o → Leads H E o
+leads_to G H E (Gives value s) more l = more value s l
+leads_to G H E (Ends ending s) more l = l
+leads_to G H E Stuck more l = tt
+leads_to G H E Short more l = tt
+
 -- the same of what the world gives
 abbrev pub Asks : {A : Type 0} → (A → World → Type 0) → (Ending → World → Type 0) → Asked A → Type 0
 Asks G E (Got value w) = G value w
@@ -148,8 +155,11 @@ function_there n (suc k) (g ∷ functions) f h =
     let e : suc n + k ≡ n + suc k = omega arith in
     function_there (suc n) k functions f h ∙ ap (λ m. Some (function_code m f)) e
 
+pub function_found : (g : Execution) (k : ℕ) (f : Function) → slice_get g.program.functions k ≡ Some f → slice_get (image g).trusted.funs k ≡ Some (function_code k f)
+function_found g k f h = let e : 0 + k ≡ k = omega arith in function_there 0 k g.program.functions f h ∙ ap (λ m. Some (function_code m f)) e
+
 pub code_there : (g : Execution) (l : Layout g) → slice_get (image g).trusted.funs l.number ≡ Some (code g l)
-code_there g l = let e : 0 + l.number ≡ l.number = omega arith in function_there 0 l.number g.program.functions l.function l.there ∙ ap (λ m. Some (function_code m l.function)) e
+code_there g l = function_found g l.number l.function l.there
 
 -- the instruction that stands next is executed
 pub fetched : (g : Execution) (l : Layout g) (next scratch : ℕ) (stack : List ℕ) (s : meaning.State) (op : Op) → slice_get (code g l).ops next ≡ Some op → move (image g) g.settings (standing g l next scratch stack s) ≡ act (image g) g.settings (code g l) op (frame g l next scratch stack s.locals) (standing g l next scratch stack s)
