@@ -5,7 +5,10 @@ pub mod Memory
 pub mod Worlds
 pub mod Executions
 pub mod Steps
+pub mod Sizes
 pub mod Expressions
 pub mod Places
+pub mod Conditions
 pub mod Calls
 pub mod Tainted
+pub mod Values
