@@ -26,7 +26,7 @@ use Rattle.lowering.specs.Stacks.{statement_stack}
 use Rattle.lowering.specs.Images.{function_code}
 use Rattle.lowering.proofs.Worlds.{KeptWorld}
 use Rattle.lowering.proofs.Executions.{Execution, image, word_of, state, IsKept, KeptBlocks, same_end}
-use Rattle.lowering.proofs.Steps.{HasAt, Leads, leads_on, leads_to, Asks, asks_on, Reached, Finishes, one_move, last_move, Layout, code, frame, standing, Kept, Here, kept_in, function_found, code_there, fetched, here_at, Arrives, Evaluates}
+use Rattle.lowering.proofs.Steps.{HasAt, Leads, leads_on, leads_to, Asks, asks_on, Reached, Finishes, one_move, last_move, Layout, Holds, code, frame, standing, Kept, Here, kept_in, function_found, code_there, fetched, here_at, Arrives, Evaluates}
 use Rattle.lowering.proofs.Expressions.{tick_runs}
 
 -- ---- words on a stack
@@ -96,6 +96,7 @@ pub record ArePlaces (g : Execution) (l : Layout g) (p : Places) : Type 0 where
   pub scratch : p.scratch ≡ length l.function.locals
   pub on_break : p.on_break < length (code g l).ops
   pub on_continue : p.on_continue < length (code g l).ops
+  pub free : l.held ≡ None
 
 -- the test of a loop whose code stands at a place
 abbrev pub test_of : ℕ → core.Statement → core.Statement → ℕ
@@ -115,16 +116,16 @@ Resumes g l next stack (Some v) s = Arrives g l next stack v s
 
 module _ (g : Execution) (l : Layout g) where
   -- a result is pushed in the frame that waits for it
-  pub resumed : (next scratch : ℕ) (stack : List ℕ) (v : Option Value) (s : meaning.State) (u t : State) → Kept g l s → IsKeptResult g v → length stack < (code g l).stack → t ≡ state g t.control l.callers s → Reached g u → move (image g) g.settings u ≡ push_result (slice_get (image g).trusted.funs l.number) (option_map (word_of g) v) (frame g l next scratch stack s.locals) t → Resumes g l next stack v s
-  resumed next scratch stack None s u t kept value room is reached moves =
-      record { scratch = scratch; kept = kept; reached = one_move g u _ reached (moves ∙ rw (code_there g l) (ap (λ x. Goes (record x { control = Runs (frame g l next scratch stack s.locals) })) is)) }
-  resumed next scratch stack (Some v) s u t kept value room is reached moves =
+  pub resumed : (next scratch : ℕ) (stack : List ℕ) (v : Option Value) (s : meaning.State) (u t : State) → Holds l.held scratch → Kept g l s → IsKeptResult g v → length stack < (code g l).stack → t ≡ state g t.control l.callers s → Reached g u → move (image g) g.settings u ≡ push_result (slice_get (image g).trusted.funs l.number) (option_map (word_of g) v) (frame g l next scratch stack s.locals) t → Resumes g l next stack v s
+  resumed next scratch stack None s u t holds kept value room is reached moves =
+      record { scratch = scratch; holds = holds; kept = kept; reached = one_move g u _ reached (moves ∙ rw (code_there g l) (ap (λ x. Goes (record x { control = Runs (frame g l next scratch stack s.locals) })) is)) }
+  resumed next scratch stack (Some v) s u t holds kept value room is reached moves =
       let test : nat_lt (length stack) (code g l).stack ≡ true = grind (arith, nat_tests) in
-      (record { scratch = scratch; kept = kept; reached = one_move g u _ reached (moves ∙ rw (code_there g l, test) (ap (λ x. Goes (record x { control = Runs (frame g l next scratch (word_of g v ∷ stack) s.locals) })) is)) }, value)
+      (record { scratch = scratch; holds = holds; kept = kept; reached = one_move g u _ reached (moves ∙ rw (code_there g l, test) (ap (λ x. Goes (record x { control = Runs (frame g l next scratch (word_of g v ∷ stack) s.locals) })) is)) }, value)
 
   -- a function of this side returns to its caller
-  returned : (next scratch : ℕ) (stack : List ℕ) (s : meaning.State) (v : Option Value) (t : meaning.State) → Kept g l s → length stack < (code g l).stack → Returns g (Calls (frame g l next scratch stack s.locals) ∷ l.callers) s v t → Resumes g l next stack v t
-  returned next scratch stack s v t kept room r =
+  returned : (next scratch : ℕ) (stack : List ℕ) (s : meaning.State) (v : Option Value) (t : meaning.State) → Holds l.held scratch → Kept g l s → length stack < (code g l).stack → Returns g (Calls (frame g l next scratch stack s.locals) ∷ l.callers) s v t → Resumes g l next stack v t
+  returned next scratch stack s v t holds kept room r =
       let back : Kept g l t = record {
         count = ap length r.locals ∙ kept.count;
         depth = r.depth ∙ kept.depth;
@@ -133,7 +134,7 @@ module _ (g : Execution) (l : Layout g) where
         world = r.leaves.world;
       } in
       let u = state g (Runs r.leaves.last) (Calls (frame g l next scratch stack s.locals) ∷ l.callers) t in
-      resumed next scratch stack v t u (state g (Runs r.leaves.last) l.callers t) back r.leaves.value room refl r.leaves.reached
+      resumed next scratch stack v t u (state g (Runs r.leaves.last) l.callers t) holds back r.leaves.value room refl r.leaves.reached
       (r.leaves.returns ∙ ap (λ locals. push_result (slice_get (image g).trusted.funs l.number) (option_map (word_of g) v) (frame g l next scratch stack locals) (state g (Runs r.leaves.last) l.callers t)) (sym r.locals))
 
   module _ (k : Knot) (runs : KnotRuns g k) where
@@ -157,7 +158,7 @@ module _ (g : Execution) (l : Layout g) where
         let caller = frame g l (next + 1) here.scratch stack s.locals in
         let inside = one_move g _ (entered g number f (Calls caller ∷ l.callers) vs s) here.reached (call_moves next here.scratch stack s number f vs true test there count here.kept at) in
         leads_to (Returns g (Calls caller ∷ l.callers) s) (Resumes g l (next + 1) stack) (Finishes g) (k.call number vs s)
-        (λ v t r. returned (next + 1) here.scratch stack s v t here.kept room r)
+        (λ v t r. returned (next + 1) here.scratch stack s v t here.holds here.kept room r)
         (runs.call number f (Calls caller ∷ l.callers) vs s there count all here.kept.blocks here.kept.world here.kept.depth inside)
 
     called_runs : (next : ℕ) (stack : List ℕ) (s : meaning.State) (number : ℕ) (f : Function) (vs : List Value) → slice_get g.program.functions number ≡ Some f → f.parameters ≡ length vs → AllByRecursion (IsKept g) vs → Here g l next (reverse (map (word_of g) vs) ++ stack) s → HasAt (code g l).ops next (ops.Tick ∷ (ops.Call number ∷ [])) → length stack < (code g l).stack → Leads (Resumes g l (next + 1 + 1) stack) (Finishes g) (enter_if true (record { program = g.program; budget = g.settings.budget }) k number vs s)

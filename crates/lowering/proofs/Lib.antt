@@ -12,3 +12,5 @@ pub mod Conditions
 pub mod Calls
 pub mod Tainted
 pub mod Values
+pub mod Stores
+pub mod Statements

@@ -290,7 +290,7 @@ module _ (g : Execution) (l : Layout g) where
   load_act true next scratch a stack s = refl
   load_act false next scratch a stack s = refl
 
-  same_char : (a b : CType) → same_type a b ≡ true → is_char a ≡ is_char b
+  pub same_char : (a b : CType) → same_type a b ≡ true → is_char a ≡ is_char b
   same_char Int Int h = refl
   same_char Int Char h = absurd (cc)
   same_char Int (Struct n) h = refl

@@ -14,7 +14,7 @@ pub length_offset : (n : ℕ) → length (offset_code n) ≡ offset_size n
 length_offset zero = refl
 length_offset (suc n) = refl
 
-length_byte : (char : Bool) → length (byte_code char) ≡ byte_size char
+pub length_byte : (char : Bool) → length (byte_code char) ≡ byte_size char
 length_byte true = refl
 length_byte false = refl
 
@@ -69,6 +69,64 @@ mutual
   length_place at (core.Direct object cell offset) = omega (arith, length_offset offset)
   length_place at (core.Through pointer cell offset site) =
       length_then (expression_code at pointer) (through_code offset site) (expression_size pointer) (1 + offset_size offset) (length_expression at pointer) (omega (arith, length_offset offset))
+
+length_before : (at : ℕ) (p : core.Place) → length (before_value at p) ≡ before_value_size p
+length_before at (core.Direct object cell offset) = omega (arith, length_offset offset)
+length_before at (core.Through pointer cell offset site) = length_expression at pointer
+
+length_behind : (scratch : ℕ) (type : CType) (p : core.Place) → length (behind_value scratch type p) ≡ behind_value_size p
+length_behind scratch type (core.Direct object cell offset) = refl
+length_behind scratch type (core.Through pointer cell offset site) = omega (arith, length-append (through_code offset site) (ops.Local scratch ∷ store_code type ∷ []), length_offset offset)
+
+mutual
+  pub length_statement : (p : Places) (at : ℕ) (x : core.Statement) → length (statement_code p at x) ≡ statement_size x
+  length_statement p at core.Nothing = refl
+  length_statement p at (core.SetLocal local value) = length_then (expression_code at value) (ops.Set local ∷ []) (expression_size value) 1 (length_expression at value) refl
+  length_statement p at (core.Store type cell value) =
+      let m = at + before_value_size cell in
+      length_then (before_value at cell) (expression_code m value ++ behind_value p.scratch type cell) (before_value_size cell) (expression_size value + behind_value_size cell) (length_before at cell)
+      (length_then (expression_code m value) (behind_value p.scratch type cell) (expression_size value) (behind_value_size cell) (length_expression m value) (length_behind p.scratch type cell))
+  length_statement p at (core.UpdateLocal char local operator value site) =
+      let last = operator_code operator site ∷ (byte_code char ++ ops.Set local ∷ []) in
+      ap suc (length_then (expression_code (at + 1) value) last (expression_size value) (1 + (byte_size char + 1)) (length_expression (at + 1) value) (omega (arith, length_then (byte_code char) (ops.Set local ∷ []) (byte_size char) 1 (length_byte char) refl)))
+      ∙ (omega arith)
+  length_statement p at (core.Update type cell operator value site) =
+      let m = at + place_size cell + 2 in
+      let last = operator_code operator site ∷ (byte_code (is_char type) ++ store_code type ∷ []) in
+      let back = length_then (expression_code m value) last (expression_size value) (1 + (byte_size (is_char type) + 1)) (length_expression m value) (omega (arith, length_then (byte_code (is_char type)) (store_code type ∷ []) (byte_size (is_char type)) 1 (length_byte (is_char type)) refl)) in
+      length_then (place_code at cell) (ops.Duplicate ∷ load_code type ∷ (expression_code m value ++ last)) (place_size cell) (2 + (expression_size value + (1 + (byte_size (is_char type) + 1)))) (length_place at cell) (omega (arith, back))
+  length_statement p at (core.Evaluate value) = length_then (expression_code at value) (ops.Discard ∷ []) (expression_size value) 1 (length_expression at value) refl
+  length_statement p at (core.CallAlone function arguments) = length_then (arguments_code at arguments) (ops.Tick ∷ ops.Call function ∷ []) (arguments_size arguments) 2 (length_arguments at arguments) refl
+  length_statement p at (core.TaintedAlone import arguments site) = length_then (arguments_code at arguments) (ops.Tick ∷ ops.TaintedCall import site.place ∷ []) (arguments_size arguments) 2 (length_arguments at arguments) refl
+  length_statement p at (core.Print number) = length_then (expression_code at number) (ops.Print ∷ []) (expression_size number) 1 (length_expression at number) refl
+  length_statement p at (core.PutByte number) = length_then (expression_code at number) (ops.PutByte ∷ []) (expression_size number) 1 (length_expression at number) refl
+  length_statement p at (core.Block inner) = length_statements p at inner
+  length_statement p at (core.If condition consequent alternative) =
+      let inside = at + expression_size condition + 1 in
+      let other = inside + statement_size consequent + 1 in
+      let leap = ops.Jump (other + statement_size alternative) in
+      let back = length_then (statement_code p inside consequent) (leap ∷ statement_code p other alternative) (statement_size consequent) (1 + statement_size alternative) (length_statement p inside consequent) (omega (arith, length_statement p other alternative)) in
+      length_then (expression_code at condition) (ops.JumpIfZero other ∷ (statement_code p inside consequent ++ leap ∷ statement_code p other alternative)) (expression_size condition) (1 + (statement_size consequent + (1 + statement_size alternative))) (length_expression at condition) (omega (arith, back))
+  length_statement p at (core.Loop condition body step) =
+      let inside = at + 2 in
+      let next = inside + statement_size body in
+      let test = next + statement_size step in
+      let end = test + expression_size condition + 2 in
+      let q : Places = record { scratch = p.scratch; on_break = end; on_continue = next } in
+      let last = ops.JumpIfZero end ∷ ops.Jump (at + 1) ∷ [] in
+      let tests = length_then (expression_code test condition) last (expression_size condition) 2 (length_expression test condition) refl in
+      let steps = length_then (statement_code q next step) (expression_code test condition ++ last) (statement_size step) (expression_size condition + 2) (length_statement q next step) tests in
+      let bodies = length_then (statement_code q inside body) (statement_code q next step ++ (expression_code test condition ++ last)) (statement_size body) (statement_size step + (expression_size condition + 2)) (length_statement q inside body) steps in
+      omega (arith, bodies)
+  length_statement p at (core.Return value) = length_then (expression_code at value) (ops.Return ∷ []) (expression_size value) 1 (length_expression at value) refl
+  length_statement p at core.ReturnNothing = refl
+  length_statement p at core.Break = refl
+  length_statement p at core.Continue = refl
+
+  pub length_statements : (p : Places) (at : ℕ) (xs : core.Statements) → length (statements_code p at xs) ≡ statements_size xs
+  length_statements p at core.NoMore = refl
+  length_statements p at (core.Then first others) =
+      length_then (statement_code p at first) (statements_code p (at + statement_size first) others) (statement_size first) (statements_size others) (length_statement p at first) (length_statements p (at + statement_size first) others)
 
 -- ---- stacks
 

@@ -111,12 +111,18 @@ last_move g t u ending s r h same = let p = r.by 1 in record { steps = p.0; last
 
 -- ---- frames
 
--- an open call: the function, and what it goes back to
+-- an open call: the function, what it goes back to, and what its scratch slot holds, where that matters
 pub record Layout (g : Execution) : Type 0 where
   pub number : ℕ
   pub function : Function
   pub there : slice_get g.program.functions number ≡ Some function
   pub callers : List Caller
+  pub held : Option ℕ
+
+-- the scratch slot holds what it has to
+abbrev pub Holds : Option ℕ → ℕ → Type 0
+Holds None scratch = Unit {0}
+Holds (Some w) scratch = scratch ≡ w
 
 abbrev pub code : (g : Execution) → Layout g → Func
 code g l = function_code l.number l.function
@@ -138,6 +144,7 @@ pub record Kept (g : Execution) (l : Layout g) (s : meaning.State) : Type 0 wher
 -- the run comes to a place in a function, with this stack
 pub record Here (g : Execution) (l : Layout g) (next : ℕ) (stack : List ℕ) (s : meaning.State) : Type 0 where
   pub scratch : ℕ
+  pub holds : Holds l.held scratch
   pub kept : Kept g l s
   pub reached : Reached g (standing g l next scratch stack s)
 
@@ -168,7 +175,7 @@ fetched g l next scratch stack s op h = let there = code_there g l in rw (there,
 -- an instruction leads to another place
 pub moved : (g : Execution) (l : Layout g) (next : ℕ) (old : List ℕ) (s : meaning.State) (op : Op) (next' : ℕ) (new : List ℕ) (t : meaning.State) → Here g l next old s → slice_get (code g l).ops next ≡ Some op → Kept g l t → ((w : ℕ) → act (image g) g.settings (code g l) op (frame g l next w old s.locals) (standing g l next w old s) ≡ Goes (standing g l next' w new t)) → Here g l next' new t
 moved g l next old s op next' new t here at kept goes =
-    record { scratch = here.scratch; kept = kept; reached = one_move g _ _ here.reached (fetched g l next here.scratch old s op at ∙ goes here.scratch) }
+    record { scratch = here.scratch; holds = here.holds; kept = kept; reached = one_move g _ _ here.reached (fetched g l next here.scratch old s op at ∙ goes here.scratch) }
 
 -- a word is pushed onto a stack that has room, in a world
 pub pushes_in : (g : Execution) (l : Layout g) (next : ℕ) (old : List ℕ) (s : meaning.State) (op : Op) (w : ℕ) (stack : List ℕ) (world : World) → KeptWorld world → Here g l next old s → slice_get (code g l).ops next ≡ Some op → length stack < (code g l).stack → ((scratch : ℕ) → act (image g) g.settings (code g l) op (frame g l next scratch old s.locals) (standing g l next scratch old s) ≡ push (code g l) w stack (frame g l next scratch old s.locals) (standing g l next scratch old (meaning.in_world world s))) → Here g l (next + 1) (w ∷ stack) (meaning.in_world world s)

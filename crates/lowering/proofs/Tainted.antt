@@ -32,7 +32,7 @@ use Rattle.lowering.specs.Images.{import_code, imports_from}
 use Rattle.lowering.proofs.Numbers.{word-signed, signed_fits}
 use Rattle.lowering.proofs.Worlds.{KeptWorld, HasLeft, BeforeKeeps, SandboxKeeps, act_waits, act_keeps}
 use Rattle.lowering.proofs.Executions.{Execution, image, word_of, state, IsKept, KeptBlocks, same_end}
-use Rattle.lowering.proofs.Steps.{HasAt, Leads, leads_on, leads_to, Asks, asks_on, Reached, Finishes, one_move, last_move, Layout, code, frame, standing, Kept, Here, kept_in, fetched, Arrives}
+use Rattle.lowering.proofs.Steps.{HasAt, Leads, leads_on, leads_to, Asks, asks_on, Reached, Finishes, one_move, last_move, Layout, Holds, code, frame, standing, Kept, Here, kept_in, fetched, Arrives}
 use Rattle.lowering.proofs.Expressions.{tick_runs}
 use Rattle.lowering.proofs.Calls.{piled, piled_words, popped, IsKeptResult, Resumes, resumed}
 
@@ -139,24 +139,24 @@ module _ (g : Execution) (l : Layout g) where
   replies next scratch stack s result place reply = moves.reply_if (fits_kind (result_kind result) reply) (image g) (frame g l next scratch stack s.locals) place (result_kind result) reply (state g Away l.callers s)
 
   -- a reply is a number of the result's type, or breaks off
-  reply_runs : (result : Option CType) (next scratch : ℕ) (stack : List ℕ) (s : meaning.State) (site : Site) (reply : ℕ) (u : State) → IsWord reply → Kept g l s → length stack < (code g l).stack → Reached g u → move (image g) g.settings u ≡ replies next scratch stack s result site.place reply → Leads (Resumes g l next stack) (Finishes g) (reply_as result site reply s)
-  reply_runs None next scratch stack s site reply u is kept room reached moves_ = resumed g l next scratch stack None s u (state g Away l.callers s) kept tt room refl reached moves_
-  reply_runs (Some Int) next scratch stack s site reply u is kept room reached moves_ =
-      resumed g l next scratch stack (Some (Number (signed reply))) s u (state g Away l.callers s) kept (signed_fits reply is) room refl reached
+  reply_runs : (result : Option CType) (next scratch : ℕ) (stack : List ℕ) (s : meaning.State) (site : Site) (reply : ℕ) (u : State) → IsWord reply → Holds l.held scratch → Kept g l s → length stack < (code g l).stack → Reached g u → move (image g) g.settings u ≡ replies next scratch stack s result site.place reply → Leads (Resumes g l next stack) (Finishes g) (reply_as result site reply s)
+  reply_runs None next scratch stack s site reply u is holds kept room reached moves_ = resumed g l next scratch stack None s u (state g Away l.callers s) holds kept tt room refl reached moves_
+  reply_runs (Some Int) next scratch stack s site reply u is holds kept room reached moves_ =
+      resumed g l next scratch stack (Some (Number (signed reply))) s u (state g Away l.callers s) holds kept (signed_fits reply is) room refl reached
       (moves_ ∙ ap (λ w. push_result (slice_get (image g).trusted.funs l.number) (Some w) (frame g l next scratch stack s.locals) (state g Away l.callers s)) (sym (word-signed reply is)))
-  reply_runs (Some Char) next scratch stack s site reply u is kept room reached moves_ = char_runs (nat_lt reply 256) refl
+  reply_runs (Some Char) next scratch stack s site reply u is holds kept room reached moves_ = char_runs (nat_lt reply 256) refl
     where
       char_runs : (low : Bool) → nat_lt reply 256 ≡ low → Leads (Resumes g l next stack) (Finishes g) (reply_as (Some Char) site reply s)
       char_runs true test =
           rw test
-          (resumed g l next scratch stack (Some (Number (signed reply))) s u (state g Away l.callers s) kept (signed_fits reply is) room refl reached
+          (resumed g l next scratch stack (Some (Number (signed reply))) s u (state g Away l.callers s) holds kept (signed_fits reply is) room refl reached
           (moves_ ∙ ap (λ yes. moves.reply_if yes (image g) (frame g l next scratch stack s.locals) site.place (result_kind (Some Char)) reply (state g Away l.callers s)) test ∙ ap (λ w. push_result (slice_get (image g).trusted.funs l.number) (Some w) (frame g l next scratch stack s.locals) (state g Away l.callers s)) (sym (word-signed reply is))))
       char_runs false test =
           rw test
           (last_move g u (state g Away l.callers s) (Check C9 site.place) s reached
           (moves_ ∙ ap (λ yes. moves.reply_if yes (image g) (frame g l next scratch stack s.locals) site.place (result_kind (Some Char)) reply (state g Away l.callers s)) test) (same_end g Away l.callers s kept.blocks))
-  reply_runs (Some (Struct number)) next scratch stack s site reply u is kept room reached moves_ = tt
-  reply_runs (Some (Pointer mode kind target)) next scratch stack s site reply u is kept room reached moves_ = tt
+  reply_runs (Some (Struct number)) next scratch stack s site reply u is holds kept room reached moves_ = tt
+  reply_runs (Some (Pointer mode kind target)) next scratch stack s site reply u is holds kept room reached moves_ = tt
 
   call_moves : (next scratch : ℕ) (stack words : List ℕ) (s : meaning.State) (k : ℕ) (place : Place) (i : core.Import) (few : Bool) → nat_lt s.depth 1000 ≡ few → slice_get g.program.imports k ≡ Some i → i.parameters ≡ length words → Kept g l s → slice_get (code g l).ops next ≡ Some (ops.TaintedCall k place) → move (image g) g.settings (standing g l next scratch (reverse words ++ stack) s) ≡ table.asked (entered_if few s.world) (standing g l next scratch (reverse words ++ stack) s) (λ _ u. table.touch_if true (Passes k words place) stack (frame g l next scratch (reverse words ++ stack) s.locals) u)
   call_moves next scratch stack words s k place i few test there count kept at =
@@ -187,7 +187,7 @@ module _ (g : Execution) (l : Layout g) where
       (λ reply w a.
       let found = import_there 0 k g.program.imports i there in
       let t = state g Away l.callers (meaning.in_world w s) in
-      reply_runs i.result (next + 1) here.scratch stack (meaning.in_world w s) site reply (away g s here.kept.blocks l.callers f k words site.place a.before) a.is_word (kept_in g l s w here.kept a.kept) room a.reached
+      reply_runs i.result (next + 1) here.scratch stack (meaning.in_world w s) site reply (away g s here.kept.blocks l.callers f k words site.place a.before) a.is_word here.holds (kept_in g l s w here.kept a.kept) room a.reached
       (a.answers ∙ ap (λ o. reply_to (image g) (behind f stack) site.place o reply t) found.1))
 
   cross_runs : (next : ℕ) (stack : List ℕ) (s : meaning.State) (k : ℕ) (site : Site) (i : core.Import) (vs : List Value) (ws : Option (List ℕ)) → slice_get g.program.imports k ≡ Some i → i.parameters ≡ length vs → words_of vs ≡ ws → Here g l next (piled g vs stack) s → HasAt (code g l).ops next (ops.Tick ∷ (ops.TaintedCall k site.place ∷ [])) → length stack < (code g l).stack → Leads (Resumes g l (next + 1 + 1) stack) (Finishes g) (cross (record { program = g.program; budget = g.settings.budget }) k i site ws s)
