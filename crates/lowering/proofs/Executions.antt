@@ -105,7 +105,7 @@ content_of base rows (i ∷ cells) all =
     let rest = content_of base rows cells all.1 in
     cc
 
-contents_of : (base : ℕ) (rows : List (List ℕ)) (objects : List (List Initial)) → AllByRecursion IsObject objects → map (block_content base rows) (map object_block objects) ≡ map object_bytes objects
+pub contents_of : (base : ℕ) (rows : List (List ℕ)) (objects : List (List Initial)) → AllByRecursion IsObject objects → map (block_content base rows) (map object_block objects) ≡ map object_bytes objects
 contents_of base rows [] all = refl
 contents_of base rows (cells ∷ objects) all =
     let here = content_of base rows cells (recursion_from_All IsCell cells all.0.0) in
@@ -156,7 +156,7 @@ rows_of (cells ∷ objects) all =
     ((bytes_in_row cells each, row_sum cells each all.0.1), rows_of objects all.1)
 
 module _ (g : Execution) where
-  all_objects : AllByRecursion IsObject g.program.objects
+  pub all_objects : AllByRecursion IsObject g.program.objects
   all_objects = recursion_from_All IsObject g.program.objects g.lowerable.cells
 
   pub static_address : (k : ℕ) (row : List ℕ) → slice_get (rows g) k ≡ Some row → table.address_of (image g) g.settings.base k ≡ Some (g.settings.base + shape_offset first_offset (rows g) k)

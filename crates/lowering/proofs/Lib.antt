@@ -14,3 +14,4 @@ pub mod Tainted
 pub mod Values
 pub mod Stores
 pub mod Statements
+pub mod Programs

@@ -117,12 +117,12 @@ module _ (g : Execution) (l : Layout g) where
 
   -- ---- returns
 
-  return_runs : (next : ℕ) (s : meaning.State) (v : Value) → Arrives g l next [] v s → slice_get (code g l).ops next ≡ Some ops.Return → Leaves g l.callers (Some v) s
+  pub return_runs : (next : ℕ) (s : meaning.State) (v : Value) → Arrives g l next [] v s → slice_get (code g l).ops next ≡ Some ops.Return → Leaves g l.callers (Some v) s
   return_runs next s v x at =
       let f = frame g l next x.0.scratch (word_of g v ∷ []) s.locals in
       record { last = f; popped = record f { stack = [] }; blocks = x.0.kept.blocks; world = x.0.kept.world; value = x.1; reached = x.0.reached; returns = fetched g l next x.0.scratch (word_of g v ∷ []) s ops.Return at }
 
-  nothing_runs : (next : ℕ) (s : meaning.State) → Here g l next [] s → slice_get (code g l).ops next ≡ Some ops.ReturnNothing → Leaves g l.callers None s
+  pub nothing_runs : (next : ℕ) (s : meaning.State) → Here g l next [] s → slice_get (code g l).ops next ≡ Some ops.ReturnNothing → Leaves g l.callers None s
   nothing_runs next s here at =
       let f = frame g l next here.scratch [] s.locals in
       record { last = f; popped = f; blocks = here.kept.blocks; world = here.kept.world; value = tt; reached = here.reached; returns = fetched g l next here.scratch [] s ops.ReturnNothing at }
@@ -138,7 +138,7 @@ module _ (g : Execution) (l : Layout g) where
     if_runs p next other end v false s first second is x at low on_true on_false = on_false (branch_runs g l next (word_of g v) [] s other true (truth_word g v x.1 ∙ ap not is) low x.0 at)
 
     -- a loop from its test on
-    loop_runs : (condition : core.Expression) (body step : core.Statement) → StatementRuns body → StatementRuns step → (p : Places) (at : ℕ) (s : meaning.State) → ArePlaces g l p → HasAt (code g l).ops at (statement_code p at (core.Loop condition body step)) → statement_stack (core.Loop condition body step) ≤ (code g l).stack → at + statement_size (core.Loop condition body step) < length (code g l).ops → Here g l (test_of at body step) [] s → Affects g l p (at + statement_size (core.Loop condition body step)) (effect (setting g) k (core.Loop condition body step) s)
+    pub loop_runs : (condition : core.Expression) (body step : core.Statement) → StatementRuns body → StatementRuns step → (p : Places) (at : ℕ) (s : meaning.State) → ArePlaces g l p → HasAt (code g l).ops at (statement_code p at (core.Loop condition body step)) → statement_stack (core.Loop condition body step) ≤ (code g l).stack → at + statement_size (core.Loop condition body step) < length (code g l).ops → Here g l (test_of at body step) [] s → Affects g l p (at + statement_size (core.Loop condition body step)) (effect (setting g) k (core.Loop condition body step) s)
     loop_runs condition body step body_runs step_runs p at s places has room low here =
         let inside = at + 2 in
         let next = inside + statement_size body in
