@@ -1,8 +1,8 @@
 -- Small programs, written down as plain data.
-use Rattle.std.specs.Prelude.{◌≡◌, ℕ, List, [], ◌∷◌, Option, Some, None, codes, pos, negsuc, true, false, replicate, length}
+use Rattle.std.specs.Prelude.{◌≡◌, ℕ, List, [], ◌∷◌, Some, None, codes, pos, replicate}
 use Rattle.act_words.specs.declared.ending.Ending.{Ending}
 use Rattle.act_words.specs.declared.ending.Ending.TheVariants.{Exit, Check, Stop}
-use Rattle.ckc_text.specs.declared.code.Code.TheVariants.{C6, S1, S2, S3}
+use Rattle.ckc_text.specs.declared.code.Code.TheVariants.{C6, S1, S2}
 use Rattle.act_words.specs.Outcome.{Outcome, Gives, Ends, Stuck, Short}
 use Rattle.pointer_modes.specs.declared.ctype.Mode.TheVariants as modes
 use Rattle.pointer_modes.specs.declared.ctype.Kind.TheVariants as kinds
@@ -14,7 +14,7 @@ use Rattle.ckc_core.specs.declared.program.Comparison.TheVariants as comparisons
 use Rattle.ckc_core.specs.Core
 use Rattle.ckc_core.specs.Core.{Core, Expression, Statement, Statements, Function}
 use Rattle.ckc_core.specs.States.{State}
-use Rattle.ckc_core.specs.Meaning.{Setting, run_from, initial}
+use Rattle.ckc_core.specs.Meaning.{run_from, initial}
 
 abbrev pub site : ℕ → ℕ → Site
 site line col = record { place = record { line = line; col = col } }

@@ -1,14 +1,12 @@
 -- Calls of trusted functions, whose arguments lie on the stack.
-use Rattle.std.proofs.Common.{◌≡◌, ℕ, zero, suc, ◌+◌, ◌-◌, ◌<◌, ◌≤◌, Bool, true, false, List, [], ◌∷◌, ◌++◌, reverse, length, map, take, drop, replicate, Option, Some, None, refl, sym, ap, ◌∙◌, subst, arith, append_assoc, length-append}
-use Rattle.std.specs.Prelude.{slice_get, nat_le, nat_lt, ◌==◌, option_map}
+use Rattle.std.proofs.Common.{◌≡◌, ℕ, suc, ◌+◌, ◌<◌, ◌≤◌, Bool, true, false, List, [], ◌∷◌, ◌++◌, reverse, length, map, take, drop, Option, Some, None, refl, sym, ap, ◌∙◌, subst, arith, append_assoc, length-append}
+use Rattle.std.specs.Prelude.{slice_get, nat_le, nat_lt, option_map}
 use Rattle.std.specs.List.{AllByRecursion}
 use Rattle.std.proofs.Math.Seq.{take-append_seam, drop-append_seam}
 use Rattle.std.proofs.lemmas.List.{reverse-append, reverse-reverse, length-reverse, length-map}
 use Rattle.std.proofs.lemmas.Bool.Decides.{nat_tests}
 use Rattle.ckc_text.specs.declared.code.Code.TheVariants.{S2}
-use Rattle.act_words.specs.declared.ending.Ending.{Ending}
 use Rattle.act_words.specs.declared.ending.Ending.TheVariants.{Stop}
-use Rattle.act_words.specs.World.{World}
 use Rattle.act_words.specs.Touches.{entered_if, enter_call, spend_tick}
 use Rattle.ckc_core.specs.Core.{Function}
 use Rattle.ckc_core.specs.Core as core
@@ -20,13 +18,12 @@ use Rattle.code_words.specs.Table.{Frame, Caller, Calls, Runs, State, Step, Goes
 use Rattle.code_words.specs.Table as table
 use Rattle.code_words.specs.Moves.{move}
 use Rattle.code_words.specs.declared.op.Op.TheVariants as ops
-use Rattle.code_words.specs.declared.image.Func.{Func}
-use Rattle.lowering.specs.Code.{Places, expression_size, statement_size, statement_code}
+use Rattle.lowering.specs.Code.{Places, statement_size, statement_code}
 use Rattle.lowering.specs.Stacks.{statement_stack}
 use Rattle.lowering.specs.Images.{function_code}
 use Rattle.lowering.proofs.Worlds.{KeptWorld}
 use Rattle.lowering.proofs.Executions.{Execution, image, word_of, state, IsKept, KeptBlocks, same_end}
-use Rattle.lowering.proofs.Steps.{HasAt, Leads, leads_on, leads_to, Asks, asks_on, Reached, Finishes, one_move, last_move, Layout, Holds, code, frame, standing, Kept, Here, kept_in, function_found, code_there, fetched, here_at, Arrives, Evaluates}
+use Rattle.lowering.proofs.Steps.{HasAt, Leads, leads_to, asks_on, Reached, Finishes, one_move, last_move, Layout, Holds, code, frame, standing, Kept, Here, function_found, code_there, fetched, Arrives}
 use Rattle.lowering.proofs.Expressions.{tick_runs}
 
 -- ---- words on a stack

@@ -1,5 +1,5 @@
 -- Conditions: tests of words, and expressions that pass over their right operand.
-use Rattle.std.proofs.Common.{◌≡◌, ℕ, zero, suc, ◌+◌, ◌<◌, ◌≤◌, Bool, true, false, pos, List, [], ◌∷◌, length, Option, Some, None, refl, sym, ap, ◌∙◌, subst, arith}
+use Rattle.std.proofs.Common.{◌≡◌, ℕ, ◌+◌, ◌<◌, Bool, true, false, pos, List, [], ◌∷◌, length, Option, Some, None, refl, ap, ◌∙◌, subst, arith}
 use Rattle.std.specs.Prelude.{slice_get, not, ◌==◌}
 use Rattle.act_words.specs.Outcome.{Gives, and_then}
 use Rattle.ckc_core.specs.States.{Value, Number, Null, At}
@@ -7,8 +7,8 @@ use Rattle.ckc_core.specs.States as meaning
 use Rattle.ckc_core.specs.Meaning.{Result, truth, number_of_test, choose, same_place, test_given}
 use Rattle.code_words.specs.declared.op.Op.TheVariants as ops
 use Rattle.lowering.proofs.Executions.{Execution, word_of, IsKept}
-use Rattle.lowering.proofs.Steps.{HasAt, Leads, leads_on, Finishes, Layout, code, Here, pushes, here_at, Arrives, Evaluates, evaluates_at}
-use Rattle.lowering.proofs.Expressions.{bit_word, test_kept, test_runs, jump_runs, branch_runs}
+use Rattle.lowering.proofs.Steps.{HasAt, leads_on, Finishes, Layout, code, Here, pushes, here_at, Arrives, Evaluates}
+use Rattle.lowering.proofs.Expressions.{test_runs, jump_runs, branch_runs}
 use Rattle.lowering.proofs.Places.{truth_word, same_words}
 
 truth_of_test : (test : Bool) → not (truth (number_of_test (not test))) ≡ test
@@ -41,9 +41,11 @@ module _ (g : Execution) (l : Layout g) where
       let zero_ : (word_of g v == 0) ≡ true = truth_word g v kept ∙ ap not is in
       let past = branch_runs g l next (word_of g v) stack s (next + 1 + size + 3) true zero_ (omega arith) here branch in
       let place : next + 1 + size + 3 ≡ next + 1 + size + 1 + 1 + 1 = omega arith in
-      let end : next + 1 + size + 1 + 1 + 1 + 1 ≡ next + 1 + size + 4 = omega arith in
-      (here_at g l (next + 1 + size + 1 + 1 + 1 + 1) (next + 1 + size + 4) (0 ∷ stack) s end
-      (pushes g l (next + 1 + size + 1 + 1 + 1) stack s (ops.Const (pos 0)) 0 stack (here_at g l (next + 1 + size + 3) (next + 1 + size + 1 + 1 + 1) stack s place past) at.1.1.1.0 room (λ scratch. refl)), refl)
+      let end : next + 1 + size + 1 + 1 + 1 + 1 ≡ next + 1 + size + 4 = omega arith in (
+        here_at g l (next + 1 + size + 1 + 1 + 1 + 1) (next + 1 + size + 4) (0 ∷ stack) s end
+            (pushes g l (next + 1 + size + 1 + 1 + 1) stack s (ops.Const (pos 0)) 0 stack (here_at g l (next + 1 + size + 3) (next + 1 + size + 1 + 1 + 1) stack s place past) at.1.1.1.0 room (λ scratch. refl)),
+        refl,
+      )
 
   -- the right operand counts, where the left one fails
   pub or_runs : (next size : ℕ) (stack : List ℕ) (s : meaning.State) (v : Value) (test : Bool) (o : Result Value) → truth v ≡ test → IsKept g v → Here g l next (word_of g v ∷ stack) s → HasAt (code g l).ops next (ops.JumpIfZero (next + 3) ∷ (ops.Const (pos 1) ∷ (ops.Jump (next + 3 + size + 2) ∷ []))) → HasAt (code g l).ops (next + 3 + size) (ops.Zero ∷ (ops.Zero ∷ [])) → next + 3 + size + 2 < length (code g l).ops → length stack < (code g l).stack → (Here g l (next + 3) stack s → Evaluates g l (next + 3 + size) stack o) → Evaluates g l (next + 3 + size + 2) stack (choose test (Gives (number_of_test true) s) (and_then o (λ b u. Gives (number_of_test (truth b)) u)))

@@ -1,14 +1,13 @@
 -- A run of a program's code: how a state of the meaning stands in the code's memory.
-use Rattle.std.proofs.Common.{◌≡◌, ℕ, zero, suc, ◌+◌, ◌-◌, ◌<◌, ◌≤◌, Bool, true, false, ℤ, pos, List, [], ◌∷◌, ◌++◌, length, map, take, drop, replicate, Option, Some, None, refl, sym, ap, ◌∙◌, subst, arith, append_assoc, length-append}
-use Rattle.std.specs.Prelude.{slice_get, nat_lt, nat_eq, ◌||◌, sum, flat_map, All}
+use Rattle.std.proofs.Common.{◌≡◌, ℕ, zero, suc, ◌+◌, ◌-◌, ◌<◌, ◌≤◌, Bool, true, false, ℤ, pos, List, [], ◌∷◌, ◌++◌, length, map, take, drop, replicate, Some, refl, sym, ap, ◌∙◌, subst, arith, append_assoc, length-append}
+use Rattle.std.specs.Prelude.{slice_get, sum, All}
 use Rattle.std.specs.List.{AllByRecursion}
 use Rattle.std.proofs.Math.Seq.{take-append_seam, drop-append_seam}
 use Rattle.std.proofs.lemmas.List.{length-replicate}
-use Rattle.std.proofs.lemmas.List.Elements.{All-head, All-tail, recursion_from_All}
+use Rattle.std.proofs.lemmas.List.Elements.{recursion_from_All}
 use Rattle.std.proofs.lemmas.Bool.Decides.{nat_tests}
 use Rattle.act_words.specs.declared.settings.Settings.{Settings}
 use Rattle.act_words.specs.Limits.{AreAllowed}
-use Rattle.act_words.specs.Checks.{is_word_number}
 use Rattle.act_words.specs.Numbers.{word}
 use Rattle.flat_bytes.specs.Blocks.{first_offset, grown, rounded_up, is_refused, blocks_from, blocks_of}
 use Rattle.flat_bytes.specs.Blocks as flat
@@ -22,10 +21,10 @@ use Rattle.code_words.specs.Table.{Caller, Control, State}
 use Rattle.code_words.specs.Table as table
 use Rattle.code_words.specs.Runs.{spread, counter_behind}
 use Rattle.code_words.specs.declared.image.Image.{Image}
-use Rattle.lowering.specs.Images.{word_bytes_if, padded, cell_bytes, object_bytes, image_of}
-use Rattle.lowering.specs.Correct.{Shown, block_size, block_bytes, bytes_of, shown_from, blocks_held, blocks_meant, counted_from, width_if, IsCell, IsLowerable, SameEnd}
-use Rattle.lowering.proofs.Shapes.{strides, shape, sum_cons, row_of, shape_offset, shape_end, end_least, row_place, word_in, word_by_shape, HaveBytes}
-use Rattle.lowering.proofs.Memory.{HasRoom, cell_content, block_content, memory_bytes, length_block}
+use Rattle.lowering.specs.Images.{word_bytes_if, padded, object_bytes, image_of}
+use Rattle.lowering.specs.Correct.{Shown, block_bytes, shown_from, counted_from, width_if, IsCell, IsLowerable, SameEnd}
+use Rattle.lowering.proofs.Shapes.{strides, shape, sum_cons, row_of, shape_offset, shape_end, end_least, word_in, word_by_shape, HaveBytes}
+use Rattle.lowering.proofs.Memory.{HasRoom, block_content, memory_bytes, length_block}
 use Rattle.lowering.proofs.Worlds.{IsNumber}
 
 -- a run of a program's code, from a state on

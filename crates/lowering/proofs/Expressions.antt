@@ -1,6 +1,6 @@
 -- What single instructions of an expression leave on the stack.
-use Rattle.std.proofs.Common.{◌≡◌, ◌≢◌, ℕ, zero, suc, ◌+◌, ◌-◌, ◌*◌, ◌%◌, ◌^◌, ◌<◌, ◌≤◌, Bool, true, false, ℤ, ◌+ℤ◌, ◌-ℤ◌, ◌*ℤ◌, neg_ℤ, pos, negsuc, List, [], ◌∷◌, ◌++◌, length, map, Option, Some, None, refl, sym, ap, ◌∙◌, subst, arith}
-use Rattle.std.specs.Prelude.{slice_get, nat_le, nat_lt, not, ◌&&◌, ◌==◌, int_le, int_div, int_rem, bit_and, bit_or, bit_xor}
+use Rattle.std.proofs.Common.{◌≡◌, ℕ, zero, suc, ◌+◌, ◌%◌, ◌^◌, ◌<◌, Bool, true, false, ℤ, ◌+ℤ◌, ◌-ℤ◌, ◌*ℤ◌, neg_ℤ, pos, List, [], ◌∷◌, ◌++◌, length, map, Option, Some, None, refl, sym, ap, ◌∙◌, subst, arith}
+use Rattle.std.specs.Prelude.{slice_get, nat_lt, not, ◌&&◌, ◌==◌, int_div, int_rem, bit_and, bit_or, bit_xor}
 use Rattle.std.specs.List.{AllByRecursion}
 use Rattle.std.specs.Int.Bits.{and_lt}
 use Rattle.std.proofs.lemmas.Nat.{or_lt, xor_lt}
@@ -11,11 +11,11 @@ use Rattle.act_words.specs.declared.ending.Ending.{Ending}
 use Rattle.act_words.specs.declared.ending.Ending.TheVariants.{Check, Stop}
 use Rattle.act_words.specs.Outcome.{Gives}
 use Rattle.act_words.specs.Checks.{Checked, Holds, Fails, held_if, is_word_number, without_overflow}
-use Rattle.act_words.specs.Numbers.{word, signed}
+use Rattle.act_words.specs.Numbers.{word}
 use Rattle.act_words.specs.Arithmetic as arithmetic
 use Rattle.act_words.specs.Arithmetic.{bit, checked_then, is_zero, is_count, is_not_negative, halved, count_of}
-use Rattle.act_words.specs.World.{World, spent_one, with_inputs}
-use Rattle.act_words.specs.Touches.{Asked, Got, Ended, input_from, next_input, spent_if, spend_tick}
+use Rattle.act_words.specs.World.{spent_one, with_inputs}
+use Rattle.act_words.specs.Touches.{input_from, next_input, spent_if, spend_tick}
 use Rattle.ckc_core.specs.declared.program.Site.{Site}
 use Rattle.ckc_core.specs.declared.program.Operator.{Operator}
 use Rattle.ckc_core.specs.declared.program.Operator.TheVariants as operators
@@ -30,10 +30,10 @@ use Rattle.code_words.specs.Table.{State, Step, Goes, Over, act, push, push_some
 use Rattle.code_words.specs.declared.op.Op.{Op}
 use Rattle.code_words.specs.declared.op.Op.TheVariants as ops
 use Rattle.lowering.specs.Code.{operator_code, comparison_code}
-use Rattle.lowering.proofs.Numbers.{signed-word, word_small, word-signed, signed_fits, zero_word, equal_words, halved_fits, remainder_fits, complement_fits}
+use Rattle.lowering.proofs.Numbers.{signed-word, word_small, word-signed, signed_fits, equal_words, halved_fits, remainder_fits, complement_fits}
 use Rattle.lowering.proofs.Worlds.{IsNumber, KeptWorld}
-use Rattle.lowering.proofs.Executions.{Execution, image, word_of, state, IsKept}
-use Rattle.lowering.proofs.Steps.{Leads, Asks, Finishes, Layout, code, frame, standing, Kept, Here, kept_in, moved, pushes_in, pushes, ended, here_at, Arrives, Evaluates}
+use Rattle.lowering.proofs.Executions.{Execution, image, word_of, IsKept}
+use Rattle.lowering.proofs.Steps.{Asks, Finishes, Layout, code, frame, standing, Here, kept_in, moved, pushes_in, pushes, ended, Arrives, Evaluates}
 
 -- ---- lists
 
@@ -122,10 +122,11 @@ module _ (g : Execution) (l : Layout g) where
 
   pub local_runs : (next : ℕ) (stack : List ℕ) (s : meaning.State) (k : ℕ) (o : Option Value) → slice_get s.locals k ≡ o → Here g l next stack s → slice_get (code g l).ops next ≡ Some (ops.Local k) → length stack < (code g l).stack → Evaluates g l (next + 1) stack (given o s)
   local_runs next stack s k None h here at room = tt
-  local_runs next stack s k (Some v) h here at room =
-      (pushes g l next stack s (ops.Local k) (word_of g v) stack here at room
-      (λ scratch. ap (λ o. push_some (code g l) o stack (frame g l next scratch stack s.locals) (standing g l next scratch stack s)) (mapped_there (word_of g) s.locals (scratch ∷ []) k v h)),
-      of_element (IsKept g) s.locals k v here.kept.locals h)
+  local_runs next stack s k (Some v) h here at room = (
+    pushes g l next stack s (ops.Local k) (word_of g v) stack here at room
+        (λ scratch. ap (λ o. push_some (code g l) o stack (frame g l next scratch stack s.locals) (standing g l next scratch stack s)) (mapped_there (word_of g) s.locals (scratch ∷ []) k v h)),
+    of_element (IsKept g) s.locals k v here.kept.locals h,
+  )
 
   -- ---- operators
 

@@ -1,11 +1,11 @@
 -- The bytes of a memory in which blocks stand, and where the word of a cell lies among them.
-use Rattle.std.proofs.Common.{◌≡◌, ℕ, zero, suc, ◌+◌, ◌-◌, ◌<◌, ◌≤◌, Bool, true, false, List, [], ◌∷◌, ◌++◌, length, map, replicate, Option, Some, None, refl, sym, ap, ◌∙◌, subst, arith, append_assoc, length-append}
+use Rattle.std.proofs.Common.{◌≡◌, ℕ, zero, suc, ◌+◌, ◌-◌, ◌≤◌, List, [], ◌∷◌, ◌++◌, length, map, replicate, Some, refl, sym, ap, ◌∙◌, subst, arith, append_assoc, length-append}
 use Rattle.std.specs.Prelude.{slice_get, slice_set, sum, flat_map}
 use Rattle.std.specs.List.{AllByRecursion}
 use Rattle.std.proofs.lemmas.List.{length-replicate}
 use Rattle.flat_bytes.specs.Blocks.{first_offset, grown, rounded_up}
 use Rattle.code_words.specs.Runs.{spread}
-use Rattle.ckc_core.specs.States.{Value, Cell, Block, with_cell}
+use Rattle.ckc_core.specs.States.{Value, Cell, Block}
 use Rattle.ckc_core.specs.Meaning.{is_char}
 use Rattle.lowering.specs.Images.{word_bytes_if, padded}
 use Rattle.lowering.specs.Correct.{width_if}

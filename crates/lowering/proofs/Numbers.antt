@@ -1,16 +1,14 @@
 -- Numbers of 32 bits and their words.
-use Rattle.std.proofs.Common.{◌≡◌, ℕ, zero, suc, ◌+◌, ◌-◌, ◌*◌, ◌/◌, ◌%◌, ◌^◌, ◌<◌, ◌≤◌, Bool, true, false, ℤ, pos, negsuc, refl, sym, ap, ◌∙◌, subst, ⊎_elim, arith, div-le_self}
-use Rattle.std.specs.Prelude.{FitsSigned, nat_lt, not, ◌==◌, ◌&&◌, int_le, int_div, int_rem, bit_and, bit_or, bit_xor, unsigned_abs}
+use Rattle.std.proofs.Common.{◌≡◌, ℕ, suc, ◌-◌, ◌/◌, ◌^◌, ◌<◌, ◌≤◌, true, false, ℤ, pos, negsuc, refl, ap, ◌∙◌, ⊎_elim, arith, div-le_self}
+use Rattle.std.specs.Prelude.{FitsSigned, nat_lt, ◌==◌, ◌&&◌, int_le, int_rem, unsigned_abs}
 use Rattle.std.specs.Int.{w32}
-use Rattle.std.specs.Int.Bits.{and_lt}
-use Rattle.std.proofs.lemmas.Nat.{or_lt, xor_lt}
 use Rattle.std.proofs.Math.Facts.{to_z-neg}
-use Rattle.std.proofs.lemmas.Int.{to_z-of_z, of_z-to_z, to_z_pos, rem_below, ints}
+use Rattle.std.proofs.lemmas.Int.{to_z-of_z, of_z-to_z, to_z_pos, rem_below}
 use Rattle.std.proofs.lemmas.Bool.{cases_lt}
 use Rattle.std.proofs.lemmas.Bool.Decides.{nat_tests}
 use Rattle.act_words.specs.Checks.{is_word_number}
 use Rattle.act_words.specs.Numbers.{word, signed}
-use Rattle.act_words.specs.Arithmetic.{bit, is_zero, complement, halved}
+use Rattle.act_words.specs.Arithmetic.{is_zero, complement, halved}
 
 pub number_fits : (z : ℤ) → is_word_number z ≡ true → FitsSigned w32 z
 number_fits (pos n) h = record { sfits = grind (arith, nat_tests) }

@@ -1,39 +1,34 @@
 -- Places: addresses, loads and stores of cells.
-use Rattle.std.proofs.Common.{◌≡◌, ◌≢◌, ℕ, zero, suc, ◌+◌, ◌-◌, ◌%◌, ◌^◌, ◌<◌, ◌≤◌, ◌⊎◌, inl, inr, Bool, true, false, ℤ, pos, negsuc, List, [], ◌∷◌, ◌++◌, length, map, replicate, Option, Some, None, refl, sym, ap, ◌∙◌, subst, arith, ⊎_elim, append_assoc, length-append}
-use Rattle.std.specs.Prelude.{slice_get, slice_set, nat_le, not, ◌&&◌, ◌==◌, sum}
+use Rattle.std.proofs.Common.{◌≡◌, ℕ, zero, suc, ◌+◌, ◌-◌, ◌%◌, ◌^◌, ◌<◌, ◌≤◌, ◌⊎◌, inl, inr, Bool, true, false, pos, negsuc, List, [], ◌∷◌, ◌++◌, length, replicate, Option, Some, None, refl, sym, ap, ◌∙◌, subst, arith, ⊎_elim, append_assoc, length-append}
+use Rattle.std.specs.Prelude.{slice_get, slice_set, nat_le, not, ◌&&◌, ◌==◌}
 use Rattle.std.specs.List.{AllByRecursion}
 use Rattle.std.specs.Option.{option_and_then}
 use Rattle.std.proofs.lemmas.Bool.{cases_lt}
 use Rattle.std.proofs.lemmas.Bool.Decides.{nat_tests}
 use Rattle.ckc_text.specs.declared.code.Code.TheVariants.{C1}
 use Rattle.act_words.specs.declared.ending.Ending.TheVariants.{Check}
-use Rattle.act_words.specs.Checks.{is_word_number}
 use Rattle.act_words.specs.Numbers.{word, signed}
-use Rattle.act_words.specs.Arithmetic.{bit, is_zero}
+use Rattle.act_words.specs.Arithmetic.{is_zero}
 use Rattle.flat_bytes.specs.Blocks.{first_offset}
-use Rattle.flat_bytes.specs.Words.{word_at, with_word}
-use Rattle.pointer_modes.specs.declared.ctype.Mode.{Mode}
-use Rattle.pointer_modes.specs.declared.ctype.Kind.{Kind}
+use Rattle.flat_bytes.specs.Words.{word_at}
 use Rattle.pointer_modes.specs.Types.{CType, Int, Char, Struct, Pointer}
 use Rattle.ckc_core.specs.declared.program.Site.{Site}
 use Rattle.ckc_core.specs.States.{Value, Number, Null, At, Cell, Block, cell_at, with_cell, byte_place, stands_at, stands_behind, same_type, has_type}
 use Rattle.ckc_core.specs.States as meaning
-use Rattle.ckc_core.specs.Meaning.{value_if, value_in, place_where, place_through, load_at, place_if, pointer_to, truth, same_place, test_given, is_char}
+use Rattle.ckc_core.specs.Meaning.{value_if, value_in, place_where, place_through, load_at, place_if, pointer_to, truth, same_place, is_char}
 use Rattle.code_words.specs.Table.{State, Step, Goes, Over, act, push, push_some, load, holds}
 use Rattle.code_words.specs.Table as table
-use Rattle.code_words.specs.declared.op.Op.{Op}
 use Rattle.code_words.specs.declared.op.Op.TheVariants as ops
 use Rattle.lowering.specs.Code.{offset_code, offset_size, address_code, through_code, load_code, store_code}
 use Rattle.lowering.specs.Code as codes
 use Rattle.lowering.specs.Stacks.{offset_stack}
-use Rattle.lowering.specs.Images.{word_bytes_if}
-use Rattle.lowering.specs.Correct.{cells_in, width_if}
+use Rattle.lowering.specs.Correct.{width_if}
 use Rattle.lowering.proofs.Numbers.{word_small, word-signed, zero_word}
-use Rattle.lowering.proofs.Shapes.{strides, shape, shape_offset, row_place, row_of, address, place_by_shape, block_there, row_there, row_place_le, offset_least, block_within, blocks_apart, HaveBytes}
-use Rattle.lowering.proofs.Bytes.{word_behind, with_word_behind, length_word, word_read, word_written}
-use Rattle.lowering.proofs.Memory.{value_bytes, memory_bytes, BlockSeam, block_seam}
-use Rattle.lowering.proofs.Executions.{Execution, image, rows, word_of, tail, memory, state, IsKept, KeptCell, KeptBlocks, static_address, end_small, IsRow, all_rows, rooms_kept}
-use Rattle.lowering.proofs.Steps.{HasAt, Leads, Finishes, Layout, code, frame, standing, Kept, Here, moved, pushes, ended, here_at, Arrives, Evaluates}
+use Rattle.lowering.proofs.Shapes.{strides, shape_offset, row_place, row_of, address, place_by_shape, block_there, row_there, row_place_le, offset_least, block_within, blocks_apart, HaveBytes}
+use Rattle.lowering.proofs.Bytes.{word_behind, length_word, word_read}
+use Rattle.lowering.proofs.Memory.{value_bytes, block_seam}
+use Rattle.lowering.proofs.Executions.{Execution, image, rows, word_of, tail, memory, IsKept, KeptCell, KeptBlocks, static_address, end_small, IsRow, all_rows, rooms_kept}
+use Rattle.lowering.proofs.Steps.{HasAt, Leads, Finishes, Layout, code, frame, standing, Here, moved, pushes, ended, here_at, Evaluates}
 use Rattle.lowering.proofs.Expressions.{of_element, index_below}
 
 -- ---- where a cell stands
@@ -53,9 +48,10 @@ module _ (g : Execution) (blocks : List Block) (kept : KeptBlocks g blocks) wher
 
   -- it lies within the first 65,536 bytes
   pub place_small : (block cell : ℕ) (cells : Block) → slice_get blocks block ≡ Some cells → (first_offset ≤ shape_offset first_offset (rows g) block) × (shape_offset first_offset (rows g) block + byte_place cells cell ≤ 65536)
-  place_small block cell cells h =
-      (offset_least first_offset (rows g) block,
-      omega (arith, block_within first_offset (rows g) block (strides cells) (row_here block cells h), row_place_le (strides cells) cell, place_by_shape cells cell, end_small g))
+  place_small block cell cells h = (
+    offset_least first_offset (rows g) block,
+    omega (arith, block_within first_offset (rows g) block (strides cells) (row_here block cells h), row_place_le (strides cells) cell, place_by_shape cells cell, end_small g),
+  )
 
 -- a cell that is there is a cell of a block
 pub cell_of_block : (found : Option Block) (cell : ℕ) (c : Cell) → option_and_then (λ cells. slice_get cells cell) found ≡ Some c → (cells : Block) × (found ≡ Some cells) × (slice_get cells cell ≡ Some c)
@@ -71,9 +67,10 @@ length_strides (c ∷ cells) = ap suc (length_strides cells)
 pub cell_kept : (g : Execution) (blocks : List Block) → KeptBlocks g blocks → (block cell : ℕ) (c : Cell) → cell_at blocks block cell ≡ Some c → (KeptCell g c) × IsKept g (At block cell)
 cell_kept g blocks kept block cell c h =
     let found = cell_of_block (slice_get blocks block) cell c h in
-    let row = row_there (rows g) block (strides found.0) (row_here g blocks kept block found.0 found.1) in
-    (of_element (KeptCell g) found.0 cell c (of_element (AllByRecursion (KeptCell g)) blocks block found.0 kept.cells found.1) found.2,
-    omega (arith, ap length row, length_strides found.0, index_below found.0 cell c found.2))
+    let row = row_there (rows g) block (strides found.0) (row_here g blocks kept block found.0 found.1) in (
+      of_element (KeptCell g) found.0 cell c (of_element (AllByRecursion (KeptCell g)) blocks block found.0 kept.cells found.1) found.2,
+      omega (arith, ap length row, length_strides found.0, index_below found.0 cell c found.2),
+    )
 
 row_exists : (rs : List (List ℕ)) (block cell : ℕ) → cell < length (row_of rs block) → (row : List ℕ) × (slice_get rs block ≡ Some row)
 row_exists [] block cell h = absurd (omega arith)
@@ -130,11 +127,11 @@ addresses_lt g b c b' c' h h' order =
     let r = in_row g b c h in
     let r' = in_row g b' c' h' in
     elim order [
-      inl lt ↦ omega (arith, r.is, r'.is, blocks_apart first_offset (rows g) b b' r.row r'.row r.there r'.there lt, row_place_le r.row c)
+      | inl lt ↦ omega (arith, r.is, r'.is, blocks_apart first_offset (rows g) b b' r.row r'.row r.there r'.there lt, row_place_le r.row c)
       | inr e ↦
-      let row : r.row ≡ r'.row = let x = r.there in let y = r'.there in let z = ap (slice_get (rows g)) e.0 in cc in
-      let low : row_place r'.row c < row_place r'.row c' = row_place_lt r'.row c c' r'.bytes e.1 r'.within in
-      omega (arith, r.is, r'.is, low, ap (λ x. row_place x c) row, ap (shape_offset first_offset (rows g)) e.0)
+          let row : r.row ≡ r'.row = let x = r.there in let y = r'.there in let z = ap (slice_get (rows g)) e.0 in cc in
+          let low : row_place r'.row c < row_place r'.row c' = row_place_lt r'.row c c' r'.bytes e.1 r'.within in
+          omega (arith, r.is, r'.is, low, ap (λ x. row_place x c) row, ap (shape_offset first_offset (rows g)) e.0)
     ]
 
 same_address : (g : Execution) (b c b' c' : ℕ) → IsKept g (At b c) → IsKept g (At b' c') → (address_of g b c == address_of g b' c') ≡ (b == b' && c == c')
@@ -173,7 +170,7 @@ module _ (g : Execution) (l : Layout g) where
 
   -- so many bytes behind an address
   pub offset_runs : (next : ℕ) (stack : List ℕ) (s : meaning.State) (a offset : ℕ) → a + offset < 2 ^ 32 → Here g l next (a ∷ stack) s → HasAt (code g l).ops next (offset_code offset) → length stack + offset_stack offset ≤ (code g l).stack → Here g l (next + offset_size offset) ((a + offset) ∷ stack) s
-  offset_runs next stack s a zero small here at room = 
+  offset_runs next stack s a zero small here at room =
       let n : next ≡ next + 0 = omega arith in
       let m : a ≡ a + 0 = omega arith in
       subst (λ k. Here g l (next + 0) (k ∷ stack) s) m (here_at g l next (next + 0) (a ∷ stack) s n here)
@@ -323,16 +320,17 @@ module _ (g : Execution) (l : Layout g) where
       ap (λ n. word_at width (memory g s.blocks).bytes n) behind
       ∙ ap (λ bytes. word_at width bytes (length sm.pre + 0)) sm.now
       ∙ word_behind width sm.pre (value_bytes g.settings.base (rows g) c c.value ++ sm.post) 0
-      ∙ word_read (is_char c.type) (word_of g c.value) sm.post (typed_small c.type c.value kept.typed kept.value) in
-      (pushes g l next (a ∷ stack) s (load_code type) (word_of g c.value) stack here at room
-      (λ scratch.
-      let t = standing g l next scratch (a ∷ stack) s in
-      let f = frame g l next scratch (a ∷ stack) s.locals in
-      load_act (is_char type) next scratch a stack s
-      ∙ ap (λ b. load (code g l) (width_if b) a stack f t) char
-      ∙ ap (λ yes. table.load_if yes (code g l) width a stack f t) (seam_inside s.blocks block cell cells c sm)
-      ∙ ap (λ w. push (code g l) w stack f t) word_is),
-      kept.value)
+      ∙ word_read (is_char c.type) (word_of g c.value) sm.post (typed_small c.type c.value kept.typed kept.value) in (
+        pushes g l next (a ∷ stack) s (load_code type) (word_of g c.value) stack here at room
+            (λ scratch.
+            let t = standing g l next scratch (a ∷ stack) s in
+            let f = frame g l next scratch (a ∷ stack) s.locals in
+            load_act (is_char type) next scratch a stack s
+            ∙ ap (λ b. load (code g l) (width_if b) a stack f t) char
+            ∙ ap (λ yes. table.load_if yes (code g l) width a stack f t) (seam_inside s.blocks block cell cells c sm)
+            ∙ ap (λ w. push (code g l) w stack f t) word_is),
+        kept.value,
+      )
 
   load_found : (next : ℕ) (stack : List ℕ) (s : meaning.State) (type : CType) (block cell : ℕ) (o : Option Cell) → cell_at s.blocks block cell ≡ o → Placed next stack (block, cell) s → slice_get (code g l).ops next ≡ Some (load_code type) → length stack < (code g l).stack → Evaluates g l (next + 1) stack (value_in type o s)
   load_found next stack s type block cell None h placed at room = tt

@@ -1,5 +1,5 @@
 -- The code of a whole program does what the program means.
-use Rattle.std.proofs.Common.{◌≡◌, ℕ, zero, suc, ◌+◌, ◌-◌, ◌<◌, ◌≤◌, Bool, true, false, ℤ, pos, List, [], ◌∷◌, ◌++◌, length, map, drop, replicate, Option, Some, None, refl, sym, ap, ◌∙◌, subst, arith, append_assoc, length-append, length-drop}
+use Rattle.std.proofs.Common.{◌≡◌, ℕ, zero, suc, ◌+◌, ◌-◌, ◌<◌, ◌≤◌, true, ℤ, pos, List, [], ◌∷◌, ◌++◌, length, map, drop, replicate, Option, Some, None, refl, sym, ap, ◌∙◌, subst, arith, append_assoc, length-append, length-drop}
 use Rattle.std.specs.Prelude.{slice_get, IsTrue, All, ◌==◌}
 use Rattle.std.specs.List.{AllByRecursion}
 use Rattle.std.proofs.lemmas.List.{length-map, map-append, replicate-append-replicate}
@@ -9,13 +9,12 @@ use Rattle.act_words.specs.declared.ending.Ending.{Ending}
 use Rattle.act_words.specs.declared.ending.Ending.TheVariants.{Exit}
 use Rattle.act_words.specs.declared.settings.Settings.{Settings}
 use Rattle.act_words.specs.Acts.{Act, IsAct}
-use Rattle.act_words.specs.Outcome.{Gives, Ends, Stuck, Short, and_then}
+use Rattle.act_words.specs.Outcome.{Ends, and_then}
 use Rattle.act_words.specs.Checks.{is_word_number}
 use Rattle.act_words.specs.Limits.{AreAllowed}
-use Rattle.act_words.specs.World.{World, new_world}
+use Rattle.act_words.specs.World.{new_world}
 use Rattle.flat_bytes.specs.Blocks.{first_offset}
 use Rattle.pointer_modes.specs.Types.{CType, Int, Char, Struct, Pointer}
-use Rattle.ckc_core.specs.Core as core
 use Rattle.ckc_core.specs.Core.{Core, Function, Initial}
 use Rattle.ckc_core.specs.States.{Value, Number, Null, At, Block, zero_of, initial_value, object_block}
 use Rattle.ckc_core.specs.States as meaning
@@ -25,13 +24,12 @@ use Rattle.code_words.specs.Table.{Caller, State, Frame, Runs, frame_for, slots_
 use Rattle.code_words.specs.Runs.{CodeRun, counter_behind, spread, started, main_frame, memory_of}
 use Rattle.code_words.specs.declared.op.Op.TheVariants as ops
 use Rattle.lowering.specs.Code.{Places, body_places, ending_code, function_ops, statements_size, statements_code}
-use Rattle.lowering.specs.Stacks.{body_stack}
 use Rattle.lowering.specs.Images.{function_code, image_of, object_bytes}
 use Rattle.lowering.specs.Correct.{IsCell, IsFunction, IsLowerable, SameEnd}
 use Rattle.lowering.proofs.Numbers.{signed-word}
 use Rattle.lowering.proofs.Worlds.{IsNumber, KeptWorld}
 use Rattle.lowering.proofs.Executions.{Execution, image, rows, word_of, tail, memory, static, state, IsKept, KeptCell, KeptBlocks, IsObject, all_objects, contents_of, same_end}
-use Rattle.lowering.proofs.Steps.{HasAt, has_front, has_back, has_all, Leads, leads_on, leads_to, Reached, Finishes, last_move, Layout, code, standing, Kept, Here, function_found, pushes}
+use Rattle.lowering.proofs.Steps.{HasAt, has_front, has_back, has_all, Leads, leads_on, Reached, Finishes, last_move, Layout, code, Kept, Here, function_found, pushes}
 use Rattle.lowering.proofs.Sizes.{length_statements}
 use Rattle.lowering.proofs.Expressions.{of_element}
 use Rattle.lowering.proofs.Calls.{entered, Leaves, Returns, FlowsTo, ArePlaces, KnotRuns}

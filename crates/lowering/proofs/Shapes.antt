@@ -1,13 +1,12 @@
 -- The shape of blocks: how many bytes lie from each cell to the next. Addresses depend on nothing else, and stores keep it.
-use Rattle.std.proofs.Common.{◌≡◌, ◌≢◌, ℕ, zero, suc, ◌+◌, ◌<◌, ◌≤◌, ◌⊎◌, inl, inr, Bool, true, false, List, [], ◌∷◌, length, map, Option, Some, None, refl, sym, ap, ◌∙◌, arith}
-use Rattle.std.specs.Prelude.{slice_get, slice_set, sum, unwrap_or, ◌==◌, ◌&&◌}
+use Rattle.std.proofs.Common.{◌≡◌, ℕ, zero, suc, ◌+◌, ◌<◌, ◌≤◌, List, [], ◌∷◌, map, Some, refl, ap, arith}
+use Rattle.std.specs.Prelude.{slice_get, sum, unwrap_or}
 use Rattle.std.specs.List.{AllByRecursion}
 use Rattle.std.proofs.lemmas.List.Sums.{sum_by-cons}
-use Rattle.std.proofs.lemmas.Bool.Decides.{nat_tests}
 use Rattle.act_words.specs.Numbers.{word}
-use Rattle.flat_bytes.specs.Blocks.{first_offset, grown, rounded_up}
-use Rattle.ckc_core.specs.States.{Value, Number, Null, At, Cell, Block, byte_place, cell_at, with_cell}
-use Rattle.lowering.specs.Correct.{block_size, offset_from, cells_in, address_in, word_of}
+use Rattle.flat_bytes.specs.Blocks.{first_offset, grown}
+use Rattle.ckc_core.specs.States.{Value, Number, Null, At, Cell, Block, byte_place}
+use Rattle.lowering.specs.Correct.{block_size, offset_from, cells_in, word_of}
 
 -- the strides of a block's cells, and those of blocks
 abbrev pub strides : Block → List ℕ

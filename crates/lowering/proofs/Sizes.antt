@@ -1,14 +1,12 @@
 -- How many instructions the code of a part has, and that each expression needs a word of the stack.
-use Rattle.std.proofs.Common.{◌≡◌, ℕ, zero, suc, ◌+◌, ◌<◌, ◌≤◌, Bool, true, false, pos, List, [], ◌∷◌, ◌++◌, length, refl, ap, ◌∙◌, arith, length-append}
+use Rattle.std.proofs.Common.{◌≡◌, ℕ, zero, suc, ◌+◌, ◌≤◌, Bool, true, false, pos, List, [], ◌∷◌, ◌++◌, length, refl, ap, ◌∙◌, arith, length-append}
 use Rattle.pointer_modes.specs.Types.{CType}
-use Rattle.ckc_core.specs.declared.program.Site.{Site}
 use Rattle.ckc_core.specs.Core as core
 use Rattle.ckc_core.specs.Meaning.{is_char}
 use Rattle.code_words.specs.declared.op.Op.{Op}
 use Rattle.code_words.specs.declared.op.Op.TheVariants as ops
-use Rattle.lowering.specs.Code
 use Rattle.lowering.specs.Code.{Places, operator_code, comparison_code, load_code, store_code, offset_code, offset_size, through_code, byte_code, byte_size, expression_size, arguments_size, place_size, before_value_size, behind_value_size, statement_size, statements_size, expression_code, arguments_code, place_code, before_value, behind_value, statement_code, statements_code}
-use Rattle.lowering.specs.Stacks.{offset_stack, expression_stack, arguments_stack, place_stack}
+use Rattle.lowering.specs.Stacks.{offset_stack, expression_stack, place_stack}
 
 pub length_offset : (n : ℕ) → length (offset_code n) ≡ offset_size n
 length_offset zero = refl

@@ -1,10 +1,8 @@
 -- The code of a statement has the statement's effect.
-use Rattle.std.proofs.Common.{◌≡◌, ℕ, zero, suc, ◌+◌, ◌%◌, ◌<◌, ◌≤◌, Bool, true, false, ℤ, pos, List, [], ◌∷◌, ◌++◌, length, map, Option, Some, None, refl, sym, ap, ◌∙◌, subst, arith}
-use Rattle.std.specs.Prelude.{slice_get, not, ◌==◌}
-use Rattle.act_words.specs.declared.ending.Ending.{Ending}
-use Rattle.act_words.specs.Outcome.{Gives, Ends, Stuck, Short, and_then}
-use Rattle.act_words.specs.Numbers.{word, signed, number_line}
-use Rattle.act_words.specs.World.{World}
+use Rattle.std.proofs.Common.{◌≡◌, ℕ, zero, suc, ◌+◌, ◌%◌, ◌<◌, ◌≤◌, Bool, true, false, List, [], ◌∷◌, ◌++◌, length, Option, Some, None, refl, sym, ap, ◌∙◌, subst, arith}
+use Rattle.std.specs.Prelude.{slice_get, not}
+use Rattle.act_words.specs.Outcome.{Gives, and_then}
+use Rattle.act_words.specs.Numbers.{word, number_line}
 use Rattle.act_words.specs.Touches.{spend_tick, write}
 use Rattle.pointer_modes.specs.Types.{CType}
 use Rattle.ckc_core.specs.declared.program.Site.{Site}
@@ -12,22 +10,19 @@ use Rattle.ckc_core.specs.declared.program.Operator.{Operator}
 use Rattle.ckc_core.specs.Core as core
 use Rattle.ckc_core.specs.States.{Value, Number, Null, At, Block, stands_at}
 use Rattle.ckc_core.specs.States as meaning
-use Rattle.ckc_core.specs.Meaning.{Result, Knot, Flow, Next, Broke, Continued, Returned, is_char, given, truth, value, values, place, place_in, place_where, place_through, place_from, pointer_of, load_at, store_at, arithmetic_of, kept_if, set_local, printed, put, on_next, behind_turn, behind_step, no_result, choose, call_trusted, call_tainted, effect, effects}
-use Rattle.ckc_core.specs.Meaning as meanings
-use Rattle.code_words.specs.Table.{act}
-use Rattle.code_words.specs.Table as table
+use Rattle.ckc_core.specs.Meaning.{Result, Knot, Flow, Next, Broke, Continued, Returned, is_char, given, truth, value, values, place, place_where, pointer_of, load_at, store_at, arithmetic_of, kept_if, set_local, printed, put, on_next, behind_turn, behind_step, no_result, choose, call_trusted, call_tainted, effect, effects}
 use Rattle.code_words.specs.declared.op.Op.{Op}
 use Rattle.code_words.specs.declared.op.Op.TheVariants as ops
-use Rattle.lowering.specs.Code.{Places, operator_code, load_code, store_code, address_code, through_code, byte_code, byte_size, offset_size, expression_size, arguments_size, place_size, before_value_size, behind_value_size, statement_size, statements_size, expression_code, arguments_code, place_code, before_value, behind_value, statement_code, statements_code}
-use Rattle.lowering.specs.Stacks.{offset_stack, expression_stack, arguments_stack, place_stack, statement_stack, statements_stack}
+use Rattle.lowering.specs.Code.{Places, operator_code, load_code, store_code, address_code, byte_code, byte_size, offset_size, expression_size, arguments_size, place_size, statement_size, statements_size, expression_code, arguments_code, place_code, behind_value, statement_code, statements_code}
+use Rattle.lowering.specs.Stacks.{offset_stack, statement_stack, statements_stack}
 use Rattle.lowering.proofs.Numbers.{signed-word}
 use Rattle.lowering.proofs.Worlds.{KeptWorld}
-use Rattle.lowering.proofs.Executions.{Execution, image, word_of, state, IsKept}
-use Rattle.lowering.proofs.Steps.{HasAt, has_front, has_back, Leads, leads_on, leads_to, asks_on, Finishes, Layout, code, frame, standing, Kept, Here, kept_in, fetched, moved, pushes, here_at, Arrives, Evaluates}
-use Rattle.lowering.proofs.Sizes.{length_offset, length_byte, length_expression, length_arguments, length_place, length_statement, length_statements, stack_above, place_above, offset_above}
-use Rattle.lowering.proofs.Expressions.{local_runs, operator_runs, tick_runs, jump_runs, branch_runs, chosen}
+use Rattle.lowering.proofs.Executions.{Execution, word_of, IsKept}
+use Rattle.lowering.proofs.Steps.{HasAt, has_front, has_back, Leads, leads_on, leads_to, asks_on, Finishes, Layout, code, frame, Here, kept_in, fetched, moved, pushes, here_at, Arrives}
+use Rattle.lowering.proofs.Sizes.{length_offset, length_byte, length_expression, length_arguments, length_place, length_statement}
+use Rattle.lowering.proofs.Expressions.{local_runs, operator_runs, tick_runs, jump_runs, branch_runs}
 use Rattle.lowering.proofs.Places.{address_of, Placed, direct_runs, load_runs, truth_word}
-use Rattle.lowering.proofs.Calls.{piled, Leaves, FlowsTo, Affects, ArePlaces, test_of, KnotRuns, Resumes, call_runs}
+use Rattle.lowering.proofs.Calls.{Leaves, FlowsTo, Affects, ArePlaces, test_of, KnotRuns, Resumes, call_runs}
 use Rattle.lowering.proofs.Tainted.{tainted_runs}
 use Rattle.lowering.proofs.Values.{setting, Piles, value_runs, arguments_run, place_runs}
 use Rattle.lowering.proofs.Stores.{store_runs, set_runs, byte_runs, through_store_runs}

@@ -1,32 +1,26 @@
 -- How instructions that stand in a function are executed, one after another, and how a state of the meaning is one of the code.
-use Rattle.std.proofs.Common.{◌≡◌, ℕ, zero, suc, ◌+◌, ◌-◌, ◌<◌, ◌≤◌, Bool, true, false, ℤ, List, [], ◌∷◌, ◌++◌, length, map, replicate, Option, Some, None, refl, sym, ap, ◌∙◌, subst, arith, append_assoc, length-append}
+use Rattle.std.proofs.Common.{◌≡◌, ℕ, zero, suc, ◌+◌, ◌<◌, true, List, [], ◌∷◌, ◌++◌, length, map, Option, Some, None, refl, ap, ◌∙◌, subst, arith, append_assoc, length-append}
 use Rattle.std.specs.Prelude.{slice_get, nat_lt}
 use Rattle.std.specs.List.{AllByRecursion}
 use Rattle.std.proofs.Math.Seq.{get_or-append_seam}
 use Rattle.std.proofs.lemmas.Option.{slice_get-get_or}
 use Rattle.std.proofs.lemmas.Bool.Decides.{nat_tests}
 use Rattle.act_words.specs.declared.ending.Ending.{Ending}
-use Rattle.act_words.specs.declared.settings.Settings.{Settings}
-use Rattle.act_words.specs.Limits.{AreAllowed}
 use Rattle.act_words.specs.Outcome.{Gives, Ends, Stuck, Short, and_then}
 use Rattle.act_words.specs.World.{World}
 use Rattle.act_words.specs.Touches.{Asked, Got, Ended}
-use Rattle.flat_bytes.specs.Blocks.{first_offset, blocks_of}
-use Rattle.flat_bytes.specs.Blocks as flat
-use Rattle.trusted_memory.specs.Memories.{Memory}
-use Rattle.ckc_core.specs.Core.{Core, Function}
+use Rattle.ckc_core.specs.Core.{Function}
 use Rattle.ckc_core.specs.States.{Value, Number, Null, At, Cell, Block, has_type, object_block}
 use Rattle.ckc_core.specs.States as meaning
 use Rattle.ckc_core.specs.Meaning.{Result}
 use Rattle.ckc_core.specs.Meaning as meanings
-use Rattle.code_words.specs.Table.{Frame, Caller, Control, Runs, State, Step, Goes, Over, act, push}
+use Rattle.code_words.specs.Table.{Frame, Caller, Runs, State, Goes, Over, act, push}
 use Rattle.code_words.specs.Moves.{move}
-use Rattle.code_words.specs.Runs.{Run, Finished, exec, go_on, counter_behind}
+use Rattle.code_words.specs.Runs.{Finished, exec, go_on}
 use Rattle.code_words.specs.declared.op.Op.{Op}
 use Rattle.code_words.specs.declared.image.Func.{Func}
-use Rattle.code_words.specs.declared.image.Image.{Image}
-use Rattle.lowering.specs.Images.{object_bytes, function_code, functions_from, image_of}
-use Rattle.lowering.specs.Correct.{IsLowerable, SameEnd}
+use Rattle.lowering.specs.Images.{function_code, functions_from}
+use Rattle.lowering.specs.Correct.{SameEnd}
 use Rattle.lowering.proofs.Worlds.{KeptWorld}
 use Rattle.lowering.proofs.Executions.{Execution, image, word_of, state, IsKept, KeptBlocks, same_end}
 

@@ -1,8 +1,7 @@
 -- What is put into cells, local variables and the scratch slot.
-use Rattle.std.proofs.Common.{◌≡◌, ℕ, zero, suc, ◌+◌, ◌-◌, ◌%◌, ◌^◌, ◌<◌, ◌≤◌, Bool, true, false, ℤ, pos, negsuc, List, [], ◌∷◌, ◌++◌, length, map, Option, Some, None, refl, sym, ap, ◌∙◌, subst, arith, length-append}
+use Rattle.std.proofs.Common.{◌≡◌, ℕ, zero, suc, ◌+◌, ◌-◌, ◌<◌, ◌≤◌, Bool, true, false, List, [], ◌∷◌, ◌++◌, length, map, Option, Some, None, refl, sym, ap, ◌∙◌, subst, arith, length-append}
 use Rattle.std.specs.Prelude.{slice_get, slice_set, nat_lt, ◌&&◌}
 use Rattle.std.specs.List.{AllByRecursion}
-use Rattle.std.specs.Option.{option_and_then}
 use Rattle.std.proofs.lemmas.List.{length-map}
 use Rattle.std.proofs.lemmas.Bool.Decides.{nat_tests}
 use Rattle.flat_bytes.specs.Words.{with_word}
@@ -10,8 +9,8 @@ use Rattle.pointer_modes.specs.Types.{CType, Int, Char, Struct, Pointer}
 use Rattle.ckc_core.specs.declared.program.Site.{Site}
 use Rattle.ckc_core.specs.States.{Value, Number, Null, At, Cell, Block, cell_at, with_cell, same_type, has_type}
 use Rattle.ckc_core.specs.States as meaning
-use Rattle.ckc_core.specs.Meaning.{Result, Flow, Next, store_if, store_over, store_at, set_local_if, set_local, is_char, place_through, kept_if, low_byte_of}
-use Rattle.act_words.specs.Outcome.{Gives, and_then}
+use Rattle.ckc_core.specs.Meaning.{store_if, store_over, store_at, set_local_if, set_local, is_char, place_through, kept_if}
+use Rattle.act_words.specs.Outcome.{and_then}
 use Rattle.code_words.specs.Table.{State, Step, Goes, Over, act, store, stored, push_some, set_if}
 use Rattle.code_words.specs.Table as table
 use Rattle.code_words.specs.declared.op.Op.TheVariants as ops
@@ -19,14 +18,14 @@ use Rattle.lowering.specs.Code.{Places, store_code, through_code, byte_code, byt
 use Rattle.lowering.specs.Code as codes
 use Rattle.lowering.specs.Stacks.{offset_stack}
 use Rattle.lowering.specs.Correct.{width_if}
-use Rattle.lowering.proofs.Shapes.{strides, shape}
+use Rattle.lowering.proofs.Shapes.{strides}
 use Rattle.lowering.proofs.Bytes.{with_word_behind, word_written}
 use Rattle.lowering.proofs.Memory.{value_bytes}
-use Rattle.lowering.proofs.Executions.{Execution, image, rows, word_of, memory, state, IsKept, KeptCell, KeptBlocks}
-use Rattle.lowering.proofs.Steps.{HasAt, has_front, has_back, Leads, leads_on, Finishes, Layout, Holds, code, frame, standing, Kept, Here, moved, pushes, one_move, fetched, here_at, Arrives, Evaluates}
+use Rattle.lowering.proofs.Executions.{Execution, image, rows, word_of, memory, IsKept, KeptCell, KeptBlocks}
+use Rattle.lowering.proofs.Steps.{HasAt, has_front, has_back, leads_on, Finishes, Layout, Holds, code, frame, standing, Kept, Here, moved, one_move, fetched, here_at, Arrives, Evaluates}
 use Rattle.lowering.proofs.Sizes.{length_offset}
-use Rattle.lowering.proofs.Expressions.{of_element, index_below, low_byte_runs}
-use Rattle.lowering.proofs.Places.{address_of, cell_of_block, cell_kept, Placed, through_runs, Seam, seam, seam_inside, typed_small, same_char}
+use Rattle.lowering.proofs.Expressions.{of_element, low_byte_runs}
+use Rattle.lowering.proofs.Places.{address_of, cell_of_block, Placed, through_runs, seam, seam_inside, typed_small, same_char}
 use Rattle.lowering.proofs.Calls.{FlowsTo, Affects, ArePlaces}
 
 -- ---- lists

@@ -1,11 +1,11 @@
 -- Calls of tainted functions: the acts before the touch, and those of the sandbox's turn.
-use Rattle.std.proofs.Common.{◌≡◌, ℕ, zero, suc, ◌+◌, ◌^◌, ◌<◌, ◌≤◌, Bool, true, false, List, [], ◌∷◌, ◌++◌, reverse, length, map, Option, Some, None, refl, sym, ap, ◌∙◌, subst, arith}
+use Rattle.std.proofs.Common.{◌≡◌, ℕ, zero, suc, ◌+◌, ◌<◌, Bool, true, false, List, [], ◌∷◌, ◌++◌, reverse, length, map, Option, Some, None, refl, sym, ap, ◌∙◌, subst, arith}
 use Rattle.std.specs.Prelude.{slice_get, nat_lt, ◌==◌, option_map}
 use Rattle.std.specs.List.{AllByRecursion}
 use Rattle.std.proofs.lemmas.List.{length-map}
 use Rattle.std.proofs.lemmas.Bool.Decides.{nat_tests}
 use Rattle.ckc_text.specs.declared.place.Place.{Place}
-use Rattle.ckc_text.specs.declared.code.Code.TheVariants.{C9, S2, S5}
+use Rattle.ckc_text.specs.declared.code.Code.TheVariants.{C9, S2}
 use Rattle.act_words.specs.declared.ending.Ending.{Ending}
 use Rattle.act_words.specs.declared.ending.Ending.TheVariants.{Check, Stop}
 use Rattle.act_words.specs.declared.act.Turn.TheVariants as turns
@@ -31,10 +31,10 @@ use Rattle.code_words.specs.declared.op.Op.TheVariants as ops
 use Rattle.lowering.specs.Images.{import_code, imports_from}
 use Rattle.lowering.proofs.Numbers.{word-signed, signed_fits}
 use Rattle.lowering.proofs.Worlds.{KeptWorld, HasLeft, BeforeKeeps, SandboxKeeps, act_waits, act_keeps}
-use Rattle.lowering.proofs.Executions.{Execution, image, word_of, state, IsKept, KeptBlocks, same_end}
-use Rattle.lowering.proofs.Steps.{HasAt, Leads, leads_on, leads_to, Asks, asks_on, Reached, Finishes, one_move, last_move, Layout, Holds, code, frame, standing, Kept, Here, kept_in, fetched, Arrives}
+use Rattle.lowering.proofs.Executions.{Execution, image, word_of, state, KeptBlocks, same_end}
+use Rattle.lowering.proofs.Steps.{HasAt, Leads, Asks, asks_on, Reached, Finishes, one_move, last_move, Layout, Holds, code, frame, standing, Kept, Here, kept_in, fetched}
 use Rattle.lowering.proofs.Expressions.{tick_runs}
-use Rattle.lowering.proofs.Calls.{piled, piled_words, popped, IsKeptResult, Resumes, resumed}
+use Rattle.lowering.proofs.Calls.{piled, piled_words, popped, Resumes, resumed}
 
 -- the worlds that are left
 kept_world : (acts : List Act) (w : World) → AllByRecursion IsAct acts → HasLeft acts w → KeptWorld w

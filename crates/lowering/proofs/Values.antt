@@ -1,5 +1,5 @@
 -- The code of an expression leaves the word of its value.
-use Rattle.std.proofs.Common.{◌≡◌, ℕ, zero, suc, ◌+◌, ◌<◌, ◌≤◌, Bool, true, false, pos, List, [], ◌∷◌, ◌++◌, length, Option, Some, None, refl, sym, ap, ◌∙◌, subst, arith}
+use Rattle.std.proofs.Common.{◌≡◌, ℕ, ◌+◌, ◌<◌, ◌≤◌, pos, List, [], ◌∷◌, ◌++◌, length, Option, Some, None, refl, subst, arith}
 use Rattle.std.specs.Prelude.{slice_get, not}
 use Rattle.std.specs.List.{AllByRecursion}
 use Rattle.act_words.specs.Outcome.{Gives, and_then}
@@ -7,13 +7,13 @@ use Rattle.act_words.specs.Checks.{is_word_number}
 use Rattle.ckc_core.specs.Core as core
 use Rattle.ckc_core.specs.States.{Value, Number, Null, At}
 use Rattle.ckc_core.specs.States as meaning
-use Rattle.ckc_core.specs.Meaning.{Result, Knot, Setting, truth, number_of_test, value, values, place, arithmetic_of, compared, negated, complemented, low_byte_of, same_place, test_given, choose, place_in, place_through, pointer_to, load_at, call_trusted, call_tainted, result_given}
+use Rattle.ckc_core.specs.Meaning.{Result, Knot, Setting, truth, number_of_test, value, values, place, arithmetic_of, compared, negated, complemented, low_byte_of, same_place, test_given, place_in, place_through, pointer_to, load_at, call_trusted, call_tainted, result_given}
 use Rattle.code_words.specs.declared.op.Op.TheVariants as ops
 use Rattle.lowering.specs.Code.{operator_code, comparison_code, load_code, through_code, offset_size, expression_size, arguments_size, place_size, expression_code, arguments_code, place_code}
 use Rattle.lowering.specs.Stacks.{expression_stack, arguments_stack, place_stack}
 use Rattle.lowering.proofs.Executions.{Execution, word_of, IsKept}
-use Rattle.lowering.proofs.Steps.{HasAt, has_front, has_back, Leads, leads_on, leads_to, Finishes, Layout, code, Here, pushes, here_at, Arrives, Evaluates, evaluates_at}
-use Rattle.lowering.proofs.Sizes.{length_expression, length_arguments, length_place, offset_above, stack_above, place_above}
+use Rattle.lowering.proofs.Steps.{HasAt, has_front, has_back, Leads, leads_on, Finishes, Layout, code, Here, pushes, here_at, Arrives, Evaluates, evaluates_at}
+use Rattle.lowering.proofs.Sizes.{length_expression, length_arguments, length_place, stack_above, place_above}
 use Rattle.lowering.proofs.Expressions.{number_runs, local_runs, operator_runs, comparison_runs, negation_runs, complement_runs, low_byte_runs, input_runs}
 use Rattle.lowering.proofs.Places.{Placed, direct_runs, through_runs, pointer_runs, load_runs}
 use Rattle.lowering.proofs.Conditions.{zero_runs, and_runs, or_runs, same_runs}

@@ -1,9 +1,7 @@
 -- The code of a program: which instructions each of its parts becomes. An instruction's place is its number in its function,
 -- which jumps name; so the code of a part takes the place of its first instruction.
-use Rattle.std.specs.Prelude.{ℕ, zero, suc, ◌+◌, ◌-◌, max, Bool, true, false, List, [], ◌∷◌, ◌++◌, length, map, replicate, Option, Some, None, pos}
-use Rattle.std.proofs.Common.{ℤ}
-use Rattle.std.specs.Int.{to_le_bytes, w8, w32}
-use Rattle.act_words.specs.Numbers.{signed, word}
+use Rattle.std.specs.Prelude.{ℕ, zero, suc, ◌+◌, Bool, true, false, List, [], ◌∷◌, ◌++◌, length, Option, Some, None, pos}
+use Rattle.act_words.specs.Numbers.{signed}
 use Rattle.pointer_modes.specs.Types.{CType, Int, Char, Struct, Pointer}
 use Rattle.ckc_core.specs.declared.program.Operator.{Operator}
 use Rattle.ckc_core.specs.declared.program.Operator.TheVariants as operators
@@ -16,9 +14,6 @@ use Rattle.code_words.specs.declared.op.Op.{Op}
 use Rattle.code_words.specs.declared.op.Op.TheVariants as ops
 use Rattle.code_words.specs.declared.image.WordKind.{WordKind}
 use Rattle.code_words.specs.declared.image.WordKind.TheVariants as kinds
-use Rattle.code_words.specs.declared.image.Func.{Func}
-use Rattle.code_words.specs.declared.image.Import.{Import}
-use Rattle.code_words.specs.declared.image.Image.{Image}
 
 -- ---- single instructions
 
