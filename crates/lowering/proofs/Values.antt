@@ -1,6 +1,6 @@
 -- The code of an expression leaves the word of its value.
 use Rattle.std.proofs.Common.{◌≡◌, ℕ, ◌+◌, ◌<◌, ◌≤◌, pos, List, [], ◌∷◌, ◌++◌, length, Option, Some, None, refl, subst, arith}
-use Rattle.std.specs.Prelude.{slice_get, not}
+use Rattle.std.specs.Prelude.{max, slice_get, not}
 use Rattle.std.specs.List.{AllByRecursion}
 use Rattle.act_words.specs.Outcome.{Gives, and_then}
 use Rattle.act_words.specs.Checks.{is_word_number}
@@ -8,6 +8,7 @@ use Rattle.ckc_core.specs.Core as core
 use Rattle.ckc_core.specs.States.{Value, Number, Null, At}
 use Rattle.ckc_core.specs.States as meaning
 use Rattle.ckc_core.specs.Meaning.{Result, Knot, Setting, truth, number_of_test, value, values, place, arithmetic_of, compared, negated, complemented, low_byte_of, same_place, test_given, place_in, place_through, pointer_to, load_at, call_trusted, call_tainted, result_given}
+use Rattle.code_words.specs.declared.op.Op.{Op}
 use Rattle.code_words.specs.declared.op.Op.TheVariants as ops
 use Rattle.lowering.specs.Code.{operator_code, comparison_code, load_code, through_code, offset_size, expression_size, arguments_size, place_size, expression_code, arguments_code, place_code}
 use Rattle.lowering.specs.Stacks.{expression_stack, arguments_stack, place_stack}
@@ -30,25 +31,58 @@ module _ (g : Execution) (l : Layout g) where
     pub here : Here g l next (piled g vs stack) s
     pub kept : AllByRecursion (IsKept g) vs
 
-  -- goes on with the value on the stack
-  abbrev FromValue : ℕ → ℕ → List ℕ → (Value → meaning.State → Result Value) → Type 0
-  FromValue next end stack more = (v : Value) (s : meaning.State) → Arrives g l next stack v s → Evaluates g l end stack (more v s)
-
-  one_operand : (next middle end : ℕ) (stack : List ℕ) (o : Result Value) (more : Value → meaning.State → Result Value) → Evaluates g l middle stack o → FromValue middle end stack more → Evaluates g l end stack (and_then o more)
-  one_operand next middle end stack o more first behind = leads_on (Arrives g l middle stack) (Arrives g l end stack) (Finishes g) o more first behind
-
-  -- two operands, and what follows them
-  two_operands : (middle last end : ℕ) (stack : List ℕ) (o : Result Value) (second : meaning.State → Result Value) (more : Value → Value → meaning.State → Result Value) → Evaluates g l middle stack o → ((v : Value) (s : meaning.State) → Arrives g l middle stack v s → Evaluates g l last (word_of g v ∷ stack) (second s)) → ((v w : Value) (s : meaning.State) → IsKept g v → Arrives g l last (word_of g v ∷ stack) w s → Evaluates g l end stack (more v w s)) → Evaluates g l end stack (and_then o (λ v s. and_then (second s) (more v)))
-  two_operands middle last end stack o second more first next behind =
-      leads_on (Arrives g l middle stack) (Arrives g l end stack) (Finishes g) o _ first
-      (λ v s x. leads_on (Arrives g l last (word_of g v ∷ stack)) (Arrives g l end stack) (Finishes g) (second s) (more v) (next v s x) (λ w t y. behind v w t x.1 y))
-
   -- the result of a call that has one
   given_result : (next : ℕ) (stack : List ℕ) (v : Option Value) (s : meaning.State) → Resumes g l next stack v s → Evaluates g l next stack (result_given v s)
   given_result next stack None s h = tt
   given_result next stack (Some v) s h = h
 
   module _ (k : Knot) (runs : KnotRuns g k) where
+    -- the code of an expression, where it stands, leaves its value
+    abbrev pub ExpressionRuns : core.Expression → Type 0
+    ExpressionRuns e = (next : ℕ) (stack : List ℕ) (s : meaning.State) → Here g l next stack s → HasAt (code g l).ops next (expression_code next e) → length stack + expression_stack e ≤ (code g l).stack → next + expression_size e < length (code g l).ops → Evaluates g l (next + expression_size e) stack (value (setting g) k e s)
+
+    abbrev pub ArgumentsRun : core.Arguments → Type 0
+    ArgumentsRun args = (next : ℕ) (stack : List ℕ) (s : meaning.State) → Here g l next stack s → HasAt (code g l).ops next (arguments_code next args) → length stack + arguments_stack args ≤ (code g l).stack → next + arguments_size args < length (code g l).ops → Leads (Piles (next + arguments_size args) stack) (Finishes g) (values (setting g) k args s)
+
+    -- an operand, and the instruction that follows it
+    unary_runs : (operand : core.Expression) (op : Op) (more : Value → meaning.State → Result Value) → ExpressionRuns operand → (next : ℕ) (stack : List ℕ) (s : meaning.State) → ((m : ℕ) (v : Value) (t : meaning.State) → IsKept g v → Here g l m (word_of g v ∷ stack) t → slice_get (code g l).ops m ≡ Some op → length stack < (code g l).stack → Evaluates g l (m + 1) stack (more v t)) → Here g l next stack s → HasAt (code g l).ops next (expression_code next operand ++ op ∷ []) → length stack + expression_stack operand ≤ (code g l).stack → next + (expression_size operand + 1) < length (code g l).ops → Evaluates g l (next + (expression_size operand + 1)) stack (and_then (value (setting g) k operand s) more)
+    unary_runs operand op more operand_runs next stack s behind here at room low =
+        let m = next + expression_size operand in
+        let first = expression_code next operand in
+        let end : m + 1 ≡ next + (expression_size operand + 1) = omega arith in
+        evaluates_at g l (m + 1) (next + (expression_size operand + 1)) stack (and_then (value (setting g) k operand s) more) end
+        (leads_on (Arrives g l m stack) (Arrives g l (m + 1) stack) (Finishes g) (value (setting g) k operand s) more
+        (operand_runs next stack s here (has_front (code g l).ops next first (op ∷ []) at) room (omega arith))
+        (λ v t x. behind m v t x.1 x.0 (has_back (code g l).ops next first (op ∷ []) (expression_size operand) (length_expression next operand) at).0 (omega (arith, stack_above operand))))
+
+    -- two operands, and the instruction that follows them
+    binary_runs : (left right : core.Expression) (op : Op) (more : Value → Value → meaning.State → Result Value) → ExpressionRuns left → ExpressionRuns right → (next : ℕ) (stack : List ℕ) (s : meaning.State) → ((m : ℕ) (v w : Value) (t : meaning.State) → IsKept g v → IsKept g w → Here g l m (word_of g w ∷ (word_of g v ∷ stack)) t → slice_get (code g l).ops m ≡ Some op → length stack < (code g l).stack → Evaluates g l (m + 1) stack (more v w t)) → Here g l next stack s → HasAt (code g l).ops next (expression_code next left ++ (expression_code (next + expression_size left) right ++ op ∷ [])) → length stack + max (expression_stack left) (1 + expression_stack right) ≤ (code g l).stack → next + (expression_size left + (expression_size right + 1)) < length (code g l).ops → Evaluates g l (next + (expression_size left + (expression_size right + 1))) stack (and_then (value (setting g) k left s) (λ v t. and_then (value (setting g) k right t) (more v)))
+    binary_runs left right op more left_runs right_runs next stack s behind here at room low =
+        let m = next + expression_size left in
+        let n = m + expression_size right in
+        let first = expression_code next left in
+        let second = expression_code m right in
+        let back = has_back (code g l).ops next first (second ++ op ∷ []) (expression_size left) (length_expression next left) at in
+        let end : n + 1 ≡ next + (expression_size left + (expression_size right + 1)) = omega arith in
+        evaluates_at g l (n + 1) (next + (expression_size left + (expression_size right + 1))) stack (and_then (value (setting g) k left s) (λ v t. and_then (value (setting g) k right t) (more v))) end
+        (leads_on (Arrives g l m stack) (Arrives g l (n + 1) stack) (Finishes g) (value (setting g) k left s) _
+        (left_runs next stack s here (has_front (code g l).ops next first (second ++ op ∷ []) at) (omega arith) (omega arith))
+        (λ v t x. leads_on (Arrives g l n (word_of g v ∷ stack)) (Arrives g l (n + 1) stack) (Finishes g) (value (setting g) k right t) (more v)
+        (right_runs m (word_of g v ∷ stack) t x.0 (has_front (code g l).ops m second (op ∷ []) back) (omega arith) (omega arith))
+        (λ w u y. behind n v w u x.1 y.1 y.0 (has_back (code g l).ops m second (op ∷ []) (expression_size right) (length_expression m right) back).0 (omega (arith, stack_above left)))))
+
+    -- the arguments of a call, its instructions, and what follows the call
+    pub called_runs : {A : Type 0} (H : A → meaning.State → Type 0) (args : core.Arguments) (op : Op) (call : List Value → meaning.State → Result (Option Value)) (more : Option Value → meaning.State → Result A) → ArgumentsRun args → (next : ℕ) (stack : List ℕ) (s : meaning.State) → ((m : ℕ) (vs : List Value) (t : meaning.State) → Piles m stack vs t → HasAt (code g l).ops m (ops.Tick ∷ (op ∷ [])) → Leads (Resumes g l (m + 1 + 1) stack) (Finishes g) (call vs t)) → ((v : Option Value) (t : meaning.State) → Resumes g l (next + (arguments_size args + 2)) stack v t → Leads H (Finishes g) (more v t)) → Here g l next stack s → HasAt (code g l).ops next (arguments_code next args ++ ops.Tick ∷ (op ∷ [])) → length stack + arguments_stack args ≤ (code g l).stack → next + (arguments_size args + 2) < length (code g l).ops → Leads H (Finishes g) (and_then (values (setting g) k args s) (λ vs t. and_then (call vs t) more))
+    called_runs H args op call more args_run next stack s calls behind here at room low =
+        let m = next + arguments_size args in
+        let last = ops.Tick ∷ (op ∷ []) in
+        let end : m + 1 + 1 ≡ next + (arguments_size args + 2) = omega arith in
+        leads_on (Piles m stack) H (Finishes g) (values (setting g) k args s) _
+        (args_run next stack s here (has_front (code g l).ops next (arguments_code next args) last at) room (omega arith))
+        (λ vs t x. leads_on (Resumes g l (m + 1 + 1) stack) H (Finishes g) (call vs t) more
+        (calls m vs t x (has_back (code g l).ops next (arguments_code next args) last (arguments_size args) (length_arguments next args) at))
+        (λ v u y. behind v u (subst (λ n. Resumes g l n stack v u) end y)))
+
     mutual
       -- the value of an expression
       pub value_runs : (e : core.Expression) (next : ℕ) (stack : List ℕ) (s : meaning.State) → Here g l next stack s → HasAt (code g l).ops next (expression_code next e) → length stack + expression_stack e ≤ (code g l).stack → next + expression_size e < length (code g l).ops → Evaluates g l (next + expression_size e) stack (value (setting g) k e s)
@@ -56,89 +90,44 @@ module _ (g : Execution) (l : Layout g) where
       value_runs core.Null next stack s here at room low = (pushes g l next stack s (ops.Const (pos 0)) 0 stack here at.0 (omega arith) (λ scratch. refl), tt)
       value_runs (core.Local n) next stack s here at room low = local_runs g l next stack s n (slice_get s.locals n) refl here at.0 (omega arith)
       value_runs (core.Load type p) next stack s here at room low =
-          let cells = place_code next p in
+          let m = next + place_size p in
           let last = load_code type ∷ [] in
-          let end : next + place_size p + 1 ≡ next + (place_size p + 1) = omega arith in
-          evaluates_at g l (next + place_size p + 1) (next + (place_size p + 1)) stack (value (setting g) k (core.Load type p) s) end
-          (leads_on (Placed g l (next + place_size p) stack) (Arrives g l (next + place_size p + 1) stack) (Finishes g) (place (setting g) k p s) (load_at type)
-          (place_runs p next stack s here (has_front (code g l).ops next cells last at) room (omega arith))
-          (λ where_ t x. load_runs g l (next + place_size p) stack t type where_ x (has_back (code g l).ops next cells last (place_size p) (length_place next p) at).0 (omega (arith, place_above p))))
+          let end : m + 1 ≡ next + (place_size p + 1) = omega arith in
+          evaluates_at g l (m + 1) (next + (place_size p + 1)) stack (value (setting g) k (core.Load type p) s) end
+          (leads_on (Placed g l m stack) (Arrives g l (m + 1) stack) (Finishes g) (place (setting g) k p s) (load_at type)
+          (place_runs p next stack s here (has_front (code g l).ops next (place_code next p) last at) room (omega arith))
+          (λ at_cell t x. load_runs g l m stack t type at_cell x (has_back (code g l).ops next (place_code next p) last (place_size p) (length_place next p) at).0 (omega (arith, place_above p))))
       value_runs (core.AddressOf object cell offset) next stack s here at room low =
-          leads_on (Placed g l (next + (1 + offset_size offset)) stack) (Arrives g l (next + (1 + offset_size offset)) stack) (Finishes g) (place_in object cell offset s) pointer_to
+          let m = next + (1 + offset_size offset) in
+          leads_on (Placed g l m stack) (Arrives g l m stack) (Finishes g) (place_in object cell offset s) pointer_to
           (direct_runs g l next stack s object cell offset (slice_get s.blocks object) refl here at room)
-          (λ where_ t x. pointer_runs g l (next + (1 + offset_size offset)) stack t where_ x)
+          (λ at_cell t x. pointer_runs g l m stack t at_cell x)
       value_runs (core.AddressThrough pointer cell offset site) next stack s here at room low =
+          let m = next + expression_size pointer in
+          let n = m + (1 + offset_size offset) in
           let first = expression_code next pointer in
           let last = through_code offset site in
-          let end : next + expression_size pointer + (1 + offset_size offset) ≡ next + (expression_size pointer + (1 + offset_size offset)) = omega arith in
-          evaluates_at g l (next + expression_size pointer + (1 + offset_size offset)) (next + (expression_size pointer + (1 + offset_size offset))) stack (value (setting g) k (core.AddressThrough pointer cell offset site) s) end
-          (leads_on (Arrives g l (next + expression_size pointer) stack) (Arrives g l (next + expression_size pointer + (1 + offset_size offset)) stack) (Finishes g) (value (setting g) k pointer s) _
+          let end : n ≡ next + (expression_size pointer + (1 + offset_size offset)) = omega arith in
+          evaluates_at g l n (next + (expression_size pointer + (1 + offset_size offset))) stack (value (setting g) k (core.AddressThrough pointer cell offset site) s) end
+          (leads_on (Arrives g l m stack) (Arrives g l n stack) (Finishes g) (value (setting g) k pointer s) _
           (value_runs pointer next stack s here (has_front (code g l).ops next first last at) (omega arith) (omega arith))
-          (λ v t x. leads_on (Placed g l (next + expression_size pointer + (1 + offset_size offset)) stack) (Arrives g l (next + expression_size pointer + (1 + offset_size offset)) stack) (Finishes g) (place_through cell offset site v t) pointer_to
-          (through_runs g l (next + expression_size pointer) stack t cell offset site v x.1 x.0 (has_back (code g l).ops next first last (expression_size pointer) (length_expression next pointer) at) (omega arith))
-          (λ where_ u y. pointer_runs g l (next + expression_size pointer + (1 + offset_size offset)) stack u where_ y)))
+          (λ v t x. leads_on (Placed g l n stack) (Arrives g l n stack) (Finishes g) (place_through cell offset site v t) pointer_to
+          (through_runs g l m stack t cell offset site v x.1 x.0 (has_back (code g l).ops next first last (expression_size pointer) (length_expression next pointer) at) (omega arith))
+          (λ at_cell u y. pointer_runs g l n stack u at_cell y)))
       value_runs (core.Negate operand site) next stack s here at room low =
-          let first = expression_code next operand in
-          let last = ops.Neg site.place ∷ [] in
-          let end : next + expression_size operand + 1 ≡ next + (expression_size operand + 1) = omega arith in
-          evaluates_at g l (next + expression_size operand + 1) (next + (expression_size operand + 1)) stack (value (setting g) k (core.Negate operand site) s) end
-          (one_operand next (next + expression_size operand) (next + expression_size operand + 1) stack (value (setting g) k operand s) (negated site)
-          (value_runs operand next stack s here (has_front (code g l).ops next first last at) room (omega arith))
-          (λ v t x. negation_runs g l (next + expression_size operand) stack t site v x.1 x.0 (has_back (code g l).ops next first last (expression_size operand) (length_expression next operand) at).0 (omega (arith, stack_above operand))))
+          unary_runs operand (ops.Neg site.place) (negated site) (value_runs operand) next stack s (λ m v t. negation_runs g l m stack t site v) here at room low
       value_runs (core.Complement operand) next stack s here at room low =
-          let first = expression_code next operand in
-          let last = ops.Not ∷ [] in
-          let end : next + expression_size operand + 1 ≡ next + (expression_size operand + 1) = omega arith in
-          evaluates_at g l (next + expression_size operand + 1) (next + (expression_size operand + 1)) stack (value (setting g) k (core.Complement operand) s) end
-          (one_operand next (next + expression_size operand) (next + expression_size operand + 1) stack (value (setting g) k operand s) complemented
-          (value_runs operand next stack s here (has_front (code g l).ops next first last at) room (omega arith))
-          (λ v t x. complement_runs g l (next + expression_size operand) stack t v x.1 x.0 (has_back (code g l).ops next first last (expression_size operand) (length_expression next operand) at).0 (omega (arith, stack_above operand))))
+          unary_runs operand ops.Not complemented (value_runs operand) next stack s (λ m v t. complement_runs g l m stack t v) here at room low
       value_runs (core.Not operand) next stack s here at room low =
-          let first = expression_code next operand in
-          let last = ops.Zero ∷ [] in
-          let end : next + expression_size operand + 1 ≡ next + (expression_size operand + 1) = omega arith in
-          evaluates_at g l (next + expression_size operand + 1) (next + (expression_size operand + 1)) stack (value (setting g) k (core.Not operand) s) end
-          (one_operand next (next + expression_size operand) (next + expression_size operand + 1) stack (value (setting g) k operand s) (λ v t. Gives (number_of_test (not (truth v))) t)
-          (value_runs operand next stack s here (has_front (code g l).ops next first last at) room (omega arith))
-          (λ v t x. zero_runs g l (next + expression_size operand) stack t v x.1 x.0 (has_back (code g l).ops next first last (expression_size operand) (length_expression next operand) at).0 (omega (arith, stack_above operand))))
+          unary_runs operand ops.Zero (λ v t. Gives (number_of_test (not (truth v))) t) (value_runs operand) next stack s (λ m v t. zero_runs g l m stack t v) here at room low
       value_runs (core.LowByte operand) next stack s here at room low =
-          let first = expression_code next operand in
-          let last = ops.Byte ∷ [] in
-          let end : next + expression_size operand + 1 ≡ next + (expression_size operand + 1) = omega arith in
-          evaluates_at g l (next + expression_size operand + 1) (next + (expression_size operand + 1)) stack (value (setting g) k (core.LowByte operand) s) end
-          (one_operand next (next + expression_size operand) (next + expression_size operand + 1) stack (value (setting g) k operand s) low_byte_of
-          (value_runs operand next stack s here (has_front (code g l).ops next first last at) room (omega arith))
-          (λ v t x. low_byte_runs g l (next + expression_size operand) stack t v x.1 x.0 (has_back (code g l).ops next first last (expression_size operand) (length_expression next operand) at).0 (omega (arith, stack_above operand))))
+          unary_runs operand ops.Byte low_byte_of (value_runs operand) next stack s (λ m v t. low_byte_runs g l m stack t v) here at room low
       value_runs (core.Arithmetic operator left right site) next stack s here at room low =
-          let last = operator_code operator site ∷ [] in
-          let second = expression_code (next + expression_size left) right in
-          let back = has_back (code g l).ops next (expression_code next left) (second ++ last) (expression_size left) (length_expression next left) at in
-          let end : next + expression_size left + expression_size right + 1 ≡ next + (expression_size left + (expression_size right + 1)) = omega arith in
-          evaluates_at g l (next + expression_size left + expression_size right + 1) (next + (expression_size left + (expression_size right + 1))) stack (value (setting g) k (core.Arithmetic operator left right site) s) end
-          (two_operands (next + expression_size left) (next + expression_size left + expression_size right) (next + expression_size left + expression_size right + 1) stack (value (setting g) k left s) (value (setting g) k right) (arithmetic_of operator site)
-          (value_runs left next stack s here (has_front (code g l).ops next (expression_code next left) (second ++ last) at) (omega arith) (omega arith))
-          (λ v t x. value_runs right (next + expression_size left) (word_of g v ∷ stack) t x.0 (has_front (code g l).ops (next + expression_size left) second last back) (omega arith) (omega arith))
-          (λ v w t kept y. operator_runs g l (next + expression_size left + expression_size right) stack t operator site v w kept y.1 y.0 (has_back (code g l).ops (next + expression_size left) second last (expression_size right) (length_expression (next + expression_size left) right) back).0 (omega (arith, stack_above left))))
+          binary_runs left right (operator_code operator site) (arithmetic_of operator site) (value_runs left) (value_runs right) next stack s (λ m v w t. operator_runs g l m stack t operator site v w) here at room low
       value_runs (core.Compare comparison left right) next stack s here at room low =
-          let last = comparison_code comparison ∷ [] in
-          let second = expression_code (next + expression_size left) right in
-          let back = has_back (code g l).ops next (expression_code next left) (second ++ last) (expression_size left) (length_expression next left) at in
-          let end : next + expression_size left + expression_size right + 1 ≡ next + (expression_size left + (expression_size right + 1)) = omega arith in
-          evaluates_at g l (next + expression_size left + expression_size right + 1) (next + (expression_size left + (expression_size right + 1))) stack (value (setting g) k (core.Compare comparison left right) s) end
-          (two_operands (next + expression_size left) (next + expression_size left + expression_size right) (next + expression_size left + expression_size right + 1) stack (value (setting g) k left s) (value (setting g) k right) (compared comparison)
-          (value_runs left next stack s here (has_front (code g l).ops next (expression_code next left) (second ++ last) at) (omega arith) (omega arith))
-          (λ v t x. value_runs right (next + expression_size left) (word_of g v ∷ stack) t x.0 (has_front (code g l).ops (next + expression_size left) second last back) (omega arith) (omega arith))
-          (λ v w t kept y. comparison_runs g l (next + expression_size left + expression_size right) stack t comparison v w kept y.1 y.0 (has_back (code g l).ops (next + expression_size left) second last (expression_size right) (length_expression (next + expression_size left) right) back).0 (omega (arith, stack_above left))))
+          binary_runs left right (comparison_code comparison) (compared comparison) (value_runs left) (value_runs right) next stack s (λ m v w t. comparison_runs g l m stack t comparison v w) here at room low
       value_runs (core.Same left right) next stack s here at room low =
-          let last = ops.Equal ∷ [] in
-          let second = expression_code (next + expression_size left) right in
-          let back = has_back (code g l).ops next (expression_code next left) (second ++ last) (expression_size left) (length_expression next left) at in
-          let end : next + expression_size left + expression_size right + 1 ≡ next + (expression_size left + (expression_size right + 1)) = omega arith in
-          evaluates_at g l (next + expression_size left + expression_size right + 1) (next + (expression_size left + (expression_size right + 1))) stack (value (setting g) k (core.Same left right) s) end
-          (two_operands (next + expression_size left) (next + expression_size left + expression_size right) (next + expression_size left + expression_size right + 1) stack (value (setting g) k left s) (value (setting g) k right) (λ v w t. test_given (same_place v w) t)
-          (value_runs left next stack s here (has_front (code g l).ops next (expression_code next left) (second ++ last) at) (omega arith) (omega arith))
-          (λ v t x. value_runs right (next + expression_size left) (word_of g v ∷ stack) t x.0 (has_front (code g l).ops (next + expression_size left) second last back) (omega arith) (omega arith))
-          (λ v w t kept y. same_runs g l (next + expression_size left + expression_size right) stack t v w kept y.1 y.0 (has_back (code g l).ops (next + expression_size left) second last (expression_size right) (length_expression (next + expression_size left) right) back).0 (omega (arith, stack_above left))))
+          binary_runs left right ops.Equal (λ v w t. test_given (same_place v w) t) (value_runs left) (value_runs right) next stack s (λ m v w t. same_runs g l m stack t v w) here at room low
       value_runs (core.AndAlso left right) next stack s here at room low =
           let m = next + expression_size left in
           let n = expression_size right in
@@ -148,7 +137,7 @@ module _ (g : Execution) (l : Layout g) where
           let back = has_back (code g l).ops next (expression_code next left) rest (expression_size left) (length_expression next left) at in
           let end : m + 1 + n + 4 ≡ next + (expression_size left + (n + 5)) = omega arith in
           evaluates_at g l (m + 1 + n + 4) (next + (expression_size left + (n + 5))) stack (value (setting g) k (core.AndAlso left right) s) end
-          (one_operand next m (m + 1 + n + 4) stack (value (setting g) k left s) _
+          (leads_on (Arrives g l m stack) (Arrives g l (m + 1 + n + 4) stack) (Finishes g) (value (setting g) k left s) _
           (value_runs left next stack s here (has_front (code g l).ops next (expression_code next left) rest at) (omega arith) (omega arith))
           (λ v t x. and_runs g l m n stack t v (truth v) (value (setting g) k right t) refl x.1 x.0 back.0 (has_back (code g l).ops (m + 1) second last n (length_expression (m + 1) right) back.1) (omega arith) (omega (arith, stack_above left))
           (λ inside. value_runs right (m + 1) stack t inside (has_front (code g l).ops (m + 1) second last back.1) (omega arith) (omega arith))))
@@ -163,30 +152,16 @@ module _ (g : Execution) (l : Layout g) where
           let behind = subst (λ i. HasAt (code g l).ops i (second ++ last)) three back.1.1.1 in
           let end : m + 3 + n + 2 ≡ next + (expression_size left + (n + 5)) = omega arith in
           evaluates_at g l (m + 3 + n + 2) (next + (expression_size left + (n + 5))) stack (value (setting g) k (core.OrElse left right) s) end
-          (one_operand next m (m + 3 + n + 2) stack (value (setting g) k left s) _
+          (leads_on (Arrives g l m stack) (Arrives g l (m + 3 + n + 2) stack) (Finishes g) (value (setting g) k left s) _
           (value_runs left next stack s here (has_front (code g l).ops next (expression_code next left) rest at) (omega arith) (omega arith))
           (λ v t x. or_runs g l m n stack t v (truth v) (value (setting g) k right t) refl x.1 x.0 (back.0, (back.1.0, (back.1.1.0, tt))) (has_back (code g l).ops (m + 3) second last n (length_expression (m + 3) right) behind) (omega arith) (omega (arith, stack_above left))
           (λ inside. value_runs right (m + 3) stack t inside (has_front (code g l).ops (m + 3) second last behind) (omega arith) (omega arith))))
       value_runs (core.Call function args) next stack s here at room low =
-          let last = ops.Tick ∷ (ops.Call function ∷ []) in
-          let m = next + arguments_size args in
-          let end : m + 1 + 1 ≡ next + (arguments_size args + 2) = omega arith in
-          evaluates_at g l (m + 1 + 1) (next + (arguments_size args + 2)) stack (value (setting g) k (core.Call function args) s) end
-          (leads_on (Piles m stack) (Arrives g l (m + 1 + 1) stack) (Finishes g) (values (setting g) k args s) _
-          (arguments_run args next stack s here (has_front (code g l).ops next (arguments_code next args) last at) (omega arith) (omega arith))
-          (λ vs t x. leads_on (Resumes g l (m + 1 + 1) stack) (Arrives g l (m + 1 + 1) stack) (Finishes g) (call_trusted (setting g) k function vs t) result_given
-          (call_runs g l k runs m stack t function vs x.kept x.here (has_back (code g l).ops next (arguments_code next args) last (arguments_size args) (length_arguments next args) at) (omega arith))
-          (given_result (m + 1 + 1) stack)))
+          called_runs (Arrives g l (next + (arguments_size args + 2)) stack) args (ops.Call function) (call_trusted (setting g) k function) result_given (arguments_run args) next stack s
+          (λ m vs t x back. call_runs g l k runs m stack t function vs x.kept x.here back (omega arith)) (given_result (next + (arguments_size args + 2)) stack) here at (omega arith) low
       value_runs (core.TaintedCall import args site) next stack s here at room low =
-          let last = ops.Tick ∷ (ops.TaintedCall import site.place ∷ []) in
-          let m = next + arguments_size args in
-          let end : m + 1 + 1 ≡ next + (arguments_size args + 2) = omega arith in
-          evaluates_at g l (m + 1 + 1) (next + (arguments_size args + 2)) stack (value (setting g) k (core.TaintedCall import args site) s) end
-          (leads_on (Piles m stack) (Arrives g l (m + 1 + 1) stack) (Finishes g) (values (setting g) k args s) _
-          (arguments_run args next stack s here (has_front (code g l).ops next (arguments_code next args) last at) (omega arith) (omega arith))
-          (λ vs t x. leads_on (Resumes g l (m + 1 + 1) stack) (Arrives g l (m + 1 + 1) stack) (Finishes g) (call_tainted (setting g) import (slice_get g.program.imports import) site vs t) result_given
-          (tainted_runs g l m stack t import site vs x.here (has_back (code g l).ops next (arguments_code next args) last (arguments_size args) (length_arguments next args) at) (omega arith))
-          (given_result (m + 1 + 1) stack)))
+          called_runs (Arrives g l (next + (arguments_size args + 2)) stack) args (ops.TaintedCall import site.place) (call_tainted (setting g) import (slice_get g.program.imports import) site) result_given (arguments_run args) next stack s
+          (λ m vs t x back. tainted_runs g l m stack t import site vs x.here back (omega arith)) (given_result (next + (arguments_size args + 2)) stack) here at (omega arith) low
       value_runs core.NextInput next stack s here at room low = input_runs g l next stack s here at.0 (omega arith)
 
       -- the values of arguments
