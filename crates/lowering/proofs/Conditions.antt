@@ -31,15 +31,15 @@ module _ (g : Execution) (l : Layout g) where
   -- the right operand counts, where the left one holds
   pub and_runs : (next size : ℕ) (stack : List ℕ) (s : meaning.State) (v : Value) (test : Bool) (o : Result Value) → truth v ≡ test → IsKept g v → Here g l next (word_of g v ∷ stack) s → slice_get (code g l).ops next ≡ Some (ops.JumpIfZero (next + 1 + size + 3)) → HasAt (code g l).ops (next + 1 + size) (ops.Zero ∷ (ops.Zero ∷ (ops.Jump (next + 1 + size + 4) ∷ (ops.Const (pos 0) ∷ [])))) → next + 1 + size + 4 < length (code g l).ops → length stack < (code g l).stack → (Here g l (next + 1) stack s → Evaluates g l (next + 1 + size) stack o) → Evaluates g l (next + 1 + size + 4) stack (choose test (and_then o (λ b u. Gives (number_of_test (truth b)) u)) (Gives (number_of_test false) s))
   and_runs next size stack s v true o is kept here branch at low room right =
-      let zero_ : (word_of g v == 0) ≡ false = truth_word g v kept ∙ ap not is in
-      let inside = branch_runs g l next (word_of g v) stack s (next + 1 + size + 3) false zero_ (omega arith) here branch in
+      let is_zero_word : (word_of g v == 0) ≡ false = truth_word g v kept ∙ ap not is in
+      let inside = branch_runs g l next (word_of g v) stack s (next + 1 + size + 3) false is_zero_word (omega arith) here branch in
       leads_on (Arrives g l (next + 1 + size) stack) (Arrives g l (next + 1 + size + 4) stack) (Finishes g) o (λ b u. Gives (number_of_test (truth b)) u) (right inside)
       (λ b u x.
       let y = truth_runs (next + 1 + size) stack u b x.1 x.0 at.0 at.1.0 room in
       (jump_runs g l (next + 1 + size + 1 + 1) (word_of g (number_of_test (truth b)) ∷ stack) (word_of g (number_of_test (truth b)) ∷ stack) u (ops.Jump (next + 1 + size + 4)) (next + 1 + size + 4) low y.0 at.1.1.0 (λ scratch. refl), y.1))
   and_runs next size stack s v false o is kept here branch at low room right =
-      let zero_ : (word_of g v == 0) ≡ true = truth_word g v kept ∙ ap not is in
-      let past = branch_runs g l next (word_of g v) stack s (next + 1 + size + 3) true zero_ (omega arith) here branch in
+      let is_zero_word : (word_of g v == 0) ≡ true = truth_word g v kept ∙ ap not is in
+      let past = branch_runs g l next (word_of g v) stack s (next + 1 + size + 3) true is_zero_word (omega arith) here branch in
       let place : next + 1 + size + 3 ≡ next + 1 + size + 1 + 1 + 1 = omega arith in
       let end : next + 1 + size + 1 + 1 + 1 + 1 ≡ next + 1 + size + 4 = omega arith in (
         here_at g l (next + 1 + size + 1 + 1 + 1 + 1) (next + 1 + size + 4) (0 ∷ stack) s end
@@ -50,13 +50,13 @@ module _ (g : Execution) (l : Layout g) where
   -- the right operand counts, where the left one fails
   pub or_runs : (next size : ℕ) (stack : List ℕ) (s : meaning.State) (v : Value) (test : Bool) (o : Result Value) → truth v ≡ test → IsKept g v → Here g l next (word_of g v ∷ stack) s → HasAt (code g l).ops next (ops.JumpIfZero (next + 3) ∷ (ops.Const (pos 1) ∷ (ops.Jump (next + 3 + size + 2) ∷ []))) → HasAt (code g l).ops (next + 3 + size) (ops.Zero ∷ (ops.Zero ∷ [])) → next + 3 + size + 2 < length (code g l).ops → length stack < (code g l).stack → (Here g l (next + 3) stack s → Evaluates g l (next + 3 + size) stack o) → Evaluates g l (next + 3 + size + 2) stack (choose test (Gives (number_of_test true) s) (and_then o (λ b u. Gives (number_of_test (truth b)) u)))
   or_runs next size stack s v true o is kept here front at low room right =
-      let zero_ : (word_of g v == 0) ≡ false = truth_word g v kept ∙ ap not is in
-      let inside = branch_runs g l next (word_of g v) stack s (next + 3) false zero_ (omega arith) here front.0 in
+      let is_zero_word : (word_of g v == 0) ≡ false = truth_word g v kept ∙ ap not is in
+      let inside = branch_runs g l next (word_of g v) stack s (next + 3) false is_zero_word (omega arith) here front.0 in
       let one = pushes g l (next + 1) stack s (ops.Const (pos 1)) 1 stack inside front.1.0 room (λ scratch. refl) in
       (jump_runs g l (next + 1 + 1) (1 ∷ stack) (1 ∷ stack) s (ops.Jump (next + 3 + size + 2)) (next + 3 + size + 2) low one front.1.1.0 (λ scratch. refl), refl)
   or_runs next size stack s v false o is kept here front at low room right =
-      let zero_ : (word_of g v == 0) ≡ true = truth_word g v kept ∙ ap not is in
-      let past = branch_runs g l next (word_of g v) stack s (next + 3) true zero_ (omega arith) here front.0 in
+      let is_zero_word : (word_of g v == 0) ≡ true = truth_word g v kept ∙ ap not is in
+      let past = branch_runs g l next (word_of g v) stack s (next + 3) true is_zero_word (omega arith) here front.0 in
       let end : next + 3 + size + 1 + 1 ≡ next + 3 + size + 2 = omega arith in
       leads_on (Arrives g l (next + 3 + size) stack) (Arrives g l (next + 3 + size + 2) stack) (Finishes g) o (λ b u. Gives (number_of_test (truth b)) u) (right past)
       (λ b u x. subst (λ n. Arrives g l n stack (number_of_test (truth b)) u) end (truth_runs (next + 3 + size) stack u b x.1 x.0 at.0 at.1.0 room))

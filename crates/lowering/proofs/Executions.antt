@@ -196,7 +196,7 @@ module _ (base size : ℕ) (all : List Block) (bytes tail : List ℕ) where
   held_from pre offset (block ∷ blocks) long room full within e =
       let n = sum (strides block) in
       let content = block_content base (shape all) block in
-      let zeros = replicate (rounded_up (length content) - length content + 16) 0 in
+      let zeros : List ℕ = replicate (rounded_up (length content) - length content + 16) 0 in
       let rest = spread (map (block_content base (shape all)) blocks) in
       let size_is = length_block base (shape all) block room.0 in
       let kept : is_refused size offset n ≡ false = let far = end_least (grown offset n) (shape blocks) in let some : 1 ≤ n = full.0.1 in grind (arith, nat_tests) in

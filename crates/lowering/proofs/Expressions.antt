@@ -230,6 +230,6 @@ module _ (g : Execution) (l : Layout g) where
       moved g l next old s op target stack s here at here.kept (λ scratch. is scratch ∙ rw test refl)
 
   -- by a condition's word: to the target where it is 0, and else to the next instruction
-  pub branch_runs : (next : ℕ) (w : ℕ) (stack : List ℕ) (s : meaning.State) (target : ℕ) (zero_ : Bool) → (w == 0) ≡ zero_ → target < length (code g l).ops → Here g l next (w ∷ stack) s → slice_get (code g l).ops next ≡ Some (ops.JumpIfZero target) → Here g l (chosen zero_ target (next + 1)) stack s
+  pub branch_runs : (next : ℕ) (w : ℕ) (stack : List ℕ) (s : meaning.State) (target : ℕ) (is_zero_word : Bool) → (w == 0) ≡ is_zero_word → target < length (code g l).ops → Here g l next (w ∷ stack) s → slice_get (code g l).ops next ≡ Some (ops.JumpIfZero target) → Here g l (chosen is_zero_word target (next + 1)) stack s
   branch_runs next w stack s target true test low here at = jump_runs next (w ∷ stack) stack s (ops.JumpIfZero target) target low here at (λ scratch. rw test refl)
   branch_runs next w stack s target false test low here at = moved g l next (w ∷ stack) s (ops.JumpIfZero target) (next + 1) stack s here at here.kept (λ scratch. rw test refl)

@@ -113,13 +113,14 @@ module _ (base : ℕ) (rows : List (List ℕ)) where
         let size = length s.pre + (width_if (is_char c.type) + length s.post) in
         let rest = spread (map block_content blocks) in
         let long = λ (v : Value). length-append s.pre (value_bytes c v ++ s.post) ∙ ap (λ n. length s.pre + n) (length-append (value_bytes c v) s.post ∙ ap (λ n. n + length s.post) (length_word (is_char c.type) (word_in base rows v))) in
-        record {
+        subst (λ x. BlockSeam offset (x ∷ blocks) zero cell cells c) (sym e)
+        (record {
           pre = s.pre;
           post = s.post ++ (replicate (rounded_up size - size + 16) 0 ++ (rest ++ tail));
           at = omega (arith, s.at);
-          now = ap (λ x. spread (block_content x ∷ map block_content blocks) ++ tail) e ∙ split_block (block_content cells) rest s.pre (value_bytes c c.value) s.post size s.now (ap length s.now ∙ long c.value);
+          now = split_block (block_content cells) rest s.pre (value_bytes c c.value) s.post size s.now (ap length s.now ∙ long c.value);
           new = λ v. split_block (block_content (slice_set cells cell (record c { value = v }))) rest s.pre (value_bytes c v) s.post size (s.new v) (ap length (s.new v) ∙ long v);
-        }
+        })
     block_seam offset (first ∷ blocks) (suc block) cell cells c all there h =
         let front = block_content first ++ gap (block_content first) in
         let s = block_seam (grown offset (sum (strides first))) blocks block cell cells c all.1 there h in

@@ -62,18 +62,20 @@ all_append : {X : Type 0} (P : X → Type 0) (xs ys : List X) → AllByRecursion
 all_append P [] ys a b = b
 all_append P (x ∷ xs) ys a b = (a.0, all_append P xs ys a.1 b)
 
+-- words with zeros behind them, of which the last one stands apart
+zeros_behind : (words zeros : List ℕ) (n k : ℕ) → n ≡ k + 1 → zeros ≡ replicate k 0 → words ++ replicate n 0 ≡ (words ++ zeros) ++ 0 ∷ []
+zeros_behind words zeros n k e z =
+    ap (λ m. words ++ replicate m 0) e ∙ ap (λ l. words ++ l) (sym (replicate-append-replicate k 1 0)) ∙ sym (append_assoc words (replicate k 0) (0 ∷ [])) ∙ ap (λ l. (words ++ l) ++ 0 ∷ []) (sym z)
+
 -- the slots of a function that is called are its locals and the scratch slot
 slots_are : (g : Execution) (number : ℕ) (f : Function) (values : List Value) → f.parameters ≡ length values → f.parameters ≤ length f.locals → slots_for (function_code number f) (map (word_of g) values) ≡ map (word_of g) (locals_for f values) ++ 0 ∷ []
 slots_are g number f values count held =
-    let words = map (word_of g) values in
     let others = drop f.parameters f.locals in
-    let zeros : List ℕ = replicate (length others) 0 in
+    let words = map (word_of g) values in
+    let zeros = map (word_of g) (map zero_of others) in
     let n : length f.locals + 1 - length words ≡ length others + 1 = omega (arith, length-map values (word_of g), length-drop f.parameters f.locals) in
-    ap (λ k. words ++ replicate k 0) n
-    ∙ ap (λ l. words ++ l) (sym (replicate-append-replicate (length others) 1 0))
-    ∙ sym (append_assoc words zeros (0 ∷ []))
-    ∙ ap (λ l. (words ++ l) ++ 0 ∷ []) (sym (zeros_words g others))
-    ∙ ap (λ l. l ++ 0 ∷ []) (sym (map-append (word_of g) values (map zero_of others)))
+    let joined : map (word_of g) (locals_for f values) ≡ words ++ zeros = map-append (word_of g) values (map zero_of others) in
+    rw joined (zeros_behind words zeros (length f.locals + 1 - length words) (length others) n (zeros_words g others))
 
 -- ---- the body of a function
 
@@ -86,8 +88,8 @@ module _ (g : Execution) (l : Layout g) where
   ending_runs : (result : Option CType) (next : ℕ) (s : meaning.State) → Here g l next [] s → HasAt (code g l).ops next (ending_code result) → 1 ≤ (code g l).stack → Leaving (default_result result) s
   ending_runs None next s here at room = nothing_runs g l next s here at.0
   ending_runs (Some type) next s here at room =
-      let zero_ = pushes g l next [] s (ops.Const (pos 0)) 0 [] here at.0 room (λ scratch. refl) in
-      return_runs g l (next + 1) s (zero_of type) (subst (λ w. Here g l (next + 1) (w ∷ []) s) (sym (zero_word g type)) zero_, zero_kept g type) at.1.0
+      let pushed = pushes g l next [] s (ops.Const (pos 0)) 0 [] here at.0 room (λ scratch. refl) in
+      return_runs g l (next + 1) s (zero_of type) (subst (λ w. Here g l (next + 1) (w ∷ []) s) (sym (zero_word g type)) pushed, zero_kept g type) at.1.0
 
   answers : (p : Places) (result : Option CType) (next : ℕ) (flow : Flow) (s : meaning.State) → HasAt (code g l).ops next (ending_code result) → 1 ≤ (code g l).stack → FlowsTo g l p next flow s → Leads Leaving (Finishes g) (answer result flow s)
   answers p result next Next s at room h = ending_runs result next s h at room

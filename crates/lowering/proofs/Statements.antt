@@ -10,21 +10,21 @@ use Rattle.ckc_core.specs.declared.program.Operator.{Operator}
 use Rattle.ckc_core.specs.Core as core
 use Rattle.ckc_core.specs.States.{Value, Number, Null, At, Block, stands_at}
 use Rattle.ckc_core.specs.States as meaning
-use Rattle.ckc_core.specs.Meaning.{Result, Knot, Flow, Next, Broke, Continued, Returned, is_char, given, truth, value, values, place, place_where, pointer_of, load_at, store_at, arithmetic_of, kept_if, set_local, printed, put, on_next, behind_turn, behind_step, no_result, choose, call_trusted, call_tainted, effect, effects}
+use Rattle.ckc_core.specs.Meaning.{Result, Knot, Flow, Next, Broke, Continued, Returned, is_char, given, truth, value, place, place_where, pointer_of, load_at, store_at, arithmetic_of, kept_if, set_local, printed, put, on_next, behind_turn, behind_step, no_result, choose, call_trusted, call_tainted, effect, effects}
 use Rattle.code_words.specs.declared.op.Op.{Op}
 use Rattle.code_words.specs.declared.op.Op.TheVariants as ops
-use Rattle.lowering.specs.Code.{Places, operator_code, load_code, store_code, address_code, byte_code, byte_size, offset_size, expression_size, arguments_size, place_size, statement_size, statements_size, expression_code, arguments_code, place_code, behind_value, statement_code, statements_code}
-use Rattle.lowering.specs.Stacks.{offset_stack, statement_stack, statements_stack}
+use Rattle.lowering.specs.Code.{Places, operator_code, load_code, store_code, address_code, byte_code, byte_size, offset_size, expression_size, arguments_size, place_size, statement_size, statements_size, expression_code, place_code, behind_value, statement_code, statements_code}
+use Rattle.lowering.specs.Stacks.{expression_stack, offset_stack, statement_stack, statements_stack}
 use Rattle.lowering.proofs.Numbers.{signed-word}
 use Rattle.lowering.proofs.Worlds.{KeptWorld}
 use Rattle.lowering.proofs.Executions.{Execution, word_of, IsKept}
 use Rattle.lowering.proofs.Steps.{HasAt, has_front, has_back, Leads, leads_on, leads_to, asks_on, Finishes, Layout, code, frame, Here, kept_in, fetched, moved, pushes, here_at, Arrives}
-use Rattle.lowering.proofs.Sizes.{length_offset, length_byte, length_expression, length_arguments, length_place, length_statement}
+use Rattle.lowering.proofs.Sizes.{length_offset, length_byte, length_expression, length_place, length_statement}
 use Rattle.lowering.proofs.Expressions.{local_runs, operator_runs, tick_runs, jump_runs, branch_runs}
 use Rattle.lowering.proofs.Places.{address_of, Placed, direct_runs, load_runs, truth_word}
 use Rattle.lowering.proofs.Calls.{Leaves, FlowsTo, Affects, ArePlaces, test_of, KnotRuns, Resumes, call_runs}
 use Rattle.lowering.proofs.Tainted.{tainted_runs}
-use Rattle.lowering.proofs.Values.{setting, Piles, value_runs, arguments_run, place_runs}
+use Rattle.lowering.proofs.Values.{setting, called_runs, value_runs, arguments_run, place_runs}
 use Rattle.lowering.proofs.Stores.{store_runs, set_runs, byte_runs, through_store_runs}
 
 stack_of_offset : (offset n : ℕ) → 2 ≤ n → offset_stack offset ≤ n
@@ -83,7 +83,7 @@ module _ (g : Execution) (l : Layout g) where
       by false h = tt
 
   -- a store to a variable, whose address and value lie on the stack
-  direct_store_runs : (next : ℕ) (s : meaning.State) (p : Places) (type : CType) (object cell : ℕ) (v : Value) (there : Bool) → IsKept g v → Here g l next (word_of g v ∷ (address_of g object cell ∷ [])) s → slice_get (code g l).ops next ≡ Some (store_code type) → Affects g l p (next + 1) (and_then (place_where there object cell s) (λ where_ t. store_at type where_ v t))
+  direct_store_runs : (next : ℕ) (s : meaning.State) (p : Places) (type : CType) (object cell : ℕ) (v : Value) (there : Bool) → IsKept g v → Here g l next (word_of g v ∷ (address_of g object cell ∷ [])) s → slice_get (code g l).ops next ≡ Some (store_code type) → Affects g l p (next + 1) (and_then (place_where there object cell s) (λ at_cell t. store_at type at_cell v t))
   direct_store_runs next s p type object cell v true value here at = store_runs g l next s p type (object, cell) v value here at
   direct_store_runs next s p type object cell v false value here at = tt
 
@@ -163,6 +163,17 @@ module _ (g : Execution) (l : Layout g) where
         (λ z i. affects_at p (at + statement_size (core.Loop condition body step)) end (k.turn condition body step z) (sym whole) (runs.turn l p at condition body step z places has room low i)))))
         (λ done. done)))
 
+    -- a value, and the instruction that takes it
+    operand_runs : (e : core.Expression) (op : Op) (more : Value → meaning.State → Result Flow) (p : Places) (next : ℕ) (s : meaning.State) → ((m : ℕ) (v : Value) (t : meaning.State) → Arrives g l m [] v t → slice_get (code g l).ops m ≡ Some op → Affects g l p (m + 1) (more v t)) → Here g l next [] s → HasAt (code g l).ops next (expression_code next e ++ op ∷ []) → expression_stack e ≤ (code g l).stack → next + (expression_size e + 1) < length (code g l).ops → Affects g l p (next + (expression_size e + 1)) (and_then (value (setting g) k e s) more)
+    operand_runs e op more p next s behind here at room low =
+        let m = next + expression_size e in
+        let first = expression_code next e in
+        let end : m + 1 ≡ next + (expression_size e + 1) = omega arith in
+        affects_at p (m + 1) (next + (expression_size e + 1)) (and_then (value (setting g) k e s) more) end
+        (leads_on (Arrives g l m []) (FlowsTo g l p (m + 1)) (Finishes g) (value (setting g) k e s) more
+        (value_runs g l k runs e next [] s here (has_front (code g l).ops next first (op ∷ []) at) (omega arith) (omega arith))
+        (λ v t x. behind m v t x (has_back (code g l).ops next first (op ∷ []) (expression_size e) (length_expression next e) at).0))
+
     -- an operator on an old value and another one, whose words lie on the stack, and what becomes of the result
     combined_runs : (p : Places) (next end : ℕ) (stack : List ℕ) (s : meaning.State) (char : Bool) (operator : Operator) (site : Site) (old v : Value) (last : List Op) (more : Value → meaning.State → Result Flow) → IsKept g old → Arrives g l next (word_of g old ∷ stack) v s → HasAt (code g l).ops next (operator_code operator site ∷ (byte_code char ++ last)) → length stack < (code g l).stack → ((new : Value) (t : meaning.State) → Arrives g l (next + 1 + byte_size char) stack new t → Affects g l p end (more new t)) → Affects g l p end (and_then (arithmetic_of operator site old v s) (λ new t. and_then (kept_if char new t) more))
     combined_runs p next end stack s char operator site old v last more kept x at room further =
@@ -176,13 +187,7 @@ module _ (g : Execution) (l : Layout g) where
       pub effect_runs : (x : core.Statement) (p : Places) (next : ℕ) (s : meaning.State) → ArePlaces g l p → Here g l next [] s → HasAt (code g l).ops next (statement_code p next x) → statement_stack x ≤ (code g l).stack → next + statement_size x < length (code g l).ops → Affects g l p (next + statement_size x) (effect (setting g) k x s)
       effect_runs core.Nothing p next s places here at room low = let e : next ≡ next + 0 = omega arith in here_at g l next (next + 0) [] s e here
       effect_runs (core.SetLocal local e) p next s places here at room low =
-          let m = next + expression_size e in
-          let last = ops.Set local ∷ [] in
-          let end : m + 1 ≡ next + (expression_size e + 1) = omega arith in
-          affects_at p (m + 1) (next + (expression_size e + 1)) (effect (setting g) k (core.SetLocal local e) s) end
-          (leads_on (Arrives g l m []) (FlowsTo g l p (m + 1)) (Finishes g) (value (setting g) k e s) (set_local local)
-          (value_runs g l k runs e next [] s here (has_front (code g l).ops next (expression_code next e) last at) (omega arith) (omega arith))
-          (λ v t x. set_runs g l m t p local v x.1 x.0 (has_back (code g l).ops next (expression_code next e) last (expression_size e) (length_expression next e) at).0))
+          operand_runs e (ops.Set local) (set_local local) p next s (λ m v t x. set_runs g l m t p local v x.1 x.0) here at room low
       effect_runs (core.Store type (core.Direct object cell offset) e) p next s places here at room low =
           let m = next + (1 + offset_size offset) in
           let n = m + expression_size e in
@@ -231,65 +236,31 @@ module _ (g : Execution) (l : Layout g) where
           let rest = ops.Duplicate ∷ (load_code type ∷ (expression_code (m + 2) e ++ last)) in
           let middle = has_back (code g l).ops next (place_code next cell) rest (place_size cell) (length_place next cell) at in
           let two : m + 1 + 1 ≡ m + 2 = omega arith in
-          let values_ = subst (λ i. HasAt (code g l).ops i (expression_code (m + 2) e ++ last)) two middle.1.1 in
-          let back = has_back (code g l).ops (m + 2) (expression_code (m + 2) e) last (expression_size e) (length_expression (m + 2) e) values_ in
+          let at_value = subst (λ i. HasAt (code g l).ops i (expression_code (m + 2) e ++ last)) two middle.1.1 in
+          let back = has_back (code g l).ops (m + 2) (expression_code (m + 2) e) last (expression_size e) (length_expression (m + 2) e) at_value in
           let end : o + 1 ≡ next + statement_size (core.Update type cell operator e site) = omega arith in
           affects_at p (o + 1) (next + statement_size (core.Update type cell operator e site)) (effect (setting g) k (core.Update type cell operator e site) s) end
           (leads_on (Placed g l m []) (FlowsTo g l p (o + 1)) (Finishes g) (place (setting g) k cell s) _
           (place_runs g l k runs cell next [] s here (has_front (code g l).ops next (place_code next cell) rest at) (omega arith) (omega arith))
-          (λ where_ t x.
-          let a = address_of g where_.0 where_.1 in
+          (λ at_cell t x.
+          let a = address_of g at_cell.0 at_cell.1 in
           let twice = pushes g l m (a ∷ []) t ops.Duplicate a (a ∷ []) x.here middle.0 (omega arith) (λ scratch. refl) in
-          leads_on (Arrives g l (m + 1 + 1) (a ∷ [])) (FlowsTo g l p (o + 1)) (Finishes g) (load_at type where_ t) _
-          (load_runs g l (m + 1) (a ∷ []) t type where_ (record { here = twice }) middle.1.0 (omega arith))
+          leads_on (Arrives g l (m + 1 + 1) (a ∷ [])) (FlowsTo g l p (o + 1)) (Finishes g) (load_at type at_cell t) _
+          (load_runs g l (m + 1) (a ∷ []) t type at_cell (record { here = twice }) middle.1.0 (omega arith))
           (λ old u y. leads_on (Arrives g l n (word_of g old ∷ (a ∷ []))) (FlowsTo g l p (o + 1)) (Finishes g) (value (setting g) k e u) _
-          (value_runs g l k runs e (m + 2) (word_of g old ∷ (a ∷ [])) u (here_at g l (m + 1 + 1) (m + 2) (word_of g old ∷ (a ∷ [])) u two y.0) (has_front (code g l).ops (m + 2) (expression_code (m + 2) e) last values_) (omega arith) (omega arith))
-          (λ v w z. combined_runs p n (o + 1) (a ∷ []) w char operator site old v (store_code type ∷ []) (store_at type where_) y.1 z back (omega arith)
-          (λ new w' z'. store_runs g l o w' p type where_ new z'.1 z'.0 (has_back (code g l).ops (n + 1) (byte_code char) (store_code type ∷ []) (byte_size char) (length_byte char) back.1).0)))))
+          (value_runs g l k runs e (m + 2) (word_of g old ∷ (a ∷ [])) u (here_at g l (m + 1 + 1) (m + 2) (word_of g old ∷ (a ∷ [])) u two y.0) (has_front (code g l).ops (m + 2) (expression_code (m + 2) e) last at_value) (omega arith) (omega arith))
+          (λ v w z. combined_runs p n (o + 1) (a ∷ []) w char operator site old v (store_code type ∷ []) (store_at type at_cell) y.1 z back (omega arith)
+          (λ new w' z'. store_runs g l o w' p type at_cell new z'.1 z'.0 (has_back (code g l).ops (n + 1) (byte_code char) (store_code type ∷ []) (byte_size char) (length_byte char) back.1).0)))))
       effect_runs (core.Evaluate e) p next s places here at room low =
-          let m = next + expression_size e in
-          let last = ops.Discard ∷ [] in
-          let end : m + 1 ≡ next + (expression_size e + 1) = omega arith in
-          affects_at p (m + 1) (next + (expression_size e + 1)) (effect (setting g) k (core.Evaluate e) s) end
-          (leads_on (Arrives g l m []) (FlowsTo g l p (m + 1)) (Finishes g) (value (setting g) k e s) _
-          (value_runs g l k runs e next [] s here (has_front (code g l).ops next (expression_code next e) last at) (omega arith) (omega arith))
-          (λ v t x. moved g l m (word_of g v ∷ []) t ops.Discard (m + 1) [] t x.0 (has_back (code g l).ops next (expression_code next e) last (expression_size e) (length_expression next e) at).0 x.0.kept (λ scratch. refl)))
+          operand_runs e ops.Discard (λ _ t. Gives Next t) p next s (λ m v t x op. moved g l m (word_of g v ∷ []) t ops.Discard (m + 1) [] t x.0 op x.0.kept (λ scratch. refl)) here at room low
       effect_runs (core.CallAlone function args) p next s places here at room low =
-          let last = ops.Tick ∷ (ops.Call function ∷ []) in
-          let m = next + arguments_size args in
-          let end : m + 1 + 1 ≡ next + (arguments_size args + 2) = omega arith in
-          affects_at p (m + 1 + 1) (next + (arguments_size args + 2)) (effect (setting g) k (core.CallAlone function args) s) end
-          (leads_on (Piles g l m []) (FlowsTo g l p (m + 1 + 1)) (Finishes g) (values (setting g) k args s) _
-          (arguments_run g l k runs args next [] s here (has_front (code g l).ops next (arguments_code next args) last at) (omega arith) (omega arith))
-          (λ vs t x. leads_on (Resumes g l (m + 1 + 1) []) (FlowsTo g l p (m + 1 + 1)) (Finishes g) (call_trusted (setting g) k function vs t) no_result
-          (call_runs g l k runs m [] t function vs x.kept x.here (has_back (code g l).ops next (arguments_code next args) last (arguments_size args) (length_arguments next args) at) (omega arith))
-          (alone_runs (m + 1 + 1) p)))
+          called_runs g l k runs (FlowsTo g l p (next + (arguments_size args + 2))) args (ops.Call function) (call_trusted (setting g) k function) no_result (arguments_run g l k runs args) next [] s
+          (λ m vs t x back. call_runs g l k runs m [] t function vs x.kept x.here back (omega arith)) (alone_runs (next + (arguments_size args + 2)) p) here at (omega arith) low
       effect_runs (core.TaintedAlone import args site) p next s places here at room low =
-          let last = ops.Tick ∷ (ops.TaintedCall import site.place ∷ []) in
-          let m = next + arguments_size args in
-          let end : m + 1 + 1 ≡ next + (arguments_size args + 2) = omega arith in
-          affects_at p (m + 1 + 1) (next + (arguments_size args + 2)) (effect (setting g) k (core.TaintedAlone import args site) s) end
-          (leads_on (Piles g l m []) (FlowsTo g l p (m + 1 + 1)) (Finishes g) (values (setting g) k args s) _
-          (arguments_run g l k runs args next [] s here (has_front (code g l).ops next (arguments_code next args) last at) (omega arith) (omega arith))
-          (λ vs t x. leads_on (Resumes g l (m + 1 + 1) []) (FlowsTo g l p (m + 1 + 1)) (Finishes g) (call_tainted (setting g) import (slice_get g.program.imports import) site vs t) no_result
-          (tainted_runs g l m [] t import site vs x.here (has_back (code g l).ops next (arguments_code next args) last (arguments_size args) (length_arguments next args) at) (omega arith))
-          (alone_runs (m + 1 + 1) p)))
-      effect_runs (core.Print e) p next s places here at room low =
-          let m = next + expression_size e in
-          let last = ops.Print ∷ [] in
-          let end : m + 1 ≡ next + (expression_size e + 1) = omega arith in
-          affects_at p (m + 1) (next + (expression_size e + 1)) (effect (setting g) k (core.Print e) s) end
-          (leads_on (Arrives g l m []) (FlowsTo g l p (m + 1)) (Finishes g) (value (setting g) k e s) printed
-          (value_runs g l k runs e next [] s here (has_front (code g l).ops next (expression_code next e) last at) (omega arith) (omega arith))
-          (λ v t x. print_runs m t p v x (has_back (code g l).ops next (expression_code next e) last (expression_size e) (length_expression next e) at).0))
-      effect_runs (core.PutByte e) p next s places here at room low =
-          let m = next + expression_size e in
-          let last = ops.PutByte ∷ [] in
-          let end : m + 1 ≡ next + (expression_size e + 1) = omega arith in
-          affects_at p (m + 1) (next + (expression_size e + 1)) (effect (setting g) k (core.PutByte e) s) end
-          (leads_on (Arrives g l m []) (FlowsTo g l p (m + 1)) (Finishes g) (value (setting g) k e s) put
-          (value_runs g l k runs e next [] s here (has_front (code g l).ops next (expression_code next e) last at) (omega arith) (omega arith))
-          (λ v t x. put_runs m t p v x (has_back (code g l).ops next (expression_code next e) last (expression_size e) (length_expression next e) at).0))
+          called_runs g l k runs (FlowsTo g l p (next + (arguments_size args + 2))) args (ops.TaintedCall import site.place) (call_tainted (setting g) import (slice_get g.program.imports import) site) no_result (arguments_run g l k runs args) next [] s
+          (λ m vs t x back. tainted_runs g l m [] t import site vs x.here back (omega arith)) (alone_runs (next + (arguments_size args + 2)) p) here at (omega arith) low
+      effect_runs (core.Print e) p next s places here at room low = operand_runs e ops.Print printed p next s (λ m v t x. print_runs m t p v x) here at room low
+      effect_runs (core.PutByte e) p next s places here at room low = operand_runs e ops.PutByte put p next s (λ m v t x. put_runs m t p v x) here at room low
       effect_runs (core.Block inner) p next s places here at room low = effects_run inner p next s places here at room low
       effect_runs (core.If condition consequent alternative) p next s places here at room low =
           let m = next + expression_size condition in
@@ -313,11 +284,7 @@ module _ (g : Execution) (l : Layout g) where
           loop_runs condition body step (effect_runs body) (effect_runs step) p next s places at room low
           (jump_runs g l next [] [] s (ops.Jump (test_of next body step)) (test_of next body step) (omega arith) here at.0 (λ scratch. refl))
       effect_runs (core.Return e) p next s places here at room low =
-          let m = next + expression_size e in
-          let last = ops.Return ∷ [] in
-          leads_on (Arrives g l m []) (FlowsTo g l p (next + (expression_size e + 1))) (Finishes g) (value (setting g) k e s) _
-          (value_runs g l k runs e next [] s here (has_front (code g l).ops next (expression_code next e) last at) (omega arith) (omega arith))
-          (λ v t x. return_runs m t v x (has_back (code g l).ops next (expression_code next e) last (expression_size e) (length_expression next e) at).0)
+          operand_runs e ops.Return (λ v t. Gives (Returned (Some v)) t) p next s (λ m v t x. return_runs m t v x) here at room low
       effect_runs core.ReturnNothing p next s places here at room low = nothing_runs next s here at.0
       effect_runs core.Break p next s places here at room low = jump_runs g l next [] [] s (ops.Jump p.on_break) p.on_break places.on_break here at.0 (λ scratch. refl)
       effect_runs core.Continue p next s places here at room low = jump_runs g l next [] [] s (ops.Jump p.on_continue) p.on_continue places.on_continue here at.0 (λ scratch. refl)

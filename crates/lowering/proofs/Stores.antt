@@ -135,9 +135,9 @@ module _ (g : Execution) (l : Layout g) where
       ∙ ap (λ yes. table.store_if yes width a w stack f t) (seam_inside g l s.blocks block cell cells c sm)
       ∙ ap (λ bytes. table.on_with f stack (record t { memory = record t.memory { bytes = bytes } })) bytes)
 
-  store_by : (next : ℕ) (stack : List ℕ) (s : meaning.State) (p : Places) (type : CType) (block cell : ℕ) (cells : Block) (c : Cell) (v : Value) (fits : Bool) → (same_type type c.type && has_type type v) ≡ fits → slice_get s.blocks block ≡ Some cells → slice_get cells cell ≡ Some c → IsKept g v → Here g l next (word_of g v ∷ (address_of g block cell ∷ [])) s → slice_get (code g l).ops next ≡ Some (store_code type) → Affects g l p (next + 1) (store_if fits (record c { value = v }) block cell s)
-  store_by next stack s p type block cell cells c v false test there h value here at = tt
-  store_by next stack s p type block cell cells c v true test there h value here at =
+  store_by : (next : ℕ) (s : meaning.State) (p : Places) (type : CType) (block cell : ℕ) (cells : Block) (c : Cell) (v : Value) (fits : Bool) → (same_type type c.type && has_type type v) ≡ fits → slice_get s.blocks block ≡ Some cells → slice_get cells cell ≡ Some c → IsKept g v → Here g l next (word_of g v ∷ (address_of g block cell ∷ [])) s → slice_get (code g l).ops next ≡ Some (store_code type) → Affects g l p (next + 1) (store_if fits (record c { value = v }) block cell s)
+  store_by next s p type block cell cells c v false test there h value here at = tt
+  store_by next s p type block cell cells c v true test there h value here at =
       subst (λ blocks. Here g l (next + 1) [] (record s { blocks = blocks })) (sym (blocks_set s.blocks block cell (record c { value = v }) cells there))
       (store_typed next [] s type block cell cells c v (and_left (same_type type c.type) (has_type type v) test) (and_right (same_type type c.type) (has_type type v) test) there h value here at)
 
@@ -145,11 +145,11 @@ module _ (g : Execution) (l : Layout g) where
   store_found next s p type block cell None v h value here at = tt
   store_found next s p type block cell (Some c) v h value here at =
       let found = cell_of_block (slice_get s.blocks block) cell c h in
-      store_by next [] s p type block cell found.0 c v (same_type type c.type && has_type type v) refl found.1 found.2 value here at
+      store_by next s p type block cell found.0 c v (same_type type c.type && has_type type v) refl found.1 found.2 value here at
 
   -- a value is put into a cell, whose address lies on the stack
-  pub store_runs : (next : ℕ) (s : meaning.State) (p : Places) (type : CType) (where_ : ℕ × ℕ) (v : Value) → IsKept g v → Here g l next (word_of g v ∷ (address_of g where_.0 where_.1 ∷ [])) s → slice_get (code g l).ops next ≡ Some (store_code type) → Affects g l p (next + 1) (store_at type where_ v s)
-  store_runs next s p type where_ v value here at = store_found next s p type where_.0 where_.1 (cell_at s.blocks where_.0 where_.1) v refl value here at
+  pub store_runs : (next : ℕ) (s : meaning.State) (p : Places) (type : CType) (at_cell : ℕ × ℕ) (v : Value) → IsKept g v → Here g l next (word_of g v ∷ (address_of g at_cell.0 at_cell.1 ∷ [])) s → slice_get (code g l).ops next ≡ Some (store_code type) → Affects g l p (next + 1) (store_at type at_cell v s)
+  store_runs next s p type at_cell v value here at = store_found next s p type at_cell.0 at_cell.1 (cell_at s.blocks at_cell.0 at_cell.1) v refl value here at
 
   -- ---- local variables
 
@@ -227,7 +227,7 @@ module _ (g : Execution) (l : Layout g) where
       }
 
   -- a store through a pointer: its value is kept aside while the pointer is checked
-  pub through_store_runs : (next : ℕ) (s : meaning.State) (p : Places) (type : CType) (cell offset : ℕ) (site : Site) (q v : Value) → ArePlaces g l p → IsKept g q → IsKept g v → Here g l next (word_of g v ∷ (word_of g q ∷ [])) s → HasAt (code g l).ops next (ops.Set p.scratch ∷ (through_code offset site ++ (ops.Local p.scratch ∷ (store_code type ∷ [])))) → 2 ≤ (code g l).stack → offset_stack offset ≤ (code g l).stack → Affects g l p (next + (4 + offset_size offset)) (and_then (place_through cell offset site q s) (λ where_ t. store_at type where_ v t))
+  pub through_store_runs : (next : ℕ) (s : meaning.State) (p : Places) (type : CType) (cell offset : ℕ) (site : Site) (q v : Value) → ArePlaces g l p → IsKept g q → IsKept g v → Here g l next (word_of g v ∷ (word_of g q ∷ [])) s → HasAt (code g l).ops next (ops.Set p.scratch ∷ (through_code offset site ++ (ops.Local p.scratch ∷ (store_code type ∷ [])))) → 2 ≤ (code g l).stack → offset_stack offset ≤ (code g l).stack → Affects g l p (next + (4 + offset_size offset)) (and_then (place_through cell offset site q s) (λ at_cell t. store_at type at_cell v t))
   through_store_runs next s p type cell offset site q v places hq hv here at two room =
       let w = word_of g v in
       let m = holding w in
@@ -235,7 +235,7 @@ module _ (g : Execution) (l : Layout g) where
       let n = next + 1 + (1 + offset_size offset) in
       let back = has_back (code g l).ops (next + 1) (through_code offset site) last (1 + offset_size offset) (omega (arith, length_offset offset)) at.1 in
       let end : n + 1 + 1 ≡ next + (4 + offset_size offset) = omega arith in
-      subst (λ k. Affects g l p k (and_then (place_through cell offset site q s) (λ where_ t. store_at type where_ v t))) end
-      (leads_on (Placed g m n []) (FlowsTo g l p (n + 1 + 1)) (Finishes g) (place_through cell offset site q s) (λ where_ t. store_at type where_ v t)
+      subst (λ k. Affects g l p k (and_then (place_through cell offset site q s) (λ at_cell t. store_at type at_cell v t))) end
+      (leads_on (Placed g m n []) (FlowsTo g l p (n + 1 + 1)) (Finishes g) (place_through cell offset site q s) (λ at_cell t. store_at type at_cell v t)
       (through_runs g m (next + 1) [] s cell offset site q hq (scratch_set next (word_of g q ∷ []) s p w places.scratch here at.0) (has_front (code g l).ops (next + 1) (through_code offset site) last at.1) (omega arith))
-      (λ where_ t x. store_runs (n + 1) t p type where_ v hv (scratch_pushed n (address_of g where_.0 where_.1 ∷ []) t p w places x.here back.0 (omega arith)) back.1.0))
+      (λ at_cell t x. store_runs (n + 1) t p type at_cell v hv (scratch_pushed n (address_of g at_cell.0 at_cell.1 ∷ []) t p w places x.here back.0 (omega arith)) back.1.0))

@@ -57,12 +57,12 @@ module _ (g : Execution) (s : meaning.State) (blocks : KeptBlocks g s.blocks) (c
   EndsIn ending w = Finishes g ending (meaning.in_world w s)
 
   -- the touch was made
-  record Passed_ (u : Unit {0}) (w : World) : Type 0 where
+  record IsPassed (u : Unit {0}) (w : World) : Type 0 where
     kept : KeptWorld w
     reached : Reached g (away (released (Passed k words) w))
 
   -- an act before the touch
-  act_passes : (acts : List Act) (x : BeforeTouch) (w : World) (next : World → Asked (Unit {0})) → AllByRecursion IsAct acts → BeforeKeeps acts x → Reached g (touching w) → move (image g) g.settings (touching w) ≡ before_touch_by (image g) f (Passes k words place) x (touching w) → ((v : World) → HasLeft acts v → Reached g (touching v) → Asks Passed_ EndsIn (next v)) → Asks Passed_ EndsIn (on_from x next)
+  act_passes : (acts : List Act) (x : BeforeTouch) (w : World) (next : World → Asked (Unit {0})) → AllByRecursion IsAct acts → BeforeKeeps acts x → Reached g (touching w) → move (image g) g.settings (touching w) ≡ before_touch_by (image g) f (Passes k words place) x (touching w) → ((v : World) → HasLeft acts v → Reached g (touching v) → Asks IsPassed EndsIn (next v)) → Asks IsPassed EndsIn (on_from x next)
   act_passes acts (BeforeTouch.Waits v) w next all left reached goes more = more v left (one_move g (touching w) (touching v) reached goes)
   act_passes acts (BeforeTouch.Touches v) w next all left reached goes more =
       record { kept = kept_world acts v all left; reached = one_move g (touching w) (away (released (Passed k words) v)) reached goes }
@@ -70,7 +70,7 @@ module _ (g : Execution) (s : meaning.State) (blocks : KeptBlocks g s.blocks) (c
       last_move g (touching w) (touching v) ending (meaning.in_world v s) reached goes (same_end g (Touches f (Passes k words place)) callers (meaning.in_world v s) blocks)
 
   -- acts up to the touch
-  passes : (acts : List Act) (w : World) → AllByRecursion IsAct acts → HasLeft acts w → Reached g (touching w) → Asks Passed_ EndsIn (before_touch acts w)
+  passes : (acts : List Act) (w : World) → AllByRecursion IsAct acts → HasLeft acts w → Reached g (touching w) → Asks IsPassed EndsIn (before_touch acts w)
   passes [] w all left reached =
       let v = telling (NoAct turns.Trusted ∷ []) w in
       record { kept = kept_world [] v tt (record { left = left.left; inputs = left.inputs }); reached = one_move g (touching w) (away (released (Passed k words) v)) reached (ap (λ acts. moves.before_touch (image g) f (Passes k words place) acts (touching w)) left.left) }
@@ -108,7 +108,7 @@ module _ (g : Execution) (s : meaning.State) (blocks : KeptBlocks g s.blocks) (c
   crossed : (w : World) → KeptWorld w → Reached g (touching w) → Asks Answered EndsIn (asking (touch (Passed k words) w) (λ _ v. until_return v.acts v))
   crossed w kept reached =
       asking_on (λ u v. KeptWorld v × Reached g (away v)) Answered EndsIn (touch (Passed k words) w) (λ _ v. until_return v.acts v)
-      (asking_on Passed_ (λ u v. KeptWorld v × Reached g (away v)) EndsIn (before_touch w.acts w) (λ _ v. Got _ (released (Passed k words) v))
+      (asking_on IsPassed (λ u v. KeptWorld v × Reached g (away v)) EndsIn (before_touch w.acts w) (λ _ v. Got _ (released (Passed k words) v))
       (passes w.acts w kept.acts (record { left = refl; inputs = kept.inputs }) reached)
       (λ u v h. (record { acts = h.kept.acts; inputs = h.kept.inputs }, h.reached)))
       (λ u v h. answered v.acts v h.0.acts (record { left = refl; inputs = h.0.inputs }) h.1)
@@ -140,23 +140,23 @@ module _ (g : Execution) (l : Layout g) where
 
   -- a reply is a number of the result's type, or breaks off
   reply_runs : (result : Option CType) (next scratch : ℕ) (stack : List ℕ) (s : meaning.State) (site : Site) (reply : ℕ) (u : State) → IsWord reply → Holds l.held scratch → Kept g l s → length stack < (code g l).stack → Reached g u → move (image g) g.settings u ≡ replies next scratch stack s result site.place reply → Leads (Resumes g l next stack) (Finishes g) (reply_as result site reply s)
-  reply_runs None next scratch stack s site reply u is holds kept room reached moves_ = resumed g l next scratch stack None s u (state g Away l.callers s) holds kept tt room refl reached moves_
-  reply_runs (Some Int) next scratch stack s site reply u is holds kept room reached moves_ =
+  reply_runs None next scratch stack s site reply u is holds kept room reached moves_on = resumed g l next scratch stack None s u (state g Away l.callers s) holds kept tt room refl reached moves_on
+  reply_runs (Some Int) next scratch stack s site reply u is holds kept room reached moves_on =
       resumed g l next scratch stack (Some (Number (signed reply))) s u (state g Away l.callers s) holds kept (signed_fits reply is) room refl reached
-      (moves_ ∙ ap (λ w. push_result (slice_get (image g).trusted.funs l.number) (Some w) (frame g l next scratch stack s.locals) (state g Away l.callers s)) (sym (word-signed reply is)))
-  reply_runs (Some Char) next scratch stack s site reply u is holds kept room reached moves_ = char_runs (nat_lt reply 256) refl
+      (moves_on ∙ ap (λ w. push_result (slice_get (image g).trusted.funs l.number) (Some w) (frame g l next scratch stack s.locals) (state g Away l.callers s)) (sym (word-signed reply is)))
+  reply_runs (Some Char) next scratch stack s site reply u is holds kept room reached moves_on = char_runs (nat_lt reply 256) refl
     where
       char_runs : (low : Bool) → nat_lt reply 256 ≡ low → Leads (Resumes g l next stack) (Finishes g) (reply_as (Some Char) site reply s)
       char_runs true test =
           rw test
           (resumed g l next scratch stack (Some (Number (signed reply))) s u (state g Away l.callers s) holds kept (signed_fits reply is) room refl reached
-          (moves_ ∙ ap (λ yes. moves.reply_if yes (image g) (frame g l next scratch stack s.locals) site.place (result_kind (Some Char)) reply (state g Away l.callers s)) test ∙ ap (λ w. push_result (slice_get (image g).trusted.funs l.number) (Some w) (frame g l next scratch stack s.locals) (state g Away l.callers s)) (sym (word-signed reply is))))
+          (moves_on ∙ ap (λ yes. moves.reply_if yes (image g) (frame g l next scratch stack s.locals) site.place (result_kind (Some Char)) reply (state g Away l.callers s)) test ∙ ap (λ w. push_result (slice_get (image g).trusted.funs l.number) (Some w) (frame g l next scratch stack s.locals) (state g Away l.callers s)) (sym (word-signed reply is))))
       char_runs false test =
           rw test
           (last_move g u (state g Away l.callers s) (Check C9 site.place) s reached
-          (moves_ ∙ ap (λ yes. moves.reply_if yes (image g) (frame g l next scratch stack s.locals) site.place (result_kind (Some Char)) reply (state g Away l.callers s)) test) (same_end g Away l.callers s kept.blocks))
-  reply_runs (Some (Struct number)) next scratch stack s site reply u is holds kept room reached moves_ = tt
-  reply_runs (Some (Pointer mode kind target)) next scratch stack s site reply u is holds kept room reached moves_ = tt
+          (moves_on ∙ ap (λ yes. moves.reply_if yes (image g) (frame g l next scratch stack s.locals) site.place (result_kind (Some Char)) reply (state g Away l.callers s)) test) (same_end g Away l.callers s kept.blocks))
+  reply_runs (Some (Struct number)) next scratch stack s site reply u is holds kept room reached moves_on = tt
+  reply_runs (Some (Pointer mode kind target)) next scratch stack s site reply u is holds kept room reached moves_on = tt
 
   call_moves : (next scratch : ℕ) (stack words : List ℕ) (s : meaning.State) (k : ℕ) (place : Place) (i : core.Import) (few : Bool) → nat_lt s.depth 1000 ≡ few → slice_get g.program.imports k ≡ Some i → i.parameters ≡ length words → Kept g l s → slice_get (code g l).ops next ≡ Some (ops.TaintedCall k place) → move (image g) g.settings (standing g l next scratch (reverse words ++ stack) s) ≡ table.asked (entered_if few s.world) (standing g l next scratch (reverse words ++ stack) s) (λ _ u. table.touch_if true (Passes k words place) stack (frame g l next scratch (reverse words ++ stack) s.locals) u)
   call_moves next scratch stack words s k place i few test there count kept at =
