@@ -320,13 +320,6 @@ behind_turn further Continued s = further s
 behind_turn further Broke s = Gives Next s
 behind_turn further (Returned v) s = Gives (Returned v) s
 
--- behind the step of a turn, which leads to a further one, or returns
-abbrev pub behind_step : (State → Result Flow) → Flow → State → Result Flow
-behind_step further Next s = further s
-behind_step further Broke s = Stuck
-behind_step further Continued s = Stuck
-behind_step further (Returned v) s = Gives (Returned v) s
-
 -- a call without a result
 abbrev pub no_result : Option Value → State → Result Flow
 no_result None s = Gives Next s
@@ -353,7 +346,7 @@ abbrev mutual
       and_then (value g k condition s) (λ v t. choose (truth v) (effect g k consequent t) (effect g k alternative t))
   effect g k (core.Loop condition body step) s =
       and_then (value g k condition s) (λ v t. choose (truth v)
-      (asked (spend_tick g.budget t.world) t (λ _ u. and_then (effect g k body u) (behind_turn (λ w. and_then (effect g k step w) (behind_step (k.turn condition body step))))))
+      (asked (spend_tick g.budget t.world) t (λ _ u. and_then (effect g k body u) (behind_turn (λ w. and_then (effect g k step w) (on_next (k.turn condition body step))))))
       (Gives Next t))
   effect g k (core.Return e) s = and_then (value g k e s) (λ v t. Gives (Returned (Some v)) t)
   effect g k core.ReturnNothing s = Gives (Returned None) s

@@ -113,8 +113,8 @@ mutual
       let q : Places = record { scratch = p.scratch; on_break = end; on_continue = next } in
       let last = ops.JumpIfZero end ∷ ops.Jump (at + 1) ∷ [] in
       let tests = length_then (expression_code test condition) last (expression_size condition) 2 (length_expression test condition) refl in
-      let steps = length_then (statement_code q next step) (expression_code test condition ++ last) (statement_size step) (expression_size condition + 2) (length_statement q next step) tests in
-      let bodies = length_then (statement_code q inside body) (statement_code q next step ++ (expression_code test condition ++ last)) (statement_size body) (statement_size step + (expression_size condition + 2)) (length_statement q inside body) steps in
+      let steps = length_then (statement_code p next step) (expression_code test condition ++ last) (statement_size step) (expression_size condition + 2) (length_statement p next step) tests in
+      let bodies = length_then (statement_code q inside body) (statement_code p next step ++ (expression_code test condition ++ last)) (statement_size body) (statement_size step + (expression_size condition + 2)) (length_statement q inside body) steps in
       omega (arith, bodies)
   length_statement p at (core.Return value) = length_then (expression_code at value) (ops.Return ∷ []) (expression_size value) 1 (length_expression at value) refl
   length_statement p at core.ReturnNothing = refl

@@ -10,7 +10,7 @@ use Rattle.ckc_core.specs.declared.program.Operator.{Operator}
 use Rattle.ckc_core.specs.Core as core
 use Rattle.ckc_core.specs.States.{Value, Number, Null, At, Block, stands_at}
 use Rattle.ckc_core.specs.States as meaning
-use Rattle.ckc_core.specs.Meaning.{Result, Knot, Flow, Next, Broke, Continued, Returned, is_char, given, truth, value, place, place_where, pointer_of, load_at, store_at, arithmetic_of, kept_if, set_local, printed, put, on_next, behind_turn, behind_step, no_result, choose, call_trusted, call_tainted, effect, effects}
+use Rattle.ckc_core.specs.Meaning.{Result, Knot, Flow, Next, Broke, Continued, Returned, is_char, given, truth, value, place, place_where, pointer_of, load_at, store_at, arithmetic_of, kept_if, set_local, printed, put, on_next, behind_turn, no_result, choose, call_trusted, call_tainted, effect, effects}
 use Rattle.code_words.specs.declared.op.Op.{Op}
 use Rattle.code_words.specs.declared.op.Op.TheVariants as ops
 use Rattle.lowering.specs.Code.{Places, operator_code, load_code, store_code, address_code, byte_code, byte_size, offset_size, expression_size, arguments_size, place_size, statement_size, statements_size, expression_code, place_code, behind_value, statement_code, statements_code}
@@ -62,16 +62,6 @@ module _ (g : Execution) (l : Layout g) where
       by Next s h = more s h
       by Broke s h = here_at g l q.on_break n [] s on_break h
       by Continued s h = more s (here_at g l q.on_continue m [] s on_continue h)
-      by (Returned v) s h = h
-
-  -- behind its step
-  step_on : (p q : Places) (m n : ℕ) (o : Result Flow) (further : meaning.State → Result Flow) → Affects g l q m o → ((s : meaning.State) → Here g l m [] s → Affects g l p n (further s)) → Affects g l p n (and_then o (behind_step further))
-  step_on p q m n o further a more = leads_on (FlowsTo g l q m) (FlowsTo g l p n) (Finishes g) o (behind_step further) a by
-    where
-      by : (flow : Flow) (s : meaning.State) → FlowsTo g l q m flow s → Affects g l p n (behind_step further flow s)
-      by Next s h = more s h
-      by Broke s h = tt
-      by Continued s h = tt
       by (Returned v) s h = h
 
   -- the address of a variable's cell
@@ -143,11 +133,11 @@ module _ (g : Execution) (l : Layout g) where
         let q : Places = record { scratch = p.scratch; on_break = end; on_continue = next } in
         let whole : end ≡ at + statement_size (core.Loop condition body step) = omega arith in
         let tests = expression_code test condition ++ (ops.JumpIfZero end ∷ (ops.Jump (at + 1) ∷ [])) in
-        let steps = statement_code q next step ++ tests in
+        let steps = statement_code p next step ++ tests in
         let first : at + 1 + 1 ≡ inside = omega arith in
         let bodies = subst (λ n. HasAt (code g l).ops n (statement_code q inside body ++ steps)) first has.1.1 in
         let at_step = has_back (code g l).ops inside (statement_code q inside body) steps (statement_size body) (length_statement q inside body) bodies in
-        let at_test = has_back (code g l).ops next (statement_code q next step) tests (statement_size step) (length_statement q next step) at_step in
+        let at_test = has_back (code g l).ops next (statement_code p next step) tests (statement_size step) (length_statement p next step) at_step in
         let branch = has_back (code g l).ops test (expression_code test condition) (ops.JumpIfZero end ∷ (ops.Jump (at + 1) ∷ [])) (expression_size condition) (length_expression test condition) at_test in
         let inner : ArePlaces g l q = record { scratch = places.scratch; on_break = omega arith; on_continue = omega arith; free = places.free } in
         affects_at p end (at + statement_size (core.Loop condition body step)) (effect (setting g) k (core.Loop condition body step) s) whole
@@ -156,10 +146,10 @@ module _ (g : Execution) (l : Layout g) where
         (λ v t x. if_runs p last end end v (truth v) t _ (Gives Next t) refl x branch.0 (omega arith)
         (λ again. asks_on (λ _ w. Here g l (at + 1 + 1) [] (meaning.in_world w t)) (FlowsTo g l p end) (Finishes g) (spend_tick g.settings.budget t.world) t _
         (tick_runs g l (at + 1) [] t (jump_runs g l (last + 1) [] [] t (ops.Jump (at + 1)) (at + 1) (omega arith) again branch.1.0 (λ scratch. refl)) has.1.0)
-        (λ _ w ticked. turn_on p q next end (effect (setting g) k body (meaning.in_world w t)) (λ u. and_then (effect (setting g) k step u) (behind_step (k.turn condition body step))) refl refl
+        (λ _ w ticked. turn_on p q next end (effect (setting g) k body (meaning.in_world w t)) (λ u. and_then (effect (setting g) k step u) (on_next (k.turn condition body step))) refl refl
         (body_runs q inside (meaning.in_world w t) inner (here_at g l (at + 1 + 1) inside [] (meaning.in_world w t) first ticked) (has_front (code g l).ops inside (statement_code q inside body) steps bodies) (omega arith) (omega arith))
-        (λ u h. step_on p q test end (effect (setting g) k step u) (k.turn condition body step)
-        (step_runs q next u inner h (has_front (code g l).ops next (statement_code q next step) tests at_step) (omega arith) (omega arith))
+        (λ u h. affects_on p test end (effect (setting g) k step u) (k.turn condition body step)
+        (step_runs p next u places h (has_front (code g l).ops next (statement_code p next step) tests at_step) (omega arith) (omega arith))
         (λ z i. affects_at p (at + statement_size (core.Loop condition body step)) end (k.turn condition body step z) (sym whole) (runs.turn l p at condition body step z places has room low i)))))
         (λ done. done)))
 

@@ -233,7 +233,8 @@ abbrev mutual
       expression_code at condition
       ++ ops.JumpIfZero other
       ∷ (statement_code p inside consequent ++ ops.Jump (other + statement_size alternative) ∷ statement_code p other alternative)
-  -- The condition stands behind the body and the step, and is where the loop begins. Each turn begins with a tick.
+  -- The condition stands behind the body and the step, and is where the loop begins. Each turn begins with a tick. `break` and
+  -- `continue` in the step are those of the loop around it.
   statement_code p at (core.Loop condition body step) =
       let inside = at + 2 in
       let next = inside + statement_size body in
@@ -243,7 +244,7 @@ abbrev mutual
       ops.Jump test
       ∷ ops.Tick
       ∷ (statement_code q inside body
-      ++ (statement_code q next step ++ (expression_code test condition ++ ops.JumpIfZero end ∷ ops.Jump (at + 1) ∷ [])))
+      ++ (statement_code p next step ++ (expression_code test condition ++ ops.JumpIfZero end ∷ ops.Jump (at + 1) ∷ [])))
   statement_code p at (core.Return value) = expression_code at value ++ ops.Return ∷ []
   statement_code p at core.ReturnNothing = ops.ReturnNothing ∷ []
   statement_code p at core.Break = ops.Jump p.on_break ∷ []
@@ -270,9 +271,9 @@ abbrev pub result_kind : Option CType → WordKind
 result_kind None = kinds.Void
 result_kind (Some type) = kind_of type
 
--- outside of loops, `break` and `continue` have no place to go to
+-- outside of loops, `break` and `continue` lead to the end of the body
 abbrev pub body_places : core.Function → Places
-body_places f = record { scratch = length f.locals; on_break = 0; on_continue = 0 }
+body_places f = record { scratch = length f.locals; on_break = statements_size f.body; on_continue = statements_size f.body }
 
 abbrev pub function_ops : core.Function → List Op
 function_ops f = statements_code (body_places f) 0 f.body ++ ending_code f.result
