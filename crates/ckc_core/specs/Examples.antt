@@ -1,8 +1,8 @@
 -- Small programs, written down as plain data.
-use Rattle.std.specs.Prelude.{◌≡◌, ℕ, List, [], ◌∷◌, Option, Some, None, codes, pos, negsuc, true, false, replicate, length}
+use Rattle.std.specs.Prelude.{◌≡◌, ℕ, List, [], ◌∷◌, Some, None, codes, pos, replicate}
 use Rattle.act_words.specs.declared.ending.Ending.{Ending}
 use Rattle.act_words.specs.declared.ending.Ending.TheVariants.{Exit, Check, Stop}
-use Rattle.ckc_text.specs.declared.code.Code.TheVariants.{C6, S1, S2, S3}
+use Rattle.ckc_text.specs.declared.code.Code.TheVariants.{C6, S1, S2}
 use Rattle.act_words.specs.Outcome.{Outcome, Gives, Ends, Stuck, Short}
 use Rattle.pointer_modes.specs.declared.ctype.Mode.TheVariants as modes
 use Rattle.pointer_modes.specs.declared.ctype.Kind.TheVariants as kinds
@@ -14,7 +14,7 @@ use Rattle.ckc_core.specs.declared.program.Comparison.TheVariants as comparisons
 use Rattle.ckc_core.specs.Core
 use Rattle.ckc_core.specs.Core.{Core, Expression, Statement, Statements, Function}
 use Rattle.ckc_core.specs.States.{State}
-use Rattle.ckc_core.specs.Meaning.{Setting, run_from, initial}
+use Rattle.ckc_core.specs.Meaning.{run_from, initial}
 
 abbrev pub site : ℕ → ℕ → Site
 site line col = record { place = record { line = line; col = col } }
@@ -64,10 +64,10 @@ abbrev pub overflow_ends : Type 0
 overflow_ends =
     ends_as
     (runs
-      (one (Int ∷ []) []
-        (Core.SetLocal 0 (number 2147483647)
-        ∷ (Core.SetLocal 0 (Core.Arithmetic operators.Add (Core.Local 0) (number 1) (site 1 42)) ∷ (Core.Return (number 0) ∷ []))))
-      100)
+    (one (Int ∷ []) []
+    (Core.SetLocal 0 (number 2147483647)
+    ∷ (Core.SetLocal 0 (Core.Arithmetic operators.Add (Core.Local 0) (number 1) (site 1 42)) ∷ (Core.Return (number 0) ∷ []))))
+    100)
     (Check C6 (record { line = 1; col = 42 }))
 
 -- int main(void) { int i = 0; while (i < 3) { i = i + 1; } return i; }
@@ -102,11 +102,11 @@ depth_and_budget = ends_as (runs falling 1000) (Stop S2 None) × ends_as (runs f
 -- struct s { char c; int v; }; struct s a; int main(void) { ptr<struct s> p = &a; p->v = 7; a.c = 300; return p->v + a.c; }
 abbrev pub members : Core
 members =
-      (one (Pointer modes.Checked kinds.One (Struct 0) ∷ []) (((record { type = Char; stride = 4; number = pos 0 }) ∷ (int_cell 0 ∷ [])) ∷ [])
-        (Core.SetLocal 0 (Core.AddressOf 0 0 0)
-        ∷ (Core.Store Int (Core.Through (Core.Local 0) 1 4 (site 3 40)) (number 7)
-        ∷ (Core.Store Char (Core.Direct 0 0 0) (Core.LowByte (number 300))
-        ∷ (Core.Return (Core.Arithmetic operators.Add (Core.Load Int (Core.Through (Core.Local 0) 1 4 (site 3 65))) (Core.Load Char (Core.Direct 0 0 0)) (site 3 65)) ∷ [])))))
+    (one (Pointer modes.Checked kinds.One (Struct 0) ∷ []) (((record { type = Char; stride = 4; number = pos 0 }) ∷ (int_cell 0 ∷ [])) ∷ [])
+    (Core.SetLocal 0 (Core.AddressOf 0 0 0)
+    ∷ (Core.Store Int (Core.Through (Core.Local 0) 1 4 (site 3 40)) (number 7)
+    ∷ (Core.Store Char (Core.Direct 0 0 0) (Core.LowByte (number 300))
+    ∷ (Core.Return (Core.Arithmetic operators.Add (Core.Load Int (Core.Through (Core.Local 0) 1 4 (site 3 65))) (Core.Load Char (Core.Direct 0 0 0)) (site 3 65)) ∷ [])))))
 
 abbrev pub struct_ends : Type 0
 struct_ends = ends_as (runs members 100) (Exit (pos 51))

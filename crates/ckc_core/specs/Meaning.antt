@@ -1,11 +1,9 @@
 -- What a program means: values with places, each check at its place, and stuck where nothing is meant.
-use Rattle.std.specs.Prelude.{ℕ, zero, suc, ◌+◌, ◌-◌, ◌%◌, ◌^◌, Bool, true, false, not, ◌&&◌, ◌==◌, List, [], ◌∷◌, ◌++◌, Option, Some, None, option_map, slice_get, slice_set, nat_lt, length, map, drop, replicate, int_lt, int_le, bit_and, bit_or, bit_xor, decimal, pos, negsuc}
+use Rattle.std.specs.Prelude.{ℕ, zero, suc, ◌+◌, ◌%◌, Bool, true, false, not, ◌&&◌, ◌==◌, List, [], ◌∷◌, ◌++◌, Option, Some, None, option_map, slice_get, slice_set, nat_lt, length, map, drop, replicate, int_lt, int_le, bit_and, bit_or, bit_xor, pos}
 use Rattle.std.proofs.Common.{ℤ}
 use Rattle.ckc_text.specs.declared.code.Code.TheVariants.{C1, C9}
-use Rattle.act_words.specs.declared.ending.Ending.{Ending}
 use Rattle.act_words.specs.declared.ending.Ending.TheVariants.{Check, Exit}
 use Rattle.act_words.specs.declared.settings.Settings.{Settings}
-use Rattle.act_words.specs.declared.act.Turn.TheVariants as turns
 use Rattle.act_words.specs.Acts.{Act}
 use Rattle.act_words.specs.Outcome.{Outcome, Gives, Ends, Stuck, Short, and_then}
 use Rattle.act_words.specs.Numbers.{signed, word, number_line}
@@ -21,7 +19,7 @@ use Rattle.ckc_core.specs.declared.program.Operator.TheVariants as operators
 use Rattle.ckc_core.specs.declared.program.Comparison.{Comparison}
 use Rattle.ckc_core.specs.declared.program.Comparison.TheVariants as comparisons
 use Rattle.ckc_core.specs.Core as core
-use Rattle.ckc_core.specs.States.{Value, Number, Null, At, Cell, Block, State, in_world, cell_at, with_cell, stands_at, stands_behind, same_type, has_type, zero_of, object_block}
+use Rattle.ckc_core.specs.States.{Value, Number, Null, At, Cell, State, in_world, cell_at, with_cell, stands_at, stands_behind, same_type, has_type, zero_of, object_block}
 
 -- the outcome of a step of the meaning
 abbrev pub Result : Type 0 → Type 0
@@ -198,9 +196,18 @@ abbrev pub call_tainted : Setting → ℕ → Option core.Import → Site → Li
 call_tainted g import None site values s = Stuck
 call_tainted g import (Some i) site values s = cross_if (i.parameters == length values) g import i site values s
 
--- a call of a trusted function: its tick, its depth, and then the function
+-- a function that is there takes as many arguments
+abbrev pub takes : Option core.Function → ℕ → Bool
+takes None count = false
+takes (Some f) count = f.parameters == count
+
+abbrev pub enter_if : Bool → Setting → Knot → ℕ → List Value → State → Result (Option Value)
+enter_if true g k function values s = asked (spend_tick g.budget s.world) s (λ _ t. asked (enter_call t.depth t.world) t (λ _ u. k.call function values u))
+enter_if false g k function values s = Stuck
+
+-- a call of a trusted function that is there and takes as many arguments: its tick, its depth, and then the function
 abbrev pub call_trusted : Setting → Knot → ℕ → List Value → State → Result (Option Value)
-call_trusted g k function values s = asked (spend_tick g.budget s.world) s (λ _ t. asked (enter_call t.depth t.world) t (λ _ u. k.call function values u))
+call_trusted g k function values s = enter_if (takes (slice_get g.program.functions function) (length values)) g k function values s
 
 -- the result of a call that has one
 abbrev pub result_given : Option Value → State → Result Value
@@ -267,9 +274,9 @@ set_local_if false local value s = Stuck
 abbrev pub set_local : ℕ → Value → State → Result Flow
 set_local local value s = set_local_if (nat_lt local (length s.locals)) local value s
 
--- A store evaluates its pointer, then its value, and makes its checks behind both.
+-- A store evaluates its pointer, then its value, and makes its checks behind both. A file-level variable is there before.
 abbrev pub pointer_of : Setting → Knot → core.Place → State → Result Value
-pointer_of g k (core.Direct object cell offset) s = Gives (At object 0) s
+pointer_of g k (core.Direct object cell offset) s = and_then (place_in object cell offset s) (λ place t. Gives (At place.0 place.1) t)
 pointer_of g k (core.Through pointer cell offset site) s = value g k pointer s
 
 abbrev pub place_from : core.Place → Value → State → Result (ℕ × ℕ)
@@ -339,8 +346,8 @@ abbrev mutual
       and_then (value g k condition s) (λ v t. choose (truth v) (effect g k consequent t) (effect g k alternative t))
   effect g k (core.Loop condition body step) s =
       and_then (value g k condition s) (λ v t. choose (truth v)
-        (asked (spend_tick g.budget t.world) t (λ _ u. and_then (effect g k body u) (behind_turn (λ w. and_then (effect g k step w) (on_next (k.turn condition body step))))))
-        (Gives Next t))
+      (asked (spend_tick g.budget t.world) t (λ _ u. and_then (effect g k body u) (behind_turn (λ w. and_then (effect g k step w) (on_next (k.turn condition body step))))))
+      (Gives Next t))
   effect g k (core.Return e) s = and_then (value g k e s) (λ v t. Gives (Returned (Some v)) t)
   effect g k core.ReturnNothing s = Gives (Returned None) s
   effect g k core.Break s = Gives Broke s

@@ -1,5 +1,5 @@
 -- The states of the meaning: blocks of typed cells, local variables, and the world. No address stands in a state.
-use Rattle.std.specs.Prelude.{◌≡◌, ℕ, zero, suc, ◌+◌, ◌==◌, ◌&&◌, Bool, true, false, List, [], ◌∷◌, Option, Some, None, map, replicate, slice_get, slice_set, nat_lt, pos, negsuc}
+use Rattle.std.specs.Prelude.{ℕ, zero, suc, ◌+◌, ◌==◌, ◌&&◌, Bool, true, false, List, [], ◌∷◌, Option, Some, None, map, slice_get, slice_set, nat_lt, pos, negsuc}
 use Rattle.std.specs.Option.{option_and_then}
 use Rattle.std.proofs.Common.{ℤ}
 use Rattle.act_words.specs.Checks.{is_word_number}
@@ -9,7 +9,7 @@ use Rattle.pointer_modes.specs.declared.ctype.Kind.{Kind}
 use Rattle.pointer_modes.specs.declared.ctype.Kind.TheVariants as kinds
 use Rattle.pointer_modes.specs.Types.{CType, Int, Char, Struct, Pointer}
 use Rattle.act_words.specs.World.{World}
-use Rattle.ckc_core.specs.Core.{Core, Initial, Function}
+use Rattle.ckc_core.specs.Core.{Initial}
 
 -- a number, null, or a place: a cell of a block
 pub data Value : Type 0 where

@@ -1,9 +1,7 @@
 -- The code of a program: which instructions each of its parts becomes. An instruction's place is its number in its function,
 -- which jumps name; so the code of a part takes the place of its first instruction.
-use Rattle.std.specs.Prelude.{ℕ, zero, suc, ◌+◌, ◌-◌, max, Bool, true, false, List, [], ◌∷◌, ◌++◌, length, map, replicate, Option, Some, None, pos}
-use Rattle.std.proofs.Common.{ℤ}
-use Rattle.std.specs.Int.{to_le_bytes, w8, w32}
-use Rattle.act_words.specs.Numbers.{signed, word}
+use Rattle.std.specs.Prelude.{ℕ, zero, suc, ◌+◌, Bool, true, false, List, [], ◌∷◌, ◌++◌, length, Option, Some, None, pos}
+use Rattle.act_words.specs.Numbers.{signed}
 use Rattle.pointer_modes.specs.Types.{CType, Int, Char, Struct, Pointer}
 use Rattle.ckc_core.specs.declared.program.Operator.{Operator}
 use Rattle.ckc_core.specs.declared.program.Operator.TheVariants as operators
@@ -16,9 +14,6 @@ use Rattle.code_words.specs.declared.op.Op.{Op}
 use Rattle.code_words.specs.declared.op.Op.TheVariants as ops
 use Rattle.code_words.specs.declared.image.WordKind.{WordKind}
 use Rattle.code_words.specs.declared.image.WordKind.TheVariants as kinds
-use Rattle.code_words.specs.declared.image.Func.{Func}
-use Rattle.code_words.specs.declared.image.Import.{Import}
-use Rattle.code_words.specs.declared.image.Image.{Image}
 
 -- ---- single instructions
 
@@ -238,7 +233,8 @@ abbrev mutual
       expression_code at condition
       ++ ops.JumpIfZero other
       ∷ (statement_code p inside consequent ++ ops.Jump (other + statement_size alternative) ∷ statement_code p other alternative)
-  -- The condition stands behind the body and the step, and is where the loop begins. Each turn begins with a tick.
+  -- The condition stands behind the body and the step, and is where the loop begins. Each turn begins with a tick. `break` and
+  -- `continue` in the step are those of the loop around it.
   statement_code p at (core.Loop condition body step) =
       let inside = at + 2 in
       let next = inside + statement_size body in
@@ -248,7 +244,7 @@ abbrev mutual
       ops.Jump test
       ∷ ops.Tick
       ∷ (statement_code q inside body
-      ++ (statement_code q next step ++ (expression_code test condition ++ ops.JumpIfZero end ∷ ops.Jump (at + 1) ∷ [])))
+      ++ (statement_code p next step ++ (expression_code test condition ++ ops.JumpIfZero end ∷ ops.Jump (at + 1) ∷ [])))
   statement_code p at (core.Return value) = expression_code at value ++ ops.Return ∷ []
   statement_code p at core.ReturnNothing = ops.ReturnNothing ∷ []
   statement_code p at core.Break = ops.Jump p.on_break ∷ []
@@ -275,9 +271,9 @@ abbrev pub result_kind : Option CType → WordKind
 result_kind None = kinds.Void
 result_kind (Some type) = kind_of type
 
--- outside of loops, `break` and `continue` have no place to go to
+-- outside of loops, `break` and `continue` lead to the end of the body
 abbrev pub body_places : core.Function → Places
-body_places f = record { scratch = length f.locals; on_break = 0; on_continue = 0 }
+body_places f = record { scratch = length f.locals; on_break = statements_size f.body; on_continue = statements_size f.body }
 
 abbrev pub function_ops : core.Function → List Op
 function_ops f = statements_code (body_places f) 0 f.body ++ ending_code f.result

@@ -1,15 +1,11 @@
 -- The code of small programs at work.
-use Rattle.std.specs.Prelude.{◌≡◌, ℕ, List, [], ◌∷◌, length, map, replicate, Option, Some, None, slice_get, pos, false}
-use Rattle.ckc_text.specs.declared.place.Place.{Place}
-use Rattle.ckc_text.specs.declared.code.Code.TheVariants.{C6, S1, S2}
+use Rattle.std.specs.Prelude.{◌≡◌, ℕ, List, [], ◌∷◌, length, map, replicate, Option, Some, None, slice_get, false}
 use Rattle.act_words.specs.declared.ending.Ending.{Ending}
-use Rattle.act_words.specs.declared.ending.Ending.TheVariants.{Exit, Check, Stop}
 use Rattle.act_words.specs.declared.settings.Settings.{Settings}
 use Rattle.act_words.specs.World.{new_world}
 use Rattle.flat_bytes.specs.Blocks.{first_offset, blocks_of}
 use Rattle.ckc_core.specs.Core.{Core}
-use Rattle.ckc_core.specs.Examples.{first_run, counting, falling, members}
-use Rattle.code_words.specs.Table.{State, Runs, frame_for}
+use Rattle.code_words.specs.Table.{State, Runs}
 use Rattle.code_words.specs.Runs.{Run, Unfinished, Finished, exec, memory_of, counter_behind, main_frame}
 use Rattle.code_words.specs.declared.image.Image.{Image}
 use Rattle.lowering.specs.Images.{image_of}

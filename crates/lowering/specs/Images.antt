@@ -1,6 +1,5 @@
 -- The image of a whole program.
 use Rattle.std.specs.Prelude.{ℕ, suc, ◌+◌, ◌-◌, Bool, true, false, List, [], ◌∷◌, ◌++◌, length, flat_map, map, replicate, Some}
-use Rattle.std.proofs.Common.{ℤ}
 use Rattle.std.specs.Int.{to_le_bytes, w8, w32}
 use Rattle.act_words.specs.Numbers.{word}
 use Rattle.ckc_core.specs.Core as core

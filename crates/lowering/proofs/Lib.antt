@@ -1,0 +1,17 @@
+pub mod Numbers
+pub mod Shapes
+pub mod Bytes
+pub mod Memory
+pub mod Worlds
+pub mod Executions
+pub mod Steps
+pub mod Sizes
+pub mod Expressions
+pub mod Places
+pub mod Conditions
+pub mod Calls
+pub mod Tainted
+pub mod Values
+pub mod Stores
+pub mod Statements
+pub mod Programs
