@@ -8,9 +8,9 @@ use Rattle.ckc_lexer.specs.declared.token.TokenKind.TheVariants as kinds
 use Rattle.ckc_tree.specs.declared.type_form.PointerWord.{PointerWord}
 use Rattle.ckc_tree.specs.Heights.{Reach, around}
 use Rattle.ckc_parser.specs.declared.stuck.Stuck.{Stuck}
-use Rattle.ckc_parser.specs.Tokens as words
-use Rattle.ckc_parser.specs.Tokens.{token, next_is, selector, IsPointerWord}
-use Rattle.ckc_parser.specs.Failures.{IsLow}
+use Rattle.ckc_grammar.specs.Tokens as words
+use Rattle.ckc_grammar.specs.Tokens.{token, next_is, selector, IsPointerWord}
+use Rattle.ckc_grammar.specs.Failures.{IsLow}
 use Rattle.ckc_parser.specs.Readings.{pointer_word_of}
 
 -- an error that is passed on

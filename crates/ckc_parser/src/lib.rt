@@ -6,7 +6,6 @@ mod build;
 mod declarations;
 mod expressions;
 mod items;
-pub mod laws;
 mod memory;
 mod operand;
 pub mod parser;

@@ -3,11 +3,11 @@
 ghost use Rattle.std.specs.Prelude.{◌≡◌, Some, IfOk};
 ghost use Rattle.std.specs.Option.{option_map};
 ghost use Rattle.ckc_lexer.specs.declared.token.TokenKind.TheVariants as kinds;
-ghost use Rattle.ckc_parser.specs.Tokens as words;
-ghost use Rattle.ckc_parser.specs.StuckTypes as type_words;
-ghost use Rattle.ckc_parser.specs.StuckExpressions as expression_words;
-ghost use Rattle.ckc_parser.specs.StuckStatements as statement_words;
-ghost use Rattle.ckc_parser.specs.Failures.{ReadsFirst, ReadsMark, ReadsName};
+ghost use Rattle.ckc_grammar.specs.Tokens as words;
+ghost use Rattle.ckc_grammar.specs.StuckTypes as type_words;
+ghost use Rattle.ckc_grammar.specs.StuckExpressions as expression_words;
+ghost use Rattle.ckc_grammar.specs.StuckStatements as statement_words;
+ghost use Rattle.ckc_parser.specs.Answers.{ReadsFirst, ReadsMark, ReadsName};
 ghost use Rattle.ckc_parser.specs.Readings.{unary_operator_of};
 
 use crate::stuck::Stuck;

@@ -1,10 +1,10 @@
 // Reading single words and marks that say one thing each: each function gives what it read and the tokens behind it.
 
 ghost use Rattle.ckc_lexer.specs.declared.token.TokenKind.TheVariants as kinds;
-ghost use Rattle.ckc_parser.specs.Tokens as words;
-ghost use Rattle.ckc_parser.specs.StatementGrammar.{SpellsConstant};
-ghost use Rattle.ckc_parser.specs.StuckStatements as marks;
-ghost use Rattle.ckc_parser.specs.Failures.{ReadsMark};
+ghost use Rattle.ckc_grammar.specs.Tokens as words;
+ghost use Rattle.ckc_grammar.specs.StatementGrammar.{SpellsConstant};
+ghost use Rattle.ckc_grammar.specs.StuckStatements as marks;
+ghost use Rattle.ckc_parser.specs.Answers.{ReadsMark};
 ghost use Rattle.ckc_parser.specs.StatementReadings as readings;
 ghost use Rattle.ckc_parser.specs.StatementReadings.{ReadsWord, IsNumber};
 

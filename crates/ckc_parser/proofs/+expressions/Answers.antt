@@ -1,14 +1,14 @@
 use Rattle.std.proofs.Common.{◌≤◌, ◌+◌, [], ◌∷◌, length, refl, sym, ap, subst, ◌∙◌, arith, add-one, rules}
 use Rattle.ckc_tree.specs.Expressions.{expression}
 use Rattle.ckc_tree.specs.Heights.{around, expression_reach, expressions_reach}
-use Rattle.ckc_parser.specs.Tokens as words
+use Rattle.ckc_grammar.specs.Tokens as words
 use Rattle.ckc_lexer.specs.declared.token.TokenKind.TheVariants as kinds
-use Rattle.ckc_parser.specs.Tokens.{token, next_is}
-use Rattle.ckc_parser.specs.ExpressionGrammar as g
-use Rattle.ckc_parser.specs.StuckExpressions as s
-use Rattle.ckc_parser.specs.StuckExpressions.{bounds_word}
+use Rattle.ckc_grammar.specs.Tokens.{token, next_is}
+use Rattle.ckc_grammar.specs.ExpressionGrammar as g
+use Rattle.ckc_grammar.specs.StuckExpressions as s
+use Rattle.ckc_grammar.specs.StuckExpressions.{bounds_word}
 use Rattle.ckc_parser.specs.Readings.{no_primary, in_primary, listed}
-use Rattle.ckc_parser.specs.Failures.{IsLow}
+use Rattle.ckc_grammar.specs.Failures.{IsLow}
 use Rattle.ckc_parser.specs.Forms.{form_word}
 use Rattle.ckc_parser.specs.Contexts.{Base, waiting, paren_start}
 use Rattle.ckc_parser.proofs.Readings.{err, begins, next, next_none, token_is, arrow_is, low_around}

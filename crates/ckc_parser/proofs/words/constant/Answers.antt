@@ -1,4 +1,4 @@
-use Rattle.ckc_parser.specs.StatementGrammar as g
+use Rattle.ckc_grammar.specs.StatementGrammar as g
 use Rattle.ckc_parser.proofs.Ahead.{word_at}
 use Rattle.ckc_parser.proofs.words.constant.Goals as goal
 

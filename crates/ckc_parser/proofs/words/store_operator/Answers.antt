@@ -1,4 +1,4 @@
-use Rattle.ckc_parser.specs.Tokens as words
+use Rattle.ckc_grammar.specs.Tokens as words
 use Rattle.ckc_parser.proofs.Ahead.{word_at}
 use Rattle.ckc_parser.proofs.words.store_operator.Goals as goal
 
