@@ -5,6 +5,7 @@ pub mod ContextSteps
 pub mod Selecting
 pub mod Arguments
 pub mod BoundsForms
+mod Terminals
 mod Ahead
 mod Assignments
 mod Blocks

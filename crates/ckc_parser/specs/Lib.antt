@@ -5,4 +5,5 @@ pub mod Forms
 pub mod Contexts
 pub mod ContextAnswers
 pub mod StatementReadings
+pub mod Terminals
 pub mod ItemReadings

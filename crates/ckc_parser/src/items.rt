@@ -22,6 +22,7 @@ use crate::declarations::{Read, declarators, from_first, optional_bounds};
 use crate::memory::push;
 use crate::statements::statements;
 use crate::stuck::Stuck;
+use crate::terminal::{Terminal, expect};
 use crate::tokens::{
     close_brace, close_paren, comma, copied, first, join, name, open_brace, open_paren, semicolon,
 };
@@ -44,22 +45,14 @@ use std::alloc::Global;
 fn void_word(tokens: &[Token]) -> Result<(Span, &[Token]), Stuck<'_>>
     ensures { ReadsMark kinds.Void marks.void_word tokens.now result }
 {
-    let (token, rest) = first(tokens)?;
-    match &token.kind {
-        TokenKind::Void => Ok((token.span, rest)),
-        _ => Err(Stuck::Unexpected { at: tokens }),
-    }
+    expect(Terminal::Void, tokens)
 }
 
 /// The span of the word `struct`.
 fn struct_word(tokens: &[Token]) -> Result<(Span, &[Token]), Stuck<'_>>
     ensures { ReadsMark kinds.Struct marks.struct_word tokens.now result }
 {
-    let (token, rest) = first(tokens)?;
-    match &token.kind {
-        TokenKind::Struct => Ok((token.span, rest)),
-        _ => Err(Stuck::Unexpected { at: tokens }),
-    }
+    expect(Terminal::Struct, tokens)
 }
 
 /// What a directive says of all that stands behind it, with its span.

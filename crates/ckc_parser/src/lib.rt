@@ -12,6 +12,7 @@ pub mod parser;
 mod primary;
 mod statements;
 mod stuck;
+mod terminal;
 mod tokens;
 mod types;
 mod words;

@@ -9,6 +9,7 @@ ghost use Rattle.ckc_parser.specs.StatementReadings as readings;
 ghost use Rattle.ckc_parser.specs.StatementReadings.{ReadsWord, IsNumber};
 
 use crate::stuck::Stuck;
+use crate::terminal::{Terminal, expect};
 use crate::tokens::first;
 use ckc_lexer::token::{Token, TokenKind};
 use ckc_text::place::Span;
@@ -18,44 +19,28 @@ use ckc_tree::stmt::{ArrayKind, Constant, Mark, StepOperator, StoreOperator};
 pub fn colon(tokens: &[Token]) -> Result<(Span, &[Token]), Stuck<'_>>
     ensures { ReadsMark kinds.Colon words.colon tokens.now result }
 {
-    let (token, rest) = first(tokens)?;
-    match &token.kind {
-        TokenKind::Colon => Ok((token.span, rest)),
-        _ => Err(Stuck::Unexpected { at: tokens }),
-    }
+    expect(Terminal::Colon, tokens)
 }
 
 /// The span of a mark `=`.
 pub fn equal(tokens: &[Token]) -> Result<(Span, &[Token]), Stuck<'_>>
     ensures { ReadsMark kinds.Equal words.equal tokens.now result }
 {
-    let (token, rest) = first(tokens)?;
-    match &token.kind {
-        TokenKind::Equal => Ok((token.span, rest)),
-        _ => Err(Stuck::Unexpected { at: tokens }),
-    }
+    expect(Terminal::Equal, tokens)
 }
 
 /// The span of a mark `-`.
 pub fn minus(tokens: &[Token]) -> Result<(Span, &[Token]), Stuck<'_>>
     ensures { ReadsMark kinds.Minus readings.minus tokens.now result }
 {
-    let (token, rest) = first(tokens)?;
-    match &token.kind {
-        TokenKind::Minus => Ok((token.span, rest)),
-        _ => Err(Stuck::Unexpected { at: tokens }),
-    }
+    expect(Terminal::Minus, tokens)
 }
 
 /// The span of the word `else`.
 pub fn else_word(tokens: &[Token]) -> Result<(Span, &[Token]), Stuck<'_>>
     ensures { ReadsMark kinds.Else words.else_word tokens.now result }
 {
-    let (token, rest) = first(tokens)?;
-    match &token.kind {
-        TokenKind::Else => Ok((token.span, rest)),
-        _ => Err(Stuck::Unexpected { at: tokens }),
-    }
+    expect(Terminal::Else, tokens)
 }
 
 /// A number with its span.
