@@ -59,10 +59,12 @@ fn struct_word(tokens: &[Token]) -> Result<(Span, &[Token]), Stuck<'_>>
 fn region(tokens: &[Token]) -> Result<(Region, Span, &[Token]), Stuck<'_>>
     ensures { ReadsWord IsScope marks.scope_word tokens.now result }
 {
-    let (token, rest) = first(tokens)?;
-    match &token.kind {
-        TokenKind::Scope(scope) => Ok((region_of(*scope), token.span, rest)),
-        _ => Err(Stuck::Unexpected { at: tokens }),
+    match tokens {
+        [token, rest @ ..] => match &token.kind {
+            TokenKind::Scope(scope) => Ok((region_of(*scope), token.span, rest)),
+            _ => Err(Stuck::Unexpected { at: tokens }),
+        },
+        [] => Err(Stuck::Unexpected { at: tokens }),
     }
 }
 
@@ -80,11 +82,13 @@ fn region_of(scope: CheckedScope) -> Region
 fn kind_word(tokens: &[Token]) -> Result<(FunctionKind, Span, &[Token]), Stuck<'_>>
     ensures { ReadsWord IsKindWord words.kind_word tokens.now result }
 {
-    let (token, rest) = first(tokens)?;
-    match &token.kind {
-        TokenKind::Tainted => Ok((FunctionKind::Tainted, token.span, rest)),
-        TokenKind::Callback => Ok((FunctionKind::Callback, token.span, rest)),
-        _ => Err(Stuck::Unexpected { at: tokens }),
+    match tokens {
+        [token, rest @ ..] => match &token.kind {
+            TokenKind::Tainted => Ok((FunctionKind::Tainted, token.span, rest)),
+            TokenKind::Callback => Ok((FunctionKind::Callback, token.span, rest)),
+            _ => Err(Stuck::Unexpected { at: tokens }),
+        },
+        [] => Err(Stuck::Unexpected { at: tokens }),
     }
 }
 

@@ -124,10 +124,12 @@ pub fn semicolon(tokens: &[Token]) -> Result<(Span, &[Token]), Stuck<'_>>
 pub fn name(tokens: &[Token]) -> Result<(&Name, Span, &[Token]), Stuck<'_>>
     ensures { ReadsName type_words.name_token tokens.now result }
 {
-    let (token, rest) = first(tokens)?;
-    match &token.kind {
-        TokenKind::Name(name) => Ok((name, token.span, rest)),
-        _ => Err(Stuck::Unexpected { at: tokens }),
+    match tokens {
+        [token, rest @ ..] => match &token.kind {
+            TokenKind::Name(name) => Ok((name, token.span, rest)),
+            _ => Err(Stuck::Unexpected { at: tokens }),
+        },
+        [] => Err(Stuck::Unexpected { at: tokens }),
     }
 }
 

@@ -47,10 +47,12 @@ pub fn else_word(tokens: &[Token]) -> Result<(Span, &[Token]), Stuck<'_>>
 pub fn number(tokens: &[Token]) -> Result<(u32, Span, &[Token]), Stuck<'_>>
     ensures { ReadsWord IsNumber marks.number_token tokens.now result }
 {
-    let (token, rest) = first(tokens)?;
-    match &token.kind {
-        TokenKind::Number(number) => Ok((*number, token.span, rest)),
-        _ => Err(Stuck::Unexpected { at: tokens }),
+    match tokens {
+        [token, rest @ ..] => match &token.kind {
+            TokenKind::Number(number) => Ok((*number, token.span, rest)),
+            _ => Err(Stuck::Unexpected { at: tokens }),
+        },
+        [] => Err(Stuck::Unexpected { at: tokens }),
     }
 }
 
@@ -58,11 +60,13 @@ pub fn number(tokens: &[Token]) -> Result<(u32, Span, &[Token]), Stuck<'_>>
 pub fn constant(tokens: &[Token]) -> Result<(Constant, Span, &[Token]), Stuck<'_>>
     ensures { ReadsWord SpellsConstant marks.constant_token tokens.now result }
 {
-    let (token, rest) = first(tokens)?;
-    match &token.kind {
-        TokenKind::Number(number) => Ok((Constant::Number(*number), token.span, rest)),
-        TokenKind::Character(byte) => Ok((Constant::Character(*byte), token.span, rest)),
-        _ => Err(Stuck::Unexpected { at: tokens }),
+    match tokens {
+        [token, rest @ ..] => match &token.kind {
+            TokenKind::Number(number) => Ok((Constant::Number(*number), token.span, rest)),
+            TokenKind::Character(byte) => Ok((Constant::Character(*byte), token.span, rest)),
+            _ => Err(Stuck::Unexpected { at: tokens }),
+        },
+        [] => Err(Stuck::Unexpected { at: tokens }),
     }
 }
 
@@ -70,11 +74,13 @@ pub fn constant(tokens: &[Token]) -> Result<(Constant, Span, &[Token]), Stuck<'_
 pub fn array_word(tokens: &[Token]) -> Result<(ArrayKind, Span, &[Token]), Stuck<'_>>
     ensures { ReadsWord words.IsArrayWord words.array_word tokens.now result }
 {
-    let (token, rest) = first(tokens)?;
-    match &token.kind {
-        TokenKind::Checked => Ok((ArrayKind::Checked, token.span, rest)),
-        TokenKind::NtChecked => Ok((ArrayKind::NullTerminated, token.span, rest)),
-        _ => Err(Stuck::Unexpected { at: tokens }),
+    match tokens {
+        [token, rest @ ..] => match &token.kind {
+            TokenKind::Checked => Ok((ArrayKind::Checked, token.span, rest)),
+            TokenKind::NtChecked => Ok((ArrayKind::NullTerminated, token.span, rest)),
+            _ => Err(Stuck::Unexpected { at: tokens }),
+        },
+        [] => Err(Stuck::Unexpected { at: tokens }),
     }
 }
 
@@ -82,11 +88,13 @@ pub fn array_word(tokens: &[Token]) -> Result<(ArrayKind, Span, &[Token]), Stuck
 pub fn mark(tokens: &[Token]) -> Result<(Mark, Span, &[Token]), Stuck<'_>>
     ensures { ReadsWord words.IsMark words.mark_word tokens.now result }
 {
-    let (token, rest) = first(tokens)?;
-    match &token.kind {
-        TokenKind::Checked => Ok((Mark::Checked, token.span, rest)),
-        TokenKind::Unchecked => Ok((Mark::Unchecked, token.span, rest)),
-        _ => Err(Stuck::Unexpected { at: tokens }),
+    match tokens {
+        [token, rest @ ..] => match &token.kind {
+            TokenKind::Checked => Ok((Mark::Checked, token.span, rest)),
+            TokenKind::Unchecked => Ok((Mark::Unchecked, token.span, rest)),
+            _ => Err(Stuck::Unexpected { at: tokens }),
+        },
+        [] => Err(Stuck::Unexpected { at: tokens }),
     }
 }
 
@@ -94,12 +102,14 @@ pub fn mark(tokens: &[Token]) -> Result<(Mark, Span, &[Token]), Stuck<'_>>
 pub fn store_operator(tokens: &[Token]) -> Result<(StoreOperator, Span, &[Token]), Stuck<'_>>
     ensures { ReadsWord words.IsStoreOperator readings.store_word tokens.now result }
 {
-    let (token, rest) = first(tokens)?;
-    match &token.kind {
-        TokenKind::Equal => Ok((StoreOperator::Set, token.span, rest)),
-        TokenKind::PlusEqual => Ok((StoreOperator::Add, token.span, rest)),
-        TokenKind::MinusEqual => Ok((StoreOperator::Subtract, token.span, rest)),
-        _ => Err(Stuck::Unexpected { at: tokens }),
+    match tokens {
+        [token, rest @ ..] => match &token.kind {
+            TokenKind::Equal => Ok((StoreOperator::Set, token.span, rest)),
+            TokenKind::PlusEqual => Ok((StoreOperator::Add, token.span, rest)),
+            TokenKind::MinusEqual => Ok((StoreOperator::Subtract, token.span, rest)),
+            _ => Err(Stuck::Unexpected { at: tokens }),
+        },
+        [] => Err(Stuck::Unexpected { at: tokens }),
     }
 }
 
@@ -107,10 +117,12 @@ pub fn store_operator(tokens: &[Token]) -> Result<(StoreOperator, Span, &[Token]
 pub fn step_operator(tokens: &[Token]) -> Result<(StepOperator, Span, &[Token]), Stuck<'_>>
     ensures { ReadsWord words.IsStepOperator marks.step_word tokens.now result }
 {
-    let (token, rest) = first(tokens)?;
-    match &token.kind {
-        TokenKind::PlusPlus => Ok((StepOperator::Increment, token.span, rest)),
-        TokenKind::MinusMinus => Ok((StepOperator::Decrement, token.span, rest)),
-        _ => Err(Stuck::Unexpected { at: tokens }),
+    match tokens {
+        [token, rest @ ..] => match &token.kind {
+            TokenKind::PlusPlus => Ok((StepOperator::Increment, token.span, rest)),
+            TokenKind::MinusMinus => Ok((StepOperator::Decrement, token.span, rest)),
+            _ => Err(Stuck::Unexpected { at: tokens }),
+        },
+        [] => Err(Stuck::Unexpected { at: tokens }),
     }
 }
