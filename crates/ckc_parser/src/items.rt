@@ -24,7 +24,7 @@ use crate::statements::statements;
 use crate::stuck::Stuck;
 use crate::terminal::{Terminal, expect};
 use crate::tokens::{
-    close_brace, close_paren, comma, copied, first, join, name, open_brace, open_paren, semicolon,
+    close_brace, close_paren, comma, copied, join, name, open_brace, open_paren, semicolon,
 };
 use crate::types::{star_count, stars, type_form, type_name};
 use crate::words::mark;

@@ -10,7 +10,6 @@ ghost use Rattle.ckc_parser.specs.StatementReadings.{ReadsWord, IsNumber};
 
 use crate::stuck::Stuck;
 use crate::terminal::{Terminal, expect};
-use crate::tokens::first;
 use ckc_lexer::token::{Token, TokenKind};
 use ckc_text::place::Span;
 use ckc_tree::stmt::{ArrayKind, Constant, Mark, StepOperator, StoreOperator};
