@@ -8,9 +8,9 @@ use Rattle.ckc_lexer.specs.Tokens.{AreTokens, HasFault, LexAnswers}
 use Rattle.ckc_lexer.specs.declared.token.Token.{Token}
 use Rattle.ckc_lexer.proofs.Cuts.{same_answer}
 use Rattle.ckc_tree.specs.Items.{Tree}
-use Rattle.ckc_parser.specs.Parsing.{IsTree, IsFault, ParseAnswers}
-use Rattle.ckc_parser.proofs.OneItem.{one_tree}
-use Rattle.ckc_parser.proofs.OneFault.{one_fault, fault_or_tree}
+use Rattle.ckc_grammar.specs.Parsing.{IsTree, IsFault, ParseAnswers}
+use Rattle.ckc_grammar.proofs.OneItem.{one_tree}
+use Rattle.ckc_grammar.proofs.OneFault.{one_fault, fault_or_tree}
 use Rattle.built_forms.specs.Program as forms
 use Rattle.built_forms.specs.Forms.{built, BuildsForms}
 use Rattle.region_typing.specs.Acceptance.{IsAccepted, core_of}

@@ -8,7 +8,7 @@ use Rattle.ckc_text.specs.Refusals as refusals
 use Rattle.ckc_lexer.specs.Tokens.{AreTokens, HasFault}
 use Rattle.ckc_lexer.specs.declared.token.Token.{Token}
 use Rattle.ckc_tree.specs.Items.{Tree}
-use Rattle.ckc_parser.specs.Parsing.{IsTree, IsFault}
+use Rattle.ckc_grammar.specs.Parsing.{IsTree, IsFault}
 use Rattle.built_forms.specs.Program as forms
 use Rattle.built_forms.specs.Forms.{built}
 use Rattle.region_typing.specs.Acceptance.{IsAccepted, core_of}

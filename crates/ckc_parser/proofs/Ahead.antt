@@ -5,9 +5,9 @@ use Rattle.ckc_lexer.specs.declared.token.Token.{Token}
 use Rattle.ckc_lexer.specs.declared.token.TokenKind.{TokenKind}
 use Rattle.ckc_lexer.specs.declared.token.TokenKind.TheVariants as kinds
 use Rattle.ckc_tree.specs.Heights.{Reach, ◌beside◌}
-use Rattle.ckc_parser.specs.Tokens.{token, next_is, comma}
-use Rattle.ckc_parser.specs.Failures.{IsLow}
-use Rattle.ckc_parser.specs.StuckStatements.{constant_token, minus_or_constant, step_word, assign_word, comma_or_brace, close_brace}
+use Rattle.ckc_grammar.specs.Tokens.{token, next_is, comma}
+use Rattle.ckc_grammar.specs.Failures.{IsLow}
+use Rattle.ckc_grammar.specs.StuckStatements.{constant_token, minus_or_constant, step_word, assign_word, comma_or_brace, close_brace}
 use Rattle.ckc_parser.specs.StatementReadings.{minus, store_word, IsNumber, number, WordAt}
 
 pub word_at : {W : Type 0} {Says : TokenKind → W → Type 0} {w : W} {t : Token} {k : TokenKind} {ts rest : List Token} → ts ≡ t ∷ rest → t.kind ≡ k → Says k w → WordAt Says w t.span ts rest

@@ -12,16 +12,17 @@ use Rattle.ckc_tree.specs.Expressions.{Expression, Expressions, NoMore, Then, Ca
 use Rattle.ckc_tree.specs.Heights.{Reach, nowhere, around, ◌beside◌, expression_reach, expressions_reach}
 use Rattle.ckc_lexer.specs.declared.token.Token.{Token}
 use Rattle.ckc_lexer.specs.declared.token.TokenKind.TheVariants as kinds
-use Rattle.ckc_parser.specs.Tokens.{token}
-use Rattle.ckc_parser.specs.ExpressionGrammar as g
-use Rattle.ckc_parser.specs.ExpressionGrammar.{SpellsBinary, SpellsMoreArguments, SpellsArguments}
+use Rattle.ckc_grammar.specs.Tokens.{token}
+use Rattle.ckc_grammar.specs.ExpressionGrammar as g
+use Rattle.ckc_grammar.specs.ExpressionGrammar.{SpellsBinary, SpellsMoreArguments, SpellsArguments}
 use Rattle.std.proofs.Common.{Result, Ok, Err}
 use Rattle.std.specs.Borrow.{Bor}
 use Rattle.ckc_parser.specs.declared.stuck.Stuck.{Stuck}
 use Rattle.ckc_parser.specs.declared.primary.ReadArguments.{ReadArguments}
-use Rattle.ckc_parser.specs.Failures.{Failure, IsLow, Reads}
-use Rattle.ckc_parser.specs.StuckExpressions as s
-use Rattle.ckc_parser.specs.StuckExpressions.{StuckMoreArguments, StuckArguments}
+use Rattle.ckc_grammar.specs.Failures.{Failure, IsLow}
+use Rattle.ckc_parser.specs.Answers.{Reads}
+use Rattle.ckc_grammar.specs.StuckExpressions as s
+use Rattle.ckc_grammar.specs.StuckExpressions.{StuckMoreArguments, StuckArguments}
 use Rattle.ckc_parser.specs.Readings.{before, listed, IsMore, IsArguments}
 use Rattle.ckc_parser.proofs.ContextSteps.{low_beside}
 

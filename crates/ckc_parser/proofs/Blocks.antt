@@ -11,22 +11,22 @@ use Rattle.ckc_tree.specs.Expressions.{Expression}
 use Rattle.ckc_tree.specs.Statements.{ForInitial, Assignment, Statement, Statements, Block, If, IfElse, While, For, Then, Return, statement_span, statement, statements}
 use Rattle.ckc_tree.specs.Items.{statement_list}
 use Rattle.ckc_tree.specs.Heights.{◌beside◌, around, expression_reach, optional_expression_reach, optional_assignment_reach, for_initial_reach, statement_reach}
-use Rattle.ckc_parser.specs.Tokens.{token, join, next_is, else_word}
-use Rattle.ckc_parser.specs.ExpressionGrammar as grammar
-use Rattle.ckc_parser.specs.ExpressionGrammar.{SpellsUnary, SpellsSelectors, SpellsPrimary, SpellsCall}
-use Rattle.ckc_parser.specs.StatementGrammar as g
-use Rattle.ckc_parser.specs.StatementGrammar.{SpellsForInitial, SpellsForCondition, SpellsForStep, SpellsStatement}
-use Rattle.ckc_parser.specs.Failures.{Failure, IsLow}
-use Rattle.ckc_parser.specs.StuckTypes.{type_word, name_token}
-use Rattle.ckc_parser.specs.StuckStatements as stuck
-use Rattle.ckc_parser.specs.StuckStatements.{plain_word, assignment_word, statement_word, is_call, is_call_alone, StuckStatement}
+use Rattle.ckc_grammar.specs.Tokens.{token, join, next_is, else_word}
+use Rattle.ckc_grammar.specs.ExpressionGrammar as grammar
+use Rattle.ckc_grammar.specs.ExpressionGrammar.{SpellsUnary, SpellsSelectors, SpellsPrimary, SpellsCall}
+use Rattle.ckc_grammar.specs.StatementGrammar as g
+use Rattle.ckc_grammar.specs.StatementGrammar.{SpellsForInitial, SpellsForCondition, SpellsForStep, SpellsStatement}
+use Rattle.ckc_grammar.specs.Failures.{Failure, IsLow}
+use Rattle.ckc_grammar.specs.StuckTypes.{type_word, name_token}
+use Rattle.ckc_grammar.specs.StuckStatements as stuck
+use Rattle.ckc_grammar.specs.StuckStatements.{plain_word, assignment_word, statement_word, is_call, is_call_alone, StuckStatement}
 use Rattle.ckc_parser.specs.StatementReadings as r
 use Rattle.ckc_parser.specs.StatementReadings.{SpellsCondition, SpellsEnd, IsForHead, StuckAssigned}
 use Rattle.ckc_parser.proofs.Readings.{low_around}
 use Rattle.ckc_parser.proofs.Ahead.{low_beside}
-use Rattle.ckc_parser.proofs.Paths.{shorter, led_shorter}
-use Rattle.ckc_parser.proofs.ExpressionPaths.{binary_path, call_path}
-use Rattle.ckc_parser.proofs.StatementPaths.{declaration_path, assignment_path, assignments_path, statement_path, statements_path}
+use Rattle.ckc_grammar.proofs.Paths.{shorter, led_shorter}
+use Rattle.ckc_grammar.proofs.ExpressionPaths.{binary_path, call_path}
+use Rattle.ckc_grammar.proofs.StatementPaths.{declaration_path, assignment_path, assignments_path, statement_path, statements_path}
 
 -- ---- the statements of a block
 

@@ -8,11 +8,11 @@ use Rattle.ckc_lexer.specs.declared.token.TokenKind.{TokenKind}
 use Rattle.ckc_lexer.specs.declared.token.TokenKind.TheVariants as kinds
 use Rattle.ckc_parser.specs.declared.bounds.BoundsForm.{BoundsForm}
 use Rattle.ckc_parser.specs.declared.bounds.BoundsForm.TheVariants as forms
-use Rattle.ckc_parser.specs.Tokens.{token, next_is, comma}
-use Rattle.ckc_parser.specs.StuckTypes.{name_token}
-use Rattle.ckc_parser.specs.Failures.{Failure}
-use Rattle.ckc_parser.specs.StuckExpressions as s
-use Rattle.ckc_parser.specs.StuckExpressions.{bounds_word, unknown_word, is_unknown, close_paren, comma_or_paren, goes_on, IsCountWord, StuckBinary, StuckBounds}
+use Rattle.ckc_grammar.specs.Tokens.{token, next_is, comma}
+use Rattle.ckc_grammar.specs.StuckTypes.{name_token}
+use Rattle.ckc_grammar.specs.Failures.{Failure}
+use Rattle.ckc_grammar.specs.StuckExpressions as s
+use Rattle.ckc_grammar.specs.StuckExpressions.{bounds_word, unknown_word, is_unknown, close_paren, comma_or_paren, goes_on, IsCountWord, StuckBinary, StuckBounds}
 use Rattle.ckc_parser.specs.Readings.{count_word, IsRefusal}
 use Rattle.ckc_parser.specs.Forms.{form_word}
 

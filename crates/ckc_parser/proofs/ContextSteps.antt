@@ -16,18 +16,19 @@ use Rattle.ckc_parser.specs.declared.operand.Operand.{Operand}
 use Rattle.ckc_parser.specs.declared.expressions.Around.{Around}
 use Rattle.ckc_parser.specs.declared.expressions.Pending.{Pending}
 use Rattle.ckc_parser.specs.declared.expressions.Pending.TheVariants as forms
-use Rattle.ckc_parser.specs.Tokens as words
-use Rattle.ckc_parser.specs.Tokens.{token, join, IsUnaryOperator, operator_at, level, next_is}
-use Rattle.ckc_parser.specs.ExpressionGrammar.{SpellsBinary, SpellsPrimary, SpellsSelectors}
-use Rattle.ckc_parser.specs.Failures.{Failure, unexpected, too_deep, IsLow, Reads}
-use Rattle.ckc_parser.specs.StuckExpressions as s
-use Rattle.ckc_parser.specs.StuckExpressions.{primary_word, unary_word, close_paren, StuckBinary, StuckUnary, StuckSelectors}
+use Rattle.ckc_grammar.specs.Tokens as words
+use Rattle.ckc_grammar.specs.Tokens.{token, join, IsUnaryOperator, operator_at, level, next_is}
+use Rattle.ckc_grammar.specs.ExpressionGrammar.{SpellsBinary, SpellsPrimary, SpellsSelectors}
+use Rattle.ckc_grammar.specs.Failures.{Failure, unexpected, too_deep, IsLow}
+use Rattle.ckc_parser.specs.Answers.{Reads}
+use Rattle.ckc_grammar.specs.StuckExpressions as s
+use Rattle.ckc_grammar.specs.StuckExpressions.{primary_word, unary_word, close_paren, StuckBinary, StuckUnary, StuckSelectors}
 use Rattle.ckc_parser.specs.Readings.{unary_operator_of, IsBinary, IsUnary, FailsPrimary, no_primary, in_primary}
 use Rattle.ckc_parser.specs.Contexts.{Frame, frame, InParens, OperandOf, RightOf, waiting, limit, depth_in, Fits, looseness, looser_at, takes_before, paren_start, Selects, Closes, Base, Fails, Completes, Needs, GoesIn, IsAround, NeedsOperand, HasOperand, HasTight, HasWhole}
 use Rattle.ckc_parser.specs.ContextAnswers.{prefix_word, Applies, IsSmall, IsUnwrapped}
 use Rattle.ckc_parser.proofs.Readings.{low_around}
-use Rattle.ckc_parser.proofs.Paths.{beside_height}
-use Rattle.ckc_parser.proofs.ExpressionPaths.{Marks, mark, shift, marks_at}
+use Rattle.ckc_grammar.proofs.Paths.{beside_height}
+use Rattle.ckc_grammar.proofs.ExpressionPaths.{Marks, mark, shift, marks_at}
 use Rattle.ckc_parser.proofs.Contexts.{level_positive, limit_ten, depth_low, unary_spelled, unary_stuck, needs_primary, needs_fails, needs_right, right_too_deep, finished}
 
 pub unary_operator_is : (k : TokenKind) (operator : UnaryOperator) → unary_operator_of k ≡ Some operator → IsUnaryOperator k operator

@@ -11,12 +11,12 @@ use Rattle.ckc_tree.specs.declared.expr.BinaryOperator.{BinaryOperator}
 use Rattle.ckc_tree.specs.declared.expr.BinaryOperator.TheVariants as binary
 use Rattle.ckc_tree.specs.Expressions.{Expression, Binary}
 use Rattle.ckc_tree.specs.Heights.{expression_reach}
-use Rattle.ckc_parser.specs.Tokens.{token, join, IsUnaryOperator, operator_at, level, has_operator}
-use Rattle.ckc_parser.specs.ExpressionGrammar as g
-use Rattle.ckc_parser.specs.ExpressionGrammar.{SpellsBinary, SpellsTail, SpellsUnary, SpellsPrimary, SpellsSelectors}
-use Rattle.ckc_parser.specs.Failures.{Failure, too_deep, IsLow}
-use Rattle.ckc_parser.specs.StuckExpressions as s
-use Rattle.ckc_parser.specs.StuckExpressions.{StuckBinary, StuckTail, StuckUnary, StuckPrimary, StuckSelectors, unary_word, close_paren}
+use Rattle.ckc_grammar.specs.Tokens.{token, join, IsUnaryOperator, operator_at, level, has_operator}
+use Rattle.ckc_grammar.specs.ExpressionGrammar as g
+use Rattle.ckc_grammar.specs.ExpressionGrammar.{SpellsBinary, SpellsTail, SpellsUnary, SpellsPrimary, SpellsSelectors}
+use Rattle.ckc_grammar.specs.Failures.{Failure, too_deep, IsLow}
+use Rattle.ckc_grammar.specs.StuckExpressions as s
+use Rattle.ckc_grammar.specs.StuckExpressions.{StuckBinary, StuckTail, StuckUnary, StuckPrimary, StuckSelectors, unary_word, close_paren}
 use Rattle.ckc_parser.specs.Contexts.{Frame, InParens, OperandOf, RightOf, limit, depth_in, Fits, looseness, looser_at, Climbs, there, up, StuckClimb, stuck_here, stuck_above, Selects, Base, Fails, Completes, Needs, GoesIn}
 use Rattle.ckc_parser.proofs.Readings.{low_around}
 

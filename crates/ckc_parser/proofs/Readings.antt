@@ -1,6 +1,7 @@
 -- What a function that reads a form answers, from what the functions that it calls answered.
-use Rattle.std.proofs.Common.{◌≡◌, ℕ, zero, suc, ◌+◌, ◌<◌, ◌≤◌, Bool, true, false, List, [], ◌∷◌, Some, Result, Ok, Err, refl, ap, ◌∙◌, arith}
+use Rattle.std.proofs.Common.{◌≡◌, ℕ, zero, suc, ◌+◌, ◌<◌, ◌≤◌, Bool, true, false, List, [], ◌∷◌, Some, Result, Ok, Err, ◌-◌, length, get_or, take, drop, refl, ap, ◌∙◌, arith}
 use Rattle.std.proofs.lemmas.Option.{same_Some, none-some}
+use Rattle.std.proofs.lemmas.List.{take_rest}
 use Rattle.std.specs.Result.{IsErrAnd}
 use Rattle.ckc_lexer.specs.declared.token.Token.{Token}
 use Rattle.ckc_lexer.specs.declared.token.TokenKind.{TokenKind}
@@ -8,10 +9,15 @@ use Rattle.ckc_lexer.specs.declared.token.TokenKind.TheVariants as kinds
 use Rattle.ckc_tree.specs.declared.type_form.PointerWord.{PointerWord}
 use Rattle.ckc_tree.specs.Heights.{Reach, around}
 use Rattle.ckc_parser.specs.declared.stuck.Stuck.{Stuck}
-use Rattle.ckc_parser.specs.Tokens as words
-use Rattle.ckc_parser.specs.Tokens.{token, next_is, selector, IsPointerWord}
-use Rattle.ckc_parser.specs.Failures.{IsLow}
+use Rattle.ckc_grammar.specs.Tokens as words
+use Rattle.ckc_grammar.specs.Tokens.{token, next_is, selector, IsPointerWord}
+use Rattle.ckc_grammar.specs.Failures.{IsLow}
 use Rattle.ckc_parser.specs.Readings.{pointer_word_of}
+
+-- the first of the tokens, and the others
+pub cut : (ts : List Token) (t : Token) → 1 ≤ length ts → t ≡ get_or ts 0 t → ts ≡ t ∷ take (length ts - 1) (drop 1 ts)
+cut [] t some is = absurd (omega arith)
+cut (u ∷ us) t some is = rw (is, take_rest (u ∷ us) 1) refl
 
 -- an error that is passed on
 pub err : {T : Type 0} (r : Result T Stuck) (e : Stuck) → IsErrAnd r (λ x. x ≡ e) → r ≡ Err e

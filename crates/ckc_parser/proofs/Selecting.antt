@@ -8,15 +8,16 @@ use Rattle.ckc_tree.specs.Expressions.{Expression, Index, Dot, Arrow, expression
 use Rattle.ckc_tree.specs.Heights.{Reach, ◌beside◌, expression_reach}
 use Rattle.ckc_parser.specs.declared.operand.Operand.{Operand}
 use Rattle.ckc_parser.specs.declared.stuck.Stuck.{Stuck}
-use Rattle.ckc_parser.specs.Tokens.{token, join, identifier}
-use Rattle.ckc_parser.specs.ExpressionGrammar as g
-use Rattle.ckc_parser.specs.ExpressionGrammar.{SpellsBinary}
-use Rattle.ckc_parser.specs.Failures.{IsLow, Reads}
-use Rattle.ckc_parser.specs.StuckExpressions as s
-use Rattle.ckc_parser.specs.StuckExpressions.{StuckPrimary}
+use Rattle.ckc_grammar.specs.Tokens.{token, join, identifier}
+use Rattle.ckc_grammar.specs.ExpressionGrammar as g
+use Rattle.ckc_grammar.specs.ExpressionGrammar.{SpellsBinary}
+use Rattle.ckc_grammar.specs.Failures.{IsLow}
+use Rattle.ckc_parser.specs.Answers.{Reads}
+use Rattle.ckc_grammar.specs.StuckExpressions as s
+use Rattle.ckc_grammar.specs.StuckExpressions.{StuckPrimary}
 use Rattle.ckc_parser.specs.Readings.{SelectsOne, IsPrimary, FailsPrimary, in_primary}
 use Rattle.ckc_parser.proofs.Readings.{low_around}
-use Rattle.ckc_parser.proofs.Paths.{beside_height}
+use Rattle.ckc_grammar.proofs.Paths.{beside_height}
 
 pub height_is : (x : Operand) → x.reach.height ≡ (expression_reach (expression x.expr.value)).height
 height_is x = ap (λ (r : Reach). r.height) x.exact

@@ -11,10 +11,10 @@ use Rattle.ckc_tree.specs.Heights.{expression_reach}
 use Rattle.ckc_parser.specs.declared.expressions.Around.{Around}
 use Rattle.ckc_parser.specs.declared.expressions.Pending.{Pending}
 use Rattle.ckc_parser.specs.declared.expressions.Pending.TheVariants as forms
-use Rattle.ckc_parser.specs.Tokens.{token, join, operator_at, level, next_is}
-use Rattle.ckc_parser.specs.ExpressionGrammar.{SpellsBinary, SpellsTail, SpellsSelectors}
-use Rattle.ckc_parser.specs.Failures.{Failure, unexpected, IsLow}
-use Rattle.ckc_parser.specs.StuckExpressions.{close_paren, StuckBinary, StuckTail, StuckSelectors}
+use Rattle.ckc_grammar.specs.Tokens.{token, join, operator_at, level, next_is}
+use Rattle.ckc_grammar.specs.ExpressionGrammar.{SpellsBinary, SpellsTail, SpellsSelectors}
+use Rattle.ckc_grammar.specs.Failures.{Failure, unexpected, IsLow}
+use Rattle.ckc_grammar.specs.StuckExpressions.{close_paren, StuckBinary, StuckTail, StuckSelectors}
 
 -- a form that waits for its last operand
 pub data Frame : Type 0 where

@@ -3,7 +3,7 @@ use Rattle.std.specs.Prelude.{◌≡◌, ℕ, false, List, codes, Option, Some, 
 use Rattle.ckc_lexer.specs.declared.token.TokenKind.TheVariants as kinds
 use Rattle.ckc_parser.specs.declared.bounds.BoundsForm.{BoundsForm}
 use Rattle.ckc_parser.specs.declared.bounds.BoundsForm.TheVariants as forms
-use Rattle.ckc_parser.specs.StuckExpressions.{bounds_word}
+use Rattle.ckc_grammar.specs.StuckExpressions.{bounds_word}
 
 -- the word of bounds that say this
 abbrev pub form_word : BoundsForm → List ℕ

@@ -12,12 +12,12 @@ use Rattle.ckc_tree.specs.declared.item.FunctionKind.TheVariants.{Trusted, Taint
 use Rattle.ckc_tree.specs.Types.{TypeTree}
 use Rattle.ckc_tree.specs.Items.{ResultForm}
 use Rattle.ckc_tree.specs.Heights.{type_reach, result_reach}
-use Rattle.ckc_parser.specs.Tokens.{token, next_is, open_paren}
-use Rattle.ckc_parser.specs.TypeGrammar.{SpellsStars, SpellsType}
-use Rattle.ckc_parser.specs.ItemGrammar.{SpellsTainted, SpellsKind, SpellsOptionalMark, SpellsRegion, SpellsResult}
-use Rattle.ckc_parser.specs.Failures.{Failure, unexpected, IsLow}
-use Rattle.ckc_parser.specs.StuckTypes.{name_token, StuckType}
-use Rattle.ckc_parser.specs.StuckItems.{scope_word, void_word, is_structure, is_function, IsAlone}
+use Rattle.ckc_grammar.specs.Tokens.{token, next_is, open_paren}
+use Rattle.ckc_grammar.specs.TypeGrammar.{SpellsStars, SpellsType}
+use Rattle.ckc_grammar.specs.ItemGrammar.{SpellsTainted, SpellsKind, SpellsOptionalMark, SpellsRegion, SpellsResult}
+use Rattle.ckc_grammar.specs.Failures.{Failure, unexpected, IsLow}
+use Rattle.ckc_grammar.specs.StuckTypes.{name_token, StuckType}
+use Rattle.ckc_grammar.specs.StuckItems.{scope_word, void_word, is_structure, is_function, IsAlone}
 
 -- ---- words before an item
 

@@ -15,12 +15,13 @@ use Rattle.ckc_tree.specs.declared.expr.Expr.{Expr}
 use Rattle.ckc_tree.specs.Expressions.{Expression, Expressions, NoMore, Then, Bounds, expression}
 use Rattle.ckc_tree.specs.Heights.{type_reach, expression_reach, expressions_reach, bounds_reach}
 use Rattle.ckc_parser.specs.declared.operand.Operand.{Operand}
-use Rattle.ckc_parser.specs.TypeGrammar.{SpellsType, SpellsTypeName, SpellsAngled}
-use Rattle.ckc_parser.specs.ExpressionGrammar.{SpellsBinary, SpellsUnary, SpellsSelectors, SpellsPrimary, SpellsArguments, SpellsMoreArguments, SpellsBounds}
+use Rattle.ckc_grammar.specs.TypeGrammar.{SpellsType, SpellsTypeName, SpellsAngled}
+use Rattle.ckc_grammar.specs.ExpressionGrammar.{SpellsBinary, SpellsUnary, SpellsSelectors, SpellsPrimary, SpellsArguments, SpellsMoreArguments, SpellsBounds}
 use Rattle.ckc_parser.specs.declared.stuck.Stuck.{Stuck}
-use Rattle.ckc_parser.specs.Failures.{Failure, unexpected, too_deep, failure, IsLow}
-use Rattle.ckc_parser.specs.StuckExpressions.{primary_word, unknown_word, is_unknown, goes_on, StuckSelectors, StuckPrimary}
-use Rattle.ckc_parser.specs.Tokens.{token, next_is, selector}
+use Rattle.ckc_grammar.specs.Failures.{Failure, unexpected, too_deep, IsLow}
+use Rattle.ckc_parser.specs.Answers.{failure}
+use Rattle.ckc_grammar.specs.StuckExpressions.{primary_word, unknown_word, is_unknown, goes_on, StuckSelectors, StuckPrimary}
+use Rattle.ckc_grammar.specs.Tokens.{token, next_is, selector}
 
 -- the operand is this expression, with these bytes around it
 abbrev pub IsBuilt : Expression → Span → Operand → Type 0

@@ -12,12 +12,13 @@ use Rattle.ckc_tree.specs.Expressions.{Expression}
 use Rattle.ckc_tree.specs.Statements.{Assignment, Store, Step, ForInitial}
 use Rattle.ckc_tree.specs.Heights.{for_initial_reach, optional_expression_reach, optional_assignment_reach}
 use Rattle.ckc_parser.specs.declared.stuck.Stuck.{Stuck}
-use Rattle.ckc_parser.specs.Tokens.{token, join, IsStoreOperator, IsStepOperator, next_is}
-use Rattle.ckc_parser.specs.ExpressionGrammar.{SpellsExpression}
-use Rattle.ckc_parser.specs.StatementGrammar.{SpellsForInitial, SpellsForCondition, SpellsForStep}
-use Rattle.ckc_parser.specs.Failures.{Failure, failure, unexpected, no_memory, IsLow}
-use Rattle.ckc_parser.specs.StuckExpressions.{StuckExpression}
-use Rattle.ckc_parser.specs.StuckStatements.{assign_word, is_call}
+use Rattle.ckc_grammar.specs.Tokens.{token, join, IsStoreOperator, IsStepOperator, next_is}
+use Rattle.ckc_grammar.specs.ExpressionGrammar.{SpellsExpression}
+use Rattle.ckc_grammar.specs.StatementGrammar.{SpellsForInitial, SpellsForCondition, SpellsForStep}
+use Rattle.ckc_grammar.specs.Failures.{Failure, unexpected, no_memory, IsLow}
+use Rattle.ckc_parser.specs.Answers.{failure}
+use Rattle.ckc_grammar.specs.StuckExpressions.{StuckExpression}
+use Rattle.ckc_grammar.specs.StuckStatements.{assign_word, is_call}
 
 -- ---- words and marks that stand alone
 

@@ -5,7 +5,7 @@ ghost use Rattle.ckc_tree.specs.Expressions as trees;
 ghost use Rattle.ckc_tree.specs.Expressions.{expression, bounds as bounds_of};
 ghost use Rattle.ckc_tree.specs.Types.{type_name as type_name_of};
 ghost use Rattle.ckc_tree.specs.Heights.{node, expression_reach};
-ghost use Rattle.ckc_parser.specs.Tokens as words;
+ghost use Rattle.ckc_grammar.specs.Tokens as words;
 ghost use Rattle.ckc_parser.specs.Reaches.{reach_of};
 ghost use Rattle.ckc_parser.specs.Readings.{listed, IsBuilt};
 

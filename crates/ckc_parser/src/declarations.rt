@@ -5,11 +5,12 @@ ghost use Rattle.std.specs.Option.{option_map};
 ghost use Rattle.ckc_tree.specs.Expressions.{expression, bounds};
 ghost use Rattle.ckc_tree.specs.Statements as views;
 ghost use Rattle.ckc_tree.specs.Heights.{around, expression_reach, optional_bounds_reach, optional_initializer_reach, declarator_reach, declarators_reach, declared_reach, assignment_reach};
-ghost use Rattle.ckc_parser.specs.Tokens.{start_of, from_first, next_is};
-ghost use Rattle.ckc_parser.specs.StatementGrammar.{SpellsOptionalBounds, SpellsOptionalArray, SpellsSigned, SpellsConstants, SpellsOptionalInitializer, SpellsDeclarator, SpellsDeclarators, SpellsDeclaration, SpellsAssignment};
-ghost use Rattle.ckc_parser.specs.Failures.{Reads, IsLow};
-ghost use Rattle.ckc_parser.specs.StuckTypes.{type_word};
-ghost use Rattle.ckc_parser.specs.StuckStatements.{step_word, assignment_word, StuckOptionalBounds, StuckOptionalArray, StuckSigned, StuckConstants, StuckOptionalInitializer, StuckDeclarator, StuckDeclarators, StuckDeclaration, StuckAssignment};
+ghost use Rattle.ckc_grammar.specs.Tokens.{start_of, from_first, next_is};
+ghost use Rattle.ckc_grammar.specs.StatementGrammar.{SpellsOptionalBounds, SpellsOptionalArray, SpellsSigned, SpellsConstants, SpellsOptionalInitializer, SpellsDeclarator, SpellsDeclarators, SpellsDeclaration, SpellsAssignment};
+ghost use Rattle.ckc_grammar.specs.Failures.{IsLow};
+ghost use Rattle.ckc_parser.specs.Answers.{Reads};
+ghost use Rattle.ckc_grammar.specs.StuckTypes.{type_word};
+ghost use Rattle.ckc_grammar.specs.StuckStatements.{step_word, assignment_word, StuckOptionalBounds, StuckOptionalArray, StuckSigned, StuckConstants, StuckOptionalInitializer, StuckDeclarator, StuckDeclarators, StuckDeclaration, StuckAssignment};
 ghost use Rattle.ckc_parser.specs.StatementReadings.{SpellsAssigned, StuckAssigned};
 
 use crate::bounds::bounds;

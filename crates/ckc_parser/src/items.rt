@@ -8,12 +8,13 @@ ghost use Rattle.ckc_tree.specs.Expressions.{bounds};
 ghost use Rattle.ckc_tree.specs.Statements as statements;
 ghost use Rattle.ckc_tree.specs.Items as views;
 ghost use Rattle.ckc_tree.specs.Heights.{type_reach, members_reach, result_reach, parameters_reach, optional_body_reach, item_reach};
-ghost use Rattle.ckc_parser.specs.Tokens as words;
-ghost use Rattle.ckc_parser.specs.ItemGrammar.{SpellsTainted, SpellsKind, SpellsOptionalMark, SpellsMember, SpellsMembers, SpellsListed, SpellsParameters, SpellsResult, SpellsBody, SpellsRegion, SpellsItem, SpellsItems};
-ghost use Rattle.ckc_parser.specs.TypeGrammar.{SpellsType};
-ghost use Rattle.ckc_parser.specs.Failures.{Reads, ReadsMark, IsLow};
-ghost use Rattle.ckc_parser.specs.StuckItems as marks;
-ghost use Rattle.ckc_parser.specs.StuckItems.{IsLowMember, StuckMember, StuckMembers, StuckListed, StuckParameters, StuckBody, StuckItem};
+ghost use Rattle.ckc_grammar.specs.Tokens as words;
+ghost use Rattle.ckc_grammar.specs.ItemGrammar.{SpellsTainted, SpellsKind, SpellsOptionalMark, SpellsMember, SpellsMembers, SpellsListed, SpellsParameters, SpellsResult, SpellsBody, SpellsRegion, SpellsItem, SpellsItems};
+ghost use Rattle.ckc_grammar.specs.TypeGrammar.{SpellsType};
+ghost use Rattle.ckc_grammar.specs.Failures.{IsLow};
+ghost use Rattle.ckc_parser.specs.Answers.{Reads, ReadsMark};
+ghost use Rattle.ckc_grammar.specs.StuckItems as marks;
+ghost use Rattle.ckc_grammar.specs.StuckItems.{IsLowMember, StuckMember, StuckMembers, StuckListed, StuckParameters, StuckBody, StuckItem};
 ghost use Rattle.ckc_parser.specs.StatementReadings.{ReadsWord};
 ghost use Rattle.ckc_parser.specs.ItemReadings.{IsScope, IsKindWord, SideAnswers, IsLed, IsBase, IsStructureHead, IsStructure, IsNamed, StuckNamed, StuckResult, IsHead};
 
@@ -21,8 +22,9 @@ use crate::declarations::{Read, declarators, from_first, optional_bounds};
 use crate::memory::push;
 use crate::statements::statements;
 use crate::stuck::Stuck;
+use crate::terminal::{Terminal, expect};
 use crate::tokens::{
-    close_brace, close_paren, comma, copied, first, join, name, open_brace, open_paren, semicolon,
+    close_brace, close_paren, comma, copied, join, name, open_brace, open_paren, semicolon,
 };
 use crate::types::{star_count, stars, type_form, type_name};
 use crate::words::mark;
@@ -43,32 +45,26 @@ use std::alloc::Global;
 fn void_word(tokens: &[Token]) -> Result<(Span, &[Token]), Stuck<'_>>
     ensures { ReadsMark kinds.Void marks.void_word tokens.now result }
 {
-    let (token, rest) = first(tokens)?;
-    match &token.kind {
-        TokenKind::Void => Ok((token.span, rest)),
-        _ => Err(Stuck::Unexpected { at: tokens }),
-    }
+    expect(Terminal::Void, tokens)
 }
 
 /// The span of the word `struct`.
 fn struct_word(tokens: &[Token]) -> Result<(Span, &[Token]), Stuck<'_>>
     ensures { ReadsMark kinds.Struct marks.struct_word tokens.now result }
 {
-    let (token, rest) = first(tokens)?;
-    match &token.kind {
-        TokenKind::Struct => Ok((token.span, rest)),
-        _ => Err(Stuck::Unexpected { at: tokens }),
-    }
+    expect(Terminal::Struct, tokens)
 }
 
 /// What a directive says of all that stands behind it, with its span.
 fn region(tokens: &[Token]) -> Result<(Region, Span, &[Token]), Stuck<'_>>
     ensures { ReadsWord IsScope marks.scope_word tokens.now result }
 {
-    let (token, rest) = first(tokens)?;
-    match &token.kind {
-        TokenKind::Scope(scope) => Ok((region_of(*scope), token.span, rest)),
-        _ => Err(Stuck::Unexpected { at: tokens }),
+    match tokens {
+        [token, rest @ ..] => match &token.kind {
+            TokenKind::Scope(scope) => Ok((region_of(*scope), token.span, rest)),
+            _ => Err(Stuck::Unexpected { at: tokens }),
+        },
+        [] => Err(Stuck::Unexpected { at: tokens }),
     }
 }
 
@@ -86,11 +82,13 @@ fn region_of(scope: CheckedScope) -> Region
 fn kind_word(tokens: &[Token]) -> Result<(FunctionKind, Span, &[Token]), Stuck<'_>>
     ensures { ReadsWord IsKindWord words.kind_word tokens.now result }
 {
-    let (token, rest) = first(tokens)?;
-    match &token.kind {
-        TokenKind::Tainted => Ok((FunctionKind::Tainted, token.span, rest)),
-        TokenKind::Callback => Ok((FunctionKind::Callback, token.span, rest)),
-        _ => Err(Stuck::Unexpected { at: tokens }),
+    match tokens {
+        [token, rest @ ..] => match &token.kind {
+            TokenKind::Tainted => Ok((FunctionKind::Tainted, token.span, rest)),
+            TokenKind::Callback => Ok((FunctionKind::Callback, token.span, rest)),
+            _ => Err(Stuck::Unexpected { at: tokens }),
+        },
+        [] => Err(Stuck::Unexpected { at: tokens }),
     }
 }
 

@@ -2,13 +2,14 @@
 
 ghost use Rattle.std.specs.Prelude.{◌≡◌, List, map, Err, MatchResult};
 ghost use Rattle.ckc_lexer.specs.declared.token.Token.{Token as TokenOf};
-ghost use Rattle.ckc_parser.specs.Parsing.{point, ParseAnswers};
-ghost use Rattle.ckc_parser.specs.Refusals.{FaultIs};
+ghost use Rattle.ckc_grammar.specs.Parsing.{point, ParseAnswers};
+ghost use Rattle.ckc_grammar.specs.Refusals.{FaultIs};
 ghost use Rattle.ckc_tree.specs.Items.{item};
 ghost use Rattle.ckc_tree.specs.Heights.{items_reach};
-ghost use Rattle.ckc_parser.specs.ItemGrammar.{SpellsItems};
-ghost use Rattle.ckc_parser.specs.StuckItems.{StuckItems};
-ghost use Rattle.ckc_parser.specs.Failures.{failure, IsLow};
+ghost use Rattle.ckc_grammar.specs.ItemGrammar.{SpellsItems};
+ghost use Rattle.ckc_grammar.specs.StuckItems.{StuckItems};
+ghost use Rattle.ckc_grammar.specs.Failures.{IsLow};
+ghost use Rattle.ckc_parser.specs.Answers.{failure};
 
 use crate::items::item;
 use crate::memory::push;

@@ -5,9 +5,10 @@ ghost use Rattle.ckc_lexer.specs.declared.token.TokenKind.{TokenKind as Kind};
 ghost use Rattle.ckc_lexer.specs.declared.token.TokenKind.TheVariants as kinds;
 ghost use Rattle.ckc_tree.specs.Expressions.{expression};
 ghost use Rattle.ckc_tree.specs.Heights.{expressions_reach};
-ghost use Rattle.ckc_parser.specs.Tokens.{token, IsCastWord, IsMallocWord, IsCallocWord};
-ghost use Rattle.ckc_parser.specs.StuckExpressions.{primary_word, StuckPrimary, StuckArguments, StuckMoreArguments};
-ghost use Rattle.ckc_parser.specs.Failures.{Reads, TakesTokens, MayTakeTokens, IsLow};
+ghost use Rattle.ckc_grammar.specs.Tokens.{token, IsCastWord, IsMallocWord, IsCallocWord};
+ghost use Rattle.ckc_grammar.specs.StuckExpressions.{primary_word, StuckPrimary, StuckArguments, StuckMoreArguments};
+ghost use Rattle.ckc_grammar.specs.Failures.{IsLow};
+ghost use Rattle.ckc_parser.specs.Answers.{Reads, TakesTokens, MayTakeTokens};
 ghost use Rattle.ckc_parser.specs.Reaches.{reach_of};
 ghost use Rattle.ckc_parser.specs.Readings.{listed, IsPrimary, IsArguments, IsMore, FailsPrimary};
 

@@ -7,11 +7,12 @@ ghost use Rattle.ckc_tree.specs.Expressions.{expression};
 ghost use Rattle.ckc_tree.specs.Statements as views;
 ghost use Rattle.ckc_tree.specs.Items.{statement_list};
 ghost use Rattle.ckc_tree.specs.Heights.{expression_reach, assignments_reach, for_initial_reach, optional_expression_reach, optional_assignment_reach, statement_reach, statements_reach};
-ghost use Rattle.ckc_parser.specs.Tokens.{token, join, next_is};
-ghost use Rattle.ckc_parser.specs.StatementGrammar.{SpellsAssignments, SpellsForInitial, SpellsForStep, SpellsStatement, SpellsStatements};
-ghost use Rattle.ckc_parser.specs.Failures.{Reads, IsLow};
-ghost use Rattle.ckc_parser.specs.StuckTypes.{type_word, name_token};
-ghost use Rattle.ckc_parser.specs.StuckStatements.{plain_word, statement_word, assignment_word, is_call_alone, StuckAssignments, StuckForInitial, StuckForCondition, StuckForStep, StuckCondition, StuckStatement, StuckStatements};
+ghost use Rattle.ckc_grammar.specs.Tokens.{token, join, next_is};
+ghost use Rattle.ckc_grammar.specs.StatementGrammar.{SpellsAssignments, SpellsForInitial, SpellsForStep, SpellsStatement, SpellsStatements};
+ghost use Rattle.ckc_grammar.specs.Failures.{IsLow};
+ghost use Rattle.ckc_parser.specs.Answers.{Reads};
+ghost use Rattle.ckc_grammar.specs.StuckTypes.{type_word, name_token};
+ghost use Rattle.ckc_grammar.specs.StuckStatements.{plain_word, statement_word, assignment_word, is_call_alone, StuckAssignments, StuckForInitial, StuckForCondition, StuckForStep, StuckCondition, StuckStatement, StuckStatements};
 ghost use Rattle.ckc_parser.specs.StatementReadings.{SpellsCondition, SpellsEnd, IsCallEnd, IsForHead};
 
 use crate::declarations::{Read, assigned, assignment, declaration, starts_assignment};

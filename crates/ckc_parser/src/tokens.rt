@@ -3,14 +3,15 @@
 ghost use Rattle.std.specs.Prelude.{◌≡◌, Some, IfOk};
 ghost use Rattle.std.specs.Option.{option_map};
 ghost use Rattle.ckc_lexer.specs.declared.token.TokenKind.TheVariants as kinds;
-ghost use Rattle.ckc_parser.specs.Tokens as words;
-ghost use Rattle.ckc_parser.specs.StuckTypes as type_words;
-ghost use Rattle.ckc_parser.specs.StuckExpressions as expression_words;
-ghost use Rattle.ckc_parser.specs.StuckStatements as statement_words;
-ghost use Rattle.ckc_parser.specs.Failures.{ReadsFirst, ReadsMark, ReadsName};
+ghost use Rattle.ckc_grammar.specs.Tokens as words;
+ghost use Rattle.ckc_grammar.specs.StuckTypes as type_words;
+ghost use Rattle.ckc_grammar.specs.StuckExpressions as expression_words;
+ghost use Rattle.ckc_grammar.specs.StuckStatements as statement_words;
+ghost use Rattle.ckc_parser.specs.Answers.{ReadsFirst, ReadsMark, ReadsName};
 ghost use Rattle.ckc_parser.specs.Readings.{unary_operator_of};
 
 use crate::stuck::Stuck;
+use crate::terminal::{Terminal, expect};
 use ckc_lexer::token::{Token, TokenKind};
 use ckc_text::fault::NoMemory;
 use ckc_text::name::Name;
@@ -46,131 +47,89 @@ pub fn first(tokens: &[Token]) -> Result<(&Token, &[Token]), Stuck<'_>>
 pub fn open_paren(tokens: &[Token]) -> Result<(Span, &[Token]), Stuck<'_>>
     ensures { ReadsMark kinds.OpenParen words.open_paren tokens.now result }
 {
-    let (token, rest) = first(tokens)?;
-    match &token.kind {
-        TokenKind::OpenParen => Ok((token.span, rest)),
-        _ => Err(Stuck::Unexpected { at: tokens }),
-    }
+    expect(Terminal::OpenParen, tokens)
 }
 
 /// The span of a mark `)`.
 pub fn close_paren(tokens: &[Token]) -> Result<(Span, &[Token]), Stuck<'_>>
     ensures { ReadsMark kinds.CloseParen expression_words.close_paren tokens.now result }
 {
-    let (token, rest) = first(tokens)?;
-    match &token.kind {
-        TokenKind::CloseParen => Ok((token.span, rest)),
-        _ => Err(Stuck::Unexpected { at: tokens }),
-    }
+    expect(Terminal::CloseParen, tokens)
 }
 
 /// The span of a mark `{`.
 pub fn open_brace(tokens: &[Token]) -> Result<(Span, &[Token]), Stuck<'_>>
     ensures { ReadsMark kinds.OpenBrace statement_words.open_brace tokens.now result }
 {
-    let (token, rest) = first(tokens)?;
-    match &token.kind {
-        TokenKind::OpenBrace => Ok((token.span, rest)),
-        _ => Err(Stuck::Unexpected { at: tokens }),
-    }
+    expect(Terminal::OpenBrace, tokens)
 }
 
 /// The span of a mark `}`.
 pub fn close_brace(tokens: &[Token]) -> Result<(Span, &[Token]), Stuck<'_>>
     ensures { ReadsMark kinds.CloseBrace statement_words.close_brace tokens.now result }
 {
-    let (token, rest) = first(tokens)?;
-    match &token.kind {
-        TokenKind::CloseBrace => Ok((token.span, rest)),
-        _ => Err(Stuck::Unexpected { at: tokens }),
-    }
+    expect(Terminal::CloseBrace, tokens)
 }
 
 /// The span of a mark `[`.
 pub fn open_bracket(tokens: &[Token]) -> Result<(Span, &[Token]), Stuck<'_>>
     ensures { ReadsMark kinds.OpenBracket statement_words.open_bracket tokens.now result }
 {
-    let (token, rest) = first(tokens)?;
-    match &token.kind {
-        TokenKind::OpenBracket => Ok((token.span, rest)),
-        _ => Err(Stuck::Unexpected { at: tokens }),
-    }
+    expect(Terminal::OpenBracket, tokens)
 }
 
 /// The span of a mark `]`.
 pub fn close_bracket(tokens: &[Token]) -> Result<(Span, &[Token]), Stuck<'_>>
     ensures { ReadsMark kinds.CloseBracket expression_words.close_bracket tokens.now result }
 {
-    let (token, rest) = first(tokens)?;
-    match &token.kind {
-        TokenKind::CloseBracket => Ok((token.span, rest)),
-        _ => Err(Stuck::Unexpected { at: tokens }),
-    }
+    expect(Terminal::CloseBracket, tokens)
 }
 
 /// The span of a mark `<`.
 pub fn less(tokens: &[Token]) -> Result<(Span, &[Token]), Stuck<'_>>
     ensures { ReadsMark kinds.Less type_words.less tokens.now result }
 {
-    let (token, rest) = first(tokens)?;
-    match &token.kind {
-        TokenKind::Less => Ok((token.span, rest)),
-        _ => Err(Stuck::Unexpected { at: tokens }),
-    }
+    expect(Terminal::Less, tokens)
 }
 
 /// The span of a mark `>`.
 pub fn greater(tokens: &[Token]) -> Result<(Span, &[Token]), Stuck<'_>>
     ensures { ReadsMark kinds.Greater type_words.greater tokens.now result }
 {
-    let (token, rest) = first(tokens)?;
-    match &token.kind {
-        TokenKind::Greater => Ok((token.span, rest)),
-        _ => Err(Stuck::Unexpected { at: tokens }),
-    }
+    expect(Terminal::Greater, tokens)
 }
 
 /// The span of a mark `,`.
 pub fn comma(tokens: &[Token]) -> Result<(Span, &[Token]), Stuck<'_>>
     ensures { ReadsMark kinds.Comma words.comma tokens.now result }
 {
-    let (token, rest) = first(tokens)?;
-    match &token.kind {
-        TokenKind::Comma => Ok((token.span, rest)),
-        _ => Err(Stuck::Unexpected { at: tokens }),
-    }
+    expect(Terminal::Comma, tokens)
 }
 
 /// The span of a mark `*`.
 pub fn star(tokens: &[Token]) -> Result<(Span, &[Token]), Stuck<'_>>
     ensures { ReadsMark kinds.Star words.star tokens.now result }
 {
-    let (token, rest) = first(tokens)?;
-    match &token.kind {
-        TokenKind::Star => Ok((token.span, rest)),
-        _ => Err(Stuck::Unexpected { at: tokens }),
-    }
+    expect(Terminal::Star, tokens)
 }
 
 /// The span of a mark `;`.
 pub fn semicolon(tokens: &[Token]) -> Result<(Span, &[Token]), Stuck<'_>>
     ensures { ReadsMark kinds.Semicolon statement_words.semicolon tokens.now result }
 {
-    let (token, rest) = first(tokens)?;
-    match &token.kind {
-        TokenKind::Semicolon => Ok((token.span, rest)),
-        _ => Err(Stuck::Unexpected { at: tokens }),
-    }
+    expect(Terminal::Semicolon, tokens)
 }
 
 /// A name and its span.
 pub fn name(tokens: &[Token]) -> Result<(&Name, Span, &[Token]), Stuck<'_>>
     ensures { ReadsName type_words.name_token tokens.now result }
 {
-    let (token, rest) = first(tokens)?;
-    match &token.kind {
-        TokenKind::Name(name) => Ok((name, token.span, rest)),
-        _ => Err(Stuck::Unexpected { at: tokens }),
+    match tokens {
+        [token, rest @ ..] => match &token.kind {
+            TokenKind::Name(name) => Ok((name, token.span, rest)),
+            _ => Err(Stuck::Unexpected { at: tokens }),
+        },
+        [] => Err(Stuck::Unexpected { at: tokens }),
     }
 }
 

@@ -3,12 +3,12 @@
 ghost use Rattle.std.specs.Prelude.{◌≡◌, ◌≤◌, ◌<◌, ◌∷◌, ℕ, length, IfOk};
 ghost use Rattle.ckc_tree.specs.Heights.{type_reach};
 ghost use Rattle.ckc_tree.specs.Types.{type_tree, type_span, type_name as type_name_of};
-ghost use Rattle.ckc_parser.specs.TypeGrammar.{SpellsStars};
-ghost use Rattle.ckc_parser.specs.StuckTypes.{type_word, StuckType, StuckTypeName, StuckAngled};
-ghost use Rattle.ckc_parser.specs.Failures.{Reads, TakesTokens};
+ghost use Rattle.ckc_grammar.specs.TypeGrammar.{SpellsStars};
+ghost use Rattle.ckc_grammar.specs.StuckTypes.{type_word, StuckType, StuckTypeName, StuckAngled};
+ghost use Rattle.ckc_parser.specs.Answers.{Reads, TakesTokens};
 ghost use Rattle.ckc_parser.specs.Reaches.{reach_of};
 ghost use Rattle.ckc_parser.specs.Readings.{pointer_word_of, IsType, IsTypeName, IsAngled};
-ghost use Rattle.ckc_parser.specs.Tokens.{token, IsPointerWord};
+ghost use Rattle.ckc_grammar.specs.Tokens.{token, IsPointerWord};
 ghost use Rattle.ckc_lexer.specs.declared.token.TokenKind.{TokenKind as Kind};
 ghost use Rattle.ckc_lexer.specs.declared.token.TokenKind.TheVariants as kinds;
 

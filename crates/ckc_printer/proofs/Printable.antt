@@ -22,11 +22,11 @@ use Rattle.ckc_tree.specs.declared.expr.CallocWord.{CallocWord}
 use Rattle.ckc_tree.specs.declared.expr.CallocWord.TheVariants as callocs
 use Rattle.ckc_tree.specs.Types.{TypeTree, TypeName}
 use Rattle.ckc_tree.specs.Expressions.{Expression, Expressions, Bounds}
-use Rattle.ckc_parser.specs.Tokens.{operator_of, operator_at, operator_with, with_rest, behind_greater, greater_or_shift, right_shift}
-use Rattle.ckc_parser.specs.TypeGrammar as t
-use Rattle.ckc_parser.specs.TypeGrammar.{SpellsStars, SpellsType, SpellsTypeName, SpellsAngled}
-use Rattle.ckc_parser.specs.ExpressionGrammar as g
-use Rattle.ckc_parser.specs.ExpressionGrammar.{SpellsBinary, SpellsTail, SpellsUnary, SpellsSelectors, SpellsPrimary, SpellsCall, SpellsArguments, SpellsMoreArguments, SpellsBounds}
+use Rattle.ckc_grammar.specs.Tokens.{operator_of, operator_at, operator_with, with_rest, behind_greater, greater_or_shift, right_shift}
+use Rattle.ckc_grammar.specs.TypeGrammar as t
+use Rattle.ckc_grammar.specs.TypeGrammar.{SpellsStars, SpellsType, SpellsTypeName, SpellsAngled}
+use Rattle.ckc_grammar.specs.ExpressionGrammar as g
+use Rattle.ckc_grammar.specs.ExpressionGrammar.{SpellsBinary, SpellsTail, SpellsUnary, SpellsSelectors, SpellsPrimary, SpellsCall, SpellsArguments, SpellsMoreArguments, SpellsBounds}
 use Rattle.ckc_printer.specs.Pieces.{Sign, One, around}
 use Rattle.ckc_printer.specs.TypePieces.{word_kind, stars_pieces, type_pieces, type_name_pieces, angled_pieces}
 use Rattle.ckc_printer.specs.ExpressionPieces.{unary_kind, binary_sign, cast_kind, malloc_kind, calloc_kind, is_compound, is_binary, expression_pieces, arguments_pieces, more_pieces, bounds_pieces, operand_pieces, target_pieces}

@@ -9,8 +9,8 @@ use Rattle.ckc_tree.specs.declared.item.FunctionKind.{FunctionKind}
 use Rattle.ckc_tree.specs.Types.{TypeName}
 use Rattle.ckc_tree.specs.Expressions.{Bounds}
 use Rattle.ckc_tree.specs.Items.{Member, ResultForm, Parameters, Body, Item, Tree}
-use Rattle.ckc_parser.specs.ItemGrammar as g
-use Rattle.ckc_parser.specs.ItemGrammar.{SpellsTainted, SpellsKind, SpellsOptionalMark, SpellsMember, SpellsMembers, SpellsResult, SpellsListed, SpellsParameters, SpellsBody, SpellsItem, SpellsItems, SpellsProgram}
+use Rattle.ckc_grammar.specs.ItemGrammar as g
+use Rattle.ckc_grammar.specs.ItemGrammar.{SpellsTainted, SpellsKind, SpellsOptionalMark, SpellsMember, SpellsMembers, SpellsResult, SpellsListed, SpellsParameters, SpellsBody, SpellsItem, SpellsItems, SpellsProgram}
 use Rattle.ckc_printer.specs.Pieces.{Sign, Piece, InLine, with_commas}
 use Rattle.ckc_printer.specs.TypePieces.{name_sign, type_name_pieces}
 use Rattle.ckc_printer.specs.StatementPieces.{optional_bounds_pieces}

@@ -21,11 +21,11 @@ use Rattle.ckc_tree.specs.Types.{type_span}
 use Rattle.ckc_tree.specs.Expressions.{Bounds}
 use Rattle.ckc_tree.specs.Statements.{Initializer, Value, Constants, Declarator, Declaration, Assignment, Store, Step}
 use Rattle.ckc_tree.specs.Bare.{bare_bounds, bare_array, bare_constant, bare_initializer, bare_declarator, bare_declaration, bare_assignment}
-use Rattle.ckc_parser.specs.Tokens as words
-use Rattle.ckc_parser.specs.Tokens.{token, join, identifier, from_first, IsArrayWord, IsStoreOperator, IsStepOperator, colon, equal, comma, array_word, open_paren, selector}
-use Rattle.ckc_parser.specs.TypeGrammar.{SpellsStars}
-use Rattle.ckc_parser.specs.StatementGrammar as g
-use Rattle.ckc_parser.specs.StatementGrammar.{SpellsOptionalBounds, SpellsOptionalArray, SpellsConstant, SpellsSigned, SpellsConstants, SpellsOptionalInitializer, SpellsDeclarator, SpellsDeclarators, SpellsDeclaration, SpellsAssignment, SpellsAssignments}
+use Rattle.ckc_grammar.specs.Tokens as words
+use Rattle.ckc_grammar.specs.Tokens.{token, join, identifier, from_first, IsArrayWord, IsStoreOperator, IsStepOperator, colon, equal, comma, array_word, open_paren, selector}
+use Rattle.ckc_grammar.specs.TypeGrammar.{SpellsStars}
+use Rattle.ckc_grammar.specs.StatementGrammar as g
+use Rattle.ckc_grammar.specs.StatementGrammar.{SpellsOptionalBounds, SpellsOptionalArray, SpellsConstant, SpellsSigned, SpellsConstants, SpellsOptionalInitializer, SpellsDeclarator, SpellsDeclarators, SpellsDeclaration, SpellsAssignment, SpellsAssignments}
 use Rattle.ckc_printer.specs.Pieces.{Sign, One, with_commas}
 use Rattle.ckc_printer.specs.TypePieces.{stars_pieces, type_pieces}
 use Rattle.ckc_printer.specs.ExpressionPieces.{expression_pieces, target_pieces}

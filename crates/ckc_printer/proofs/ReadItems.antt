@@ -22,11 +22,11 @@ use Rattle.ckc_tree.specs.Expressions.{Bounds}
 use Rattle.ckc_tree.specs.Statements.{Declarator}
 use Rattle.ckc_tree.specs.Items.{Member, ResultForm, Void, Value, Parameters, Nothing, VoidAlone, Listed, Body, Item, RegionItem, StructureItem, GlobalItem, FunctionItem, Tree}
 use Rattle.ckc_tree.specs.Bare.{bare_type, bare_bounds, bare_declarator, bare_member, bare_result, bare_parameters, bare_body, bare_item, SameTree}
-use Rattle.ckc_parser.specs.Tokens.{join, identifier, from_first, colon, mark_word, kind_word, tainted_word}
-use Rattle.ckc_parser.specs.TypeGrammar.{SpellsStars, SpellsType}
-use Rattle.ckc_parser.specs.StatementGrammar.{SpellsOptionalBounds, SpellsDeclarators}
-use Rattle.ckc_parser.specs.ItemGrammar as g
-use Rattle.ckc_parser.specs.ItemGrammar.{SpellsTainted, SpellsKind, SpellsOptionalMark, SpellsMember, SpellsMembers, SpellsResult, SpellsListed, SpellsParameters, SpellsBody, SpellsRegion, SpellsItem, SpellsItems, SpellsProgram}
+use Rattle.ckc_grammar.specs.Tokens.{join, identifier, from_first, colon, mark_word, kind_word, tainted_word}
+use Rattle.ckc_grammar.specs.TypeGrammar.{SpellsStars, SpellsType}
+use Rattle.ckc_grammar.specs.StatementGrammar.{SpellsOptionalBounds, SpellsDeclarators}
+use Rattle.ckc_grammar.specs.ItemGrammar as g
+use Rattle.ckc_grammar.specs.ItemGrammar.{SpellsTainted, SpellsKind, SpellsOptionalMark, SpellsMember, SpellsMembers, SpellsResult, SpellsListed, SpellsParameters, SpellsBody, SpellsRegion, SpellsItem, SpellsItems, SpellsProgram}
 use Rattle.ckc_printer.specs.Pieces.{Sign, One, InLine, with_commas}
 use Rattle.ckc_printer.specs.TypePieces.{name_sign, word_kind, stars_pieces, type_pieces, type_name_pieces}
 use Rattle.ckc_printer.specs.StatementPieces.{optional_bounds_pieces, declarator_pieces, mark_pieces, statements_pieces}

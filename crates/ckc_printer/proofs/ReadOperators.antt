@@ -16,10 +16,10 @@ use Rattle.ckc_tree.specs.declared.expr.MallocWord.TheVariants as mallocs
 use Rattle.ckc_tree.specs.declared.expr.CallocWord.{CallocWord}
 use Rattle.ckc_tree.specs.declared.expr.CallocWord.TheVariants as callocs
 use Rattle.ckc_tree.specs.Expressions.{Expression, Binary}
-use Rattle.ckc_parser.specs.Tokens as words
-use Rattle.ckc_parser.specs.Tokens.{token, join, IsUnaryOperator, IsCastWord, IsMallocWord, IsCallocWord, level, operator_of, operator_at, operator_with, with_rest, behind_greater, greater_or_shift, right_shift, has_operator, open_paren, selector}
-use Rattle.ckc_parser.specs.ExpressionGrammar as g
-use Rattle.ckc_parser.specs.ExpressionGrammar.{SpellsBinary, SpellsUnary}
+use Rattle.ckc_grammar.specs.Tokens as words
+use Rattle.ckc_grammar.specs.Tokens.{token, join, IsUnaryOperator, IsCastWord, IsMallocWord, IsCallocWord, level, operator_of, operator_at, operator_with, with_rest, behind_greater, greater_or_shift, right_shift, has_operator, open_paren, selector}
+use Rattle.ckc_grammar.specs.ExpressionGrammar as g
+use Rattle.ckc_grammar.specs.ExpressionGrammar.{SpellsBinary, SpellsUnary}
 use Rattle.ckc_printer.specs.Pieces.{Sign, One, RightShift}
 use Rattle.ckc_printer.specs.ExpressionPieces.{unary_kind, binary_sign, cast_kind, malloc_kind, calloc_kind}
 use Rattle.ckc_printer.specs.ReadingBack.{Behind, AreSigns, none, one, shift}

@@ -12,13 +12,13 @@ use Rattle.ckc_tree.specs.Expressions.{Expression}
 use Rattle.ckc_tree.specs.Statements as trees
 use Rattle.ckc_tree.specs.Statements.{Assignment, assignment_span, ForInitial, Statement, statement_span, Statements}
 use Rattle.ckc_tree.specs.Bare.{bare_expression, bare_assignment, bare_initial, bare_statement, bare_statements}
-use Rattle.ckc_parser.specs.Tokens as words
-use Rattle.ckc_parser.specs.Tokens.{token, join, identifier, IsMark, next_is, else_word}
-use Rattle.ckc_parser.specs.ExpressionGrammar as e
-use Rattle.ckc_parser.specs.ExpressionGrammar.{SpellsExpression}
-use Rattle.ckc_parser.specs.StatementGrammar as g
-use Rattle.ckc_parser.specs.StatementGrammar.{SpellsForInitial, SpellsForCondition, SpellsForStep, SpellsStatement, SpellsStatements}
-use Rattle.ckc_parser.proofs.Roles.{role, role_at, statement_starts}
+use Rattle.ckc_grammar.specs.Tokens as words
+use Rattle.ckc_grammar.specs.Tokens.{token, join, identifier, IsMark, next_is, else_word}
+use Rattle.ckc_grammar.specs.ExpressionGrammar as e
+use Rattle.ckc_grammar.specs.ExpressionGrammar.{SpellsExpression}
+use Rattle.ckc_grammar.specs.StatementGrammar as g
+use Rattle.ckc_grammar.specs.StatementGrammar.{SpellsForInitial, SpellsForCondition, SpellsForStep, SpellsStatement, SpellsStatements}
+use Rattle.ckc_grammar.proofs.Roles.{role, role_at, statement_starts}
 use Rattle.ckc_printer.specs.Pieces.{Sign, One}
 use Rattle.ckc_printer.specs.ExpressionPieces.{expression_pieces}
 use Rattle.ckc_printer.specs.StatementPieces.{declaration_pieces, assignment_pieces, bundled_pieces, mark_kind, initial_pieces, optional_expression_pieces, optional_assignment_pieces, statement_pieces, statements_pieces}

@@ -4,7 +4,7 @@ use Rattle.ckc_text.specs.declared.place.Span.{Span}
 use Rattle.ckc_lexer.specs.declared.token.Token.{Token}
 use Rattle.ckc_lexer.specs.declared.token.TokenKind.{TokenKind}
 use Rattle.ckc_lexer.specs.declared.token.TokenKind.TheVariants as kinds
-use Rattle.ckc_parser.specs.Tokens.{token, next_is}
+use Rattle.ckc_grammar.specs.Tokens.{token, next_is}
 use Rattle.ckc_printer.specs.Pieces.{Sign, One, RightShift, with_commas, after_commas}
 use Rattle.ckc_printer.specs.ReadingBack.{AreSigns, none, one, shift}
 

@@ -10,9 +10,9 @@ use Rattle.ckc_lexer.specs.Words.{listed, keywords}
 use Rattle.ckc_lexer.specs.Tokens.{AreTokens}
 use Rattle.ckc_tree.specs.Items.{Tree}
 use Rattle.ckc_tree.specs.Bare.{SameTree}
-use Rattle.ckc_parser.specs.ItemGrammar.{SpellsProgram}
-use Rattle.ckc_parser.specs.Parsing.{IsTree}
-use Rattle.ckc_parser.specs.Tokens.{token}
+use Rattle.ckc_grammar.specs.ItemGrammar.{SpellsProgram}
+use Rattle.ckc_grammar.specs.Parsing.{IsTree}
+use Rattle.ckc_grammar.specs.Tokens.{token}
 use Rattle.ckc_printer.specs.Pieces.{Sign, One, RightShift, Piece, InLine, ScopeLine, text_of}
 use Rattle.ckc_printer.specs.ItemPieces.{program_pieces, program_text}
 

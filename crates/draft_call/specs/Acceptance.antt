@@ -8,7 +8,7 @@ use Rattle.ckc_text.specs.Refusals as refusals
 use Rattle.ckc_lexer.specs.Tokens.{AreTokens, HasFault}
 use Rattle.ckc_lexer.specs.declared.token.Token.{Token}
 use Rattle.ckc_tree.specs.Items.{Tree}
-use Rattle.ckc_parser.specs.Parsing.{IsTree, IsFault}
+use Rattle.ckc_grammar.specs.Parsing.{IsTree, IsFault}
 use Rattle.built_forms.specs.Built.{is_built}
 use Rattle.ckc_names.specs.Naming.{naming_fault}
 use Rattle.typing_rules.specs.Verdicts.{Breaks}

@@ -1,19 +1,18 @@
-use Rattle.std.proofs.Common.{◌≤◌, ◌+◌, [], ◌∷◌, length, refl, sym, ap, subst, ◌∙◌, arith, add-one, rules}
+use Rattle.std.proofs.Common.{◌≤◌, ◌+◌, [], ◌∷◌, length, refl, sym, ap, ◌∙◌, arith, add-one, rules}
 use Rattle.ckc_tree.specs.Expressions.{expression}
-use Rattle.ckc_tree.specs.Heights.{around, expression_reach, expressions_reach}
-use Rattle.ckc_parser.specs.Tokens as words
+use Rattle.ckc_tree.specs.Heights.{expression_reach, expressions_reach}
+use Rattle.ckc_grammar.specs.Tokens as words
 use Rattle.ckc_lexer.specs.declared.token.TokenKind.TheVariants as kinds
-use Rattle.ckc_parser.specs.Tokens.{token, next_is}
-use Rattle.ckc_parser.specs.ExpressionGrammar as g
-use Rattle.ckc_parser.specs.StuckExpressions as s
-use Rattle.ckc_parser.specs.StuckExpressions.{bounds_word}
+use Rattle.ckc_grammar.specs.Tokens.{token, next_is}
+use Rattle.ckc_grammar.specs.ExpressionGrammar as g
+use Rattle.ckc_grammar.specs.StuckExpressions as s
+use Rattle.ckc_grammar.specs.StuckExpressions.{bounds_word}
 use Rattle.ckc_parser.specs.Readings.{no_primary, in_primary, listed}
-use Rattle.ckc_parser.specs.Failures.{IsLow}
 use Rattle.ckc_parser.specs.Forms.{form_word}
 use Rattle.ckc_parser.specs.Contexts.{Base, waiting, paren_start}
 use Rattle.ckc_parser.proofs.Readings.{err, begins, next, next_none, token_is, arrow_is, low_around}
 use Rattle.ckc_parser.proofs.Selecting.{primary_reads, height_is, start_is, room, index_selects, selects_none, selects_more}
-use Rattle.ckc_parser.proofs.Arguments.{call_is, follows_none, follows_more, low_pushed, all_read, first_read}
+use Rattle.ckc_parser.proofs.Arguments.{follows_none, follows_more, low_pushed, all_read, first_read}
 use Rattle.ckc_parser.proofs.BoundsForms.{no_bounds_word, word_of_bounds, word_of_count, no_comma_or_paren, low_fails, unknown_refused}
 use Rattle.ckc_parser.proofs.Contexts.{needs_first}
 use Rattle.ckc_parser.proofs.ContextSteps.{operator_shorter, low_beside, needs_in, depth_fits, primary_fails, primary_read, selectors_fail, selectors_read, unclosed, closed_again, some_wait, whole_before, whole_outside, whole_read, tight_before}

@@ -1,7 +1,7 @@
 use Rattle.std.proofs.Common.{length, Err, subst}
 use Rattle.std.proofs.lemmas.Result.{err_from_is_err_and}
 use Rattle.ckc_tree.specs.Items.{tree}
-use Rattle.ckc_parser.specs.Parsing.{ParseAnswers, IsTree}
+use Rattle.ckc_grammar.specs.Parsing.{ParseAnswers, IsTree}
 use Rattle.built_forms.specs.Program as forms
 use Rattle.ccbox.proofs.Fronts.{lex_refuses, parse_refuses, forms_refuse, check_answers}
 use Rattle.ccbox.proofs.front.front.Goals as goal

@@ -1,4 +1,4 @@
-use Rattle.ckc_parser.specs.StuckExpressions as s
+use Rattle.ckc_grammar.specs.StuckExpressions as s
 use Rattle.ckc_parser.proofs.Readings.{err}
 use Rattle.ckc_parser.proofs.Selecting.{room, dot_selects}
 use Rattle.ckc_parser.proofs.expressions.dotted.Goals as goal

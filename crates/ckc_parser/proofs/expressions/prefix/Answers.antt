@@ -1,5 +1,5 @@
 use Rattle.std.proofs.Common.{◌≤◌, ◌<◌, suc, arith, ◌∙◌, add-one, ap, sym}
-use Rattle.ckc_parser.specs.StuckExpressions as s
+use Rattle.ckc_grammar.specs.StuckExpressions as s
 use Rattle.ckc_parser.proofs.Readings.{err, next_none}
 use Rattle.ckc_parser.proofs.Waiting.{waiting_last}
 use Rattle.ckc_parser.proofs.Contexts.{needs_fails, needs_parens, needs_operand}

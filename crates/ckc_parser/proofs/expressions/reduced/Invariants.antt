@@ -2,7 +2,7 @@ use Rattle.std.proofs.Common.{◌≡◌, List, length}
 use Rattle.ckc_lexer.specs.declared.token.Token.{Token}
 use Rattle.ckc_tree.specs.Expressions.{expression}
 use Rattle.ckc_tree.specs.Heights.{expression_reach}
-use Rattle.ckc_parser.specs.Failures.{IsLow}
+use Rattle.ckc_grammar.specs.Failures.{IsLow}
 use Rattle.ckc_parser.specs.Contexts.{Base, IsAround, HasTight, looser_at}
 use Rattle.ckc_parser.proofs.expressions.reduced.Given as goal
 

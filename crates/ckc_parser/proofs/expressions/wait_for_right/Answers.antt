@@ -1,8 +1,8 @@
 use Rattle.std.proofs.Common.{◌≡◌, ◌<◌, ◌+◌, suc, arith, ◌∙◌, add-one, ap}
 use Rattle.ckc_tree.specs.Heights.{Reach, expression_reach}
 use Rattle.ckc_tree.specs.Expressions.{expression}
-use Rattle.ckc_parser.specs.Failures.{IsLow}
-use Rattle.ckc_parser.specs.StuckExpressions as s
+use Rattle.ckc_grammar.specs.Failures.{IsLow}
+use Rattle.ckc_grammar.specs.StuckExpressions as s
 use Rattle.ckc_parser.proofs.Readings.{err}
 use Rattle.ckc_parser.proofs.Waiting.{waiting_last}
 use Rattle.ckc_parser.proofs.ContextSteps.{needs_in, right_waits, right_deep}

@@ -1,6 +1,6 @@
 use Rattle.ckc_parser.proofs.Ahead.{low_beside}
-use Rattle.ckc_parser.specs.ItemGrammar as g
-use Rattle.ckc_parser.specs.StuckItems as stuck
+use Rattle.ckc_grammar.specs.ItemGrammar as g
+use Rattle.ckc_grammar.specs.StuckItems as stuck
 use Rattle.ckc_parser.proofs.Readings.{err}
 use Rattle.ckc_parser.proofs.items.function.Goals as goal
 

@@ -1,5 +1,5 @@
-use Rattle.ckc_parser.specs.ItemGrammar as g
-use Rattle.ckc_parser.specs.StuckItems as stuck
+use Rattle.ckc_grammar.specs.ItemGrammar as g
+use Rattle.ckc_grammar.specs.StuckItems as stuck
 use Rattle.ckc_parser.proofs.Readings.{err}
 use Rattle.ckc_parser.proofs.items.member.Goals as goal
 

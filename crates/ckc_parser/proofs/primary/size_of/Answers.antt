@@ -1,6 +1,6 @@
 use Rattle.std.proofs.Common.{add-one}
-use Rattle.ckc_parser.specs.ExpressionGrammar as g
-use Rattle.ckc_parser.specs.StuckExpressions as s
+use Rattle.ckc_grammar.specs.ExpressionGrammar as g
+use Rattle.ckc_grammar.specs.StuckExpressions as s
 use Rattle.ckc_parser.proofs.Readings.{err, low_around}
 use Rattle.ckc_parser.proofs.primary.size_of.Goals as goal
 

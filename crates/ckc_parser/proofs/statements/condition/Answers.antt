@@ -1,5 +1,5 @@
 use Rattle.ckc_parser.specs.StatementReadings as readings
-use Rattle.ckc_parser.specs.StuckStatements as stuck
+use Rattle.ckc_grammar.specs.StuckStatements as stuck
 use Rattle.ckc_parser.proofs.Readings.{err}
 use Rattle.ckc_parser.proofs.statements.condition.Goals as goal
 

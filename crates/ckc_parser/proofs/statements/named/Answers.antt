@@ -2,8 +2,8 @@ use Rattle.std.proofs.Common.{add-one}
 use Rattle.ckc_parser.proofs.Readings.{low_around}
 use Rattle.ckc_parser.proofs.Assignments.{is_assignment}
 use Rattle.ckc_parser.proofs.Blocks.{is_called, stuck_named}
-use Rattle.ckc_parser.specs.StatementGrammar as g
-use Rattle.ckc_parser.specs.StuckStatements as stuck
+use Rattle.ckc_grammar.specs.StatementGrammar as g
+use Rattle.ckc_grammar.specs.StuckStatements as stuck
 use Rattle.ckc_parser.proofs.Readings.{err}
 use Rattle.ckc_parser.proofs.statements.named.Goals as goal
 

@@ -1,6 +1,6 @@
 use Rattle.std.proofs.Common.{arith}
 use Rattle.ckc_parser.specs.StatementReadings as readings
-use Rattle.ckc_parser.specs.StuckStatements as stuck
+use Rattle.ckc_grammar.specs.StuckStatements as stuck
 use Rattle.ckc_parser.proofs.Readings.{err}
 use Rattle.ckc_parser.proofs.statements.optional_value.Goals as goal
 

@@ -1,5 +1,5 @@
-use Rattle.ckc_parser.specs.StatementGrammar as g
-use Rattle.ckc_parser.specs.StuckStatements as stuck
+use Rattle.ckc_grammar.specs.StatementGrammar as g
+use Rattle.ckc_grammar.specs.StuckStatements as stuck
 use Rattle.ckc_parser.proofs.Readings.{err}
 use Rattle.ckc_parser.proofs.statements.stored.Goals as goal
 

@@ -1,6 +1,6 @@
 use Rattle.std.proofs.Common.{◌≤◌, sym, arith, add-one}
-use Rattle.ckc_parser.specs.TypeGrammar as grammar
-use Rattle.ckc_parser.specs.StuckTypes as stuck
+use Rattle.ckc_grammar.specs.TypeGrammar as grammar
+use Rattle.ckc_grammar.specs.StuckTypes as stuck
 use Rattle.ckc_parser.proofs.Readings.{err, begins, next, next_none, low_around, pointer_word_is}
 use Rattle.ckc_parser.proofs.types.+types.Goals as goal
 

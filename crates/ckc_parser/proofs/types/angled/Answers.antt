@@ -1,5 +1,5 @@
-use Rattle.ckc_parser.specs.TypeGrammar as grammar
-use Rattle.ckc_parser.specs.StuckTypes as stuck
+use Rattle.ckc_grammar.specs.TypeGrammar as grammar
+use Rattle.ckc_grammar.specs.StuckTypes as stuck
 use Rattle.ckc_parser.proofs.Readings.{err}
 use Rattle.ckc_parser.proofs.types.angled.Goals as goal
 

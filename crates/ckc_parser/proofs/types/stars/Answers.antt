@@ -1,6 +1,6 @@
 use Rattle.std.proofs.Common.{◌≡◌, zero, suc, ◌+◌, length, arith, ap, subst}
-use Rattle.ckc_parser.specs.TypeGrammar as grammar
-use Rattle.ckc_parser.specs.TypeGrammar.{SpellsStars}
+use Rattle.ckc_grammar.specs.TypeGrammar as grammar
+use Rattle.ckc_grammar.specs.TypeGrammar.{SpellsStars}
 use Rattle.ckc_parser.proofs.types.stars.Goals as goal
 
 pub loop-behind-preserved : goal.loop-behind-preserved

@@ -1,6 +1,6 @@
 use Rattle.std.proofs.Common.{ℕ, ◌+◌, ◌≤◌, List, length}
 use Rattle.ckc_lexer.specs.declared.token.Token.{Token}
-use Rattle.ckc_parser.specs.TypeGrammar.{SpellsStars}
+use Rattle.ckc_grammar.specs.TypeGrammar.{SpellsStars}
 use Rattle.ckc_parser.proofs.types.stars.Given as goal
 
 -- what is left completes the whole

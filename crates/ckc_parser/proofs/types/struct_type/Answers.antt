@@ -1,6 +1,6 @@
 use Rattle.std.proofs.Common.{arith}
-use Rattle.ckc_parser.specs.TypeGrammar as grammar
-use Rattle.ckc_parser.specs.StuckTypes as stuck
+use Rattle.ckc_grammar.specs.TypeGrammar as grammar
+use Rattle.ckc_grammar.specs.StuckTypes as stuck
 use Rattle.ckc_parser.proofs.Readings.{err}
 use Rattle.ckc_parser.proofs.types.struct_type.Goals as goal
 

@@ -1,0 +1,45 @@
+mod OneType
+mod Heads
+mod OneExpression
+pub mod Roles
+mod OneStatement
+pub mod OneItem
+mod Whole
+mod Early
+mod TokenOrder
+mod PlacedType
+mod PlacedExpression
+mod PlacedStatement
+mod PlacedItem
+pub mod Paths
+pub mod TypePaths
+pub mod ExpressionPaths
+pub mod StatementPaths
+pub mod ItemPaths
+pub mod OneFault
+pub mod Lists
+mod Forms
+mod Failing
+mod TypeForms
+mod MoreForms
+mod ExpressionLinks
+mod PrimaryForms
+mod BuiltBounds
+mod ExpressionForms
+mod SecondToken
+mod BoundsFails
+mod ExpressionFails
+mod Starting
+mod ConstantForms
+mod DeclarationForms
+mod AssignmentForms
+mod HeadForms
+mod SimpleForms
+mod StatementForms
+mod StatementFailing
+mod MemberForms
+mod Pasts
+mod ItemForms
+mod ItemPasts
+mod ItemFailing
+pub mod WholeForms

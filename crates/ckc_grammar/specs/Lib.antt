@@ -1,0 +1,17 @@
+pub mod Tokens
+pub mod TypeGrammar
+pub mod ExpressionGrammar
+pub mod StatementGrammar
+pub mod ItemGrammar
+pub mod TypeBeginnings
+pub mod ExpressionBeginnings
+pub mod StatementBeginnings
+pub mod ItemBeginnings
+pub mod Parsing
+pub mod Examples
+pub mod Failures
+pub mod StuckTypes
+pub mod StuckExpressions
+pub mod StuckStatements
+pub mod StuckItems
+pub mod Refusals

@@ -1,0 +1,49 @@
+// What holds of the grammar.
+
+ghost use Rattle.std.specs.Prelude.{[], ◌∷◌, codes};
+ghost use Rattle.ckc_grammar.specs.Examples.{span, at, left_tokens, left_tree, product_tokens, product_tree, paren_tokens, paren_tree, shift_tokens, shift_tree, nested_tokens, nested_type, else_tokens, else_tree, early_tokens, whole_tokens, whole_tree};
+ghost use Rattle.ckc_text.specs.declared.code.Code.TheVariants.{E06};
+ghost use Rattle.ckc_lexer.specs.declared.token.TokenKind.TheVariants as kinds;
+ghost use Rattle.ckc_grammar.specs.TypeGrammar.{SpellsTypeName};
+ghost use Rattle.ckc_grammar.specs.ExpressionGrammar.{SpellsExpression};
+ghost use Rattle.ckc_grammar.specs.StatementGrammar.{SpellsStatement};
+ghost use Rattle.ckc_grammar.specs.ItemGrammar.{SpellsProgram};
+ghost use Rattle.ckc_grammar.specs.Parsing.{IsFault, point, OneTree, OneFault, FaultOrTree, SpelledBegins, SpelledPlaced};
+
+/// No list of tokens spells two trees.
+pub fn one_tree()
+    ensures { OneTree }
+{}
+
+/// A list of tokens has one refusal at most.
+pub fn one_fault()
+    ensures { OneFault }
+{}
+
+/// Tokens that spell a tree that is low enough have no refusal.
+pub fn fault_or_tree()
+    ensures { FaultOrTree }
+{}
+
+/// What spells a tree begins, and has put its nodes.
+pub fn spelled_begins()
+    ensures { SpelledBegins }
+{}
+
+/// The spans of a tree that tokens spell lie in one another and in the source, and stand in order, where the tokens stand
+/// in order in the source.
+pub fn well_placed()
+    ensures { SpelledPlaced }
+{}
+
+/// The tokens of small sources spell the trees that one reads in them.
+pub fn examples()
+    ensures left { SpellsExpression left_tokens left_tree (span 0 9) [] }
+    ensures product { SpellsExpression product_tokens product_tree (span 0 9) [] }
+    ensures paren { SpellsExpression paren_tokens paren_tree (span 0 11) [] }
+    ensures shift { SpellsExpression shift_tokens shift_tree (span 0 6) [] }
+    ensures types { SpellsTypeName nested_tokens nested_type (at 14 15 (kinds.Name (codes "p")) ∷ []) }
+    ensures nearest { SpellsStatement else_tokens else_tree [] }
+    ensures whole { SpellsProgram 28 whole_tokens whole_tree }
+    ensures early { IsFault 26 (early_tokens []) (record { code = E06; span = point 26 }) }
+{}
