@@ -1,6 +1,5 @@
 pub mod Texts
 pub mod Arguments
-pub mod Forms
 pub mod Lines
 pub mod Blocks
 pub mod SignedTokens
