@@ -1,4 +1,5 @@
 pub mod Texts
+pub mod Commas
 pub mod Arguments
 pub mod Lines
 pub mod Blocks
