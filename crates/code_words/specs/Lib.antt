@@ -5,3 +5,4 @@ pub mod SandboxCode
 pub mod Runs
 pub mod Paced
 pub mod Fitting
+pub mod Dumps

@@ -22,7 +22,8 @@ use Rattle.code_words.specs.Table as table
 use Rattle.code_words.specs.Runs.{spread, counter_behind}
 use Rattle.code_words.specs.declared.image.Image.{Image}
 use Rattle.lowering.specs.Images.{word_bytes_if, padded, object_bytes, image_of}
-use Rattle.lowering.specs.Correct.{Shown, block_bytes, shown_from, counted_from, width_if, IsCell, IsLowerable, SameEnd}
+use Rattle.lowering.specs.Correct.{block_bytes, shown_from, counted_from, width_if, IsCell, IsLowerable, SameEnd}
+use Rattle.act_words.specs.Shown.{Shown}
 use Rattle.lowering.proofs.Shapes.{strides, shape, sum_cons, row_of, shape_offset, shape_end, end_least, word_in, word_by_shape, HaveBytes}
 use Rattle.lowering.proofs.Memory.{HasRoom, block_content, memory_bytes, length_block}
 use Rattle.lowering.proofs.Worlds.{IsNumber}

@@ -8,6 +8,7 @@ use Rattle.act_words.specs.Outcome.{Ends}
 use Rattle.act_words.specs.Checks.{is_word_number}
 use Rattle.act_words.specs.Limits.{AreAllowed}
 use Rattle.act_words.specs.Numbers.{word}
+use Rattle.act_words.specs.Shown.{Shown}
 use Rattle.flat_bytes.specs.Blocks.{first_offset, grown}
 use Rattle.flat_bytes.specs.Blocks as flat
 use Rattle.ckc_core.specs.Core.{Core, Initial, Function, Import}
@@ -16,6 +17,7 @@ use Rattle.ckc_core.specs.States as meaning_states
 use Rattle.ckc_core.specs.Meaning.{meaning, is_char}
 use Rattle.code_words.specs.Table.{State}
 use Rattle.code_words.specs.Runs.{CodeRun}
+use Rattle.code_words.specs.Dumps.{blocks_held}
 use Rattle.code_words.specs.Fitting.{Fits}
 use Rattle.code_words.specs.declared.image.Image.{Image}
 use Rattle.lowering.specs.Images.{word_bytes_if, padded}
@@ -53,11 +55,6 @@ bytes_of base blocks c = padded c.stride (word_bytes_if (is_char c.type) (word_o
 abbrev pub block_bytes : ℕ → List Block → Block → List ℕ
 block_bytes base blocks block = flat_map (bytes_of base blocks) block
 
--- a block as it is seen from outside: its address, and its bytes
-pub record Shown : Type 0 where
-  pub address : ℕ
-  pub bytes : List ℕ
-
 -- the last blocks of the meaning, in the order of their making, where the first stands at an offset
 abbrev pub shown_from : ℕ → List Block → ℕ → List Block → List Shown
 shown_from base all offset [] = []
@@ -66,10 +63,6 @@ shown_from base all offset (block ∷ blocks) =
 
 abbrev pub blocks_meant : ℕ → meaning_states.State → List Shown
 blocks_meant base s = shown_from base s.blocks first_offset s.blocks
-
--- the last blocks of the code's run
-abbrev pub blocks_held : State → List Shown
-blocks_held t = map (λ (b : flat.Block). record { address = t.memory.base + b.offset; bytes = take b.bytes (drop b.offset t.memory.bytes) }) t.blocks
 
 -- the last states agree in what can be seen, and in the blocks
 pub record SameEnd (base : ℕ) (s : meaning_states.State) (t : State) : Type 0 where

@@ -9,7 +9,8 @@ use Rattle.code_words.specs.Table.{State, Runs}
 use Rattle.code_words.specs.Runs.{Run, Unfinished, Finished, exec, memory_of, counter_behind, main_frame}
 use Rattle.code_words.specs.declared.image.Image.{Image}
 use Rattle.lowering.specs.Images.{image_of}
-use Rattle.lowering.specs.Correct.{Shown, blocks_held}
+use Rattle.act_words.specs.Shown.{Shown}
+use Rattle.code_words.specs.Dumps.{blocks_held}
 
 -- small memories, at a base address
 abbrev settings : ℕ → Settings

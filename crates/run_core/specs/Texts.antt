@@ -1,5 +1,5 @@
 -- The text of a run: what the program wrote, what was released and shown, and the line that says how the run ended.
-use Rattle.std.specs.Prelude.{ℕ, ◌||◌, if◌then◌else◌, List, [], ◌∷◌, ◌++◌, flat_map, codes, decimal, Option, Some, None, ◌==◌}
+use Rattle.std.specs.Prelude.{ℕ, ◌||◌, if◌then◌else◌, List, [], ◌∷◌, ◌++◌, flat_map, length, codes, decimal, Option, Some, None, ◌==◌}
 use Rattle.std.specs.Fmt.{signed_decimal}
 use Rattle.hex.specs.Hex.{encode_lower}
 use Rattle.ckc_text.specs.declared.place.Place.{Place}
@@ -9,6 +9,7 @@ use Rattle.act_words.specs.declared.ending.Ending.{Ending}
 use Rattle.act_words.specs.declared.ending.Ending.TheVariants.{Exit, Check, Stop}
 use Rattle.act_words.specs.declared.settings.Settings.{Settings}
 use Rattle.act_words.specs.World.{Event, Output, Released, Showed, NoAct}
+use Rattle.act_words.specs.Shown.{Shown}
 use Rattle.act_recorder.specs.Lines.{seen_text, release_text}
 
 -- ---- endings
@@ -57,9 +58,17 @@ missing_feed (b ∷ c ∷ bytes) = missing_feed (c ∷ bytes)
 abbrev pub with_last_line : List ℕ → List ℕ → List ℕ
 with_last_line text last = text ++ missing_feed text ++ last
 
--- a run: its events, and then its ending
-abbrev pub run_text : Settings → List Event → Ending → List ℕ
-run_text settings events ending = with_last_line (events_text settings events) (ending_text ending)
+-- a block of the trusted memory, as `[block 65552 4 2a000000]`
+abbrev pub block_text : Shown → List ℕ
+block_text b = line (codes "[block " ++ decimal b.address ++ codes " " ++ decimal (length b.bytes) ++ codes " " ++ encode_lower b.bytes ++ codes "]")
+
+-- the last blocks, where they are asked for
+abbrev pub dump_text : Settings → List Shown → List ℕ
+dump_text settings blocks = if settings.dump then flat_map block_text blocks else []
+
+-- a run: its events, then its ending, then the last blocks
+abbrev pub run_text : Settings → List Event → Ending → List Shown → List ℕ
+run_text settings events ending blocks = with_last_line (events_text settings events) (ending_text ending) ++ dump_text settings blocks
 
 -- a run up to an act that can't be given: the line that says so is left to the caller
 abbrev pub front_text : Settings → List Event → List ℕ
