@@ -1,6 +1,2 @@
-pub mod BlockLemmas
-pub mod StepLemmas
-mod ActLemmas
-mod CallLemmas
-mod LineLemmas
-mod MoveLemmas
+mod Windows
+mod Stacked

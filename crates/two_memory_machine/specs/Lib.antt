@@ -1,5 +1,2 @@
-pub mod Places
-pub mod Machines
-pub mod Insides
-pub mod Steps
-pub mod Examples
+pub mod CallStacks
+pub mod CallInsides
