@@ -1,2 +1,5 @@
 pub mod CallStacks
 pub mod CallInsides
+pub mod Machines
+pub mod Insides
+pub mod Steps

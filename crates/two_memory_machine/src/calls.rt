@@ -1,9 +1,10 @@
 // The open calls of the trusted side: the words of their frames lie one behind the other.
 
-ghost use Rattle.std.specs.Prelude.{◌≡◌, ◌+◌, ◌-◌, ◌^◌, ◌<◌, ◌≤◌, ◌++◌, ◌∷◌, List, length, drop, replicate, nat_lt, if◌then◌else◌, IfOk, IfSome, Some, [], slice_get, slice_set, All};
+ghost use Rattle.std.specs.Prelude.{◌≡◌, ◌+◌, ◌-◌, ◌^◌, ◌<◌, ◌≤◌, ◌++◌, ◌∷◌, List, length, take, drop, replicate, nat_lt, if◌then◌else◌, IfOk, IfSome, Some, [], slice_get, slice_set, All};
 ghost use Rattle.std.specs.Option.{option_copied};
 ghost use Rattle.code_words.specs.Fitting.{HasSmallFrame};
 ghost use Rattle.code_words.specs.declared.image.Func.{Func as FuncData};
+ghost use Rattle.two_memory_machine.specs.CallInsides.{window};
 ghost use Rattle.two_memory_machine.specs.CallStacks.{Behind, CallStack, framed, with_stack, pushed_if, slot_set_if, at_next, link_of, entered, IsFirstCall};
 
 use ckc_text::fault::NoMemory;
@@ -78,11 +79,7 @@ impl<'a> Model for CallWords<'a> {
 
 impl<'a> CallWords<'a> {
     /// The call of a function of a side, which takes no argument. It takes the memory of 1,000 frames.
-    pub fn start(
-        alloc: Global,
-        funs: &'a [Func],
-        function: u32,
-    ) -> Result<CallWords<'a>, NoMemory>
+    pub fn start(alloc: Global, funs: &'a [Func], function: u32) -> Result<CallWords<'a>, NoMemory>
         requires there { function < length funs.now }
         requires frames { All HasSmallFrame funs.now }
         ensures { IfOk result (λ c. IsFirstCall funs.now function c) }
@@ -143,7 +140,7 @@ impl<'a> CallWords<'a> {
             extent: self.extent,
         };
         self.count += 1;
-        fill_slots(&mut self.words[base..room], words);
+        fill_slots(self.words.as_mut_slice(), base, room, words);
         self.extent = Extent {
             base,
             room,
@@ -275,16 +272,30 @@ fn widest(funs: &[Func]) -> u32
 {
     let mut most = 0;
     for fun in funs {
-        most = most.max(fun.slots + fun.stack);
+        let words = fun.slots + fun.stack;
+        if most < words {
+            most = words;
+        }
     }
     most
 }
 
-/// Writes the slots of a function that is called: its words, and zeros behind them.
-fn fill_slots(slots: &mut [u32], words: &[u32])
-    requires { length words.now ≤ length slots.old }
-    ensures { slots.new ≡ words.now ++ replicate (length slots.old - length words.now) 0 }
+/// Writes the slots of a function that is called, from `base` up to `room`: its arguments, and zeros behind them.
+fn fill_slots(words: &mut [u32], base: usize, room: usize, args: &[u32])
+    requires fits { base + length args.now ≤ room }
+    requires within { room ≤ length words.old }
+    ensures len { length words.new ≡ length words.old }
+    ensures front { take base words.new ≡ take base words.old }
+    ensures slots { window base room words.new ≡ args.now ++ replicate (room - base - length args.now) 0 }
 {
-    slots[..words.len()].copy_from_slice(words);
-    slots[words.len()..].fill(0);
+    write_slots(&mut words[base..room], args);
+}
+
+/// Writes the slots: the arguments, and zeros behind them.
+fn write_slots(slots: &mut [u32], args: &[u32])
+    requires { length args.now ≤ length slots.old }
+    ensures { slots.new ≡ args.now ++ replicate (length slots.old - length args.now) 0 }
+{
+    slots[..args.len()].copy_from_slice(args);
+    slots[args.len()..].fill(0);
 }

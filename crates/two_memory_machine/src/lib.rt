@@ -2,3 +2,5 @@
 #![tactic(auto)]
 
 mod calls;
+pub mod event;
+pub mod machine;
