@@ -1,11 +1,10 @@
 -- What a step does, part by part.
-use Rattle.std.specs.Prelude.{◌≡◌, ℕ, ◌+◌, ◌^◌, ◌<◌, nat_le, Bool, true, false, List, [], ◌∷◌, length, Option, Some, None, option_map, slice_get, FitsSigned}
-use Rattle.std.specs.Option.{SomeIff}
-use Rattle.std.specs.Int.{w32}
+use Rattle.std.specs.Prelude.{◌≡◌, ℕ, ◌+◌, ◌^◌, ◌<◌, nat_le, Bool, true, false, List, [], ◌∷◌, length, Option, Some, None, option_map, slice_get, Result, Ok, Err}
 use Rattle.std.proofs.Common.{ℤ}
 use Rattle.act_words.specs.Acts.{Act}
 use Rattle.act_words.specs.World
 use Rattle.act_words.specs.declared.ending.Ending.{Ending}
+use Rattle.act_words.specs.Checks.{Checked, Holds, Fails}
 use Rattle.code_words.specs.declared.op.Op.{Op}
 use Rattle.code_words.specs.declared.image.Func.{Func}
 use Rattle.code_words.specs.Table.{State, Step, act}
@@ -46,10 +45,11 @@ two_topmost [] = None
 two_topmost (right ∷ []) = None
 two_topmost (right ∷ left ∷ below) = Some (left, right)
 
--- the number is there exactly if it has 32 bits
-abbrev pub HasWordNumber : Option ℤ → ℤ → Type 0
-HasWordNumber there number = SomeIff there (FitsSigned w32 number) number
-
 -- the run ends so, and nothing else changes
 abbrev pub EndsBy : Machine → Ending → Event → Machine → Type 0
 EndsBy old ending event new = (event ≡ Ended ending) × (new ≡ record old { over = Some ending })
+
+-- the number, or how the check of it fails
+abbrev pub checked_of : Result ℤ Ending → Checked ℤ
+checked_of (Ok number) = Holds number
+checked_of (Err ending) = Fails ending

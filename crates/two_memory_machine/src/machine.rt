@@ -1,15 +1,14 @@
 // Running an image over flat memory.
 
-ghost use Rattle.std.specs.Prelude.{◌≡◌, ◌+◌, ◌-◌, ◌^◌, ◌<◌, ◌≤◌, List, length, drop, IfOk, IfSome, OnSome, None, Some, is_some, slice_get};
+ghost use Rattle.std.specs.Prelude.{◌≡◌, ◌+◌, ◌-◌, ◌^◌, ◌<◌, ◌≤◌, ◌⊎◌, List, length, drop, IfOk, IfSome, OnSome, None, Some, is_some, slice_get};
 ghost use Rattle.std.specs.Option.{option_copied};
 ghost use Rattle.std.proofs.Common.{ℤ};
-ghost use Rattle.act_words.specs.Checks.{without_overflow};
 ghost use Rattle.trusted_memory.specs.Memories.{byte_of};
 ghost use Rattle.code_words.specs.Fitting.{Fits};
 ghost use Rattle.code_words.specs.declared.image.Func.{Func as FuncData};
-ghost use Rattle.code_words.specs.Table.{Over, wild, on_with, push, push_some, push_checked};
+ghost use Rattle.code_words.specs.Table.{Over, wild, pop, pop_2, on_with, push, push_some, push_checked, check, load, store};
 ghost use Rattle.two_memory_machine.specs.Machines.{waiting_of, turn_of, next_op_of, Steps, ending_given, block_of};
-ghost use Rattle.two_memory_machine.specs.Steps.{GoesBy, IsIn, Acts, Performs, IsReady, EndsBy, two_topmost, HasWordNumber};
+ghost use Rattle.two_memory_machine.specs.Steps.{GoesBy, IsIn, Acts, Performs, IsReady, EndsBy, two_topmost, checked_of};
 
 use crate::calls::CallWords;
 use crate::event::{Event, Waiting};
@@ -132,18 +131,6 @@ impl<'a> Machine<'a> {
         }
     }
 
-    /// Makes the next step.
-    pub fn step(&mut self) -> Event
-        requires { waiting_of self.old ≡ Waiting.Runs }
-        ensures steps { Steps self.old result self.new }
-        ensures over { self.new.over ≡ ending_given result }
-    {
-        match self.calls.op() {
-            Some(op) => self.perform(op),
-            None => self.end_wild(),
-        }
-    }
-
     /// The address and the length of a block of trusted memory, or None past the last.
     pub fn block(&self, k: u32) -> Option<(u32, u32)>
         ensures { result ≡ block_of self.now k }
@@ -159,64 +146,34 @@ impl<'a> Machine<'a> {
         self.memory.byte(at)
     }
 
-    // Makes the step of an instruction.
-    fn perform(&mut self, op: &Op) -> Event
+    // Pops words, and pushes the number of a check that holds.
+    pub(crate) fn push_number(&mut self, popped: usize, number: Result<i32, Ending>) -> Event
         requires ready { IsReady self.old }
-        requires there { next_op_of self.old ≡ Some op.now }
-        ensures { Performs op.now self.old result self.new }
+        requires there { popped ≤ length self.old.frame.stack }
+        ensures { (f : FuncData) → IsIn self.old f
+            → GoesBy (push_checked f (checked_of number) (drop popped self.old.frame.stack) self.old.frame) self.old result self.new }
     {
-        match op {
-            Op::Const(number) => self.push(0, number.cast_unsigned()),
-            Op::Local(slot) => self.push_some(self.calls.slot(*slot)),
-            Op::Set(slot) => self.set(*slot),
-            Op::Add { place } => self.add(*place),
-            Op::Sub { place } => self.subtract(*place),
-            _ => self.end_wild(),
+        match number {
+            Ok(number) => self.push(popped, number.cast_unsigned()),
+            Err(ending) => self.end(ending),
         }
     }
 
-    // Pops the right and the left number, and pushes their sum.
-    fn add(&mut self, place: Place) -> Event
-        requires { IsReady self.old }
-        ensures { Acts (Op.Add place) self.old result self.new }
-    {
-        let Some((left, right)) = self.two_words() else {
-            return self.end_wild();
-        };
-        let sum = left.cast_signed().checked_add(right.cast_signed());
-        self.push_checked(place, sum)
-    }
-
-    // Pops the right and the left number, and pushes their difference.
-    fn subtract(&mut self, place: Place) -> Event
-        requires { IsReady self.old }
-        ensures { Acts (Op.Sub place) self.old result self.new }
-    {
-        let Some((left, right)) = self.two_words() else {
-            return self.end_wild();
-        };
-        let difference = left.cast_signed().checked_sub(right.cast_signed());
-        self.push_checked(place, difference)
-    }
-
-    // Pops two words, and pushes the result of an operation on them, if it has 32 bits.
-    fn push_checked(&mut self, place: Place, number: Option<i32>) -> Event
+    // Pops words, and goes on where a check holds.
+    pub(crate) fn check(&mut self, popped: usize, holds: bool, code: Code, place: Place) -> Event
         requires ready { IsReady self.old }
-        requires there { 2 ≤ length self.old.frame.stack }
-        ensures { (f : FuncData) (z : ℤ) → IsIn self.old f → HasWordNumber number z
-            → GoesBy (push_checked f (without_overflow place z) (drop 2 self.old.frame.stack) self.old.frame) self.old result self.new }
+        requires there { popped ≤ length self.old.frame.stack }
+        ensures { GoesBy (check holds code place (drop popped self.old.frame.stack) self.old.frame) self.old result self.new }
     {
-        match number {
-            Some(number) => self.push(2, number.cast_unsigned()),
-            None => self.end(Ending::Check {
-                code: Code::C6,
-                place,
-            }),
+        if holds {
+            self.go_on(popped)
+        } else {
+            self.end(Ending::Check { code, place })
         }
     }
 
     // Pops a word into a slot.
-    fn set(&mut self, slot: u32) -> Event
+    pub(crate) fn set(&mut self, slot: u32) -> Event
         requires { IsReady self.old }
         ensures { Acts (Op.Set slot) self.old result self.new }
     {
@@ -229,8 +186,114 @@ impl<'a> Machine<'a> {
         self.go_on(1)
     }
 
+    // Pushes the word of a slot.
+    pub(crate) fn local(&mut self, slot: u32) -> Event
+        requires { IsReady self.old }
+        ensures { Acts (Op.Local slot) self.old result self.new }
+    {
+        let word = self.calls.slot(slot);
+        self.push_some(word)
+    }
+
+    // Pushes the address of a static block of trusted memory.
+    pub(crate) fn block_address(&mut self, k: u32) -> Event
+        requires { IsReady self.old }
+        ensures { Acts (Op.BlockAddress k) self.old result self.new }
+    {
+        let address = self.addresses.get(k as usize).copied();
+        self.push_some(address)
+    }
+
+    // Pushes the offset of a static block of the sandbox's memory.
+    pub(crate) fn block_offset(&mut self, k: u32) -> Event
+        requires { IsReady self.old }
+        ensures { Acts (Op.BlockOffset k) self.old result self.new }
+    {
+        let offset = self.offsets.get(k as usize).copied();
+        self.push_some(offset)
+    }
+
+    // Pops an address, and pushes the byte or the word there.
+    fn load(&mut self, len: u32) -> Event
+        requires ready { IsReady self.old }
+        requires width { (len ≡ 1) ⊎ (len ≡ 4) }
+        ensures { (f : FuncData) → IsIn self.old f
+            → GoesBy (λ s. pop self.old.frame.stack (λ address stack. load f len address stack self.old.frame s) s) self.old result self.new }
+    {
+        let Some(address) = self.word() else {
+            return self.end_wild();
+        };
+        if !self.memory.in_range(address, len) {
+            return self.end_wild();
+        }
+        let word = self.memory.load(address, len);
+        self.push(1, word)
+    }
+
+    // Pops a value and an address, and stores the lowest byte or all of the value there.
+    fn store(&mut self, len: u32) -> Event
+        requires ready { IsReady self.old }
+        requires width { (len ≡ 1) ⊎ (len ≡ 4) }
+        ensures { GoesBy
+            (λ s. pop_2 self.old.frame.stack (λ address w stack. store len address w stack self.old.frame s) s)
+            self.old result self.new }
+    {
+        let Some((address, word)) = self.two_words() else {
+            return self.end_wild();
+        };
+        if !self.memory.in_range(address, len) {
+            return self.end_wild();
+        }
+        self.memory.store(address, len, word);
+        self.go_on(2)
+    }
+
+    // Goes on at an instruction of the same function.
+    pub(crate) fn jump(&mut self, target: u32) -> Event
+        requires { IsReady self.old }
+        ensures { Acts (Op.Jump target) self.old result self.new }
+    {
+        if !self.calls.jump(target) {
+            return self.end_wild();
+        }
+        Event::Ran
+    }
+
+    // Pops a word, and goes on there where it is 0.
+    pub(crate) fn jump_if_zero(&mut self, target: u32) -> Event
+        requires { IsReady self.old }
+        ensures { Acts (Op.JumpIfZero target) self.old result self.new }
+    {
+        let Some(word) = self.word() else {
+            return self.end_wild();
+        };
+        if word != 0 {
+            return self.go_on(1);
+        }
+        if !self.calls.jump(target) {
+            return self.end_wild();
+        }
+        self.calls.pop(1);
+        Event::Ran
+    }
+
+    // Spends a tick.
+    pub(crate) fn tick(&mut self) -> Event
+        requires { IsReady self.old }
+        ensures { Acts Op.Tick self.old result self.new }
+    {
+        if self.ticks >= self.settings.budget {
+            return self.end(Ending::Stop {
+                code: Code::S1,
+                act: None,
+            });
+        }
+        self.ticks += 1;
+        self.go_on(0)
+    }
+
     // Pushes what is there.
-    fn push_some(&mut self, word: Option<u32>) -> Event
+    pub(crate) fn push_some(&mut self, word: Option<u32>) -> Event
         requires { IsReady self.old }
         ensures { (f : FuncData) → IsIn self.old f
             → GoesBy (push_some f word self.old.frame.stack self.old.frame) self.old result self.new }
@@ -242,7 +305,7 @@ impl<'a> Machine<'a> {
     }
 
     // Pops words, pushes a word if there is room for it then, and goes on to the next instruction.
-    fn push(&mut self, popped: usize, word: u32) -> Event
+    pub(crate) fn push(&mut self, popped: usize, word: u32) -> Event
         requires ready { IsReady self.old }
         requires there { popped ≤ length self.old.frame.stack }
         ensures { (f : FuncData) → IsIn self.old f
@@ -256,7 +319,7 @@ impl<'a> Machine<'a> {
     }
 
     // Pops words, and goes on to the next instruction.
-    fn go_on(&mut self, popped: usize) -> Event
+    pub(crate) fn go_on(&mut self, popped: usize) -> Event
         requires ready { IsReady self.old }
         requires there { popped ≤ length self.old.frame.stack }
         ensures { GoesBy (on_with self.old.frame (drop popped self.old.frame.stack)) self.old result self.new }
@@ -267,7 +330,7 @@ impl<'a> Machine<'a> {
     }
 
     // Ends the run, since no line of the table has a result.
-    fn end_wild(&mut self) -> Event
+    pub(crate) fn end_wild(&mut self) -> Event
         ensures ends { EndsBy self.old (Ending.Stop Code.S6 None) result self.new }
         ensures line { GoesBy wild self.old result self.new }
     {
@@ -278,7 +341,7 @@ impl<'a> Machine<'a> {
     }
 
     // Ends the run.
-    fn end(&mut self, ending: Ending) -> Event
+    pub(crate) fn end(&mut self, ending: Ending) -> Event
         ensures ends { EndsBy self.old ending result self.new }
         ensures line { GoesBy (Over ending) self.old result self.new }
     {
@@ -287,14 +350,14 @@ impl<'a> Machine<'a> {
     }
 
     // The topmost word, if there is one.
-    fn word(&self) -> Option<u32>
+    pub(crate) fn word(&self) -> Option<u32>
         ensures { result ≡ slice_get self.now.frame.stack 0 }
     {
         self.calls.word()
     }
 
     // The two topmost words, the lower one first, if there are two.
-    fn two_words(&self) -> Option<(u32, u32)>
+    pub(crate) fn two_words(&self) -> Option<(u32, u32)>
         ensures { result ≡ two_topmost self.now.frame.stack }
     {
         match self.calls.stack() {

@@ -1,6 +1,5 @@
-use Rattle.std.proofs.Common.{◌≡◌, ℕ, ◌+◌, ◌<◌, ◌≤◌, get_or, below_more, ap, sym, ◌∙◌, arith}
+use Rattle.std.proofs.Common.{◌+◌, ◌≤◌, get_or, below_more, arith}
 use Rattle.std.proofs.lemmas.List.{get_or_default}
-use Rattle.code_words.specs.declared.image.Func.{Func}
 use Rattle.two_memory_machine.proofs.calls.widest.Goals as goal
 use Rattle.two_memory_machine.proofs.calls.widest.Goals.{then-most-words, else-most-words}
 

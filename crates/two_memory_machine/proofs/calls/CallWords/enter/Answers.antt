@@ -1,10 +1,9 @@
-use Rattle.std.proofs.Common.{◌≡◌, ◌+◌, ◌-◌, ◌<◌, ◌≤◌, ◌++◌, ◌∷◌, Some, [], List, length, take, drop, get_or, replicate, refl, sym, ap, ◌∙◌, arith}
+use Rattle.std.proofs.Common.{◌≡◌, ◌+◌, ◌-◌, ◌<◌, ◌++◌, ◌∷◌, Some, [], length, take, get_or, replicate, refl, sym, ap, ◌∙◌, arith}
 use Rattle.std.specs.Prelude.{slice_get, slice_set}
 use Rattle.std.proofs.Math.ListN.{length-set}
 use Rattle.std.proofs.lemmas.List.{with_items_is, drop_all, length-take-le}
 use Rattle.std.proofs.lemmas.Option.{slice_get-get_or}
-use Rattle.code_words.specs.declared.image.Func.{Func}
-use Rattle.two_memory_machine.specs.CallInsides.{window, behind_rows, behind_row, call_stack, frame_in}
+use Rattle.two_memory_machine.specs.CallInsides.{window, behind_rows, behind_row, call_stack}
 use Rattle.two_memory_machine.proofs.Stacked.{next_reaches, next_within, count-behind, stacked_more, behind_more, same_front, rows_same, row_same, row_of}
 use Rattle.two_memory_machine.proofs.calls.CallWords.enter.Goals as goal
 

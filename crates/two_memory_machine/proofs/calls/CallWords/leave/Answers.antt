@@ -1,10 +1,8 @@
-use Rattle.std.proofs.Common.{◌≡◌, ◌<◌, ◌+◌, ◌-◌, suc, Some, List, ◌∷◌, get_or, subst, sym, ap, refl, ◌∙◌, arith, length}
-use Rattle.std.specs.Prelude.{slice_get}
+use Rattle.std.proofs.Common.{◌≡◌, ◌<◌, ◌+◌, ◌-◌, ◌∷◌, get_or, subst, sym, ap, refl, ◌∙◌, arith, length}
 use Rattle.std.proofs.lemmas.Option.{slice_get_read, slice_get_within, get_or_from_slice_get}
 use Rattle.code_words.specs.declared.image.Func.{Func}
 use Rattle.two_memory_machine.specs.declared.calls.Row.{Row}
 use Rattle.two_memory_machine.specs.declared.calls.CallWords.TheInside.{Inside}
-use Rattle.two_memory_machine.specs.CallStacks.{Behind}
 use Rattle.two_memory_machine.specs.CallInsides.{AreStacked, IsConsistent, call_stack, behind_rows, behind_row}
 use Rattle.two_memory_machine.proofs.Stacked.{IsLast, last_row, one_row, fun_there, length-behind_rows}
 use Rattle.two_memory_machine.proofs.calls.CallWords.leave.Goals as goal

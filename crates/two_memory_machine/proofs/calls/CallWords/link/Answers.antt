@@ -1,5 +1,4 @@
-use Rattle.std.proofs.Common.{◌≡◌, ◌-◌, ◌<◌, Some, subst, sym, ap, ◌∙◌, get_or, arith}
-use Rattle.std.specs.Prelude.{slice_get}
+use Rattle.std.proofs.Common.{◌≡◌, ◌-◌, ◌<◌, subst, sym, ap, ◌∙◌, get_or, arith}
 use Rattle.std.proofs.lemmas.Option.{slice_get_read}
 use Rattle.two_memory_machine.specs.CallStacks.{link_of}
 use Rattle.two_memory_machine.specs.CallInsides.{AreStacked, behind_rows}

@@ -1,8 +1,8 @@
-use Rattle.std.proofs.Common.{◌≡◌, ◌+◌, ◌-◌, ◌<◌, ◌≤◌, ◌∷◌, length, drop, nat_lt, true, false, refl, sym, ap, ◌∙◌, arith}
+use Rattle.std.proofs.Common.{◌≡◌, ◌+◌, ◌-◌, ◌≤◌, ◌∷◌, length, drop, nat_lt, true, false, refl, sym, ap, ◌∙◌, arith}
 use Rattle.std.proofs.lemmas.Bool.Decides.{nat_tests}
 use Rattle.std.specs.Prelude.{slice_set}
 use Rattle.two_memory_machine.specs.CallInsides.{window, call_stack, behind_rows}
-use Rattle.two_memory_machine.proofs.Windows.{window-set_before, window-set_behind, window-set_first, drop-window}
+use Rattle.two_memory_machine.proofs.Windows.{window-set_behind, window-set_first, drop-window}
 use Rattle.two_memory_machine.proofs.Stacked.{end_within, length-stack, length-below, same_set, rows_same}
 use Rattle.two_memory_machine.proofs.calls.CallWords.push.Goals as goal
 
