@@ -5,3 +5,4 @@ mod arithmetic;
 mod calls;
 pub mod event;
 pub mod machine;
+mod operations;

@@ -160,19 +160,22 @@ impl<'a> Machine<'a> {
     }
 
     // Pops words, and goes on where a check holds.
+    #[tactic(auto, using(std::proofs::lemmas::Bool::Decides::nat_tests))]
     pub(crate) fn check(&mut self, popped: usize, holds: bool, code: Code, place: Place) -> Event
         requires ready { IsReady self.old }
         requires there { popped ≤ length self.old.frame.stack }
         ensures { GoesBy (check holds code place (drop popped self.old.frame.stack) self.old.frame) self.old result self.new }
     {
-        if holds {
-            self.go_on(popped)
-        } else {
-            self.end(Ending::Check { code, place })
+        if !holds {
+            return self.end(Ending::Check { code, place });
         }
+        self.calls.pop(popped);
+        self.calls.advance();
+        Event::Ran
     }
 
     // Pops a word into a slot.
+    #[tactic(auto, using(std::proofs::lemmas::Bool::Decides::nat_tests))]
     pub(crate) fn set(&mut self, slot: u32) -> Event
         requires { IsReady self.old }
         ensures { Acts (Op.Set slot) self.old result self.new }
@@ -183,7 +186,9 @@ impl<'a> Machine<'a> {
         if !self.calls.set(slot, word) {
             return self.end_wild();
         }
-        self.go_on(1)
+        self.calls.pop(1);
+        self.calls.advance();
+        Event::Ran
     }
 
     // Pushes the word of a slot.
@@ -231,6 +236,7 @@ impl<'a> Machine<'a> {
     }
 
     // Pops a value and an address, and stores the lowest byte or all of the value there.
+    #[tactic(auto, using(std::proofs::lemmas::Bool::Decides::nat_tests))]
     fn store(&mut self, len: u32) -> Event
         requires ready { IsReady self.old }
         requires width { (len ≡ 1) ⊎ (len ≡ 4) }
@@ -245,7 +251,9 @@ impl<'a> Machine<'a> {
             return self.end_wild();
         }
         self.memory.store(address, len, word);
-        self.go_on(2)
+        self.calls.pop(2);
+        self.calls.advance();
+        Event::Ran
     }
 
     // Goes on at an instruction of the same function.
@@ -260,6 +268,7 @@ impl<'a> Machine<'a> {
     }
 
     // Pops a word, and goes on there where it is 0.
+    #[tactic(auto, using(std::proofs::lemmas::Bool::Decides::nat_tests))]
     pub(crate) fn jump_if_zero(&mut self, target: u32) -> Event
         requires { IsReady self.old }
         ensures { Acts (Op.JumpIfZero target) self.old result self.new }
@@ -268,7 +277,9 @@ impl<'a> Machine<'a> {
             return self.end_wild();
         };
         if word != 0 {
-            return self.go_on(1);
+            self.calls.pop(1);
+            self.calls.advance();
+            return Event::Ran;
         }
         if !self.calls.jump(target) {
             return self.end_wild();
@@ -278,6 +289,7 @@ impl<'a> Machine<'a> {
     }
 
     // Spends a tick.
+    #[tactic(auto, using(std::proofs::lemmas::Bool::Decides::nat_tests))]
     pub(crate) fn tick(&mut self) -> Event
         requires { IsReady self.old }
         ensures { Acts Op.Tick self.old result self.new }
@@ -289,7 +301,8 @@ impl<'a> Machine<'a> {
             });
         }
         self.ticks += 1;
-        self.go_on(0)
+        self.calls.advance();
+        Event::Ran
     }
 
     // Pushes what is there.
