@@ -1,2 +1,3 @@
 mod Windows
 mod Stacked
+mod Pops

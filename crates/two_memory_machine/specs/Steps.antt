@@ -1,16 +1,19 @@
 -- What a step does, part by part.
-use Rattle.std.specs.Prelude.{◌≡◌, ℕ, ◌+◌, ◌^◌, ◌<◌, nat_le, Bool, true, false, List, [], ◌∷◌, length, Option, Some, None, option_map, slice_get, Result, Ok, Err}
+use Rattle.std.specs.Prelude.{◌≡◌, ℕ, ◌+◌, ◌^◌, ◌<◌, nat_le, if◌then◌else◌, Bool, true, false, List, [], ◌∷◌, length, take, reverse, Option, Some, None, option_map, slice_get, Result, Ok, Err}
 use Rattle.std.proofs.Common.{ℤ}
 use Rattle.act_words.specs.Acts.{Act}
 use Rattle.act_words.specs.World
 use Rattle.act_words.specs.declared.ending.Ending.{Ending}
+use Rattle.ckc_text.specs.declared.code.Code.TheVariants.{S4}
+use Rattle.act_words.specs.Acting.{bytes_at, stopped_by_act}
 use Rattle.act_words.specs.Checks.{Checked, Holds, Fails}
 use Rattle.code_words.specs.declared.op.Op.{Op}
 use Rattle.code_words.specs.declared.image.Func.{Func}
-use Rattle.code_words.specs.Table.{State, Step, act}
+use Rattle.code_words.specs.Table.{State, Step, Goes, Over, act}
+use Rattle.code_words.specs.Moves.{in_world}
 use Rattle.two_memory_machine.specs.declared.event.Event.{Event}
 use Rattle.two_memory_machine.specs.declared.event.Event.TheVariants.{Input, Ended}
-use Rattle.two_memory_machine.specs.Machines.{Machine, Doing, Running, NeedsNumber, Gives, TellsStep, state_of, is_input}
+use Rattle.two_memory_machine.specs.Machines.{Machine, Doing, Running, NeedsNumber, Gives, TellsStep, TellsAct, state_of, is_input}
 
 -- the step goes as a line of the table, whichever acts and inputs are left and whatever came before
 abbrev pub GoesBy : (State → Step) → Machine → Event → Machine → Type 0
@@ -53,3 +56,35 @@ EndsBy old ending event new = (event ≡ Ended ending) × (new ≡ record old { 
 abbrev pub checked_of : Result ℤ Ending → Checked ℤ
 checked_of (Ok number) = Holds number
 checked_of (Err ending) = Fails ending
+
+-- four words of a stack and more, the lowest first
+abbrev pub four_topmost : List ℕ → Option (ℕ × ℕ × ℕ × ℕ)
+four_topmost (d ∷ c ∷ b ∷ a ∷ below) = Some (a, b, c, d)
+four_topmost _ = None
+
+abbrev pub five_topmost : List ℕ → Option (ℕ × ℕ × ℕ × ℕ × ℕ)
+five_topmost (e ∷ d ∷ c ∷ b ∷ a ∷ below) = Some (a, b, c, d, e)
+five_topmost _ = None
+
+abbrev pub seven_topmost : List ℕ → Option (ℕ × ℕ × ℕ × ℕ × ℕ × ℕ × ℕ)
+seven_topmost (g ∷ f ∷ e ∷ d ∷ c ∷ b ∷ a ∷ below) = Some (a, b, c, d, e, f, g)
+seven_topmost _ = None
+
+-- so many words of a stack, of which the last is on top, if there are so many
+abbrev pub top_words_of : ℕ → List ℕ → Option (List ℕ)
+top_words_of count stack = if nat_le count (length stack) then Some (reverse (take count stack)) else None
+
+-- a move that takes an act, or that is made where none is left, goes as a line of the table
+abbrev pub MovesBy : (State → Step) → Machine → Event → Machine → Type 0
+MovesBy line old event new =
+    (acts : List Act) (inputs : List ℤ) (events : List World.Event) → Gives TellsAct acts inputs events (line (state_of old acts inputs events)) old event new
+
+-- the world goes on as it may, or the act that was taken last ends the run
+abbrev pub moved_if : Option World.World → State → Step
+moved_if (Some w) s = Goes (in_world w s)
+moved_if None s = Over (stopped_by_act S4 s.world) s
+
+-- bytes of a memory, where they lie in it
+abbrev pub bytes_if : Bool → (at len : ℕ) → List ℕ → Option (List ℕ)
+bytes_if true at len memory = Some (bytes_at at len memory)
+bytes_if false at len memory = None

@@ -2,8 +2,7 @@
 
 ghost use Rattle.std.specs.Prelude.{◌≡◌, ◌%◌, nat_lt};
 ghost use Rattle.act_words.specs.Arithmetic.{sum, difference, product, quotient as quotient_of, remainder as remainder_of, negation, shifted_left, shifted_right, wrapping_negation as negation_of, wrapping_shift_right as shift_right_of};
-ghost use Rattle.code_words.specs.Table.{place_at};
-ghost use Rattle.act_words.specs.Numbers.{word as word_of};
+ghost use Rattle.code_words.specs.Table.{element as element_of};
 ghost use Rattle.two_memory_machine.specs.Steps.{checked_of};
 
 use act_words::ending::Ending;
@@ -126,7 +125,7 @@ pub fn wrapping_shift_right(left: u32, right: u32) -> u32
 
 /// The address of an element, modulo 2^32.
 pub fn element(pointer: u32, index: u32, size: u32) -> u32
-    ensures { result ≡ word_of (place_at pointer index size) }
+    ensures { result ≡ element_of pointer index size }
 {
     pointer.wrapping_add(index.wrapping_mul(size))
 }

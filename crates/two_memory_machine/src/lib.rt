@@ -5,4 +5,5 @@ mod arithmetic;
 mod calls;
 pub mod event;
 pub mod machine;
+mod bounds;
 mod operations;

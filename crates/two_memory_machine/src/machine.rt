@@ -8,7 +8,7 @@ ghost use Rattle.code_words.specs.Fitting.{Fits};
 ghost use Rattle.code_words.specs.declared.image.Func.{Func as FuncData};
 ghost use Rattle.code_words.specs.Table.{Over, wild, pop, pop_2, on_with, push, push_some, push_checked, check, load, store};
 ghost use Rattle.two_memory_machine.specs.Machines.{waiting_of, turn_of, next_op_of, Steps, ending_given, block_of};
-ghost use Rattle.two_memory_machine.specs.Steps.{GoesBy, IsIn, Acts, Performs, IsReady, EndsBy, two_topmost, checked_of};
+ghost use Rattle.two_memory_machine.specs.Steps.{GoesBy, IsIn, Acts, Performs, IsReady, EndsBy, two_topmost, four_topmost, five_topmost, seven_topmost, top_words_of, checked_of};
 
 use crate::calls::CallWords;
 use crate::event::{Event, Waiting};
@@ -26,14 +26,14 @@ use trusted_memory::memory::Trusted;
 
 /// A block of trusted memory.
 #[derive(Clone, Copy)]
-struct BlockRow {
-    offset: u32,
-    bytes: u32,
+pub(crate) struct BlockRow {
+    pub offset: u32,
+    pub bytes: u32,
 }
 
 /// A touch whose acts are still to be taken.
 #[derive(Clone, Copy)]
-enum Pending {
+pub(crate) enum Pending {
     Loads {
         at: u32,
         len: u32,
@@ -54,7 +54,7 @@ enum Pending {
 
 /// What the innermost open call of the trusted side does.
 #[derive(Clone, Copy)]
-enum Phase {
+pub(crate) enum Phase {
     Running,
     NeedsNumber,
     Touching { touch: Pending },
@@ -64,26 +64,26 @@ enum Phase {
 /// A run of an image: its memories, its open calls, and its ending once it is over.
 #[derive(Drop)]
 pub struct Machine<'a> {
-    image: &'a Image,
-    settings: Settings,
-    memory: Trusted,
+    pub(crate) image: &'a Image,
+    pub(crate) settings: Settings,
+    pub(crate) memory: Trusted,
     // The blocks of trusted memory, of which the first `made` are there.
-    blocks: Vec<BlockRow>,
-    made: usize,
+    pub(crate) blocks: Vec<BlockRow>,
+    pub(crate) made: usize,
     // Where the static blocks of both memories stand.
-    addresses: Vec<u32>,
-    offsets: Vec<u32>,
-    calls: CallWords<'a>,
-    phase: Phase,
+    pub(crate) addresses: Vec<u32>,
+    pub(crate) offsets: Vec<u32>,
+    pub(crate) calls: CallWords<'a>,
+    pub(crate) phase: Phase,
     // How many calls are open, but for that of a tainted function.
-    depth: u32,
-    sandbox: Vec<u8>,
+    pub(crate) depth: u32,
+    pub(crate) sandbox: Vec<u8>,
     // The offset of the next block of the sandbox's memory.
-    room: u32,
+    pub(crate) room: u32,
     // How many acts were taken, and how many ticks spent.
-    taken: u64,
-    ticks: u32,
-    over: Option<Ending>,
+    pub(crate) taken: u64,
+    pub(crate) ticks: u32,
+    pub(crate) over: Option<Ending>,
 }
 
 impl<'a> Model for Machine<'a> {
@@ -377,5 +377,51 @@ impl<'a> Machine<'a> {
             [right, left, ..] => Some((*left, *right)),
             _ => None,
         }
+    }
+
+    // The four topmost words, the lowest first, if there are four.
+    pub(crate) fn four_words(&self) -> Option<(u32, u32, u32, u32)>
+        ensures { result ≡ four_topmost self.now.frame.stack }
+    {
+        match self.calls.stack() {
+            [d, c, b, a, ..] => Some((*a, *b, *c, *d)),
+            _ => None,
+        }
+    }
+
+    // The five topmost words, the lowest first, if there are five.
+    pub(crate) fn five_words(&self) -> Option<(u32, u32, u32, u32, u32)>
+        ensures { result ≡ five_topmost self.now.frame.stack }
+    {
+        match self.calls.stack() {
+            [e, d, c, b, a, ..] => Some((*a, *b, *c, *d, *e)),
+            _ => None,
+        }
+    }
+
+    // The seven topmost words, the lowest first, if there are seven.
+    pub(crate) fn seven_words(&self) -> Option<(u32, u32, u32, u32, u32, u32, u32)>
+        ensures { result ≡ seven_topmost self.now.frame.stack }
+    {
+        match self.calls.stack() {
+            [g, f, e, d, c, b, a, ..] => Some((*a, *b, *c, *d, *e, *f, *g)),
+            _ => None,
+        }
+    }
+
+    // So many of the topmost words, the last on top, if there are so many.
+    pub(crate) fn top_words(&self, count: usize) -> Option<Words>
+        requires { count ≤ 16 }
+        ensures { result ≡ top_words_of count self.now.frame.stack }
+    {
+        let stack = self.calls.stack();
+        if stack.len() < count {
+            return None;
+        }
+        let mut words = [0; 16];
+        let words = &mut words[..count];
+        words.copy_from_slice(&stack[..count]);
+        words.reverse();
+        Words::from_slice(words)
     }
 }
