@@ -1,3 +1,4 @@
 mod Windows
 mod Stacked
 mod Pops
+mod Scaling

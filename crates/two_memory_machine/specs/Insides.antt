@@ -3,6 +3,7 @@ use Rattle.std.specs.Prelude.{◌≡◌, ℕ, ◌+◌, ◌*◌, ◌^◌, ◌<◌
 use Rattle.flat_bytes.specs.Blocks.{Block}
 use Rattle.code_words.specs.Fitting.{Fits}
 use Rattle.code_words.specs.Table.{Frame, Caller, Touch, Loads, Stores, Passes, Replies, address_of, offset_of}
+use Rattle.code_words.specs.declared.op.Op.TheVariants.{NextInput}
 use Rattle.code_words.specs.declared.image.Func.{Func}
 use Rattle.code_words.specs.declared.image.Image.{Image}
 use Rattle.two_memory_machine.specs.declared.calls.Link.{Link}
@@ -72,7 +73,7 @@ IsTouchOf (pending.Replies value) c size depth = IsCallback (link_of c.behind)
 
 abbrev pub IsPhaseOf : Phase → CallStack → ℕ → ℕ → Type 0
 IsPhaseOf phases.Running c size depth = Unit {0}
-IsPhaseOf phases.NeedsNumber c size depth = c.frame.next + 1 < 2 ^ 64
+IsPhaseOf phases.NeedsNumber c size depth = (slice_get c.fun.ops c.frame.next ≡ Some NextInput) × (c.frame.next + 1 < 2 ^ 64)
 IsPhaseOf (phases.Touching touch) c size depth = IsTouchOf touch c size depth
 IsPhaseOf (phases.Suspended import place) c size depth = depth < 1000
 

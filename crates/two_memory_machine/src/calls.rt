@@ -182,7 +182,8 @@ impl<'a> CallWords<'a> {
 
     /// The topmost word, if there is one.
     pub fn word(&self) -> Option<u32>
-        ensures { result ≡ slice_get self.now.frame.stack 0 }
+        ensures word { result ≡ slice_get self.now.frame.stack 0 }
+        ensures room { length self.now.frame.stack ≤ self.now.fun.stack }
     {
         if self.extent.top < self.extent.end {
             Some(self.words[self.extent.top])

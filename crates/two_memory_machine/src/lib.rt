@@ -7,3 +7,5 @@ pub mod event;
 pub mod machine;
 mod bounds;
 mod operations;
+mod touches;
+mod transfers;

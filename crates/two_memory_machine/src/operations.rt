@@ -18,7 +18,7 @@ impl<'a> Machine<'a> {
         let Some((left, right)) = self.two_words() else {
             return self.end_wild();
         };
-        let number = arithmetic::add(place, left.cast_signed(), right.cast_signed());
+        let number = arithmetic::add(place, left, right);
         self.push_number(2, number)
     }
 
@@ -30,7 +30,7 @@ impl<'a> Machine<'a> {
         let Some((left, right)) = self.two_words() else {
             return self.end_wild();
         };
-        let number = arithmetic::subtract(place, left.cast_signed(), right.cast_signed());
+        let number = arithmetic::subtract(place, left, right);
         self.push_number(2, number)
     }
 
@@ -42,7 +42,7 @@ impl<'a> Machine<'a> {
         let Some((left, right)) = self.two_words() else {
             return self.end_wild();
         };
-        let number = arithmetic::multiply(place, left.cast_signed(), right.cast_signed());
+        let number = arithmetic::multiply(place, left, right);
         self.push_number(2, number)
     }
 
@@ -54,7 +54,7 @@ impl<'a> Machine<'a> {
         let Some((left, right)) = self.two_words() else {
             return self.end_wild();
         };
-        let number = arithmetic::divide(place, left.cast_signed(), right.cast_signed());
+        let number = arithmetic::divide(place, left, right);
         self.push_number(2, number)
     }
 
@@ -66,7 +66,7 @@ impl<'a> Machine<'a> {
         let Some((left, right)) = self.two_words() else {
             return self.end_wild();
         };
-        let number = arithmetic::remainder(place, left.cast_signed(), right.cast_signed());
+        let number = arithmetic::remainder(place, left, right);
         self.push_number(2, number)
     }
 
@@ -78,7 +78,7 @@ impl<'a> Machine<'a> {
         let Some((left, right)) = self.two_words() else {
             return self.end_wild();
         };
-        let number = arithmetic::shift_left(place, left.cast_signed(), right.cast_signed());
+        let number = arithmetic::shift_left(place, left, right);
         self.push_number(2, number)
     }
 
@@ -90,7 +90,7 @@ impl<'a> Machine<'a> {
         let Some((left, right)) = self.two_words() else {
             return self.end_wild();
         };
-        let number = arithmetic::shift_right(place, left.cast_signed(), right.cast_signed());
+        let number = arithmetic::shift_right(place, left, right);
         self.push_number(2, number)
     }
 
@@ -102,7 +102,7 @@ impl<'a> Machine<'a> {
         let Some(word) = self.word() else {
             return self.end_wild();
         };
-        let number = arithmetic::negate(place, word.cast_signed());
+        let number = arithmetic::negate(place, word);
         self.push_number(1, number)
     }
 
