@@ -11,6 +11,7 @@ use Rattle.act_words.specs.World.{World, NoAct, telling, taken_one, in_turn, wit
 use Rattle.act_words.specs.Acting.{BeforeTouch, InSandbox, act_before_touch, act_in_sandbox}
 use Rattle.act_words.specs.Checks.{Checked, Holds, Fails}
 use Rattle.act_words.specs.Numbers.{signed}
+use Rattle.act_words.specs.Arithmetic as arithmetic
 use Rattle.act_words.specs.Touches.{Asked, Got, Ended, released, spend_tick, spent_if, enter_call, entered_if, input_from, next_input, write, make_block}
 use Rattle.code_words.specs.declared.op.Op.{Op}
 use Rattle.code_words.specs.declared.op.Op.TheVariants as ops
@@ -141,7 +142,7 @@ module _ (Trusted Ready Sandbox Called Ending : World → Type 0) where
         by true d = d
         by false d = wild-keeps s d
 
-    check-keeps : (passes : Bool) (code : Code) (place : Place) (stack : List ℕ) (f : Frame) (s : State) → Kept s (check holds code place stack f s)
+    check-keeps : (passes : Bool) (code : Code) (place : Place) (stack : List ℕ) (f : Frame) (s : State) → Kept s (check passes code place stack f s)
     check-keeps true code place stack f s d = d
     check-keeps false code place stack f s d = kept.ends s.world d
 
@@ -217,7 +218,7 @@ module _ (Trusted Ready Sandbox Called Ending : World → Type 0) where
     allocate-keeps : (fun : Func) (size more n : ℕ) (stack : List ℕ) (f : Frame) (s : State) → Kept s (allocate fun size more n stack f s)
     allocate-keeps fun size more n stack f s = by (is_positive (signed n))
       where
-        by : (some : Bool) → Kept s (allocate_if some fun _ stack f s)
+        by : (some : Bool) → Kept s (allocate_if some fun ((n + more) * size) stack f s)
         by true d = push-keeps fun _ stack f _ d
         by false d = push-keeps fun 0 stack f s d
 
@@ -266,14 +267,14 @@ module _ (Trusted Ready Sandbox Called Ending : World → Type 0) where
     act-keeps image settings fun ops.Duplicate f s = peek-keeps f.stack _ s (λ w. push-keeps fun w f.stack f s)
     act-keeps image settings fun (ops.BlockAddress k) f s = push_some-keeps fun _ f.stack f s
     act-keeps image settings fun (ops.BlockOffset k) f s = push_some-keeps fun _ f.stack f s
-    act-keeps image settings fun (ops.Add place) f s = checked-keeps fun _ f s
-    act-keeps image settings fun (ops.Sub place) f s = checked-keeps fun _ f s
-    act-keeps image settings fun (ops.Mul place) f s = checked-keeps fun _ f s
-    act-keeps image settings fun (ops.Div place) f s = checked-keeps fun _ f s
-    act-keeps image settings fun (ops.Rem place) f s = checked-keeps fun _ f s
+    act-keeps image settings fun (ops.Add place) f s = checked-keeps fun (arithmetic.sum place) f s
+    act-keeps image settings fun (ops.Sub place) f s = checked-keeps fun (arithmetic.difference place) f s
+    act-keeps image settings fun (ops.Mul place) f s = checked-keeps fun (arithmetic.product place) f s
+    act-keeps image settings fun (ops.Div place) f s = checked-keeps fun (arithmetic.quotient place) f s
+    act-keeps image settings fun (ops.Rem place) f s = checked-keeps fun (arithmetic.remainder place) f s
     act-keeps image settings fun (ops.Neg place) f s = pop-keeps f.stack _ s (λ b stack. push_checked-keeps fun _ stack f s)
-    act-keeps image settings fun (ops.Shl place) f s = checked-keeps fun _ f s
-    act-keeps image settings fun (ops.Shr place) f s = checked-keeps fun _ f s
+    act-keeps image settings fun (ops.Shl place) f s = checked-keeps fun (arithmetic.shifted_left place) f s
+    act-keeps image settings fun (ops.Shr place) f s = checked-keeps fun (arithmetic.shifted_right place) f s
     act-keeps image settings fun ops.WrapAdd f s = of_two-keeps fun _ f s
     act-keeps image settings fun ops.WrapSub f s = of_two-keeps fun _ f s
     act-keeps image settings fun ops.WrapMul f s = of_two-keeps fun _ f s

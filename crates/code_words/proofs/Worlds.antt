@@ -152,7 +152,7 @@ module _ (events : List Event) where
   behind_state s b = elim s.control as (λ control. HoldsIn Behind Behind Behind Behind Behind control s.world) [ Runs f ↦ b | Touches f touch ↦ b | Away ↦ b ]
 
   behind_run : (r : Run) → RunKeeps Behind Behind Behind Behind Behind r → IsFront events (events_of r)
-  behind_run (Unfinished s) = by s.control
+  behind_run (Unfinished s) b = by s.control b
     where
       by : (control : Control) → HoldsIn Behind Behind Behind Behind Behind control s.world → IsFront events s.world.events
       by (Runs f) b = b

@@ -13,7 +13,7 @@ use Rattle.code_words.specs.Table.{State, Step, Goes, Over, act}
 use Rattle.code_words.specs.Moves.{in_world}
 use Rattle.two_memory_machine.specs.declared.event.Event.{Event}
 use Rattle.two_memory_machine.specs.declared.event.Event.TheVariants.{Input, Ended}
-use Rattle.two_memory_machine.specs.Machines.{Machine, Doing, Running, NeedsNumber, Gives, TellsStep, TellsAct, state_of, is_input}
+use Rattle.two_memory_machine.specs.Machines.{Machine, Doing, Running, NeedsNumber, Touching, Suspended, Gives, TellsStep, TellsAct, state_of, is_input}
 
 -- the step goes as a line of the table, whichever acts and inputs are left and whatever came before
 abbrev pub GoesBy : (State → Step) → Machine → Event → Machine → Type 0
@@ -88,3 +88,10 @@ moved_if None s = Over (stopped_by_act S4 s.world) s
 abbrev pub bytes_if : Bool → (at len : ℕ) → List ℕ → Option (List ℕ)
 bytes_if true at len memory = Some (bytes_at at len memory)
 bytes_if false at len memory = None
+
+-- the sandbox has the turn
+abbrev pub IsSuspended : Doing → Type 0
+IsSuspended Running = ⊥
+IsSuspended NeedsNumber = ⊥
+IsSuspended (Touching touch) = ⊥
+IsSuspended (Suspended import place) = Unit {0}

@@ -1,6 +1,7 @@
 // The machine that runs an image, one instruction at a time.
 #![tactic(auto)]
 
+mod acts;
 mod arithmetic;
 mod calls;
 pub mod event;
