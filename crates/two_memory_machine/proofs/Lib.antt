@@ -2,3 +2,4 @@ mod Windows
 mod Stacked
 mod Pops
 mod Scaling
+mod Callers

@@ -1,0 +1,64 @@
+-- The open calls, and the lines of the table that begin and end them.
+use Rattle.std.proofs.Common.{◌≡◌, ℕ, zero, suc, ◌+◌, ◌<◌, ◌≤◌, Bool, true, false, nat_lt, nat_le, if◌then◌else◌, List, [], ◌∷◌, Option, Some, None, length, take, drop, reverse, get_or, refl, sym, ap, ◌∙◌, arith}
+use Rattle.std.specs.Prelude.{slice_get, All}
+use Rattle.std.specs.Option.{option_copied}
+use Rattle.std.specs.Slice.{IsItemAt}
+use Rattle.std.specs.Borrow.{Bor}
+use Rattle.std.proofs.lemmas.Bool.Decides.{nat_tests}
+use Rattle.std.proofs.lemmas.List.{length-take-le, length-reverse}
+use Rattle.std.proofs.lemmas.Option.{slice_get_past, slice_get_read, slice_get_within, get_or_from_slice_get}
+use Rattle.code_words.specs.declared.image.Func.{Func}
+use Rattle.code_words.specs.Table.{Frame, Caller, Calls, State, Step, pop_if, pop_words, wild, depth, behind, enter, call_function}
+use Rattle.two_memory_machine.specs.declared.calls.Link.{Link}
+use Rattle.two_memory_machine.specs.declared.calls.Link.TheVariants.{Called, CallsBack}
+use Rattle.two_memory_machine.specs.declared.machine.Phase.{Phase}
+use Rattle.two_memory_machine.specs.declared.machine.Phase.TheVariants as phases
+use Rattle.two_memory_machine.specs.CallStacks.{Behind, callers_with, callers_of}
+use Rattle.two_memory_machine.specs.Insides.{doing_of}
+use Rattle.two_memory_machine.specs.Machines.{Running}
+use Rattle.two_memory_machine.specs.Steps.{top_words_of}
+
+-- what `get` of a slice finds
+pub item_found : {X : Type 0} (xs : List X) (k : ℕ) (item : Option (Bor X)) → IsItemAt xs k item → option_copied item ≡ slice_get xs k
+item_found xs k None found = sym (slice_get_past xs k found.3)
+item_found xs k (Some item) found = sym (slice_get_read xs _ k item.now refl found.3.0 found.1)
+
+pub one_found : {X : Type 0} (xs : List X) (k : ℕ) (a b : X) → slice_get xs k ≡ Some a → slice_get xs k ≡ Some b → a ≡ b
+one_found xs k a b e h = let both : Some a ≡ Some b = sym e ∙ h in cc
+
+pub all_found : {X : Type 0} (P : X → Type 0) (xs : List X) (k : ℕ) (x : X) → All P xs → slice_get xs k ≡ Some x → P x
+all_found P xs k x all e = rw (get_or_from_slice_get xs k x x e) at (all k x (slice_get_within xs k x e))
+
+pub running : (phase : Phase) → doing_of phase ≡ Running → phase ≡ phases.Running
+running phases.Running h = refl
+running phases.NeedsNumber h = absurd (cc)
+running (phases.Touching touch) h = absurd (cc)
+running (phases.Suspended import place) h = absurd (cc)
+
+-- each call has a caller, and that of a callback two
+pub length-callers : (bs : List Behind) → length bs ≤ length (callers_of bs)
+length-callers [] = omega arith
+length-callers (b ∷ bs) = by b.link
+  where
+    by : (link : Link) → suc (length bs) ≤ length (callers_with link b.frame (callers_of bs))
+    by Called = omega (arith, length-callers bs)
+    by (CallsBack callback import place) = omega (arith, length-callers bs)
+
+-- words that were found on a stack
+pub record AreTop (n : ℕ) (stack words : List ℕ) : Type 0 where
+  pub enough : nat_le n (length stack) ≡ true
+  pub same : words ≡ reverse (take n stack)
+  pub count : length words ≡ n
+
+pub are_top : (n : ℕ) (stack words : List ℕ) → Some words ≡ top_words_of n stack → AreTop n stack words
+are_top n stack words h = by (nat_le n (length stack)) refl h
+  where
+    by : (b : Bool) → nat_le n (length stack) ≡ b → Some words ≡ (if b then Some (reverse (take n stack)) else None) → AreTop n stack words
+    by true e f =
+        let is : words ≡ reverse (take n stack) = cc in
+        let low : n ≤ length stack = grind (arith, nat_tests) in
+        record { enough = e; same = is; count = ap length is ∙ length-reverse (take n stack) ∙ length-take-le n stack low }
+    by false e f = cc
+
+pub call_line : (k : ℕ) (fun : Func) (f : Frame) (s : State) (words : List ℕ) → AreTop fun.args f.stack words → nat_lt (depth s) 1000 ≡ true → call_function k (Some fun) f s ≡ enter k fun words (Calls (behind f (drop fun.args f.stack))) s
+call_line k fun f s words top shallow = rw (top.enough, ← top.same, shallow) refl
