@@ -1,3 +1,4 @@
+pub mod Places
 pub mod CallStacks
 pub mod CallInsides
 pub mod Machines

@@ -6,11 +6,10 @@ ghost use Rattle.act_words.specs.Acts.{act_view, Passed, Replied, Looked, Wrote}
 ghost use Rattle.act_words.specs.Acting.{act_before_touch, act_in_sandbox, shown, written, lies_in, stopped_by_act};
 ghost use Rattle.act_words.specs.World.{in_turn};
 ghost use Rattle.act_words.specs.declared.act.Turn.TheVariants as turns;
-ghost use Rattle.code_words.specs.declared.image.Func.{Func as FuncData};
-ghost use Rattle.code_words.specs.Table.{Touch, Loads, Stores, Passes, Replies, Over, push_result};
+ghost use Rattle.code_words.specs.Table.{Touch, Loads, Stores, Passes, Replies, Over};
 ghost use Rattle.code_words.specs.Moves.{make_touch, before_touch_by, in_sandbox_by, answer, call_back, in_world};
-ghost use Rattle.two_memory_machine.specs.Machines.{Running, Touching, Suspended};
-ghost use Rattle.two_memory_machine.specs.Steps.{MovesBy, IsIn, IsSuspended, moved_if, bytes_if, EndsBy};
+ghost use Rattle.two_memory_machine.specs.Machines.{Touching};
+ghost use Rattle.two_memory_machine.specs.Steps.{MovesBy, IsSuspended, moved_if, bytes_if, EndsBy};
 
 use crate::calls::{Link, MAX_DEPTH};
 use crate::event::Event;
@@ -237,6 +236,7 @@ impl<'a> Machine<'a> {
     }
 
     // Takes the reply of a tainted function, and goes on with it (C9).
+    #[tactic(auto, using(std::proofs::lemmas::Bool::Decides::nat_tests))]
     fn answer(&mut self, value: u32) -> Event
         requires going { self.old.over ≡ None }
         requires suspended { IsSuspended self.old.doing }
@@ -250,7 +250,7 @@ impl<'a> Machine<'a> {
             return self.end_move(WILD);
         };
         match tainted.result {
-            WordKind::Void => Event::Ran,
+            WordKind::Void => return Event::Ran,
             WordKind::Char => {
                 if value >= 256 {
                     return self.end_move(Ending::Check {
@@ -258,19 +258,9 @@ impl<'a> Machine<'a> {
                         place,
                     });
                 }
-                self.push_reply(value)
             }
-            WordKind::Int | WordKind::Pointer => self.push_reply(value),
+            WordKind::Int | WordKind::Pointer => {}
         }
-    }
-
-    // Pushes the reply of a tainted function, if there is room for it.
-    fn push_reply(&mut self, value: u32) -> Event
-        requires going { self.old.over ≡ None }
-        requires runs { self.old.doing ≡ Running }
-        ensures { (f : FuncData) → IsIn self.old f
-            → MovesBy (push_result (Some f) (Some value) self.old.frame) self.old result self.new }
-    {
         if !self.calls.push(0, value) {
             return self.end_move(WILD);
         }

@@ -8,5 +8,6 @@ pub mod event;
 pub mod machine;
 mod bounds;
 mod operations;
+mod output;
 mod touches;
 mod transfers;
