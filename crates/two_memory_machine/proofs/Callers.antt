@@ -38,11 +38,11 @@ running (phases.Suspended import place) h = absurd (cc)
 -- each call has a caller, and that of a callback two
 pub length-callers : (bs : List Behind) → length bs ≤ length (callers_of bs)
 length-callers [] = omega arith
-length-callers (b ∷ bs) = by b.link
+length-callers (b ∷ bs) = by b.link (length-callers bs)
   where
-    by : (link : Link) → suc (length bs) ≤ length (callers_with link b.frame (callers_of bs))
-    by Called = omega (arith, length-callers bs)
-    by (CallsBack callback import place) = omega (arith, length-callers bs)
+    by : (link : Link) → length bs ≤ length (callers_of bs) → suc (length bs) ≤ length (callers_with link b.frame (callers_of bs))
+    by Called h = omega (arith, h)
+    by (CallsBack callback import place) h = omega (arith, h)
 
 -- words that were found on a stack
 pub record AreTop (n : ℕ) (stack words : List ℕ) : Type 0 where

@@ -3,3 +3,6 @@ mod Stacked
 mod Pops
 mod Scaling
 mod Callers
+mod Refusals
+mod Statics
+mod Moving

@@ -8,17 +8,14 @@ use Rattle.code_words.specs.declared.image.Func.{Func}
 use Rattle.code_words.specs.declared.image.Image.{Image}
 use Rattle.two_memory_machine.specs.declared.calls.Link.{Link}
 use Rattle.two_memory_machine.specs.declared.calls.Link.TheVariants.{Called, CallsBack}
-use Rattle.two_memory_machine.specs.declared.machine.BlockRow.{BlockRow}
 use Rattle.two_memory_machine.specs.declared.machine.Pending.{Pending}
 use Rattle.two_memory_machine.specs.declared.machine.Pending.TheVariants as pending
 use Rattle.two_memory_machine.specs.declared.machine.Phase.{Phase}
 use Rattle.two_memory_machine.specs.declared.machine.Phase.TheVariants as phases
 use Rattle.two_memory_machine.specs.declared.machine.Machine.TheInside.{Inside}
+use Rattle.two_memory_machine.specs.Places.{block_row}
 use Rattle.two_memory_machine.specs.CallStacks.{Behind, CallStack, callers_of, link_of}
 use Rattle.two_memory_machine.specs.Machines.{Doing, Running, NeedsNumber, Touching, Suspended, Machine}
-
-abbrev pub block_row : BlockRow → Block
-block_row row = record { offset = row.offset; bytes = row.bytes }
 
 abbrev pub touch_of : Pending → Touch
 touch_of (pending.Loads at len) = Loads at len

@@ -173,14 +173,14 @@ Gives Tells acts inputs events (Over ending s) old event new =
 
 -- the machine's step is the table's move, whichever acts and inputs are left and whatever came before. An instruction that
 -- takes an input number waits for it
+abbrev pub StepsIf : Bool → Machine → Event → Machine → Type 0
+StepsIf true old event new = (event ≡ Input) × (new ≡ record old { doing = NeedsNumber })
+StepsIf false old event new =
+    (acts : List Act) (inputs : List ℤ) (events : List World.Event) →
+    Gives TellsStep acts inputs events (move old.image old.settings (state_of old acts inputs events)) old event new
+
 abbrev pub Steps : Machine → Event → Machine → Type 0
-Steps old event new = by_input (is_input (next_op_of old))
-  where
-    by_input : Bool → Type 0
-    by_input true = (event ≡ Input) × (new ≡ record old { doing = NeedsNumber })
-    by_input false =
-        (acts : List Act) (inputs : List ℤ) (events : List World.Event) →
-        Gives TellsStep acts inputs events (move old.image old.settings (state_of old acts inputs events)) old event new
+Steps old event new = StepsIf (is_input (next_op_of old)) old event new
 
 -- with the number that it waited for, the machine makes the move that takes it
 abbrev pub TakesNumber : Machine → ℤ → Event → Machine → Type 0

@@ -4,7 +4,11 @@ use Rattle.std.proofs.Common.{ℤ}
 use Rattle.act_words.specs.Acts.{Act}
 use Rattle.act_words.specs.World
 use Rattle.act_words.specs.declared.ending.Ending.{Ending}
-use Rattle.ckc_text.specs.declared.code.Code.TheVariants.{S4}
+use Rattle.ckc_text.specs.declared.code.Code.{Code}
+use Rattle.ckc_text.specs.declared.code.Code.TheVariants.{C4, C9, S4, S6}
+use Rattle.act_words.specs.declared.ending.Ending.TheVariants as endings
+use Rattle.code_words.specs.Marshalling.{Fault, Count, TooLarge, OutOfRange, fits_kind, optional_region_lies}
+use Rattle.code_words.specs.declared.image.Param.{Param}
 use Rattle.act_words.specs.Acting.{bytes_at, stopped_by_act}
 use Rattle.act_words.specs.Checks.{Checked, Holds, Fails}
 use Rattle.code_words.specs.declared.op.Op.{Op}
@@ -29,12 +33,12 @@ abbrev pub Acts : Op → Machine → Event → Machine → Type 0
 Acts op old event new = (f : Func) → IsIn old f → GoesBy (act old.image old.settings f op old.frame) old event new
 
 -- the same, but where the instruction takes an input number, which it waits for
+abbrev pub PerformsIf : Bool → Op → Machine → Event → Machine → Type 0
+PerformsIf true op old event new = (event ≡ Input) × (new ≡ record old { doing = NeedsNumber })
+PerformsIf false op old event new = Acts op old event new
+
 abbrev pub Performs : Op → Machine → Event → Machine → Type 0
-Performs op old event new = by_input (is_input (Some op))
-  where
-    by_input : Bool → Type 0
-    by_input true = (event ≡ Input) × (new ≡ record old { doing = NeedsNumber })
-    by_input false = Acts op old event new
+Performs op old event new = PerformsIf (is_input (Some op)) op old event new
 
 -- the run isn't over, an instruction is next, and the one behind it can be numbered
 pub record IsReady (m : Machine) : Type 0 where
@@ -95,3 +99,23 @@ IsSuspended Running = ⊥
 IsSuspended NeedsNumber = ⊥
 IsSuspended (Touching touch) = ⊥
 IsSuspended (Suspended import place) = Unit {0}
+
+-- how a fault of a parameter ends the run
+abbrev pub ending_at : Code → Option Param → Option Ending
+ending_at code None = Some (endings.Stop S6 None)
+ending_at code (Some p) = Some (endings.Check code p.place)
+
+abbrev pub fault_ending : List Param → Option Fault → Option Ending
+fault_ending params None = None
+fault_ending params (Some Count) = Some (endings.Stop S6 None)
+fault_ending params (Some (TooLarge param)) = ending_at C9 (slice_get params param)
+fault_ending params (Some (OutOfRange param)) = ending_at C4 (slice_get params param)
+
+abbrev pub ending_unless : Bool → Ending → Option Ending → Option Ending
+ending_unless true ending later = later
+ending_unless false ending later = Some ending
+
+-- how a word ends the run that doesn't fit its parameter
+abbrev pub param_ending : ℕ → List ℕ → ℕ → Param → Option Ending
+param_ending size words word p =
+    ending_unless (fits_kind p.kind word) (endings.Check C9 p.place) (ending_unless (optional_region_lies size words word p.region) (endings.Check C4 p.place) None)

@@ -24,7 +24,7 @@ use code_words::image::WordKind;
 use flat_bytes::words;
 
 /// The end of a run that no line of the table goes on with.
-const WILD: Ending = Ending::Stop {
+pub const WILD: Ending = Ending::Stop {
     code: Code::S6,
     act: None,
 };
@@ -62,7 +62,7 @@ impl<'a> Machine<'a> {
             Act::Go => Event::Ran,
             Act::Read { at, len } => self.show(*at, len.number),
             Act::Write { at, bytes } => self.write(*at, bytes.octets.as_slice()),
-            Act::Call { fun: _, args: _ } => self.stop_by_act(Code::S5),
+            Act::Call { fun, args } => self.call_back(*fun, args.as_slice()),
             Act::Return { value } => self.answer(*value),
             Act::Stop => self.end_move(SANDBOX_ENDED),
         }

@@ -3,9 +3,11 @@
 
 mod acts;
 mod arithmetic;
+mod callbacks;
 mod calls;
 pub mod event;
 pub mod machine;
+mod memory;
 mod bounds;
 mod operations;
 mod output;

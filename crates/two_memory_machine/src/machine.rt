@@ -1,35 +1,34 @@
 // Running an image over flat memory.
 
-ghost use Rattle.std.specs.Prelude.{◌≡◌, ◌+◌, ◌-◌, ◌^◌, ◌<◌, ◌≤◌, ◌⊎◌, List, length, drop, IfOk, IfSome, OnSome, None, Some, is_some, slice_get};
+ghost use Rattle.std.specs.Prelude.{◌≡◌, ◌+◌, ◌-◌, ◌^◌, ◌<◌, ◌≤◌, ◌⊎◌, List, length, drop, IfOk, IfSome, OnSome, None, Some, is_some, slice_get, pos};
 ghost use Rattle.std.specs.Option.{option_copied};
 ghost use Rattle.std.proofs.Common.{ℤ};
+ghost use Rattle.act_words.specs.Acts.{act_view};
 ghost use Rattle.trusted_memory.specs.Memories.{byte_of};
 ghost use Rattle.code_words.specs.Fitting.{Fits};
 ghost use Rattle.code_words.specs.declared.image.Func.{Func as FuncData};
 ghost use Rattle.code_words.specs.Table.{Over, wild, pop, pop_2, on_with, push, push_some, push_checked, check, load, store};
-ghost use Rattle.two_memory_machine.specs.Machines.{waiting_of, turn_of, next_op_of, Steps, ending_given, block_of};
+ghost use Rattle.two_memory_machine.specs.Machines.{IsStart, waiting_of, turn_of, next_op_of, Steps, TakesAct, TakesEnd, TakesNumber, TakesNoNumber, ending_given, block_of};
 ghost use Rattle.two_memory_machine.specs.Steps.{GoesBy, IsIn, Acts, Performs, IsReady, EndsBy, two_topmost, four_topmost, five_topmost, seven_topmost, top_words_of, checked_of};
 
+use crate::acts::SANDBOX_ENDED;
 use crate::calls::CallWords;
 use crate::event::{Event, Waiting};
-use act_words::act::Turn;
+use crate::memory;
+use crate::memory::BlockRow;
+use act_words::act::{Act, Turn};
 use act_words::ending::Ending;
 use act_words::octets::Octets;
 use act_words::settings::Settings;
 use act_words::words::Words;
 use ckc_text::code::Code;
+use ckc_text::fault::NoMemory;
 use ckc_text::place::Place;
 use code_words::image::Image;
 use code_words::op::Op;
+use std::alloc::Global;
 use std::marker::Model;
 use trusted_memory::memory::Trusted;
-
-/// A block of trusted memory.
-#[derive(Clone, Copy)]
-pub(crate) struct BlockRow {
-    pub offset: u32,
-    pub bytes: u32,
-}
 
 /// A touch whose acts are still to be taken.
 #[derive(Clone, Copy)]
@@ -99,6 +98,39 @@ impl<'a> Model for Machine<'a> {
 }
 
 impl<'a> Machine<'a> {
+    /// Starts an image, and takes all the memory that its run needs.
+    pub fn start(
+        alloc: Global,
+        image: &'a Image,
+        settings: &Settings,
+    ) -> Result<Machine<'a>, NoMemory>
+        requires { Fits image.now settings.now }
+        ensures { IfOk result (λ m. IsStart image.now settings.now m) }
+    {
+        let blocks = image.trusted.blocks.as_slice();
+        let statics = image.sandbox.blocks.as_slice();
+        let function = image.layout.main.unwrap();
+        let bytes = memory::memory_with(alloc, settings.trusted, blocks)?;
+        let counter = memory::counter_of(blocks);
+        Ok(Machine {
+            image,
+            settings: *settings,
+            memory: Trusted::from_bytes(bytes, settings.base, counter),
+            blocks: memory::rows_with(alloc, settings.trusted, blocks)?,
+            made: blocks.len(),
+            addresses: memory::offsets_with(alloc, settings.base + memory::FIRST_OFFSET, blocks)?,
+            offsets: memory::offsets_with(alloc, memory::FIRST_OFFSET, statics)?,
+            calls: CallWords::start(alloc, image.trusted.funs.as_slice(), function)?,
+            phase: Phase::Running,
+            depth: 1,
+            sandbox: memory::memory_with(alloc, settings.sandbox, statics)?,
+            room: memory::counter_of(statics),
+            taken: 0,
+            ticks: 0,
+            over: None,
+        })
+    }
+
     /// What the machine waits for.
     pub fn waiting(&self) -> Waiting
         ensures { result ≡ waiting_of self.now }
@@ -131,6 +163,62 @@ impl<'a> Machine<'a> {
         }
     }
 
+    /// Makes the next step.
+    pub fn step(&mut self) -> Event
+        requires { waiting_of self.old ≡ Waiting.Runs }
+        ensures steps { Steps self.old result self.new }
+        ensures over { self.new.over ≡ ending_given result }
+    {
+        match self.calls.op() {
+            Some(op) => self.perform(op),
+            None => self.end_wild(),
+        }
+    }
+
+    /// Takes an act of the sandbox.
+    pub fn act(&mut self, act: &Act) -> Event
+        requires { waiting_of self.old ≡ Waiting.Act }
+        ensures takes { TakesAct self.old (act_view act.now) result self.new }
+        ensures over { self.new.over ≡ ending_given result }
+    {
+        self.taken = self.taken.saturating_add(1);
+        match self.phase {
+            Phase::Touching { touch: _ } => self.act_before_touch(act),
+            Phase::Suspended {
+                import: _,
+                place: _,
+            } => self.act_in_sandbox(act),
+            Phase::Running | Phase::NeedsNumber => Event::Ran,
+        }
+    }
+
+    /// Goes on where no act is left.
+    pub fn no_more_acts(&mut self) -> Event
+        requires { waiting_of self.old ≡ Waiting.Act }
+        ensures takes { TakesEnd self.old result self.new }
+        ensures over { self.new.over ≡ ending_given result }
+    {
+        match self.phase {
+            Phase::Touching { touch: _ } => self.make_touch(),
+            Phase::Suspended {
+                import: _,
+                place: _,
+            } => self.end_move(SANDBOX_ENDED),
+            Phase::Running | Phase::NeedsNumber => Event::Ran,
+        }
+    }
+
+    /// Takes the input number that the next instruction waits for, and 0 where none is left.
+    pub fn give(&mut self, number: i32) -> Event
+        requires { waiting_of self.old ≡ Waiting.Number }
+        ensures takes { TakesNumber self.old number result self.new }
+        ensures none { number ≡ pos 0 → TakesNoNumber self.old result self.new }
+        ensures over { self.new.over ≡ ending_given result }
+    {
+        self.phase = Phase::Running;
+        self.push(0, number.cast_unsigned())
+    }
+
     /// The address and the length of a block of trusted memory, or None past the last.
     pub fn block(&self, k: u32) -> Option<(u32, u32)>
         ensures { result ≡ block_of self.now k }
@@ -144,6 +232,108 @@ impl<'a> Machine<'a> {
         ensures { result ≡ byte_of self.now.memory at }
     {
         self.memory.byte(at)
+    }
+
+    // Makes the step of an instruction.
+    fn perform(&mut self, op: &Op) -> Event
+        requires ready { IsReady self.old }
+        requires there { next_op_of self.old ≡ Some op.now }
+        ensures { Performs op.now self.old result self.new }
+    {
+        match op {
+            Op::Const(number) => self.push(0, number.cast_unsigned()),
+            Op::Local(slot) => self.local(*slot),
+            Op::Set(slot) => self.set(*slot),
+            Op::Discard => self.discard(),
+            Op::Duplicate => self.duplicate(),
+            Op::BlockAddress(k) => self.block_address(*k),
+            Op::BlockOffset(k) => self.block_offset(*k),
+            Op::Add { place } => self.add(*place),
+            Op::Sub { place } => self.subtract(*place),
+            Op::Mul { place } => self.multiply(*place),
+            Op::Div { place } => self.divide(*place),
+            Op::Rem { place } => self.remainder(*place),
+            Op::Neg { place } => self.negate(*place),
+            Op::Shl { place } => self.shift_left(*place),
+            Op::Shr { place } => self.shift_right(*place),
+            Op::WrapAdd => self.wrapping_add(),
+            Op::WrapSub => self.wrapping_subtract(),
+            Op::WrapMul => self.wrapping_multiply(),
+            Op::WrapNeg => self.wrapping_negate(),
+            Op::WrapShl => self.wrapping_shift_left(),
+            Op::WrapShr => self.wrapping_shift_right(),
+            Op::WrapDiv | Op::WrapRem => self.end_wild(),
+            Op::And => self.and(),
+            Op::Or => self.or(),
+            Op::Xor => self.xor(),
+            Op::Not => self.complement(),
+            Op::Equal => self.equal(),
+            Op::NotEqual => self.not_equal(),
+            Op::Less => self.less(),
+            Op::LessEqual => self.less_equal(),
+            Op::Greater => self.greater(),
+            Op::GreaterEqual => self.greater_equal(),
+            Op::UnsignedLess => self.unsigned_less(),
+            Op::UnsignedLessEqual => self.unsigned_less_equal(),
+            Op::UnsignedGreater => self.unsigned_greater(),
+            Op::UnsignedGreaterEqual => self.unsigned_greater_equal(),
+            Op::Zero => self.is_zero(),
+            Op::Byte => self.low_byte(),
+            Op::Index { size } => self.index(*size),
+            Op::NonNull { place } => self.non_null(*place),
+            Op::In {
+                low,
+                high,
+                size,
+                place,
+            } => self.check_in(*low, *high, *size, *place),
+            Op::UpTo {
+                low,
+                high,
+                size,
+                place,
+            } => self.check_up_to(*low, *high, *size, *place),
+            Op::Term { high, size, place } => self.check_term(*high, *size, *place),
+            Op::Contain {
+                old_low,
+                old_high,
+                new_low,
+                new_high,
+                size,
+                place,
+            } => self.check_contain((*old_low, *old_high), (*new_low, *new_high), *size, *place),
+            Op::Lies {
+                low,
+                high,
+                size,
+                more,
+                place,
+            } => self.check_lies((*low, *high), *size, *more, *place),
+            Op::Range { offset, len, place } => self.check_range(*offset, *len, *place),
+            Op::Load1 => self.load(1),
+            Op::Load4 => self.load(4),
+            Op::Store1 => self.store(1),
+            Op::Store4 => self.store(4),
+            Op::TouchLoad1 => self.touch_load_1(),
+            Op::TouchLoad4 => self.touch_load_4(),
+            Op::TouchStore1 => self.touch_store_1(),
+            Op::TouchStore4 => self.touch_store_4(),
+            Op::Jump(target) => self.jump(*target),
+            Op::JumpIfZero(target) => self.jump_if_zero(*target),
+            Op::Call(k) => self.call(*k),
+            Op::TaintedCall { import, place } => self.call_tainted(*import, *place),
+            Op::CallBack(_) => self.end_wild(),
+            Op::Return => self.return_word(),
+            Op::ReturnNothing => self.return_nothing(),
+            Op::Tick => self.tick(),
+            Op::NextInput => self.next_input(),
+            Op::Print => self.print(),
+            Op::PutByte => self.put_byte(),
+            Op::Alloc { size } => self.alloc(*size),
+            Op::AllocTerminated { size } => self.alloc_terminated(*size),
+            Op::SandboxAlloc { size } => self.sandbox_alloc(*size),
+            Op::TextLength => self.text_length(),
+        }
     }
 
     // Pops words, and pushes the number of a check that holds.

@@ -11,7 +11,8 @@ ghost use Rattle.two_memory_machine.specs.Machines.{next_op_of};
 ghost use Rattle.two_memory_machine.specs.Steps.{Acts, Performs, IsReady, IsIn, GoesBy};
 
 use crate::event::Event;
-use crate::machine::{BlockRow, Machine, Phase};
+use crate::machine::{Machine, Phase};
+use crate::memory::BlockRow;
 use act_words::octets::Octets;
 use code_words::op::Op;
 use itoa::Buffer;
@@ -104,18 +105,24 @@ impl<'a> Machine<'a> {
             return self.push(1, 0);
         }
         let address = self.make_block(byte_count(count, more, size));
-        self.push(1, address)
+        if !self.calls.push(1, address) {
+            return self.end_wild();
+        }
+        self.calls.advance();
+        Event::Ran
     }
 
     // Makes a block of trusted memory, and gives its address, or 0 where it is refused.
+    #[tactic(auto, using(crate::proofs::Refusals::refused_large))]
     fn make_block(&mut self, bytes: u64) -> u32
         ensures address { result ≡ address_made self.old.memory bytes }
         ensures after { self.new
             ≡ record self.old { memory = made self.old.memory bytes; blocks = blocks_made self.old.memory self.old.blocks bytes } }
     {
-        let Ok(bytes) = u32::try_from(bytes) else {
+        if bytes > u64::from(self.memory.size()) {
             return 0;
-        };
+        }
+        let bytes = bytes as u32;
         let offset = self.memory.counter();
         let address = self.memory.make(bytes);
         if address != 0 {
@@ -137,7 +144,19 @@ impl<'a> Machine<'a> {
             return self.push(1, 0);
         }
         let offset = self.make_sandbox_block(byte_count(count, 0, size));
-        self.push(1, offset)
+        if !self.calls.push(1, offset) {
+            return self.end_wild();
+        }
+        self.calls.advance();
+        Event::Ran
+    }
+
+    // Pops an address, and pushes how many bytes stand before the first 0 from there; each spends a tick (S1).
+    pub(crate) fn text_length(&mut self) -> Event
+        requires { IsReady self.old }
+        ensures { Acts Op.TextLength self.old result self.new }
+    {
+        self.end_wild()
     }
 
     // Makes a block of the sandbox's memory, and gives its offset, or 0 where it is refused.

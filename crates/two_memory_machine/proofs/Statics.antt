@@ -1,0 +1,35 @@
+-- Static blocks, one after another.
+use Rattle.std.proofs.Common.{◌≡◌, ℕ, zero, suc, ◌+◌, ◌-◌, ◌<◌, ◌≤◌, Bool, true, false, List, [], ◌∷◌, ◌++◌, Option, Some, None, length, drop, take, map, get_or, refl, sym, ap, ◌∙◌, arith}
+use Rattle.std.specs.Prelude.{slice_get, All}
+use Rattle.std.proofs.lemmas.Bool.Decides.{nat_tests}
+use Rattle.std.proofs.lemmas.List.{drop-cons}
+use Rattle.flat_bytes.specs.Blocks.{Block, grown, is_refused, blocks_from}
+use Rattle.code_words.specs.Runs.{spread, counter_behind}
+use Rattle.code_words.specs.Table.{offset_from, at_base}
+use Rattle.two_memory_machine.specs.Places.{offsets_from}
+
+pub counter_grows : (counter : ℕ) (blocks : List (List ℕ)) → counter ≤ counter_behind counter blocks
+counter_grows counter [] = omega arith
+counter_grows counter (block ∷ blocks) = omega (arith, counter_grows (grown counter (length block)) blocks)
+
+-- the list of places has the place of each block
+pub places_listed : (blocks : List (List ℕ)) (base offset place k : ℕ) → base + offset ≡ place → slice_get (offsets_from place blocks) k ≡ at_base base (offset_from offset blocks k)
+places_listed [] base offset place k e = refl
+places_listed (block ∷ blocks) base offset place zero e = ap Some (sym e)
+places_listed (block ∷ blocks) base offset place (suc k) e = places_listed blocks base (grown offset (length block)) (grown place (length block)) k (omega arith)
+
+pub offsets_listed : (blocks : List (List ℕ)) (offset k : ℕ) → slice_get (offsets_from offset blocks) k ≡ offset_from offset blocks k
+offsets_listed [] offset k = refl
+offsets_listed (block ∷ blocks) offset zero = refl
+offsets_listed (block ∷ blocks) offset (suc k) = offsets_listed blocks (grown offset (length block)) k
+
+-- behind as many bytes the counter is as much larger
+pub counter_at_base : (base counter : ℕ) (blocks : List (List ℕ)) → counter_behind (base + counter) blocks ≡ base + counter_behind counter blocks
+counter_at_base base counter [] = refl
+counter_at_base base counter (block ∷ blocks) =
+    let same : grown (base + counter) (length block) ≡ base + grown counter (length block) = omega arith in
+    ap (λ n. counter_behind n blocks) same ∙ counter_at_base base (grown counter (length block)) blocks
+
+-- a block that isn't empty and fits isn't refused
+pub not_refused : (size counter bytes : ℕ) → 0 < bytes → grown counter bytes ≤ size → is_refused size counter bytes ≡ false
+not_refused size counter bytes some fits = grind (arith, nat_tests)
