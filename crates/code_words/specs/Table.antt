@@ -199,6 +199,10 @@ check false code place stack f s = Over (Check code place) s
 abbrev pub place_at : ℕ → ℕ → ℕ → ℤ
 place_at p i size = pos p +ℤ (signed i *ℤ pos size)
 
+-- the address of an element, modulo 2 ^ 32, where an index stands for the same number with and without its sign
+abbrev pub element : ℕ → ℕ → ℕ → ℕ
+element p i size = arithmetic.wrapped (p + i * size)
+
 -- an end: a base and so many elements, over whole numbers
 abbrev pub end_of : ℕ → ℕ → ℤ → ℕ → ℤ
 end_of b count plus size = end_at b size (signed count) plus
@@ -408,7 +412,7 @@ act image settings fun ops.UnsignedGreater f s = of_two fun (λ a b. bit (nat_lt
 act image settings fun ops.UnsignedGreaterEqual f s = of_two fun (λ a b. bit (nat_le b a)) f s
 act image settings fun ops.Zero f s = of_one fun (λ b. bit (b == 0)) f s
 act image settings fun ops.Byte f s = of_one fun (λ b. b % 256) f s
-act image settings fun (ops.Index size) f s = of_two fun (λ p i. word (place_at p i size)) f s
+act image settings fun (ops.Index size) f s = of_two fun (λ p i. element p i size) f s
 act image settings fun (ops.NonNull place) f s = peek f.stack (λ w. check (not (w == 0)) C1 place f.stack f s) s
 act image settings fun (ops.In low high size place) f s =
     pop_5 f.stack (λ p i b l h stack. check (is_in (end_of b l low size) (place_at p i size) (end_of b h high size)) C2 place stack f s) s

@@ -1,5 +1,26 @@
 // What holds of the runs of all images.
 
-/// Nothing yet.
+ghost use Rattle.std.specs.Prelude.{◌≡◌, ◌++◌, ℕ, List};
+ghost use Rattle.std.proofs.Common.{ℤ};
+ghost use Rattle.act_words.specs.declared.ending.Ending.{Ending};
+ghost use Rattle.act_words.specs.declared.settings.Settings.{Settings};
+ghost use Rattle.act_words.specs.Acts.{Act};
+ghost use Rattle.act_words.specs.World.{Event};
+ghost use Rattle.act_words.specs.View.{ViewIsFold};
+ghost use Rattle.code_words.specs.declared.image.Image.{Image};
+ghost use Rattle.code_words.specs.Table.{State};
+ghost use Rattle.code_words.specs.Runs.{CodeRun, exec, started, events_of};
+
+/// Whatever the image is, what its run shows to the sandbox is determined by the sandbox's memory at the start, by the acts
+/// that were taken, and by the releases.
 pub fn view_is_fold()
+    ensures { (image : Image) (settings : Settings) (inputs : List ℤ) (acts : List Act) (ending : Ending) (t : State)
+        → CodeRun image settings inputs acts ending t → ViewIsFold (started image settings inputs acts).world.sandbox acts t.world }
+{}
+
+/// What happened after some moves has happened when the run ends, and more may have happened behind it.
+pub fn events_stay()
+    ensures { (image : Image) (settings : Settings) (inputs : List ℤ) (acts : List Act) (n : ℕ) (ending : Ending) (t : State)
+        → CodeRun image settings inputs acts ending t
+        → (more : List Event) × (t.world.events ≡ events_of (exec image settings n (started image settings inputs acts)) ++ more) }
 {}

@@ -1,5 +1,5 @@
 -- A memory at a base address, as its callers see it, and what a block that is asked for changes.
-use Rattle.std.specs.Prelude.{◌≡◌, ℕ, ◌+◌, ◌%◌, ◌<◌, ◌≤◌, ◌⊎◌, Bool, true, false, List, [], ◌∷◌, length, replicate}
+use Rattle.std.specs.Prelude.{◌≡◌, ℕ, ◌+◌, ◌-◌, ◌%◌, ◌<◌, ◌≤◌, ◌⊎◌, Bool, true, false, nat_le, List, [], ◌∷◌, length, replicate, Option, None, slice_get}
 use Rattle.flat_bytes.specs.Blocks.{first_offset, grown, is_refused, counter_after}
 
 -- the bytes, the address of the first of them, and the counter: the offset at which the next block will stand
@@ -44,3 +44,11 @@ Refuses m bytes = (bytes ≡ 0) ⊎ (length m.bytes < grown m.counter bytes)
 -- the bytes from an address on are bytes of the memory
 abbrev pub Holds : Memory → ℕ → ℕ → Type 0
 Holds m address len = (m.base ≤ address) × (address + len ≤ m.base + length m.bytes)
+
+-- the byte at an address, if it is one of the memory
+abbrev pub byte_of : Memory → ℕ → Option ℕ
+byte_of m address = from_base (nat_le m.base address)
+  where
+    from_base : Bool → Option ℕ
+    from_base true = slice_get m.bytes (address - m.base)
+    from_base false = None

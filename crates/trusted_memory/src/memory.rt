@@ -1,8 +1,8 @@
 // A memory at a base address, with counted room for blocks.
 
-ghost use Rattle.std.specs.Prelude.{◌≡◌, ◌-◌, ◌≤◌, ◌⊎◌, ◌↔◌, IfOk, IsTrue};
+ghost use Rattle.std.specs.Prelude.{◌≡◌, ◌+◌, ◌-◌, ◌^◌, ◌<◌, ◌≤◌, ◌⊎◌, ◌↔◌, IfOk, IfSome, IsTrue, length, vec_len};
 ghost use Rattle.flat_bytes.specs.Words.{word_at, with_word};
-ghost use Rattle.trusted_memory.specs.Memories.{AreAllowed, Refuses, Holds, started, made, address_made};
+ghost use Rattle.trusted_memory.specs.Memories.{AreAllowed, Refuses, Holds, started, made, address_made, byte_of};
 
 use ckc_text::fault::NoMemory;
 use flat_bytes::words;
@@ -42,6 +42,43 @@ impl Trusted {
             base,
             counter: 16,
         })
+    }
+
+    /// A memory of these bytes, the first of which has the address `base`. Its blocks end before the offset `counter`.
+    pub fn from_bytes(bytes: Vec<u8>, base: u32, counter: u32) -> Trusted
+        requires not_null { 0 < base }
+        requires addresses { base + vec_len bytes < 2 ^ 32 }
+        requires counted { counter ≤ vec_len bytes }
+        ensures { result ≡ record { bytes = bytes.items; base = base; counter = counter } }
+    {
+        Trusted {
+            bytes,
+            base,
+            counter,
+        }
+    }
+
+    /// How many bytes the memory has.
+    pub fn size(&self) -> u32
+        ensures { result ≡ length self.now.bytes }
+    {
+        self.bytes.len() as u32
+    }
+
+    /// The byte at an address, or None outside the memory.
+    pub fn byte(&self, at: u32) -> Option<u8>
+        ensures byte { result ≡ byte_of self.now at }
+        ensures before_end { IfSome result (λ _. at + 1 < 2 ^ 32) }
+    {
+        let offset = at.checked_sub(self.base)?;
+        self.bytes.get(offset as usize).copied()
+    }
+
+    /// The offset at which the next block will stand.
+    pub fn counter(&self) -> u32
+        ensures { result ≡ self.now.counter }
+    {
+        self.counter
     }
 
     /// Makes a block of some bytes, and gives its address. A block without bytes and one that the room is too small

@@ -1,6 +1,10 @@
-pub mod BlockLemmas
-pub mod StepLemmas
-mod ActLemmas
-mod CallLemmas
-mod LineLemmas
-mod MoveLemmas
+mod Windows
+mod Stacked
+mod Pops
+mod Scaling
+mod Callers
+mod Refusals
+mod Statics
+mod Moving
+mod Faults
+mod TextCounts

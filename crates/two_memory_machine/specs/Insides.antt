@@ -1,16 +1,30 @@
 -- What callers see of a machine's fields, and what is always true of them.
-use Rattle.std.specs.Prelude.{◌≡◌, ℕ, ◌+◌, ◌^◌, ◌<◌, ◌≤◌, All, List, length, drop, option_map, Option, Some, None, slice_get}
-use Rattle.act_words.specs.declared.act.Turn.TheVariants as turns
-use Rattle.code_words.specs.Blocks.{bytes_taken}
-use Rattle.code_words.specs.declared.image.Func.{Func}
-use Rattle.two_memory_machine.specs.Places.{addresses_from}
-use Rattle.two_memory_machine.specs.Machines.{Machine, Pending}
-use Rattle.two_memory_machine.specs.declared.machine.Call.{Call}
+use Rattle.std.specs.Prelude.{◌≡◌, ℕ, ◌+◌, ◌*◌, ◌^◌, ◌<◌, ◌≤◌, ◌⊎◌, length, take, map, Option, Some, None, slice_get, All}
+use Rattle.code_words.specs.Fitting.{Fits}
+use Rattle.code_words.specs.Table.{Touch, Loads, Stores, Passes, Replies, address_of, offset_of}
+use Rattle.code_words.specs.declared.op.Op.TheVariants.{NextInput}
+use Rattle.two_memory_machine.specs.declared.calls.Link.{Link}
+use Rattle.two_memory_machine.specs.declared.calls.Link.TheVariants.{Called, CallsBack}
+use Rattle.two_memory_machine.specs.declared.machine.Pending.{Pending}
+use Rattle.two_memory_machine.specs.declared.machine.Pending.TheVariants as pending
+use Rattle.two_memory_machine.specs.declared.machine.Phase.{Phase}
+use Rattle.two_memory_machine.specs.declared.machine.Phase.TheVariants as phases
 use Rattle.two_memory_machine.specs.declared.machine.Machine.TheInside.{Inside}
+use Rattle.two_memory_machine.specs.Places.{block_row}
+use Rattle.two_memory_machine.specs.CallStacks.{CallStack, callers_of, link_of}
+use Rattle.two_memory_machine.specs.Machines.{Doing, Running, NeedsNumber, Touching, Suspended, Machine}
 
--- a call that waits
-abbrev pub pending_of : Call → Pending
-pending_of call = record { import = call.import; words = call.args }
+abbrev pub touch_of : Pending → Touch
+touch_of (pending.Loads at len) = Loads at len
+touch_of (pending.Stores at bytes) = Stores at bytes
+touch_of (pending.Passes import words place) = Passes import words place
+touch_of (pending.Replies value) = Replies value
+
+abbrev pub doing_of : Phase → Doing
+doing_of phases.Running = Running
+doing_of phases.NeedsNumber = NeedsNumber
+doing_of (phases.Touching touch) = Touching (touch_of touch)
+doing_of (phases.Suspended import place) = Suspended import place
 
 -- what callers see
 abbrev pub machine : Inside → Machine
@@ -18,42 +32,65 @@ machine m =
     record {
       image = m.image.now;
       settings = m.settings;
-      memory = m.memory.items;
-      frame = record { function = m.function; next = m.next; slots = m.slots.items; stack = drop m.top m.stack.items };
-      depth = m.depth;
+      memory = m.memory;
+      blocks = map block_row (take m.made m.blocks.items);
+      frame = m.calls.frame;
+      doing = doing_of m.phase;
+      callers = callers_of m.calls.behind;
       sandbox = m.sandbox.items;
-      turn = m.turn;
+      room = m.room;
       taken = m.taken;
       ticks = m.ticks;
-      pending = option_map pending_of m.pending;
       over = m.over;
     }
 
--- how many words a function's stack may have
-abbrev pub stack_of : Option Func → ℕ
-stack_of None = 0
-stack_of (Some f) = f.stack
+-- how many open calls stand behind a call that does this, beside those that it counts
+abbrev pub waiting_calls : Phase → ℕ
+waiting_calls phases.Running = 0
+waiting_calls phases.NeedsNumber = 0
+waiting_calls (phases.Touching touch) = 0
+waiting_calls (phases.Suspended import place) = 1
 
--- a call waits at an instruction of a function that is there, with its words on the stack and an instruction behind it that
--- can be numbered
-pub record WaitsWell (funs : List Func) (function next : ℕ) (stack : List ℕ) (call : Call) : Type 0 where
-  pub f : Func
-  pub there : slice_get funs function ≡ Some f
-  pub stands : next < length f.ops
-  pub fits : next + 1 < 2 ^ 64
-  pub words : length call.args ≤ length stack
+-- the innermost call is one of a callback
+abbrev pub IsCallback : Option Link → Type 0
+IsCallback None = ⊥
+IsCallback (Some Called) = ⊥
+IsCallback (Some (CallsBack callback import place)) = Unit {0}
+
+-- a touch lies in the sandbox's memory; what a load gives has room on the stack, and a call of a tainted function has an
+-- open call left; what replies is a callback
+abbrev pub IsTouchOf : Pending → CallStack → ℕ → ℕ → Type 0
+IsTouchOf (pending.Loads at len) c size depth = (at + len ≤ size) × ((len ≡ 1) ⊎ (len ≡ 4)) × (length c.frame.stack < c.fun.stack) × (c.frame.next + 1 < 2 ^ 64)
+IsTouchOf (pending.Stores at bytes) c size depth = (at + length bytes ≤ size) × (c.frame.next + 1 < 2 ^ 64)
+IsTouchOf (pending.Passes import words place) c size depth = (depth < 1000) × (c.frame.next + 1 < 2 ^ 64)
+IsTouchOf (pending.Replies value) c size depth = IsCallback (link_of c.behind)
+
+abbrev pub IsPhaseOf : Phase → CallStack → ℕ → ℕ → Type 0
+IsPhaseOf phases.Running c size depth = Unit {0}
+IsPhaseOf phases.NeedsNumber c size depth = (slice_get c.fun.ops c.frame.next ≡ Some NextInput) × (c.frame.next + 1 < 2 ^ 64)
+IsPhaseOf (phases.Touching touch) c size depth = IsTouchOf touch c size depth
+IsPhaseOf (phases.Suspended import place) c size depth = depth < 1000
 
 -- the fields agree with the image and with one another
 pub record IsConsistent (m : Inside) : Type 0 where
-  -- the static blocks lie in the memory, at these addresses, and its end is an address too
-  pub addresses : m.addresses.items ≡ addresses_from (m.settings.base + 16) m.image.now.trusted.blocks
-  pub blocks : 16 + bytes_taken m.image.now.trusted.blocks ≤ length m.memory.items
-  pub memory : m.settings.base + length m.memory.items < 2 ^ 32
-  -- there is just as much room as the open call's stack may need
-  pub stack : length m.stack.items ≡ stack_of (slice_get m.image.now.trusted.funs m.function)
-  pub top : m.top ≤ length m.stack.items
-  -- no tainted function has more arguments than can be passed
-  pub arguments : All (λ i. i.args ≤ 16) m.image.now.layout.imports
-  -- the trusted side has the turn while no call waits
-  pub turn : m.pending ≡ None → m.turn ≡ turns.Trusted
-  pub waits : (call : Call) → m.pending ≡ Some call → WaitsWell m.image.now.trusted.funs m.function m.next (drop m.top m.stack.items) call
+  pub fits : Fits m.image.now m.settings
+  -- where the static blocks of both memories stand
+  pub addresses : (k : ℕ) → slice_get m.addresses.items k ≡ address_of m.image.now m.settings.base k
+  pub offsets : (k : ℕ) → slice_get m.offsets.items k ≡ offset_of m.image.now k
+  -- the trusted memory, and room for all blocks that it can have
+  pub base : m.memory.base ≡ m.settings.base
+  pub bytes : length m.memory.bytes ≡ m.settings.trusted
+  pub counter : m.memory.counter ≤ m.settings.trusted
+  pub made : 16 + 32 * m.made ≤ m.memory.counter
+  pub blocks : m.settings.trusted ≤ 32 * length m.blocks.items + 32
+  pub rows : All (λ r. r.offset ≤ m.settings.trusted) m.blocks.items
+  -- the open calls
+  pub funs : m.calls.funs ≡ m.image.now.trusted.funs
+  pub there : slice_get m.calls.funs m.calls.frame.function ≡ Some m.calls.fun
+  pub depth : m.depth ≡ length (callers_of m.calls.behind) + 1
+  pub few : m.depth + waiting_calls m.phase ≤ 1000
+  pub phase : IsPhaseOf m.phase m.calls (length m.sandbox.items) m.depth
+  -- the sandbox's memory
+  pub sandbox : length m.sandbox.items ≡ m.settings.sandbox
+  pub room : m.room ≤ m.settings.sandbox
+  pub ticks : m.ticks ≤ m.settings.budget

@@ -1,300 +1,215 @@
--- A running image, as its callers see it, and what its calls do by the instruction table and by the table of acts.
-use Rattle.std.specs.Prelude.{◌≡◌, ℕ, ◌+◌, ◌-◌, ◌*◌, ◌<◌, ◌⊎◌, Bool, true, false, nat_le, List, [], ◌∷◌, ◌++◌, length, drop, replicate, Option, Some, None, slice_get}
-use Rattle.act_words.specs.declared.act as code
+-- A running image, as its callers see it, and what its calls do by the instruction table.
+use Rattle.std.specs.Prelude.{◌≡◌, ℕ, ◌+◌, Bool, true, false, List, [], ◌∷◌, ◌++◌, Option, Some, None, slice_get}
+use Rattle.std.proofs.Common.{ℤ}
+use Rattle.ckc_text.specs.declared.place.Place.{Place}
 use Rattle.act_words.specs.declared.act.Turn.{Turn}
 use Rattle.act_words.specs.declared.act.Turn.TheVariants as turns
 use Rattle.act_words.specs.declared.ending.Ending.{Ending}
 use Rattle.act_words.specs.declared.settings.Settings.{Settings}
-use Rattle.act_words.specs.Acts.{Act, Go, Read, Write, Call, Return, Stop, Passed, seen_view, release_view}
+use Rattle.act_words.specs.Acts.{Act, seen_view, release_view}
 use Rattle.act_words.specs.World
-use Rattle.act_words.specs.World.{World, taken_one}
-use Rattle.act_words.specs.Acting.{BeforeTouch, InSandbox, act_before_touch, act_in_sandbox, sandbox_ended}
-use Rattle.act_words.specs.Touches.{Asked, Got, Ended as AskedEnded, asking, before_touch, released, until_return}
+use Rattle.act_words.specs.World.{World, NoAct}
+use Rattle.flat_bytes.specs.Blocks.{Block}
+use Rattle.trusted_memory.specs.Memories.{Memory}
+use Rattle.code_words.specs.declared.op.Op.{Op}
+use Rattle.code_words.specs.declared.op.Op.TheVariants as ops
 use Rattle.code_words.specs.declared.image.Func.{Func}
 use Rattle.code_words.specs.declared.image.Image.{Image}
-use Rattle.code_words.specs.Machine.{Frame, State, Step, Goes, Over, wild, push, asked, step, started, address_of}
-use Rattle.two_memory_machine.specs.declared.machine.Event.{Event}
-use Rattle.two_memory_machine.specs.declared.machine.Event.TheVariants.{Ran, Asks, Showed, Touched, Ended}
-use Rattle.two_memory_machine.specs.declared.machine.Waiting.{Waiting}
-use Rattle.two_memory_machine.specs.declared.machine.Waiting.TheVariants as waiting
+use Rattle.code_words.specs.Table.{Frame, Caller, Waits, Touch, Control, Runs, Touches, Away, State, Step, Goes, Over}
+use Rattle.code_words.specs.Moves.{move}
+use Rattle.code_words.specs.Runs.{started}
+use Rattle.two_memory_machine.specs.declared.event.Event.{Event}
+use Rattle.two_memory_machine.specs.declared.event.Event.TheVariants.{Ran, Asks, Input, Out, Showed, Touched, Ended}
+use Rattle.two_memory_machine.specs.declared.event.Waiting.{Waiting}
+use Rattle.two_memory_machine.specs.declared.event.Waiting.TheVariants as waiting
 
--- a call of a tainted function that waits for its touch or for its reply
-pub record Pending : Type 0 where
-  pub import : ℕ
-  pub words : List ℕ
+-- what the innermost open call of the trusted side does
+pub data Doing : Type 0 where
+  -- an instruction is next
+  Running : Doing
+  -- the instruction that is next waits for an input number
+  NeedsNumber : Doing
+  -- a touch waits for its acts
+  Touching : (touch : Touch) → Doing
+  -- it called a tainted function at a place, and the sandbox has the turn
+  Suspended : (import : ℕ) (place : Place) → Doing
 
--- the image and its settings, the bytes of both memories, the innermost open call, how many calls are open, whose turn it
--- is, how many acts were taken and ticks spent, the call that waits, and the ending once the run is over
+-- the image and its settings, the trusted memory with its blocks, the innermost open call of the trusted side with what it
+-- does and the calls behind it, the sandbox's bytes and the offset of its next block, how many acts were taken and ticks
+-- spent, and the ending once the run is over
 pub record Machine : Type 0 where
   pub image : Image
   pub settings : Settings
-  pub memory : List ℕ
+  pub memory : Memory
+  pub blocks : List Block
   pub frame : Frame
-  pub depth : ℕ
+  pub doing : Doing
+  pub callers : List Caller
   pub sandbox : List ℕ
-  pub turn : Turn
+  pub room : ℕ
   pub taken : ℕ
   pub ticks : ℕ
-  pub pending : Option Pending
   pub over : Option Ending
 
--- the machine's world where these acts are left and these events happened, which it doesn't keep
-abbrev pub world_of : Machine → List Act → List World.Event → World
-world_of m acts events = record { sandbox = m.sandbox; turn = m.turn; acts = acts; taken = m.taken; ticks = m.ticks; events = events }
+-- ---- the state of the instruction table
 
-abbrev pub state_of : Machine → List Act → List World.Event → State
-state_of m acts events = record { memory = m.memory; frame = m.frame; depth = m.depth; world = world_of m acts events }
+abbrev pub turn_of : Doing → Turn
+turn_of Running = turns.Trusted
+turn_of NeedsNumber = turns.Trusted
+turn_of (Touching touch) = turns.Trusted
+turn_of (Suspended import place) = turns.Sandbox
 
--- the machine in another state, in which no call waits
-abbrev pub in_state : Machine → State → Option Ending → Machine
-in_state m s over =
-    record {
-      image = m.image;
-      settings = m.settings;
-      memory = s.memory;
-      frame = s.frame;
-      depth = s.depth;
-      sandbox = s.world.sandbox;
-      turn = s.world.turn;
-      taken = s.world.taken;
-      ticks = s.world.ticks;
-      pending = None;
-      over = over;
-    }
+abbrev pub control_of : Doing → Frame → Control
+control_of Running frame = Runs frame
+control_of NeedsNumber frame = Runs frame
+control_of (Touching touch) frame = Touches frame touch
+control_of (Suspended import place) frame = Away
 
--- the machine in another world
-abbrev pub in_world : Machine → World → Machine
-in_world m w =
-    record {
-      image = m.image;
-      settings = m.settings;
-      memory = m.memory;
-      frame = m.frame;
-      depth = m.depth;
-      sandbox = w.sandbox;
-      turn = w.turn;
-      taken = w.taken;
-      ticks = w.ticks;
-      pending = m.pending;
-      over = m.over;
-    }
+-- a call of a tainted function is an open call until its reply
+abbrev pub callers_in : Doing → Frame → List Caller → List Caller
+callers_in Running frame callers = callers
+callers_in NeedsNumber frame callers = callers
+callers_in (Touching touch) frame callers = callers
+callers_in (Suspended import place) frame callers = Waits frame import place ∷ callers
 
--- the machine, whose run has ended so
-abbrev pub over_with : Machine → Ending → Machine
-over_with m ending =
-    record {
-      image = m.image;
-      settings = m.settings;
-      memory = m.memory;
-      frame = m.frame;
-      depth = m.depth;
-      sandbox = m.sandbox;
-      turn = m.turn;
-      taken = m.taken;
-      ticks = m.ticks;
-      pending = m.pending;
-      over = Some ending;
-    }
+-- the machine's world where these acts and these input numbers are left, and these events happened, none of which it keeps
+abbrev pub world_of : Machine → List Act → List ℤ → List World.Event → World
+world_of m acts inputs events =
+    record { sandbox = m.sandbox; room = m.room; turn = turn_of m.doing; acts = acts; taken = m.taken; inputs = inputs; ticks = m.ticks; events = events }
 
--- a machine that has made no step
-abbrev pub start_of : Image → Settings → Machine
-start_of image settings =
-    record {
-      image = image;
-      settings = settings;
-      memory = (started image settings []).memory;
-      frame = (started image settings []).frame;
-      depth = 1;
-      sandbox = replicate settings.sandbox 0;
-      turn = turns.Trusted;
-      taken = 0;
-      ticks = 0;
-      pending = None;
-      over = None;
-    }
+abbrev pub state_of : Machine → List Act → List ℤ → List World.Event → State
+state_of m acts inputs events =
+    record { memory = m.memory; blocks = m.blocks; control = control_of m.doing m.frame; callers = callers_in m.doing m.frame m.callers; world = world_of m acts inputs events }
 
-abbrev pub waiting_for : Option Ending → Option Pending → Waiting
-waiting_for None None = waiting.Runs
-waiting_for None (Some call) = waiting.Act
-waiting_for (Some ending) call = waiting.Over
+-- a machine that has made no move
+pub record IsStart (image : Image) (settings : Settings) (m : Machine) : Type 0 where
+  pub image_is : m.image ≡ image
+  pub settings_are : m.settings ≡ settings
+  pub state : (acts : List Act) (inputs : List ℤ) → state_of m acts inputs [] ≡ started image settings inputs acts
+  pub runs : m.doing ≡ Running
+  pub over : m.over ≡ None
+
+-- ---- what a machine waits for
+
+abbrev pub waiting_for : Option Ending → Doing → Waiting
+waiting_for (Some ending) doing = waiting.Over
+waiting_for None Running = waiting.Runs
+waiting_for None NeedsNumber = waiting.Number
+waiting_for None (Touching touch) = waiting.Act
+waiting_for None (Suspended import place) = waiting.Act
 
 abbrev pub waiting_of : Machine → Waiting
-waiting_of m = waiting_for m.over m.pending
+waiting_of m = waiting_for m.over m.doing
 
--- what an event tells of the world
-abbrev pub shown_of : Option code.Seen.Seen → List World.Event
-shown_of None = []
-shown_of (Some seen) = World.Showed (seen_view seen) ∷ []
+-- the instruction that stands next, if one does
+abbrev pub next_op_of : Machine → Option Op
+next_op_of m = op_in (slice_get m.image.trusted.funs m.frame.function)
+  where
+    op_in : Option Func → Option Op
+    op_in None = None
+    op_in (Some f) = slice_get f.ops m.frame.next
 
-abbrev pub told : Event → List World.Event
-told Ran = []
-told Asks = []
-told (Showed seen) = World.Showed (seen_view seen) ∷ []
-told (Touched release seen) = World.Released (release_view release) ∷ shown_of seen
-told (Ended ending) = []
+abbrev pub is_input : Option Op → Bool
+is_input (Some ops.NextInput) = true
+is_input _ = false
 
--- ---- instructions
+-- ---- events
 
--- the machine, in which this call waits
-abbrev pub asking_for : Machine → Pending → Machine
-asking_for m call =
-    record {
-      image = m.image;
-      settings = m.settings;
-      memory = m.memory;
-      frame = m.frame;
-      depth = m.depth;
-      sandbox = m.sandbox;
-      turn = m.turn;
-      taken = m.taken;
-      ticks = m.ticks;
-      pending = Some call;
-      over = m.over;
-    }
-
--- the reply of a call takes the place of its words on the stack
-abbrev pub pushed_in : Option Func → Pending → ℕ → State → Step
-pushed_in None call reply s = wild s
-pushed_in (Some f) call reply s = push f reply (drop (length call.words) s.frame.stack) s
-
--- what is left of a call that waits: its touch while the trusted side has the turn, and its reply
-abbrev pub rest_of_call : Turn → Pending → List Act → World → Asked ℕ
-rest_of_call turns.Trusted call acts w =
-    asking {A = Unit {0}} (asking {B = Unit {0}} (before_touch acts w) (λ _ v. Got _ (released (Passed call.import call.words) v))) (λ _ v. until_return v.acts v)
-rest_of_call turns.Sandbox call acts w = until_return acts w
-
--- what a call that waits comes to over the acts that are left
-abbrev pub comes_to : Machine → Pending → List Act → List World.Event → Step
-comes_to m call acts events =
-    asked (rest_of_call m.turn call acts (world_of m acts events)) (state_of m acts events) (pushed_in (slice_get m.image.trusted.funs m.frame.function) call)
-
--- a line of the table gives this event, and goes on to new
-abbrev pub LineGives : List Act → List World.Event → Step → Machine → Event → Machine → Type 0
-LineGives acts events (Goes s) old event new = (event ≡ Ran) × (new ≡ in_state old s None) × (s.world.acts ≡ acts) × (s.world.events ≡ events)
-LineGives acts events (Over ending s) old event new = (event ≡ Ended ending) × (new ≡ in_state old s (Some ending)) × (s.world.acts ≡ acts) × (s.world.events ≡ events)
-
--- a line of the table is a call of a tainted function, which waits from now on, and comes to what the line does
-pub record Begins (acts : List Act) (events : List World.Event) (line : Step) (old : Machine) (event : Event) (new : Machine) : Type 0 where
-  pub asks : event ≡ Asks
-  pub call : Pending
-  pub waits : new ≡ asking_for old call
-  pub same : line ≡ comes_to old call acts events
-
-abbrev pub StepGives : List Act → List World.Event → Step → Machine → Event → Machine → Type 0
-StepGives acts events line old event new = LineGives acts events line old event new ⊎ Begins acts events line old event new
-
--- the machine's step is that of the table, whatever came before and whichever acts are left
-abbrev pub Steps : Machine → Event → Machine → Type 0
-Steps old event new =
-    (acts : List Act) (events : List World.Event) → StepGives acts events (step old.image old.settings (state_of old acts events)) old event new
-
--- ---- acts
-
--- nothing ended, and no touch was made
-abbrev pub IsQuiet : Event → Type 0
-IsQuiet Ran = Unit {0}
-IsQuiet Asks = ⊥
-IsQuiet (Showed seen) = Unit {0}
-IsQuiet (Touched release seen) = ⊥
-IsQuiet (Ended ending) = ⊥
-
-abbrev pub IsTouch : Event → Type 0
-IsTouch Ran = ⊥
-IsTouch Asks = ⊥
-IsTouch (Showed seen) = ⊥
-IsTouch (Touched release seen) = Unit {0}
-IsTouch (Ended ending) = ⊥
-
--- the run is over, in this world
-abbrev pub ended_in : Machine → World → Ending → Machine
-ended_in m w ending = over_with (in_world m w) ending
-
--- an act before a touch led to this event and to new
-abbrev pub TouchGives : Pending → List World.Event → BeforeTouch → Machine → Event → Machine → Type 0
-TouchGives call events (BeforeTouch.Waits w) old event new = IsQuiet event × (new ≡ in_world old w) × (w.events ≡ events ++ told event)
-TouchGives call events (BeforeTouch.Touches w) old event new =
-    IsTouch event × (new ≡ in_world old (released (Passed call.import call.words) w)) × ((released (Passed call.import call.words) w).events ≡ events ++ told event)
-TouchGives call events (BeforeTouch.Ends ending w) old event new = (event ≡ Ended ending) × (new ≡ ended_in old w ending) × (w.events ≡ events)
-
--- an act in the sandbox's turn did so
-abbrev pub SandboxGives : Pending → List Act → List World.Event → InSandbox → Machine → Event → Machine → Type 0
-SandboxGives call acts events (InSandbox.Keeps w) old event new = IsQuiet event × (new ≡ in_world old w) × (w.events ≡ events ++ told event)
-SandboxGives call acts events (InSandbox.Answers word w) old event new =
-    LineGives acts events (pushed_in (slice_get old.image.trusted.funs old.frame.function) call word (record { memory = old.memory; frame = old.frame; depth = old.depth; world = w })) old event new
-SandboxGives call acts events (InSandbox.Ends ending w) old event new = (event ≡ Ended ending) × (new ≡ ended_in old w ending) × (w.events ≡ events)
-
-abbrev pub ActGives : Turn → Pending → Act → List Act → List World.Event → Machine → Event → Machine → Type 0
-ActGives turns.Trusted call act acts events old event new =
-    TouchGives call events (act_before_touch act (taken_one acts (world_of old (act ∷ acts) events))) old event new
-ActGives turns.Sandbox call act acts events old event new =
-    SandboxGives call acts events (act_in_sandbox act (taken_one acts (world_of old (act ∷ acts) events))) old event new
-
--- while a call waits, an act does what the table of acts says, whatever came before and whichever acts are left
-abbrev pub TakesAct : Machine → Act → Event → Machine → Type 0
-TakesAct old act event new =
-    (call : Pending) → old.pending ≡ Some call → (acts : List Act) (events : List World.Event) → ActGives old.turn call act acts events old event new
-
--- no act is left: the touch is made as if it were let through, and the sandbox ends with its acts
-abbrev pub EndGives : Turn → Pending → List World.Event → Machine → Event → Machine → Type 0
-EndGives turns.Trusted call events old event new = TouchGives call events (BeforeTouch.Touches (world_of old [] events)) old event new
-EndGives turns.Sandbox call events old event new = (event ≡ Ended sandbox_ended) × (new ≡ ended_in old (world_of old [] events) sandbox_ended)
-
-abbrev pub TakesEnd : Machine → Event → Machine → Type 0
-TakesEnd old event new = (call : Pending) → old.pending ≡ Some call → (events : List World.Event) → EndGives old.turn call events old event new
-
--- ---- the end of a run
+-- these events, and behind them what an event tells
+abbrev pub told_behind : Event → List World.Event → List World.Event
+told_behind Ran events = events
+told_behind Asks events = events
+told_behind Input events = events
+told_behind (Out bytes) events = events ++ World.Output bytes ∷ []
+told_behind (Showed seen) events = events ++ World.Showed (seen_view seen) ∷ []
+told_behind (Touched release None) events = events ++ World.Released (release_view release) ∷ []
+told_behind (Touched release (Some seen)) events = events ++ World.Released (release_view release) ∷ World.Showed (seen_view seen) ∷ []
+told_behind (Ended ending) events = events
 
 -- the ending that an event gave the run, if it gave one
 abbrev pub ending_given : Event → Option Ending
 ending_given Ran = None
 ending_given Asks = None
+ending_given Input = None
+ending_given (Out bytes) = None
 ending_given (Showed seen) = None
 ending_given (Touched release seen) = None
 ending_given (Ended ending) = Some ending
 
--- how many instructions stand from a place of a function on
-abbrev pub ops_from : Option Func → ℕ → ℕ
-ops_from None place = 0
-ops_from (Some f) place = length f.ops - place
+-- an instruction that doesn't end the run goes on to the next one, with what it wrote, or its touch waits from now on
+abbrev pub TellsStep : Event → Doing → Type 0
+TellsStep Ran doing = doing ≡ Running
+TellsStep Asks doing = (touch : Touch) × (doing ≡ Touching touch)
+TellsStep Input doing = ⊥
+TellsStep (Out bytes) doing = doing ≡ Running
+TellsStep (Showed seen) doing = ⊥
+TellsStep (Touched release seen) doing = ⊥
+TellsStep (Ended ending) doing = ⊥
 
--- how many moves the machine can make at most: for each instruction from the next on, and behind the last, it begins it,
--- makes its touch and gets its reply
-abbrev pub moves_left : Machine → ℕ
-moves_left m = left_in m.over m.pending m.turn (3 * ops_from (slice_get m.image.trusted.funs m.frame.function) m.frame.next)
-  where
-    left_in : Option Ending → Option Pending → Turn → ℕ → ℕ
-    left_in None None turn moves = moves + 3
-    left_in None (Some call) turns.Trusted moves = moves + 2
-    left_in None (Some call) turns.Sandbox moves = moves + 1
-    left_in (Some ending) call turn moves = 0
+-- an act that doesn't end the run shows the sandbox something, or lets a touch be made, or does neither
+abbrev pub TellsAct : Event → Doing → Type 0
+TellsAct Ran doing = Unit {0}
+TellsAct Asks doing = ⊥
+TellsAct Input doing = ⊥
+TellsAct (Out bytes) doing = ⊥
+TellsAct (Showed seen) doing = Unit {0}
+TellsAct (Touched release seen) doing = Unit {0}
+TellsAct (Ended ending) doing = ⊥
 
--- an act that leaves the turn, and makes no touch: the actor's own number falls there
-abbrev pub LeavesTurn : Act → Turn → Type 0
-LeavesTurn Go turns.Trusted = ⊥
-LeavesTurn Go turns.Sandbox = Unit {0}
-LeavesTurn (Read at len) turn = Unit {0}
-LeavesTurn (Write at bytes) turn = Unit {0}
-LeavesTurn (Call fun args) turn = ⊥
-LeavesTurn (Return value) turn = ⊥
-LeavesTurn Stop turn = ⊥
+-- ---- moves
 
--- fewer moves are left behind an act, or as many, where the act leaves the turn
-abbrev pub Sooner : Act → Machine → Machine → Type 0
-Sooner act old new = (moves_left new < moves_left old) ⊎ ((moves_left new ≡ moves_left old) × LeavesTurn act old.turn)
+-- a move stays with the image and its settings
+abbrev pub IsOfSame : Machine → Machine → Type 0
+IsOfSame old new = (new.image ≡ old.image) × (new.settings ≡ old.settings)
+
+-- with these acts, inputs and events, a move of the table leads to the machine's new state, or ends the run as the machine
+-- does, with the same memories; the event tells what the move added to the events
+abbrev pub Gives : (Event → Doing → Type 0) → List Act → List ℤ → List World.Event → Step → Machine → Event → Machine → Type 0
+Gives Tells acts inputs events (Goes s) old event new =
+    (s ≡ state_of new acts inputs (told_behind event events)) × Tells event new.doing × (new.over ≡ None) × IsOfSame old new
+Gives Tells acts inputs events (Over ending s) old event new =
+    (event ≡ Ended ending) × (new.over ≡ Some ending) × (s.memory ≡ new.memory) × (s.blocks ≡ new.blocks) × (s.world ≡ world_of new acts inputs events) × IsOfSame old new
+
+-- the machine's step is the table's move, whichever acts and inputs are left and whatever came before. An instruction that
+-- takes an input number waits for it
+abbrev pub StepsIf : Bool → Machine → Event → Machine → Type 0
+StepsIf true old event new = (event ≡ Input) × (new ≡ record old { doing = NeedsNumber })
+StepsIf false old event new =
+    (acts : List Act) (inputs : List ℤ) (events : List World.Event) →
+    Gives TellsStep acts inputs events (move old.image old.settings (state_of old acts inputs events)) old event new
+
+abbrev pub Steps : Machine → Event → Machine → Type 0
+Steps old event new = StepsIf (is_input (next_op_of old)) old event new
+
+-- with the number that it waited for, the machine makes the move that takes it
+abbrev pub TakesNumber : Machine → ℤ → Event → Machine → Type 0
+TakesNumber old number event new =
+    (acts : List Act) (inputs : List ℤ) (events : List World.Event) →
+    Gives TellsStep acts inputs events (move old.image old.settings (state_of old acts (number ∷ inputs) events)) old event new
+
+-- with 0, it makes the move where no number is left
+abbrev pub TakesNoNumber : Machine → Event → Machine → Type 0
+TakesNoNumber old event new =
+    (acts : List Act) (events : List World.Event) → Gives TellsStep acts [] events (move old.image old.settings (state_of old acts [] events)) old event new
+
+-- with an act, the machine makes the move that takes it
+abbrev pub TakesAct : Machine → Act → Event → Machine → Type 0
+TakesAct old act event new =
+    (acts : List Act) (inputs : List ℤ) (events : List World.Event) →
+    Gives TellsAct acts inputs events (move old.image old.settings (state_of old (act ∷ acts) inputs events)) old event new
+
+-- where no act is left, it makes the move that is left; that none was there, it doesn't tell
+abbrev pub TakesEnd : Machine → Event → Machine → Type 0
+TakesEnd old event new =
+    (inputs : List ℤ) (events : List World.Event) →
+    Gives TellsAct [] inputs (events ++ NoAct (turn_of old.doing) ∷ []) (move old.image old.settings (state_of old [] inputs events)) old event new
+
+-- ---- what can be looked at
 
 -- the address and the length of a block of trusted memory
 abbrev pub block_of : Machine → ℕ → Option (ℕ × ℕ)
-block_of m k = pair (address_of m.image m.settings.base k) (slice_get m.image.trusted.blocks k)
+block_of m k = at_base (slice_get m.blocks k)
   where
-    pair : Option ℕ → Option (List ℕ) → Option (ℕ × ℕ)
-    pair None block = None
-    pair (Some address) None = None
-    pair (Some address) (Some block) = Some (address, length block)
-
--- the byte at an address of trusted memory
-abbrev pub byte_of : Machine → ℕ → Option ℕ
-byte_of m address = from_base (nat_le m.settings.base address)
-  where
-    from_base : Bool → Option ℕ
-    from_base true = slice_get m.memory (address - m.settings.base)
-    from_base false = None
+    at_base : Option Block → Option (ℕ × ℕ)
+    at_base None = None
+    at_base (Some block) = Some (m.memory.base + block.offset, block.bytes)

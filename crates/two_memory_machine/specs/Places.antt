@@ -1,8 +1,12 @@
--- The addresses of static blocks in a memory.
-use Rattle.std.specs.Prelude.{ℕ, List, [], ◌∷◌}
-use Rattle.code_words.specs.Blocks.{offset_behind}
+-- Blocks in a memory, and where the static ones stand.
+use Rattle.std.specs.Prelude.{ℕ, List, [], ◌∷◌, length}
+use Rattle.flat_bytes.specs.Blocks.{Block, grown}
+use Rattle.two_memory_machine.specs.declared.memory.BlockRow.{BlockRow}
 
--- the addresses of blocks, where the first stands at an address
-abbrev pub addresses_from : ℕ → List (List ℕ) → List ℕ
-addresses_from address [] = []
-addresses_from address (block ∷ blocks) = address ∷ addresses_from (offset_behind address block) blocks
+-- where blocks stand, of which the first stands at an offset
+abbrev pub offsets_from : ℕ → List (List ℕ) → List ℕ
+offsets_from offset [] = []
+offsets_from offset (block ∷ blocks) = offset ∷ offsets_from (grown offset (length block)) blocks
+
+abbrev pub block_row : BlockRow → Block
+block_row row = record { offset = row.offset; bytes = row.bytes }

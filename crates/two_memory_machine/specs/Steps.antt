@@ -1,73 +1,50 @@
 -- What a step does, part by part.
-use Rattle.std.specs.Prelude.{◌≡◌, ℕ, ◌+◌, ◌^◌, ◌<◌, nat_le, Bool, true, false, if◌then◌else◌, List, [], ◌∷◌, ◌++◌, length, reverse, take, Option, Some, None, option_map, slice_get, FitsSigned}
-use Rattle.std.specs.Option.{SomeIff}
-use Rattle.std.specs.Int.{w32}
+use Rattle.std.specs.Prelude.{◌≡◌, ℕ, ◌+◌, ◌^◌, ◌<◌, nat_le, if◌then◌else◌, Bool, true, false, List, [], ◌∷◌, length, take, reverse, Option, Some, None, slice_get, Result, Ok, Err}
 use Rattle.std.proofs.Common.{ℤ}
 use Rattle.act_words.specs.Acts.{Act}
 use Rattle.act_words.specs.World
-use Rattle.act_words.specs.World.{World}
-use Rattle.act_words.specs.Acting.{bytes_at}
 use Rattle.act_words.specs.declared.ending.Ending.{Ending}
+use Rattle.ckc_text.specs.declared.code.Code.{Code}
+use Rattle.ckc_text.specs.declared.code.Code.TheVariants.{C4, C9, S4, S6}
 use Rattle.act_words.specs.declared.ending.Ending.TheVariants as endings
-use Rattle.ckc_text.specs.declared.code.Code.TheVariants.{S4}
+use Rattle.code_words.specs.Marshalling.{Fault, Count, TooLarge, OutOfRange, fits_kind, optional_region_lies}
+use Rattle.code_words.specs.declared.image.Param.{Param}
+use Rattle.act_words.specs.Acting.{bytes_at, stopped_by_act}
+use Rattle.act_words.specs.Checks.{Checked, Holds, Fails}
 use Rattle.code_words.specs.declared.op.Op.{Op}
-use Rattle.act_words.specs.declared.act.Turn.{Turn}
 use Rattle.code_words.specs.declared.image.Func.{Func}
-use Rattle.code_words.specs.declared.image.Import.{Import}
-use Rattle.code_words.specs.Machine.{State, Step, act}
-use Rattle.two_memory_machine.specs.declared.machine.Event.{Event}
-use Rattle.two_memory_machine.specs.declared.machine.Event.TheVariants.{Ended}
-use Rattle.two_memory_machine.specs.Machines.{Machine, Pending, LineGives, StepGives, IsQuiet, told, world_of, in_world, over_with, state_of}
+use Rattle.code_words.specs.Table.{State, Step, Goes, Over, act}
+use Rattle.code_words.specs.Moves.{in_world}
+use Rattle.two_memory_machine.specs.declared.event.Event.{Event}
+use Rattle.two_memory_machine.specs.declared.event.Event.TheVariants.{Input, Ended}
+use Rattle.two_memory_machine.specs.Machines.{Machine, Doing, Running, NeedsNumber, Touching, Suspended, Gives, TellsStep, TellsAct, state_of, is_input}
 
--- the step goes as a line of the table, whatever came before and whichever acts are left
+-- the step goes as a line of the table, whichever acts and inputs are left and whatever came before
 abbrev pub GoesBy : (State → Step) → Machine → Event → Machine → Type 0
-GoesBy line old event new = (acts : List Act) (events : List World.Event) → LineGives acts events (line (state_of old acts events)) old event new
+GoesBy line old event new =
+    (acts : List Act) (inputs : List ℤ) (events : List World.Event) → Gives TellsStep acts inputs events (line (state_of old acts inputs events)) old event new
 
--- the open call is one of this function
+-- the innermost call is one of this function
 abbrev pub IsIn : Machine → Func → Type 0
 IsIn m f = slice_get m.image.trusted.funs m.frame.function ≡ Some f
 
--- the step is all of the line of an instruction
+-- the step is the line of an instruction
 abbrev pub Acts : Op → Machine → Event → Machine → Type 0
-Acts op old event new = (f : Func) → IsIn old f → GoesBy (act old.image old.settings f op) old event new
+Acts op old event new = (f : Func) → IsIn old f → GoesBy (act old.image old.settings f op old.frame) old event new
 
--- the step is the line of an instruction, or the beginning of a call
+-- the same, but where the instruction takes an input number, which it waits for
+abbrev pub PerformsIf : Bool → Op → Machine → Event → Machine → Type 0
+PerformsIf true op old event new = (event ≡ Input) × (new ≡ record old { doing = NeedsNumber })
+PerformsIf false op old event new = Acts op old event new
+
 abbrev pub Performs : Op → Machine → Event → Machine → Type 0
-Performs op old event new =
-    (f : Func) → IsIn old f → (acts : List Act) (events : List World.Event) → StepGives acts events (act old.image old.settings f op (state_of old acts events)) old event new
+Performs op old event new = PerformsIf (is_input (Some op)) op old event new
 
--- the run isn't over, no call waits, and the next instruction has one behind it that can be numbered
+-- the run isn't over, an instruction is next, and the one behind it can be numbered
 pub record IsReady (m : Machine) : Type 0 where
-  pub running : m.over ≡ None
-  pub free : m.pending ≡ None
+  pub going : m.over ≡ None
+  pub runs : m.doing ≡ Running
   pub next_fits : m.frame.next + 1 < 2 ^ 64
-
--- the instruction that stands next, if one does
-abbrev pub next_op_of : Machine → Option Op
-next_op_of m = op_in (slice_get m.image.trusted.funs m.frame.function)
-  where
-    op_in : Option Func → Option Op
-    op_in None = None
-    op_in (Some f) = slice_get f.ops m.frame.next
-
--- how many arguments a tainted function has, if it is there
-abbrev pub args_of : Machine → ℕ → Option ℕ
-args_of m k = option_map (λ (i : Import). i.args) (slice_get m.image.layout.imports k)
-
--- the topmost words of a stack, the last on top, if there are so many
-abbrev pub top_words_of : ℕ → List ℕ → Option (List ℕ)
-top_words_of count stack = if nat_le count (length stack) then Some (reverse (take count stack)) else None
-
--- a call waits while this side has the turn
-pub record IsAsked (turn : Turn) (m : Machine) : Type 0 where
-  pub running : m.over ≡ None
-  pub turn_is : m.turn ≡ turn
-  pub call : Pending
-  pub waits : m.pending ≡ Some call
-
--- an instruction of a function that is there stands next
-abbrev pub StandsAtSome : Machine → Type 0
-StandsAtSome m = (f : Func) × IsIn m f × (m.frame.next < length f.ops)
 
 -- the two topmost words of a stack, the lower one first
 abbrev pub two_topmost : List ℕ → Option (ℕ × ℕ)
@@ -75,23 +52,70 @@ two_topmost [] = None
 two_topmost (right ∷ []) = None
 two_topmost (right ∷ left ∷ below) = Some (left, right)
 
--- the number is there exactly if it has 32 bits
-abbrev pub HasWordNumber : Option ℤ → ℤ → Type 0
-HasWordNumber there number = SomeIff there (FitsSigned w32 number) number
-
 -- the run ends so, and nothing else changes
 abbrev pub EndsBy : Machine → Ending → Event → Machine → Type 0
-EndsBy old ending event new = (event ≡ Ended ending) × (new ≡ over_with old ending)
+EndsBy old ending event new = (event ≡ Ended ending) × (new ≡ record old { over = Some ending })
+
+-- the number, or how the check of it fails
+abbrev pub checked_of : Result ℤ Ending → Checked ℤ
+checked_of (Ok number) = Holds number
+checked_of (Err ending) = Fails ending
+
+-- four words of a stack and more, the lowest first
+abbrev pub four_topmost : List ℕ → Option (ℕ × ℕ × ℕ × ℕ)
+four_topmost (d ∷ c ∷ b ∷ a ∷ below) = Some (a, b, c, d)
+four_topmost _ = None
+
+abbrev pub five_topmost : List ℕ → Option (ℕ × ℕ × ℕ × ℕ × ℕ)
+five_topmost (e ∷ d ∷ c ∷ b ∷ a ∷ below) = Some (a, b, c, d, e)
+five_topmost _ = None
+
+abbrev pub seven_topmost : List ℕ → Option (ℕ × ℕ × ℕ × ℕ × ℕ × ℕ × ℕ)
+seven_topmost (g ∷ f ∷ e ∷ d ∷ c ∷ b ∷ a ∷ below) = Some (a, b, c, d, e, f, g)
+seven_topmost _ = None
+
+-- so many words of a stack, of which the last is on top, if there are so many
+abbrev pub top_words_of : ℕ → List ℕ → Option (List ℕ)
+top_words_of count stack = if nat_le count (length stack) then Some (reverse (take count stack)) else None
+
+-- a move that takes an act, or that is made where none is left, goes as a line of the table
+abbrev pub MovesBy : (State → Step) → Machine → Event → Machine → Type 0
+MovesBy line old event new =
+    (acts : List Act) (inputs : List ℤ) (events : List World.Event) → Gives TellsAct acts inputs events (line (state_of old acts inputs events)) old event new
+
+-- the world goes on as it may, or the act that was taken last ends the run
+abbrev pub moved_if : Option World.World → State → Step
+moved_if (Some w) s = Goes (in_world w s)
+moved_if None s = Over (stopped_by_act S4 s.world) s
 
 -- bytes of a memory, where they lie in it
 abbrev pub bytes_if : Bool → (at len : ℕ) → List ℕ → Option (List ℕ)
 bytes_if true at len memory = Some (bytes_at at len memory)
 bytes_if false at len memory = None
 
--- an act that reads or writes the sandbox's memory goes on where it may, and else ends the run by its number
-abbrev pub MovesTo : List World.Event → Option World → Machine → Event → Machine → Type 0
-MovesTo events (Some w) old event new = IsQuiet event × (new ≡ in_world old w) × (w.events ≡ events ++ told event)
-MovesTo events None old event new = EndsBy old (endings.Stop S4 (Some old.taken)) event new
+-- the sandbox has the turn
+abbrev pub IsSuspended : Doing → Type 0
+IsSuspended Running = ⊥
+IsSuspended NeedsNumber = ⊥
+IsSuspended (Touching touch) = ⊥
+IsSuspended (Suspended import place) = Unit {0}
 
-abbrev pub Moves : Machine → (World → Option World) → Event → Machine → Type 0
-Moves old act event new = (acts : List Act) (events : List World.Event) → MovesTo events (act (world_of old acts events)) old event new
+-- how a fault of a parameter ends the run
+abbrev pub ending_at : Code → Option Param → Option Ending
+ending_at code None = Some (endings.Stop S6 None)
+ending_at code (Some p) = Some (endings.Check code p.place)
+
+abbrev pub fault_ending : List Param → Option Fault → Option Ending
+fault_ending params None = None
+fault_ending params (Some Count) = Some (endings.Stop S6 None)
+fault_ending params (Some (TooLarge param)) = ending_at C9 (slice_get params param)
+fault_ending params (Some (OutOfRange param)) = ending_at C4 (slice_get params param)
+
+abbrev pub ending_unless : Bool → Ending → Option Ending → Option Ending
+ending_unless true ending later = later
+ending_unless false ending later = Some ending
+
+-- how a word ends the run that doesn't fit its parameter
+abbrev pub param_ending : ℕ → List ℕ → ℕ → Param → Option Ending
+param_ending size words word p =
+    ending_unless (fits_kind p.kind word) (endings.Check C9 p.place) (ending_unless (optional_region_lies size words word p.region) (endings.Check C4 p.place) None)

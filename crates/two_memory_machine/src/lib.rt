@@ -1,6 +1,17 @@
 // The machine that runs an image, one instruction at a time.
 #![tactic(auto)]
 
+mod acts;
+mod arithmetic;
+mod bounds;
+mod callbacks;
+mod calls;
+pub mod event;
 pub mod laws;
 pub mod machine;
 mod memory;
+mod operations;
+mod output;
+mod texts;
+mod touches;
+mod transfers;

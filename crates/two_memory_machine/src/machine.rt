@@ -1,21 +1,22 @@
 // Running an image over flat memory.
 
-ghost use Rattle.std.specs.Prelude.{◌≡◌, ◌+◌, ◌-◌, ◌^◌, ◌<◌, ◌≤◌, List, length, drop, IfOk, IfSome, OnSome, None, Some, is_some, slice_get};
+ghost use Rattle.std.specs.Prelude.{◌≡◌, ◌+◌, ◌-◌, ◌^◌, ◌<◌, ◌≤◌, ◌⊎◌, List, length, drop, IfOk, IfSome, OnSome, None, Some, is_some, slice_get, pos};
+ghost use Rattle.std.specs.Option.{option_copied};
 ghost use Rattle.std.proofs.Common.{ℤ};
-ghost use Rattle.act_words.specs.declared.act.Turn.TheVariants as turns;
-ghost use Rattle.act_words.specs.Acts.{Act as ActData, act_view};
-ghost use Rattle.act_words.specs.World.{Event as WorldEvent};
-ghost use Rattle.act_words.specs.Acting.{BeforeTouch, InSandbox, act_before_touch, act_in_sandbox, shown, written, lies_in};
-ghost use Rattle.act_words.specs.World.{in_turn};
-ghost use Rattle.act_words.specs.Checks.{without_overflow};
+ghost use Rattle.act_words.specs.Acts.{act_view};
+ghost use Rattle.trusted_memory.specs.Memories.{byte_of};
 ghost use Rattle.code_words.specs.Fitting.{Fits};
-ghost use Rattle.code_words.specs.declared.image.Func.{Func};
-ghost use Rattle.code_words.specs.Machine.{Goes, Over, wild, on_with, push, push_some, push_checked, has_word, address_of};
-ghost use Rattle.two_memory_machine.specs.Machines.{Pending, start_of, waiting_of, world_of, Steps, TakesAct, TakesEnd, TouchGives, SandboxGives, ending_given, moves_left, Sooner, block_of, byte_of};
-ghost use Rattle.two_memory_machine.specs.Steps.{GoesBy, IsIn, StandsAtSome, Acts, Performs, IsReady, IsAsked, EndsBy, Moves, bytes_if, next_op_of, args_of, top_words_of, two_topmost, HasWordNumber};
+ghost use Rattle.code_words.specs.declared.image.Func.{Func as FuncData};
+ghost use Rattle.code_words.specs.Table.{Over, wild, pop, pop_2, on_with, push, push_some, push_checked, check, load, store};
+ghost use Rattle.two_memory_machine.specs.Machines.{IsStart, waiting_of, turn_of, next_op_of, Steps, TakesAct, TakesEnd, TakesNumber, TakesNoNumber, ending_given, block_of};
+ghost use Rattle.two_memory_machine.specs.Steps.{GoesBy, IsIn, Acts, Performs, IsReady, EndsBy, two_topmost, four_topmost, five_topmost, seven_topmost, top_words_of, checked_of};
 
+use crate::acts::SANDBOX_ENDED;
+use crate::calls::CallWords;
+use crate::event::{Event, Waiting};
 use crate::memory;
-use act_words::act::{Act, Release, Seen, Turn};
+use crate::memory::BlockRow;
+use act_words::act::{Act, Turn};
 use act_words::ending::Ending;
 use act_words::octets::Octets;
 use act_words::settings::Settings;
@@ -27,86 +28,61 @@ use code_words::image::Image;
 use code_words::op::Op;
 use std::alloc::Global;
 use std::marker::Model;
+use trusted_memory::memory::Trusted;
 
-/// How many calls may be open.
-const MAX_DEPTH: u32 = 1_000;
-
-/// The end of a run whose sandbox has ended.
-const SANDBOX_ENDED: Ending = Ending::Stop {
-    code: Code::S3,
-    act: None,
-};
-
-// A stop that no act is to blame for.
-fn stop(code: Code) -> Ending
-    ensures { result ≡ Ending.Stop code None }
-{
-    Ending::Stop { code, act: None }
-}
-
-/// What a machine waits for.
+/// A touch whose acts are still to be taken.
 #[derive(Clone, Copy)]
-pub enum Waiting {
-    /// For its next step.
-    Runs,
-    /// For an act of the sandbox.
-    Act,
-    /// For nothing: the run is over.
-    Over,
-}
-
-/// What a step or an act did.
-#[derive(Clone, Copy)]
-pub enum Event {
-    /// Nothing that can be seen.
-    Ran,
-    /// The instruction's touch waits for an act.
-    Asks,
-    /// The sandbox was shown something.
-    Showed {
-        seen: Seen,
+pub(crate) enum Pending {
+    Loads {
+        at: u32,
+        len: u32,
     },
-    /// A touch was made, and what it gave away was shown to the sandbox, if it is shown.
-    Touched {
-        release: Release,
-        seen: Option<Seen>,
+    Stores {
+        at: u32,
+        bytes: Octets,
     },
-    /// It ended the run.
-    Ended {
-        ending: Ending,
+    Passes {
+        import: u32,
+        words: Words,
+        place: Place,
+    },
+    Replies {
+        value: u32,
     },
 }
 
-/// A call of a tainted function that waits for its touch or for its reply.
+/// What the innermost open call of the trusted side does.
 #[derive(Clone, Copy)]
-struct Call {
-    import: u32,
-    args: Words,
+pub(crate) enum Phase {
+    Running,
+    NeedsNumber,
+    Touching { touch: Pending },
+    Suspended { import: u32, place: Place },
 }
 
-/// A run of an image: its memories, its open call, whose turn it is, and its ending once it is over.
+/// A run of an image: its memories, its open calls, and its ending once it is over.
 #[derive(Drop)]
 pub struct Machine<'a> {
-    image: &'a Image,
-    settings: Settings,
-    memory: Vec<u8>,
-    // The address of each static block.
-    addresses: Vec<u32>,
-    function: u32,
-    next: usize,
-    slots: Vec<u32>,
-    // The stack grows towards the front; the topmost word stands at `top`.
-    stack: Vec<u32>,
-    top: usize,
-    // How many calls are open.
-    depth: u32,
-    sandbox: Vec<u8>,
-    turn: Turn,
+    pub(crate) image: &'a Image,
+    pub(crate) settings: Settings,
+    pub(crate) memory: Trusted,
+    // The blocks of trusted memory, of which the first `made` are there.
+    pub(crate) blocks: Vec<BlockRow>,
+    pub(crate) made: usize,
+    // Where the static blocks of both memories stand.
+    pub(crate) addresses: Vec<u32>,
+    pub(crate) offsets: Vec<u32>,
+    pub(crate) calls: CallWords<'a>,
+    pub(crate) phase: Phase,
+    // How many calls are open, but for that of a tainted function.
+    pub(crate) depth: u32,
+    pub(crate) sandbox: Vec<u8>,
+    // The offset of the next block of the sandbox's memory.
+    pub(crate) room: u32,
     // How many acts were taken, and how many ticks spent.
-    taken: u64,
-    ticks: u32,
-    pending: Option<Call>,
-    over: Option<Ending>,
+    pub(crate) taken: u64,
+    pub(crate) ticks: u32,
+    pub(crate) over: Option<Ending>,
 }
 
 impl<'a> Model for Machine<'a> {
@@ -129,27 +105,28 @@ impl<'a> Machine<'a> {
         settings: &Settings,
     ) -> Result<Machine<'a>, NoMemory>
         requires { Fits image.now settings.now }
-        ensures { IfOk result (λ m. m ≡ start_of image.now settings.now) }
+        ensures { IfOk result (λ m. IsStart image.now settings.now m) }
     {
         let blocks = image.trusted.blocks.as_slice();
+        let statics = image.sandbox.blocks.as_slice();
         let function = image.layout.main.unwrap();
-        let main = &image.trusted.funs.as_slice()[function as usize];
+        let bytes = memory::memory_with(alloc, settings.trusted, blocks)?;
+        let counter = memory::counter_of(blocks);
         Ok(Machine {
             image,
             settings: *settings,
-            memory: memory::memory_with(alloc, settings.trusted, blocks)?,
-            addresses: memory::addresses_with(alloc, settings.base + memory::GAP as u32, blocks)?,
-            function,
-            next: 0,
-            slots: vec![in alloc; 0; main.slots as usize]?,
-            stack: vec![in alloc; 0; main.stack as usize]?,
-            top: main.stack as usize,
+            memory: Trusted::from_bytes(bytes, settings.base, counter),
+            blocks: memory::rows_with(alloc, settings.trusted, blocks)?,
+            made: blocks.len(),
+            addresses: memory::offsets_with(alloc, settings.base + memory::FIRST_OFFSET, blocks)?,
+            offsets: memory::offsets_with(alloc, memory::FIRST_OFFSET, statics)?,
+            calls: CallWords::start(alloc, image.trusted.funs.as_slice(), function)?,
+            phase: Phase::Running,
             depth: 1,
-            sandbox: vec![in alloc; 0; settings.sandbox as usize]?,
-            turn: Turn::Trusted,
+            sandbox: memory::memory_with(alloc, settings.sandbox, statics)?,
+            room: memory::counter_of(statics),
             taken: 0,
             ticks: 0,
-            pending: None,
             over: None,
         })
     }
@@ -158,29 +135,41 @@ impl<'a> Machine<'a> {
     pub fn waiting(&self) -> Waiting
         ensures { result ≡ waiting_of self.now }
     {
-        match (self.over, self.pending) {
+        match (self.over, self.phase) {
             (Some(_), _) => Waiting::Over,
-            (None, Some(_)) => Waiting::Act,
-            (None, None) => Waiting::Runs,
+            (None, Phase::Running) => Waiting::Runs,
+            (None, Phase::NeedsNumber) => Waiting::Number,
+            (None, Phase::Touching { touch: _ })
+            | (
+                None,
+                Phase::Suspended {
+                    import: _,
+                    place: _,
+                },
+            ) => Waiting::Act,
         }
     }
 
     /// Who has the turn.
     pub fn turn(&self) -> Turn
-        ensures { result ≡ self.now.turn }
+        ensures { result ≡ turn_of self.now.doing }
     {
-        self.turn
+        match self.phase {
+            Phase::Running | Phase::NeedsNumber | Phase::Touching { touch: _ } => Turn::Trusted,
+            Phase::Suspended {
+                import: _,
+                place: _,
+            } => Turn::Sandbox,
+        }
     }
 
     /// Makes the next step.
     pub fn step(&mut self) -> Event
-        requires running { self.old.over ≡ None }
-        requires free { self.old.pending ≡ None }
+        requires { waiting_of self.old ≡ Waiting.Runs }
         ensures steps { Steps self.old result self.new }
         ensures over { self.new.over ≡ ending_given result }
-        ensures sooner { moves_left self.new < moves_left self.old }
     {
-        match self.next_op() {
+        match self.calls.op() {
             Some(op) => self.perform(op),
             None => self.end_wild(),
         }
@@ -188,290 +177,361 @@ impl<'a> Machine<'a> {
 
     /// Takes an act of the sandbox.
     pub fn act(&mut self, act: &Act) -> Event
-        requires { IsAsked self.old.turn self.old }
+        requires { waiting_of self.old ≡ Waiting.Act }
         ensures takes { TakesAct self.old (act_view act.now) result self.new }
         ensures over { self.new.over ≡ ending_given result }
-        ensures sooner { Sooner (act_view act.now) self.old self.new }
     {
         self.taken = self.taken.saturating_add(1);
-        match self.turn {
-            Turn::Trusted => self.act_before_touch(act),
-            Turn::Sandbox => self.act_in_sandbox(act),
+        match self.phase {
+            Phase::Touching { touch: _ } => self.act_before_touch(act),
+            Phase::Suspended {
+                import: _,
+                place: _,
+            } => self.act_in_sandbox(act),
+            Phase::Running | Phase::NeedsNumber => Event::Ran,
         }
     }
 
     /// Goes on where no act is left.
     pub fn no_more_acts(&mut self) -> Event
-        requires { IsAsked self.old.turn self.old }
+        requires { waiting_of self.old ≡ Waiting.Act }
         ensures takes { TakesEnd self.old result self.new }
         ensures over { self.new.over ≡ ending_given result }
-        ensures sooner { moves_left self.new < moves_left self.old }
     {
-        match self.turn {
-            Turn::Trusted => self.touch(),
-            Turn::Sandbox => self.end(SANDBOX_ENDED),
+        match self.phase {
+            Phase::Touching { touch: _ } => self.make_touch(),
+            Phase::Suspended {
+                import: _,
+                place: _,
+            } => self.end_move(SANDBOX_ENDED),
+            Phase::Running | Phase::NeedsNumber => Event::Ran,
         }
     }
 
-    /// The address and the length of a block of trusted memory, or none past the last.
+    /// Takes the input number that the next instruction waits for, and 0 where none is left.
+    pub fn give(&mut self, number: i32) -> Event
+        requires { waiting_of self.old ≡ Waiting.Number }
+        ensures takes { TakesNumber self.old number result self.new }
+        ensures none { number ≡ pos 0 → TakesNoNumber self.old result self.new }
+        ensures over { self.new.over ≡ ending_given result }
+    {
+        self.phase = Phase::Running;
+        self.push(0, number.cast_unsigned())
+    }
+
+    /// The address and the length of a block of trusted memory, or None past the last.
     pub fn block(&self, k: u32) -> Option<(u32, u32)>
         ensures { result ≡ block_of self.now k }
     {
-        let address = self.block_address(k)?;
-        let block = self.image.trusted.blocks.as_slice().get(k as usize)?;
-        Some((address, block.as_slice().len() as u32))
+        let block = self.blocks[..self.made].get(k as usize)?;
+        Some((self.settings.base + block.offset, block.bytes))
     }
 
-    /// The byte at an address of trusted memory, or none outside it.
+    /// The byte at an address of trusted memory, or None outside it.
     pub fn byte(&self, at: u32) -> Option<u8>
-        ensures { result ≡ byte_of self.now at }
+        ensures { result ≡ byte_of self.now.memory at }
     {
-        let offset = at.checked_sub(self.settings.base)?;
-        self.memory.get(offset as usize).copied()
-    }
-
-    // The instruction that stands next, unless none does.
-    fn next_op(&self) -> Option<Op>
-        ensures op { result ≡ next_op_of self.now }
-        ensures next_fits { OnSome result (self.now.frame.next + 1 < 2 ^ 64) }
-    {
-        let function = self
-            .image
-            .trusted
-            .funs
-            .as_slice()
-            .get(self.function as usize)?;
-        function.ops.as_slice().get(self.next).copied()
+        self.memory.byte(at)
     }
 
     // Makes the step of an instruction.
-    fn perform(&mut self, op: Op) -> Event
+    fn perform(&mut self, op: &Op) -> Event
         requires ready { IsReady self.old }
-        requires there { StandsAtSome self.old }
-        ensures { Performs op self.old result self.new }
+        requires there { next_op_of self.old ≡ Some op.now }
+        ensures { Performs op.now self.old result self.new }
     {
         match op {
             Op::Const(number) => self.push(0, number.cast_unsigned()),
-            Op::Local(slot) => self.push_some(self.slot(slot)),
-            Op::Set(slot) => self.set(slot),
-            Op::BlockAddress(k) => self.push_some(self.block_address(k)),
-            Op::Add { place } => self.add(place),
-            Op::Sub { place } => self.subtract(place),
-            Op::NonNull { place } => self.check_non_null(place),
-            Op::Load4 => self.load(),
-            Op::Store4 => self.store(),
+            Op::Local(slot) => self.local(*slot),
+            Op::Set(slot) => self.set(*slot),
+            Op::Discard => self.discard(),
+            Op::Duplicate => self.duplicate(),
+            Op::BlockAddress(k) => self.block_address(*k),
+            Op::BlockOffset(k) => self.block_offset(*k),
+            Op::Add { place } => self.add(*place),
+            Op::Sub { place } => self.subtract(*place),
+            Op::Mul { place } => self.multiply(*place),
+            Op::Div { place } => self.divide(*place),
+            Op::Rem { place } => self.remainder(*place),
+            Op::Neg { place } => self.negate(*place),
+            Op::Shl { place } => self.shift_left(*place),
+            Op::Shr { place } => self.shift_right(*place),
+            Op::WrapAdd => self.wrapping_add(),
+            Op::WrapSub => self.wrapping_subtract(),
+            Op::WrapMul => self.wrapping_multiply(),
+            Op::WrapNeg => self.wrapping_negate(),
+            Op::WrapShl => self.wrapping_shift_left(),
+            Op::WrapShr => self.wrapping_shift_right(),
+            Op::WrapDiv | Op::WrapRem => self.end_wild(),
+            Op::And => self.and(),
+            Op::Or => self.or(),
+            Op::Xor => self.xor(),
+            Op::Not => self.complement(),
+            Op::Equal => self.equal(),
+            Op::NotEqual => self.not_equal(),
+            Op::Less => self.less(),
+            Op::LessEqual => self.less_equal(),
+            Op::Greater => self.greater(),
+            Op::GreaterEqual => self.greater_equal(),
+            Op::UnsignedLess => self.unsigned_less(),
+            Op::UnsignedLessEqual => self.unsigned_less_equal(),
+            Op::UnsignedGreater => self.unsigned_greater(),
+            Op::UnsignedGreaterEqual => self.unsigned_greater_equal(),
+            Op::Zero => self.is_zero(),
+            Op::Byte => self.low_byte(),
+            Op::Index { size } => self.index(*size),
+            Op::NonNull { place } => self.non_null(*place),
+            Op::In {
+                low,
+                high,
+                size,
+                place,
+            } => self.check_in(*low, *high, *size, *place),
+            Op::UpTo {
+                low,
+                high,
+                size,
+                place,
+            } => self.check_up_to(*low, *high, *size, *place),
+            Op::Term { high, size, place } => self.check_term(*high, *size, *place),
+            Op::Contain {
+                old_low,
+                old_high,
+                new_low,
+                new_high,
+                size,
+                place,
+            } => self.check_contain(*old_low, *old_high, *new_low, *new_high, *size, *place),
+            Op::Lies {
+                low,
+                high,
+                size,
+                more,
+                place,
+            } => self.check_lies(*low, *high, *size, *more, *place),
+            Op::Range { offset, len, place } => self.check_range(*offset, *len, *place),
+            Op::Load1 => self.load_1(),
+            Op::Load4 => self.load_4(),
+            Op::Store1 => self.store_1(),
+            Op::Store4 => self.store_4(),
+            Op::TouchLoad1 => self.touch_load_1(),
+            Op::TouchLoad4 => self.touch_load_4(),
+            Op::TouchStore1 => self.touch_store_1(),
+            Op::TouchStore4 => self.touch_store_4(),
+            Op::Jump(target) => self.jump(*target),
+            Op::JumpIfZero(target) => self.jump_if_zero(*target),
+            Op::Call(k) => self.call(*k),
+            Op::TaintedCall { import, place } => self.call_tainted(*import, *place),
+            Op::CallBack(_) => self.end_wild(),
             Op::Return => self.return_word(),
+            Op::ReturnNothing => self.return_nothing(),
             Op::Tick => self.tick(),
-            Op::TaintedCall { import, place: _ } => self.call_tainted(import),
+            Op::NextInput => self.next_input(),
+            Op::Print => self.print(),
+            Op::PutByte => self.put_byte(),
+            Op::Alloc { size } => self.alloc(*size),
+            Op::AllocTerminated { size } => self.alloc_terminated(*size),
+            Op::SandboxAlloc { size } => self.sandbox_alloc(*size),
+            Op::TextLength => self.text_length(),
         }
     }
 
-    // Pops the right and the left number, and pushes their sum.
-    fn add(&mut self, place: Place) -> Event
-        requires { IsReady self.old }
-        ensures { Acts (Op.Add place) self.old result self.new }
-    {
-        let Some((left, right)) = self.two_words() else {
-            return self.end_wild();
-        };
-        let sum = left.cast_signed().checked_add(right.cast_signed());
-        self.push_checked(place, sum)
-    }
-
-    // Pops the right and the left number, and pushes their difference.
-    fn subtract(&mut self, place: Place) -> Event
-        requires { IsReady self.old }
-        ensures { Acts (Op.Sub place) self.old result self.new }
-    {
-        let Some((left, right)) = self.two_words() else {
-            return self.end_wild();
-        };
-        let difference = left.cast_signed().checked_sub(right.cast_signed());
-        self.push_checked(place, difference)
-    }
-
-    // Pops two words, and pushes the result of an operation on them, if it has 32 bits.
-    fn push_checked(&mut self, place: Place, number: Option<i32>) -> Event
+    // Pops words, and pushes the number of a check that holds.
+    pub(crate) fn push_number(&mut self, popped: usize, number: Result<i32, Ending>) -> Event
         requires ready { IsReady self.old }
-        requires there { 2 ≤ length self.old.frame.stack }
-        ensures { (f : Func) (z : ℤ) → IsIn self.old f → HasWordNumber number z
-            → GoesBy (λ s. push_checked f (without_overflow place z) (drop 2 s.frame.stack) s)
-            self.old result self.new }
+        requires there { popped ≤ length self.old.frame.stack }
+        ensures { (f : FuncData) → IsIn self.old f
+            → GoesBy (push_checked f (checked_of number) (drop popped self.old.frame.stack) self.old.frame) self.old result self.new }
     {
         match number {
-            Some(number) => self.push(2, number.cast_unsigned()),
-            None => self.end(Ending::Check {
-                code: Code::C6,
-                place,
-            }),
+            Ok(number) => self.push(popped, number.cast_unsigned()),
+            Err(ending) => self.end(ending),
         }
+    }
+
+    // Pops words, and goes on where a check holds.
+    #[tactic(auto, using(std::proofs::lemmas::Bool::Decides::nat_tests))]
+    pub(crate) fn check(&mut self, popped: usize, holds: bool, code: Code, place: Place) -> Event
+        requires ready { IsReady self.old }
+        requires there { popped ≤ length self.old.frame.stack }
+        ensures { GoesBy (check holds code place (drop popped self.old.frame.stack) self.old.frame) self.old result self.new }
+    {
+        if !holds {
+            return self.end(Ending::Check { code, place });
+        }
+        self.calls.pop(popped);
+        self.calls.advance();
+        Event::Ran
     }
 
     // Pops a word into a slot.
-    fn set(&mut self, slot: u32) -> Event
+    #[tactic(auto, using(std::proofs::lemmas::Bool::Decides::nat_tests))]
+    pub(crate) fn set(&mut self, slot: u32) -> Event
         requires { IsReady self.old }
         ensures { Acts (Op.Set slot) self.old result self.new }
     {
         let Some(word) = self.word() else {
             return self.end_wild();
         };
-        let slot = slot as usize;
-        if slot >= self.slots.len() {
+        if !self.calls.set(slot, word) {
             return self.end_wild();
         }
-        self.slots[slot] = word;
-        self.go_on(1)
+        self.calls.pop(1);
+        self.calls.advance();
+        Event::Ran
     }
 
-    // Goes on if the topmost word isn't 0.
-    fn check_non_null(&mut self, place: Place) -> Event
+    // Pushes the word of a slot.
+    pub(crate) fn local(&mut self, slot: u32) -> Event
         requires { IsReady self.old }
-        ensures { Acts (Op.NonNull place) self.old result self.new }
+        ensures { Acts (Op.Local slot) self.old result self.new }
     {
-        match self.word() {
-            None => self.end_wild(),
-            Some(0) => self.end(Ending::Check {
-                code: Code::C1,
-                place,
-            }),
-            Some(_) => self.go_on(0),
-        }
+        let word = self.calls.slot(slot);
+        self.push_some(word)
+    }
+
+    // Pushes the address of a static block of trusted memory.
+    pub(crate) fn block_address(&mut self, k: u32) -> Event
+        requires { IsReady self.old }
+        ensures { Acts (Op.BlockAddress k) self.old result self.new }
+    {
+        let address = self.addresses.get(k as usize).copied();
+        self.push_some(address)
+    }
+
+    // Pushes the offset of a static block of the sandbox's memory.
+    pub(crate) fn block_offset(&mut self, k: u32) -> Event
+        requires { IsReady self.old }
+        ensures { Acts (Op.BlockOffset k) self.old result self.new }
+    {
+        let offset = self.offsets.get(k as usize).copied();
+        self.push_some(offset)
+    }
+
+    // Pops an address, and pushes the byte there.
+    fn load_1(&mut self) -> Event
+        requires { IsReady self.old }
+        ensures { Acts Op.Load1 self.old result self.new }
+    {
+        self.load(1)
     }
 
     // Pops an address, and pushes the word there.
-    fn load(&mut self) -> Event
+    fn load_4(&mut self) -> Event
         requires { IsReady self.old }
         ensures { Acts Op.Load4 self.old result self.new }
+    {
+        self.load(4)
+    }
+
+    // Pops a value and an address, and stores the lowest byte of the value there.
+    fn store_1(&mut self) -> Event
+        requires { IsReady self.old }
+        ensures { Acts Op.Store1 self.old result self.new }
+    {
+        self.store(1)
+    }
+
+    // Pops a value and an address, and stores the value there.
+    fn store_4(&mut self) -> Event
+        requires { IsReady self.old }
+        ensures { Acts Op.Store4 self.old result self.new }
+    {
+        self.store(4)
+    }
+
+    // Pops an address, and pushes the byte or the word there.
+    fn load(&mut self, len: u32) -> Event
+        requires ready { IsReady self.old }
+        requires width { (len ≡ 1) ⊎ (len ≡ 4) }
+        ensures { (f : FuncData) → IsIn self.old f
+            → GoesBy (λ s. pop self.old.frame.stack (λ address stack. load f len address stack self.old.frame s) s) self.old result self.new }
     {
         let Some(address) = self.word() else {
             return self.end_wild();
         };
-        let Some(offset) = self.word_offset(address) else {
+        if !self.memory.in_range(address, len) {
             return self.end_wild();
-        };
-        let word = memory::load_word(self.memory.as_slice(), offset);
+        }
+        let word = self.memory.load(address, len);
         self.push(1, word)
     }
 
-    // Pops a word and an address, and stores the word there.
-    fn store(&mut self) -> Event
-        requires { IsReady self.old }
-        ensures { Acts Op.Store4 self.old result self.new }
+    // Pops a value and an address, and stores the lowest byte or all of the value there.
+    #[tactic(auto, using(std::proofs::lemmas::Bool::Decides::nat_tests))]
+    fn store(&mut self, len: u32) -> Event
+        requires ready { IsReady self.old }
+        requires width { (len ≡ 1) ⊎ (len ≡ 4) }
+        ensures { GoesBy
+            (λ s. pop_2 self.old.frame.stack (λ address w stack. store len address w stack self.old.frame s) s)
+            self.old result self.new }
     {
         let Some((address, word)) = self.two_words() else {
             return self.end_wild();
         };
-        let Some(offset) = self.word_offset(address) else {
+        if !self.memory.in_range(address, len) {
             return self.end_wild();
-        };
-        memory::store_word(self.memory.as_mut_slice(), offset, word);
-        self.go_on(2)
+        }
+        self.memory.store(address, len, word);
+        self.calls.pop(2);
+        self.calls.advance();
+        Event::Ran
     }
 
-    // Ends the run with the topmost word.
-    fn return_word(&mut self) -> Event
+    // Goes on at an instruction of the same function.
+    pub(crate) fn jump(&mut self, target: u32) -> Event
         requires { IsReady self.old }
-        ensures { Acts Op.Return self.old result self.new }
+        ensures { Acts (Op.Jump target) self.old result self.new }
     {
-        match self.word() {
-            Some(word) => self.end(Ending::Exit {
-                value: word.cast_signed(),
-            }),
-            None => self.end_wild(),
+        if !self.calls.jump(target) {
+            return self.end_wild();
         }
+        Event::Ran
+    }
+
+    // Pops a word, and goes on there where it is 0.
+    #[tactic(auto, using(std::proofs::lemmas::Bool::Decides::nat_tests))]
+    pub(crate) fn jump_if_zero(&mut self, target: u32) -> Event
+        requires { IsReady self.old }
+        ensures { Acts (Op.JumpIfZero target) self.old result self.new }
+    {
+        let Some(word) = self.word() else {
+            return self.end_wild();
+        };
+        if word != 0 {
+            self.calls.pop(1);
+            self.calls.advance();
+            return Event::Ran;
+        }
+        if !self.calls.jump(target) {
+            return self.end_wild();
+        }
+        self.calls.pop(1);
+        Event::Ran
     }
 
     // Spends a tick.
-    fn tick(&mut self) -> Event
+    #[tactic(auto, using(std::proofs::lemmas::Bool::Decides::nat_tests))]
+    pub(crate) fn tick(&mut self) -> Event
         requires { IsReady self.old }
         ensures { Acts Op.Tick self.old result self.new }
     {
         if self.ticks >= self.settings.budget {
-            return self.end(stop(Code::S1));
+            return self.end(Ending::Stop {
+                code: Code::S1,
+                act: None,
+            });
         }
         self.ticks += 1;
-        self.go_on(0)
-    }
-
-    // Begins a call of a tainted function.
-    fn call_tainted(&mut self, import: u32) -> Event
-        requires ready { IsReady self.old }
-        requires there { StandsAtSome self.old }
-        ensures { (place : Place) → Performs (Op.TaintedCall import place) self.old result self.new }
-    {
-        let Some(args) = self.args_of(import) else {
-            return self.end_wild();
-        };
-        let Some(args) = self.top_words(args) else {
-            return self.end_wild();
-        };
-        if self.depth >= MAX_DEPTH {
-            return self.end(stop(Code::S2));
-        }
-        self.pending = Some(Call { import, args });
-        Event::Asks
-    }
-
-    // How many arguments a tainted function has, if it is there.
-    fn args_of(&self, import: u32) -> Option<usize>
-        ensures args { result ≡ args_of self.now import }
-        ensures few { IfSome result (λ args. args ≤ 16) }
-    {
-        let imports = self.image.layout.imports.as_slice();
-        Some(imports.get(import as usize)?.args as usize)
-    }
-
-    // The topmost words, the last on top, if there are so many.
-    fn top_words(&self, count: usize) -> Option<Words>
-        requires { count ≤ 16 }
-        ensures { result ≡ top_words_of count self.now.frame.stack }
-    {
-        let stack = &self.stack[self.top..];
-        if stack.len() < count {
-            return None;
-        }
-        let mut words = [0; 16];
-        let words = &mut words[..count];
-        words.copy_from_slice(&stack[..count]);
-        words.reverse();
-        Words::from_slice(words)
-    }
-
-    // Does what an act says before a touch.
-    fn act_before_touch(&mut self, act: &Act) -> Event
-        requires { IsAsked turns.Trusted self.old }
-        ensures { (call : Pending) → self.old.pending ≡ Some call → (acts : List ActData) (events : List WorldEvent)
-            → TouchGives call events (act_before_touch (act_view act.now) (world_of self.old acts events)) self.old result self.new }
-    {
-        match act {
-            Act::Go => self.touch(),
-            Act::Read { at, len } => self.show(*at, len.number),
-            Act::Write { at, bytes } => self.write(*at, bytes.octets.as_slice()),
-            Act::Call { fun: _, args: _ } | Act::Return { value: _ } => self.stop_by_act(Code::S5),
-            Act::Stop => self.end(SANDBOX_ENDED),
-        }
-    }
-
-    // Does what an act says while the sandbox has the turn.
-    fn act_in_sandbox(&mut self, act: &Act) -> Event
-        requires { IsAsked turns.Sandbox self.old }
-        ensures { (call : Pending) → self.old.pending ≡ Some call → (acts : List ActData) (events : List WorldEvent)
-            → SandboxGives call acts events (act_in_sandbox (act_view act.now) (world_of self.old acts events)) self.old result self.new }
-    {
-        match act {
-            Act::Go => Event::Ran,
-            Act::Read { at, len } => self.show(*at, len.number),
-            Act::Write { at, bytes } => self.write(*at, bytes.octets.as_slice()),
-            Act::Call { fun: _, args: _ } => self.stop_by_act(Code::S5),
-            Act::Return { value } => self.reply(*value),
-            Act::Stop => self.end(SANDBOX_ENDED),
-        }
+        self.calls.advance();
+        Event::Ran
     }
 
     // Pushes what is there.
-    fn push_some(&mut self, word: Option<u32>) -> Event
+    pub(crate) fn push_some(&mut self, word: Option<u32>) -> Event
         requires { IsReady self.old }
-        ensures { (f : Func) → IsIn self.old f → GoesBy (push_some f word) self.old result self.new }
+        ensures { (f : FuncData) → IsIn self.old f
+            → GoesBy (push_some f word self.old.frame.stack self.old.frame) self.old result self.new }
     {
         match word {
             Some(word) => self.push(0, word),
@@ -480,174 +540,110 @@ impl<'a> Machine<'a> {
     }
 
     // Pops words, pushes a word if there is room for it then, and goes on to the next instruction.
-    fn push(&mut self, popped: usize, word: u32) -> Event
+    pub(crate) fn push(&mut self, popped: usize, word: u32) -> Event
         requires ready { IsReady self.old }
         requires there { popped ≤ length self.old.frame.stack }
-        ensures { (f : Func) → IsIn self.old f
-            → GoesBy (λ s. push f word (drop popped s.frame.stack) s) self.old result self.new }
+        ensures { (f : FuncData) → IsIn self.old f
+            → GoesBy (push f word (drop popped self.old.frame.stack) self.old.frame) self.old result self.new }
     {
-        let Some(top) = (self.top + popped).checked_sub(1) else {
+        if !self.calls.push(popped, word) {
             return self.end_wild();
-        };
-        self.stack[top] = word;
-        self.top = top;
-        self.go_on(0)
+        }
+        self.calls.advance();
+        Event::Ran
     }
 
     // Pops words, and goes on to the next instruction.
-    fn go_on(&mut self, popped: usize) -> Event
+    pub(crate) fn go_on(&mut self, popped: usize) -> Event
         requires ready { IsReady self.old }
         requires there { popped ≤ length self.old.frame.stack }
-        ensures { GoesBy
-            (λ s. Goes (on_with s s.memory s.frame.slots (drop popped s.frame.stack)))
-            self.old result self.new }
+        ensures { GoesBy (on_with self.old.frame (drop popped self.old.frame.stack)) self.old result self.new }
     {
-        self.top += popped;
-        self.next += 1;
+        self.calls.pop(popped);
+        self.calls.advance();
         Event::Ran
-    }
-
-    // Makes the touch that waits, and gives the sandbox the turn.
-    fn touch(&mut self) -> Event
-        requires { IsAsked turns.Trusted self.old }
-        ensures touched { (call : Pending) → self.old.pending ≡ Some call → (acts : List ActData) (events : List WorldEvent)
-            → TouchGives call events (BeforeTouch.Touches (world_of self.old acts events)) self.old result self.new }
-        ensures over { self.new.over ≡ None }
-        ensures goes { ending_given result ≡ None }
-    {
-        let Some(Call { import: fun, args }) = self.pending else {
-            return Event::Ran;
-        };
-        self.turn = Turn::Sandbox;
-        Event::Touched {
-            release: Release::Passed { fun, args },
-            seen: Some(Seen::Called { fun, args }),
-        }
-    }
-
-    // Shows the sandbox bytes of its memory.
-    fn show(&mut self, at: u32, len: u32) -> Event
-        requires { len ≤ 64 }
-        ensures { Moves self.old (λ w. shown at len w) result self.new }
-    {
-        match self.octets(at, len) {
-            Some(bytes) => Event::Showed {
-                seen: Seen::Bytes { at, bytes },
-            },
-            None => self.stop_by_act(Code::S4),
-        }
-    }
-
-    // The bytes of the sandbox's memory from a place on, if they lie in it.
-    fn octets(&self, at: u32, len: u32) -> Option<Octets>
-        requires { len ≤ 64 }
-        ensures { result ≡ bytes_if (lies_in at len self.now.sandbox) at len self.now.sandbox }
-    {
-        if !self.holds(at, len as usize) {
-            return None;
-        }
-        let at = at as usize;
-        Octets::from_slice(&self.sandbox[at..at + len as usize])
-    }
-
-    // Stores bytes in the sandbox's memory.
-    fn write(&mut self, at: u32, bytes: &[u8]) -> Event
-        requires { length bytes.now ≤ 64 }
-        ensures { Moves self.old (λ w. written at bytes.now w) result self.new }
-    {
-        if !self.holds(at, bytes.len()) {
-            return self.stop_by_act(Code::S4);
-        }
-        let at = at as usize;
-        self.sandbox[at..at + bytes.len()].copy_from_slice(bytes);
-        Event::Ran
-    }
-
-    // Whether bytes from a place on lie in the sandbox's memory.
-    fn holds(&self, at: u32, len: usize) -> bool
-        requires { len ≤ 64 }
-        ensures { result ≡ lies_in at len self.now.sandbox }
-    {
-        at as usize + len <= self.sandbox.len()
-    }
-
-    // Ends the call that waits, with its reply in the place of its words.
-    fn reply(&mut self, value: u32) -> Event
-        requires { IsAsked turns.Sandbox self.old }
-        ensures { (call : Pending) → self.old.pending ≡ Some call → (acts : List ActData) (events : List WorldEvent)
-            → SandboxGives call acts events (InSandbox.Answers value (in_turn turns.Trusted (world_of self.old acts events))) self.old result self.new }
-    {
-        let Some(call) = self.pending else {
-            return Event::Ran;
-        };
-        self.turn = Turn::Trusted;
-        self.pending = None;
-        self.push(call.args.as_slice().len(), value)
-    }
-
-    // Ends the run by the act that was taken last.
-    fn stop_by_act(&mut self, code: Code) -> Event
-        ensures { EndsBy self.old (Ending.Stop code (Some self.old.taken)) result self.new }
-    {
-        let act = Some(self.taken);
-        self.end(Ending::Stop { code, act })
     }
 
     // Ends the run, since no line of the table has a result.
-    fn end_wild(&mut self) -> Event
+    pub(crate) fn end_wild(&mut self) -> Event
         ensures ends { EndsBy self.old (Ending.Stop Code.S6 None) result self.new }
-        ensures line { self.old.pending ≡ None → GoesBy wild self.old result self.new }
+        ensures line { GoesBy wild self.old result self.new }
     {
-        self.end(stop(Code::S6))
+        self.end(Ending::Stop {
+            code: Code::S6,
+            act: None,
+        })
     }
 
     // Ends the run.
-    fn end(&mut self, ending: Ending) -> Event
+    pub(crate) fn end(&mut self, ending: Ending) -> Event
         ensures ends { EndsBy self.old ending result self.new }
-        ensures line { self.old.pending ≡ None → GoesBy (Over ending) self.old result self.new }
+        ensures line { GoesBy (Over ending) self.old result self.new }
     {
         self.over = Some(ending);
         Event::Ended { ending }
     }
 
     // The topmost word, if there is one.
-    fn word(&self) -> Option<u32>
+    pub(crate) fn word(&self) -> Option<u32>
         ensures { result ≡ slice_get self.now.frame.stack 0 }
     {
-        self.stack.get(self.top).copied()
+        self.calls.word()
     }
 
     // The two topmost words, the lower one first, if there are two.
-    fn two_words(&self) -> Option<(u32, u32)>
+    pub(crate) fn two_words(&self) -> Option<(u32, u32)>
         ensures { result ≡ two_topmost self.now.frame.stack }
     {
-        match &self.stack[self.top..] {
+        match self.calls.stack() {
             [right, left, ..] => Some((*left, *right)),
             _ => None,
         }
     }
 
-    // The word of a slot, if it is there.
-    fn slot(&self, k: u32) -> Option<u32>
-        ensures { result ≡ slice_get self.now.frame.slots k }
+    // The four topmost words, the lowest first, if there are four.
+    pub(crate) fn four_words(&self) -> Option<(u32, u32, u32, u32)>
+        ensures { result ≡ four_topmost self.now.frame.stack }
     {
-        self.slots.get(k as usize).copied()
+        match self.calls.stack() {
+            [d, c, b, a, ..] => Some((*a, *b, *c, *d)),
+            _ => None,
+        }
     }
 
-    // The address of a block, if it is there.
-    fn block_address(&self, k: u32) -> Option<u32>
-        ensures { result ≡ address_of self.now.image self.now.settings.base k }
+    // The five topmost words, the lowest first, if there are five.
+    pub(crate) fn five_words(&self) -> Option<(u32, u32, u32, u32, u32)>
+        ensures { result ≡ five_topmost self.now.frame.stack }
     {
-        self.addresses.get(k as usize).copied()
+        match self.calls.stack() {
+            [e, d, c, b, a, ..] => Some((*a, *b, *c, *d, *e)),
+            _ => None,
+        }
     }
 
-    // The offset in memory of the four bytes at an address, if they lie in it.
-    fn word_offset(&self, address: u32) -> Option<usize>
-        ensures found { is_some result ≡ has_word self.now.settings.base self.now.memory address }
-        ensures value { IfSome result (λ offset. offset ≡ address - self.now.settings.base) }
-        ensures within { IfSome result (λ offset. offset + 4 ≤ length self.now.memory) }
+    // The seven topmost words, the lowest first, if there are seven.
+    pub(crate) fn seven_words(&self) -> Option<(u32, u32, u32, u32, u32, u32, u32)>
+        ensures { result ≡ seven_topmost self.now.frame.stack }
     {
-        let offset = address.checked_sub(self.settings.base)? as usize;
-        (offset + 4 <= self.memory.len()).then_some(offset)
+        match self.calls.stack() {
+            [g, f, e, d, c, b, a, ..] => Some((*a, *b, *c, *d, *e, *f, *g)),
+            _ => None,
+        }
+    }
+
+    // So many of the topmost words, the last on top, if there are so many.
+    pub(crate) fn top_words(&self, count: usize) -> Option<Words>
+        requires { count ≤ 16 }
+        ensures { result ≡ top_words_of count self.now.frame.stack }
+    {
+        let stack = self.calls.stack();
+        if stack.len() < count {
+            return None;
+        }
+        let mut words = [0; 16];
+        let words = &mut words[..count];
+        words.copy_from_slice(&stack[..count]);
+        words.reverse();
+        Words::from_slice(words)
     }
 }

@@ -1,25 +1,32 @@
-// The bytes of a memory: static blocks in their places, and words of four bytes.
+// The memories at the start of a run: static blocks in their places, with zeros between.
 
-ghost use Rattle.std.specs.Prelude.{◌≡◌, ◌+◌, ◌-◌, ◌^◌, ◌<◌, ◌≤◌, ◌++◌, length, replicate, vec_len, IfOk, OnOk};
-ghost use Rattle.code_words.specs.Blocks.{rounded_up, offset_behind, bytes_taken, memory_of};
-ghost use Rattle.code_words.specs.Words.{word_at, with_word};
-ghost use Rattle.two_memory_machine.specs.Places.{addresses_from};
+ghost use Rattle.std.specs.Prelude.{◌≡◌, ◌+◌, ◌-◌, ◌^◌, ◌<◌, ◌≤◌, ◌++◌, ◌*◌, All, length, map, take, replicate, vec_len, IfOk, OnOk};
+ghost use Rattle.flat_bytes.specs.Blocks.{rounded_up, grown, first_offset, blocks_of};
+ghost use Rattle.code_words.specs.Runs.{memory_of, counter_behind};
+ghost use Rattle.two_memory_machine.specs.Places.{offsets_from, block_row};
 
 use ckc_text::fault::NoMemory;
 use code_words::lists::Listed;
 use std::alloc::Global;
 
-/// How many bytes stand before the first static block, and behind each.
-pub const GAP: usize = 16;
+/// A block of trusted memory.
+#[derive(Clone, Copy)]
+pub struct BlockRow {
+    pub offset: u32,
+    pub bytes: u32,
+}
+
+/// The offset of the first block.
+pub const FIRST_OFFSET: u32 = 16;
 
 /// A memory of a size in which the blocks stand, with zeros elsewhere.
 pub fn memory_with(alloc: Global, size: u32, blocks: &[Listed<u8>]) -> Result<Vec<u8>, NoMemory>
-    requires { 16 + bytes_taken blocks.now ≤ size }
+    requires { counter_behind first_offset blocks.now ≤ size }
     ensures bytes { IfOk result (λ memory. memory.items ≡ memory_of size blocks.now) }
     ensures len { IfOk result (λ memory. vec_len memory ≡ size) }
 {
     let mut memory = Vec::with_capacity(alloc, size as usize)?;
-    memory.resize(GAP, 0)?;
+    memory.resize(FIRST_OFFSET as usize, 0)?;
     for block in blocks {
         place_block(&mut memory, block.as_slice())?;
     }
@@ -27,73 +34,77 @@ pub fn memory_with(alloc: Global, size: u32, blocks: &[Listed<u8>]) -> Result<Ve
     Ok(memory)
 }
 
-/// Places a block at the end of a memory, and its gap behind it.
+/// Places a block at the end of a memory, and zeros behind it.
 fn place_block(memory: &mut Vec<u8>, block: &[u8]) -> Result<(), NoMemory>
-    requires { vec_len memory.old + rounded_up (length block.now) + 16 < 2 ^ 32 }
+    requires { grown (vec_len memory.old) (length block.now) < 2 ^ 32 }
     ensures placed { OnOk result
         (memory.new.items
         ≡ memory.old.items ++ block.now
         ++ replicate (rounded_up (length block.now) - length block.now + 16) 0) }
-    ensures len { OnOk result
-        (vec_len memory.new ≡ vec_len memory.old + rounded_up (length block.now) + 16) }
+    ensures len { OnOk result (vec_len memory.new ≡ grown (vec_len memory.old) (length block.now)) }
 {
-    let end = memory.len() + block_size(block) + GAP;
+    let end = memory.len() + block.len().div_ceil(16) * 16 + 16;
     memory.extend_from_slice(block)?;
     memory.resize(end, 0)?;
     Ok(())
 }
 
-/// The length of a block, rounded up to a multiple of 16.
-fn block_size(block: &[u8]) -> usize
-    requires { length block.now < 2 ^ 32 }
-    ensures { result ≡ rounded_up (length block.now) }
+/// Where the blocks stand, of which the first stands at an offset.
+pub fn offsets_with(alloc: Global, first: u32, blocks: &[Listed<u8>]) -> Result<Vec<u32>, NoMemory>
+    requires { counter_behind first blocks.now < 2 ^ 32 }
+    ensures { IfOk result (λ offsets. offsets.items ≡ offsets_from first blocks.now) }
 {
-    block.len().div_ceil(16) * 16
-}
-
-/// The addresses of the blocks, of which the first stands at an address.
-pub fn addresses_with(
-    alloc: Global,
-    first: u32,
-    blocks: &[Listed<u8>],
-) -> Result<Vec<u32>, NoMemory>
-    requires { first + bytes_taken blocks.now < 2 ^ 32 }
-    ensures { IfOk result (λ addresses. addresses.items ≡ addresses_from first blocks.now) }
-{
-    let mut addresses = Vec::with_capacity(alloc, blocks.len())?;
-    let mut address = first;
+    let mut offsets = Vec::with_capacity(alloc, blocks.len())?;
+    let mut offset = first;
     for block in blocks {
-        addresses.push(address)?;
-        address = address_behind(address, block.as_slice());
+        offsets.push(offset)?;
+        offset = offset_behind(offset, block.as_slice());
     }
-    Ok(addresses)
+    Ok(offsets)
 }
 
-/// The address behind a block and its gap.
-fn address_behind(address: u32, block: &[u8]) -> u32
-    requires { offset_behind address block.now < 2 ^ 32 }
-    ensures { result ≡ offset_behind address block.now }
+/// The offset behind a block and its zeros.
+fn offset_behind(offset: u32, block: &[u8]) -> u32
+    requires { grown offset (length block.now) < 2 ^ 32 }
+    ensures { result ≡ grown offset (length block.now) }
 {
-    address + (block_size(block) + GAP) as u32
+    offset + (block.len().div_ceil(16) * 16 + 16) as u32
 }
 
-/// The word of the four bytes from an offset, of which the first is the lowest.
-pub fn load_word(memory: &[u8], offset: usize) -> u32
-    requires { offset + 4 ≤ length memory.now }
-    ensures { result ≡ word_at memory.now offset }
+/// The blocks, and room behind them for all that a memory of a size can have.
+pub fn rows_with(alloc: Global, size: u32, blocks: &[Listed<u8>]) -> Result<Vec<BlockRow>, NoMemory>
+    requires fits { counter_behind first_offset blocks.now ≤ size }
+    requires not_empty { All (λ block. 0 < length block) blocks.now }
+    ensures len { IfOk result (λ rows. size ≤ 32 * length rows.items + 32) }
+    ensures low { IfOk result (λ rows. All (λ r. r.offset ≤ size) rows.items) }
+    ensures rows { IfOk result
+        (λ rows. map block_row (take (length blocks.now) rows.items) ≡ blocks_of size (map length blocks.now)) }
 {
-    u32::from_le_bytes([
-        memory[offset],
-        memory[offset + 1],
-        memory[offset + 2],
-        memory[offset + 3],
-    ])
+    let empty = BlockRow {
+        offset: 0,
+        bytes: 0,
+    };
+    let mut rows = vec![in alloc; empty; size as usize / 32]?;
+    let mut offset = FIRST_OFFSET;
+    for (i, block) in blocks.iter().enumerate() {
+        let block = block.as_slice();
+        rows[i] = BlockRow {
+            offset,
+            bytes: block.len() as u32,
+        };
+        offset = offset_behind(offset, block);
+    }
+    Ok(rows)
 }
 
-/// Stores a word in the four bytes from an offset, of which the first becomes the lowest.
-pub fn store_word(memory: &mut [u8], offset: usize, word: u32)
-    requires { offset + 4 ≤ length memory.old }
-    ensures { memory.new ≡ with_word memory.old offset word }
+/// The offset behind all blocks.
+pub fn counter_of(blocks: &[Listed<u8>]) -> u32
+    requires { counter_behind first_offset blocks.now < 2 ^ 32 }
+    ensures { result ≡ counter_behind first_offset blocks.now }
 {
-    memory[offset..offset + 4].copy_from_slice(&word.to_le_bytes());
+    let mut offset = FIRST_OFFSET;
+    for block in blocks {
+        offset = offset_behind(offset, block.as_slice());
+    }
+    offset
 }

@@ -1,45 +1,41 @@
-use Rattle.std.proofs.Common.{◌≡◌, [], Option, None, Some, option_map, refl}
-use Rattle.act_words.specs.declared.act.Turn.TheVariants as turns
+use Rattle.std.proofs.Common.{◌≡◌, [], ap, subst}
 use Rattle.act_words.specs.Acts.{act_view}
 use Rattle.act_words.specs.Acting.{act_before_touch, act_in_sandbox}
-use Rattle.two_memory_machine.specs.Insides.{pending_of}
-use Rattle.two_memory_machine.proofs.ActLemmas.{touch_over, sandbox_over, touch_from, sandbox_from}
-use Rattle.two_memory_machine.proofs.MoveLemmas.{touch_sooner, sandbox_sooner}
+use Rattle.code_words.specs.Moves.{before_touch_by, in_sandbox_by}
+use Rattle.two_memory_machine.specs.Machines.{TakesAct, Touching, Suspended}
+use Rattle.two_memory_machine.specs.Insides.{machine, doing_of, touch_of}
+use Rattle.two_memory_machine.specs.Steps.{MovesBy}
+use Rattle.two_memory_machine.proofs.Moving.{takes_before, takes_in_sandbox, act_over}
 use Rattle.two_memory_machine.proofs.machine.Machine.act.Goals as goal
+use Rattle.two_memory_machine.proofs.machine.Machine.act.Goals.{After-act_before_touch, After-act_in_sandbox}
 
--- what is mapped to something is something
-mapped_back : {X Y : Type 0} (g : X → Y) (o : Option X) (y : Y) → option_map g o ≡ Some y → (x : X) × (o ≡ Some x)
-mapped_back g None y h = cc
-mapped_back g (Some x) y h = (x, refl)
+touched : (c : After-act_before_touch) → TakesAct c.args.self.now (act_view c.args.act.now) c.act_before_touch.result c.act_before_touch.new.self
+touched c =
+    let i = c.self.inside in
+    let touch = touch_of c.in-Touching.touch in
+    let waits : (machine i).doing ≡ Touching touch = ap doing_of c.in-Touching.is in
+    let moves = c.act_before_touch.ensures touch waits in
+    subst (λ m. TakesAct m (act_view c.args.act.now) c.act_before_touch.result c.act_before_touch.new.self) c.self.view_is
+    (takes_before (machine i) c.act_before_touch.new.self c.act_before_touch.result touch (act_view c.args.act.now) waits
+    (subst (λ n. MovesBy (λ s. before_touch_by i.image.now i.calls.frame touch (act_before_touch (act_view c.args.act.now) s.world) s) (record (machine i) { taken = n }) c.act_before_touch.result c.act_before_touch.new.self) c.saturating_add-self-inside.ensures moves))
 
-pub returns-in-Trusted-clause-takes : goal.returns-in-Trusted-clause-takes
-returns-in-Trusted-clause-takes c = λ call waits acts events.
-    rw (← c.self.view_is, c.in-Trusted.is, ← c.saturating_add-self-inside.ensures) (touch_from call events (act_before_touch (act_view c.args.act.now) (record { sandbox = c.self.inside.sandbox.items; turn = turns.Trusted; acts = acts; taken = c.saturating_add-self-inside.result; ticks = c.self.inside.ticks; events = events })) (record { sandbox = c.self.inside.sandbox.items; turn = turns.Trusted; acts = acts; taken = c.saturating_add-self-inside.result; ticks = c.self.inside.ticks; events = events }) _ _ _ (rw c.in-Trusted.is at (c.act_before_touch.ensures call (rw (← c.self.view_is) at waits) acts events)))
+passed : (c : After-act_in_sandbox) → TakesAct c.args.self.now (act_view c.args.act.now) c.act_in_sandbox.result c.act_in_sandbox.new.self
+passed c =
+    let i = c.self.inside in
+    let waits : (machine i).doing ≡ Suspended c.in-Suspended.import c.in-Suspended.place = ap doing_of c.in-Suspended.is in
+    let moves = c.act_in_sandbox.ensures in
+    subst (λ m. TakesAct m (act_view c.args.act.now) c.act_in_sandbox.result c.act_in_sandbox.new.self) c.self.view_is
+    (takes_in_sandbox (machine i) c.act_in_sandbox.new.self c.act_in_sandbox.result c.in-Suspended.import c.in-Suspended.place (act_view c.args.act.now) waits
+    (subst (λ n. MovesBy (λ s. in_sandbox_by i.image.now i.settings (act_in_sandbox (act_view c.args.act.now) s.world) s) (record (machine i) { taken = n }) c.act_in_sandbox.result c.act_in_sandbox.new.self) c.saturating_add-self-inside.ensures moves))
 
-pub returns-in-Trusted-clause-over : goal.returns-in-Trusted-clause-over
-returns-in-Trusted-clause-over c =
-    let gives = c.act_before_touch.ensures c.requires.call (rw (← c.self.view_is) at c.requires.waits) [] [] in
-    touch_over c.requires.call [] (act_before_touch (act_view c.args.act.now) _) _ c.act_before_touch.new.self c.act_before_touch.result (rw (← c.self.view_is) at c.requires.running) gives
+pub returns-in-Touching-clause-takes : goal.returns-in-Touching-clause-takes
+returns-in-Touching-clause-takes c = touched c
 
-pub returns-in-Sandbox-clause-takes : goal.returns-in-Sandbox-clause-takes
-returns-in-Sandbox-clause-takes c = λ call waits acts events.
-    rw (← c.self.view_is, c.in-Sandbox.is, ← c.saturating_add-self-inside.ensures) (sandbox_from call acts events (act_in_sandbox (act_view c.args.act.now) (record { sandbox = c.self.inside.sandbox.items; turn = turns.Sandbox; acts = acts; taken = c.saturating_add-self-inside.result; ticks = c.self.inside.ticks; events = events })) (record { sandbox = c.self.inside.sandbox.items; turn = turns.Sandbox; acts = acts; taken = c.saturating_add-self-inside.result; ticks = c.self.inside.ticks; events = events }) _ _ _ (rw c.in-Sandbox.is at (c.act_in_sandbox.ensures call (rw (← c.self.view_is) at waits) acts events)))
+pub returns-in-Touching-clause-over : goal.returns-in-Touching-clause-over
+returns-in-Touching-clause-over c = act_over [] [] [] _ c.args.self.now c.act_before_touch.new.self c.act_before_touch.result (touched c [] [] [])
 
-pub returns-in-Sandbox-clause-over : goal.returns-in-Sandbox-clause-over
-returns-in-Sandbox-clause-over c =
-    let gives = c.act_in_sandbox.ensures c.requires.call (rw (← c.self.view_is) at c.requires.waits) [] [] in
-    sandbox_over c.requires.call [] [] (act_in_sandbox (act_view c.args.act.now) _) _ c.act_in_sandbox.new.self c.act_in_sandbox.result (rw (← c.self.view_is) at c.requires.running) gives
+pub returns-in-Suspended-clause-takes : goal.returns-in-Suspended-clause-takes
+returns-in-Suspended-clause-takes c = passed c
 
-pub returns-in-Trusted-clause-sooner : goal.returns-in-Trusted-clause-sooner
-returns-in-Trusted-clause-sooner c =
-    let running = rw (← c.self.view_is) at c.requires.running in
-    let waits = rw (← c.self.view_is) at c.requires.waits in
-    rw (← c.self.view_is) (touch_sooner (act_view c.args.act.now) c.requires.call [] _ _ c.act_before_touch.new.self c.act_before_touch.result running waits c.in-Trusted.is refl (c.act_before_touch.ensures c.requires.call waits [] []))
-
-pub returns-in-Sandbox-clause-sooner : goal.returns-in-Sandbox-clause-sooner
-returns-in-Sandbox-clause-sooner c =
-    let running = rw (← c.self.view_is) at c.requires.running in
-    let waits = rw (← c.self.view_is) at c.requires.waits in
-    let call = mapped_back pending_of c.self.inside.pending c.requires.call waits in
-    let well = c.self.invariant.waits call.0 call.1 in
-    rw (← c.self.view_is) (sandbox_sooner (act_view c.args.act.now) c.requires.call well.f [] [] _ _ c.act_in_sandbox.new.self c.act_in_sandbox.result running waits c.in-Sandbox.is refl well.there well.stands (c.act_in_sandbox.ensures c.requires.call waits [] []))
+pub returns-in-Suspended-clause-over : goal.returns-in-Suspended-clause-over
+returns-in-Suspended-clause-over c = act_over [] [] [] _ c.args.self.now c.act_in_sandbox.new.self c.act_in_sandbox.result (passed c [] [] [])

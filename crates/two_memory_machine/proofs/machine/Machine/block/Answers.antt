@@ -1,20 +1,27 @@
-use Rattle.std.proofs.Common.{◌≡◌, Some, ap, length, sym, arith}
+use Rattle.std.proofs.Common.{◌≡◌, ◌≤◌, Some, take, refl, sym, ap, ◌∙◌, arith}
 use Rattle.std.specs.Prelude.{slice_get}
-use Rattle.two_memory_machine.proofs.BlockLemmas.{block_within, block_found, item_found}
+use Rattle.std.proofs.lemmas.List.Elements.{All-take}
+use Rattle.two_memory_machine.specs.declared.memory.BlockRow.{BlockRow}
+use Rattle.two_memory_machine.specs.Places.{block_row}
+use Rattle.two_memory_machine.proofs.Callers.{item_found, all_found}
+use Rattle.two_memory_machine.proofs.Statics.{slice_get-map}
 use Rattle.two_memory_machine.proofs.machine.Machine.block.Goals as goal
-use Rattle.two_memory_machine.proofs.machine.Machine.block.Goals.{After-as_slice-2}
+use Rattle.two_memory_machine.proofs.machine.Machine.block.Goals.{In_ok-block}
 
--- the block is there
-there : (c : After-as_slice-2) → slice_get c.args.self.now.image.trusted.blocks c.args.k ≡ Some c.in_ok-block.block.now
+there : (c : In_ok-block) → slice_get (take c.self.inside.made c.self.inside.blocks.items) c.args.k ≡ Some c.in_ok-block.block.now
 there c =
-    let found = item_found c.as_slice.result.now c.args.k (Some c.in_ok-block.block) c.in_ok-block.ensures.lookup in
-    rw (← c.self.view_is) (rw c.as_slice.ensures at (sym found))
+    let found = item_found (take c.self.inside.made c.deref.result.now) c.args.k (Some c.in_ok-block.block) c.in_ok-block.ensures.lookup in
+    ap (λ xs. slice_get (take c.self.inside.made xs) c.args.k) (sym c.deref.ensures.value) ∙ sym found
 
-pub overflow_cast-result : goal.overflow_cast-result
-overflow_cast-result c =
-    let within = block_within c.args.self.now.image.trusted.blocks c.args.k c.in_ok-block.block.now (there c) in
-    omega (arith, ap length c.as_slice-2.ensures, rw (← c.self.view_is) at within)
+low : (c : In_ok-block) → c.in_ok-block.block.now.offset ≤ c.self.inside.settings.trusted
+low c =
+    let i = c.self.inside in
+    all_found (λ (r : BlockRow). r.offset ≤ i.settings.trusted) (take i.made i.blocks.items) c.args.k c.in_ok-block.block.now (All-take (λ (r : BlockRow). r.offset ≤ i.settings.trusted) i.made i.blocks.items c.self.invariant.rows) (there c)
+
+pub overflow_add-result : goal.overflow_add-result
+overflow_add-result c = omega (arith, low c, c.self.invariant.fits.allowed.most_base, c.self.invariant.fits.allowed.most_trusted)
 
 pub returns : goal.returns
 returns c =
-    block_found c.args.self.now c.args.k c.in_ok-address.address c.in_ok-block.block.now c.as_slice-2.result.now c.in_ok-address.ensures (there c) c.as_slice-2.ensures
+    let i = c.self.inside in
+    rw (← c.self.view_is, slice_get-map block_row (take i.made i.blocks.items) c.args.k c.in_ok-block.block.now (there c), c.self.invariant.base) refl

@@ -1,0 +1,3 @@
+mod Keeps
+pub mod Runs
+pub mod Worlds

@@ -1,0 +1,182 @@
+-- What the worlds of a run keep: the view is a fold, and events stay.
+use Rattle.std.proofs.Common.{◌≡◌, ℕ, ℤ, zero, suc, ◌≤◌, Bool, true, false, length, List, [], ◌∷◌, ◌++◌, refl, sym, ap, ◌∙◌, subst, ⊎_elim, arith}
+use Rattle.std.proofs.lemmas.Bool.{cases_lt}
+use Rattle.std.proofs.lemmas.List.{append_assoc, append-nil}
+use Rattle.act_words.specs.declared.act.Turn.TheVariants as turns
+use Rattle.act_words.specs.declared.ending.Ending.{Ending}
+use Rattle.act_words.specs.declared.settings.Settings.{Settings}
+use Rattle.act_words.specs.Acts.{Act, Go, Read, Write, Call, Return, Stop, Release, Looked, Wrote, Passed, Replied, SeenBytes, SeenCall, SeenReply}
+use Rattle.act_words.specs.World.{World, Event, Output, Released, Showed, NoAct, telling, taken_one, in_turn, with_inputs}
+use Rattle.act_words.specs.Acting.{BeforeTouch, InSandbox, lies_in, bytes_at, shown_if, written_if, waits_or_ends, keeps_or_ends, act_before_touch, act_in_sandbox}
+use Rattle.act_words.specs.Touches.{released}
+use Rattle.act_words.specs.View.{ViewIsFold}
+use Rattle.act_words.proofs.Views.{Told, Ready, BeforeTold, InTold, told_at_start, shown, none_left, at_the_end, released_told, act_before_told, act_in_told, told_in, write_told, ready_turn, view_in_turn}
+use Rattle.code_words.specs.declared.image.Image.{Image}
+use Rattle.code_words.specs.Table.{State, Step, Goes, Over, Control, Runs, Touches, Away}
+use Rattle.code_words.specs.Moves.{move}
+use Rattle.code_words.specs.Runs.{Run, Unfinished, Finished, go_on, exec, started, CodeRun, events_of}
+use Rattle.code_words.proofs.Runs.{finished_stays}
+use Rattle.code_words.proofs.Keeps.{AreKept, BeforeKeeps, InKeeps, ReleaseKeeps, RunKeeps, HoldsIn, run-keeps}
+
+-- ---- the view
+
+module _ (start : List ℕ) (all : List Act) where
+  -- the fold goes on from here, and this side has the turn
+  abbrev OwnTurn : World → Type 0
+  OwnTurn w = Told start all w × (w.turn ≡ turns.Trusted)
+
+  abbrev OtherTurn : World → Type 0
+  OtherTurn w = Told start all w × (w.turn ≡ turns.Sandbox)
+
+  -- behind a call of a callback the trusted side gets the turn
+  abbrev BehindCall : World → Type 0
+  BehindCall w = Told start all (in_turn turns.Trusted w)
+
+  before_told : (r : BeforeTouch) → BeforeTold start all r → BeforeKeeps OwnTurn (Ready start all) OtherTurn BehindCall (ViewIsFold start all) r
+  before_told (BeforeTouch.Waits w) told = told
+  before_told (BeforeTouch.Touches w) told = told
+  before_told (BeforeTouch.Ends ending w) told = told
+
+  in_told : (r : InSandbox) → InTold start all r → InKeeps OwnTurn (Ready start all) OtherTurn BehindCall (ViewIsFold start all) r
+  in_told (InSandbox.Keeps w) told = told
+  in_told (InSandbox.Answers word w) told = told
+  in_told (InSandbox.Calls fun words w) told = told
+  in_told (InSandbox.Ends ending w) told = told
+
+  release_told : (release : Release) (w : World) → Ready start all w → ReleaseKeeps OwnTurn (Ready start all) OtherTurn BehindCall (ViewIsFold start all) release (released release w)
+  release_told Looked w ready = (released_told start all Looked w ready, ready_turn start all w ready)
+  release_told (Wrote at bytes) w ready = (released_told start all (Wrote at bytes) w ready, ready_turn start all w ready)
+  release_told (Passed fun args) w ready = (released_told start all (Passed fun args) w ready, refl)
+  release_told (Replied value) w ready = (released_told start all (Replied value) w ready, refl)
+
+  view_kept : AreKept OwnTurn (Ready start all) OtherTurn BehindCall (ViewIsFold start all)
+  view_kept =
+      record {
+        ticks = λ w n d. (told_in start all w (record w { ticks = n }) d.0 refl refl refl refl, d.1);
+        inputs = λ w left d. (told_in start all w (with_inputs left w) d.0 refl refl refl refl, d.1);
+        writes = λ w bytes d. (write_told start all bytes w d.0, d.1);
+        rooms = λ w room d. (told_in start all w (record w { room = room }) d.0 refl refl refl refl, d.1);
+        acts = λ w act acts e d. before_told (act_before_touch act (taken_one acts w)) (act_before_told start all act acts w d.0 d.1 e);
+        no_act = λ w none d. at_the_end _ (none_left start all turns.Trusted w d.0 none) d.1 none;
+        touches = λ w release ready. release_told release w ready;
+        sandbox_acts = λ w act acts e d. in_told (act_in_sandbox act (taken_one acts w)) (act_in_told start all act acts w d.0 d.1 e);
+        no_sandbox_act = λ w none d. shown start all _ (none_left start all turns.Sandbox w d.0 none);
+        called_ticks = λ w n d. told_in start all (in_turn turns.Trusted w) (in_turn turns.Trusted (record w { ticks = n })) d refl refl refl refl;
+        called_back = λ w d. (d, refl);
+        called_ends = λ w d. view_in_turn start all w (shown start all (in_turn turns.Trusted w) d);
+        ends = λ w d. shown start all w d.0;
+      }
+
+pub view : (image : Image) (settings : Settings) (inputs : List ℤ) (acts : List Act) (ending : Ending) (t : State) → CodeRun image settings inputs acts ending t → ViewIsFold (started image settings inputs acts).world.sandbox acts t.world
+view image settings inputs acts ending t run =
+    let s = started image settings inputs acts in
+    let start = s.world.sandbox in
+    subst (RunKeeps (OwnTurn start acts) (Ready start acts) (OtherTurn start acts) (BehindCall start acts) (ViewIsFold start acts)) run.1
+    (run-keeps (OwnTurn start acts) (Ready start acts) (OtherTurn start acts) (BehindCall start acts) (ViewIsFold start acts) (view_kept start acts) image settings run.0 s (told_at_start start s.world.room inputs acts, refl))
+
+-- ---- events
+
+-- the second list begins with the first
+abbrev IsFront : List Event → List Event → Type 0
+IsFront first second = (more : List Event) × (second ≡ first ++ more)
+
+same_front : (events : List Event) → IsFront events events
+same_front events = ([], sym (append-nil events))
+
+-- more events at the end
+longer : (first second : List Event) (more : List Event) → IsFront first second → IsFront first (second ++ more)
+longer first second more front = (front.0 ++ more, ap (λ events. events ++ more) front.1 ∙ append_assoc first front.0 more)
+
+module _ (events : List Event) where
+  -- a world whose events begin so
+  abbrev Behind : World → Type 0
+  Behind w = IsFront events w.events
+
+  act_behind : (act : Act) (acts : List Act) (w : World) → Behind w → BeforeKeeps Behind Behind Behind Behind Behind (act_before_touch act (taken_one acts w))
+  act_behind Go acts w b = b
+  act_behind (Read at len) acts w b = by (lies_in at len w.sandbox)
+    where
+      by : (inside : Bool) → BeforeKeeps Behind Behind Behind Behind Behind (waits_or_ends (shown_if inside at len (taken_one acts w)) (taken_one acts w))
+      by true = longer events w.events (Showed (SeenBytes at (bytes_at at len w.sandbox)) ∷ []) b
+      by false = b
+  act_behind (Write at bytes) acts w b = by (lies_in at (length bytes) w.sandbox)
+    where
+      by : (inside : Bool) → BeforeKeeps Behind Behind Behind Behind Behind (waits_or_ends (written_if inside at bytes (taken_one acts w)) (taken_one acts w))
+      by true = b
+      by false = b
+  act_behind (Call fun args) acts w b = b
+  act_behind (Return value) acts w b = b
+  act_behind Stop acts w b = b
+
+  sandbox_act_behind : (act : Act) (acts : List Act) (w : World) → Behind w → InKeeps Behind Behind Behind Behind Behind (act_in_sandbox act (taken_one acts w))
+  sandbox_act_behind Go acts w b = b
+  sandbox_act_behind (Read at len) acts w b = by (lies_in at len w.sandbox)
+    where
+      by : (inside : Bool) → InKeeps Behind Behind Behind Behind Behind (keeps_or_ends (shown_if inside at len (taken_one acts w)) (taken_one acts w))
+      by true = longer events w.events (Showed (SeenBytes at (bytes_at at len w.sandbox)) ∷ []) b
+      by false = b
+  sandbox_act_behind (Write at bytes) acts w b = by (lies_in at (length bytes) w.sandbox)
+    where
+      by : (inside : Bool) → InKeeps Behind Behind Behind Behind Behind (keeps_or_ends (written_if inside at bytes (taken_one acts w)) (taken_one acts w))
+      by true = b
+      by false = b
+  sandbox_act_behind (Call fun args) acts w b = b
+  sandbox_act_behind (Return value) acts w b = b
+  sandbox_act_behind Stop acts w b = b
+
+  touch_behind : (release : Release) (w : World) → Behind w → ReleaseKeeps Behind Behind Behind Behind Behind release (released release w)
+  touch_behind Looked w b = longer events w.events (Released Looked ∷ []) b
+  touch_behind (Wrote at bytes) w b = longer events w.events (Released (Wrote at bytes) ∷ []) b
+  touch_behind (Passed fun args) w b = longer events w.events (Released (Passed fun args) ∷ Showed (SeenCall fun args) ∷ []) b
+  touch_behind (Replied value) w b = longer events w.events (Released (Replied value) ∷ Showed (SeenReply value) ∷ []) b
+
+  behind_kept : AreKept Behind Behind Behind Behind Behind
+  behind_kept =
+      record {
+        ticks = λ w n b. b;
+        inputs = λ w left b. b;
+        writes = λ w bytes b. longer events w.events (Output bytes ∷ []) b;
+        rooms = λ w room b. b;
+        acts = λ w act acts e b. act_behind act acts w b;
+        no_act = λ w none b. longer events w.events (NoAct turns.Trusted ∷ []) b;
+        touches = λ w release b. touch_behind release w b;
+        sandbox_acts = λ w act acts e b. sandbox_act_behind act acts w b;
+        no_sandbox_act = λ w none b. longer events w.events (NoAct turns.Sandbox ∷ []) b;
+        called_ticks = λ w n b. b;
+        called_back = λ w b. b;
+        called_ends = λ w b. b;
+        ends = λ w b. b;
+      }
+
+  behind_state : (s : State) → Behind s.world → HoldsIn Behind Behind Behind Behind Behind s.control s.world
+  behind_state s b = elim s.control as (λ control. HoldsIn Behind Behind Behind Behind Behind control s.world) [ Runs f ↦ b | Touches f touch ↦ b | Away ↦ b ]
+
+  behind_run : (r : Run) → RunKeeps Behind Behind Behind Behind Behind r → IsFront events (events_of r)
+  behind_run (Unfinished s) b = by s.control b
+    where
+      by : (control : Control) → HoldsIn Behind Behind Behind Behind Behind control s.world → IsFront events s.world.events
+      by (Runs f) b = b
+      by (Touches f touch) b = b
+      by Away b = b
+  behind_run (Finished ending s) b = b
+
+module _ (image : Image) (settings : Settings) where
+  -- with more moves, the same happened, and perhaps more
+  later : (n m : ℕ) (s : State) → n ≤ m → IsFront (events_of (exec image settings n s)) (events_of (exec image settings m s))
+  later zero m s le =
+      let events = s.world.events in
+      behind_run events (exec image settings m s) (run-keeps (Behind events) (Behind events) (Behind events) (Behind events) (Behind events) (behind_kept events) image settings m s (behind_state events s (same_front events)))
+  later (suc n) zero s le = absurd (omega arith)
+  later (suc n) (suc m) s le = by (move image settings s) (λ t. later n m t (omega arith))
+    where
+      by : (next : Step) → ((t : State) → IsFront (events_of (exec image settings n t)) (events_of (exec image settings m t))) → IsFront (events_of (go_on next (exec image settings n))) (events_of (go_on next (exec image settings m)))
+      by (Goes t) rest = rest t
+      by (Over ending t) rest = same_front t.world.events
+
+  pub stay : (inputs : List ℤ) (acts : List Act) (n : ℕ) (ending : Ending) (t : State) → CodeRun image settings inputs acts ending t → IsFront (events_of (exec image settings n (started image settings inputs acts))) t.world.events
+  stay inputs acts n ending t run =
+      let s = started image settings inputs acts in
+      ⊎_elim
+      (λ lt. subst (λ r. IsFront (events_of (exec image settings n s)) (events_of r)) run.1 (later n run.0 s (omega arith)))
+      (λ le. subst (λ r. IsFront (events_of r) t.world.events) (sym (finished_stays image settings run.0 n s ending t le run.1)) (same_front t.world.events))
+      (cases_lt n run.0)

@@ -1,0 +1,271 @@
+// Acts of the sandbox, before touches and in its turn.
+
+ghost use Rattle.std.specs.Prelude.{◌≡◌, ◌^◌, ◌≤◌, ◌+◌, ◌<◌, List, length, map, Some, None, slice_get};
+ghost use Rattle.std.proofs.Common.{ℤ};
+ghost use Rattle.act_words.specs.Acts.{act_view, Passed, Replied, Looked, Wrote};
+ghost use Rattle.act_words.specs.Acting.{act_before_touch, act_in_sandbox, shown, written, lies_in, stopped_by_act};
+ghost use Rattle.act_words.specs.World.{in_turn};
+ghost use Rattle.act_words.specs.declared.act.Turn.TheVariants as turns;
+ghost use Rattle.code_words.specs.Table.{Touch, Loads, Stores, Passes, Replies, Over};
+ghost use Rattle.code_words.specs.Moves.{make_touch, before_touch_by, in_sandbox_by, answer, call_back, in_world};
+ghost use Rattle.two_memory_machine.specs.Machines.{Touching};
+ghost use Rattle.two_memory_machine.specs.Steps.{MovesBy, IsSuspended, moved_if, bytes_if, EndsBy};
+
+use crate::calls::{Link, MAX_DEPTH};
+use crate::event::Event;
+use crate::machine::{Machine, Pending, Phase};
+use act_words::act::{Act, Release, Seen};
+use act_words::ending::Ending;
+use act_words::octets::Octets;
+use act_words::words::Words;
+use ckc_text::code::Code;
+use ckc_text::place::Place;
+use code_words::image::WordKind;
+use flat_bytes::words;
+
+/// The end of a run that no line of the table goes on with.
+pub const WILD: Ending = Ending::Stop {
+    code: Code::S6,
+    act: None,
+};
+
+/// The end of a run whose sandbox has ended.
+pub const SANDBOX_ENDED: Ending = Ending::Stop {
+    code: Code::S3,
+    act: None,
+};
+
+impl<'a> Machine<'a> {
+    // Does what an act says before a touch.
+    pub(crate) fn act_before_touch(&mut self, act: &Act) -> Event
+        requires going { self.old.over ≡ None }
+        requires touches { (touch : Touch) × (self.old.doing ≡ Touching touch) }
+        ensures { (touch : Touch) → self.old.doing ≡ Touching touch
+            → MovesBy (λ s. before_touch_by self.old.image self.old.frame touch (act_before_touch (act_view act.now) s.world) s) self.old result self.new }
+    {
+        match act {
+            Act::Go => self.make_touch(),
+            Act::Read { at, len } => self.show(*at, len.number),
+            Act::Write { at, bytes } => self.write(*at, bytes.octets.as_slice()),
+            Act::Call { fun: _, args: _ } | Act::Return { value: _ } => self.stop_by_act(Code::S5),
+            Act::Stop => self.end_move(SANDBOX_ENDED),
+        }
+    }
+
+    // Does what an act says while the sandbox has the turn.
+    pub(crate) fn act_in_sandbox(&mut self, act: &Act) -> Event
+        requires going { self.old.over ≡ None }
+        requires suspended { IsSuspended self.old.doing }
+        ensures { MovesBy (λ s. in_sandbox_by self.old.image self.old.settings (act_in_sandbox (act_view act.now) s.world) s) self.old result self.new }
+    {
+        match act {
+            Act::Go => Event::Ran,
+            Act::Read { at, len } => self.show(*at, len.number),
+            Act::Write { at, bytes } => self.write(*at, bytes.octets.as_slice()),
+            Act::Call { fun, args } => self.call_back(*fun, args.as_slice()),
+            Act::Return { value } => self.answer(*value),
+            Act::Stop => self.end_move(SANDBOX_ENDED),
+        }
+    }
+
+    // Makes the touch that waits.
+    pub(crate) fn make_touch(&mut self) -> Event
+        requires going { self.old.over ≡ None }
+        requires touches { (touch : Touch) × (self.old.doing ≡ Touching touch) }
+        ensures { (touch : Touch) → self.old.doing ≡ Touching touch
+            → MovesBy (make_touch self.old.image self.old.frame touch) self.old result self.new }
+    {
+        let Phase::Touching { touch } = self.phase else {
+            return Event::Ran;
+        };
+        match touch {
+            Pending::Loads { at, len } => self.make_load(at, len),
+            Pending::Stores { at, bytes } => self.make_store(at, bytes),
+            Pending::Passes {
+                import,
+                words,
+                place,
+            } => self.make_call(import, words, place),
+            Pending::Replies { value } => self.make_reply(value),
+        }
+    }
+
+    // Loads bytes of the sandbox's memory, and pushes what they stand for.
+    fn make_load(&mut self, at: u32, len: u32) -> Event
+        requires going { self.old.over ≡ None }
+        requires touches { self.old.doing ≡ Touching (Loads at len) }
+        ensures { MovesBy (make_touch self.old.image self.old.frame (Loads at len)) self.old result self.new }
+    {
+        let word = if len == 1 {
+            words::get1(self.sandbox.as_slice(), at)
+        } else {
+            words::get4(self.sandbox.as_slice(), at)
+        };
+        self.phase = Phase::Running;
+        self.calls.push(0, word);
+        self.calls.advance();
+        Event::Touched {
+            release: Release::Looked,
+            seen: None,
+        }
+    }
+
+    // Stores bytes in the sandbox's memory.
+    fn make_store(&mut self, at: u32, bytes: Octets) -> Event
+        requires going { self.old.over ≡ None }
+        requires touches { self.old.doing ≡ Touching (Stores at bytes) }
+        ensures { MovesBy (make_touch self.old.image self.old.frame (Stores at bytes)) self.old result self.new }
+    {
+        let start = at as usize;
+        let slice = bytes.as_slice();
+        self.sandbox[start..start + slice.len()].copy_from_slice(slice);
+        self.phase = Phase::Running;
+        self.calls.advance();
+        Event::Touched {
+            release: Release::Wrote { at, bytes },
+            seen: None,
+        }
+    }
+
+    // Gives the sandbox the turn, in a call of a tainted function.
+    fn make_call(&mut self, import: u32, words: Words, place: Place) -> Event
+        requires going { self.old.over ≡ None }
+        requires touches { self.old.doing ≡ Touching (Passes import words place) }
+        ensures { MovesBy (make_touch self.old.image self.old.frame (Passes import words place)) self.old result self.new }
+    {
+        self.calls.advance();
+        self.phase = Phase::Suspended { import, place };
+        Event::Touched {
+            release: Release::Passed {
+                fun: import,
+                args: words,
+            },
+            seen: Some(Seen::Called {
+                fun: import,
+                args: words,
+            }),
+        }
+    }
+
+    // Gives the sandbox the turn, with the reply of a callback.
+    fn make_reply(&mut self, value: u32) -> Event
+        requires going { self.old.over ≡ None }
+        requires touches { self.old.doing ≡ Touching (Replies value) }
+        ensures { MovesBy (make_touch self.old.image self.old.frame (Replies value)) self.old result self.new }
+    {
+        if let Some(
+            Link::CallsBack {
+                callback: _,
+                import,
+                place,
+            },
+        ) = self.calls.link()
+        {
+            self.calls.leave();
+            self.depth -= 2;
+            self.phase = Phase::Suspended { import, place };
+        }
+        Event::Touched {
+            release: Release::Replied { value },
+            seen: Some(Seen::Replied { value }),
+        }
+    }
+
+    // Shows the sandbox bytes of its memory.
+    fn show(&mut self, at: u32, len: u32) -> Event
+        requires going { self.old.over ≡ None }
+        requires few { len ≤ 64 }
+        ensures { MovesBy (λ s. moved_if (shown at len s.world) s) self.old result self.new }
+    {
+        match self.octets(at, len) {
+            Some(bytes) => Event::Showed {
+                seen: Seen::Bytes { at, bytes },
+            },
+            None => self.stop_by_act(Code::S4),
+        }
+    }
+
+    // The bytes of the sandbox's memory from a place on, if they lie in it.
+    fn octets(&self, at: u32, len: u32) -> Option<Octets>
+        requires { len ≤ 64 }
+        ensures { result ≡ bytes_if (lies_in at len self.now.sandbox) at len self.now.sandbox }
+    {
+        if !self.holds(at, len as usize) {
+            return None;
+        }
+        let at = at as usize;
+        Octets::from_slice(&self.sandbox[at..at + len as usize])
+    }
+
+    // Stores bytes in the sandbox's memory.
+    fn write(&mut self, at: u32, bytes: &[u8]) -> Event
+        requires going { self.old.over ≡ None }
+        requires few { length bytes.now ≤ 64 }
+        ensures { MovesBy (λ s. moved_if (written at bytes.now s.world) s) self.old result self.new }
+    {
+        if !self.holds(at, bytes.len()) {
+            return self.stop_by_act(Code::S4);
+        }
+        let at = at as usize;
+        self.sandbox[at..at + bytes.len()].copy_from_slice(bytes);
+        Event::Ran
+    }
+
+    // Whether bytes from a place on lie in the sandbox's memory.
+    fn holds(&self, at: u32, len: usize) -> bool
+        requires { len ≤ 64 }
+        ensures { result ≡ lies_in at len self.now.sandbox }
+    {
+        at as usize + len <= self.sandbox.len()
+    }
+
+    // Ends the run by the act that was taken last.
+    pub(crate) fn stop_by_act(&mut self, code: Code) -> Event
+        ensures ends { EndsBy self.old (Ending.Stop code (Some self.old.taken)) result self.new }
+        ensures line { MovesBy (λ s. Over (stopped_by_act code s.world) s) self.old result self.new }
+    {
+        let act = Some(self.taken);
+        self.end_move(Ending::Stop { code, act })
+    }
+
+    // Ends the run by an act, or where none is left.
+    pub(crate) fn end_move(&mut self, ending: Ending) -> Event
+        ensures ends { EndsBy self.old ending result self.new }
+        ensures line { MovesBy (Over ending) self.old result self.new }
+    {
+        self.over = Some(ending);
+        Event::Ended { ending }
+    }
+
+    // Takes the reply of a tainted function, and goes on with it (C9).
+    #[tactic(auto, using(std::proofs::lemmas::Bool::Decides::nat_tests))]
+    fn answer(&mut self, value: u32) -> Event
+        requires going { self.old.over ≡ None }
+        requires suspended { IsSuspended self.old.doing }
+        ensures { MovesBy (λ s. answer self.old.image s.callers value (in_world (in_turn turns.Trusted s.world) s)) self.old result self.new }
+    {
+        let Phase::Suspended { import, place } = self.phase else {
+            return Event::Ran;
+        };
+        self.phase = Phase::Running;
+        let Some(tainted) = self.image.layout.imports.as_slice().get(import as usize) else {
+            return self.end_move(WILD);
+        };
+        match tainted.result {
+            WordKind::Void => return Event::Ran,
+            WordKind::Char => {
+                if value >= 256 {
+                    return self.end_move(Ending::Check {
+                        code: Code::C9,
+                        place,
+                    });
+                }
+            }
+            WordKind::Int | WordKind::Pointer => {}
+        }
+        if !self.calls.push(0, value) {
+            return self.end_move(WILD);
+        }
+        Event::Ran
+    }
+}

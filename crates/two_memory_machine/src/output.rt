@@ -1,0 +1,208 @@
+// Input, output, and blocks that are made while a program runs.
+
+ghost use Rattle.std.specs.Prelude.{◌≡◌, ◌+◌, ◌*◌, ◌%◌, ◌^◌, ◌<◌, ◌≤◌, ◌∷◌, [], length, Some};
+ghost use Rattle.act_words.specs.Numbers.{number_line};
+ghost use Rattle.flat_bytes.specs.Blocks.{is_refused, counter_after};
+ghost use Rattle.trusted_memory.specs.Memories.{made, address_made};
+ghost use Rattle.act_words.specs.Touches.{offset_unless};
+ghost use Rattle.code_words.specs.Table.{pop, allocate, blocks_made};
+ghost use Rattle.code_words.specs.declared.image.Func.{Func as FuncData};
+ghost use Rattle.two_memory_machine.specs.Machines.{next_op_of};
+ghost use Rattle.two_memory_machine.specs.Steps.{Acts, Performs, IsReady, IsIn, GoesBy};
+
+use crate::event::Event;
+use crate::machine::{Machine, Phase};
+use crate::memory::BlockRow;
+use crate::texts;
+use crate::texts::TextEnd;
+use act_words::ending::Ending;
+use act_words::octets::Octets;
+use ckc_text::code::Code;
+use code_words::op::Op;
+use itoa::Buffer;
+
+/// The line of a number: its digits, and a line feed.
+fn line_of(number: i32) -> Octets
+    ensures { result ≡ number_line number }
+{
+    let mut buffer = Buffer::new();
+    let text = buffer.format(number).as_bytes();
+    let len = text.len();
+    let mut line = [b'\n'; 64];
+    line[..len].copy_from_slice(text);
+    Octets::from_slice(&line[..len + 1]).unwrap()
+}
+
+/// One byte.
+fn byte_of(word: u32) -> Octets
+    ensures { result ≡ (word % 256) ∷ [] }
+{
+    Octets::from_slice(&[(word % 256) as u8]).unwrap()
+}
+
+impl<'a> Machine<'a> {
+    // Pops a number, and writes its line.
+    pub(crate) fn print(&mut self) -> Event
+        requires { IsReady self.old }
+        ensures { Acts Op.Print self.old result self.new }
+    {
+        let Some(word) = self.word() else {
+            return self.end_wild();
+        };
+        let bytes = line_of(word.cast_signed());
+        self.calls.pop(1);
+        self.calls.advance();
+        Event::Out { bytes }
+    }
+
+    // Pops a word, and writes its lowest byte.
+    pub(crate) fn put_byte(&mut self) -> Event
+        requires { IsReady self.old }
+        ensures { Acts Op.PutByte self.old result self.new }
+    {
+        let Some(word) = self.word() else {
+            return self.end_wild();
+        };
+        let bytes = byte_of(word);
+        self.calls.pop(1);
+        self.calls.advance();
+        Event::Out { bytes }
+    }
+
+    // Waits for the next input number.
+    pub(crate) fn next_input(&mut self) -> Event
+        requires ready { IsReady self.old }
+        requires there { next_op_of self.old ≡ Some Op.NextInput }
+        ensures { Performs Op.NextInput self.old result self.new }
+    {
+        self.phase = Phase::NeedsNumber;
+        Event::Input
+    }
+
+    // Pops a count, and pushes the address of a block of so many elements, or 0 where there are none.
+    pub(crate) fn alloc(&mut self, size: u32) -> Event
+        requires { IsReady self.old }
+        ensures { Acts (Op.Alloc size) self.old result self.new }
+    {
+        self.allocate(size, 0)
+    }
+
+    // The same with one element more.
+    pub(crate) fn alloc_terminated(&mut self, size: u32) -> Event
+        requires { IsReady self.old }
+        ensures { Acts (Op.AllocTerminated size) self.old result self.new }
+    {
+        self.allocate(size, 1)
+    }
+
+    // Pops a count, and pushes the address of a block of so many elements and some more, or 0 where there are none.
+    fn allocate(&mut self, size: u32, more: u32) -> Event
+        requires ready { IsReady self.old }
+        requires few { more ≤ 1 }
+        ensures { (f : FuncData) → IsIn self.old f
+            → GoesBy (λ s. pop self.old.frame.stack (λ n stack. allocate f size more n stack self.old.frame s) s) self.old result self.new }
+    {
+        let Some(count) = self.word() else {
+            return self.end_wild();
+        };
+        if count.cast_signed() <= 0 {
+            return self.push(1, 0);
+        }
+        let address = self.make_block(byte_count(count, more, size));
+        if !self.calls.push(1, address) {
+            return self.end_wild();
+        }
+        self.calls.advance();
+        Event::Ran
+    }
+
+    // Makes a block of trusted memory, and gives its address, or 0 where it is refused.
+    #[tactic(auto, using(crate::proofs::Refusals::refused_large))]
+    fn make_block(&mut self, bytes: u64) -> u32
+        ensures address { result ≡ address_made self.old.memory bytes }
+        ensures after { self.new
+            ≡ record self.old { memory = made self.old.memory bytes; blocks = blocks_made self.old.memory self.old.blocks bytes } }
+    {
+        if bytes > u64::from(self.memory.size()) {
+            return 0;
+        }
+        let bytes = bytes as u32;
+        let offset = self.memory.counter();
+        let address = self.memory.make(bytes);
+        if address != 0 {
+            self.blocks[self.made] = BlockRow { offset, bytes };
+            self.made += 1;
+        }
+        address
+    }
+
+    // Pops a count, and pushes the offset of a block of the sandbox's memory of so many elements, or 0 where there are none.
+    pub(crate) fn sandbox_alloc(&mut self, size: u32) -> Event
+        requires { IsReady self.old }
+        ensures { Acts (Op.SandboxAlloc size) self.old result self.new }
+    {
+        let Some(count) = self.word() else {
+            return self.end_wild();
+        };
+        if count.cast_signed() <= 0 {
+            return self.push(1, 0);
+        }
+        let offset = self.make_sandbox_block(byte_count(count, 0, size));
+        if !self.calls.push(1, offset) {
+            return self.end_wild();
+        }
+        self.calls.advance();
+        Event::Ran
+    }
+
+    // Pops an address, and pushes how many bytes stand before the first 0 from there; each spends a tick (S1).
+    pub(crate) fn text_length(&mut self) -> Event
+        requires { IsReady self.old }
+        ensures { Acts Op.TextLength self.old result self.new }
+    {
+        let Some(start) = self.word() else {
+            return self.end_wild();
+        };
+        let walk = texts::walk_text(&self.memory, start, self.ticks, self.settings.budget);
+        self.ticks += walk.count;
+        if let TextEnd::NoTick = walk.end {
+            return self.end(Ending::Stop {
+                code: Code::S1,
+                act: None,
+            });
+        }
+        self.ticks += 1;
+        if let TextEnd::Outside = walk.end {
+            return self.end_wild();
+        }
+        if !self.calls.push(1, walk.count) {
+            return self.end_wild();
+        }
+        self.calls.advance();
+        Event::Ran
+    }
+
+    // Makes a block of the sandbox's memory, and gives its offset, or 0 where it is refused.
+    fn make_sandbox_block(&mut self, bytes: u64) -> u32
+        requires { bytes < 2 ^ 63 }
+        ensures offset { result ≡ offset_unless (is_refused (length self.old.sandbox) self.old.room bytes) self.old.room }
+        ensures after { self.new ≡ record self.old { room = counter_after (length self.old.sandbox) self.old.room bytes } }
+    {
+        let grown = u64::from(self.room) + bytes.div_ceil(16) * 16 + 16;
+        if bytes == 0 || grown > self.sandbox.len() as u64 {
+            return 0;
+        }
+        let offset = self.room;
+        self.room = grown as u32;
+        offset
+    }
+}
+
+/// How many bytes so many elements and some more have.
+fn byte_count(count: u32, more: u32, size: u32) -> u64
+    requires few { count + more ≤ 2 ^ 31 }
+    ensures bytes { result ≡ (count + more) * size }
+    ensures small { result < 2 ^ 63 }
+{
+    (u64::from(count) + u64::from(more)) * u64::from(size)
+}

@@ -1,0 +1,107 @@
+// Touches of the sandbox's memory: where they are asked for, and where they are made.
+
+ghost use Rattle.std.specs.Prelude.{◌≡◌, ◌%◌, ◌≤◌, ◌⊎◌, drop, length};
+ghost use Rattle.std.specs.Int.{to_le_bytes, w8, w32};
+ghost use Rattle.code_words.specs.Table.{pop, touch_if, is_touchable, Loads, Stores};
+ghost use Rattle.two_memory_machine.specs.Steps.{Acts, IsReady, GoesBy};
+
+use crate::event::Event;
+use crate::machine::{Machine, Pending, Phase};
+use act_words::octets::Octets;
+use code_words::op::Op;
+
+/// The lowest byte of a word.
+fn low_byte(word: u32) -> Octets
+    ensures { result ≡ to_le_bytes w8 (word % 256) }
+{
+    let byte = (word % 256) as u8;
+    Octets::from_slice(&byte.to_le_bytes()).unwrap()
+}
+
+/// The bytes of a word, the lowest first.
+fn word_bytes(word: u32) -> Octets
+    ensures { result ≡ to_le_bytes w32 word }
+{
+    Octets::from_slice(&word.to_le_bytes()).unwrap()
+}
+
+impl<'a> Machine<'a> {
+    // A load of a byte waits.
+    pub(crate) fn touch_load_1(&mut self) -> Event
+        requires { IsReady self.old }
+        ensures { Acts Op.TouchLoad1 self.old result self.new }
+    {
+        self.touch_load(1)
+    }
+
+    // A load of a word waits.
+    pub(crate) fn touch_load_4(&mut self) -> Event
+        requires { IsReady self.old }
+        ensures { Acts Op.TouchLoad4 self.old result self.new }
+    {
+        self.touch_load(4)
+    }
+
+    // A store of a byte waits.
+    pub(crate) fn touch_store_1(&mut self) -> Event
+        requires { IsReady self.old }
+        ensures { Acts Op.TouchStore1 self.old result self.new }
+    {
+        let Some((at, word)) = self.two_words() else {
+            return self.end_wild();
+        };
+        self.touch_store(at, low_byte(word))
+    }
+
+    // A store of a word waits.
+    pub(crate) fn touch_store_4(&mut self) -> Event
+        requires { IsReady self.old }
+        ensures { Acts Op.TouchStore4 self.old result self.new }
+    {
+        let Some((at, word)) = self.two_words() else {
+            return self.end_wild();
+        };
+        self.touch_store(at, word_bytes(word))
+    }
+
+    // Pops an offset, and a load of so many bytes from it on waits for its acts.
+    #[tactic(auto, using(std::proofs::lemmas::Bool::Decides::nat_tests))]
+    fn touch_load(&mut self, len: u32) -> Event
+        requires ready { IsReady self.old }
+        requires width { (len ≡ 1) ⊎ (len ≡ 4) }
+        ensures { GoesBy
+            (λ s. pop self.old.frame.stack (λ at stack. touch_if (is_touchable at len s) (Loads at len) stack self.old.frame s) s)
+            self.old result self.new }
+    {
+        let Some(at) = self.calls.word() else {
+            return self.end_wild();
+        };
+        if at as usize + len as usize > self.sandbox.len() {
+            return self.end_wild();
+        }
+        self.calls.pop(1);
+        self.phase = Phase::Touching {
+            touch: Pending::Loads { at, len },
+        };
+        Event::Asks
+    }
+
+    // Pops two words, and a store of bytes waits for its acts.
+    #[tactic(auto, using(std::proofs::lemmas::Bool::Decides::nat_tests))]
+    fn touch_store(&mut self, at: u32, bytes: Octets) -> Event
+        requires ready { IsReady self.old }
+        requires there { 2 ≤ length self.old.frame.stack }
+        ensures { GoesBy
+            (λ s. touch_if (is_touchable at (length bytes) s) (Stores at bytes) (drop 2 self.old.frame.stack) self.old.frame s)
+            self.old result self.new }
+    {
+        if at as usize + bytes.as_slice().len() > self.sandbox.len() {
+            return self.end_wild();
+        }
+        self.calls.pop(2);
+        self.phase = Phase::Touching {
+            touch: Pending::Stores { at, bytes },
+        };
+        Event::Asks
+    }
+}
