@@ -1,5 +1,8 @@
 -- What slices of the code's types stand for.
-use Rattle.std.proofs.Common.{◌≡◌, ℕ, suc, ◌+◌, ◌<◌, List, [], ◌∷◌, length, get_or, drop, Vec, Global, refl, ap, sym, ◌∙◌, arith}
+use Rattle.std.proofs.Common.{◌≡◌, ℕ, zero, suc, ◌+◌, ◌<◌, List, [], ◌∷◌, length, get_or, drop, map, Vec, Global, refl, ap, sym, subst, ◌∙◌, arith}
+use Rattle.std.specs.Prelude.{All}
+use Rattle.std.specs.List.{AllByRecursion}
+use Rattle.std.proofs.lemmas.List.Elements.{recursion_from_All}
 use Rattle.std.proofs.Math.Seq.{drop-cons}
 use mathlib.Core.Former.{Count}
 use Rattle.ckc_core.specs.declared.program.Expr.{Expr, Row_of-Expr, end_of-Expr, more_of-Expr, items-the_row-Expr, items_hidden-the_row-Expr-0}
@@ -7,7 +10,8 @@ use Rattle.ckc_core.specs.declared.program.Expr.TheVariants as exprs
 use Rattle.ckc_core.specs.declared.program.Stmt.{Stmt, Row_of-Stmt, end_of-Stmt, more_of-Stmt, items-the_row-Stmt, items_hidden-the_row-Stmt-0}
 use Rattle.ckc_core.specs.declared.program.Stmt.TheVariants as stmts
 use Rattle.ckc_core.specs.declared.program.Site.{Site}
-use Rattle.ckc_core.specs.Core.{Arguments, More, Call, TaintedCall, Statements, Then, Block, expression, arguments, arguments_of, statement, statements, statements_of}
+use Rattle.ckc_core.specs.declared.program as code
+use Rattle.ckc_core.specs.Core.{Function, function, Arguments, More, Call, TaintedCall, Statements, Then, Block, expression, arguments, arguments_of, statement, statements, statements_of}
 
 -- the arguments of a call, as a row
 abbrev row_of : Expr → (n : Count) × Row_of-Expr n
@@ -56,3 +60,12 @@ pub statements_drop : (stmts : List Stmt) (i : ℕ) (x : Stmt) → i < length st
 statements_drop stmts i x low is =
     let next : suc i ≡ i + 1 = omega arith in
     ap statements_of (drop-cons stmts i x low ∙ ap (λ y. y ∷ drop (suc i) stmts) (sym is) ∙ ap (λ j. x ∷ drop j stmts) next)
+
+-- what is so of each function is so of one
+pub function_at : (P : Function → Type 0) (functions : List code.Function.Function) (i : ℕ) (x : code.Function.Function) → i < length functions → x ≡ get_or functions i x → All P (map function functions) → P (function x)
+function_at P functions i x low is all = at functions i low is (recursion_from_All P (map function functions) all)
+  where
+    at : (functions : List code.Function.Function) (i : ℕ) → i < length functions → x ≡ get_or functions i x → AllByRecursion P (map function functions) → P (function x)
+    at [] i low is each = absurd (omega arith)
+    at (f ∷ functions) zero low is each = subst (λ y. P (function y)) (sym is) each.0
+    at (f ∷ functions) (suc i) low is each = at functions i (omega arith) is each.1
