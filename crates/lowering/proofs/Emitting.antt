@@ -1,5 +1,5 @@
 -- How the code of a part is put together from what is emitted for its parts, one behind another.
-use Rattle.std.proofs.Common.{◌≡◌, ℕ, ◌+◌, ◌<◌, Bool, true, false, List, [], ◌∷◌, ◌++◌, length, get_or, drop, pos, refl, sym, ap, ◌∙◌, append_assoc, length-append, arith}
+use Rattle.std.proofs.Common.{◌≡◌, ℕ, ◌+◌, ◌<◌, Bool, List, [], ◌∷◌, ◌++◌, length, get_or, drop, pos, refl, sym, ap, ◌∙◌, append_assoc, length-append, arith}
 use Rattle.pointer_modes.specs.Types.{CType}
 use Rattle.ckc_core.specs.declared.program.Expr.{Expr}
 use Rattle.ckc_core.specs.declared.program.Stmt.{Stmt}
@@ -8,7 +8,7 @@ use Rattle.ckc_core.specs.Meaning.{is_char}
 use Rattle.ckc_core.specs.Core.{expression, arguments_of, statement, statements_of}
 use Rattle.code_words.specs.declared.op.Op.{Op}
 use Rattle.code_words.specs.declared.op.Op.TheVariants as ops
-use Rattle.lowering.specs.Code.{Places, load_code, store_code, byte_code, expression_size, arguments_size, place_size, before_value_size, statement_size, statements_size, expression_code, arguments_code, place_code, before_value, behind_value, statement_code, statements_code}
+use Rattle.lowering.specs.Code.{Places, load_code, store_code, byte_code, expression_size, place_size, before_value_size, statement_size, expression_code, arguments_code, place_code, before_value, behind_value, statement_code, statements_code}
 use Rattle.lowering.specs.Views.{loop_places}
 use Rattle.lowering.proofs.Sizes.{length_expression, length_place, length_before, length_statement}
 use Rattle.lowering.proofs.Slices.{arguments_drop, statements_drop}
@@ -135,9 +135,9 @@ loop_emitted p q condition body step turn body_is step_is condition_is old one t
     let at_three : length three ≡ test = omega (arith, place_after two three (statement_code p next step) (statement_size step) (length_statement p next step) stepped) in
     let last = ops.JumpIfZero out ∷ ops.Jump (length old + 1) ∷ [] in
     let tested : new ≡ three ++ (expression_code test condition ++ last) =
-        fourth ∙ ap (λ k. three ++ (expression_code k condition ++ ops.JumpIfZero q.on_break ∷ ops.Jump turn ∷ [])) at_three
-        ∙ ap (λ r. three ++ (expression_code test condition ++ ops.JumpIfZero r.on_break ∷ ops.Jump turn ∷ [])) same
-        ∙ ap (λ k. three ++ (expression_code test condition ++ ops.JumpIfZero out ∷ ops.Jump k ∷ [])) turns in
+    fourth ∙ ap (λ k. three ++ (expression_code k condition ++ ops.JumpIfZero q.on_break ∷ ops.Jump turn ∷ [])) at_three
+    ∙ ap (λ r. three ++ (expression_code test condition ++ ops.JumpIfZero r.on_break ∷ ops.Jump turn ∷ [])) same
+    ∙ ap (λ k. three ++ (expression_code test condition ++ ops.JumpIfZero out ∷ ops.Jump k ∷ [])) turns in
     let tests_code = expression_code test condition ++ last in
     let steps_code = statement_code p next step ++ tests_code in
     emitted_then old one new head (statement_code inner inside body ++ steps_code) begun

@@ -1,6 +1,6 @@
 -- The code of programs keeps the pace: each jump goes forward or to a tick, and to no call, and each call follows a tick.
-use Rattle.std.proofs.Common.{◌≡◌, ℕ, zero, suc, ◌+◌, ◌<◌, ◌≤◌, Bool, true, false, List, [], ◌∷◌, ◌++◌, length, Option, Some, None, pos, refl, ap, sym, subst, arith}
-use Rattle.std.specs.Prelude.{slice_get, nat_lt, not, ◌||◌, ◌&&◌}
+use Rattle.std.proofs.Common.{◌≡◌, ℕ, zero, suc, ◌+◌, ◌<◌, ◌≤◌, Bool, true, false, List, [], ◌∷◌, ◌++◌, length, Option, Some, None, pos, refl, sym, subst, arith}
+use Rattle.std.specs.Prelude.{slice_get, nat_lt, not, ◌||◌}
 use Rattle.std.specs.List.{list_all}
 use Rattle.std.proofs.lemmas.Bool.Decides.{nat_tests}
 use Rattle.pointer_modes.specs.Types.{CType}
@@ -13,11 +13,11 @@ use Rattle.ckc_core.specs.Core as core
 use Rattle.ckc_core.specs.Meaning.{is_char}
 use Rattle.code_words.specs.declared.op.Op.{Op}
 use Rattle.code_words.specs.declared.op.Op.TheVariants as ops
-use Rattle.code_words.specs.Paced.{is_tick, is_call, target_of, keeps_pace, all_keep_pace, is_paced_function}
+use Rattle.code_words.specs.Paced.{is_call, target_of, keeps_pace, all_keep_pace, is_paced_function}
 use Rattle.lowering.specs.Code.{Places, operator_code, comparison_code, load_code, load_if, store_code, store_if, offset_code, offset_size, address_code, through_code, byte_code, byte_size, expression_size, arguments_size, place_size, before_value_size, statement_size, statements_size, expression_code, arguments_code, place_code, before_value, behind_value, statement_code, statements_code, ending_code, body_places, function_ops}
 use Rattle.lowering.specs.Images.{function_code, functions_from}
 use Rattle.lowering.proofs.Steps.{HasAt, has_front, has_back, has_all}
-use Rattle.lowering.proofs.Sizes.{length_offset, length_byte, length_expression, length_arguments, length_place, length_before, length_statement, length_statements}
+use Rattle.lowering.proofs.Sizes.{length_offset, length_byte, length_expression, length_arguments, length_place, length_statement, length_statements}
 
 -- ---- single instructions
 
@@ -273,11 +273,12 @@ module _ (all : List Op) where
         let null = target_same (n + 1 + 1 + 1) (n + 3) (omega arith) (target_there (n + 1 + 1 + 1) (ops.Const (pos 0)) refl behind.1.1.1.0) in
         let out = target_same (at + (expression_size left + (expression_size right + 5))) (n + 4) (omega arith) end in
         joined at (expression_size left) (expression_code at left) (branch ∷ (inner ++ last)) (length_expression at left)
-        (paced_expression at left (has_front all at (expression_code at left) (branch ∷ (inner ++ last)) has) (target_there m branch refl back.0))
-        (forward_if_zero m (n + 3) (omega arith) null,
-        joined (m + 1) (expression_size right) inner last (length_expression (m + 1) right)
-        (paced_expression (m + 1) right (has_front all (m + 1) inner last back.1) (target_there n ops.Zero refl behind.0))
-        (refl, (refl, (forward (n + 1 + 1) (n + 4) (omega arith) out, (refl, tt)))))
+        (paced_expression at left (has_front all at (expression_code at left) (branch ∷ (inner ++ last)) has) (target_there m branch refl back.0)) (
+          forward_if_zero m (n + 3) (omega arith) null,
+          joined (m + 1) (expression_size right) inner last (length_expression (m + 1) right)
+              (paced_expression (m + 1) right (has_front all (m + 1) inner last back.1) (target_there n ops.Zero refl behind.0))
+              (refl, (refl, (forward (n + 1 + 1) (n + 4) (omega arith) out, (refl, tt)))),
+        )
     paced_expression at (core.OrElse left right) has end =
         let m = at + expression_size left in
         let n = m + 3 + expression_size right in
@@ -291,13 +292,18 @@ module _ (all : List Op) where
         let front = has_front all (m + 3) inner last at_right in
         let out = target_same (at + (expression_size left + (expression_size right + 5))) (n + 2) (omega arith) end in
         let right_keeps = joined (m + 3) (expression_size right) inner last (length_expression (m + 3) right)
-            (paced_expression (m + 3) right front (target_there n ops.Zero refl behind.0)) (refl, (refl, tt)) in
+        (paced_expression (m + 3) right front (target_there n ops.Zero refl behind.0)) (refl, (refl, tt)) in
         joined at (expression_size left) (expression_code at left) rest (length_expression at left)
-        (paced_expression at left (has_front all at (expression_code at left) rest has) (target_there m (ops.JumpIfZero (m + 3)) refl back.0))
-        (forward_if_zero m (m + 3) (omega arith) (starts_expression (m + 3) right front),
-        (refl,
-        (forward (m + 1 + 1) (n + 2) (omega arith) out,
-        subst (λ k. AllKeep k (inner ++ last)) (sym three) right_keeps)))
+        (paced_expression at left (has_front all at (expression_code at left) rest has) (target_there m (ops.JumpIfZero (m + 3)) refl back.0)) (
+          forward_if_zero m (m + 3) (omega arith) (starts_expression (m + 3) right front),
+          (
+            refl,
+            (
+              forward (m + 1 + 1) (n + 2) (omega arith) out,
+              subst (λ k. AllKeep k (inner ++ last)) (sym three) right_keeps,
+            ),
+          ),
+        )
     paced_expression at (core.LowByte operand) has end = expression_with at operand ops.Byte (record { no_jump = refl; no_call = refl }) has (paced_expression at operand)
     paced_expression at (core.Call function arguments) has end =
         called at (arguments_size arguments) (arguments_code at arguments) (ops.Call function) (length_arguments at arguments) refl has (paced_arguments at arguments (has_front all at (arguments_code at arguments) (ops.Tick ∷ ops.Call function ∷ []) has))
@@ -356,9 +362,10 @@ module _ (all : List Op) where
 
   -- an operator, and where its result goes
   paced_result : (at : ℕ) (operator : Operator) (site : Site) (char : Bool) (keep : Op) → IsCalm keep → AllKeep at (operator_code operator site ∷ (byte_code char ++ keep ∷ []))
-  paced_result at operator site char keep calm =
-      (calm_keeps at (operator_code operator site) (calm_operator operator site),
-      joined (at + 1) (byte_size char) (byte_code char) (keep ∷ []) (length_byte char) (byte_keeps (at + 1) char) (calm_keeps (at + 1 + byte_size char) keep calm, tt))
+  paced_result at operator site char keep calm = (
+    calm_keeps at (operator_code operator site) (calm_operator operator site),
+    joined (at + 1) (byte_size char) (byte_code char) (keep ∷ []) (length_byte char) (byte_keeps (at + 1) char) (calm_keeps (at + 1 + byte_size char) keep calm, tt),
+  )
 
   paced_operand : (at : ℕ) (value : core.Expression) (operator : Operator) (site : Site) (char : Bool) (keep : Op) → IsCalm keep → HasAt all at (expression_code at value ++ operator_code operator site ∷ (byte_code char ++ keep ∷ [])) → AllKeep at (expression_code at value ++ operator_code operator site ∷ (byte_code char ++ keep ∷ []))
   paced_operand at value operator site char keep calm has =
@@ -408,11 +415,12 @@ module _ (all : List Op) where
         let out = target_same (at + statement_size (core.If condition consequent alternative)) after (omega arith) end in
         let lead_out = lead_from p (at + statement_size (core.If condition consequent alternative)) after (omega arith) leads in
         joined at (expression_size condition) (expression_code at condition) rest (length_expression at condition)
-        (paced_expression at condition (has_front all at (expression_code at condition) rest has) (target_there m (ops.JumpIfZero other) refl back.0))
-        (forward_if_zero m other (omega arith) (starts_statement p other alternative behind.1 out),
-        joined inside (statement_size consequent) (statement_code p inside consequent) leap (length_statement p inside consequent)
-        (paced_statement p inside consequent (has_front all inside (statement_code p inside consequent) leap back.1) (target_there turn (ops.Jump after) refl behind.0) (lead_from p after turn (omega arith) lead_out))
-        (forward turn after (omega arith) out, paced_statement p other alternative behind.1 out lead_out))
+        (paced_expression at condition (has_front all at (expression_code at condition) rest has) (target_there m (ops.JumpIfZero other) refl back.0)) (
+          forward_if_zero m other (omega arith) (starts_statement p other alternative behind.1 out),
+          joined inside (statement_size consequent) (statement_code p inside consequent) leap (length_statement p inside consequent)
+              (paced_statement p inside consequent (has_front all inside (statement_code p inside consequent) leap back.1) (target_there turn (ops.Jump after) refl behind.0) (lead_from p after turn (omega arith) lead_out))
+              (forward turn after (omega arith) out, paced_statement p other alternative behind.1 out lead_out),
+        )
     paced_statement p at (core.Loop condition body step) has end leads =
         let inside = at + 2 in
         let next = inside + statement_size body in
@@ -436,12 +444,12 @@ module _ (all : List Op) where
         let free_next = starts_statement p next step front_step free_test in
         let inner : LeadOn q next = record { break_behind = omega arith; break_free = free_out; continue_behind = omega arith; continue_free = free_next } in
         let tests_keep = joined test (expression_size condition) (expression_code test condition) last (length_expression test condition)
-            (paced_expression test condition front_test (target_there branch (ops.JumpIfZero out) refl at_branch.0))
-            (forward_if_zero branch out (omega arith) free_out, (to_tick (branch + 1) (at + 1) has.1.0, tt)) in
+        (paced_expression test condition front_test (target_there branch (ops.JumpIfZero out) refl at_branch.0))
+        (forward_if_zero branch out (omega arith) free_out, (to_tick (branch + 1) (at + 1) has.1.0, tt)) in
         let steps_keep = joined next (statement_size step) (statement_code p next step) tests (length_statement p next step)
-            (paced_statement p next step front_step free_test (lead_from p (at + statement_size (core.Loop condition body step)) test (omega arith) leads)) tests_keep in
+        (paced_statement p next step front_step free_test (lead_from p (at + statement_size (core.Loop condition body step)) test (omega arith) leads)) tests_keep in
         let bodies_keep = joined inside (statement_size body) (statement_code q inside body) steps (length_statement q inside body)
-            (paced_statement q inside body (has_front all inside (statement_code q inside body) steps at_body) free_next inner) steps_keep in
+        (paced_statement q inside body (has_front all inside (statement_code q inside body) steps at_body) free_next inner) steps_keep in
         (forward at test (omega arith) free_test, (refl, subst (λ k. AllKeep k bodies) (sym two) bodies_keep))
     paced_statement p at (core.Return value) has end leads = paced_one at value ops.Return (record { no_jump = refl; no_call = refl }) has
     paced_statement p at core.ReturnNothing has end leads = (refl, tt)

@@ -11,7 +11,7 @@ use Rattle.ckc_core.specs.declared.program.Stmt.{Stmt, Row_of-Stmt, end_of-Stmt,
 use Rattle.ckc_core.specs.declared.program.Stmt.TheVariants as stmts
 use Rattle.ckc_core.specs.declared.program.Site.{Site}
 use Rattle.ckc_core.specs.declared.program as code
-use Rattle.ckc_core.specs.Core.{Function, function, Arguments, More, Call, TaintedCall, Statements, Then, Block, expression, arguments, arguments_of, statement, statements, statements_of}
+use Rattle.ckc_core.specs.Core.{Function, function, Arguments, More, Call, TaintedCall, Then, Block, expression, arguments, arguments_of, statement, statements, statements_of}
 
 -- the arguments of a call, as a row
 abbrev row_of : Expr → (n : Count) × Row_of-Expr n

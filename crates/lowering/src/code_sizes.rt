@@ -144,15 +144,18 @@ pub fn statement_size(stmt: &Stmt) -> Result<u32, NoMemory>
         Stmt::Nothing => Ok(0),
         Stmt::ReturnNothing | Stmt::Break | Stmt::Continue => Ok(1),
         Stmt::SetLocal { value, .. } => plus(expression_size(value)?, 1),
-        Stmt::Evaluate(value)
-        | Stmt::Print(value)
-        | Stmt::PutByte(value)
-        | Stmt::Return(value) => plus(expression_size(value)?, 1),
+        Stmt::Evaluate(value) | Stmt::Print(value) | Stmt::PutByte(value) | Stmt::Return(value) =>
+            plus(expression_size(value)?, 1),
         Stmt::Store { cell, value, .. } => store_size(cell, expression_size(value)?),
         Stmt::UpdateLocal { is_char, value, .. } => {
             plus(expression_size(value)?, 3 + byte_size(*is_char))
         }
-        Stmt::Update { ctype, cell, value, .. } => {
+        Stmt::Update {
+            ctype,
+            cell,
+            value,
+            ..
+        } => {
             let first = place_size(cell)?;
             update_size(first, expression_size(value)?, has_one_byte(ctype))
         }

@@ -49,14 +49,22 @@ fn comparison_op(comparison: Comparison) -> Op
 pub fn load_op(ctype: &CType) -> Op
     ensures { result ≡ code.load_code (type_of ctype.now) }
 {
-    if has_one_byte(ctype) { Op::Load1 } else { Op::Load4 }
+    if has_one_byte(ctype) {
+        Op::Load1
+    } else {
+        Op::Load4
+    }
 }
 
 /// What stores into a cell of the type.
 pub fn store_op(ctype: &CType) -> Op
     ensures { result ≡ code.store_code (type_of ctype.now) }
 {
-    if has_one_byte(ctype) { Op::Store1 } else { Op::Store4 }
+    if has_one_byte(ctype) {
+        Op::Store1
+    } else {
+        Op::Store4
+    }
 }
 
 /// One more instruction.
@@ -213,7 +221,10 @@ pub fn emit_expression(ops: &mut Vec<Op>, expr: &Expr) -> Result<(), NoMemory>
             emit_expression(ops, operand)?;
             put(ops, Op::Byte)
         }
-        Expr::Call { function, arguments } => {
+        Expr::Call {
+            function,
+            arguments,
+        } => {
             emit_arguments(ops, arguments.as_slice())?;
             put_two(ops, Op::Tick, Op::Call(*function))
         }
@@ -223,7 +234,14 @@ pub fn emit_expression(ops: &mut Vec<Op>, expr: &Expr) -> Result<(), NoMemory>
             site,
         } => {
             emit_arguments(ops, arguments.as_slice())?;
-            put_two(ops, Op::Tick, Op::TaintedCall { import: *import, place: site.place })
+            put_two(
+                ops,
+                Op::Tick,
+                Op::TaintedCall {
+                    import: *import,
+                    place: site.place,
+                },
+            )
         }
         Expr::NextInput => put(ops, Op::NextInput),
     }

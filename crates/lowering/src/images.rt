@@ -1,12 +1,10 @@
 // Emitting the image of a program: its static blocks, its functions and the tainted ones.
 
-ghost use Rattle.std.specs.Prelude.{◌≡◌, ◌+◌, ◌-◌, ◌≤◌, [], ◌∷◌, ◌++◌, map, length, replicate, option_map, IfOk, OnOk, All};
+ghost use Rattle.std.specs.Prelude.{◌≡◌, ◌-◌, ◌++◌, map, replicate, option_map, IfOk, OnOk, All};
 ghost use Rattle.act_words.specs.Numbers.{word};
 ghost use Rattle.pointer_modes.specs.Types.{ctype as type_of};
-ghost use Rattle.ckc_core.specs.Core.{core, function, import_of, initial, object, statements_of};
-ghost use Rattle.ckc_core.specs.Meaning.{is_char};
+ghost use Rattle.ckc_core.specs.Core.{core, function, import_of, initial, object};
 ghost use Rattle.lowering.specs.Code as code;
-ghost use Rattle.lowering.specs.Stacks as stacks;
 ghost use Rattle.lowering.specs.Images.{word_bytes_if, cell_bytes, object_bytes, function_code, functions_from, import_code, imports_from, image_of};
 ghost use Rattle.lowering.specs.Correct.{width_if, IsFunction, IsLowerable};
 
@@ -15,10 +13,12 @@ use crate::expression_code::{put, put_two};
 use crate::stacks::statements_stack;
 use crate::statement_code::{Targets, emit_statements};
 use ckc_core::program;
-use ckc_core::program::{Core, Function, Initial, Object, Stmt};
+use ckc_core::program::{Core, Function, Initial, Object};
 use ckc_text::fault::NoMemory;
 use ckc_text::name::Name;
-use code_words::image::{Blocks, Func, Funs, Image, Import, Imports, Layout, Ops, SideCode, WordKind};
+use code_words::image::{
+    Blocks, Func, Funs, Image, Import, Imports, Layout, Ops, SideCode, WordKind,
+};
 use code_words::lists::Listed;
 use code_words::op::Op;
 use pointer_modes::ctype::CType;

@@ -106,10 +106,8 @@ pub fn statement_stack(stmt: &Stmt) -> u32
     match stmt {
         Stmt::Nothing | Stmt::ReturnNothing | Stmt::Break | Stmt::Continue => 0,
         Stmt::SetLocal { value, .. } => expression_stack(value),
-        Stmt::Evaluate(value)
-        | Stmt::Print(value)
-        | Stmt::PutByte(value)
-        | Stmt::Return(value) => expression_stack(value),
+        Stmt::Evaluate(value) | Stmt::Print(value) | Stmt::PutByte(value) | Stmt::Return(value) =>
+            expression_stack(value),
         Stmt::Store { cell, value, .. } => store_stack(cell, value),
         Stmt::UpdateLocal { value, .. } => 1 + expression_stack(value),
         Stmt::Update { cell, value, .. } => place_stack(cell).max(2 + expression_stack(value)),

@@ -9,9 +9,12 @@ ghost use Rattle.code_words.specs.declared.op.Op.TheVariants as ops_of;
 ghost use Rattle.lowering.specs.Code as code;
 ghost use Rattle.lowering.specs.Views.{targets_of, loop_places};
 
-use crate::expression_code::{emit_address, emit_arguments, emit_expression, emit_place, emit_through, load_op, operator_op, place_behind, put, put_two, store_op};
 use crate::code_sizes::{expression_size, has_one_byte, plus, statement_size};
-use ckc_core::program::{CellPlace, Expr, Operator, Site, Stmt};
+use crate::expression_code::{
+    emit_address, emit_arguments, emit_expression, emit_place, emit_through, load_op, operator_op,
+    place_behind, put, put_two, store_op,
+};
+use ckc_core::program::{CellPlace, Expr, Stmt};
 use ckc_text::fault::NoMemory;
 use code_words::op::Op;
 use pointer_modes::ctype::CType;
@@ -51,7 +54,12 @@ fn emit_before_value(ops: &mut Vec<Op>, cell: &CellPlace) -> Result<(), NoMemory
 }
 
 // What follows the value: the check of the pointer, while the value is kept in the scratch slot.
-fn emit_behind_value(ops: &mut Vec<Op>, scratch: u32, ctype: &CType, cell: &CellPlace) -> Result<(), NoMemory>
+fn emit_behind_value(
+    ops: &mut Vec<Op>,
+    scratch: u32,
+    ctype: &CType,
+    cell: &CellPlace,
+) -> Result<(), NoMemory>
     ensures { OnOk result (ops.new.items ≡ ops.old.items ++ code.behind_value scratch (type_of ctype.now) (place_of cell.now)) }
 {
     match cell {
@@ -65,7 +73,13 @@ fn emit_behind_value(ops: &mut Vec<Op>, scratch: u32, ctype: &CType, cell: &Cell
 }
 
 // A value into a cell.
-fn emit_store(ops: &mut Vec<Op>, targets: Targets, ctype: &CType, cell: &CellPlace, value: &Expr) -> Result<(), NoMemory>
+fn emit_store(
+    ops: &mut Vec<Op>,
+    targets: Targets,
+    ctype: &CType,
+    cell: &CellPlace,
+    value: &Expr,
+) -> Result<(), NoMemory>
     ensures { OnOk result (ops.new.items ≡ ops.old.items ++ code.statement_code (targets_of targets) (length ops.old.items) (cores.Store (type_of ctype.now) (place_of cell.now) (expression value.now))) }
 {
     emit_before_value(ops, cell)?;
@@ -73,7 +87,7 @@ fn emit_store(ops: &mut Vec<Op>, targets: Targets, ctype: &CType, cell: &CellPla
     emit_behind_value(ops, targets.scratch, ctype, cell)
 }
 
-// An operator, and where to its result goes, which is kept modulo 256 where it has to.
+// An operator, and what keeps its result, modulo 256 where it has to be.
 fn emit_result(ops: &mut Vec<Op>, operator: Op, char: bool, keep: Op) -> Result<(), NoMemory>
     ensures { OnOk result (ops.new.items ≡ ops.old.items ++ operator ∷ (code.byte_code char ++ keep ∷ [])) }
 {
@@ -85,7 +99,13 @@ fn emit_result(ops: &mut Vec<Op>, operator: Op, char: bool, keep: Op) -> Result<
 }
 
 // A cell's old value and an operator with another one.
-fn emit_update(ops: &mut Vec<Op>, ctype: &CType, cell: &CellPlace, operator: Op, value: &Expr) -> Result<(), NoMemory>
+fn emit_update(
+    ops: &mut Vec<Op>,
+    ctype: &CType,
+    cell: &CellPlace,
+    operator: Op,
+    value: &Expr,
+) -> Result<(), NoMemory>
     ensures { OnOk result (ops.new.items ≡ ops.old.items ++ (code.place_code (length ops.old.items) (place_of cell.now) ++ ops_of.Duplicate ∷ code.load_code (type_of ctype.now) ∷ (code.expression_code (length ops.old.items + code.place_size (place_of cell.now) + 2) (expression value.now) ++ operator ∷ (code.byte_code (is_char (type_of ctype.now)) ++ code.store_code (type_of ctype.now) ∷ [])))) }
 {
     emit_place(ops, cell)?;
@@ -95,7 +115,13 @@ fn emit_update(ops: &mut Vec<Op>, ctype: &CType, cell: &CellPlace, operator: Op,
 }
 
 // The same for a local variable.
-fn emit_local_update(ops: &mut Vec<Op>, char: bool, local: u32, operator: Op, value: &Expr) -> Result<(), NoMemory>
+fn emit_local_update(
+    ops: &mut Vec<Op>,
+    char: bool,
+    local: u32,
+    operator: Op,
+    value: &Expr,
+) -> Result<(), NoMemory>
     ensures { OnOk result (ops.new.items ≡ ops.old.items ++ ops_of.Local local ∷ (code.expression_code (length ops.old.items + 1) (expression value.now) ++ operator ∷ (code.byte_code char ++ ops_of.Set local ∷ []))) }
 {
     put(ops, Op::Local(local))?;
@@ -121,7 +147,13 @@ fn emit_jump(ops: &mut Vec<Op>, over: u32) -> Result<(), NoMemory>
 }
 
 // Where `break` and `continue` go in a loop that begins at the next instruction, by the sizes of its parts.
-fn loop_targets(ops: &Vec<Op>, scratch: u32, body: u32, step: u32, condition: u32) -> Result<Targets, NoMemory>
+fn loop_targets(
+    ops: &Vec<Op>,
+    scratch: u32,
+    body: u32,
+    step: u32,
+    condition: u32,
+) -> Result<Targets, NoMemory>
     ensures { IfOk result (λ inner. targets_of inner ≡ loop_places scratch (length ops.now.items) body step condition) }
 {
     let on_continue = place_behind(ops, plus(body, 2)?)?;
@@ -174,9 +206,10 @@ pub fn emit_statement(ops: &mut Vec<Op>, targets: Targets, stmt: &Stmt) -> Resul
             site,
         } => emit_update(ops, ctype, cell, operator_op(*operator, *site), value),
         Stmt::Evaluate(value) => emit_with(ops, value, Op::Discard),
-        Stmt::CallAlone { function, arguments } => {
-            emit_call(ops, arguments.as_slice(), Op::Call(*function))
-        }
+        Stmt::CallAlone {
+            function,
+            arguments,
+        } => { emit_call(ops, arguments.as_slice(), Op::Call(*function)) }
         Stmt::TaintedAlone {
             import,
             arguments,
@@ -208,7 +241,13 @@ pub fn emit_statement(ops: &mut Vec<Op>, targets: Targets, stmt: &Stmt) -> Resul
         } => {
             let turn = place_behind(ops, 1)?;
             let after = statement_size(step)?;
-            let inner = loop_targets(ops, targets.scratch, statement_size(body)?, after, expression_size(condition)?)?;
+            let inner = loop_targets(
+                ops,
+                targets.scratch,
+                statement_size(body)?,
+                after,
+                expression_size(condition)?,
+            )?;
             begin_loop(ops, inner.on_continue, after)?;
             emit_statement(ops, inner, body)?;
             emit_statement(ops, targets, step)?;

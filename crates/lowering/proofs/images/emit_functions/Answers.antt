@@ -1,4 +1,3 @@
-use Rattle.std.proofs.Common.{arith}
 use Rattle.lowering.specs.Correct.{IsFunction}
 use Rattle.lowering.proofs.Slices.{function_at}
 use Rattle.lowering.proofs.images.emit_functions.Goals as goal

@@ -1,4 +1,4 @@
-use Rattle.std.proofs.Common.{◌∙◌, ap, arith, rules}
+use Rattle.std.proofs.Common.{ap, arith, rules}
 use Rattle.ckc_core.specs.declared.program.Expr.{the_lemmas}
 use Rattle.ckc_core.specs.Core.{expression}
 use Rattle.lowering.specs.Stacks.{expression_stack, arguments_stack}

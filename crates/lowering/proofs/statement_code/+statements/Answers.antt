@@ -25,9 +25,9 @@ emit_statement-returns-in_ok-emit_jump-in-If t c =
     let taken = rw (c.deref.ensures, ← c.deref-in-If.ensures) at c.in_ok-statement_size-in-If.ensures in
     let passed = rw (c.deref-in-If-2.ensures, ← c.deref-in-If-3.ensures) at c.in_ok-statement_size-in-If-2.ensures in
     IfOk-weaker c.emit_statement-in-If.result _ _ (λ _ e.
-        if_emitted p condition consequent alternative c.in_ok-plus-in-If.field-0 c.in_ok-statement_size-in-If-2.field-0 old c.emit_condition.new.ops.items c.emit_statement.new.ops.items c.emit_jump.new.ops.items c.emit_statement-in-If.new.ops.items
-        (c.in_ok-plus-in-If.ensures ∙ ap (λ n. n + 1) taken) passed c.in_ok-emit_condition-in-If.ensures c.in_ok-emit_statement-in-If.ensures c.in_ok-emit_jump-in-If.ensures e
-        ∙ ap (λ x. old ++ statement_code p (length old) x) shape)
+    if_emitted p condition consequent alternative c.in_ok-plus-in-If.field-0 c.in_ok-statement_size-in-If-2.field-0 old c.emit_condition.new.ops.items c.emit_statement.new.ops.items c.emit_jump.new.ops.items c.emit_statement-in-If.new.ops.items
+    (c.in_ok-plus-in-If.ensures ∙ ap (λ n. n + 1) taken) passed c.in_ok-emit_condition-in-If.ensures c.in_ok-emit_statement-in-If.ensures c.in_ok-emit_jump-in-If.ensures e
+    ∙ ap (λ x. old ++ statement_code p (length old) x) shape)
     c.emit_statement-in-If.ensures
 
 pub emit_statement-returns-in_ok-emit_statement-in-Loop-2 : goal.emit_statement-returns-in_ok-emit_statement-in-Loop-2
@@ -41,10 +41,10 @@ emit_statement-returns-in_ok-emit_statement-in-Loop-2 t c =
     let stepped = rw (c.deref-in-Loop.ensures, ← c.deref-in-Loop-4.ensures) at c.in_ok-after-in-Loop.ensures in
     let turned = rw (c.deref-in-Loop-2.ensures, ← c.deref-in-Loop-3.ensures) at c.in_ok-statement_size-in-Loop.ensures in
     IfOk-weaker c.end_loop.result _ _ (λ _ e.
-        loop_emitted p (targets_of c.in_ok-inner-in-Loop.inner) condition body step c.in_ok-turn-in-Loop.turn c.in_ok-statement_size-in-Loop.field-0 c.in_ok-after-in-Loop.after c.in_ok-expression_size-in-Loop.field-0 old
-        c.begin_loop.new.ops.items c.emit_statement-in-Loop.new.ops.items c.emit_statement-in-Loop-2.new.ops.items c.end_loop.new.ops.items
-        c.in_ok-turn-in-Loop.ensures turned stepped c.in_ok-expression_size-in-Loop.ensures c.in_ok-inner-in-Loop.ensures c.in_ok-begin_loop-in-Loop.ensures c.in_ok-emit_statement-in-Loop.ensures c.in_ok-emit_statement-in-Loop-2.ensures e
-        ∙ ap (λ x. old ++ statement_code p (length old) x) shape)
+    loop_emitted p (targets_of c.in_ok-inner-in-Loop.inner) condition body step c.in_ok-turn-in-Loop.turn c.in_ok-statement_size-in-Loop.field-0 c.in_ok-after-in-Loop.after c.in_ok-expression_size-in-Loop.field-0 old
+    c.begin_loop.new.ops.items c.emit_statement-in-Loop.new.ops.items c.emit_statement-in-Loop-2.new.ops.items c.end_loop.new.ops.items
+    c.in_ok-turn-in-Loop.ensures turned stepped c.in_ok-expression_size-in-Loop.ensures c.in_ok-inner-in-Loop.ensures c.in_ok-begin_loop-in-Loop.ensures c.in_ok-emit_statement-in-Loop.ensures c.in_ok-emit_statement-in-Loop-2.ensures e
+    ∙ ap (λ x. old ++ statement_code p (length old) x) shape)
     c.end_loop.ensures
 
 pub emit_statements-loop-stmt-preserved : goal.emit_statements-loop-stmt-preserved
