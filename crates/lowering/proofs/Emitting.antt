@@ -3,12 +3,14 @@ use Rattle.std.proofs.Common.{◌≡◌, ℕ, ◌+◌, ◌<◌, Bool, List, [], 
 use Rattle.pointer_modes.specs.Types.{CType}
 use Rattle.ckc_core.specs.declared.program.Expr.{Expr}
 use Rattle.ckc_core.specs.declared.program.Stmt.{Stmt}
+use Rattle.ckc_core.specs.declared.program.Operator.{Operator}
+use Rattle.ckc_core.specs.declared.program.Site.{Site}
 use Rattle.ckc_core.specs.Core as core
 use Rattle.ckc_core.specs.Meaning.{is_char}
 use Rattle.ckc_core.specs.Core.{expression, arguments_of, statement, statements_of}
 use Rattle.code_words.specs.declared.op.Op.{Op}
 use Rattle.code_words.specs.declared.op.Op.TheVariants as ops
-use Rattle.lowering.specs.Code.{Places, load_code, store_code, byte_code, expression_size, place_size, before_value_size, statement_size, expression_code, arguments_code, place_code, before_value, behind_value, statement_code, statements_code}
+use Rattle.lowering.specs.Code.{Places, operator_code, load_code, store_code, byte_code, expression_size, place_size, before_value_size, statement_size, expression_code, arguments_code, place_code, before_value, behind_value, statement_code, statements_code}
 use Rattle.lowering.specs.Views.{loop_places}
 use Rattle.lowering.proofs.Sizes.{length_expression, length_place, length_before, length_statement}
 use Rattle.lowering.proofs.Slices.{arguments_drop, statements_drop}
@@ -79,18 +81,24 @@ arguments_emitted args i x now next whole low is so_far e =
 pub store_emitted : (type : CType) (cell : core.Place) (value : core.Expression) (scratch : ℕ) (old one two new : List Op) → one ≡ old ++ before_value (length old) cell → two ≡ one ++ expression_code (length one) value → new ≡ two ++ behind_value scratch type cell → new ≡ old ++ (before_value (length old) cell ++ (expression_code (length old + before_value_size cell) value ++ behind_value scratch type cell))
 store_emitted type cell value scratch old one two new = then_expression value (before_value_size cell) old one two new (before_value (length old) cell) (behind_value scratch type cell) (length_before (length old) cell)
 
-pub update_emitted : (type : CType) (cell : core.Place) (value : core.Expression) (operator load store : Op) (char : Bool) (old one loaded two new : List Op) → load ≡ load_code type → char ≡ is_char type → store ≡ store_code type → one ≡ old ++ place_code (length old) cell → loaded ≡ one ++ ops.Duplicate ∷ load ∷ [] → two ≡ loaded ++ expression_code (length loaded) value → new ≡ two ++ operator ∷ (byte_code char ++ store ∷ []) → new ≡ old ++ (place_code (length old) cell ++ ops.Duplicate ∷ load_code type ∷ (expression_code (length old + place_size cell + 2) value ++ operator ∷ (byte_code (is_char type) ++ store_code type ∷ [])))
-update_emitted type cell value operator load store char old one loaded two new loads chars stores first second third fourth =
+pub update_emitted : (p : Places) (type : CType) (cell : core.Place) (value : core.Expression) (operator : Operator) (site : Site) (op load store : Op) (char : Bool) (old one loaded two new : List Op) → op ≡ operator_code operator site → load ≡ load_code type → char ≡ is_char type → store ≡ store_code type → one ≡ old ++ place_code (length old) cell → loaded ≡ one ++ ops.Duplicate ∷ load ∷ [] → two ≡ loaded ++ expression_code (length loaded) value → new ≡ two ++ op ∷ (byte_code char ++ store ∷ []) → new ≡ old ++ statement_code p (length old) (core.Update type cell operator value site)
+update_emitted p type cell value operator site op load store char old one loaded two new made loads chars stores first second third fourth =
     let m = length old + place_size cell in
-    let last = operator ∷ (byte_code (is_char type) ++ store_code type ∷ []) in
+    let last = λ (o : Op) (b : Bool) (s : Op). o ∷ (byte_code b ++ s ∷ []) in
+    let behind = last (operator_code operator site) (is_char type) (store_code type) in
     let at_one : length one ≡ m = place_after old one (place_code (length old) cell) (place_size cell) (length_place (length old) cell) first in
     let at_loaded : length loaded ≡ m + 2 = omega (arith, ap length second, length-append one (ops.Duplicate ∷ load ∷ [])) in
     let inner : two ≡ loaded ++ expression_code (m + 2) value = moved_to (λ k. expression_code k value) loaded two (length loaded) (m + 2) at_loaded third in
     let loaded_by : loaded ≡ one ++ ops.Duplicate ∷ load_code type ∷ [] = second ∙ ap (λ o. one ++ ops.Duplicate ∷ o ∷ []) loads in
-    let stored_by : new ≡ two ++ last = fourth ∙ ap (λ b. two ++ operator ∷ (byte_code b ++ store ∷ [])) chars ∙ ap (λ o. two ++ operator ∷ (byte_code (is_char type) ++ o ∷ [])) stores in
-    emitted_then old one new (place_code (length old) cell) (ops.Duplicate ∷ load_code type ∷ (expression_code (m + 2) value ++ last)) first
-    (emitted_then one loaded new (ops.Duplicate ∷ load_code type ∷ []) (expression_code (m + 2) value ++ last) loaded_by
-    (emitted_then loaded two new (expression_code (m + 2) value) last inner stored_by))
+    let stored_by : new ≡ two ++ behind = fourth ∙ ap (λ o. two ++ last o char store) made ∙ ap (λ b. two ++ last (operator_code operator site) b store) chars ∙ ap (λ o. two ++ last (operator_code operator site) (is_char type) o) stores in
+    emitted_then old one new (place_code (length old) cell) (ops.Duplicate ∷ load_code type ∷ (expression_code (m + 2) value ++ behind)) first
+    (emitted_then one loaded new (ops.Duplicate ∷ load_code type ∷ []) (expression_code (m + 2) value ++ behind) loaded_by
+    (emitted_then loaded two new (expression_code (m + 2) value) behind inner stored_by))
+
+pub local_update_emitted : (p : Places) (char : Bool) (local : ℕ) (value : core.Expression) (operator : Operator) (site : Site) (op : Op) (old one two new : List Op) → op ≡ operator_code operator site → one ≡ old ++ ops.Local local ∷ [] → two ≡ one ++ expression_code (length one) value → new ≡ two ++ op ∷ (byte_code char ++ ops.Set local ∷ []) → new ≡ old ++ statement_code p (length old) (core.UpdateLocal char local operator value site)
+local_update_emitted p char local value operator site op old one two new made first second third =
+    let last = λ (o : Op). o ∷ (byte_code char ++ ops.Set local ∷ []) in
+    then_expression value 1 old one two new (ops.Local local ∷ []) (last (operator_code operator site)) refl first second (third ∙ ap (λ o. two ++ last o) made)
 
 pub condition_emitted : (condition : core.Expression) (over more other : ℕ) (old one new : List Op) → more ≡ over + 1 → other ≡ length one + more → one ≡ old ++ expression_code (length old) condition → new ≡ one ++ ops.JumpIfZero other ∷ [] → new ≡ old ++ (expression_code (length old) condition ++ ops.JumpIfZero (length old + expression_size condition + 1 + over) ∷ [])
 condition_emitted condition over more other old one new mores others first second =

@@ -4,9 +4,9 @@ ghost use Rattle.std.specs.Prelude.{◌≡◌, ◌+◌, [], ◌∷◌, ◌++◌,
 ghost use Rattle.pointer_modes.specs.Types.{ctype as type_of};
 ghost use Rattle.ckc_core.specs.Core.{expression, place as place_of, arguments_of, statement, statements_of};
 ghost use Rattle.ckc_core.specs.Core as cores;
-ghost use Rattle.ckc_core.specs.Meaning.{is_char};
 ghost use Rattle.code_words.specs.declared.op.Op.TheVariants as ops_of;
 ghost use Rattle.lowering.specs.Code as code;
+ghost use Rattle.lowering.specs.Code.{Places};
 ghost use Rattle.lowering.specs.Views.{targets_of, loop_places};
 
 use crate::code_sizes::{expression_size, has_one_byte, plus, statement_size};
@@ -14,7 +14,7 @@ use crate::expression_code::{
     emit_address, emit_arguments, emit_expression, emit_place, emit_through, load_op, operator_op,
     place_behind, put, put_two, store_op,
 };
-use ckc_core::program::{CellPlace, Expr, Stmt};
+use ckc_core::program::{CellPlace, Expr, Operator, Site, Stmt};
 use ckc_text::fault::NoMemory;
 use code_words::op::Op;
 use pointer_modes::ctype::CType;
@@ -103,15 +103,17 @@ fn emit_update(
     ops: &mut Vec<Op>,
     ctype: &CType,
     cell: &CellPlace,
-    operator: Op,
+    operator: Operator,
     value: &Expr,
+    site: Site,
 ) -> Result<(), NoMemory>
-    ensures { OnOk result (ops.new.items ≡ ops.old.items ++ (code.place_code (length ops.old.items) (place_of cell.now) ++ ops_of.Duplicate ∷ code.load_code (type_of ctype.now) ∷ (code.expression_code (length ops.old.items + code.place_size (place_of cell.now) + 2) (expression value.now) ++ operator ∷ (code.byte_code (is_char (type_of ctype.now)) ++ code.store_code (type_of ctype.now) ∷ [])))) }
+    ensures { (p : Places) → OnOk result (ops.new.items ≡ ops.old.items ++ code.statement_code p (length ops.old.items) (cores.Update (type_of ctype.now) (place_of cell.now) operator (expression value.now) site)) }
 {
     emit_place(ops, cell)?;
     put_two(ops, Op::Duplicate, load_op(ctype))?;
     emit_expression(ops, value)?;
-    emit_result(ops, operator, has_one_byte(ctype), store_op(ctype))
+    let op = operator_op(operator, site);
+    emit_result(ops, op, has_one_byte(ctype), store_op(ctype))
 }
 
 // The same for a local variable.
@@ -119,14 +121,16 @@ fn emit_local_update(
     ops: &mut Vec<Op>,
     char: bool,
     local: u32,
-    operator: Op,
+    operator: Operator,
     value: &Expr,
+    site: Site,
 ) -> Result<(), NoMemory>
-    ensures { OnOk result (ops.new.items ≡ ops.old.items ++ ops_of.Local local ∷ (code.expression_code (length ops.old.items + 1) (expression value.now) ++ operator ∷ (code.byte_code char ++ ops_of.Set local ∷ []))) }
+    ensures { (p : Places) → OnOk result (ops.new.items ≡ ops.old.items ++ code.statement_code p (length ops.old.items) (cores.UpdateLocal char local operator (expression value.now) site)) }
 {
     put(ops, Op::Local(local))?;
     emit_expression(ops, value)?;
-    emit_result(ops, operator, char, Op::Set(local))
+    let op = operator_op(operator, site);
+    emit_result(ops, op, char, Op::Set(local))
 }
 
 // A condition, and a jump over so many instructions where it doesn't hold.
@@ -197,14 +201,14 @@ pub fn emit_statement(ops: &mut Vec<Op>, targets: Targets, stmt: &Stmt) -> Resul
             operator,
             value,
             site,
-        } => emit_local_update(ops, *is_char, *local, operator_op(*operator, *site), value),
+        } => emit_local_update(ops, *is_char, *local, *operator, value, *site),
         Stmt::Update {
             ctype,
             cell,
             operator,
             value,
             site,
-        } => emit_update(ops, ctype, cell, operator_op(*operator, *site), value),
+        } => emit_update(ops, ctype, cell, *operator, value, *site),
         Stmt::Evaluate(value) => emit_with(ops, value, Op::Discard),
         Stmt::CallAlone {
             function,

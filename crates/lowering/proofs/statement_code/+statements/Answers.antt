@@ -50,3 +50,9 @@ emit_statement-returns-in_ok-emit_statement-in-Loop-2 t c =
 pub emit_statements-loop-stmt-preserved : goal.emit_statements-loop-stmt-preserved
 emit_statements-loop-stmt-preserved t c =
     statements_emitted (targets_of c.args.targets) c.args.stmts.now c.loop-stmt.stmt-index c.stmt-item.result c.loop-stmt.ops.items c.emit_statement.new.ops.items _ (omega (arith, c.loop-stmt-test.true)) c.stmt-item.is c.loop-stmt.invariant c.in_ok-emit_statement.ensures
+
+pub emit_statement-returns-in-UpdateLocal : goal.emit_statement-returns-in-UpdateLocal
+emit_statement-returns-in-UpdateLocal t c = rw c.in-UpdateLocal.is (c.emit_local_update.ensures (targets_of c.args.targets))
+
+pub emit_statement-returns-in-Update : goal.emit_statement-returns-in-Update
+emit_statement-returns-in-Update t c = rw c.in-Update.is (c.emit_update.ensures (targets_of c.args.targets))
