@@ -27,8 +27,8 @@ pub fn has_one_byte(ctype_of: &CType) -> bool
     }
 }
 
-/// The size of what adds an offset to an address.
-pub fn offset_size(offset: u32) -> u32
+// The size of what adds an offset to an address.
+fn offset_size(offset: u32) -> u32
     ensures { result ≡ code.offset_size offset }
 {
     match offset {
@@ -37,8 +37,8 @@ pub fn offset_size(offset: u32) -> u32
     }
 }
 
-/// The size of what keeps a number modulo 256, if it has to.
-pub fn byte_size(char: bool) -> u32
+// The size of what keeps a number modulo 256, if it has to.
+fn byte_size(char: bool) -> u32
     ensures { result ≡ code.byte_size char }
 {
     if char { 1 } else { 0 }
@@ -84,9 +84,9 @@ pub fn expression_size(expr: &Expr) -> Result<u32, NoMemory>
     }
 }
 
-/// The size of the code of arguments.
+// The size of the code of arguments.
 #[cycle(sizes)]
-pub fn arguments_size(arguments: &[Expr]) -> Result<u32, NoMemory>
+fn arguments_size(arguments: &[Expr]) -> Result<u32, NoMemory>
     ensures { IfOk result (λ size. size ≡ code.arguments_size (arguments_of arguments.now)) }
 {
     let mut size = 0;
@@ -96,9 +96,9 @@ pub fn arguments_size(arguments: &[Expr]) -> Result<u32, NoMemory>
     Ok(size)
 }
 
-/// The size of the code of a place.
+// The size of the code of a place.
 #[cycle(sizes)]
-pub fn place_size(cell: &CellPlace) -> Result<u32, NoMemory>
+fn place_size(cell: &CellPlace) -> Result<u32, NoMemory>
     ensures { IfOk result (λ size. size ≡ code.place_size (place cell.now)) }
 {
     match cell {
@@ -111,8 +111,8 @@ pub fn place_size(cell: &CellPlace) -> Result<u32, NoMemory>
     }
 }
 
-/// The size of the code of a store, whose value has a size.
-pub fn store_size(cell: &CellPlace, value: u32) -> Result<u32, NoMemory>
+// The size of the code of a store, whose value has a size.
+fn store_size(cell: &CellPlace, value: u32) -> Result<u32, NoMemory>
     ensures { IfOk result (λ size. size ≡ code.before_value_size (place cell.now) + (value + code.behind_value_size (place cell.now))) }
 {
     match cell {
@@ -128,8 +128,8 @@ pub fn store_size(cell: &CellPlace, value: u32) -> Result<u32, NoMemory>
     }
 }
 
-/// The size of the code of an update, whose place and value have sizes.
-pub fn update_size(cell: u32, value: u32, char: bool) -> Result<u32, NoMemory>
+// The size of the code of an update, whose place and value have sizes.
+fn update_size(cell: u32, value: u32, char: bool) -> Result<u32, NoMemory>
     ensures { IfOk result (λ size. size ≡ cell + (2 + (value + (1 + (code.byte_size char + 1))))) }
 {
     plus(cell, plus(value, 4 + byte_size(char))?)

@@ -16,9 +16,9 @@ fn offset_stack(offset: u32) -> u32
     }
 }
 
-/// The most words of an expression.
+// The most words of an expression.
 #[cycle(stacks)]
-pub fn expression_stack(expr: &Expr) -> u32
+fn expression_stack(expr: &Expr) -> u32
     requires { stacks.expression_stack (expression expr.now) ≤ 4096 }
     ensures { result ≡ stacks.expression_stack (expression expr.now) }
 {
@@ -53,9 +53,9 @@ pub fn expression_stack(expr: &Expr) -> u32
     }
 }
 
-/// The most words of arguments: each stands above those before it.
+// The most words of arguments: each stands above those before it.
 #[cycle(stacks)]
-pub fn arguments_stack(arguments: &[Expr]) -> u32
+fn arguments_stack(arguments: &[Expr]) -> u32
     requires { stacks.arguments_stack (arguments_of arguments.now) ≤ 4096 }
     ensures { result ≡ stacks.arguments_stack (arguments_of arguments.now) }
 {
@@ -66,9 +66,9 @@ pub fn arguments_stack(arguments: &[Expr]) -> u32
     most
 }
 
-/// The most words of a place.
+// The most words of a place.
 #[cycle(stacks)]
-pub fn place_stack(cell: &CellPlace) -> u32
+fn place_stack(cell: &CellPlace) -> u32
     requires { stacks.place_stack (place cell.now) ≤ 4096 }
     ensures { result ≡ stacks.place_stack (place cell.now) }
 {
@@ -97,9 +97,9 @@ fn store_stack(cell: &CellPlace, value: &Expr) -> u32
     }
 }
 
-/// The most words of a statement.
+// The most words of a statement.
 #[cycle(statement_stacks)]
-pub fn statement_stack(stmt: &Stmt) -> u32
+fn statement_stack(stmt: &Stmt) -> u32
     requires { stacks.statement_stack (statement stmt.now) ≤ 4096 }
     ensures { result ≡ stacks.statement_stack (statement stmt.now) }
 {

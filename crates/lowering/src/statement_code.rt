@@ -186,9 +186,9 @@ fn end_loop(ops: &mut Vec<Op>, condition: &Expr, end: u32, turn: u32) -> Result<
     put_two(ops, Op::JumpIfZero(end), Op::Jump(turn))
 }
 
-/// The code of a statement.
+// The code of a statement.
 #[cycle(statements)]
-pub fn emit_statement(ops: &mut Vec<Op>, targets: Targets, stmt: &Stmt) -> Result<(), NoMemory>
+fn emit_statement(ops: &mut Vec<Op>, targets: Targets, stmt: &Stmt) -> Result<(), NoMemory>
     ensures { OnOk result (ops.new.items ≡ ops.old.items ++ code.statement_code (targets_of targets) (length ops.old.items) (statement stmt.now)) }
 {
     match stmt {
