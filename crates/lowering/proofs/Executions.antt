@@ -94,7 +94,7 @@ initial_word base rows Char number null = refl
 initial_word base rows (Struct n) number null = ap word (sym (null refl))
 initial_word base rows (Pointer mode kind target) number null = ap word (sym (null refl))
 
-strides_of : (cells : List Initial) → strides (object_block cells) ≡ map (λ (i : Initial). i.stride) cells
+pub strides_of : (cells : List Initial) → strides (object_block cells) ≡ map (λ (i : Initial). i.stride) cells
 strides_of [] = refl
 strides_of (i ∷ cells) = ap (λ l. i.stride ∷ l) (strides_of cells)
 
@@ -117,7 +117,7 @@ rooms_of [] all = tt
 rooms_of (i ∷ cells) all = (all.0.room, rooms_of cells all.1)
 
 -- a variable's bytes are those of its cells
-size_of : (cells : List Initial) → AllByRecursion IsCell cells → length (object_bytes cells) ≡ sum (strides (object_block cells))
+pub size_of : (cells : List Initial) → AllByRecursion IsCell cells → length (object_bytes cells) ≡ sum (strides (object_block cells))
 size_of cells all = ap length (sym (content_of 0 [] cells all)) ∙ length_block 0 [] (object_block cells) (rooms_of cells all)
 
 -- where the code finds a variable
@@ -145,7 +145,7 @@ bytes_in_row (i ∷ cells) all = (omega (arith, width_above (is_char i.type), al
 abbrev pub IsRow : List ℕ → Type 0
 IsRow row = HaveBytes row × (1 ≤ sum row)
 
-row_sum : (cells : List Initial) → AllByRecursion IsCell cells → 0 < length cells → 1 ≤ sum (strides (object_block cells))
+pub row_sum : (cells : List Initial) → AllByRecursion IsCell cells → 0 < length cells → 1 ≤ sum (strides (object_block cells))
 row_sum [] all some = absurd (omega arith)
 row_sum (i ∷ cells) all some = omega (arith, sum_cons i.stride (strides (object_block cells)), width_above (is_char i.type), all.0.room)
 

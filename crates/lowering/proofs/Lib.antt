@@ -15,3 +15,7 @@ pub mod Values
 pub mod Stores
 pub mod Statements
 pub mod Programs
+pub mod Paces
+pub mod Fits
+pub mod Slices
+pub mod Emitting

@@ -68,11 +68,11 @@ mutual
   length_place at (core.Through pointer cell offset site) =
       length_then (expression_code at pointer) (through_code offset site) (expression_size pointer) (1 + offset_size offset) (length_expression at pointer) (omega (arith, length_offset offset))
 
-length_before : (at : ℕ) (p : core.Place) → length (before_value at p) ≡ before_value_size p
+pub length_before : (at : ℕ) (p : core.Place) → length (before_value at p) ≡ before_value_size p
 length_before at (core.Direct object cell offset) = omega (arith, length_offset offset)
 length_before at (core.Through pointer cell offset site) = length_expression at pointer
 
-length_behind : (scratch : ℕ) (type : CType) (p : core.Place) → length (behind_value scratch type p) ≡ behind_value_size p
+pub length_behind : (scratch : ℕ) (type : CType) (p : core.Place) → length (behind_value scratch type p) ≡ behind_value_size p
 length_behind scratch type (core.Direct object cell offset) = refl
 length_behind scratch type (core.Through pointer cell offset site) = omega (arith, length-append (through_code offset site) (ops.Local scratch ∷ store_code type ∷ []), length_offset offset)
 

@@ -1,0 +1,8 @@
+use Rattle.std.proofs.Common.{◌≡◌, ◌++◌, map, drop}
+use Rattle.ckc_core.specs.Core.{function}
+use Rattle.lowering.specs.Images.{functions_from}
+use Rattle.lowering.proofs.images.emit_functions.Given as goal
+
+-- the functions so far and those that are left are all
+abbrev pub invariant-loop-index : goal.invariant-loop-index
+invariant-loop-index l = l.funs.items ++ functions_from l.index (map function (drop l.index l.functions)) ≡ functions_from 0 (map function l.functions)

@@ -1,0 +1,8 @@
+use Rattle.std.proofs.Common.{◌≡◌, ◌++◌, map, drop}
+use Rattle.ckc_core.specs.Core.{import_of}
+use Rattle.lowering.specs.Images.{imports_from}
+use Rattle.lowering.proofs.images.tainted_imports.Given as goal
+
+-- the imports so far and those that are left are all
+abbrev pub invariant-loop-index : goal.invariant-loop-index
+invariant-loop-index l = l.imports.items ++ imports_from l.index (map import_of (drop l.index l.functions)) ≡ imports_from 0 (map import_of l.functions)

@@ -1,0 +1,58 @@
+use Rattle.std.proofs.Common.{◌≡◌, ◌+◌, ◌++◌, length, refl, sym, ap, ◌∙◌, arith}
+use Rattle.std.proofs.lemmas.Result.{IfOk-weaker}
+use Rattle.ckc_core.specs.Core as core
+use Rattle.ckc_core.specs.Core.{expression, statement}
+use Rattle.lowering.specs.Code.{statement_code}
+use Rattle.lowering.specs.Views.{targets_of}
+use Rattle.lowering.proofs.Slices.{block_of}
+use Rattle.lowering.proofs.Emitting.{if_emitted, loop_emitted, statements_emitted}
+use Rattle.lowering.proofs.statement_code.+statements.Goals as goal
+
+pub emit_statement-returns-in-Block : goal.emit_statement-returns-in-Block
+emit_statement-returns-in-Block t c =
+    let old = c.args.ops.now.items in
+    let shape = block_of c.args.stmt.now c.in-Block.inner c.as_slice-in-Block.result.now c.in-Block.is c.as_slice-in-Block.ensures.value in
+    IfOk-weaker c.emit_statements.result _ _ (λ _ e. e ∙ ap (λ x. old ++ statement_code (targets_of c.args.targets) (length old) x) (sym shape)) c.emit_statements.ensures
+
+pub emit_statement-returns-in_ok-emit_jump-in-If : goal.emit_statement-returns-in_ok-emit_jump-in-If
+emit_statement-returns-in_ok-emit_jump-in-If t c =
+    let old = c.args.ops.now.items in
+    let p = targets_of c.args.targets in
+    let condition = expression c.in-If.condition in
+    let consequent = statement c.deref-in-If.result.now in
+    let alternative = statement c.deref-in-If-3.result.now in
+    let shape : core.If condition consequent alternative ≡ statement c.args.stmt.now = rw (c.in-If.is, c.deref-in-If.ensures, c.deref-in-If-3.ensures) refl in
+    let taken = rw (c.deref.ensures, ← c.deref-in-If.ensures) at c.in_ok-statement_size-in-If.ensures in
+    let passed = rw (c.deref-in-If-2.ensures, ← c.deref-in-If-3.ensures) at c.in_ok-statement_size-in-If-2.ensures in
+    IfOk-weaker c.emit_statement-in-If.result _ _ (λ _ e.
+    if_emitted p condition consequent alternative c.in_ok-plus-in-If.field-0 c.in_ok-statement_size-in-If-2.field-0 old c.emit_condition.new.ops.items c.emit_statement.new.ops.items c.emit_jump.new.ops.items c.emit_statement-in-If.new.ops.items
+    (c.in_ok-plus-in-If.ensures ∙ ap (λ n. n + 1) taken) passed c.in_ok-emit_condition-in-If.ensures c.in_ok-emit_statement-in-If.ensures c.in_ok-emit_jump-in-If.ensures e
+    ∙ ap (λ x. old ++ statement_code p (length old) x) shape)
+    c.emit_statement-in-If.ensures
+
+pub emit_statement-returns-in_ok-emit_statement-in-Loop-2 : goal.emit_statement-returns-in_ok-emit_statement-in-Loop-2
+emit_statement-returns-in_ok-emit_statement-in-Loop-2 t c =
+    let old = c.args.ops.now.items in
+    let p = targets_of c.args.targets in
+    let condition = expression c.in-Loop.condition in
+    let body = statement c.deref-in-Loop-3.result.now in
+    let step = statement c.deref-in-Loop-4.result.now in
+    let shape : core.Loop condition body step ≡ statement c.args.stmt.now = rw (c.in-Loop.is, c.deref-in-Loop-3.ensures, c.deref-in-Loop-4.ensures) refl in
+    let stepped = rw (c.deref-in-Loop.ensures, ← c.deref-in-Loop-4.ensures) at c.in_ok-after-in-Loop.ensures in
+    let turned = rw (c.deref-in-Loop-2.ensures, ← c.deref-in-Loop-3.ensures) at c.in_ok-statement_size-in-Loop.ensures in
+    IfOk-weaker c.end_loop.result _ _ (λ _ e.
+    loop_emitted p (targets_of c.in_ok-inner-in-Loop.inner) condition body step c.in_ok-turn-in-Loop.turn c.in_ok-statement_size-in-Loop.field-0 c.in_ok-after-in-Loop.after c.in_ok-expression_size-in-Loop.field-0 old
+    c.begin_loop.new.ops.items c.emit_statement-in-Loop.new.ops.items c.emit_statement-in-Loop-2.new.ops.items c.end_loop.new.ops.items
+    c.in_ok-turn-in-Loop.ensures turned stepped c.in_ok-expression_size-in-Loop.ensures c.in_ok-inner-in-Loop.ensures c.in_ok-begin_loop-in-Loop.ensures c.in_ok-emit_statement-in-Loop.ensures c.in_ok-emit_statement-in-Loop-2.ensures e
+    ∙ ap (λ x. old ++ statement_code p (length old) x) shape)
+    c.end_loop.ensures
+
+pub emit_statements-loop-stmt-preserved : goal.emit_statements-loop-stmt-preserved
+emit_statements-loop-stmt-preserved t c =
+    statements_emitted (targets_of c.args.targets) c.args.stmts.now c.loop-stmt.stmt-index c.stmt-item.result c.loop-stmt.ops.items c.emit_statement.new.ops.items _ (omega (arith, c.loop-stmt-test.true)) c.stmt-item.is c.loop-stmt.invariant c.in_ok-emit_statement.ensures
+
+pub emit_statement-returns-in-UpdateLocal : goal.emit_statement-returns-in-UpdateLocal
+emit_statement-returns-in-UpdateLocal t c = rw c.in-UpdateLocal.is (c.emit_local_update.ensures (targets_of c.args.targets))
+
+pub emit_statement-returns-in-Update : goal.emit_statement-returns-in-Update
+emit_statement-returns-in-Update t c = rw c.in-Update.is (c.emit_update.ensures (targets_of c.args.targets))

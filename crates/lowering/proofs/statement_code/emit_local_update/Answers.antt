@@ -1,0 +1,12 @@
+use Rattle.std.proofs.lemmas.Result.{IfOk-weaker}
+use Rattle.ckc_core.specs.Core.{expression}
+use Rattle.lowering.proofs.Emitting.{local_update_emitted}
+use Rattle.lowering.proofs.statement_code.emit_local_update.Goals as goal
+
+pub returns : goal.returns
+returns c = λ p.
+    IfOk-weaker c.emit_result.result _ _ (λ _ e.
+    local_update_emitted p c.args.char c.args.local (expression c.args.value.now) c.args.operator c.args.site c.operator_op-op.result
+    c.args.ops.now.items c.put.new.ops.items c.emit_expression.new.ops.items c.emit_result.new.ops.items
+    c.operator_op-op.ensures c.in_ok-put.ensures c.in_ok-emit_expression.ensures e)
+    c.emit_result.ensures

@@ -1,0 +1,13 @@
+use Rattle.std.proofs.lemmas.Result.{IfOk-weaker}
+use Rattle.pointer_modes.specs.Types.{ctype}
+use Rattle.ckc_core.specs.Core.{expression, place}
+use Rattle.lowering.proofs.Emitting.{update_emitted}
+use Rattle.lowering.proofs.statement_code.emit_update.Goals as goal
+
+pub returns : goal.returns
+returns c = λ p.
+    IfOk-weaker c.emit_result.result _ _ (λ _ e.
+    update_emitted p (ctype c.args.ctype.now) (place c.args.cell.now) (expression c.args.value.now) c.args.operator c.args.site c.operator_op-op.result c.load_op.result c.store_op.result c.has_one_byte.result
+    c.args.ops.now.items c.emit_place.new.ops.items c.put_two.new.ops.items c.emit_expression.new.ops.items c.emit_result.new.ops.items
+    c.operator_op-op.ensures c.load_op.ensures c.has_one_byte.ensures c.store_op.ensures c.in_ok-emit_place.ensures c.in_ok-put_two.ensures c.in_ok-emit_expression.ensures e)
+    c.emit_result.ensures

@@ -1,0 +1,222 @@
+// Emitting the image of a program: its static blocks, its functions and the tainted ones.
+
+ghost use Rattle.std.specs.Prelude.{◌≡◌, ◌-◌, ◌++◌, map, replicate, option_map, IfOk, OnOk, All};
+ghost use Rattle.act_words.specs.Numbers.{word};
+ghost use Rattle.pointer_modes.specs.Types.{ctype as type_of};
+ghost use Rattle.ckc_core.specs.Core.{core, function, import_of, initial, object};
+ghost use Rattle.lowering.specs.Code as code;
+ghost use Rattle.lowering.specs.Images.{word_bytes_if, cell_bytes, object_bytes, function_code, functions_from, import_code, imports_from, image_of};
+ghost use Rattle.lowering.specs.Correct.{width_if, IsFunction, IsLowerable};
+
+use crate::code_sizes::{has_one_byte, statements_size};
+use crate::expression_code::{put, put_two};
+use crate::stacks::statements_stack;
+use crate::statement_code::{Targets, emit_statements};
+use ckc_core::program;
+use ckc_core::program::{Core, Function, Initial, Object};
+use ckc_text::fault::NoMemory;
+use ckc_text::name::Name;
+use code_words::image::{
+    Blocks, Func, Funs, Image, Import, Imports, Layout, Ops, SideCode, WordKind,
+};
+use code_words::lists::Listed;
+use code_words::op::Op;
+use pointer_modes::ctype::CType;
+use std::alloc::Global;
+
+// ---- static blocks
+
+// So many zeros.
+fn put_zeros(bytes: &mut Vec<u8>, count: u32) -> Result<(), NoMemory>
+    ensures { OnOk result (bytes.new.items ≡ bytes.old.items ++ replicate count 0) }
+{
+    for _ in 0..count {
+        bytes.push(0)?;
+    }
+    Ok(())
+}
+
+// The word of a number, of one byte or of four.
+fn put_word(bytes: &mut Vec<u8>, char: bool, number: i32) -> Result<(), NoMemory>
+    ensures { OnOk result (bytes.new.items ≡ bytes.old.items ++ word_bytes_if char (word number)) }
+{
+    let word = number.cast_unsigned();
+    if char {
+        bytes.push((word % 256) as u8)?;
+    } else {
+        bytes.extend_from_slice(&word.to_le_bytes())?;
+    }
+    Ok(())
+}
+
+// How many bytes of a cell stand behind its word.
+fn padding(stride: u32, char: bool) -> u32
+    ensures { result ≡ stride - width_if char }
+{
+    if char {
+        stride.saturating_sub(1)
+    } else {
+        stride.saturating_sub(4)
+    }
+}
+
+// The bytes of a cell up to the next one: its word, and zeros.
+fn put_cell(bytes: &mut Vec<u8>, cell: &Initial) -> Result<(), NoMemory>
+    ensures { OnOk result (bytes.new.items ≡ bytes.old.items ++ cell_bytes (initial cell.now)) }
+{
+    let char = has_one_byte(&cell.ctype);
+    put_word(bytes, char, cell.number)?;
+    put_zeros(bytes, padding(cell.stride, char))
+}
+
+// The bytes of a file-level variable.
+fn static_block(alloc: Global, variable: &Object) -> Result<Listed<u8>, NoMemory>
+    ensures { IfOk result (λ block. block ≡ object_bytes (object variable.now)) }
+{
+    let mut bytes = Vec::new(alloc);
+    for cell in variable.cells.as_slice() {
+        put_cell(&mut bytes, cell)?;
+    }
+    Ok(Listed::from_vec(bytes))
+}
+
+// A static block for each file-level variable.
+fn static_blocks(alloc: Global, variables: &[Object]) -> Result<Blocks, NoMemory>
+    ensures { IfOk result (λ blocks. blocks ≡ map object_bytes (map object variables.now)) }
+{
+    let mut blocks = Vec::new(alloc);
+    for variable in variables {
+        blocks.push(static_block(alloc, variable)?)?;
+    }
+    Ok(Listed::from_vec(blocks))
+}
+
+// ---- functions
+
+// What the word of a type stands for.
+fn kind_of(ctype: &CType) -> WordKind
+    ensures { result ≡ code.kind_of (type_of ctype.now) }
+{
+    match ctype {
+        CType::Int => WordKind::Int,
+        CType::Char => WordKind::Char,
+        CType::Struct(_) | CType::Pointer(_, _, _) => WordKind::Pointer,
+    }
+}
+
+// What a function returns.
+fn result_kind(returned: &Option<CType>) -> WordKind
+    ensures { result ≡ code.result_kind (option_map type_of returned.now) }
+{
+    match returned {
+        None => WordKind::Void,
+        Some(ctype) => kind_of(ctype),
+    }
+}
+
+// What stands behind a body: 0 or null, or nothing, is returned.
+fn emit_ending(ops: &mut Vec<Op>, returned: &Option<CType>) -> Result<(), NoMemory>
+    ensures { OnOk result (ops.new.items ≡ ops.old.items ++ code.ending_code (option_map type_of returned.now)) }
+{
+    match returned {
+        None => put(ops, Op::ReturnNothing),
+        Some(_) => put_two(ops, Op::Const(0), Op::Return),
+    }
+}
+
+// The instructions of a function.
+fn function_ops(alloc: Global, f: &Function) -> Result<Ops, NoMemory>
+    requires { IsFunction (function f.now) }
+    ensures { IfOk result (λ ops. ops ≡ code.function_ops (function f.now)) }
+{
+    let body = f.body.as_slice();
+    let end = statements_size(body)?;
+    let targets = Targets {
+        scratch: f.locals.len() as u32,
+        on_break: end,
+        on_continue: end,
+    };
+    let mut ops = Vec::new(alloc);
+    emit_statements(&mut ops, targets, body)?;
+    emit_ending(&mut ops, &f.result)?;
+    Ok(Listed::from_vec(ops))
+}
+
+// A function with its number.
+fn emit_function(alloc: Global, number: u32, f: &Function) -> Result<Func, NoMemory>
+    requires { IsFunction (function f.now) }
+    ensures { IfOk result (λ func. func ≡ function_code number (function f.now)) }
+{
+    let name = Name::copied(alloc, f.name.as_bytes())?;
+    let ops = function_ops(alloc, f)?;
+    Ok(Func {
+        number,
+        name,
+        args: f.parameters,
+        slots: f.locals.len() as u32 + 1,
+        stack: statements_stack(f.body.as_slice()).max(1),
+        result: result_kind(&f.result),
+        ops,
+    })
+}
+
+// The functions, which are numbered from 0.
+fn emit_functions(alloc: Global, functions: &[Function]) -> Result<Funs, NoMemory>
+    requires { All IsFunction (map function functions.now) }
+    ensures { IfOk result (λ funs. funs ≡ functions_from 0 (map function functions.now)) }
+{
+    let mut funs = Vec::new(alloc);
+    for (index, f) in functions.iter().enumerate() {
+        let number = u32::try_from(index).or(Err(NoMemory))?;
+        funs.push(emit_function(alloc, number, f)?)?;
+    }
+    Ok(Listed::from_vec(funs))
+}
+
+// A tainted function with its number.
+fn tainted_import(alloc: Global, number: u32, f: &program::Import) -> Result<Import, NoMemory>
+    ensures { IfOk result (λ import. import ≡ import_code number (import_of f.now)) }
+{
+    Ok(Import {
+        number,
+        name: Name::copied(alloc, f.name.as_bytes())?,
+        args: f.parameters,
+        result: result_kind(&f.result),
+    })
+}
+
+// The tainted functions, which are numbered from 0.
+fn tainted_imports(alloc: Global, functions: &[program::Import]) -> Result<Imports, NoMemory>
+    ensures { IfOk result (λ imports. imports ≡ imports_from 0 (map import_of functions.now)) }
+{
+    let mut imports = Vec::new(alloc);
+    for (index, f) in functions.iter().enumerate() {
+        let number = u32::try_from(index).or(Err(NoMemory))?;
+        imports.push(tainted_import(alloc, number, f)?)?;
+    }
+    Ok(Listed::from_vec(imports))
+}
+
+// ---- the whole program
+
+/// The image of a program.
+pub fn emit_image(alloc: Global, program: &Core) -> Result<Image, NoMemory>
+    requires { IsLowerable (core program.now) }
+    ensures { IfOk result (λ image. image ≡ image_of (core program.now)) }
+{
+    let blocks = static_blocks(alloc, program.objects.as_slice())?;
+    let funs = emit_functions(alloc, program.functions.as_slice())?;
+    let imports = tainted_imports(alloc, program.imports.as_slice())?;
+    Ok(Image {
+        trusted: SideCode { blocks, funs },
+        sandbox: SideCode {
+            blocks: Listed::from_vec(Vec::new(alloc)),
+            funs: Listed::from_vec(Vec::new(alloc)),
+        },
+        layout: Layout {
+            imports,
+            callbacks: Listed::from_vec(Vec::new(alloc)),
+            main: Some(program.main),
+        },
+    })
+}

@@ -1,0 +1,21 @@
+// The whole way from a core to an image.
+
+ghost use Rattle.std.specs.Prelude.{◌≡◌, IfOk};
+ghost use Rattle.ckc_core.specs.Core.{core};
+ghost use Rattle.lowering.specs.Images.{image_of};
+ghost use Rattle.lowering.specs.Correct.{IsLowerable, KeepsMeaning};
+
+use crate::images::emit_image;
+use ckc_core::program::Core;
+use ckc_text::fault::NoMemory;
+use code_words::image::Image;
+use std::alloc::Global;
+
+/// The image of a program, whose run is what the program means, at every base address.
+pub fn lower(alloc: Global, program: &Core) -> Result<Image, NoMemory>
+    requires { IsLowerable (core program.now) }
+    ensures code { IfOk result (λ image. image ≡ image_of (core program.now)) }
+    ensures meaning { IfOk result (λ image. KeepsMeaning (core program.now) image) }
+{
+    emit_image(alloc, program)
+}

@@ -1,0 +1,148 @@
+// How many words the parts of a program have on the stack at most.
+
+ghost use Rattle.std.specs.Prelude.{◌≡◌, ◌+◌, ◌≤◌};
+ghost use Rattle.ckc_core.specs.Core.{expression, place, arguments_of, statement, statements_of};
+ghost use Rattle.lowering.specs.Stacks as stacks;
+
+use ckc_core::program::{CellPlace, Expr, Stmt};
+
+// An offset is added to an address on the stack.
+fn offset_stack(offset: u32) -> u32
+    ensures { result ≡ stacks.offset_stack offset }
+{
+    match offset {
+        0 => 1,
+        _ => 2,
+    }
+}
+
+// The most words of an expression.
+#[cycle(stacks)]
+fn expression_stack(expr: &Expr) -> u32
+    requires { stacks.expression_stack (expression expr.now) ≤ 4096 }
+    ensures { result ≡ stacks.expression_stack (expression expr.now) }
+{
+    match expr {
+        Expr::Number(_) | Expr::Null | Expr::Local(_) | Expr::NextInput => 1,
+        Expr::Load { cell, .. } => place_stack(cell),
+        Expr::AddressOf { offset, .. } => offset_stack(*offset),
+        Expr::AddressThrough {
+            pointer,
+            offset,
+            ..
+        } => expression_stack(pointer).max(offset_stack(*offset)),
+        Expr::Negate { operand, .. }
+        | Expr::Complement(operand)
+        | Expr::Not(operand)
+        | Expr::LowByte(operand) => expression_stack(operand),
+        Expr::Arithmetic { left, right, .. }
+        | Expr::Compare { left, right, .. }
+        | Expr::Same { left, right } => expression_stack(left).max(1 + expression_stack(right)),
+        Expr::AndAlso { left, right } | Expr::OrElse { left, right } => {
+            expression_stack(left).max(expression_stack(right))
+        }
+        Expr::Call {
+            function: _,
+            arguments,
+        } => arguments_stack(arguments.as_slice()).max(1),
+        Expr::TaintedCall {
+            import: _,
+            arguments,
+            site: _,
+        } => arguments_stack(arguments.as_slice()).max(1),
+    }
+}
+
+// The most words of arguments: each stands above those before it.
+#[cycle(stacks)]
+fn arguments_stack(arguments: &[Expr]) -> u32
+    requires { stacks.arguments_stack (arguments_of arguments.now) ≤ 4096 }
+    ensures { result ≡ stacks.arguments_stack (arguments_of arguments.now) }
+{
+    let mut most = 0;
+    for (before, argument) in arguments.iter().enumerate() {
+        most = (before as u32 + expression_stack(argument)).max(most);
+    }
+    most
+}
+
+// The most words of a place.
+#[cycle(stacks)]
+fn place_stack(cell: &CellPlace) -> u32
+    requires { stacks.place_stack (place cell.now) ≤ 4096 }
+    ensures { result ≡ stacks.place_stack (place cell.now) }
+{
+    match cell {
+        CellPlace::Direct { offset, .. } => offset_stack(*offset),
+        CellPlace::Through {
+            pointer,
+            offset,
+            ..
+        } => expression_stack(pointer).max(offset_stack(*offset)),
+    }
+}
+
+// The most words of a store.
+fn store_stack(cell: &CellPlace, value: &Expr) -> u32
+    requires { stacks.store_stack (place cell.now) (expression value.now) ≤ 4096 }
+    ensures { result ≡ stacks.store_stack (place cell.now) (expression value.now) }
+{
+    match cell {
+        CellPlace::Direct { offset, .. } => {
+            offset_stack(*offset).max(1 + expression_stack(value))
+        }
+        CellPlace::Through { pointer, .. } => {
+            expression_stack(pointer).max((1 + expression_stack(value)).max(2))
+        }
+    }
+}
+
+// The most words of a statement.
+#[cycle(statement_stacks)]
+fn statement_stack(stmt: &Stmt) -> u32
+    requires { stacks.statement_stack (statement stmt.now) ≤ 4096 }
+    ensures { result ≡ stacks.statement_stack (statement stmt.now) }
+{
+    match stmt {
+        Stmt::Nothing | Stmt::ReturnNothing | Stmt::Break | Stmt::Continue => 0,
+        Stmt::SetLocal { value, .. } => expression_stack(value),
+        Stmt::Evaluate(value) | Stmt::Print(value) | Stmt::PutByte(value) | Stmt::Return(value) =>
+            expression_stack(value),
+        Stmt::Store { cell, value, .. } => store_stack(cell, value),
+        Stmt::UpdateLocal { value, .. } => 1 + expression_stack(value),
+        Stmt::Update { cell, value, .. } => place_stack(cell).max(2 + expression_stack(value)),
+        Stmt::CallAlone { arguments, .. } | Stmt::TaintedAlone { arguments, .. } => {
+            arguments_stack(arguments.as_slice())
+        }
+        Stmt::Block(inner) => statements_stack(inner.as_slice()),
+        Stmt::If {
+            condition,
+            consequent,
+            alternative,
+        } => {
+            let branches = statement_stack(consequent).max(statement_stack(alternative));
+            expression_stack(condition).max(branches)
+        }
+        Stmt::Loop {
+            condition,
+            body,
+            step,
+        } => {
+            let turn = statement_stack(body).max(statement_stack(step));
+            expression_stack(condition).max(turn)
+        }
+    }
+}
+
+/// The most words of statements.
+#[cycle(statement_stacks)]
+pub fn statements_stack(stmts: &[Stmt]) -> u32
+    requires { stacks.statements_stack (statements_of stmts.now) ≤ 4096 }
+    ensures { result ≡ stacks.statements_stack (statements_of stmts.now) }
+{
+    let mut most = 0;
+    for stmt in stmts {
+        most = statement_stack(stmt).max(most);
+    }
+    most
+}

@@ -1,0 +1,276 @@
+// Emitting the code of statements.
+
+ghost use Rattle.std.specs.Prelude.{◌≡◌, ◌+◌, [], ◌∷◌, ◌++◌, length, IfOk, OnOk};
+ghost use Rattle.pointer_modes.specs.Types.{ctype as type_of};
+ghost use Rattle.ckc_core.specs.Core.{expression, place as place_of, arguments_of, statement, statements_of};
+ghost use Rattle.ckc_core.specs.Core as cores;
+ghost use Rattle.code_words.specs.declared.op.Op.TheVariants as ops_of;
+ghost use Rattle.lowering.specs.Code as code;
+ghost use Rattle.lowering.specs.Code.{Places};
+ghost use Rattle.lowering.specs.Views.{targets_of, loop_places};
+
+use crate::code_sizes::{expression_size, has_one_byte, plus, statement_size};
+use crate::expression_code::{
+    emit_address, emit_arguments, emit_expression, emit_place, emit_through, load_op, operator_op,
+    place_behind, put, put_two, store_op,
+};
+use ckc_core::program::{CellPlace, Expr, Operator, Site, Stmt};
+use ckc_text::fault::NoMemory;
+use code_words::op::Op;
+use pointer_modes::ctype::CType;
+
+/// The slot in which a store keeps its value while its pointer is checked, and where `break` and `continue` go.
+#[derive(Clone, Copy)]
+pub struct Targets {
+    pub scratch: u32,
+    pub on_break: u32,
+    pub on_continue: u32,
+}
+
+// A value and what is done with it.
+fn emit_with(ops: &mut Vec<Op>, value: &Expr, op: Op) -> Result<(), NoMemory>
+    ensures { OnOk result (ops.new.items ≡ ops.old.items ++ (code.expression_code (length ops.old.items) (expression value.now) ++ op ∷ [])) }
+{
+    emit_expression(ops, value)?;
+    put(ops, op)
+}
+
+// A call that has no result, behind its tick.
+fn emit_call(ops: &mut Vec<Op>, arguments: &[Expr], call: Op) -> Result<(), NoMemory>
+    ensures { OnOk result (ops.new.items ≡ ops.old.items ++ (code.arguments_code (length ops.old.items) (arguments_of arguments.now) ++ ops_of.Tick ∷ call ∷ [])) }
+{
+    emit_arguments(ops, arguments)?;
+    put_two(ops, Op::Tick, call)
+}
+
+// The address that a store needs before its value, or its pointer.
+fn emit_before_value(ops: &mut Vec<Op>, cell: &CellPlace) -> Result<(), NoMemory>
+    ensures { OnOk result (ops.new.items ≡ ops.old.items ++ code.before_value (length ops.old.items) (place_of cell.now)) }
+{
+    match cell {
+        CellPlace::Direct { object, offset, .. } => emit_address(ops, *object, *offset),
+        CellPlace::Through { pointer, .. } => emit_expression(ops, pointer),
+    }
+}
+
+// What follows the value: the check of the pointer, while the value is kept in the scratch slot.
+fn emit_behind_value(
+    ops: &mut Vec<Op>,
+    scratch: u32,
+    ctype: &CType,
+    cell: &CellPlace,
+) -> Result<(), NoMemory>
+    ensures { OnOk result (ops.new.items ≡ ops.old.items ++ code.behind_value scratch (type_of ctype.now) (place_of cell.now)) }
+{
+    match cell {
+        CellPlace::Direct { .. } => put(ops, store_op(ctype)),
+        CellPlace::Through { offset, site, .. } => {
+            put(ops, Op::Set(scratch))?;
+            emit_through(ops, *offset, *site)?;
+            put_two(ops, Op::Local(scratch), store_op(ctype))
+        }
+    }
+}
+
+// A value into a cell.
+fn emit_store(
+    ops: &mut Vec<Op>,
+    targets: Targets,
+    ctype: &CType,
+    cell: &CellPlace,
+    value: &Expr,
+) -> Result<(), NoMemory>
+    ensures { OnOk result (ops.new.items ≡ ops.old.items ++ code.statement_code (targets_of targets) (length ops.old.items) (cores.Store (type_of ctype.now) (place_of cell.now) (expression value.now))) }
+{
+    emit_before_value(ops, cell)?;
+    emit_expression(ops, value)?;
+    emit_behind_value(ops, targets.scratch, ctype, cell)
+}
+
+// An operator, and what keeps its result, modulo 256 where it has to be.
+fn emit_result(ops: &mut Vec<Op>, operator: Op, char: bool, keep: Op) -> Result<(), NoMemory>
+    ensures { OnOk result (ops.new.items ≡ ops.old.items ++ operator ∷ (code.byte_code char ++ keep ∷ [])) }
+{
+    put(ops, operator)?;
+    if char {
+        put(ops, Op::Byte)?;
+    }
+    put(ops, keep)
+}
+
+// A cell's old value and an operator with another one.
+fn emit_update(
+    ops: &mut Vec<Op>,
+    ctype: &CType,
+    cell: &CellPlace,
+    operator: Operator,
+    value: &Expr,
+    site: Site,
+) -> Result<(), NoMemory>
+    ensures { (p : Places) → OnOk result (ops.new.items ≡ ops.old.items ++ code.statement_code p (length ops.old.items) (cores.Update (type_of ctype.now) (place_of cell.now) operator (expression value.now) site)) }
+{
+    emit_place(ops, cell)?;
+    put_two(ops, Op::Duplicate, load_op(ctype))?;
+    emit_expression(ops, value)?;
+    let op = operator_op(operator, site);
+    emit_result(ops, op, has_one_byte(ctype), store_op(ctype))
+}
+
+// The same for a local variable.
+fn emit_local_update(
+    ops: &mut Vec<Op>,
+    char: bool,
+    local: u32,
+    operator: Operator,
+    value: &Expr,
+    site: Site,
+) -> Result<(), NoMemory>
+    ensures { (p : Places) → OnOk result (ops.new.items ≡ ops.old.items ++ code.statement_code p (length ops.old.items) (cores.UpdateLocal char local operator (expression value.now) site)) }
+{
+    put(ops, Op::Local(local))?;
+    emit_expression(ops, value)?;
+    let op = operator_op(operator, site);
+    emit_result(ops, op, char, Op::Set(local))
+}
+
+// A condition, and a jump over so many instructions where it doesn't hold.
+fn emit_condition(ops: &mut Vec<Op>, condition: &Expr, over: u32) -> Result<(), NoMemory>
+    ensures { OnOk result (ops.new.items ≡ ops.old.items ++ (code.expression_code (length ops.old.items) (expression condition.now) ++ ops_of.JumpIfZero (length ops.old.items + code.expression_size (expression condition.now) + 1 + over) ∷ [])) }
+{
+    emit_expression(ops, condition)?;
+    let other = place_behind(ops, plus(over, 1)?)?;
+    put(ops, Op::JumpIfZero(other))
+}
+
+// A jump over so many instructions.
+fn emit_jump(ops: &mut Vec<Op>, over: u32) -> Result<(), NoMemory>
+    ensures { OnOk result (ops.new.items ≡ ops.old.items ++ ops_of.Jump (length ops.old.items + 1 + over) ∷ []) }
+{
+    let end = place_behind(ops, plus(over, 1)?)?;
+    put(ops, Op::Jump(end))
+}
+
+// Where `break` and `continue` go in a loop that begins at the next instruction, by the sizes of its parts.
+fn loop_targets(
+    ops: &Vec<Op>,
+    scratch: u32,
+    body: u32,
+    step: u32,
+    condition: u32,
+) -> Result<Targets, NoMemory>
+    ensures { IfOk result (λ inner. targets_of inner ≡ loop_places scratch (length ops.now.items) body step condition) }
+{
+    let on_continue = place_behind(ops, plus(body, 2)?)?;
+    let test = plus(on_continue, step)?;
+    let on_break = plus(test, plus(condition, 2)?)?;
+    Ok(Targets {
+        scratch,
+        on_break,
+        on_continue,
+    })
+}
+
+// The head of a loop: a jump to its condition, and the tick with which each turn begins.
+fn begin_loop(ops: &mut Vec<Op>, step_place: u32, step: u32) -> Result<(), NoMemory>
+    ensures { OnOk result (ops.new.items ≡ ops.old.items ++ ops_of.Jump (step_place + step) ∷ ops_of.Tick ∷ []) }
+{
+    let test = plus(step_place, step)?;
+    put_two(ops, Op::Jump(test), Op::Tick)
+}
+
+// The end of a loop: its condition, and the jump to its tick where it holds.
+fn end_loop(ops: &mut Vec<Op>, condition: &Expr, end: u32, turn: u32) -> Result<(), NoMemory>
+    ensures { OnOk result (ops.new.items ≡ ops.old.items ++ (code.expression_code (length ops.old.items) (expression condition.now) ++ ops_of.JumpIfZero end ∷ ops_of.Jump turn ∷ [])) }
+{
+    emit_expression(ops, condition)?;
+    put_two(ops, Op::JumpIfZero(end), Op::Jump(turn))
+}
+
+// The code of a statement.
+#[cycle(statements)]
+fn emit_statement(ops: &mut Vec<Op>, targets: Targets, stmt: &Stmt) -> Result<(), NoMemory>
+    ensures { OnOk result (ops.new.items ≡ ops.old.items ++ code.statement_code (targets_of targets) (length ops.old.items) (statement stmt.now)) }
+{
+    match stmt {
+        Stmt::Nothing => Ok(()),
+        Stmt::SetLocal { local, value } => emit_with(ops, value, Op::Set(*local)),
+        Stmt::Store { ctype, cell, value } => emit_store(ops, targets, ctype, cell, value),
+        Stmt::UpdateLocal {
+            is_char,
+            local,
+            operator,
+            value,
+            site,
+        } => emit_local_update(ops, *is_char, *local, *operator, value, *site),
+        Stmt::Update {
+            ctype,
+            cell,
+            operator,
+            value,
+            site,
+        } => emit_update(ops, ctype, cell, *operator, value, *site),
+        Stmt::Evaluate(value) => emit_with(ops, value, Op::Discard),
+        Stmt::CallAlone {
+            function,
+            arguments,
+        } => { emit_call(ops, arguments.as_slice(), Op::Call(*function)) }
+        Stmt::TaintedAlone {
+            import,
+            arguments,
+            site,
+        } => {
+            let call = Op::TaintedCall {
+                import: *import,
+                place: site.place,
+            };
+            emit_call(ops, arguments.as_slice(), call)
+        }
+        Stmt::Print(number) => emit_with(ops, number, Op::Print),
+        Stmt::PutByte(number) => emit_with(ops, number, Op::PutByte),
+        Stmt::Block(inner) => emit_statements(ops, targets, inner.as_slice()),
+        Stmt::If {
+            condition,
+            consequent,
+            alternative,
+        } => {
+            emit_condition(ops, condition, plus(statement_size(consequent)?, 1)?)?;
+            emit_statement(ops, targets, consequent)?;
+            emit_jump(ops, statement_size(alternative)?)?;
+            emit_statement(ops, targets, alternative)
+        }
+        Stmt::Loop {
+            condition,
+            body,
+            step,
+        } => {
+            let turn = place_behind(ops, 1)?;
+            let after = statement_size(step)?;
+            let inner = loop_targets(
+                ops,
+                targets.scratch,
+                statement_size(body)?,
+                after,
+                expression_size(condition)?,
+            )?;
+            begin_loop(ops, inner.on_continue, after)?;
+            emit_statement(ops, inner, body)?;
+            emit_statement(ops, targets, step)?;
+            end_loop(ops, condition, inner.on_break, turn)
+        }
+        Stmt::Return(value) => emit_with(ops, value, Op::Return),
+        Stmt::ReturnNothing => put(ops, Op::ReturnNothing),
+        Stmt::Break => put(ops, Op::Jump(targets.on_break)),
+        Stmt::Continue => put(ops, Op::Jump(targets.on_continue)),
+    }
+}
+
+/// The code of statements, one after another.
+#[cycle(statements)]
+pub fn emit_statements(ops: &mut Vec<Op>, targets: Targets, stmts: &[Stmt]) -> Result<(), NoMemory>
+    ensures { OnOk result (ops.new.items ≡ ops.old.items ++ code.statements_code (targets_of targets) (length ops.old.items) (statements_of stmts.now)) }
+{
+    for stmt in stmts {
+        emit_statement(ops, targets, stmt)?;
+    }
+    Ok(())
+}
