@@ -7,3 +7,4 @@ pub mod Items
 pub mod Cores
 pub mod Examples
 pub mod NeverStuck
+pub mod Typed
