@@ -1,3 +1,4 @@
 pub mod Numbers
 pub mod Worlds
 pub mod Values
+pub mod Soundness

@@ -73,7 +73,7 @@ held_fits : (test : Bool) (z : ℤ) (ending : Ending) → (test ≡ true → IsN
 held_fits true z ending h = h refl
 held_fits false z ending h = tt
 
-overflow_fits : (place : Place) (z : ℤ) → IfHolds IsNumber (without_overflow place z)
+pub overflow_fits : (place : Place) (z : ℤ) → IfHolds IsNumber (without_overflow place z)
 overflow_fits place z = held_fits (is_word_number z) z (Check C6 place) (λ h. h)
 
 divided_fits : (test : Bool) (ending : Ending) (next : Checked ℤ) → (test ≡ true → IfHolds IsNumber next) → IfHolds IsNumber (checked_then test ending next)

@@ -11,6 +11,13 @@ use Rattle.act_words.specs.Acting.{BeforeTouch, InSandbox, act_before_touch, act
 use Rattle.act_words.specs.Touches.{Asked, Got, Ended, asking, on_from, before_touch, touch, released, on_with_reply, until_return, spent_if, spend_tick, entered_if, enter_call, tainted_call, input_from, next_input}
 use Rattle.typing_rules.proofs.Numbers.{IsNumber}
 
+-- there is nothing to say of an answer that says nothing
+abbrev pub Anything : Unit {0} → Type 0
+Anything _ = Unit {0}
+
+abbrev pub IsWord : ℕ → Type 0
+IsWord reply = reply < 2 ^ 32
+
 module _ (budget : ℕ) where
   -- what is left are acts and numbers of 32 bits, and so many ticks were spent at least, and no more than there may be
   abbrev pub IsWorld : ℕ → World → Type 0
@@ -77,13 +84,6 @@ module _ (budget : ℕ) where
   act_inside low Stop w is left = tt
 
   -- ---- touches
-
-  -- there is nothing to say of an answer that says nothing
-  abbrev pub Anything : Unit {0} → Type 0
-  Anything _ = Unit {0}
-
-  abbrev pub IsWord : ℕ → Type 0
-  IsWord reply = reply < 2 ^ 32
 
   before_goes_on : (low : ℕ) (b : BeforeTouch) (next : World → Asked (Unit {0})) → LeavesBefore low b → ((w : World) → IsWorld low w → Answers low Anything (next w)) → Answers low Anything (on_from b next)
   before_goes_on low (BeforeTouch.Waits w) next left more = more w left
