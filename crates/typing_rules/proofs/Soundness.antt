@@ -7,6 +7,7 @@ use Rattle.std.proofs.lemmas.Int.{to_z_pos}
 use Rattle.std.proofs.lemmas.Bool.Decides.{nat_tests}
 use Rattle.std.proofs.lemmas.Bool.{and_from}
 use Rattle.std.proofs.lemmas.List.{length-replicate, length-take-le}
+use Rattle.std.proofs.lemmas.Option.{slice_get_within}
 use Rattle.act_words.specs.declared.ending.Ending.{Ending}
 use Rattle.act_words.specs.Outcome.{Gives, Ends, Stuck, Short, and_then}
 use Rattle.act_words.specs.Checks.{Checked, Holds, Fails, is_word_number}
@@ -343,3 +344,57 @@ module _ (g : Frame) (budget n : ℕ) where
             goes_on low types (HasValue g (Pointer m d t)) (IsPlaced low types t) (value setting k e s) (place_through 0 0 site) (value_goes h s kept) (λ v u typed u_kept. pointed_goes low types u m d t site v typed u_kept)
         place_goes (typed.member {mode = m} {kind = d} {e = e} {n = number} {cell = cell} {offset = offset} {t = t} {site = site} h found scalar) s kept =
             goes_on low types (HasValue g (Pointer m d (Struct number))) (IsPlaced low types t) (value setting k e s) (place_through cell offset site) (value_goes h s kept) (λ v u typed u_kept. member_goes low types u m d number cell offset t site v found scalar typed u_kept)
+
+    -- ---- stores
+
+    module _ (low : ℕ) (types : List CType) where
+      set_goes : (s : State) (result : Option CType) (loop : Bool) (i : ℕ) (t : CType) (v : Value) → slice_get types i ≡ Some t → HasValue g t v → IsKept low types s → Goes low types (IsFlow g result loop) (set_local i v s)
+      set_goes s result loop i t v e typed kept =
+          let there = value_there g types s.locals i t kept.locals e in
+          let below = slice_get_within s.locals i there.0 there.1 in
+          let test : nat_lt i (length s.locals) ≡ true = grind (arith, nat_tests) in
+          subst (λ yes. Goes low types (IsFlow g result loop) (set_local_if yes i v s)) (sym test)
+          (tt, record { blocks = kept.blocks; locals = values_set g types s.locals i t v kept.locals e typed; world = kept.world; enough = kept.enough })
+
+      -- the blocks behind a store
+      blocks_kept : (s : State) (t : CType) (block cell : ℕ) (v : Value) (c : HasCell g s.blocks block cell t) → HasValue g t v → AreBlocks g g.program.objects s.blocks → AreBlocks g g.program.objects (with_cell s.blocks block cell (record c.held { value = v }))
+      blocks_kept s t block cell v c typed blocks =
+          let new : Cell = record c.held { value = v } in
+          let cells = cells_set g c.is c.cells cell c.initial c.held new c.shape c.listed c.found refl refl (subst (λ x. HasValue g x v) (sym c.first) typed) in
+          rw c.there (blocks_set g g.program.objects s.blocks block c.is (slice_set c.cells cell new) blocks c.declared cells)
+
+      store_goes : (s : State) (result : Option CType) (loop : Bool) (t : CType) (at : ℕ × ℕ) (v : Value) → IsScalar t → IsPlace g t at.0 at.1 → HasValue g t v → IsKept low types s → Goes low types (IsFlow g result loop) (store_at t at v s)
+      store_goes s result loop t at v scalar placed typed kept =
+          let c = scalar_cell g s.blocks t at.0 at.1 kept.blocks scalar placed in
+          let type : c.held.type ≡ t = c.typed ∙ c.first in
+          let test : (same_type t c.held.type && has_type t v) ≡ true = and_from (same_type t c.held.type) (has_type t v) (ap (same_type t) type ∙ same_refl t) (value_typed g t v typed) in
+          subst (λ o. Goes low types (IsFlow g result loop) (store_over o t v at.0 at.1 s)) (sym (at_cell g s.blocks at.0 at.1 t c))
+          (subst (λ yes. Goes low types (IsFlow g result loop) (store_if yes (record c.held { value = v }) at.0 at.1 s)) (sym test)
+            (tt, record { blocks = blocks_kept s t at.0 at.1 v c typed kept.blocks; locals = kept.locals; world = kept.world; enough = kept.enough }))
+
+      kept_goes : (s : State) (t : CType) (char : Bool) (v : Value) → is_number t ≡ true → is_char t ≡ char → HasValue g Int v → IsKept low types s → Goes low types (HasValue g t) (kept_if char v s)
+      kept_goes s Int true v h e typed kept = absurd (cc)
+      kept_goes s Int false v h e typed kept = (typed, kept)
+      kept_goes s Char true v h e typed kept = byte_goes low types s v typed kept
+      kept_goes s Char false v h e typed kept = absurd (cc)
+      kept_goes s (Struct number) char v h e typed kept = absurd (cc)
+      kept_goes s (Pointer m d t) char v h e typed kept = absurd (cc)
+
+      -- a place whose pointer was worked out before the value
+      pub pointed_store : {p : core.Place} {t : CType} → HasPlace g types p t → IsScalar t → {e : core.Expression} → HasType g types e t → (result : Option CType) (loop : Bool) (s : State) → IsKept low types s → Goes low types (IsFlow g result loop) (effect setting k (core.Store t p e) s)
+      pointed_store {t = t} (typed.direct {object = object} {cell = cell} {offset = offset} {cells = is} found stands at) scalar {e = e} h result loop s kept =
+          goes_on low types (λ (q : Value). Unit {0}) (IsFlow g result loop) (pointer_of setting k (core.Direct object cell offset) s) _
+          (goes_on low types (IsPlaced low types t) (λ (q : Value). Unit {0}) (place_in object cell offset s) _ (direct_goes low types s t object cell offset is found stands at kept) (λ q u placed u_kept. (tt, u_kept)))
+          (λ q u _ u_kept. goes_on low types (HasValue g t) (IsFlow g result loop) (value setting k e u) _ (value_goes low types h u u_kept)
+          (λ v w typed w_kept. goes_on low types (IsPlaced low types t) (IsFlow g result loop) (place_in object cell offset w) _ (direct_goes low types w t object cell offset is found stands at w_kept)
+          (λ at' x placed x_kept. store_goes x result loop t at' v scalar placed typed x_kept)))
+      pointed_store {t = t} (typed.pointed {mode = m} {kind = d} {e = p} {site = site} hp) scalar {e = e} h result loop s kept =
+          goes_on low types (HasValue g (Pointer m d t)) (IsFlow g result loop) (value setting k p s) _ (value_goes low types hp s kept)
+          (λ q u pointer u_kept. goes_on low types (HasValue g t) (IsFlow g result loop) (value setting k e u) _ (value_goes low types h u u_kept)
+          (λ v w typed w_kept. goes_on low types (IsPlaced low types t) (IsFlow g result loop) (place_through 0 0 site q w) _ (pointed_goes low types w m d t site q pointer w_kept)
+          (λ at' x placed x_kept. store_goes x result loop t at' v scalar placed typed x_kept)))
+      pointed_store {t = t} (typed.member {mode = m} {kind = d} {e = p} {n = number} {cell = cell} {offset = offset} {site = site} hp found scalar') scalar {e = e} h result loop s kept =
+          goes_on low types (HasValue g (Pointer m d (Struct number))) (IsFlow g result loop) (value setting k p s) _ (value_goes low types hp s kept)
+          (λ q u pointer u_kept. goes_on low types (HasValue g t) (IsFlow g result loop) (value setting k e u) _ (value_goes low types h u u_kept)
+          (λ v w typed w_kept. goes_on low types (IsPlaced low types t) (IsFlow g result loop) (place_through cell offset site q w) _ (member_goes low types w m d number cell offset t site q found scalar pointer w_kept)
+          (λ at' x placed x_kept. store_goes x result loop t at' v scalar placed typed x_kept)))
