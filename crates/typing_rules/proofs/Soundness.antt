@@ -398,3 +398,94 @@ module _ (g : Frame) (budget n : ℕ) where
           (λ q u pointer u_kept. goes_on low types (HasValue g t) (IsFlow g result loop) (value setting k e u) _ (value_goes low types h u u_kept)
           (λ v w typed w_kept. goes_on low types (IsPlaced low types t) (IsFlow g result loop) (place_through cell offset site q w) _ (member_goes low types w m d number cell offset t site q found scalar pointer w_kept)
           (λ at' x placed x_kept. store_goes x result loop t at' v scalar placed typed x_kept)))
+
+    -- ---- statements
+
+    number_scalar : (t : CType) → is_number t ≡ true → IsScalar t
+    number_scalar Int h = refl
+    number_scalar Char h = refl
+    number_scalar (Struct number) h = absurd (cc)
+    number_scalar (Pointer m d t) h = absurd (cc)
+
+    printed_goes : (low : ℕ) (types : List CType) (result : Option CType) (loop : Bool) (s : State) (v : Value) → HasValue g Int v → IsKept low types s → Goes low types (IsFlow g result loop) (printed v s)
+    printed_goes low types result loop s (Number z) h kept = (tt, record { blocks = kept.blocks; locals = kept.locals; world = kept.world; enough = kept.enough })
+    printed_goes low types result loop s Null h kept = absurd h
+    printed_goes low types result loop s (At block cell) h kept = absurd h
+
+    put_goes : (low : ℕ) (types : List CType) (result : Option CType) (loop : Bool) (s : State) (v : Value) → HasValue g Int v → IsKept low types s → Goes low types (IsFlow g result loop) (put v s)
+    put_goes low types result loop s (Number z) h kept = (tt, record { blocks = kept.blocks; locals = kept.locals; world = kept.world; enough = kept.enough })
+    put_goes low types result loop s Null h kept = absurd h
+    put_goes low types result loop s (At block cell) h kept = absurd h
+
+    next_goes : (low : ℕ) (types : List CType) (result : Option CType) (inner loop : Bool) (rest : State → Result Flow) (flow : Flow) (s : State) → (inner ≡ true → loop ≡ true) → IsFlow g result inner flow → IsKept low types s → Goes low types (IsFlow g result loop) (rest s) → Goes low types (IsFlow g result loop) (on_next rest flow s)
+    next_goes low types result inner loop rest Next s within ok kept h = h
+    next_goes low types result inner loop rest Broke s within ok kept h = (within ok, kept)
+    next_goes low types result inner loop rest Continued s within ok kept h = (within ok, kept)
+    next_goes low types result inner loop rest (Returned v) s within ok kept h = (ok, kept)
+
+    turned_goes : (low : ℕ) (types : List CType) (result : Option CType) (loop : Bool) (further : State → Result Flow) (flow : Flow) (s : State) → IsFlow g result true flow → IsKept low types s → Goes low types (IsFlow g result loop) (further s) → Goes low types (IsFlow g result loop) (behind_turn further flow s)
+    turned_goes low types result loop further Next s ok kept h = h
+    turned_goes low types result loop further Continued s ok kept h = h
+    turned_goes low types result loop further Broke s ok kept h = (tt, kept)
+    turned_goes low types result loop further (Returned v) s ok kept h = (ok, kept)
+
+    module _ (types : List CType) (result : Option CType) where
+      mutual
+        pub statement_goes : {loop : Bool} {x : core.Statement} → IsStatement g types result loop x → (low : ℕ) (s : State) → IsKept low types s → Goes low types (IsFlow g result loop) (effect setting k x s)
+        statement_goes typed.nothing low s kept = (tt, kept)
+        statement_goes {loop = loop} (typed.set_local {k = i} {t = t} {e = e} found h) low s kept =
+            goes_on low types (HasValue g t) (IsFlow g result loop) (value setting k e s) (set_local i) (value_goes low types h s kept) (λ v u typed u_kept. set_goes low types u result loop i t v found typed u_kept)
+        statement_goes {loop = loop} (typed.store {t = t} scalar place h) low s kept = pointed_store low types place scalar h result loop s kept
+        statement_goes {loop = loop} (typed.update_local {char = char} {k = i} {t = t} {operator = operator} {e = e} {site = site} found number is_char h) low s kept =
+            goes_on low types (HasValue g t) (IsFlow g result loop) (given (slice_get s.locals i) s) _ (given_goes low types s i t kept found)
+            (λ old u old_typed u_kept. goes_on low types (HasValue g Int) (IsFlow g result loop) (value setting k e u) _ (value_goes low types h u u_kept)
+            (λ v w typed w_kept. goes_on low types (HasValue g Int) (IsFlow g result loop) (arithmetic_of operator site old v w) _ (arithmetic_goes low types w operator site old v (value_number g t old number old_typed) typed w_kept)
+            (λ new x new_typed x_kept. goes_on low types (HasValue g t) (IsFlow g result loop) (kept_if char new x) (set_local i) (kept_goes low types x t char new number is_char new_typed x_kept)
+            (λ last y last_typed y_kept. set_goes low types y result loop i t last found last_typed y_kept))))
+        statement_goes {loop = loop} (typed.update {t = t} {p = p} {operator = operator} {e = e} {site = site} number hp h) low s kept =
+            goes_on low types (IsPlaced low types t) (IsFlow g result loop) (place setting k p s) _ (place_goes low types hp s kept)
+            (λ at r placed r_kept. goes_on low types (HasValue g t) (IsFlow g result loop) (load_at t at r) _ (load_goes low types r t at (number_scalar t number) placed r_kept)
+            (λ old u old_typed u_kept. goes_on low types (HasValue g Int) (IsFlow g result loop) (value setting k e u) _ (value_goes low types h u u_kept)
+            (λ v w typed w_kept. goes_on low types (HasValue g Int) (IsFlow g result loop) (arithmetic_of operator site old v w) _ (arithmetic_goes low types w operator site old v (value_number g t old number old_typed) typed w_kept)
+            (λ new x new_typed x_kept. goes_on low types (HasValue g t) (IsFlow g result loop) (kept_if (is_char t) new x) (store_at t at) (kept_goes low types x t (is_char t) new number refl new_typed x_kept)
+            (λ last y last_typed y_kept. store_goes low types y result loop t at last (number_scalar t number) placed last_typed y_kept)))))
+        statement_goes {loop = loop} (typed.evaluate {e = e} {t = t} h) low s kept =
+            goes_on low types (HasValue g t) (IsFlow g result loop) (value setting k e s) _ (value_goes low types h s kept) (λ v u typed u_kept. (tt, u_kept))
+        statement_goes {loop = loop} (typed.call_alone {n = i} {f = f} {arguments = arguments} found nothing h) low s kept =
+            goes_on low types (HaveValues g (take f.parameters f.locals)) (IsFlow g result loop) (values setting k arguments s) _ (values_go low types h s kept)
+            (λ vs u typed u_kept. goes_on low types (IsAnswer g f.result) (IsFlow g result loop) (call_trusted setting k i vs u) no_result (call_goes low types u i f vs found typed u_kept) (λ v w answered w_kept. nothing_back types low w f.result result loop v nothing answered w_kept))
+        statement_goes {loop = loop} (typed.tainted_alone {n = i'} {i = i} {arguments = arguments} {site = site} found nothing h) low s kept =
+            goes_on low types (HaveValues g (replicate i.parameters Int)) (IsFlow g result loop) (values setting k arguments s) _ (values_go low types h s kept)
+            (λ vs u typed u_kept. goes_on low types (IsAnswer g i.result) (IsFlow g result loop) (call_tainted setting i' (slice_get g.program.imports i') site vs u) no_result
+              (tainted_goes types low u i' i site vs found (subst (IsNumberResult types) (sym nothing) tt) typed u_kept)
+              (λ v w answered w_kept. nothing_back types low w i.result result loop v nothing answered w_kept))
+        statement_goes {loop = loop} (typed.print {e = e} h) low s kept =
+            goes_on low types (HasValue g Int) (IsFlow g result loop) (value setting k e s) printed (value_goes low types h s kept) (λ v u typed u_kept. printed_goes low types result loop u v typed u_kept)
+        statement_goes {loop = loop} (typed.put_byte {e = e} h) low s kept =
+            goes_on low types (HasValue g Int) (IsFlow g result loop) (value setting k e s) put (value_goes low types h s kept) (λ v u typed u_kept. put_goes low types result loop u v typed u_kept)
+        statement_goes (typed.block h) low s kept = statements_go h low s kept
+        statement_goes {loop = loop} (typed.choice {e = e} {t = t} {x = x} {y = y} h hx hy) low s kept =
+            goes_on low types (HasValue g t) (IsFlow g result loop) (value setting k e s) _ (value_goes low types h s kept)
+            (λ v u typed u_kept. chosen_goes low types (IsFlow g result loop) (truth v) _ _ (statement_goes hx low u u_kept) (statement_goes hy low u u_kept))
+        statement_goes {loop = loop} (typed.repeat {e = e} {t = t} {x = x} {y = y} h hx hy) low s kept =
+            goes_on low types (HasValue g t) (IsFlow g result loop) (value setting k e s) _ (value_goes low types h s kept)
+            (λ v u typed u_kept. chosen_goes low types (IsFlow g result loop) (truth v) _ _
+              (lowered low types (IsFlow g result loop) _ u_kept.enough
+              (asked_goes low (suc low) types Anything (IsFlow g result loop) (spend_tick budget u.world) u _ (tick_answers budget low u.world u_kept.world) (let few = u_kept.enough in omega arith) u_kept
+              (λ _ w _ w_kept. goes_on (suc low) types (IsFlow g result true) (IsFlow g result loop) (effect setting k x w) _ (statement_goes hx (suc low) w w_kept)
+              (λ flow w' ok w'_kept. turned_goes (suc low) types result loop _ flow w' ok w'_kept
+              (goes_on (suc low) types (IsFlow g result false) (IsFlow g result loop) (effect setting k y w') _ (statement_goes hy (suc low) w' w'_kept)
+              (λ flow' z ok' z_kept. next_goes (suc low) types result false loop _ flow' z (λ e. absurd (cc)) ok' z_kept
+              (is.turn (suc low) types result loop e t x y z h hx hy (let few = u_kept.enough in omega arith) z_kept)))))))
+              (tt, u_kept))
+        statement_goes {loop = loop} (typed.returned {e = e} {t = t} declared h) low s kept =
+            goes_on low types (HasValue g t) (IsFlow g result loop) (value setting k e s) _ (value_goes low types h s kept) (λ v u typed u_kept. (subst (λ r. IsAnswer g r (Some v)) (sym declared) typed, u_kept))
+        statement_goes (typed.returned_nothing declared) low s kept = (subst (λ r. IsAnswer g r None) (sym declared) tt, kept)
+        statement_goes typed.broken low s kept = (refl, kept)
+        statement_goes typed.continued low s kept = (refl, kept)
+
+        pub statements_go : {loop : Bool} {xs : core.Statements} → AreStatements g types result loop xs → (low : ℕ) (s : State) → IsKept low types s → Goes low types (IsFlow g result loop) (effects setting k xs s)
+        statements_go typed.no_more low s kept = (tt, kept)
+        statements_go {loop = loop} (typed.then_more {x = x} {xs = xs} h hs) low s kept =
+            goes_on low types (IsFlow g result loop) (IsFlow g result loop) (effect setting k x s) _ (statement_goes h low s kept)
+            (λ flow u ok u_kept. next_goes low types result loop loop (effects setting k xs) flow u (λ e. e) ok u_kept (statements_go hs low u u_kept))
