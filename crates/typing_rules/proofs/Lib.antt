@@ -2,3 +2,4 @@ pub mod Numbers
 pub mod Worlds
 pub mod Values
 pub mod Soundness
+pub mod Programs
