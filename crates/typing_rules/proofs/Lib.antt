@@ -3,3 +3,4 @@ pub mod Worlds
 pub mod Values
 pub mod Soundness
 pub mod Programs
+pub mod Verdicts

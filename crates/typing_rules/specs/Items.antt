@@ -178,10 +178,13 @@ variables at w base type span (d ∷ ds) done =
       (passing (initializer at (with_variable d.name.name t w.scope) d.initializer) (λ initial.
         variables at (record w { scope = with_variable d.name.name t w.scope; taken = w.taken + block_bytes w.scope t }) base type span ds (done ++ record { type = t; initial = initial } ∷ [])))))
 
--- the initialisers are judged behind the children of all
+-- the initialisers are judged behind the children of all. variable-has-cells: a struct is declared, and has members (E10); those
+-- of a source whose names have a meaning are
 abbrev pub with_objects : Walk → Span → List WalkedVariable → Verdict Walk
 with_objects w span [] = Passes w
-with_objects w span (v ∷ vs) = passing (object_cells w.scope.structs v.type v.initial span) (λ cells. with_objects (record w { objects = w.objects ++ cells ∷ [] }) span vs)
+with_objects w span (v ∷ vs) =
+    passing (object_cells w.scope.structs v.type v.initial span) (λ cells.
+      needs (nat_lt 0 (length cells)) E10 span (with_objects (record w { objects = w.objects ++ cells ∷ [] }) span vs))
 
 abbrev pub global : Places → Walk → i.Global → Verdict Walk
 global at w g =

@@ -1,0 +1,28 @@
+-- What verdicts promise of the values that they pass on.
+use Rattle.std.proofs.Common.{◌≡◌, ℕ, zero, suc, ◌+◌, Bool, true, false, List, [], ◌∷◌, ◌++◌, Option, Some, None, refl}
+use Rattle.std.specs.Prelude.{slice_get}
+use Rattle.ckc_text.specs.declared.code.Code.{Code}
+use Rattle.ckc_text.specs.declared.place.Span.{Span}
+use Rattle.typing_rules.specs.Verdicts.{Verdict, Passes, Breaks, passing, needs}
+
+-- what is so of the value where no rule is broken
+abbrev pub Promises : {A : Type 0} → (A → Type 0) → Verdict A → Type 0
+Promises P (Passes value) = P value
+Promises P (Breaks fault) = Unit {0}
+
+pub passing_promises : {A B : Type 0} (P : A → Type 0) (Q : B → Type 0) (v : Verdict A) (next : A → Verdict B) → Promises P v → ((x : A) → P x → Promises Q (next x)) → Promises Q (passing v next)
+passing_promises P Q (Passes value) next h more = more value h
+passing_promises P Q (Breaks fault) next h more = tt
+
+pub needs_promises : {A : Type 0} (Q : A → Type 0) (test : Bool) (code : Code) (span : Span) (next : Verdict A) → (test ≡ true → Promises Q next) → Promises Q (needs test code span next)
+needs_promises Q true code span next h = h refl
+needs_promises Q false code span next h = tt
+
+-- each element of the first list stands at its place in the second one
+abbrev pub Extends : {X : Type 0} → List X → List X → Type 0
+Extends {X = X} xs ys = (k : ℕ) (x : X) → slice_get xs k ≡ Some x → slice_get ys k ≡ Some x
+
+pub extends_append : {X : Type 0} (xs ys : List X) → Extends xs (xs ++ ys)
+extends_append [] ys k x h = absurd (cc)
+extends_append (z ∷ xs) ys zero x h = h
+extends_append (z ∷ xs) ys (suc k) x h = extends_append xs ys k x h
