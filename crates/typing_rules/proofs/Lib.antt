@@ -4,3 +4,4 @@ pub mod Values
 pub mod Soundness
 pub mod Programs
 pub mod Verdicts
+pub mod Knowledge
