@@ -5,3 +5,5 @@ pub mod Soundness
 pub mod Programs
 pub mod Verdicts
 pub mod Knowledge
+pub mod Sizes
+pub mod Expressions

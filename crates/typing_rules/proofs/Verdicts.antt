@@ -18,6 +18,10 @@ pub needs_promises : {A : Type 0} (Q : A → Type 0) (test : Bool) (code : Code)
 needs_promises Q true code span next h = h refl
 needs_promises Q false code span next h = tt
 
+pub anything_promised : {A : Type 0} (v : Verdict A) → Promises (λ (x : A). Unit {0}) v
+anything_promised (Passes value) = tt
+anything_promised (Breaks fault) = tt
+
 -- each element of the first list stands at its place in the second one
 abbrev pub Extends : {X : Type 0} → List X → List X → Type 0
 Extends {X = X} xs ys = (k : ℕ) (x : X) → slice_get xs k ≡ Some x → slice_get ys k ≡ Some x
