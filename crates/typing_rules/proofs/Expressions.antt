@@ -34,7 +34,7 @@ use Rattle.typing_rules.proofs.Verdicts.{Promises, passing_promises, needs_promi
 use Rattle.typing_rules.proofs.Knowledge.{IsNumberType, IsNumberResult, IsTrusted, IsTainted, KnowsFile, Knows, same_equal, StandsFor, name_stands, HasMember, IfMember, member_there, member_slot}
 use Rattle.typing_rules.proofs.Sizes.{size_fits}
 
-number_scalar : (t : CType) → is_number t ≡ true → IsScalar t
+pub number_scalar : (t : CType) → is_number t ≡ true → IsScalar t
 number_scalar Int h = refl
 number_scalar Char h = refl
 number_scalar (Struct n) h = absurd (cc)
@@ -147,7 +147,7 @@ module _ (g : Frame) (types : List CType) where
   unary_promises unary.Not a site span h = scalar_of_promises Fits a span _ h (λ v t typed. number_fits (core.Not v) (rules.inverse typed))
   unary_promises unary.Complement a site span h = number_of_promises Fits a span _ h (λ v n. number_fits (core.Complement v) (rules.complement n))
 
-  two_numbers_promise : {A : Type 0} (Q : A → Type 0) (a b : Typed) (span : Span) (next : core.Expression → core.Expression → Verdict A) → Fits a → Fits b → ((v w : core.Expression) → HasType g types v Int → HasType g types w Int → Promises Q (next v w)) → Promises Q (two_numbers a b span next)
+  pub two_numbers_promise : {A : Type 0} (Q : A → Type 0) (a b : Typed) (span : Span) (next : core.Expression → core.Expression → Verdict A) → Fits a → Fits b → ((v w : core.Expression) → HasType g types v Int → HasType g types w Int → Promises Q (next v w)) → Promises Q (two_numbers a b span next)
   two_numbers_promise Q a b span next ha hb more = number_of_promises Q a span _ ha (λ v n. number_of_promises Q b span _ hb (λ w m. more v w n m))
 
   two_scalars_promise : {A : Type 0} (Q : A → Type 0) (a b : Typed) (span : Span) (next : core.Expression → core.Expression → Verdict A) → Fits a → Fits b → ((v w : core.Expression) (t u : CType) → HasType g types v t → HasType g types w u → Promises Q (next v w)) → Promises Q (two_scalars a b span next)

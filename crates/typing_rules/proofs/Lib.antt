@@ -7,3 +7,4 @@ pub mod Verdicts
 pub mod Knowledge
 pub mod Sizes
 pub mod Expressions
+pub mod Growth

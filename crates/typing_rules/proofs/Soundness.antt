@@ -98,6 +98,10 @@ module _ (g : Frame) (budget n : ℕ) where
     number_goes s z true e h kept = (e, kept)
     number_goes s z false e h kept = absurd (cc)
 
+    byte_number_goes : (s : State) (z : ℤ) (fits : Bool) → fits ≡ true → has_type Char (Number z) ≡ true → IsKept low types s → Goes low types (HasValue g Char) (value_if fits (Number z) s)
+    byte_number_goes s z true e h kept = (h, kept)
+    byte_number_goes s z false e h kept = absurd (cc)
+
     checked_goes : (s : State) (o : Checked ℤ) → IfHolds IsNumber o → IsKept low types s → Goes low types (HasValue g Int) (checked o s)
     checked_goes s (Holds z) h kept = (h, kept)
     checked_goes s (Fails ending) h kept = tt
@@ -285,6 +289,7 @@ module _ (g : Frame) (budget n : ℕ) where
       mutual
         pub value_goes : {e : core.Expression} {t : CType} → HasType g types e t → (s : State) → IsKept low types s → Goes low types (HasValue g t) (value setting k e s)
         value_goes (typed.word {z = z} fits) s kept = number_goes low types s z (is_word_number z) refl fits kept
+        value_goes (typed.byte {z = z} fits) s kept = byte_number_goes low types s z (is_word_number z) (value_widened g (Number z) fits) fits kept
         value_goes typed.null s kept = (tt, kept)
         value_goes (typed.local {k = i} {t = t} e) s kept = given_goes low types s i t kept e
         value_goes (typed.widened {e = e} h) s kept = widened_goes low types (value setting k e s) (value_goes h s kept)

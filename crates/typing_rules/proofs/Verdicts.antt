@@ -1,5 +1,5 @@
 -- What verdicts promise of the values that they pass on.
-use Rattle.std.proofs.Common.{◌≡◌, ℕ, zero, suc, ◌+◌, Bool, true, false, List, [], ◌∷◌, ◌++◌, Option, Some, None, refl}
+use Rattle.std.proofs.Common.{◌≡◌, ℕ, zero, suc, ◌+◌, Bool, true, false, List, [], ◌∷◌, ◌++◌, length, Option, Some, None, refl}
 use Rattle.std.specs.Prelude.{slice_get}
 use Rattle.ckc_text.specs.declared.code.Code.{Code}
 use Rattle.ckc_text.specs.declared.place.Span.{Span}
@@ -22,6 +22,15 @@ pub anything_promised : {A : Type 0} (v : Verdict A) → Promises (λ (x : A). U
 anything_promised (Passes value) = tt
 anything_promised (Breaks fault) = tt
 
+-- two promises at once, and one that is kept later
+pub both_promise : {A : Type 0} (P Q : A → Type 0) (v : Verdict A) → Promises P v → Promises Q v → Promises (λ (x : A). P x × Q x) v
+both_promise P Q (Passes value) p q = (p, q)
+both_promise P Q (Breaks fault) p q = tt
+
+pub later_promises : {A : Type 0} (K : Type 0) (P : A → Type 0) (v : Verdict A) → (K → Promises P v) → Promises (λ (x : A). K → P x) v
+later_promises K P (Passes value) h = h
+later_promises K P (Breaks fault) h = tt
+
 -- each element of the first list stands at its place in the second one
 abbrev pub Extends : {X : Type 0} → List X → List X → Type 0
 Extends {X = X} xs ys = (k : ℕ) (x : X) → slice_get xs k ≡ Some x → slice_get ys k ≡ Some x
@@ -30,3 +39,7 @@ pub extends_append : {X : Type 0} (xs ys : List X) → Extends xs (xs ++ ys)
 extends_append [] ys k x h = absurd (cc)
 extends_append (z ∷ xs) ys zero x h = h
 extends_append (z ∷ xs) ys (suc k) x h = extends_append xs ys k x h
+
+pub extends_last : {X : Type 0} (xs : List X) (x : X) → slice_get (xs ++ x ∷ []) (length xs) ≡ Some x
+extends_last [] x = refl
+extends_last (y ∷ xs) x = extends_last xs x

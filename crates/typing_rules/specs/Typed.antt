@@ -73,6 +73,7 @@ mutual
   -- an expression, where the locals have these types, and its type
   pub data HasType (g : Frame) (locals : List CType) : Expression → CType → Type 0 where
     word : {z : ℤ} → is_word_number z ≡ true → HasType g locals (core.Number z) Int
+    byte : {z : ℤ} → has_type Char (Number z) ≡ true → HasType g locals (core.Number z) Char
     null : {mode : Mode} {kind : Kind} {t : CType} → HasType g locals core.Null (Pointer mode kind t)
     local : {k : ℕ} {t : CType} → slice_get locals k ≡ Some t → HasType g locals (core.Local k) t
     -- each char is an int
