@@ -81,14 +81,14 @@ for_grows g first inside h h' = record {
 abbrev pub GrowsTo : {A : Type 0} → Scope → A × Scope → Type 0
 GrowsTo g w = Grows g w.1
 
-declarator_grows : (at : Places) (g : Scope) (base : TypeTree) (type : CType) (span : Span) (d : Declarator) → Promises (GrowsTo {A = core.Statement} g) (declarator at g base type span d)
+pub declarator_grows : (at : Places) (g : Scope) (base : TypeTree) (type : CType) (span : Span) (d : Declarator) → Promises (GrowsTo {A = core.Statement} g) (declarator at g base type span d)
 declarator_grows at g base type span d =
     needs_promises (GrowsTo {A = core.Statement} g) (nat_lt (length g.locals) 256) E08 span _
     (λ few. passing_promises (λ (t : CType). Unit {0}) (GrowsTo {A = core.Statement} g) (without_stars base d.stars type) _ (anything_promised (without_stars base d.stars type))
     (λ t _. passing_promises (λ (x : core.Statement). Unit {0}) (GrowsTo {A = core.Statement} g) (initialised at (with_local d.name.name t g) d.initializer t (length g.locals) span) _ (anything_promised (initialised at (with_local d.name.name t g) d.initializer t (length g.locals) span))
     (λ initial _. needs_promises (GrowsTo {A = core.Statement} g) (is_scalar t) E13 span _ (λ scalar. local_grows d.name.name t g scalar))))
 
-declarators_grow : (at : Places) (g : Scope) (base : TypeTree) (type : CType) (span : Span) (ds : List Declarator) → Promises (GrowsTo {A = core.Statement} g) (declarators at g base type span ds)
+pub declarators_grow : (at : Places) (g : Scope) (base : TypeTree) (type : CType) (span : Span) (ds : List Declarator) → Promises (GrowsTo {A = core.Statement} g) (declarators at g base type span ds)
 declarators_grow at g base type span [] = stays g
 declarators_grow at g base type span (d ∷ ds) =
     passing_promises (GrowsTo {A = core.Statement} g) (GrowsTo {A = core.Statement} g) (declarator at g base type span d) _ (declarator_grows at g base type span d)

@@ -8,3 +8,4 @@ pub mod Knowledge
 pub mod Sizes
 pub mod Expressions
 pub mod Growth
+pub mod Statements
