@@ -9,3 +9,5 @@ pub mod Sizes
 pub mod Expressions
 pub mod Growth
 pub mod Statements
+pub mod Layouts
+pub mod Signatures

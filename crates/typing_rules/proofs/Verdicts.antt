@@ -22,6 +22,10 @@ pub anything_promised : {A : Type 0} (v : Verdict A) → Promises (λ (x : A). U
 anything_promised (Passes value) = tt
 anything_promised (Breaks fault) = tt
 
+pub always_promised : {A P : Type 0} (v : Verdict A) → P → Promises (λ (x : A). P) v
+always_promised (Passes value) h = h
+always_promised (Breaks fault) h = tt
+
 -- two promises at once, and one that is kept later
 pub both_promise : {A : Type 0} (P Q : A → Type 0) (v : Verdict A) → Promises P v → Promises Q v → Promises (λ (x : A). P x × Q x) v
 both_promise P Q (Passes value) p q = (p, q)
