@@ -11,3 +11,5 @@ pub mod Growth
 pub mod Statements
 pub mod Layouts
 pub mod Signatures
+pub mod Walks
+pub mod Items

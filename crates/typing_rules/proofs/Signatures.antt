@@ -26,7 +26,7 @@ bytes_equal a b h = grind (arith, bytes_eq-Decides)
 pub bytes_same : (a : List ℕ) → bytes_eq a a ≡ true
 bytes_same a = grind (arith, bytes_eq-Decides)
 
-named_self : (functions : List Signature) (name : List ℕ) (f : Signature) → function_named functions name ≡ Some f → name ≡ f.name
+pub named_self : (functions : List Signature) (name : List ℕ) (f : Signature) → function_named functions name ≡ Some f → name ≡ f.name
 named_self [] name f h = absurd (cc)
 named_self (g ∷ functions) name f h = by (bytes_eq name g.name) refl (named_self functions name f)
   where

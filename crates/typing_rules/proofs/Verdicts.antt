@@ -47,3 +47,12 @@ extends_append (z ∷ xs) ys (suc k) x h = extends_append xs ys k x h
 pub extends_last : {X : Type 0} (xs : List X) (x : X) → slice_get (xs ++ x ∷ []) (length xs) ≡ Some x
 extends_last [] x = refl
 extends_last (y ∷ xs) x = extends_last xs x
+
+pub every_promised : {A : Type 0} (P : A → Type 0) (v : Verdict A) → ((x : A) → P x) → Promises P v
+every_promised P (Passes value) h = h value
+every_promised P (Breaks fault) h = tt
+
+-- a promise under each premise
+pub all_promised : {A K : Type 0} (P : K → A → Type 0) (v : Verdict A) → ((k : K) → Promises (P k) v) → Promises (λ (x : A). (k : K) → P k x) v
+all_promised P (Passes value) h = h
+all_promised P (Breaks fault) h = tt
