@@ -1,8 +1,8 @@
 -- Items that break no rule lead from a walk as it should be to another one.
-use Rattle.std.proofs.Common.{◌≡◌, ℕ, zero, suc, ◌+◌, ◌<◌, ◌≤◌, Bool, true, false, List, [], ◌∷◌, ◌++◌, map, take, length, Option, Some, None, pos, refl, sym, ap, ◌∙◌, subst, append_assoc, arith}
+use Rattle.std.proofs.Common.{◌≡◌, ℕ, zero, suc, ◌+◌, ◌<◌, ◌≤◌, Bool, true, false, List, [], ◌∷◌, ◌++◌, map, take, length, Option, Some, None, pos, refl, sym, ap, ◌∙◌, subst, append_assoc, ⊎_elim, arith}
 use Rattle.std.specs.Prelude.{bytes_eq, codes, slice_get, nat_lt, nat_le, not, ◌&&◌, ◌||◌, ◌==◌, is_some, is_none}
-use Rattle.std.specs.List.{AllByRecursion, list_all}
-use Rattle.std.proofs.lemmas.Bool.{and_parts, ltb-true}
+use Rattle.std.specs.List.{AllByRecursion, list_all, list_any}
+use Rattle.std.proofs.lemmas.Bool.{and_parts, or_cases, ltb-true}
 use Rattle.std.proofs.lemmas.Bool.Decides.{nat_tests}
 use Rattle.std.proofs.lemmas.List.{length-append, length-map, append-nil}
 use Rattle.ckc_text.specs.declared.place.Span.{Span}
@@ -15,8 +15,8 @@ use Rattle.ckc_tree.specs.Statements as trees
 use Rattle.ckc_tree.specs.Statements.{Initializer, Declarator}
 use Rattle.ckc_tree.specs.Items as i
 use Rattle.ckc_names.specs.Naming as naming
-use Rattle.ckc_names.specs.Naming.{is_int_type, is_int, takes_nothing, is_main_function}
-use Rattle.built_forms.specs.Built.{is_number_type, is_number_result, is_number_parameter, built_parameters, built_of_kind, built_function}
+use Rattle.ckc_names.specs.Naming.{is_int_type, is_int, takes_nothing, is_main_function, is_main}
+use Rattle.built_forms.specs.Built.{is_number_type, is_number_result, is_number_parameter, built_parameters, built_of_kind, built_function, built_item}
 use Rattle.ckc_tree.specs.Items.{Item, Tree}
 use Rattle.pointer_modes.specs.Types.{CType, Int, Char, Struct, Pointer, Member, Structure, members_of}
 use Rattle.ckc_core.specs.Core as core
@@ -28,12 +28,12 @@ use Rattle.typing_rules.specs.Statements.{statements, with_local, is_unchecked, 
 use Rattle.typing_rules.specs.Items as items
 use Rattle.typing_rules.specs.Items.{Walk, in_checked_region, is_struct, member_types, scalar_members, with_struct, structure, Walked, Missing, Written, Constants, initializer, object_cells, with_variable, block_bytes, WalkedVariable, variables, with_objects, global, listed, parameter_types, result_type, with_function, with_parameters, inside, core_function, function_body, is_trusted, is_defined, agrees, all_scalar, scalar_result, function_rules, signature_of, function, item}
 use Rattle.typing_rules.specs.Typed.{Frame, slots, Stands, IsScalar, IsScalarResult, IsFunction, AreStatements}
-use Rattle.typing_rules.proofs.Verdicts.{Promises, passing_promises, needs_promises, anything_promised, always_promised, every_promised, both_promise, later_promises, all_promised, Extends, extends_append}
+use Rattle.typing_rules.proofs.Verdicts.{Promises, passing_promises, needs_promises, anything_promised, promised_so, both_promise, later_promises, all_promised, Extends, extends_append}
 use Rattle.typing_rules.proofs.Knowledge.{IsNumberType, IsNumberResult, KnowsFile}
 use Rattle.typing_rules.proofs.Growth.{Grows, stays, grows_further, file_known, local_grows, statements_grow, GrowsTo}
 use Rattle.typing_rules.proofs.Statements.{statements_promise}
 use Rattle.typing_rules.proofs.Layouts.{IsStart, AreCellsOf, IsWalked, of_members, cells_stand, object_promises, constant_promises}
-use Rattle.typing_rules.proofs.Signatures.{named_further, named_last, side_further, Agrees, agrees_equal, scalars_all, result_scalar, IsDeclared}
+use Rattle.typing_rules.proofs.Signatures.{named_further, named_last, side_further, Agrees, agrees_equal, scalars_all, result_scalar, bytes_equal, IsDeclared}
 use Rattle.typing_rules.proofs.Walks.{FileGrows, file_stays, file_further, AreSettled, IsBody, IsWell, settled_later, bodies_later, all_append}
 
 -- a walk as it should be behind another one
@@ -375,3 +375,195 @@ function_body_typed s f ps x same known scalars result walked =
         body = subst (λ r. AreStatements g x.1.locals r false x.0) (sym grown.result) (subst (λ l. AreStatements g x.1.locals (inside f ps s).result l x.0) (sym grown.loop) (walked.1 (record { frame = g; types = x.1.locals; scalar = locals; known = file_inside g f ps s all file }) (λ k t e. e)));
       };
     }
+
+-- ---- functions
+
+-- `main` is known
+pub record HasMain (s : Scope) : Type 0 where
+  pub signature : Signature
+  pub named : function_named s.functions (codes "main") ≡ Some signature
+  pub trusted : is_import signature ≡ false
+  pub none : signature.parameters ≡ []
+  pub int : signature.result ≡ Some Int
+
+main_later : (a b : Scope) → FileGrows a b → HasMain a → HasMain b
+main_later a b h main = record { signature = main.signature; named = h.functions (codes "main") main.signature main.named; trusted = main.trusted; none = main.none; int = main.int }
+
+-- behind an item a walk is as it should be, and `main` is known if it was one
+pub record Passed (w : Walk) (is_main : Bool) (v : Walk) : Type 0 where
+  pub follows : Follows w v
+  pub main : is_main ≡ true → HasMain v.scope
+
+-- what the rules of a declaration ask
+record IsRuled (known : Option Signature) (f : Signature) : Type 0 where
+  agreed : agrees known f ≡ true
+  scalars : all_scalar f.parameters ≡ true
+  scalar : scalar_result f.result ≡ true
+
+ruled_promises : (P : Walk → Type 0) (all : List Item) (d : i.Function) (f : Signature) (known : Option Signature) (x : Walk) → (IsRuled known f → P x) → Promises P (function_rules all d f known x)
+ruled_promises P all d f known x h =
+    needs_promises P (agrees known f && (all_scalar f.parameters && scalar_result f.result)) E13 d.span _
+    (λ ruled.
+    let first = and_parts (agrees known f) (all_scalar f.parameters && scalar_result f.result) ruled in
+    let second = and_parts (all_scalar f.parameters) (scalar_result f.result) first.1 in
+    needs_promises P (picked (is_trusted d.kind) (is_defined all d.name.name) true) E10 d.span _
+    (λ defined. needs_promises P (not (is_unchecked d.mark)) E15 d.span _
+    (λ on. region_promises P x.scope d.span x (h (record { agreed = first.0; scalars = second.0; scalar = second.1 })))))
+
+module _ (w : Walk) (well : IsWell w) (settled : AreSettled w.scope.structs w.scope.variables w.objects) where
+  -- with a function that is declared, for the first time or again
+  record Declares (known : Option Signature) (f : Signature) : Type 0 where
+    follows : Follows w (record w { scope = with_function known f w.scope })
+    is_known : IsKnownAs (with_function known f w.scope) f
+
+  declares : (known : Option Signature) (f : Signature) → function_named w.scope.functions f.name ≡ known → IsRuled known f → IsDeclared f → Declares known f
+  declares None f e ruled declared =
+      let after = with_function None f w.scope in
+      let grows : FileGrows w.scope after = record {
+        structs = λ k x h. h;
+        variables = λ k x h. h;
+        functions = λ name h found. named_further w.scope.functions f name h found;
+        numbers = λ side name h found. side_further side w.scope.functions f name h 0 found;
+      } in
+      record {
+        follows = record {
+          well = record { few = well.few; scalars = well.scalars; start = well.start; declared = all_append IsDeclared w.scope.functions f well.declared declared; bodies = bodies_later w.scope after w.bodies grows well.bodies };
+          settled = settled;
+          grows = grows;
+        };
+        is_known = record { signature = f; named = named_last w.scope.functions f e; agrees = record { kind = refl; parameters = refl; result = refl } };
+      }
+  declares (Some before) f e ruled declared = record {
+    follows = record {
+      well = record { few = well.few; scalars = well.scalars; start = well.start; declared = well.declared; bodies = well.bodies };
+      settled = settled;
+      grows = file_stays w.scope;
+    };
+    is_known = record { signature = before; named = e; agrees = agrees_equal before f ruled.agreed };
+  }
+
+  module _ (d : i.Function) (result : Option CType) (parameters : List Variable) (form : FitsForm d result parameters) (known : Option Signature) (found : function_named w.scope.functions d.name.name ≡ known) where
+    abbrev signature : Signature
+    signature = signature_of d result parameters
+
+    abbrev with_it : Walk
+    with_it = record w { scope = with_function known signature w.scope }
+
+    abbrev IsPassed : Walk → Type 0
+    IsPassed v = Passed w (is_main_function d) v
+
+    declared_so : IsRuled known signature → IsDeclared signature
+    declared_so ruled = record { scalars = scalars_all signature.parameters ruled.scalars; result = result_scalar result ruled.scalar; numbers = form.numbers; number_result = form.number_result }
+
+    is_declared : IsRuled known signature → Declares known signature
+    is_declared ruled = declares known signature found ruled (declared_so ruled)
+
+    main_known : IsKnownAs with_it.scope signature → is_main_function d ≡ true → HasMain with_it.scope
+    main_known it_is main =
+        let it = main_form d main in
+        let name = bytes_equal d.name.name (codes "main") it.name in
+        record {
+          signature = it_is.signature;
+          named = subst (λ x. function_named with_it.scope.functions x ≡ Some it_is.signature) name it_is.named;
+          trusted = ap is_tainted it_is.agrees.kind ∙ it.trusted;
+          none = it_is.agrees.parameters ∙ ap (λ (ps : List Variable). map (λ (p : Variable). p.type) ps) (form.none main);
+          int = it_is.agrees.result ∙ form.int_result main;
+        }
+
+    -- with a body more
+    with_body : IsRuled known signature → (x : core.Statements × Scope) → IsWalkedBody (inside signature parameters with_it.scope) x → IsPassed (record with_it { bodies = with_it.bodies ++ core_function signature parameters x.0 x.1 ∷ [] })
+    with_body ruled x walked =
+        let it = is_declared ruled in
+        let body = function_body_typed with_it.scope signature parameters x refl it.is_known (scalars_all signature.parameters ruled.scalars) (result_scalar result ruled.scalar) walked in
+        let well' = it.follows.well in
+        record {
+          follows = record {
+            well = record { few = well'.few; scalars = well'.scalars; start = well'.start; declared = well'.declared; bodies = all_append (IsBody with_it.scope) with_it.bodies (core_function signature parameters x.0 x.1) well'.bodies body };
+            settled = it.follows.settled;
+            grows = it.follows.grows;
+          };
+          main = main_known it.is_known;
+        }
+
+    body_promises : (at : Places) (body : Option i.Body) → Promises (λ (x : Walk). IsRuled known signature → IsPassed x) (function_body at with_it signature parameters body)
+    body_promises at None = λ ruled. let it = is_declared ruled in record { follows = it.follows; main = main_known it.is_known }
+    body_promises at (Some body) =
+        passing_promises (IsWalkedBody (inside signature parameters with_it.scope)) (λ (x : Walk). IsRuled known signature → IsPassed x) (statements at (inside signature parameters with_it.scope) body.statements) _ (body_walked at (inside signature parameters with_it.scope) body.statements)
+        (λ x walked. needs_promises (λ (x : Walk). IsRuled known signature → IsPassed x) (not (is_unchecked body.mark || with_it.scope.is_off)) E15 body.span _ (λ on ruled. with_body ruled x walked))
+
+    declaration_promises : (at : Places) (all : List Item) → Promises IsPassed (passing (function_body at with_it signature parameters d.body) (λ x. function_rules all d signature known x))
+    declaration_promises at all =
+        passing_promises (λ (x : Walk). IsRuled known signature → IsPassed x) IsPassed (function_body at with_it signature parameters d.body) _ (body_promises at d.body) (λ x h. ruled_promises IsPassed all d signature known x h)
+
+  -- what the form says of the result and of the parameters
+  abbrev ResultFits : i.Function → Option CType → Type 0
+  ResultFits d result = (is_tainted d.kind ≡ true → IsNumberResult result) × (is_main_function d ≡ true → result ≡ Some Int)
+
+  abbrev ParametersFit : i.Function → List Variable → Type 0
+  ParametersFit d parameters = (is_tainted d.kind ≡ true → AllByRecursion HasNumber parameters) × (is_main_function d ≡ true → parameters ≡ [])
+
+  result_fits : (d : i.Function) → built_function d ≡ true → Promises (ResultFits d) (result_type w.scope d.result d.stars)
+  result_fits d built =
+      let v = result_type w.scope d.result d.stars in
+      both_promise (λ (o : Option CType). is_tainted d.kind ≡ true → IsNumberResult o) (λ (o : Option CType). is_main_function d ≡ true → o ≡ Some Int) v
+      (later_promises (is_tainted d.kind ≡ true) IsNumberResult v (λ tainted. number_result w.scope d.result d.stars (crossing d built tainted).result))
+      (later_promises (is_main_function d ≡ true) (λ (o : Option CType). o ≡ Some Int) v (λ main. int_result w.scope d.result d.stars (main_form d main).int))
+
+  parameters_fit : (d : i.Function) → built_function d ≡ true → Promises (ParametersFit d) (parameter_types w.scope (listed d.parameters) [])
+  parameters_fit d built =
+      let v = parameter_types w.scope (listed d.parameters) [] in
+      both_promise (λ (ps : List Variable). is_tainted d.kind ≡ true → AllByRecursion HasNumber ps) (λ (ps : List Variable). is_main_function d ≡ true → ps ≡ []) v
+      (later_promises (is_tainted d.kind ≡ true) (AllByRecursion HasNumber) v (λ tainted. number_parameters w.scope (listed d.parameters) [] (listed_numbers d.parameters (crossing d built tainted).parameters) tt))
+      (later_promises (is_main_function d ≡ true) (λ (ps : List Variable). ps ≡ []) v (λ main. none_listed w.scope d.parameters (main_form d main).nothing))
+
+  function_promises : (at : Places) (all : List Item) (d : i.Function) → built_function d ≡ true → Promises (Passed w (is_main_function d)) (function at all w d)
+  function_promises at all d built =
+      needs_promises (Passed w (is_main_function d)) (is_some (function_named w.scope.functions d.name.name) || nat_lt (length w.scope.functions) 4096) E08 d.span _
+      (λ few. passing_promises (ResultFits d) (Passed w (is_main_function d)) (result_type w.scope d.result d.stars) _ (result_fits d built)
+      (λ result hr. passing_promises (ParametersFit d) (Passed w (is_main_function d)) (parameter_types w.scope (listed d.parameters) []) _ (parameters_fit d built)
+      (λ parameters hp. declaration_promises d result parameters
+        (record { numbers = λ tainted. number_types parameters (hp.0 tainted); number_result = hr.0; int_result = hr.1; none = hp.1 })
+        (function_named w.scope.functions d.name.name) refl at all)))
+
+  -- ---- items
+
+  no_main : (v : Verdict Walk) → Promises (Follows w) v → Promises (Passed w false) v
+  no_main (Passes v) h = record { follows = h; main = λ e. absurd (cc) }
+  no_main (Breaks fault) h = tt
+
+  item_promises : (at : Places) (all : List Item) (x : Item) → built_item x ≡ true → Promises (Passed w (is_main x)) (item at all w x)
+  item_promises at all (i.RegionItem region span) built = record {
+    follows = record {
+      well = record {
+        few = well.few;
+        scalars = well.scalars;
+        start = well.start;
+        declared = well.declared;
+        bodies = bodies_later w.scope (record w.scope { is_off = items.is_off region }) w.bodies (region_grows region) well.bodies;
+      };
+      settled = settled;
+      grows = region_grows region;
+    };
+    main = λ e. absurd (cc);
+  }
+    where
+      region_grows : (region : Region) → FileGrows w.scope (record w.scope { is_off = items.is_off region })
+      region_grows region = record { structs = λ k x h. h; variables = λ k x h. h; functions = λ name f h. h; numbers = λ side name f h. refl }
+  item_promises at all (i.StructureItem d) built = no_main (structure w d) (structure_promises w d well settled)
+  item_promises at all (i.GlobalItem d) built = no_main (global at w d) (global_promises at w d well settled)
+  item_promises at all (i.FunctionItem d) built = function_promises at all d built
+
+-- behind one item and others
+further_passed : (w v u : Walk) (first rest : Bool) → Passed w first v → Passed v rest u → Passed w (first || rest) u
+further_passed w v u first rest h h' = record {
+  follows = record { well = h'.follows.well; settled = h'.follows.settled; grows = file_further w.scope v.scope u.scope h.follows.grows h'.follows.grows };
+  main = λ e. ⊎_elim (λ one. main_later v.scope u.scope h'.follows.grows (h.main one)) h'.main (or_cases first rest e);
+}
+
+pub items_promise : (at : Places) (all : List Item) (w : Walk) (xs : List Item) → list_all built_item xs ≡ true → IsWell w → AreSettled w.scope.structs w.scope.variables w.objects → Promises (Passed w (list_any is_main xs)) (items.items at all w xs)
+items_promise at all w [] built well settled = record { follows = record { well = well; settled = settled; grows = file_stays w.scope }; main = λ e. absurd (cc) }
+items_promise at all w (x ∷ xs) built well settled =
+    let parts = and_parts (built_item x) (list_all built_item xs) built in
+    passing_promises (Passed w (is_main x)) (Passed w (list_any is_main (x ∷ xs))) (item at all w x) _ (item_promises w well settled at all x parts.0)
+    (λ v h. promised_so (Passed v (list_any is_main xs)) (Passed w (list_any is_main (x ∷ xs))) (items.items at all v xs) (items_promise at all v xs parts.1 h.follows.well h.follows.settled)
+    (λ u h'. further_passed w v u (is_main x) (list_any is_main xs) h h'))

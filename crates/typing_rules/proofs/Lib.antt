@@ -13,3 +13,4 @@ pub mod Layouts
 pub mod Signatures
 pub mod Walks
 pub mod Items
+pub mod Typing

@@ -48,9 +48,9 @@ pub extends_last : {X : Type 0} (xs : List X) (x : X) → slice_get (xs ++ x ∷
 extends_last [] x = refl
 extends_last (y ∷ xs) x = extends_last xs x
 
-pub every_promised : {A : Type 0} (P : A → Type 0) (v : Verdict A) → ((x : A) → P x) → Promises P v
-every_promised P (Passes value) h = h value
-every_promised P (Breaks fault) h = tt
+pub promised_so : {A : Type 0} (P Q : A → Type 0) (v : Verdict A) → Promises P v → ((x : A) → P x → Q x) → Promises Q v
+promised_so P Q (Passes value) h more = more value h
+promised_so P Q (Breaks fault) h more = tt
 
 -- a promise under each premise
 pub all_promised : {A K : Type 0} (P : K → A → Type 0) (v : Verdict A) → ((k : K) → Promises (P k) v) → Promises (λ (x : A). (k : K) → P k x) v

@@ -102,11 +102,11 @@ settled_there structs (x ∷ variables) (o ∷ objects) zero v h e = let same : 
 settled_there structs (x ∷ variables) (o ∷ objects) (suc k) v h e = settled_there structs variables objects k v h.1 e
 
 -- the body that is found is one of the function
-record Suits (b : core.Function) (f : Signature) : Type 0 where
-  parameters : take b.parameters b.locals ≡ f.parameters
-  result : b.result ≡ f.result
+pub record Suits (b : core.Function) (f : Signature) : Type 0 where
+  pub parameters : take b.parameters b.locals ≡ f.parameters
+  pub result : b.result ≡ f.result
 
-body_suits : (s : Scope) (bodies : List core.Function) (f : Signature) → AllByRecursion (IsBody s) bodies → function_named s.functions f.name ≡ Some f → Suits (body_of bodies f) f
+pub body_suits : (s : Scope) (bodies : List core.Function) (f : Signature) → AllByRecursion (IsBody s) bodies → function_named s.functions f.name ≡ Some f → Suits (body_of bodies f) f
 body_suits s [] f all named = record { parameters = take-length f.parameters; result = refl }
 body_suits s (b ∷ bodies) f all named = by (bytes_eq f.name b.name) refl (body_suits s bodies f all.1 named)
   where
