@@ -14,3 +14,5 @@ pub mod Signatures
 pub mod Walks
 pub mod Items
 pub mod Typing
+pub mod Stacks
+pub mod StatementStacks
