@@ -1,7 +1,9 @@
 -- What stays of a scope behind a statement, and what is added to it.
-use Rattle.std.proofs.Common.{◌≡◌, ℕ, ◌++◌, Bool, true, List, [], ◌∷◌, length, Option, Some, None, refl, sym, ap, ◌∙◌, subst, arith}
+use Rattle.std.proofs.Common.{◌≡◌, ℕ, ◌<◌, ◌≤◌, ◌++◌, Bool, true, List, [], ◌∷◌, length, Option, Some, None, refl, sym, ap, ◌∙◌, subst, arith}
 use Rattle.std.specs.Prelude.{nat_lt, slice_get, not, ◌||◌}
 use Rattle.std.specs.List.{AllByRecursion}
+use Rattle.std.proofs.lemmas.Bool.{ltb-true}
+use Rattle.std.proofs.lemmas.List.{length-append}
 use Rattle.ckc_text.specs.declared.place.Span.{Span}
 use Rattle.ckc_text.specs.declared.code.Code.TheVariants.{E08, E13, E15, E30}
 use Rattle.ckc_tree.specs.Types.{TypeTree}
@@ -28,9 +30,10 @@ pub record Grows (before after : Scope) : Type 0 where
   pub loop : before.in_loop ≡ after.in_loop
   pub locals : Extends before.locals after.locals
   pub scalars : AllByRecursion IsScalar before.locals → AllByRecursion IsScalar after.locals
+  pub few : length before.locals ≤ 256 → length after.locals ≤ 256
 
 pub stays : (g : Scope) → Grows g g
-stays g = record { structs = refl; functions = refl; variables = refl; result = refl; loop = refl; locals = λ k x h. h; scalars = λ h. h }
+stays g = record { structs = refl; functions = refl; variables = refl; result = refl; loop = refl; locals = λ k x h. h; scalars = λ h. h; few = λ h. h }
 
 pub grows_further : (a b c : Scope) → Grows a b → Grows b c → Grows a c
 grows_further a b c h h' = record {
@@ -41,6 +44,7 @@ grows_further a b c h h' = record {
   loop = h.loop ∙ h'.loop;
   locals = λ k x e. h'.locals k x (h.locals k x e);
   scalars = λ all. h'.scalars (h.scalars all);
+  few = λ n. h'.few (h.few n);
 }
 
 -- what is known of the file is known behind it
@@ -57,15 +61,15 @@ scalars_append : (ts : List CType) (t : CType) → IsScalar t → AllByRecursion
 scalars_append [] t h all = (h, tt)
 scalars_append (u ∷ ts) t h all = (all.0, scalars_append ts t h all.1)
 
-pub local_grows : (name : List ℕ) (t : CType) (g : Scope) → IsScalar t → Grows g (with_local name t g)
-local_grows name t g h = record { structs = refl; functions = refl; variables = refl; result = refl; loop = refl; locals = extends_append g.locals (t ∷ []); scalars = scalars_append g.locals t h }
+pub local_grows : (name : List ℕ) (t : CType) (g : Scope) → IsScalar t → length g.locals < 256 → Grows g (with_local name t g)
+local_grows name t g h low = record { structs = refl; functions = refl; variables = refl; result = refl; loop = refl; locals = extends_append g.locals (t ∷ []); scalars = scalars_append g.locals t h; few = λ n. omega (arith, length-append g.locals (t ∷ [])) }
 
 -- behind a block
 pub block_grows : (g inside : Scope) → Grows g inside → Grows g (behind_block g inside)
-block_grows g inside h = record { structs = h.structs; functions = h.functions; variables = h.variables; result = h.result; loop = refl; locals = h.locals; scalars = h.scalars }
+block_grows g inside h = record { structs = h.structs; functions = h.functions; variables = h.variables; result = h.result; loop = refl; locals = h.locals; scalars = h.scalars; few = h.few }
 
 pub loop_grows : (g inside : Scope) → Grows (in_loop g) inside → Grows g (behind_block g inside)
-loop_grows g inside h = record { structs = h.structs; functions = h.functions; variables = h.variables; result = h.result; loop = refl; locals = h.locals; scalars = h.scalars }
+loop_grows g inside h = record { structs = h.structs; functions = h.functions; variables = h.variables; result = h.result; loop = refl; locals = h.locals; scalars = h.scalars; few = h.few }
 
 pub for_grows : (g first inside : Scope) → Grows g first → Grows (in_loop first) inside → Grows g (behind_block g inside)
 for_grows g first inside h h' = record {
@@ -76,6 +80,7 @@ for_grows g first inside h h' = record {
   loop = refl;
   locals = λ k x e. h'.locals k x (h.locals k x e);
   scalars = λ all. h'.scalars (h.scalars all);
+  few = λ n. h'.few (h.few n);
 }
 
 abbrev pub GrowsTo : {A : Type 0} → Scope → A × Scope → Type 0
@@ -86,7 +91,7 @@ declarator_grows at g base type span d =
     needs_promises (GrowsTo {A = core.Statement} g) (nat_lt (length g.locals) 256) E08 span _
     (λ few. passing_promises (λ (t : CType). Unit {0}) (GrowsTo {A = core.Statement} g) (without_stars base d.stars type) _ (anything_promised (without_stars base d.stars type))
     (λ t _. passing_promises (λ (x : core.Statement). Unit {0}) (GrowsTo {A = core.Statement} g) (initialised at (with_local d.name.name t g) d.initializer t (length g.locals) span) _ (anything_promised (initialised at (with_local d.name.name t g) d.initializer t (length g.locals) span))
-    (λ initial _. needs_promises (GrowsTo {A = core.Statement} g) (is_scalar t) E13 span _ (λ scalar. local_grows d.name.name t g scalar))))
+    (λ initial _. needs_promises (GrowsTo {A = core.Statement} g) (is_scalar t) E13 span _ (λ scalar. local_grows d.name.name t g scalar (ltb-true (length g.locals) 256 few)))))
 
 pub declarators_grow : (at : Places) (g : Scope) (base : TypeTree) (type : CType) (span : Span) (ds : List Declarator) → Promises (GrowsTo {A = core.Statement} g) (declarators at g base type span ds)
 declarators_grow at g base type span [] = stays g

@@ -173,6 +173,7 @@ result_scalar (Some t) h = h
 
 -- what is asked of each declared function
 pub record IsDeclared (f : Signature) : Type 0 where
+  pub few : length f.parameters ≤ 16
   pub scalars : AllByRecursion IsScalar f.parameters
   pub result : IsScalarResult f.result
   pub numbers : is_import f ≡ true → AllByRecursion IsNumberType f.parameters

@@ -47,8 +47,8 @@ update_low n (OfCell (core.Direct object cell offset)) type operator value site 
 update_low n (OfCell (core.Through pointer cell offset before)) type operator value site h low = omega arith
 
 set_low : (n : ℕ) (target right : Typed) (span : Span) → 1 ≤ n → Low n target → Low n right → Promises (IsLowStatement (n + 2)) (set_to target right span)
-set_low n target right span one ht hr =
-    assigned_low (IsLowStatement (n + 2)) n target span _ ht (λ type place h. converted_low (IsLowStatement (n + 2)) n right type span _ one hr (λ v low. store_low n place type v h low))
+set_low n target right span least ht hr =
+    assigned_low (IsLowStatement (n + 2)) n target span _ ht (λ type place h. converted_low (IsLowStatement (n + 2)) n right type span _ least hr (λ v low. store_low n place type v h low))
 
 updated_low : (n : ℕ) (at : Places) (operator : Operator) (target right : Typed) (span : Span) → Low n target → Low n right → Promises (IsLowStatement (n + 2)) (updated at operator target right span)
 updated_low n at operator (Value type zero value None) right span ht hr = tt
@@ -59,9 +59,9 @@ updated_low n at operator (Value type zero value (Some place)) right span ht hr 
 updated_low n at operator (AStruct number place) right span ht hr = tt
 
 stored_low : (n : ℕ) (at : Places) (operator : StoreOperator) (target right : Typed) (span : Span) → 1 ≤ n → Low n target → Low n right → Promises (IsLowStatement (n + 2)) (stored at operator target right span)
-stored_low n at stores.Set target right span one ht hr = set_low n target right span one ht hr
-stored_low n at stores.Add target right span one ht hr = updated_low n at operators.Add target right span ht hr
-stored_low n at stores.Subtract target right span one ht hr = updated_low n at operators.Subtract target right span ht hr
+stored_low n at stores.Set target right span least ht hr = set_low n target right span least ht hr
+stored_low n at stores.Add target right span least ht hr = updated_low n at operators.Add target right span ht hr
+stored_low n at stores.Subtract target right span least ht hr = updated_low n at operators.Subtract target right span ht hr
 
 zero_low : (t : CType) → expression_stack (zero_value t) ≤ 1
 zero_low Int = omega arith
@@ -147,8 +147,8 @@ module _ (at : Places) where
   -- ---- results
 
   returned_low : (n : ℕ) (o : Option CType) (t : Typed) (span : Span) → 1 ≤ n → Low n t → Promises (IsLowStatement n) (returned o t span)
-  returned_low n None t span one h = tt
-  returned_low n (Some type) t span one h = converted_low (IsLowStatement n) n t type span _ one h (λ v low. low)
+  returned_low n None t span least h = tt
+  returned_low n (Some type) t span least h = converted_low (IsLowStatement n) n t type span _ least h (λ v low. low)
 
   nothing_low : (n : ℕ) (o : Option CType) (span : Span) → Promises (IsLowStatement n) (returned_nothing o span)
   nothing_low n None span = omega arith

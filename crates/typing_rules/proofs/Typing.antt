@@ -5,6 +5,7 @@ use Rattle.std.specs.List.{list_any}
 use Rattle.std.proofs.lemmas.List.{length-take-le}
 use Rattle.ckc_text.specs.declared.fault.SourceFault.{SourceFault}
 use Rattle.ckc_tree.specs.Items.{Tree}
+use Rattle.ckc_tree.specs.Heights.{height}
 use Rattle.ckc_names.specs.Mentions.{tree_mentions}
 use Rattle.ckc_names.specs.Scopes.{Scopes, all_mentioned, at_file_level}
 use Rattle.ckc_names.specs.Naming.{is_main, has_main, naming_fault}
@@ -37,33 +38,35 @@ main_there t h = by (has_main t) (all_mentioned (tree_mentions t) at_file_level)
 no_parameters : (f : core.Function) → f.parameters ≤ length f.locals → take f.parameters f.locals ≡ [] → f.parameters ≡ 0
 no_parameters f few none = omega (arith, length-take-le f.parameters f.locals few, ap length none)
 
-typed_walk : (w : Walk) → Passed start true w → IsTyped (core_of w)
-typed_walk w h =
+typed_walk : (height : ℕ) (w : Walk) → Passed height start true w → IsTyped (core_of w)
+typed_walk height w h =
     let well = h.follows.well in
     let main = h.main refl in
     let m = main.signature in
     let there = trusted_there w.bodies w.scope.functions (codes "main") m 0 main.named main.trusted in
     let number : there.index ≡ side_number false w.scope.functions (codes "main") 0 = let e = there.counted in omega arith in
     let found = subst (λ n. slice_get (trusted_functions w.bodies w.scope.functions) n ≡ Some (body_of w.bodies m)) number there.found in
-    let functions = functions_typed w well h.follows.settled w.scope.functions well.declared in
-    let suits = body_suits w.scope w.bodies m well.bodies (subst (λ x. function_named w.scope.functions x ≡ Some m) (named_self w.scope.functions (codes "main") m main.named) main.named) in
-    let it = of_element (IsFunction (frame w well h.follows.settled)) (trusted_functions w.bodies w.scope.functions) _ (body_of w.bodies m) functions found in
+    let functions = functions_typed height w well h.follows.settled w.scope.functions well.declared in
+    let suits = body_suits height w.scope w.bodies m well.bodies (subst (λ x. function_named w.scope.functions x ≡ Some m) (named_self w.scope.functions (codes "main") m main.named) main.named) in
+    let it = of_element (IsFunction (frame height w well h.follows.settled)) (trusted_functions w.bodies w.scope.functions) _ (body_of w.bodies m) functions found in
     record {
       structs = w.scope.structs;
-      objects = objects_typed w well h.follows.settled w.objects well.start;
+      objects = objects_typed height w well h.follows.settled w.objects well.start;
       functions = functions;
       main = (body_of w.bodies m, found, no_parameters (body_of w.bodies m) it.parameters (suits.parameters ∙ main.none), suits.result ∙ main.int);
     }
 
 -- at the start nothing is known
-start_well : IsWell start
-start_well = record { few = λ n. omega arith; scalars = λ n. tt; start = tt; declared = tt; bodies = tt }
+start_well : (height : ℕ) → IsWell height start
+start_well height = record { few = λ n. omega arith; scalars = λ n. tt; start = tt; declared = tt; bodies = tt }
 
-walked_typed : (v : Verdict Walk) (c : Core) → Promises (Passed start true) v → passing v (λ w. Passes (core_of w)) ≡ Passes c → IsTyped c
-walked_typed (Passes w) c h e = let same : core_of w ≡ c = cc in subst IsTyped same (typed_walk w h)
-walked_typed (Breaks fault) c h e = absurd (cc)
+walked_typed : (height : ℕ) (v : Verdict Walk) (c : Core) → Promises (Passed height start true) v → passing v (λ w. Passes (core_of w)) ≡ Passes c → IsTyped c
+walked_typed height (Passes w) c h e = let same : core_of w ≡ c = cc in subst IsTyped same (typed_walk height w h)
+walked_typed height (Breaks fault) c h e = absurd (cc)
+
+-- what the walk over a whole program leads to
+pub whole_walk : (at : Places) (t : Tree) (c : Core) → HasCore at t c → Promises (Passed (height t) start true) (walked at t)
+whole_walk at t c h = subst (λ b. Promises (Passed (height t) start b) (walked at t)) (main_there t h.names) (items_promise (height t) at t.items start t.items h.forms (omega arith) (start_well (height t)) tt)
 
 pub typed : (at : Places) (t : Tree) (c : Core) → HasCore at t c → IsTyped c
-typed at t c h =
-    let main : list_any is_main t.items ≡ true = main_there t h.names in
-    walked_typed (walked at t) c (subst (λ b. Promises (Passed start b) (walked at t)) main (items_promise at t.items start t.items h.forms start_well tt)) h.rules
+typed at t c h = walked_typed (height t) (walked at t) c (whole_walk at t c h) h.rules

@@ -1,10 +1,11 @@
 -- What holds of a walk behind each item.
-use Rattle.std.proofs.Common.{◌≡◌, ℕ, zero, suc, ◌+◌, ◌<◌, ◌≤◌, Bool, true, false, List, [], ◌∷◌, ◌++◌, map, take, length, Option, Some, None, refl, sym, ap, ◌∙◌, subst, append_assoc, arith}
+use Rattle.std.proofs.Common.{◌≡◌, ℕ, zero, suc, ◌+◌, ◌*◌, ◌<◌, ◌≤◌, Bool, true, false, List, [], ◌∷◌, ◌++◌, map, take, length, Option, Some, None, refl, sym, ap, ◌∙◌, subst, append_assoc, arith}
 use Rattle.std.specs.Prelude.{bytes_eq, slice_get}
 use Rattle.std.specs.List.{AllByRecursion}
 use Rattle.std.proofs.Math.Seq.{take-length}
 use Rattle.pointer_modes.specs.Types.{CType, Int, Member, Structure, members_of}
 use Rattle.ckc_core.specs.Core as core
+use Rattle.ckc_core.specs.Stacks.{statements_stack}
 use Rattle.typing_rules.specs.Verdicts.{picked}
 use Rattle.typing_rules.specs.Scopes.{Scope, Signature, Variable, function_named}
 use Rattle.typing_rules.specs.Types.{is_scalar}
@@ -61,20 +62,23 @@ AreSettled structs (v ∷ variables) [] = ⊥
 AreSettled structs (v ∷ variables) (o ∷ objects) = Stands o 0 (slots structs v.type) × AreSettled structs variables objects
 
 -- a body of a declared function has types, wherever what was known is known
-pub record IsBody (s : Scope) (b : core.Function) : Type 0 where
+pub record IsBody (height : ℕ) (s : Scope) (b : core.Function) : Type 0 where
   pub signature : Signature
   pub named : function_named s.functions b.name ≡ Some signature
   pub parameters : take b.parameters b.locals ≡ signature.parameters
   pub result : b.result ≡ signature.result
   pub typed : (g : Frame) → KnowsFile g s → IsFunction g b
+  pub few_parameters : b.parameters ≤ 16
+  pub few_locals : length b.locals ≤ 256
+  pub low : statements_stack b.body ≤ 17 * height
 
 -- what holds of a walk, beside its variables
-pub record IsWell (w : Walk) : Type 0 where
+pub record IsWell (height : ℕ) (w : Walk) : Type 0 where
   pub few : (n : ℕ) → length (members_of w.scope.structs n) ≤ 64
   pub scalars : (n : ℕ) → AllByRecursion (λ (m : Member). IsScalar m.ctype) (members_of w.scope.structs n)
   pub start : AllByRecursion (AllByRecursion IsStart) w.objects
   pub declared : AllByRecursion IsDeclared w.scope.functions
-  pub bodies : AllByRecursion (IsBody w.scope) w.bodies
+  pub bodies : AllByRecursion (IsBody height w.scope) w.bodies
 
 pub settled_later : (a b : List Structure) (variables : List Variable) (objects : List (List core.Initial)) → Extends a b → AreSettled a variables objects → AreSettled b variables objects
 settled_later a b [] [] ext h = tt
@@ -82,11 +86,11 @@ settled_later a b [] (o ∷ objects) ext h = absurd h
 settled_later a b (v ∷ variables) [] ext h = absurd h
 settled_later a b (v ∷ variables) (o ∷ objects) ext h = (subst (λ row. Stands o 0 row) (slots_kept a b v.type ext h.0.there) h.0, settled_later a b variables objects ext h.1)
 
-pub bodies_later : (a b : Scope) (bodies : List core.Function) → FileGrows a b → AllByRecursion (IsBody a) bodies → AllByRecursion (IsBody b) bodies
-bodies_later a b [] h all = tt
-bodies_later a b (x ∷ bodies) h all = (
-  record { signature = all.0.signature; named = h.functions x.name all.0.signature all.0.named; parameters = all.0.parameters; result = all.0.result; typed = λ g known. all.0.typed g (known_before g a b h known) },
-  bodies_later a b bodies h all.1,
+pub bodies_later : (height : ℕ) (a b : Scope) (bodies : List core.Function) → FileGrows a b → AllByRecursion (IsBody height a) bodies → AllByRecursion (IsBody height b) bodies
+bodies_later height a b [] h all = tt
+bodies_later height a b (x ∷ bodies) h all = (
+  record { signature = all.0.signature; named = h.functions x.name all.0.signature all.0.named; parameters = all.0.parameters; result = all.0.result; typed = λ g known. all.0.typed g (known_before g a b h known); few_parameters = all.0.few_parameters; few_locals = all.0.few_locals; low = all.0.low },
+  bodies_later height a b bodies h all.1,
 )
 
 pub all_append : {X : Type 0} (P : X → Type 0) (xs : List X) (x : X) → AllByRecursion P xs → P x → AllByRecursion P (xs ++ x ∷ [])
@@ -106,9 +110,9 @@ pub record Suits (b : core.Function) (f : Signature) : Type 0 where
   pub parameters : take b.parameters b.locals ≡ f.parameters
   pub result : b.result ≡ f.result
 
-pub body_suits : (s : Scope) (bodies : List core.Function) (f : Signature) → AllByRecursion (IsBody s) bodies → function_named s.functions f.name ≡ Some f → Suits (body_of bodies f) f
-body_suits s [] f all named = record { parameters = take-length f.parameters; result = refl }
-body_suits s (b ∷ bodies) f all named = by (bytes_eq f.name b.name) refl (body_suits s bodies f all.1 named)
+pub body_suits : (height : ℕ) (s : Scope) (bodies : List core.Function) (f : Signature) → AllByRecursion (IsBody height s) bodies → function_named s.functions f.name ≡ Some f → Suits (body_of bodies f) f
+body_suits height s [] f all named = record { parameters = take-length f.parameters; result = refl }
+body_suits height s (b ∷ bodies) f all named = by (bytes_eq f.name b.name) refl (body_suits height s bodies f all.1 named)
   where
     by : (test : Bool) → bytes_eq f.name b.name ≡ test → Suits (body_of bodies f) f → Suits (body_of (b ∷ bodies) f) f
     by true e again =
@@ -119,7 +123,7 @@ body_suits s (b ∷ bodies) f all named = by (bytes_eq f.name b.name) refl (body
         rw e (record { parameters = all.0.parameters ∙ ap (λ (x : Signature). x.parameters) same; result = all.0.result ∙ ap (λ (x : Signature). x.result) same })
     by false e again = rw e again
 
-module _ (w : Walk) (well : IsWell w) (settled : AreSettled w.scope.structs w.scope.variables w.objects) where
+module _ (height : ℕ) (w : Walk) (well : IsWell height w) (settled : AreSettled w.scope.structs w.scope.variables w.objects) where
   abbrev pub frame : Frame
   frame = record { program = core_of w; structs = w.scope.structs }
 
@@ -128,7 +132,7 @@ module _ (w : Walk) (well : IsWell w) (settled : AreSettled w.scope.structs w.sc
       let named = subst (λ x. function_named w.scope.functions x ≡ Some f) (named_self w.scope.functions name f found) found in
       let there = trusted_there w.bodies w.scope.functions f.name f 0 named side in
       let number : there.index ≡ side_number false w.scope.functions f.name 0 = let e = there.counted in omega arith in
-      let suits = body_suits w.scope w.bodies f well.bodies named in
+      let suits = body_suits height w.scope w.bodies f well.bodies named in
       record {
         function = body_of w.bodies f;
         found = subst (λ n. slice_get (trusted_functions w.bodies w.scope.functions) n ≡ Some (body_of w.bodies f)) number there.found;
@@ -164,7 +168,7 @@ module _ (w : Walk) (well : IsWell w) (settled : AreSettled w.scope.structs w.sc
   }
 
   -- each function has types
-  body_typed : (bodies : List core.Function) (f : Signature) → AllByRecursion (IsBody w.scope) bodies → IsDeclared f → IsFunction frame (body_of bodies f)
+  body_typed : (bodies : List core.Function) (f : Signature) → AllByRecursion (IsBody height w.scope) bodies → IsDeclared f → IsFunction frame (body_of bodies f)
   body_typed [] f all declared = record { parameters = omega arith; locals = declared.scalars; result = declared.result; body = rules.no_more }
   body_typed (b ∷ bodies) f all declared = chosen (bytes_eq f.name b.name) (all.0.typed frame known) (body_typed bodies f all.1 declared)
     where
@@ -188,3 +192,33 @@ module _ (w : Walk) (well : IsWell w) (settled : AreSettled w.scope.structs w.sc
   pub objects_typed : (objects : List (List core.Initial)) → AllByRecursion (AllByRecursion IsStart) objects → AllByRecursion (AllByRecursion (IsInitial frame)) objects
   objects_typed [] all = tt
   objects_typed (o ∷ objects) all = (start_typed o all.0, objects_typed objects all.1)
+
+  -- a function is small enough to be lowered, and an import to be called
+  pub record IsSmall (f : core.Function) : Type 0 where
+    pub few_parameters : f.parameters ≤ 16
+    pub few_locals : length f.locals ≤ 256
+    pub low : statements_stack f.body ≤ 17 * height
+
+  body_small : (bodies : List core.Function) (f : Signature) → AllByRecursion (IsBody height w.scope) bodies → IsDeclared f → IsSmall (body_of bodies f)
+  body_small [] f all declared = let few = declared.few in record { few_parameters = few; few_locals = omega arith; low = omega arith }
+  body_small (b ∷ bodies) f all declared = chosen (bytes_eq f.name b.name) (record { few_parameters = all.0.few_parameters; few_locals = all.0.few_locals; low = all.0.low }) (body_small bodies f all.1 declared)
+    where
+      chosen : (test : Bool) → IsSmall b → IsSmall (body_of bodies f) → IsSmall (picked test b (body_of bodies f))
+      chosen true h again = h
+      chosen false h again = again
+
+  pub functions_small : (functions : List Signature) → AllByRecursion IsDeclared functions → AllByRecursion IsSmall (trusted_functions w.bodies functions)
+  functions_small [] all = tt
+  functions_small (f ∷ functions) all = chosen (is_import f) (body_small w.bodies f well.bodies all.0) (functions_small functions all.1)
+    where
+      chosen : (test : Bool) → IsSmall (body_of w.bodies f) → AllByRecursion IsSmall (trusted_functions w.bodies functions) → AllByRecursion IsSmall (picked test (trusted_functions w.bodies functions) (body_of w.bodies f ∷ trusted_functions w.bodies functions))
+      chosen true h rest = rest
+      chosen false h rest = (h, rest)
+
+  pub imports_small : (functions : List Signature) → AllByRecursion IsDeclared functions → AllByRecursion (λ (x : core.Import). x.parameters ≤ 16) (tainted_functions functions)
+  imports_small [] all = tt
+  imports_small (f ∷ functions) all = chosen (is_import f) (imports_small functions all.1)
+    where
+      chosen : (test : Bool) → AllByRecursion (λ (x : core.Import). x.parameters ≤ 16) (tainted_functions functions) → AllByRecursion (λ (x : core.Import). x.parameters ≤ 16) (picked test (record { name = f.name; parameters = length f.parameters; result = f.result } ∷ tainted_functions functions) (tainted_functions functions))
+      chosen true rest = (all.0.few, rest)
+      chosen false rest = rest
