@@ -1,6 +1,6 @@
 -- The cells of a file-level variable stand as the slots of its type.
-use Rattle.std.proofs.Common.{◌≡◌, ℕ, zero, suc, ◌+◌, ◌-◌, ◌<◌, ◌≤◌, ◌^◌, ◌%◌, Bool, true, false, ℤ, pos, negsuc, List, [], ◌∷◌, ◌++◌, map, length, Option, Some, None, refl, sym, ap, ◌∙◌, subst, arith}
-use Rattle.std.specs.Prelude.{nat_lt, slice_get, ◌==◌}
+use Rattle.std.proofs.Common.{◌≡◌, ℕ, zero, suc, ◌+◌, ◌-◌, ◌<◌, ◌≤◌, ◌^◌, ◌%◌, Bool, true, false, ℤ, pos, negsuc, List, [], ◌∷◌, ◌++◌, map, length, Option, Some, None, refl, sym, ap, ◌∙◌, subst, ◌⊎◌, inl, inr, ⊎_elim, arith}
+use Rattle.std.specs.Prelude.{nat_lt, slice_get, ◌==◌, max}
 use Rattle.std.specs.List.{AllByRecursion}
 use Rattle.std.proofs.lemmas.Bool.Decides.{nat_tests}
 use Rattle.act_words.specs.Checks.{is_word_number}
@@ -11,7 +11,7 @@ use Rattle.ckc_tree.specs.declared.expr.UnaryOperator.TheVariants as unary
 use Rattle.ckc_tree.specs.Expressions as e
 use Rattle.ckc_tree.specs.Expressions.{Expression}
 use Rattle.pointer_modes.specs.Types.{CType, Int, Char, Struct, Pointer, Member, Structure, members_of}
-use Rattle.pointer_modes.specs.Layout.{Cell, placed_from, member_sizes, cells_of, size_of, aligned_up, scalar_size}
+use Rattle.pointer_modes.specs.Layout.{Cell, placed_from, member_sizes, cells_of, size_of, aligned_up, scalar_size, end_from, largest_of}
 use Rattle.ckc_core.specs.Core as core
 use Rattle.ckc_core.specs.States.{has_type, initial_value, object_block, byte_place}
 use Rattle.ckc_core.specs.States as states
@@ -21,7 +21,9 @@ use Rattle.typing_rules.specs.Scopes.{Scope}
 use Rattle.typing_rules.specs.Expressions.{Places, Typed, Value, AStruct, typed, constant, offset_among, unary_typed, site_at}
 use Rattle.typing_rules.specs.Items.{negative, unsigned_constant, negated_of, positive_of, signed_constant, strides_from, strides_of, cell_types, numbered_cells, cells_with, Walked, Missing, Written, Constants, is_zero, initial_number, number_or_break, written_cells, object_cells}
 use Rattle.typing_rules.specs.Typed.{Frame, Slot, slots_from, slots, Stands, HasValue, IsScalar}
+use Rattle.typing_rules.specs.Lowerable.{cells_size, IsRoomy}
 use Rattle.typing_rules.proofs.Numbers.{low_byte_small}
+use Rattle.typing_rules.proofs.Values.{value_typed}
 use Rattle.typing_rules.proofs.Verdicts.{Promises, passing_promises, needs_promises, anything_promised, always_promised, Extends}
 
 -- a cell before the run holds a value of its type, in every program
@@ -150,17 +152,104 @@ zeros_start : (members : List Member) → AllByRecursion (λ (m : Member). IsSca
 zeros_start [] all = tt
 zeros_start (m ∷ members) all = (zero_start m.ctype all.0, zeros_start members all.1)
 
+-- ---- room
+
+-- a size or an alignment is 1 or 4
+scalar_width : (t : CType) → (scalar_size t ≡ 1) ⊎ (scalar_size t ≡ 4)
+scalar_width Int = inr refl
+scalar_width Char = inl refl
+scalar_width (Struct n) = inr refl
+scalar_width (Pointer m k t) = inr refl
+
+largest_width : (members : List Member) → (largest_of (member_sizes members) ≡ 1) ⊎ (largest_of (member_sizes members) ≡ 4)
+largest_width [] = inl refl
+largest_width (m ∷ members) =
+    ⊎_elim (λ one. ⊎_elim (λ a. inl (omega arith)) (λ b. inr (omega arith)) (largest_width members)) (λ four. inr (⊎_elim (λ a. omega arith) (λ b. omega arith) (largest_width members))) (scalar_width m.ctype)
+
+aligned_wide : (a n : ℕ) → (a ≡ 1) ⊎ (a ≡ 4) → n ≤ aligned_up a n
+aligned_wide a n = ⊎_elim
+    (λ one. let wide : n ≤ aligned_up 1 n = omega arith in subst (λ b. n ≤ aligned_up b n) (sym one) wide)
+    (λ four. let wide : n ≤ aligned_up 4 n = omega arith in subst (λ b. n ≤ aligned_up b n) (sym four) wide)
+
+struct_wide : (members : List Member) → end_from 0 (member_sizes members) ≤ aligned_up (largest_of (member_sizes members)) (end_from 0 (member_sizes members))
+struct_wide members = aligned_wide (largest_of (member_sizes members)) (end_from 0 (member_sizes members)) (largest_width members)
+
+-- the end lies behind each cell
+end_least : (place : ℕ) (members : List Member) → place ≤ end_from place (member_sizes members)
+end_least place [] = omega arith
+end_least place (m ∷ members) = omega (arith, aligned_least m.ctype place, end_least (aligned_up (scalar_size m.ctype) place + scalar_size m.ctype) members)
+
+abbrev HasRoom : core.Initial → Type 0
+HasRoom i = scalar_size i.type ≤ i.stride
+
+cells_roomy : (number : ℤ) (members : List Member) (place end : ℕ) → end_from place (member_sizes members) ≤ end → AllByRecursion HasRoom (cells_from number place members end)
+cells_roomy number [] place end h = tt
+cells_roomy number (m ∷ []) place end h = (omega arith, tt)
+cells_roomy number (m ∷ next ∷ members) place end h =
+    let o = aligned_up (scalar_size m.ctype) place in
+    let below = aligned_least next.ctype (o + scalar_size m.ctype) in
+    (omega arith, cells_roomy number (next ∷ members) (o + scalar_size m.ctype) end h)
+
+-- the cells of a variable take all of its bytes
+cells_whole : (number : ℤ) (m : Member) (members : List Member) (place end : ℕ) → end_from place (member_sizes (m ∷ members)) ≤ end → cells_size (cells_from number place (m ∷ members) end) + aligned_up (scalar_size m.ctype) place ≡ end
+cells_whole number m [] place end h = omega arith
+cells_whole number m (next ∷ members) place end h =
+    let o = aligned_up (scalar_size m.ctype) place in
+    let below = aligned_least next.ctype (o + scalar_size m.ctype) in
+    let rest = cells_whole number next members (o + scalar_size m.ctype) end h in
+    let least = end_least (o + scalar_size m.ctype) (next ∷ members) in
+    omega arith
+
+members_size : (number : ℤ) (members : List Member) (end : ℕ) → end_from 0 (member_sizes members) ≤ end → 0 < length (cells_from number 0 members end) → cells_size (cells_from number 0 members end) ≡ end
+members_size number [] end h some = absurd (omega arith)
+members_size number (m ∷ members) end h some = omega (arith, cells_whole number m members 0 end h, first_at_zero m.ctype)
+
+pub whole_size : (structs : List Structure) (t : CType) (number : ℤ) → 0 < length (cells_with structs t number) → cells_size (cells_with structs t number) ≡ size_of structs t
+whole_size structs Int number some = refl
+whole_size structs Char number some = refl
+whole_size structs (Pointer m k t) number some = refl
+whole_size structs (Struct n) number some = members_size number (members_of structs n) (size_of structs (Struct n)) (struct_wide (members_of structs n)) some
+
+all_roomy : (structs : List Structure) (t : CType) (number : ℤ) → AllByRecursion HasRoom (cells_with structs t number)
+all_roomy structs Int number = (omega arith, tt)
+all_roomy structs Char number = (omega arith, tt)
+all_roomy structs (Pointer m k t) number = (omega arith, tt)
+all_roomy structs (Struct n) number = cells_roomy number (members_of structs n) 0 (size_of structs (Struct n)) (struct_wide (members_of structs n))
+
+-- cells with one number, which has 32 bits, and is 0 where the cell is null
+roomy_start : (number : ℤ) (ts : List CType) (strides : List ℕ) → is_word_number number ≡ true → AllByRecursion (λ (t : CType). initial_value t number ≡ states.Null → number ≡ pos 0) ts → AllByRecursion HasRoom (numbered_cells number ts strides) → AllByRecursion IsStart (numbered_cells number ts strides) → AllByRecursion IsRoomy (numbered_cells number ts strides)
+roomy_start number [] strides word null rooms start = tt
+roomy_start number (t ∷ ts) [] word null rooms start = tt
+roomy_start number (t ∷ ts) (stride ∷ strides) word null rooms start = (
+  record { room = rooms.0; typed = value_typed nowhere t (initial_value t number) (start.0 nowhere); word = word; null = null.0 },
+  roomy_start number ts strides word null.1 rooms.1 start.1,
+)
+  where
+    nowhere : Frame
+    nowhere = record { program = record { objects = []; imports = []; functions = []; main = 0 }; structs = [] }
+
+zero_null : (ts : List CType) → AllByRecursion (λ (t : CType). initial_value t (pos 0) ≡ states.Null → pos 0 ≡ pos 0) ts
+zero_null [] = tt
+zero_null (t ∷ ts) = ((λ h. refl), zero_null ts)
+
 -- the cells of a variable that are written down
 pub record AreCellsOf (structs : List Structure) (t : CType) (cells : List core.Initial) : Type 0 where
   pub number : ℤ
   pub same : cells ≡ cells_with structs t number
   pub start : AllByRecursion IsStart cells
+  pub roomy : AllByRecursion IsRoomy cells
+
+-- cells with a number of 32 bits that each of their types has
+cells_of_number : (structs : List Structure) (t : CType) (number : ℤ) → is_word_number number ≡ true → AllByRecursion (λ (u : CType). initial_value u number ≡ states.Null → number ≡ pos 0) (cell_types structs t) → AllByRecursion (λ (u : CType). (g : Frame) → HasValue g u (initial_value u number)) (cell_types structs t) → AreCellsOf structs t (cells_with structs t number)
+cells_of_number structs t number word null values =
+    let start = numbered_start number (cell_types structs t) (strides_of structs t) values in
+    record { number = number; same = refl; start = start; roomy = roomy_start number (cell_types structs t) (strides_of structs t) word null (all_roomy structs t number) start }
 
 zero_cells : (structs : List Structure) (t : CType) → ((n : ℕ) → AllByRecursion (λ (m : Member). IsScalar m.ctype) (members_of structs n)) → AreCellsOf structs t (cells_with structs t (pos 0))
-zero_cells structs Int all = record { number = pos 0; same = refl; start = numbered_start (pos 0) (Int ∷ []) (strides_of structs Int) (zero_start Int refl, tt) }
-zero_cells structs Char all = record { number = pos 0; same = refl; start = numbered_start (pos 0) (Char ∷ []) (strides_of structs Char) (zero_start Char refl, tt) }
-zero_cells structs (Pointer m k t) all = record { number = pos 0; same = refl; start = numbered_start (pos 0) (Pointer m k t ∷ []) (strides_of structs (Pointer m k t)) (zero_start (Pointer m k t) refl, tt) }
-zero_cells structs (Struct n) all = record { number = pos 0; same = refl; start = numbered_start (pos 0) (types_of (members_of structs n)) (strides_of structs (Struct n)) (zeros_start (members_of structs n) (all n)) }
+zero_cells structs Int all = cells_of_number structs Int (pos 0) refl (zero_null (Int ∷ [])) (zero_start Int refl, tt)
+zero_cells structs Char all = cells_of_number structs Char (pos 0) refl (zero_null (Char ∷ [])) (zero_start Char refl, tt)
+zero_cells structs (Pointer m k t) all = cells_of_number structs (Pointer m k t) (pos 0) refl (zero_null (Pointer m k t ∷ [])) (zero_start (Pointer m k t) refl, tt)
+zero_cells structs (Struct n) all = cells_of_number structs (Struct n) (pos 0) refl (zero_null (types_of (members_of structs n))) (zeros_start (members_of structs n) (all n))
 
 -- a number that is written down has 32 bits
 abbrev pub ConstantFits : Option ℤ → Type 0
@@ -186,21 +275,22 @@ IfCells structs t cells = AreCellsOf structs t cells
 
 int_cells : (structs : List Structure) (o : Option ℤ) (span : Span) → ConstantFits o → Promises (IfCells structs Int) (number_or_break o span (cells_with structs Int))
 int_cells structs None span h = tt
-int_cells structs (Some z) span h = record { number = z; same = refl; start = numbered_start z (Int ∷ []) (strides_of structs Int) ((λ g. h), tt) }
+int_cells structs (Some z) span h = cells_of_number structs Int z h ((λ null. absurd (cc)), tt) ((λ g. h), tt)
 
 char_cells : (structs : List Structure) (o : Option ℤ) (span : Span) → Promises (IfCells structs Char) (number_or_break o span (λ n. cells_with structs Char (low_byte n)))
 char_cells structs None span = tt
 char_cells structs (Some z) span =
     let small = low_byte_small z in
     let test : nat_lt (word z % 256) 256 ≡ true = grind (arith, nat_tests) in
-    record { number = low_byte z; same = refl; start = numbered_start (low_byte z) (Char ∷ []) (strides_of structs Char) ((λ g. test), tt) }
+    let word : is_word_number (low_byte z) ≡ true = grind (arith, nat_tests) in
+    cells_of_number structs Char (low_byte z) word ((λ null. absurd (cc)), tt) ((λ g. test), tt)
 
 written_promises : (structs : List Structure) (t : CType) (value : Expression) (x : Typed) (span : Span) → ConstantFits (signed_constant value) → Promises (IfCells structs t) (written_cells structs t value x span)
 written_promises structs Int value x span h = int_cells structs (initial_number value x) span (initial_fits (is_zero x) (signed_constant value) h)
 written_promises structs Char value x span h = char_cells structs (initial_number value x) span
 written_promises structs (Struct n) value x span h = tt
 written_promises structs (Pointer m k t) value x span h =
-    needs_promises (IfCells structs (Pointer m k t)) (is_zero x) E13 span _ (λ yes. record { number = pos 0; same = refl; start = numbered_start (pos 0) (Pointer m k t ∷ []) (strides_of structs (Pointer m k t)) (zero_start (Pointer m k t) refl, tt) })
+    needs_promises (IfCells structs (Pointer m k t)) (is_zero x) E13 span _ (λ yes. cells_of_number structs (Pointer m k t) (pos 0) refl (zero_null (Pointer m k t ∷ [])) (zero_start (Pointer m k t) refl, tt))
 
 pub object_promises : (structs : List Structure) (t : CType) (x : Walked) (span : Span) → ((n : ℕ) → AllByRecursion (λ (m : Member). IsScalar m.ctype) (members_of structs n)) → IsWalked x → Promises (IfCells structs t) (object_cells structs t x span)
 object_promises structs t Missing span all h = zero_cells structs t all

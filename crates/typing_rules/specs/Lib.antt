@@ -8,3 +8,4 @@ pub mod Cores
 pub mod Examples
 pub mod NeverStuck
 pub mod Typed
+pub mod Lowerable
