@@ -2,7 +2,7 @@
 use Rattle.std.proofs.Common.{◌≡◌, ℕ, zero, suc, ◌+◌, ◌*◌, ◌<◌, ◌≤◌, Bool, true, false, List, [], ◌∷◌, ◌++◌, map, take, length, Option, Some, None, pos, refl, sym, ap, ◌∙◌, subst, append_assoc, ⊎_elim, arith}
 use Rattle.std.specs.Prelude.{bytes_eq, codes, slice_get, nat_lt, nat_le, not, ◌&&◌, ◌||◌, ◌==◌, is_some, is_none}
 use Rattle.std.specs.List.{AllByRecursion, list_all, list_any}
-use Rattle.std.proofs.lemmas.Bool.{and_parts, or_cases, ltb-true}
+use Rattle.std.proofs.lemmas.Bool.{and_parts, or_cases, ltb-true, leb-true}
 use Rattle.std.proofs.lemmas.Bool.Decides.{nat_tests}
 use Rattle.std.proofs.lemmas.List.{length-append, length-map, append-nil}
 use Rattle.ckc_text.specs.declared.place.Span.{Span}
@@ -19,6 +19,8 @@ use Rattle.ckc_names.specs.Naming.{is_int_type, is_int, takes_nothing, is_main_f
 use Rattle.built_forms.specs.Built.{is_number_type, is_number_result, is_number_parameter, built_parameters, built_of_kind, built_function, built_item}
 use Rattle.ckc_tree.specs.Items.{Item, Tree}
 use Rattle.ckc_tree.specs.Heights.{Reach, ◌beside◌, statements_reach, optional_bounds_reach, result_reach, parameters_reach, optional_body_reach, item_reach, items_reach}
+use Rattle.flat_bytes.specs.Blocks.{rounded_up}
+use Rattle.pointer_modes.specs.Layout.{size_of}
 use Rattle.pointer_modes.specs.Types.{CType, Int, Char, Struct, Pointer, Member, Structure, members_of}
 use Rattle.ckc_core.specs.Core as core
 use Rattle.ckc_core.specs.Stacks.{statements_stack}
@@ -30,13 +32,14 @@ use Rattle.typing_rules.specs.Statements.{statements, with_local, is_unchecked, 
 use Rattle.typing_rules.specs.Items as items
 use Rattle.typing_rules.specs.Items.{Walk, in_checked_region, is_struct, member_types, scalar_members, with_struct, structure, Walked, Missing, Written, Constants, initializer, object_cells, with_variable, block_bytes, WalkedVariable, variables, with_objects, global, listed, parameter_types, result_type, with_function, with_parameters, inside, core_function, function_body, is_trusted, is_defined, agrees, all_scalar, scalar_result, function_rules, signature_of, function, item}
 use Rattle.typing_rules.specs.Typed.{Frame, slots, Stands, IsScalar, IsScalarResult, IsFunction, AreStatements}
+use Rattle.typing_rules.specs.Lowerable.{cells_size, objects_size, IsRoomy}
 use Rattle.typing_rules.proofs.Verdicts.{Promises, passing_promises, needs_promises, anything_promised, promised_so, both_promise, later_promises, all_promised, Extends, extends_append}
 use Rattle.typing_rules.proofs.Knowledge.{IsNumberType, IsNumberResult, KnowsFile}
 use Rattle.typing_rules.proofs.Growth.{Grows, stays, grows_further, file_known, local_grows, statements_grow, GrowsTo}
 use Rattle.typing_rules.proofs.Statements.{statements_promise}
 use Rattle.typing_rules.proofs.Stacks.{beside_first, beside_second, around_higher, HasFew}
 use Rattle.typing_rules.proofs.StatementStacks.{HaveFew, statements_low}
-use Rattle.typing_rules.proofs.Layouts.{IsStart, AreCellsOf, IsWalked, of_members, cells_stand, object_promises, constant_promises}
+use Rattle.typing_rules.proofs.Layouts.{IsStart, AreCellsOf, IsWalked, of_members, cells_stand, whole_size, object_promises, constant_promises}
 use Rattle.typing_rules.proofs.Signatures.{named_further, named_last, side_further, Agrees, agrees_equal, scalars_all, result_scalar, bytes_equal, IsDeclared}
 use Rattle.typing_rules.proofs.Walks.{FileGrows, file_stays, file_further, AreSettled, IsBody, IsWell, settled_later, bodies_later, all_append}
 
@@ -84,6 +87,9 @@ module _ (height : ℕ) where
           start = well.start;
           declared = well.declared;
           bodies = bodies_later height w.scope after w.bodies grows well.bodies;
+          roomy = well.roomy;
+          bytes = well.bytes;
+          room = well.room;
         };
         settled = settled_later w.scope.structs (w.scope.structs ++ new ∷ []) w.scope.variables w.objects ext settled;
         grows = grows;
@@ -117,6 +123,19 @@ module _ (height : ℕ) where
   waiting_append (u ∷ vs) [] v x h type initial = absurd h
   waiting_append (u ∷ vs) (y ∷ walked) v x h type initial = (h.0, h.1, waiting_append vs walked v x h.2 type initial)
 
+  -- the bytes that they will take with their gaps
+  abbrev waiting_size : List Structure → List Variable → ℕ
+  waiting_size structs [] = 0
+  waiting_size structs (v ∷ vs) = rounded_up (size_of structs v.type) + 16 + waiting_size structs vs
+
+  waiting_more : (structs : List Structure) (vs : List Variable) (v : Variable) → waiting_size structs (vs ++ v ∷ []) ≡ waiting_size structs vs + (rounded_up (size_of structs v.type) + 16)
+  waiting_more structs [] v = omega arith
+  waiting_more structs (u ∷ vs) v = omega (arith, waiting_more structs vs v)
+
+  objects_more : (objects : List (List core.Initial)) (cells : List core.Initial) → objects_size (objects ++ cells ∷ []) ≡ objects_size objects + (rounded_up (cells_size cells) + 16)
+  objects_more [] cells = omega arith
+  objects_more (o ∷ objects) cells = omega (arith, objects_more objects cells)
+
   -- a walk in which some variables wait
   record Waits (a : Walk) (x : Walk × List WalkedVariable) : Type 0 where
     settled_ones : List Variable
@@ -126,9 +145,10 @@ module _ (height : ℕ) where
     settled : AreSettled x.0.scope.structs settled_ones x.0.objects
     waiting : AreWaiting waiting_ones x.1
     grows : FileGrows a.scope x.0.scope
+    bytes : objects_size x.0.objects + waiting_size x.0.scope.structs waiting_ones ≤ x.0.taken
 
-  with_variable_waits : (a w : Walk) (walked : List WalkedVariable) (name : List ℕ) (t : CType) (taken : ℕ) (initial : Walked) → Waits a (w, walked) → IsWalked initial → Waits a (record w { scope = with_variable name t w.scope; taken = taken }, walked ++ record { type = t; initial = initial } ∷ [])
-  with_variable_waits a w walked name t taken initial h is =
+  with_variable_waits : (a w : Walk) (walked : List WalkedVariable) (name : List ℕ) (t : CType) (initial : Walked) → w.taken + block_bytes w.scope t ≤ 32768 → Waits a (w, walked) → IsWalked initial → Waits a (record w { scope = with_variable name t w.scope; taken = w.taken + block_bytes w.scope t }, walked ++ record { type = t; initial = initial } ∷ [])
+  with_variable_waits a w walked name t initial within h is =
       let v : Variable = record { name = name; type = t } in
       let after = with_variable name t w.scope in
       let more : FileGrows w.scope after = record { structs = λ k x e. e; variables = extends_append w.scope.variables (v ∷ []); functions = λ n f e. e; numbers = λ side n f e. refl } in
@@ -136,10 +156,11 @@ module _ (height : ℕ) where
         settled_ones = h.settled_ones;
         waiting_ones = h.waiting_ones ++ v ∷ [];
         all = ap (λ vs. vs ++ v ∷ []) h.all ∙ append_assoc h.settled_ones h.waiting_ones (v ∷ []);
-        well = record { few = h.well.few; scalars = h.well.scalars; start = h.well.start; declared = h.well.declared; bodies = bodies_later height w.scope after w.bodies more h.well.bodies };
+        well = record { few = h.well.few; scalars = h.well.scalars; start = h.well.start; declared = h.well.declared; bodies = bodies_later height w.scope after w.bodies more h.well.bodies; roomy = h.well.roomy; bytes = omega (arith, h.well.bytes); room = within };
         settled = h.settled;
         waiting = waiting_append h.waiting_ones walked v (record { type = t; initial = initial }) h.waiting refl is;
         grows = file_further a.scope w.scope after h.grows more;
+        bytes = omega (arith, h.bytes, waiting_more w.scope.structs h.waiting_ones v);
       }
 
   variables_promise : (at : Places) (a w : Walk) (base : TypeTree) (type : CType) (span : Span) (ds : List Declarator) (walked : List WalkedVariable) → Waits a (w, walked) → Promises (Waits a) (variables at w base type span ds walked)
@@ -149,7 +170,7 @@ module _ (height : ℕ) where
       (λ few. passing_promises (λ (t : CType). Unit {0}) (Waits a) (without_stars base d.stars type) _ (anything_promised (without_stars base d.stars type))
       (λ t _. needs_promises (Waits a) (nat_le (w.taken + block_bytes w.scope t) 32768) E08 span _
       (λ room. passing_promises IsWalked (Waits a) (initializer at (with_variable d.name.name t w.scope) d.initializer) _ (initializer_promises at (with_variable d.name.name t w.scope) d.initializer)
-      (λ initial is. variables_promise at a (record w { scope = with_variable d.name.name t w.scope; taken = w.taken + block_bytes w.scope t }) base type span ds (walked ++ record { type = t; initial = initial } ∷ []) (with_variable_waits a w walked d.name.name t (w.taken + block_bytes w.scope t) initial h is)))))
+      (λ initial is. variables_promise at a (record w { scope = with_variable d.name.name t w.scope; taken = w.taken + block_bytes w.scope t }) base type span ds (walked ++ record { type = t; initial = initial } ∷ []) (with_variable_waits a w walked d.name.name t initial (leb-true (w.taken + block_bytes w.scope t) 32768 room) h is)))))
 
   settled_append : (structs : List Structure) (vs : List Variable) (objects : List (List core.Initial)) (v : Variable) (cells : List core.Initial) → AreSettled structs vs objects → Stands cells 0 (slots structs v.type) → AreSettled structs (vs ++ v ∷ []) (objects ++ cells ∷ [])
   settled_append structs [] [] v cells h stands = (stands, tt)
@@ -159,21 +180,28 @@ module _ (height : ℕ) where
 
   -- the cells of the first one that waits
   with_cells : (a w : Walk) (x : WalkedVariable) (walked : List WalkedVariable) (cells : List core.Initial) → Waits a (w, x ∷ walked) → AreCellsOf w.scope.structs x.type cells → 0 < length cells → Waits a (record w { objects = w.objects ++ cells ∷ [] }, walked)
-  with_cells a w x walked cells h is some = by h.waiting_ones h.all h.waiting
+  with_cells a w x walked cells h is some = by h.waiting_ones h.all h.waiting h.bytes
     where
       stands : Stands cells 0 (slots w.scope.structs x.type)
       stands = subst (λ c. Stands c 0 (slots w.scope.structs x.type)) (sym is.same) (cells_stand w.scope.structs x.type is.number (subst (λ (c : List core.Initial). 0 < length c) is.same some))
 
-      by : (vs : List Variable) → w.scope.variables ≡ h.settled_ones ++ vs → AreWaiting vs (x ∷ walked) → Waits a (record w { objects = w.objects ++ cells ∷ [] }, walked)
-      by [] all waiting = absurd waiting
-      by (v ∷ vs) all waiting = record {
+      size : cells_size cells ≡ size_of w.scope.structs x.type
+      size = ap cells_size is.same ∙ whole_size w.scope.structs x.type is.number (subst (λ (c : List core.Initial). 0 < length c) is.same some)
+
+      taken : (v : Variable) → v.type ≡ x.type → objects_size (w.objects ++ cells ∷ []) ≡ objects_size w.objects + (rounded_up (size_of w.scope.structs v.type) + 16)
+      taken v type = objects_more w.objects cells ∙ ap (λ n. objects_size w.objects + (rounded_up n + 16)) (size ∙ ap (size_of w.scope.structs) (sym type))
+
+      by : (vs : List Variable) → w.scope.variables ≡ h.settled_ones ++ vs → AreWaiting vs (x ∷ walked) → objects_size w.objects + waiting_size w.scope.structs vs ≤ w.taken → Waits a (record w { objects = w.objects ++ cells ∷ [] }, walked)
+      by [] all waiting bytes = absurd waiting
+      by (v ∷ vs) all waiting bytes = record {
         settled_ones = h.settled_ones ++ v ∷ [];
         waiting_ones = vs;
         all = all ∙ sym (append_assoc h.settled_ones (v ∷ []) vs);
-        well = record { few = h.well.few; scalars = h.well.scalars; start = all_append (AllByRecursion IsStart) w.objects cells h.well.start is.start; declared = h.well.declared; bodies = h.well.bodies };
+        well = record { few = h.well.few; scalars = h.well.scalars; start = all_append (AllByRecursion IsStart) w.objects cells h.well.start is.start; declared = h.well.declared; bodies = h.well.bodies; roomy = all_append (λ (o : List core.Initial). AllByRecursion IsRoomy o × (0 < length o)) w.objects cells h.well.roomy (is.roomy, some); bytes = omega (arith, bytes, taken v waiting.0); room = h.well.room };
         settled = settled_append w.scope.structs h.settled_ones w.objects v cells h.settled (subst (λ t. Stands cells 0 (slots w.scope.structs t)) (sym waiting.0) stands);
         waiting = waiting.2;
         grows = h.grows;
+        bytes = omega (arith, bytes, taken v waiting.0);
       }
 
   -- none waits any more
@@ -198,7 +226,7 @@ module _ (height : ℕ) where
       first_walked (v ∷ vs) waiting = waiting.1
 
   nothing_waits : (w : Walk) → IsWell height w → AreSettled w.scope.structs w.scope.variables w.objects → Waits w (w, [])
-  nothing_waits w well settled = record { settled_ones = w.scope.variables; waiting_ones = []; all = sym (append-nil w.scope.variables); well = well; settled = settled; waiting = tt; grows = file_stays w.scope }
+  nothing_waits w well settled = record { settled_ones = w.scope.variables; waiting_ones = []; all = sym (append-nil w.scope.variables); well = well; settled = settled; waiting = tt; grows = file_stays w.scope; bytes = omega (arith, well.bytes) }
 
   global_promises : (at : Places) (w : Walk) (d : i.Global) → IsWell height w → AreSettled w.scope.structs w.scope.variables w.objects → Promises (Follows w) (global at w d)
   global_promises at w d well settled =
@@ -450,7 +478,7 @@ module _ (height : ℕ) where
         } in
         record {
           follows = record {
-            well = record { few = well.few; scalars = well.scalars; start = well.start; declared = all_append IsDeclared w.scope.functions f well.declared declared; bodies = bodies_later height w.scope after w.bodies grows well.bodies };
+            well = record { few = well.few; scalars = well.scalars; start = well.start; declared = all_append IsDeclared w.scope.functions f well.declared declared; bodies = bodies_later height w.scope after w.bodies grows well.bodies; roomy = well.roomy; bytes = well.bytes; room = well.room };
             settled = settled;
             grows = grows;
           };
@@ -458,7 +486,7 @@ module _ (height : ℕ) where
         }
     declares (Some before) f e ruled declared = record {
       follows = record {
-        well = record { few = well.few; scalars = well.scalars; start = well.start; declared = well.declared; bodies = well.bodies };
+        well = record { few = well.few; scalars = well.scalars; start = well.start; declared = well.declared; bodies = well.bodies; roomy = well.roomy; bytes = well.bytes; room = well.room };
         settled = settled;
         grows = file_stays w.scope;
       };
@@ -501,7 +529,7 @@ module _ (height : ℕ) where
           let well' = it.follows.well in
           record {
             follows = record {
-              well = record { few = well'.few; scalars = well'.scalars; start = well'.start; declared = well'.declared; bodies = all_append (IsBody height with_it.scope) with_it.bodies (core_function signature parameters x.0 x.1) well'.bodies body };
+              well = record { few = well'.few; scalars = well'.scalars; start = well'.start; declared = well'.declared; bodies = all_append (IsBody height with_it.scope) with_it.bodies (core_function signature parameters x.0 x.1) well'.bodies body; roomy = well'.roomy; bytes = well'.bytes; room = well'.room };
               settled = it.follows.settled;
               grows = it.follows.grows;
             };
@@ -585,6 +613,9 @@ module _ (height : ℕ) where
           start = well.start;
           declared = well.declared;
           bodies = bodies_later height w.scope (record w.scope { is_off = items.is_off region }) w.bodies (region_grows region) well.bodies;
+          roomy = well.roomy;
+          bytes = well.bytes;
+          room = well.room;
         };
         settled = settled;
         grows = region_grows region;

@@ -1,7 +1,7 @@
 -- The core of a program that breaks no rule has types.
-use Rattle.std.proofs.Common.{◌≡◌, ℕ, ◌+◌, ◌≤◌, Bool, true, false, List, [], take, length, Option, Some, None, refl, sym, ap, ◌∙◌, subst, arith}
+use Rattle.std.proofs.Common.{◌≡◌, ℕ, ◌+◌, ◌*◌, ◌<◌, ◌≤◌, Bool, true, false, List, [], take, length, Option, Some, None, refl, sym, ap, ◌∙◌, subst, arith}
 use Rattle.std.specs.Prelude.{codes, slice_get, Result, Ok, Err}
-use Rattle.std.specs.List.{list_any}
+use Rattle.std.specs.List.{AllByRecursion, list_any}
 use Rattle.std.proofs.lemmas.List.{length-take-le}
 use Rattle.ckc_text.specs.declared.fault.SourceFault.{SourceFault}
 use Rattle.ckc_tree.specs.Items.{Tree}
@@ -18,11 +18,12 @@ use Rattle.typing_rules.specs.Expressions.{Places, side_number}
 use Rattle.typing_rules.specs.Items.{Walk, walked, start}
 use Rattle.typing_rules.specs.Cores.{body_of, trusted_functions, core_of, checked}
 use Rattle.typing_rules.specs.Typed.{IsFunction, IsTyped}
+use Rattle.typing_rules.specs.Lowerable.{objects_size, IsRoomy, IsSmall}
 use Rattle.typing_rules.specs.NeverStuck.{HasCore}
 use Rattle.typing_rules.proofs.Verdicts.{Promises}
 use Rattle.typing_rules.proofs.Values.{of_element}
 use Rattle.typing_rules.proofs.Signatures.{HasTrusted, trusted_there, named_self}
-use Rattle.typing_rules.proofs.Walks.{IsWell, body_suits, functions_typed, objects_typed, frame}
+use Rattle.typing_rules.proofs.Walks.{IsWell, body_suits, functions_typed, objects_typed, functions_small, imports_small, frame}
 use Rattle.typing_rules.proofs.Items.{Passed, HasMain, items_promise}
 
 -- a program whose names have a meaning has a `main`
@@ -58,7 +59,7 @@ typed_walk height w h =
 
 -- at the start nothing is known
 start_well : (height : ℕ) → IsWell height start
-start_well height = record { few = λ n. omega arith; scalars = λ n. tt; start = tt; declared = tt; bodies = tt }
+start_well height = record { few = λ n. omega arith; scalars = λ n. tt; start = tt; declared = tt; bodies = tt; roomy = tt; bytes = omega arith; room = omega arith }
 
 walked_typed : (height : ℕ) (v : Verdict Walk) (c : Core) → Promises (Passed height start true) v → passing v (λ w. Passes (core_of w)) ≡ Passes c → IsTyped c
 walked_typed height (Passes w) c h e = let same : core_of w ≡ c = cc in subst IsTyped same (typed_walk height w h)
@@ -70,3 +71,32 @@ whole_walk at t c h = subst (λ b. Promises (Passed (height t) start b) (walked 
 
 pub typed : (at : Places) (t : Tree) (c : Core) → HasCore at t c → IsTyped c
 typed at t c h = walked_typed (height t) (walked at t) c (whole_walk at t c h) h.rules
+
+-- ---- what can be lowered
+
+abbrev pub AreRoomy : List core.Initial → Type 0
+AreRoomy cells = AllByRecursion IsRoomy cells × (0 < length cells)
+
+-- the parts of a program that is small enough to be lowered
+pub record IsLow (words : ℕ) (c : Core) : Type 0 where
+  pub cells : AllByRecursion AreRoomy c.objects
+  pub objects : objects_size c.objects ≤ 32768
+  pub imports : AllByRecursion (λ (x : core.Import). x.parameters ≤ 16) c.imports
+  pub functions : AllByRecursion (IsSmall words) c.functions
+
+low_walk : (h : ℕ) (w : Walk) → Passed h start true w → IsLow (17 * h) (core_of w)
+low_walk h w passed =
+    let well = passed.follows.well in
+    record {
+      cells = well.roomy;
+      objects = omega (arith, well.bytes, well.room);
+      imports = imports_small h w well passed.follows.settled w.scope.functions well.declared;
+      functions = functions_small h w well passed.follows.settled w.scope.functions well.declared;
+    }
+
+low_walked : (h : ℕ) (v : Verdict Walk) (c : Core) → Promises (Passed h start true) v → passing v (λ w. Passes (core_of w)) ≡ Passes c → IsLow (17 * h) c
+low_walked h (Passes w) c passed e = let same : core_of w ≡ c = cc in subst (IsLow (17 * h)) same (low_walk h w passed)
+low_walked h (Breaks fault) c passed e = absurd (cc)
+
+pub low : (at : Places) (t : Tree) (c : Core) → HasCore at t c → IsLow (17 * height t) c
+low at t c h = low_walked (height t) (walked at t) c (whole_walk at t c h) h.rules

@@ -14,6 +14,7 @@ use Rattle.typing_rules.specs.Items.{Walk}
 use Rattle.typing_rules.specs.Cores.{without_body, body_of, trusted_functions, tainted_functions, core_of}
 use Rattle.typing_rules.specs.Typed as rules
 use Rattle.typing_rules.specs.Typed.{Frame, slots, Stands, IsPlace, IsScalar, IsFunction, IsInitial}
+use Rattle.typing_rules.specs.Lowerable.{objects_size, IsRoomy, IsSmall}
 use Rattle.typing_rules.proofs.Verdicts.{Extends}
 use Rattle.typing_rules.proofs.Knowledge.{IsTrusted, IsTainted, KnowsFile}
 use Rattle.typing_rules.proofs.Layouts.{IsStart, earlier_members, slots_kept}
@@ -79,6 +80,9 @@ pub record IsWell (height : ℕ) (w : Walk) : Type 0 where
   pub start : AllByRecursion (AllByRecursion IsStart) w.objects
   pub declared : AllByRecursion IsDeclared w.scope.functions
   pub bodies : AllByRecursion (IsBody height w.scope) w.bodies
+  pub roomy : AllByRecursion (λ (o : List core.Initial). AllByRecursion IsRoomy o × (0 < length o)) w.objects
+  pub bytes : objects_size w.objects ≤ w.taken
+  pub room : w.taken ≤ 32768
 
 pub settled_later : (a b : List Structure) (variables : List Variable) (objects : List (List core.Initial)) → Extends a b → AreSettled a variables objects → AreSettled b variables objects
 settled_later a b [] [] ext h = tt
@@ -193,25 +197,20 @@ module _ (height : ℕ) (w : Walk) (well : IsWell height w) (settled : AreSettle
   objects_typed [] all = tt
   objects_typed (o ∷ objects) all = (start_typed o all.0, objects_typed objects all.1)
 
-  -- a function is small enough to be lowered, and an import to be called
-  pub record IsSmall (f : core.Function) : Type 0 where
-    pub few_parameters : f.parameters ≤ 16
-    pub few_locals : length f.locals ≤ 256
-    pub low : statements_stack f.body ≤ 17 * height
-
-  body_small : (bodies : List core.Function) (f : Signature) → AllByRecursion (IsBody height w.scope) bodies → IsDeclared f → IsSmall (body_of bodies f)
-  body_small [] f all declared = let few = declared.few in record { few_parameters = few; few_locals = omega arith; low = omega arith }
-  body_small (b ∷ bodies) f all declared = chosen (bytes_eq f.name b.name) (record { few_parameters = all.0.few_parameters; few_locals = all.0.few_locals; low = all.0.low }) (body_small bodies f all.1 declared)
+  -- each function is small enough to be lowered, and each import to be called
+  body_small : (bodies : List core.Function) (f : Signature) → AllByRecursion (IsBody height w.scope) bodies → IsDeclared f → IsSmall (17 * height) (body_of bodies f)
+  body_small [] f all declared = let few = declared.few in record { few_parameters = few; held = omega arith; few_locals = omega arith; low = omega arith }
+  body_small (b ∷ bodies) f all declared = chosen (bytes_eq f.name b.name) (record { few_parameters = all.0.few_parameters; held = (all.0.typed frame known).parameters; few_locals = all.0.few_locals; low = all.0.low }) (body_small bodies f all.1 declared)
     where
-      chosen : (test : Bool) → IsSmall b → IsSmall (body_of bodies f) → IsSmall (picked test b (body_of bodies f))
+      chosen : (test : Bool) → IsSmall (17 * height) b → IsSmall (17 * height) (body_of bodies f) → IsSmall (17 * height) (picked test b (body_of bodies f))
       chosen true h again = h
       chosen false h again = again
 
-  pub functions_small : (functions : List Signature) → AllByRecursion IsDeclared functions → AllByRecursion IsSmall (trusted_functions w.bodies functions)
+  pub functions_small : (functions : List Signature) → AllByRecursion IsDeclared functions → AllByRecursion (IsSmall (17 * height)) (trusted_functions w.bodies functions)
   functions_small [] all = tt
   functions_small (f ∷ functions) all = chosen (is_import f) (body_small w.bodies f well.bodies all.0) (functions_small functions all.1)
     where
-      chosen : (test : Bool) → IsSmall (body_of w.bodies f) → AllByRecursion IsSmall (trusted_functions w.bodies functions) → AllByRecursion IsSmall (picked test (trusted_functions w.bodies functions) (body_of w.bodies f ∷ trusted_functions w.bodies functions))
+      chosen : (test : Bool) → IsSmall (17 * height) (body_of w.bodies f) → AllByRecursion (IsSmall (17 * height)) (trusted_functions w.bodies functions) → AllByRecursion (IsSmall (17 * height)) (picked test (trusted_functions w.bodies functions) (body_of w.bodies f ∷ trusted_functions w.bodies functions))
       chosen true h rest = rest
       chosen false h rest = (h, rest)
 
