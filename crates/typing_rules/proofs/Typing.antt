@@ -1,6 +1,7 @@
 -- The core of a program that breaks no rule has types.
-use Rattle.std.proofs.Common.{◌≡◌, ℕ, ◌+◌, ◌*◌, ◌<◌, ◌≤◌, Bool, true, false, List, [], take, length, Option, Some, None, refl, sym, ap, ◌∙◌, subst, arith}
-use Rattle.std.specs.Prelude.{codes, slice_get, Result, Ok, Err}
+use Rattle.std.proofs.Common.{◌≡◌, ℕ, ◌+◌, ◌*◌, ◌<◌, ◌≤◌, Bool, true, false, List, [], take, length, ◌∷◌, Option, Some, None, refl, sym, ap, ◌∙◌, subst, arith}
+use Rattle.std.specs.Prelude.{codes, slice_get, Result, Ok, Err, All}
+use Rattle.std.proofs.lemmas.List.Elements.{All-from_recursion}
 use Rattle.std.specs.List.{AllByRecursion, list_any}
 use Rattle.std.proofs.lemmas.List.{length-take-le}
 use Rattle.ckc_text.specs.declared.fault.SourceFault.{SourceFault}
@@ -18,7 +19,7 @@ use Rattle.typing_rules.specs.Expressions.{Places, side_number}
 use Rattle.typing_rules.specs.Items.{Walk, walked, start}
 use Rattle.typing_rules.specs.Cores.{body_of, trusted_functions, core_of, checked}
 use Rattle.typing_rules.specs.Typed.{IsFunction, IsTyped}
-use Rattle.typing_rules.specs.Lowerable.{objects_size, IsRoomy, IsSmall}
+use Rattle.typing_rules.specs.Lowerable.{IsRoomy, IsSmall, IsSmallCore}
 use Rattle.typing_rules.specs.NeverStuck.{HasCore}
 use Rattle.typing_rules.proofs.Verdicts.{Promises}
 use Rattle.typing_rules.proofs.Values.{of_element}
@@ -77,26 +78,31 @@ typed at t c h = walked_typed (height t) (walked at t) c (whole_walk at t c h) h
 abbrev pub AreRoomy : List core.Initial → Type 0
 AreRoomy cells = AllByRecursion IsRoomy cells × (0 < length cells)
 
--- the parts of a program that is small enough to be lowered
-pub record IsLow (words : ℕ) (c : Core) : Type 0 where
-  pub cells : AllByRecursion AreRoomy c.objects
-  pub objects : objects_size c.objects ≤ 32768
-  pub imports : AllByRecursion (λ (x : core.Import). x.parameters ≤ 16) c.imports
-  pub functions : AllByRecursion (IsSmall words) c.functions
+-- the same of elements one by one, and of more words
+roomy_each : (objects : List (List core.Initial)) → AllByRecursion AreRoomy objects → AllByRecursion (λ (cells : List core.Initial). All IsRoomy cells × (0 < length cells)) objects
+roomy_each [] all = tt
+roomy_each (o ∷ objects) all = ((All-from_recursion IsRoomy o all.0.0, all.0.1), roomy_each objects all.1)
 
-low_walk : (h : ℕ) (w : Walk) → Passed h start true w → IsLow (17 * h) (core_of w)
-low_walk h w passed =
+small_more : (n m : ℕ) → n ≤ m → (functions : List core.Function) → AllByRecursion (IsSmall n) functions → AllByRecursion (IsSmall m) functions
+small_more n m le [] all = tt
+small_more n m le (f ∷ functions) all = (record { few_parameters = all.0.few_parameters; held = all.0.held; few_locals = all.0.few_locals; low = let low = all.0.low in omega arith }, small_more n m le functions all.1)
+
+small_walk : (h : ℕ) → h ≤ 200 → (w : Walk) → Passed h start true w → IsSmallCore (core_of w)
+small_walk h le w passed =
     let well = passed.follows.well in
+    let main = (typed_walk h w passed).main in
+    let functions = functions_small h w well passed.follows.settled w.scope.functions well.declared in
     record {
-      cells = well.roomy;
+      cells = All-from_recursion (λ (cells : List core.Initial). All IsRoomy cells × (0 < length cells)) w.objects (roomy_each w.objects well.roomy);
       objects = omega (arith, well.bytes, well.room);
-      imports = imports_small h w well passed.follows.settled w.scope.functions well.declared;
-      functions = functions_small h w well passed.follows.settled w.scope.functions well.declared;
+      imports = All-from_recursion (λ (x : core.Import). x.parameters ≤ 16) (core_of w).imports (imports_small h w well passed.follows.settled w.scope.functions well.declared);
+      functions = All-from_recursion (IsSmall 3400) (core_of w).functions (small_more (17 * h) 3400 (omega arith) (core_of w).functions functions);
+      main = (main.0, main.1, main.2);
     }
 
-low_walked : (h : ℕ) (v : Verdict Walk) (c : Core) → Promises (Passed h start true) v → passing v (λ w. Passes (core_of w)) ≡ Passes c → IsLow (17 * h) c
-low_walked h (Passes w) c passed e = let same : core_of w ≡ c = cc in subst (IsLow (17 * h)) same (low_walk h w passed)
-low_walked h (Breaks fault) c passed e = absurd (cc)
+small_walked : (h : ℕ) → h ≤ 200 → (v : Verdict Walk) (c : Core) → Promises (Passed h start true) v → passing v (λ w. Passes (core_of w)) ≡ Passes c → IsSmallCore c
+small_walked h le (Passes w) c passed e = let same : core_of w ≡ c = cc in subst IsSmallCore same (small_walk h le w passed)
+small_walked h le (Breaks fault) c passed e = absurd (cc)
 
-pub low : (at : Places) (t : Tree) (c : Core) → HasCore at t c → IsLow (17 * height t) c
-low at t c h = low_walked (height t) (walked at t) c (whole_walk at t c h) h.rules
+pub small : (at : Places) (t : Tree) (c : Core) → HasCore at t c → height t ≤ 200 → IsSmallCore c
+small at t c h le = small_walked (height t) le (walked at t) c (whole_walk at t c h) h.rules

@@ -1,9 +1,9 @@
 -- What makes a core small enough to be lowered.
-use Rattle.std.specs.Prelude.{◌≡◌, ℕ, ◌+◌, ◌<◌, ◌≤◌, true, List, [], ◌∷◌, length, pos}
+use Rattle.std.specs.Prelude.{◌≡◌, ℕ, ◌+◌, ◌<◌, ◌≤◌, true, List, [], ◌∷◌, length, pos, All, Some, slice_get}
 use Rattle.flat_bytes.specs.Blocks.{rounded_up}
 use Rattle.act_words.specs.Checks.{is_word_number}
 use Rattle.pointer_modes.specs.Layout.{scalar_size}
-use Rattle.ckc_core.specs.Core.{Initial, Function}
+use Rattle.ckc_core.specs.Core.{Initial, Function, Import, Core}
 use Rattle.ckc_core.specs.States.{Null, has_type, initial_value}
 use Rattle.ckc_core.specs.Stacks.{statements_stack}
 
@@ -30,3 +30,12 @@ pub record IsSmall (words : ℕ) (f : Function) : Type 0 where
   pub held : f.parameters ≤ length f.locals
   pub few_locals : length f.locals ≤ 256
   pub low : statements_stack f.body ≤ words
+
+-- the whole program: each variable has cells, and all of them take few bytes; tainted functions take few parameters; the body of
+-- each trusted one leaves room in its frame; and `main` is there and takes nothing
+pub record IsSmallCore (c : Core) : Type 0 where
+  pub cells : All (λ (cells : List Initial). All IsRoomy cells × (0 < length cells)) c.objects
+  pub objects : objects_size c.objects ≤ 32768
+  pub imports : All (λ (i : Import). i.parameters ≤ 16) c.imports
+  pub functions : All (IsSmall 3400) c.functions
+  pub main : (f : Function) × (slice_get c.functions c.main ≡ Some f) × (f.parameters ≡ 0)
