@@ -1,11 +1,10 @@
 -- Expressions that break no rule have types.
-use Rattle.std.proofs.Common.{◌≡◌, ℕ, ◌+◌, ◌<◌, ◌^◌, Bool, true, false, List, [], ◌∷◌, take, replicate, length, Option, Some, None, pos, refl, sym, ap, ◌∙◌, subst, arith}
+use Rattle.std.proofs.Common.{◌≡◌, ℕ, ◌+◌, ◌^◌, Bool, true, false, List, [], ◌∷◌, replicate, length, Option, Some, None, pos, refl, sym, ap, ◌∙◌, subst, arith}
 use Rattle.std.specs.Prelude.{bytes_eq, codes, slice_get, nat_lt, not, ◌&&◌, ◌||◌, ◌==◌}
 use Rattle.std.specs.List.{AllByRecursion}
 use Rattle.std.proofs.lemmas.Bool.{and_parts, eqb-true}
-use Rattle.std.proofs.lemmas.Bool.Decides.{nat_tests}
 use Rattle.ckc_text.specs.declared.place.Span.{Span}
-use Rattle.ckc_text.specs.declared.code.Code.TheVariants.{E04, E13, E14, E19, E26}
+use Rattle.ckc_text.specs.declared.code.Code.TheVariants.{E04, E13, E14, E19}
 use Rattle.ckc_tree.specs.declared.expr.UnaryOperator.{UnaryOperator}
 use Rattle.ckc_tree.specs.declared.expr.UnaryOperator.TheVariants as unary
 use Rattle.ckc_tree.specs.declared.expr.BinaryOperator.{BinaryOperator}
@@ -22,16 +21,16 @@ use Rattle.ckc_core.specs.declared.program.Operator.TheVariants as operators
 use Rattle.ckc_core.specs.declared.program.Comparison.{Comparison}
 use Rattle.ckc_core.specs.declared.program.Comparison.TheVariants as comparisons
 use Rattle.ckc_core.specs.Core as core
-use Rattle.ckc_core.specs.States.{same_type, same_mode}
-use Rattle.typing_rules.specs.Verdicts.{Verdict, Passes, Breaks, passing, needs, breaks, picked}
+use Rattle.ckc_core.specs.States.{same_type}
+use Rattle.typing_rules.specs.Verdicts.{Verdict, Passes, breaks}
 use Rattle.typing_rules.specs.Scopes.{Scope, Signature, Named, Local, Object, Nothing, named, function_named}
-use Rattle.typing_rules.specs.Types.{type_named, is_number, is_pointer, is_scalar, are_comparable, converts}
-use Rattle.typing_rules.specs.Expressions.{Places, Lvalue, OfLocal, OfCell, Typed, Value, AStruct, Called, Gives, GivesNothing, site_at, plain, number, at_place, local_typed, name_typed, member_place, struct_place, member_from, offset_among, member_at, dotted, pointed_by, arrowed, pointed_at, dereferenced, pointer_to, address_at, struct_address, address, number_of, scalar_of, unary_typed, is_pointer_value, without_ptr, two_numbers, two_scalars, summands, as_pointer, equated_values, equated, ordered_values, ordered, arithmetic, binary_typed, indexed, in_type, converted, arguments_as, is_import, side_number, call_of, declared_call, first_of, writes, predefined_call, called, with_result, constant, typed, all_typed, call_typed}
+use Rattle.typing_rules.specs.Types.{type_named, is_number, is_pointer, are_comparable, converts}
+use Rattle.typing_rules.specs.Expressions.{Places, Lvalue, OfLocal, OfCell, Typed, Value, AStruct, Called, Gives, GivesNothing, site_at, number, at_place, local_typed, name_typed, member_place, member_from, offset_among, member_at, dotted, pointed_by, arrowed, pointed_at, dereferenced, pointer_to, address, number_of, scalar_of, unary_typed, is_pointer_value, two_numbers, two_scalars, summands, as_pointer, equated_values, equated, ordered_values, ordered, arithmetic, binary_typed, indexed, in_type, converted, arguments_as, is_import, side_number, call_of, first_of, writes, predefined_call, called, with_result, constant, typed, all_typed, call_typed}
 use Rattle.typing_rules.specs.Typed as rules
 use Rattle.typing_rules.specs.Typed.{Frame, Stands, slots, IsPlace, HasType, HaveTypes, HasPlace, IsStatement, IsScalar, IsScalarResult}
 use Rattle.typing_rules.proofs.Values.{scalar_stands, of_element}
 use Rattle.typing_rules.proofs.Verdicts.{Promises, passing_promises, needs_promises, anything_promised}
-use Rattle.typing_rules.proofs.Knowledge.{IsNumberType, IsNumberResult, IsTrusted, IsTainted, KnowsFile, Knows, same_equal, StandsFor, name_stands, HasMember, IfMember, member_there, member_slot}
+use Rattle.typing_rules.proofs.Knowledge.{IsNumberType, IsNumberResult, IsTrusted, IsTainted, Knows, same_equal, StandsFor, name_stands, HasMember, IfMember, member_there, member_slot}
 use Rattle.typing_rules.proofs.Sizes.{size_fits}
 
 pub number_scalar : (t : CType) → is_number t ≡ true → IsScalar t
@@ -362,7 +361,7 @@ module _ (g : Frame) (types : List CType) where
     called_promises (Some f) name arguments site span e all =
         needs_promises FitsCall (length f.parameters == length arguments) E14 span _
         (λ many. passing_promises (λ values. HaveTypes g types values f.parameters) FitsCall (arguments_as arguments f.parameters) _ (arguments_promise arguments f.parameters (eqb-true (length f.parameters) (length arguments) many) all)
-          (λ values typed. side_fits name f site values (is_import f) refl e typed))
+        (λ values typed. side_fits name f site values (is_import f) refl e typed))
 
     -- ---- the walk
 

@@ -1,22 +1,21 @@
 -- What stays of a scope behind a statement, and what is added to it.
-use Rattle.std.proofs.Common.{◌≡◌, ℕ, ◌<◌, ◌≤◌, ◌++◌, Bool, true, List, [], ◌∷◌, length, Option, Some, None, refl, sym, ap, ◌∙◌, subst, arith}
-use Rattle.std.specs.Prelude.{nat_lt, slice_get, not, ◌||◌}
+use Rattle.std.proofs.Common.{◌≡◌, ℕ, ◌<◌, ◌≤◌, ◌++◌, List, [], ◌∷◌, length, refl, ◌∙◌, subst, arith}
+use Rattle.std.specs.Prelude.{nat_lt, not, ◌||◌}
 use Rattle.std.specs.List.{AllByRecursion}
 use Rattle.std.proofs.lemmas.Bool.{ltb-true}
 use Rattle.std.proofs.lemmas.List.{length-append}
 use Rattle.ckc_text.specs.declared.place.Span.{Span}
 use Rattle.ckc_text.specs.declared.code.Code.TheVariants.{E08, E13, E15, E30}
 use Rattle.ckc_tree.specs.Types.{TypeTree}
-use Rattle.ckc_tree.specs.Expressions.{Expression}
 use Rattle.ckc_tree.specs.Statements as s
 use Rattle.ckc_tree.specs.Statements.{Declarator, Declaration, ForInitial, Statement, Statements}
 use Rattle.pointer_modes.specs.Types.{CType}
 use Rattle.ckc_core.specs.Core as core
-use Rattle.typing_rules.specs.Verdicts.{Verdict, Passes, Breaks, passing, needs}
+use Rattle.typing_rules.specs.Verdicts.{Verdict, passing}
 use Rattle.typing_rules.specs.Scopes.{Scope}
 use Rattle.typing_rules.specs.Types.{is_scalar, without_stars, base_type}
 use Rattle.typing_rules.specs.Expressions.{Places, call_typed}
-use Rattle.typing_rules.specs.Statements.{Walked, both, assignment, initialised, with_local, zero_value, declarator, declarators, declaration, behind_block, in_loop, is_unchecked, is_checked, condition, optional_condition, optional_step, first_part, alone, return, statement, statements}
+use Rattle.typing_rules.specs.Statements.{Walked, assignment, initialised, with_local, declarator, declarators, declaration, behind_block, in_loop, is_unchecked, condition, optional_condition, optional_step, first_part, return, statement, statements}
 use Rattle.typing_rules.specs.Typed.{Frame, IsScalar}
 use Rattle.typing_rules.proofs.Verdicts.{Promises, passing_promises, needs_promises, anything_promised, Extends, extends_append}
 use Rattle.typing_rules.proofs.Knowledge.{KnowsFile}

@@ -1,16 +1,15 @@
 -- Items that break no rule lead from a walk as it should be to another one.
-use Rattle.std.proofs.Common.{◌≡◌, ℕ, zero, suc, ◌+◌, ◌*◌, ◌<◌, ◌≤◌, Bool, true, false, List, [], ◌∷◌, ◌++◌, map, take, length, Option, Some, None, pos, refl, sym, ap, ◌∙◌, subst, append_assoc, ⊎_elim, arith}
-use Rattle.std.specs.Prelude.{bytes_eq, codes, slice_get, nat_lt, nat_le, not, ◌&&◌, ◌||◌, ◌==◌, is_some, is_none}
+use Rattle.std.proofs.Common.{◌≡◌, ℕ, suc, ◌+◌, ◌*◌, ◌<◌, ◌≤◌, Bool, true, false, List, [], ◌∷◌, ◌++◌, map, take, length, Option, Some, None, refl, sym, ap, ◌∙◌, subst, append_assoc, ⊎_elim, arith}
+use Rattle.std.specs.Prelude.{bytes_eq, codes, nat_lt, nat_le, not, ◌&&◌, ◌||◌, ◌==◌, is_some, is_none}
 use Rattle.std.specs.List.{AllByRecursion, list_all, list_any}
 use Rattle.std.proofs.lemmas.Bool.{and_parts, or_cases, ltb-true, leb-true}
-use Rattle.std.proofs.lemmas.Bool.Decides.{nat_tests}
 use Rattle.std.proofs.lemmas.List.{length-append, length-map, append-nil}
 use Rattle.ckc_text.specs.declared.place.Span.{Span}
 use Rattle.ckc_text.specs.declared.code.Code.TheVariants.{E08, E10, E13, E15, E27}
 use Rattle.ckc_tree.specs.declared.item.FunctionKind.{FunctionKind}
 use Rattle.ckc_tree.specs.declared.item.FunctionKind.TheVariants as function_kinds
 use Rattle.ckc_tree.specs.declared.item.Region.{Region}
-use Rattle.ckc_tree.specs.Types.{TypeTree, IntType, CharType, StructType, PointerType, TypeName, type_span}
+use Rattle.ckc_tree.specs.Types.{TypeTree, IntType, CharType, StructType, PointerType, type_span}
 use Rattle.ckc_tree.specs.Statements as trees
 use Rattle.ckc_tree.specs.Statements.{Initializer, Declarator}
 use Rattle.ckc_tree.specs.Items as i
@@ -18,20 +17,20 @@ use Rattle.ckc_names.specs.Naming as naming
 use Rattle.ckc_names.specs.Naming.{is_int_type, is_int, takes_nothing, is_main_function, is_main}
 use Rattle.built_forms.specs.Built.{is_number_type, is_number_result, is_number_parameter, built_parameters, built_of_kind, built_function, built_item}
 use Rattle.ckc_tree.specs.Items.{Item, Tree}
-use Rattle.ckc_tree.specs.Heights.{Reach, ◌beside◌, statements_reach, optional_bounds_reach, result_reach, parameters_reach, optional_body_reach, item_reach, items_reach}
+use Rattle.ckc_tree.specs.Heights.{◌beside◌, statements_reach, optional_bounds_reach, result_reach, parameters_reach, optional_body_reach, item_reach, items_reach}
 use Rattle.flat_bytes.specs.Blocks.{rounded_up}
 use Rattle.pointer_modes.specs.Layout.{size_of}
-use Rattle.pointer_modes.specs.Types.{CType, Int, Char, Struct, Pointer, Member, Structure, members_of}
+use Rattle.pointer_modes.specs.Types.{CType, Int, Char, Struct, Pointer, Member, Structure}
 use Rattle.ckc_core.specs.Core as core
 use Rattle.ckc_core.specs.Stacks.{statements_stack}
-use Rattle.typing_rules.specs.Verdicts.{Verdict, Passes, Breaks, passing, needs, picked}
+use Rattle.typing_rules.specs.Verdicts.{Verdict, Passes, Breaks, passing, picked}
 use Rattle.typing_rules.specs.Scopes.{Scope, Signature, Variable, function_named}
-use Rattle.typing_rules.specs.Types.{is_scalar, is_number, base_type, without_stars, starred_type, type_named}
-use Rattle.typing_rules.specs.Expressions.{Places, Typed, typed, is_import, is_tainted}
-use Rattle.typing_rules.specs.Statements.{statements, with_local, is_unchecked, is_checked}
+use Rattle.typing_rules.specs.Types.{base_type, without_stars, type_named}
+use Rattle.typing_rules.specs.Expressions.{Places, typed, is_import, is_tainted}
+use Rattle.typing_rules.specs.Statements.{statements, with_local, is_unchecked}
 use Rattle.typing_rules.specs.Items as items
 use Rattle.typing_rules.specs.Items.{Walk, in_checked_region, is_struct, member_types, scalar_members, with_struct, structure, Walked, Missing, Written, Constants, initializer, object_cells, with_variable, block_bytes, WalkedVariable, variables, with_objects, global, listed, parameter_types, result_type, with_function, with_parameters, inside, core_function, function_body, is_trusted, is_defined, agrees, all_scalar, scalar_result, function_rules, signature_of, function, item}
-use Rattle.typing_rules.specs.Typed.{Frame, slots, Stands, IsScalar, IsScalarResult, IsFunction, AreStatements}
+use Rattle.typing_rules.specs.Typed.{Frame, slots, Stands, IsScalar, IsScalarResult, AreStatements}
 use Rattle.typing_rules.specs.Lowerable.{cells_size, objects_size, IsRoomy}
 use Rattle.typing_rules.proofs.Verdicts.{Promises, passing_promises, needs_promises, anything_promised, promised_so, both_promise, later_promises, all_promised, Extends, extends_append}
 use Rattle.typing_rules.proofs.Knowledge.{IsNumberType, IsNumberResult, KnowsFile}
@@ -278,8 +277,8 @@ module _ (height : ℕ) where
       let base = (and_parts (is_number_type p.type.base) (p.type.stars == 0 && is_none p.bounds) parts.0).0 in
       needs_promises (AllByRecursion HasNumber) (nat_lt (length before) 16) E08 (type_span p.type.base) _
       (λ low. passing_promises IsNumberType (AllByRecursion HasNumber) (type_named g p.type) _
-        (passing_promises IsNumberType IsNumberType (base_type g p.type.base) (without_stars p.type.base p.type.stars) (number_base g p.type.base base) (starred_number p.type.base p.type.stars))
-        (λ t n. number_parameters g members (before ++ record { name = p.name.name; type = t } ∷ []) parts.1 (all_append HasNumber before (record { name = p.name.name; type = t }) all n)))
+      (passing_promises IsNumberType IsNumberType (base_type g p.type.base) (without_stars p.type.base p.type.stars) (number_base g p.type.base base) (starred_number p.type.base p.type.stars))
+      (λ t n. number_parameters g members (before ++ record { name = p.name.name; type = t } ∷ []) parts.1 (all_append HasNumber before (record { name = p.name.name; type = t }) all n)))
 
   number_types : (vs : List Variable) → AllByRecursion HasNumber vs → AllByRecursion IsNumberType (map (λ (p : Variable). p.type) vs)
   number_types [] all = tt
@@ -586,8 +585,8 @@ module _ (height : ℕ) where
         both_promise (λ (ps : List Variable). is_tainted d.kind ≡ true → AllByRecursion HasNumber ps) (λ (ps : List Variable). (is_main_function d ≡ true → ps ≡ []) × (length ps ≤ 16)) v
         (later_promises (is_tainted d.kind ≡ true) (AllByRecursion HasNumber) v (λ tainted. number_parameters w.scope (listed d.parameters) [] (listed_numbers d.parameters (crossing d built tainted).parameters) tt))
         (both_promise (λ (ps : List Variable). is_main_function d ≡ true → ps ≡ []) (λ (ps : List Variable). length ps ≤ 16) v
-          (later_promises (is_main_function d ≡ true) (λ (ps : List Variable). ps ≡ []) v (λ main. none_listed w.scope d.parameters (main_form d main).nothing))
-          (few_parameters w.scope (listed d.parameters) [] (omega arith)))
+        (later_promises (is_main_function d ≡ true) (λ (ps : List Variable). ps ≡ []) v (λ main. none_listed w.scope d.parameters (main_form d main).nothing))
+        (few_parameters w.scope (listed d.parameters) [] (omega arith)))
 
     function_promises : (at : Places) (all : List Item) (d : i.Function) → built_function d ≡ true → (optional_body_reach d.body).height ≤ height → Promises (Passed w (is_main_function d)) (function at all w d)
     function_promises at all d built low =
@@ -595,8 +594,8 @@ module _ (height : ℕ) where
         (λ few. passing_promises (ResultFits d) (Passed w (is_main_function d)) (result_type w.scope d.result d.stars) _ (result_fits d built)
         (λ result hr. passing_promises (ParametersFit d) (Passed w (is_main_function d)) (parameter_types w.scope (listed d.parameters) []) _ (parameters_fit d built)
         (λ parameters hp. declaration_promises d result parameters
-          (record { numbers = λ tainted. number_types parameters (hp.0 tainted); number_result = hr.0; int_result = hr.1; few = hp.1.1; none = hp.1.0 })
-          (function_named w.scope.functions d.name.name) refl at all low)))
+        (record { numbers = λ tainted. number_types parameters (hp.0 tainted); number_result = hr.0; int_result = hr.1; few = hp.1.1; none = hp.1.0 })
+        (function_named w.scope.functions d.name.name) refl at all low)))
 
     -- ---- items
 

@@ -1,5 +1,5 @@
 -- What a walk knows of the program that it leads to, and what names stand for there.
-use Rattle.std.proofs.Common.{◌≡◌, ℕ, zero, suc, ◌+◌, ◌≤◌, Bool, true, false, List, [], ◌∷◌, map, take, length, Option, Some, None, refl, sym, ap, ◌∙◌, subst, arith}
+use Rattle.std.proofs.Common.{◌≡◌, ℕ, zero, suc, ◌+◌, ◌≤◌, Bool, true, false, List, [], ◌∷◌, take, length, Option, Some, None, refl, ap, subst, arith}
 use Rattle.std.specs.Prelude.{bytes_eq, slice_get, ◌&&◌}
 use Rattle.std.proofs.lemmas.Bool.{eqb-true, and_parts}
 use Rattle.std.specs.List.{AllByRecursion}
@@ -8,14 +8,14 @@ use Rattle.pointer_modes.specs.declared.ctype.Mode.TheVariants as modes
 use Rattle.pointer_modes.specs.declared.ctype.Kind.{Kind}
 use Rattle.pointer_modes.specs.declared.ctype.Kind.TheVariants as kinds
 use Rattle.pointer_modes.specs.Types.{CType, Int, Char, Struct, Pointer, Member, Structure, members_of}
-use Rattle.pointer_modes.specs.Layout.{Cell, placed_from, member_sizes, cells_of, aligned_up, scalar_size}
+use Rattle.pointer_modes.specs.Layout.{placed_from, member_sizes, cells_of, aligned_up, scalar_size}
 use Rattle.ckc_core.specs.Core as core
 use Rattle.ckc_core.specs.States.{same_mode, same_kind, same_type}
 use Rattle.typing_rules.specs.Verdicts.{picked}
 use Rattle.typing_rules.specs.Scopes.{Scope, Signature, Variable, Visible, Named, Local, Object, Nothing, local_if, found_if, local_named, object_named, or_else, or_nothing, named, function_named}
-use Rattle.typing_rules.specs.Types.{is_number, is_scalar}
+use Rattle.typing_rules.specs.Types.{is_number}
 use Rattle.typing_rules.specs.Expressions.{is_import, side_number, member_from, offset_among}
-use Rattle.typing_rules.specs.Typed.{Frame, Slot, slots_from, slots, IsPlace, IsScalar, IsScalarResult}
+use Rattle.typing_rules.specs.Typed.{Frame, slots_from, slots, IsPlace, IsScalar, IsScalarResult}
 use Rattle.typing_rules.proofs.Verdicts.{Extends}
 
 abbrev pub IsNumberType : CType → Type 0

@@ -1,6 +1,6 @@
 -- The cells of a file-level variable stand as the slots of its type.
-use Rattle.std.proofs.Common.{◌≡◌, ℕ, zero, suc, ◌+◌, ◌-◌, ◌<◌, ◌≤◌, ◌^◌, ◌%◌, Bool, true, false, ℤ, pos, negsuc, List, [], ◌∷◌, ◌++◌, map, length, Option, Some, None, refl, sym, ap, ◌∙◌, subst, ◌⊎◌, inl, inr, ⊎_elim, arith}
-use Rattle.std.specs.Prelude.{nat_lt, slice_get, ◌==◌, max}
+use Rattle.std.proofs.Common.{◌≡◌, ℕ, zero, suc, ◌+◌, ◌-◌, ◌<◌, ◌≤◌, ◌^◌, ◌%◌, Bool, true, false, ℤ, pos, List, [], ◌∷◌, ◌++◌, map, length, Option, Some, None, refl, sym, ap, subst, ◌⊎◌, inl, inr, ⊎_elim, arith}
+use Rattle.std.specs.Prelude.{nat_lt, slice_get, ◌==◌}
 use Rattle.std.specs.List.{AllByRecursion}
 use Rattle.std.proofs.lemmas.Bool.Decides.{nat_tests}
 use Rattle.act_words.specs.Checks.{is_word_number}
@@ -11,15 +11,15 @@ use Rattle.ckc_tree.specs.declared.expr.UnaryOperator.TheVariants as unary
 use Rattle.ckc_tree.specs.Expressions as e
 use Rattle.ckc_tree.specs.Expressions.{Expression}
 use Rattle.pointer_modes.specs.Types.{CType, Int, Char, Struct, Pointer, Member, Structure, members_of}
-use Rattle.pointer_modes.specs.Layout.{Cell, placed_from, member_sizes, cells_of, size_of, aligned_up, scalar_size, end_from, largest_of}
+use Rattle.pointer_modes.specs.Layout.{placed_from, member_sizes, size_of, aligned_up, scalar_size, end_from, largest_of}
 use Rattle.ckc_core.specs.Core as core
 use Rattle.ckc_core.specs.States.{has_type, initial_value, object_block, byte_place}
 use Rattle.ckc_core.specs.States as states
 use Rattle.ckc_core.specs.Meaning.{low_byte}
-use Rattle.typing_rules.specs.Verdicts.{Verdict, Passes, Breaks, passing, needs, picked}
+use Rattle.typing_rules.specs.Verdicts.{picked}
 use Rattle.typing_rules.specs.Scopes.{Scope}
-use Rattle.typing_rules.specs.Expressions.{Places, Typed, Value, AStruct, typed, constant, offset_among, unary_typed, site_at}
-use Rattle.typing_rules.specs.Items.{negative, unsigned_constant, negated_of, positive_of, signed_constant, strides_from, strides_of, cell_types, numbered_cells, cells_with, Walked, Missing, Written, Constants, is_zero, initial_number, number_or_break, written_cells, object_cells}
+use Rattle.typing_rules.specs.Expressions.{Places, Typed, typed, constant, offset_among, unary_typed, site_at}
+use Rattle.typing_rules.specs.Items.{negative, unsigned_constant, negated_of, signed_constant, strides_from, strides_of, cell_types, numbered_cells, cells_with, Walked, Missing, Written, Constants, is_zero, initial_number, number_or_break, written_cells, object_cells}
 use Rattle.typing_rules.specs.Typed.{Frame, Slot, slots_from, slots, Stands, HasValue, IsScalar}
 use Rattle.typing_rules.specs.Lowerable.{cells_size, IsRoomy}
 use Rattle.typing_rules.proofs.Numbers.{low_byte_small}

@@ -1,6 +1,6 @@
 -- Numbers that operators give have 32 bits.
-use Rattle.std.proofs.Common.{◌≡◌, ℕ, suc, ◌-◌, ◌%◌, ◌/◌, ◌^◌, ◌<◌, ◌≤◌, Bool, true, false, ℤ, ◌+ℤ◌, ◌-ℤ◌, ◌*ℤ◌, neg_ℤ, pos, negsuc, refl, ap, ◌∙◌, ⊎_elim, arith, div-le_self}
-use Rattle.std.specs.Prelude.{FitsSigned, nat_lt, not, ◌==◌, ◌&&◌, int_div, int_rem, unsigned_abs, bit_and, bit_or, bit_xor}
+use Rattle.std.proofs.Common.{◌≡◌, ℕ, suc, ◌-◌, ◌%◌, ◌/◌, ◌^◌, ◌<◌, ◌≤◌, Bool, true, false, ℤ, ◌+ℤ◌, ◌-ℤ◌, ◌*ℤ◌, pos, negsuc, refl, ap, ◌∙◌, ⊎_elim, arith, div-le_self}
+use Rattle.std.specs.Prelude.{nat_lt, not, ◌&&◌, int_div, int_rem, unsigned_abs, bit_and, bit_or, bit_xor}
 use Rattle.std.specs.Int.{w32}
 use Rattle.std.specs.Int.Bits.{and_lt}
 use Rattle.std.proofs.Math.Facts.{to_z-neg}
@@ -18,7 +18,7 @@ use Rattle.act_words.specs.Arithmetic.{checked_then, is_zero, is_count, is_not_n
 use Rattle.ckc_core.specs.declared.program.Site.{Site}
 use Rattle.ckc_core.specs.declared.program.Operator.{Operator}
 use Rattle.ckc_core.specs.declared.program.Operator.TheVariants as operators
-use Rattle.ckc_core.specs.Meaning.{result_of, low_byte}
+use Rattle.ckc_core.specs.Meaning.{result_of}
 
 abbrev pub IsNumber : ℤ → Type 0
 IsNumber z = is_word_number z ≡ true

@@ -1,6 +1,6 @@
 -- The run of a program that has types ends: calls and turns by their number of ticks, and the start.
-use Rattle.std.proofs.Common.{◌≡◌, ℕ, zero, suc, ◌+◌, ◌≤◌, Bool, true, false, ℤ, List, [], ◌∷◌, ◌++◌, map, take, drop, replicate, length, Option, Some, None, refl, sym, ap, ◌∙◌, subst, arith}
-use Rattle.std.specs.Prelude.{◌==◌, slice_get, All, IsTrue}
+use Rattle.std.proofs.Common.{◌≡◌, ℕ, zero, suc, ◌+◌, ◌≤◌, true, false, List, [], ◌∷◌, map, take, replicate, length, Option, Some, None, refl, sym, ◌∙◌, subst, arith}
+use Rattle.std.specs.Prelude.{◌==◌, slice_get}
 use Rattle.std.specs.List.{AllByRecursion}
 use Rattle.std.proofs.lemmas.Bool.Decides.{nat_tests}
 use Rattle.std.proofs.lemmas.List.{length-take-le}
@@ -8,15 +8,13 @@ use Rattle.std.proofs.lemmas.List.Elements.{recursion_from_All}
 use Rattle.flat_bytes.specs.Blocks.{first_offset}
 use Rattle.act_words.specs.declared.ending.Ending.{Ending}
 use Rattle.act_words.specs.declared.ending.Ending.TheVariants.{Exit}
-use Rattle.act_words.specs.declared.settings.Settings.{Settings}
-use Rattle.act_words.specs.Acts.{Act, IsAct}
-use Rattle.act_words.specs.Checks.{is_word_number}
+use Rattle.act_words.specs.Acts.{IsAct}
 use Rattle.act_words.specs.Outcome.{Gives, Ends, Stuck, Short, and_then}
-use Rattle.act_words.specs.World.{World, new_world}
+use Rattle.act_words.specs.World.{new_world}
 use Rattle.pointer_modes.specs.Types.{CType, Int}
 use Rattle.ckc_core.specs.Core as core
-use Rattle.ckc_core.specs.States.{Value, Number, Null, At, State, object_block, initial_value}
-use Rattle.ckc_core.specs.Meaning.{Result, Flow, Next, Broke, Continued, Returned, Setting, knot, answer, default_result, locals_for, back, body_if, body_of, exit, run_from, initial, meaning, effects, effect}
+use Rattle.ckc_core.specs.States.{Value, Number, Null, At, State, object_block}
+use Rattle.ckc_core.specs.Meaning.{Result, Flow, Next, Broke, Continued, Returned, Setting, knot, answer, default_result, locals_for, back, body_if, body_of, exit, initial, effects, effect}
 use Rattle.typing_rules.specs.Typed as typed
 use Rattle.typing_rules.specs.Typed.{Frame, HasValue, HasType, IsStatement, IsScalarResult, IsFunction, IsInitial, IsTyped}
 use Rattle.typing_rules.specs.NeverStuck.{NeverStuck}
@@ -64,10 +62,10 @@ module _ (g : Frame) (budget : ℕ) where
         let inside_kept : IsKept g budget m low f.locals inside = record { blocks = kept.blocks; locals = locals_typed g f.locals f.parameters vs it.locals h; world = kept.world; enough = enough } in
         subst (λ o. Goes g budget n low types (IsAnswer g f.result) (body_of setting (knot setting m) o vs s)) (sym found)
         (subst (λ yes. Goes g budget n low types (IsAnswer g f.result) (body_if yes setting (knot setting m) f vs s)) (sym test)
-          (back_goes n m low types f.locals (IsAnswer g f.result) s _ kept.enough kept.locals
-            (goes_on g budget m low f.locals (IsFlow g f.result false) (IsAnswer g f.result) (effects setting (knot setting m) f.body inside) _
-              (statements_go g budget m (knot setting m) is functions f.locals f.result it.body low inside inside_kept)
-              (answer_goes m low f.locals f.result it.result))))
+        (back_goes n m low types f.locals (IsAnswer g f.result) s _ kept.enough kept.locals
+        (goes_on g budget m low f.locals (IsFlow g f.result false) (IsAnswer g f.result) (effects setting (knot setting m) f.body inside) _
+        (statements_go g budget m (knot setting m) is functions f.locals f.result it.body low inside inside_kept)
+        (answer_goes m low f.locals f.result it.result))))
 
     knots : (n : ℕ) → IsKnot g budget n (knot setting n)
     knots zero = record {

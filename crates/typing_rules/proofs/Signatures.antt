@@ -1,5 +1,5 @@
 -- Functions by their names, and by their numbers among the trusted and the tainted ones.
-use Rattle.std.proofs.Common.{◌≡◌, ℕ, zero, suc, ◌+◌, ◌≤◌, Bool, true, false, List, [], ◌∷◌, ◌++◌, take, length, Option, Some, None, refl, sym, ap, ◌∙◌, subst, arith}
+use Rattle.std.proofs.Common.{◌≡◌, ℕ, suc, ◌+◌, ◌≤◌, Bool, true, false, List, [], ◌∷◌, ◌++◌, length, Option, Some, None, refl, ap, ◌∙◌, subst, arith}
 use Rattle.std.specs.Prelude.{bytes_eq, slice_get, ◌&&◌}
 use Rattle.std.specs.List.{AllByRecursion}
 use Rattle.std.proofs.lemmas.Bool.{and_parts}
@@ -9,13 +9,12 @@ use Rattle.ckc_tree.specs.declared.item.FunctionKind.TheVariants as kinds
 use Rattle.pointer_modes.specs.Types.{CType}
 use Rattle.ckc_core.specs.Core as core
 use Rattle.ckc_core.specs.States.{same_type}
-use Rattle.typing_rules.specs.Verdicts.{picked}
-use Rattle.typing_rules.specs.Scopes.{Scope, Signature, function_named}
+use Rattle.typing_rules.specs.Scopes.{Signature, function_named}
 use Rattle.typing_rules.specs.Types.{is_scalar}
-use Rattle.typing_rules.specs.Expressions.{is_tainted, is_import, counted, same_side, side_number}
+use Rattle.typing_rules.specs.Expressions.{is_import, counted, same_side, side_number}
 use Rattle.typing_rules.specs.Items.{same_types, same_result, same_kind, agrees, all_scalar, scalar_result}
-use Rattle.typing_rules.specs.Cores.{without_body, body_of, trusted_functions, tainted_functions}
-use Rattle.typing_rules.specs.Typed.{Frame, IsScalar, IsScalarResult}
+use Rattle.typing_rules.specs.Cores.{body_of, trusted_functions, tainted_functions}
+use Rattle.typing_rules.specs.Typed.{IsScalar, IsScalarResult}
 use Rattle.typing_rules.proofs.Knowledge.{IsNumberType, IsNumberResult, same_equal}
 
 -- ---- names

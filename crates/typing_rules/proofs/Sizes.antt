@@ -1,11 +1,11 @@
 -- The bytes of a type are few.
-use Rattle.std.proofs.Common.{◌≡◌, ℕ, zero, suc, ◌+◌, ◌-◌, ◌*◌, ◌/◌, ◌%◌, ◌^◌, ◌<◌, ◌≤◌, true, List, [], ◌∷◌, length, refl, sym, ap, ◌∙◌, arith}
-use Rattle.std.specs.Prelude.{nat_lt, max, pos}
+use Rattle.std.proofs.Common.{◌≡◌, ℕ, ◌+◌, ◌-◌, ◌*◌, ◌≤◌, true, List, [], ◌∷◌, length, arith}
+use Rattle.std.specs.Prelude.{pos}
 use Rattle.std.proofs.Math.Nat.{div-mul-le_self}
 use Rattle.std.proofs.lemmas.Bool.Decides.{nat_tests}
 use Rattle.act_words.specs.Checks.{is_word_number}
 use Rattle.pointer_modes.specs.Types.{CType, Int, Char, Struct, Pointer, Member, Structure, members_of}
-use Rattle.pointer_modes.specs.Layout.{aligned_up, scalar_size, member_sizes, sizes_of, end_from, largest_of, size_of}
+use Rattle.pointer_modes.specs.Layout.{aligned_up, scalar_size, member_sizes, end_from, largest_of, size_of}
 
 scalar_small : (t : CType) → scalar_size t ≤ 4
 scalar_small Int = omega arith

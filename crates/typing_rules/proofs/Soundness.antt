@@ -1,5 +1,5 @@
 -- What has types is never stuck: an induction over the meaning, with what each state keeps.
-use Rattle.std.proofs.Common.{◌≡◌, neg_ℤ, ℕ, zero, suc, ◌+◌, ◌%◌, ◌<◌, ◌≤◌, ◌^◌, Bool, true, false, ℤ, pos, negsuc, List, [], ◌∷◌, ◌++◌, map, take, drop, replicate, length, Option, Some, None, refl, sym, ap, ◌∙◌, subst, arith}
+use Rattle.std.proofs.Common.{◌≡◌, neg_ℤ, ℕ, zero, suc, ◌+◌, ◌%◌, ◌<◌, ◌≤◌, ◌^◌, Bool, true, false, ℤ, List, [], ◌∷◌, take, replicate, length, Option, Some, None, refl, sym, ap, ◌∙◌, subst, arith}
 use Rattle.std.specs.Prelude.{◌==◌, ◌&&◌, not, nat_lt, slice_get, slice_set, option_map}
 use Rattle.std.specs.List.{AllByRecursion}
 use Rattle.std.specs.Int.{w32}
@@ -8,12 +8,10 @@ use Rattle.std.proofs.lemmas.Bool.Decides.{nat_tests}
 use Rattle.std.proofs.lemmas.Bool.{and_from}
 use Rattle.std.proofs.lemmas.List.{length-replicate, length-take-le}
 use Rattle.std.proofs.lemmas.Option.{slice_get_within}
-use Rattle.act_words.specs.declared.ending.Ending.{Ending}
 use Rattle.act_words.specs.Outcome.{Gives, Ends, Stuck, Short, and_then}
 use Rattle.act_words.specs.Checks.{Checked, Holds, Fails, is_word_number}
-use Rattle.act_words.specs.Numbers.{signed, word}
+use Rattle.act_words.specs.Numbers.{word}
 use Rattle.act_words.specs.Arithmetic as arithmetic
-use Rattle.act_words.specs.World.{World}
 use Rattle.act_words.specs.Touches.{Asked, Got, Ended, spend_tick, enter_call, next_input, tainted_call}
 use Rattle.ckc_core.specs.declared.program.Site.{Site}
 use Rattle.ckc_core.specs.declared.program.Operator.{Operator}
@@ -22,14 +20,14 @@ use Rattle.pointer_modes.specs.declared.ctype.Mode.{Mode}
 use Rattle.pointer_modes.specs.declared.ctype.Kind.{Kind}
 use Rattle.pointer_modes.specs.Types.{CType, Int, Char, Struct, Pointer}
 use Rattle.ckc_core.specs.Core as core
-use Rattle.ckc_core.specs.States.{Value, Number, Null, At, Cell, Block, State, in_world, cell_at, with_cell, stands_at, stands_behind, same_type, has_type, zero_of, byte_place, object_block}
-use Rattle.ckc_core.specs.Meaning.{Result, Flow, Next, Broke, Continued, Returned, Knot, Setting, given, checked, value_if, value_in, place_where, place_in, place_through, load_at, place_if, pointer_to, truth, number_of_test, same_place, test_given, result_of, arithmetic_of, holds, compared, negated, complemented, low_byte, low_byte_of, asked, words_of, reply_as, cross, cross_if, call_tainted, takes, enter_if, call_trusted, result_given, choose, value, values, place, store_if, store_over, store_at, set_local_if, set_local, pointer_of, place_from, kept_if, is_char, printed, put, on_next, behind_turn, no_result, effect, effects}
-use Rattle.typing_rules.specs.Types.{is_number, is_scalar}
+use Rattle.ckc_core.specs.States.{Value, Number, Null, At, Cell, State, in_world, with_cell, stands_at, stands_behind, same_type, has_type, byte_place, object_block}
+use Rattle.ckc_core.specs.Meaning.{Result, Flow, Next, Broke, Continued, Returned, Knot, Setting, given, checked, value_if, value_in, place_where, place_in, place_through, load_at, place_if, pointer_to, truth, number_of_test, same_place, test_given, result_of, arithmetic_of, holds, compared, negated, complemented, low_byte_of, asked, words_of, reply_as, cross, cross_if, call_tainted, takes, enter_if, call_trusted, result_given, choose, value, values, place, store_if, store_over, store_at, set_local_if, set_local, pointer_of, kept_if, is_char, printed, put, on_next, behind_turn, no_result, effect, effects}
+use Rattle.typing_rules.specs.Types.{is_number}
 use Rattle.typing_rules.specs.Typed as typed
 use Rattle.typing_rules.specs.Typed.{Frame, IsPlace, HasValue, HasType, HaveTypes, HasPlace, IsStatement, AreStatements, IsScalar, IsFunction}
 use Rattle.typing_rules.proofs.Numbers.{IsNumber, IfHolds, result_fits, overflow_fits, signed_fits, complement_fits, low_byte_small}
 use Rattle.typing_rules.proofs.Worlds.{IsWorld, Answers, Anything, IsWord, tick_answers, enter_answers, call_answers, next_answers}
-use Rattle.typing_rules.proofs.Values.{of_element, same_refl, value_typed, value_widened, value_number, HaveValues, values_count, value_there, values_set, AreBlocks, AreCells, cells_set, blocks_set, HasCell, at_cell, scalar_cell, some_cell, member_place, stands_there, stands_further}
+use Rattle.typing_rules.proofs.Values.{of_element, same_refl, value_typed, value_widened, value_number, HaveValues, values_count, value_there, values_set, AreBlocks, cells_set, blocks_set, HasCell, at_cell, scalar_cell, some_cell, member_place, stands_there, stands_further}
 
 -- a result as it was declared
 abbrev pub IsAnswer : Frame → Option CType → Option Value → Type 0
@@ -332,8 +330,8 @@ module _ (g : Frame) (budget n : ℕ) where
         value_goes (typed.tainted_call {n = n'} {i = i} {arguments = arguments} {site = site} {t = t} found result crosses h) s kept =
             goes_on low types (HaveValues g (replicate i.parameters Int)) (HasValue g t) (values setting k arguments s) _ (values_go h s kept)
             (λ vs u typed u_kept. goes_on low types (IsAnswer g i.result) (HasValue g t) (call_tainted setting n' (slice_get g.program.imports n') site vs u) result_given
-              (tainted_goes types low u n' i site vs found (subst (IsNumberResult types) (sym result) crosses) typed u_kept)
-              (λ v w answered w_kept. given_back types low w i.result t v result answered w_kept))
+            (tainted_goes types low u n' i site vs found (subst (IsNumberResult types) (sym result) crosses) typed u_kept)
+            (λ v w answered w_kept. given_back types low w i.result t v result answered w_kept))
         value_goes typed.next_input s kept =
             asked_goes low low types IsNumber (HasValue g Int) (next_input s.world) s _ (next_answers budget low s.world kept.world) kept.enough kept (λ z u fits u_kept. (fits, u_kept))
 
@@ -375,7 +373,7 @@ module _ (g : Frame) (budget n : ℕ) where
           let test : (same_type t c.held.type && has_type t v) ≡ true = and_from (same_type t c.held.type) (has_type t v) (ap (same_type t) type ∙ same_refl t) (value_typed g t v typed) in
           subst (λ o. Goes low types (IsFlow g result loop) (store_over o t v at.0 at.1 s)) (sym (at_cell g s.blocks at.0 at.1 t c))
           (subst (λ yes. Goes low types (IsFlow g result loop) (store_if yes (record c.held { value = v }) at.0 at.1 s)) (sym test)
-            (tt, record { blocks = blocks_kept s t at.0 at.1 v c typed kept.blocks; locals = kept.locals; world = kept.world; enough = kept.enough }))
+          (tt, record { blocks = blocks_kept s t at.0 at.1 v c typed kept.blocks; locals = kept.locals; world = kept.world; enough = kept.enough }))
 
       kept_goes : (s : State) (t : CType) (char : Bool) (v : Value) → is_number t ≡ true → is_char t ≡ char → HasValue g Int v → IsKept low types s → Goes low types (HasValue g t) (kept_if char v s)
       kept_goes s Int true v h e typed kept = absurd (cc)
@@ -462,8 +460,8 @@ module _ (g : Frame) (budget n : ℕ) where
         statement_goes {loop = loop} (typed.tainted_alone {n = i'} {i = i} {arguments = arguments} {site = site} found nothing h) low s kept =
             goes_on low types (HaveValues g (replicate i.parameters Int)) (IsFlow g result loop) (values setting k arguments s) _ (values_go low types h s kept)
             (λ vs u typed u_kept. goes_on low types (IsAnswer g i.result) (IsFlow g result loop) (call_tainted setting i' (slice_get g.program.imports i') site vs u) no_result
-              (tainted_goes types low u i' i site vs found (subst (IsNumberResult types) (sym nothing) tt) typed u_kept)
-              (λ v w answered w_kept. nothing_back types low w i.result result loop v nothing answered w_kept))
+            (tainted_goes types low u i' i site vs found (subst (IsNumberResult types) (sym nothing) tt) typed u_kept)
+            (λ v w answered w_kept. nothing_back types low w i.result result loop v nothing answered w_kept))
         statement_goes {loop = loop} (typed.print {e = e} h) low s kept =
             goes_on low types (HasValue g Int) (IsFlow g result loop) (value setting k e s) printed (value_goes low types h s kept) (λ v u typed u_kept. printed_goes low types result loop u v typed u_kept)
         statement_goes {loop = loop} (typed.put_byte {e = e} h) low s kept =
@@ -475,14 +473,14 @@ module _ (g : Frame) (budget n : ℕ) where
         statement_goes {loop = loop} (typed.repeat {e = e} {t = t} {x = x} {y = y} h hx hy) low s kept =
             goes_on low types (HasValue g t) (IsFlow g result loop) (value setting k e s) _ (value_goes low types h s kept)
             (λ v u typed u_kept. chosen_goes low types (IsFlow g result loop) (truth v) _ _
-              (lowered low types (IsFlow g result loop) _ u_kept.enough
-              (asked_goes low (suc low) types Anything (IsFlow g result loop) (spend_tick budget u.world) u _ (tick_answers budget low u.world u_kept.world) (let few = u_kept.enough in omega arith) u_kept
-              (λ _ w _ w_kept. goes_on (suc low) types (IsFlow g result true) (IsFlow g result loop) (effect setting k x w) _ (statement_goes hx (suc low) w w_kept)
-              (λ flow w' ok w'_kept. turned_goes (suc low) types result loop _ flow w' ok w'_kept
-              (goes_on (suc low) types (IsFlow g result false) (IsFlow g result loop) (effect setting k y w') _ (statement_goes hy (suc low) w' w'_kept)
-              (λ flow' z ok' z_kept. next_goes (suc low) types result false loop _ flow' z (λ e. absurd (cc)) ok' z_kept
-              (is.turn (suc low) types result loop e t x y z h hx hy (let few = u_kept.enough in omega arith) z_kept)))))))
-              (tt, u_kept))
+            (lowered low types (IsFlow g result loop) _ u_kept.enough
+            (asked_goes low (suc low) types Anything (IsFlow g result loop) (spend_tick budget u.world) u _ (tick_answers budget low u.world u_kept.world) (let few = u_kept.enough in omega arith) u_kept
+            (λ _ w _ w_kept. goes_on (suc low) types (IsFlow g result true) (IsFlow g result loop) (effect setting k x w) _ (statement_goes hx (suc low) w w_kept)
+            (λ flow w' ok w'_kept. turned_goes (suc low) types result loop _ flow w' ok w'_kept
+            (goes_on (suc low) types (IsFlow g result false) (IsFlow g result loop) (effect setting k y w') _ (statement_goes hy (suc low) w' w'_kept)
+            (λ flow' z ok' z_kept. next_goes (suc low) types result false loop _ flow' z (λ e. absurd (cc)) ok' z_kept
+            (is.turn (suc low) types result loop e t x y z h hx hy (let few = u_kept.enough in omega arith) z_kept)))))))
+            (tt, u_kept))
         statement_goes {loop = loop} (typed.returned {e = e} {t = t} declared h) low s kept =
             goes_on low types (HasValue g t) (IsFlow g result loop) (value setting k e s) _ (value_goes low types h s kept) (λ v u typed u_kept. (subst (λ r. IsAnswer g r (Some v)) (sym declared) typed, u_kept))
         statement_goes (typed.returned_nothing declared) low s kept = (subst (λ r. IsAnswer g r None) (sym declared) tt, kept)

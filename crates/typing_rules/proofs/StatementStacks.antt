@@ -1,6 +1,6 @@
 -- The statements of a core take few words of the stack, by the height of the tree that they come from.
-use Rattle.std.proofs.Common.{◌≡◌, ℕ, ◌+◌, ◌*◌, ◌≤◌, Bool, true, false, List, [], ◌∷◌, length, Option, Some, None, pos, refl, sym, ap, ◌∙◌, subst, arith}
-use Rattle.std.specs.Prelude.{max, nat_lt, not, ◌||◌}
+use Rattle.std.proofs.Common.{ℕ, ◌+◌, ◌*◌, ◌≤◌, List, [], ◌∷◌, length, Option, Some, None, subst, arith}
+use Rattle.std.specs.Prelude.{nat_lt, not, ◌||◌}
 use Rattle.std.specs.List.{AllByRecursion}
 use Rattle.ckc_text.specs.declared.place.Span.{Span}
 use Rattle.ckc_text.specs.declared.code.Code.TheVariants.{E08, E13, E15, E19, E30}
@@ -10,18 +10,18 @@ use Rattle.ckc_tree.specs.Types.{TypeTree}
 use Rattle.ckc_tree.specs.Expressions.{Expression, expression_span}
 use Rattle.ckc_tree.specs.Statements as trees
 use Rattle.ckc_tree.specs.Statements.{Initializer, Declarator, Declaration, Assignment, assignment_span, ForInitial, Statement, Statements}
-use Rattle.ckc_tree.specs.Heights.{Reach, ◌beside◌, around, type_reach, expression_reach, optional_expression_reach, optional_bounds_reach, optional_initializer_reach, declarator_reach, declarators_reach, declared_reach, assigned_reach, assignment_reach, optional_assignment_reach, for_initial_reach, statement_reach, statements_reach}
+use Rattle.ckc_tree.specs.Heights.{◌beside◌, type_reach, expression_reach, optional_expression_reach, optional_bounds_reach, optional_initializer_reach, declarator_reach, declarators_reach, declared_reach, assigned_reach, optional_assignment_reach, for_initial_reach, statement_reach, statements_reach}
 use Rattle.pointer_modes.specs.Types.{CType, Int, Char, Struct, Pointer}
 use Rattle.ckc_core.specs.declared.program.Site.{Site}
 use Rattle.ckc_core.specs.declared.program.Operator.{Operator}
 use Rattle.ckc_core.specs.declared.program.Operator.TheVariants as operators
 use Rattle.ckc_core.specs.Core as core
-use Rattle.ckc_core.specs.Stacks.{expression_stack, place_stack, statement_stack, statements_stack}
-use Rattle.typing_rules.specs.Verdicts.{Verdict, Passes, Breaks, passing, needs}
-use Rattle.typing_rules.specs.Scopes.{Scope, Signature}
+use Rattle.ckc_core.specs.Stacks.{expression_stack, statement_stack, statements_stack}
+use Rattle.typing_rules.specs.Verdicts.{Verdict, Passes}
+use Rattle.typing_rules.specs.Scopes.{Scope}
 use Rattle.typing_rules.specs.Types.{is_pointer, is_scalar, without_stars, base_type}
 use Rattle.typing_rules.specs.Expressions.{Places, Typed, Value, AStruct, Called, Gives, GivesNothing, Lvalue, OfLocal, OfCell, site_at, typed, call_typed, is_pointer_value}
-use Rattle.typing_rules.specs.Statements.{Walked, both, store, updated_place, update, assigned, set_to, updated, stored, step_of, one, assignment, zero_value, with_local, initialised, declarator, declarators, declaration, behind_block, in_loop, is_unchecked, is_checked, condition, optional_condition, optional_step, first_part, alone, returned, returned_nothing, return, statement, statements}
+use Rattle.typing_rules.specs.Statements.{Walked, store, update, assigned, set_to, updated, stored, step_of, one, assignment, zero_value, with_local, initialised, declarator, declarators, declaration, behind_block, in_loop, is_unchecked, condition, optional_condition, optional_step, first_part, alone, returned, returned_nothing, return, statement, statements}
 use Rattle.typing_rules.proofs.Verdicts.{Promises, passing_promises, needs_promises, anything_promised, promised_so, both_promise}
 use Rattle.typing_rules.proofs.Growth.{Grows, GrowsTo, block_grows, loop_grows, declarator_grows, first_grows, statement_grows}
 use Rattle.typing_rules.proofs.Stacks.{beside_first, beside_second, around_higher, Low, LowPlace, LowCall, IsLow, HasFew, scalar_of_low, two_low, converted_low, typed_low, call_typed_low}

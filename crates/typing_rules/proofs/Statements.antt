@@ -1,5 +1,5 @@
 -- Statements that break no rule have types, where all locals of their function are known.
-use Rattle.std.proofs.Common.{◌≡◌, ℕ, ◌++◌, Bool, true, false, List, [], ◌∷◌, length, Option, Some, None, pos, refl, sym, ap, ◌∙◌, subst, arith}
+use Rattle.std.proofs.Common.{◌≡◌, ℕ, Bool, true, false, List, [], ◌∷◌, length, Option, Some, None, refl, sym, subst}
 use Rattle.std.specs.Prelude.{nat_lt, slice_get, not, ◌||◌}
 use Rattle.std.specs.List.{AllByRecursion}
 use Rattle.ckc_text.specs.declared.place.Span.{Span}
@@ -16,17 +16,17 @@ use Rattle.ckc_core.specs.declared.program.Operator.{Operator}
 use Rattle.ckc_core.specs.declared.program.Operator.TheVariants as operators
 use Rattle.ckc_core.specs.Core as core
 use Rattle.ckc_core.specs.Meaning as meaning
-use Rattle.typing_rules.specs.Verdicts.{Verdict, Passes, Breaks, passing, needs}
+use Rattle.typing_rules.specs.Verdicts.{Verdict, Passes, Breaks}
 use Rattle.typing_rules.specs.Scopes.{Scope}
 use Rattle.typing_rules.specs.Types.{is_number, is_pointer, is_scalar, without_stars, base_type}
-use Rattle.typing_rules.specs.Expressions.{Places, Typed, Value, AStruct, Called, Gives, GivesNothing, Lvalue, OfLocal, OfCell, site_at, typed, call_typed, is_pointer_value, two_numbers, summands, converted, scalar_of}
-use Rattle.typing_rules.specs.Statements.{Walked, both, is_char, store, updated_place, update, assigned, set_to, updated, stored, step_of, one, assignment, zero_value, with_local, initialised, declarator, declarators, declaration, behind_block, in_loop, is_unchecked, is_checked, condition, optional_condition, optional_step, first_part, alone, returned, returned_nothing, return, statement, statements}
+use Rattle.typing_rules.specs.Expressions.{Places, Typed, Value, AStruct, Called, Gives, GivesNothing, Lvalue, OfLocal, OfCell, site_at, typed, call_typed, is_pointer_value}
+use Rattle.typing_rules.specs.Statements.{Walked, both, is_char, store, updated_place, update, assigned, set_to, updated, stored, step_of, one, assignment, zero_value, with_local, initialised, declarator, declarators, declaration, behind_block, in_loop, is_unchecked, condition, optional_condition, optional_step, first_part, alone, returned, returned_nothing, return, statement, statements}
 use Rattle.typing_rules.specs.Typed as rules
 use Rattle.typing_rules.specs.Typed.{Frame, HasType, HasPlace, IsStatement, AreStatements, IsScalar}
 use Rattle.typing_rules.proofs.Verdicts.{Promises, passing_promises, needs_promises, anything_promised, both_promise, later_promises, Extends, extends_last}
-use Rattle.typing_rules.proofs.Knowledge.{IsNumberType, KnowsFile, Knows}
-use Rattle.typing_rules.proofs.Expressions.{FitsPlace, FitsValue, Fits, FitsCall, scalar_of_promises, two_numbers_promise, converted_promises, typed_promises, call_promises}
-use Rattle.typing_rules.proofs.Growth.{Grows, stays, grows_further, file_known, local_grows, block_grows, loop_grows, declarator_grows, declarators_grow, declaration_grows, first_grows, statement_grows, statements_grow, GrowsTo}
+use Rattle.typing_rules.proofs.Knowledge.{KnowsFile, Knows}
+use Rattle.typing_rules.proofs.Expressions.{FitsPlace, Fits, FitsCall, scalar_of_promises, two_numbers_promise, converted_promises, typed_promises, call_promises}
+use Rattle.typing_rules.proofs.Growth.{Grows, file_known, block_grows, loop_grows, declarator_grows, declarators_grow, first_grows, statement_grows, statements_grow, GrowsTo}
 
 char_same : (t : CType) → meaning.is_char t ≡ is_char t
 char_same Int = refl

@@ -1,31 +1,30 @@
 -- The core of a program that breaks no rule has types.
-use Rattle.std.proofs.Common.{◌≡◌, ℕ, ◌+◌, ◌*◌, ◌<◌, ◌≤◌, Bool, true, false, List, [], take, length, ◌∷◌, Option, Some, None, refl, sym, ap, ◌∙◌, subst, arith}
+use Rattle.std.proofs.Common.{◌≡◌, ℕ, ◌*◌, ◌<◌, ◌≤◌, Bool, true, false, List, [], take, length, ◌∷◌, Some, None, refl, ap, ◌∙◌, subst, arith}
 use Rattle.std.specs.Prelude.{codes, slice_get, Result, Ok, Err, All}
 use Rattle.std.proofs.lemmas.List.Elements.{All-from_recursion}
-use Rattle.std.specs.List.{AllByRecursion, list_any}
+use Rattle.std.specs.List.{AllByRecursion}
 use Rattle.std.proofs.lemmas.List.{length-take-le}
 use Rattle.ckc_text.specs.declared.fault.SourceFault.{SourceFault}
 use Rattle.ckc_tree.specs.Items.{Tree}
 use Rattle.ckc_tree.specs.Heights.{height}
 use Rattle.ckc_names.specs.Mentions.{tree_mentions}
 use Rattle.ckc_names.specs.Scopes.{Scopes, all_mentioned, at_file_level}
-use Rattle.ckc_names.specs.Naming.{is_main, has_main, naming_fault}
-use Rattle.pointer_modes.specs.Types.{Int}
+use Rattle.ckc_names.specs.Naming.{has_main, naming_fault}
 use Rattle.ckc_core.specs.Core as core
 use Rattle.ckc_core.specs.Core.{Core}
 use Rattle.typing_rules.specs.Verdicts.{Verdict, Passes, Breaks, passing}
-use Rattle.typing_rules.specs.Scopes.{Signature, function_named}
+use Rattle.typing_rules.specs.Scopes.{function_named}
 use Rattle.typing_rules.specs.Expressions.{Places, side_number}
 use Rattle.typing_rules.specs.Items.{Walk, walked, start}
-use Rattle.typing_rules.specs.Cores.{body_of, trusted_functions, core_of, checked}
+use Rattle.typing_rules.specs.Cores.{body_of, trusted_functions, core_of}
 use Rattle.typing_rules.specs.Typed.{IsFunction, IsTyped}
 use Rattle.typing_rules.specs.Lowerable.{IsRoomy, IsSmall, IsSmallCore}
 use Rattle.typing_rules.specs.NeverStuck.{HasCore}
 use Rattle.typing_rules.proofs.Verdicts.{Promises}
 use Rattle.typing_rules.proofs.Values.{of_element}
-use Rattle.typing_rules.proofs.Signatures.{HasTrusted, trusted_there, named_self}
+use Rattle.typing_rules.proofs.Signatures.{trusted_there, named_self}
 use Rattle.typing_rules.proofs.Walks.{IsWell, body_suits, functions_typed, objects_typed, functions_small, imports_small, frame}
-use Rattle.typing_rules.proofs.Items.{Passed, HasMain, items_promise}
+use Rattle.typing_rules.proofs.Items.{Passed, items_promise}
 
 -- a program whose names have a meaning has a `main`
 main_there : (t : Tree) → naming_fault t ≡ None → has_main t ≡ true

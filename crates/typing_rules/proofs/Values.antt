@@ -1,6 +1,6 @@
 -- Values, cells and places of their types.
-use Rattle.std.proofs.Common.{◌≡◌, ℕ, zero, suc, ◌+◌, ◌<◌, ◌≤◌, Bool, true, false, ℤ, pos, negsuc, List, [], ◌∷◌, ◌++◌, map, take, drop, length, Option, Some, None, refl, sym, ap, ◌∙◌, subst, arith}
-use Rattle.std.specs.Prelude.{◌==◌, ◌&&◌, nat_lt, slice_get, slice_set}
+use Rattle.std.proofs.Common.{◌≡◌, ℕ, zero, suc, ◌+◌, ◌<◌, true, pos, negsuc, List, [], ◌∷◌, ◌++◌, map, take, drop, length, Option, Some, refl, sym, ap, ◌∙◌, subst, arith}
+use Rattle.std.specs.Prelude.{◌==◌, slice_get, slice_set}
 use Rattle.std.specs.List.{AllByRecursion}
 use Rattle.std.specs.Option.{option_and_then}
 use Rattle.std.proofs.lemmas.Bool.Decides.{nat_tests}
@@ -10,8 +10,8 @@ use Rattle.pointer_modes.specs.declared.ctype.Kind.{Kind}
 use Rattle.pointer_modes.specs.declared.ctype.Kind.TheVariants as kinds
 use Rattle.pointer_modes.specs.Types.{CType, Int, Char, Struct, Pointer, Structure}
 use Rattle.ckc_core.specs.Core.{Initial}
-use Rattle.ckc_core.specs.States.{Value, Number, Null, At, Cell, Block, same_mode, same_kind, same_type, has_type, zero_of, cell_at, with_cell, object_block, byte_place, stands_at, stands_behind}
-use Rattle.typing_rules.specs.Types.{is_number, is_scalar}
+use Rattle.ckc_core.specs.States.{Value, Number, Null, At, Cell, Block, same_mode, same_kind, same_type, has_type, zero_of, cell_at, object_block, byte_place, stands_at, stands_behind}
+use Rattle.typing_rules.specs.Types.{is_number}
 use Rattle.typing_rules.specs.Typed.{Frame, Slot, slots, Stands, IsPlace, HasValue, IsScalar}
 
 -- what is so of each element is so of one
@@ -170,7 +170,6 @@ module _ (g : Frame) where
   blocks_set (o ∷ objects) (b ∷ blocks) (suc k) is new h e cells = (h.0, blocks_set objects blocks k is new h.1 e cells)
 
   -- ---- places
-
 
   -- the cell at a place
   pub record HasCell (blocks : List Block) (block cell : ℕ) (type : CType) : Type 0 where

@@ -1,17 +1,16 @@
 -- What holds of a walk behind each item.
-use Rattle.std.proofs.Common.{◌≡◌, ℕ, zero, suc, ◌+◌, ◌*◌, ◌<◌, ◌≤◌, Bool, true, false, List, [], ◌∷◌, ◌++◌, map, take, length, Option, Some, None, refl, sym, ap, ◌∙◌, subst, append_assoc, arith}
+use Rattle.std.proofs.Common.{◌≡◌, ℕ, zero, suc, ◌*◌, ◌<◌, ◌≤◌, Bool, true, false, List, [], ◌∷◌, ◌++◌, take, length, Some, refl, sym, ap, ◌∙◌, subst, arith}
 use Rattle.std.specs.Prelude.{bytes_eq, slice_get}
 use Rattle.std.specs.List.{AllByRecursion}
 use Rattle.std.proofs.Math.Seq.{take-length}
-use Rattle.pointer_modes.specs.Types.{CType, Int, Member, Structure, members_of}
+use Rattle.pointer_modes.specs.Types.{Member, Structure, members_of}
 use Rattle.ckc_core.specs.Core as core
 use Rattle.ckc_core.specs.Stacks.{statements_stack}
 use Rattle.typing_rules.specs.Verdicts.{picked}
 use Rattle.typing_rules.specs.Scopes.{Scope, Signature, Variable, function_named}
-use Rattle.typing_rules.specs.Types.{is_scalar}
 use Rattle.typing_rules.specs.Expressions.{is_import, side_number}
 use Rattle.typing_rules.specs.Items.{Walk}
-use Rattle.typing_rules.specs.Cores.{without_body, body_of, trusted_functions, tainted_functions, core_of}
+use Rattle.typing_rules.specs.Cores.{body_of, trusted_functions, tainted_functions, core_of}
 use Rattle.typing_rules.specs.Typed as rules
 use Rattle.typing_rules.specs.Typed.{Frame, slots, Stands, IsPlace, IsScalar, IsFunction, IsInitial}
 use Rattle.typing_rules.specs.Lowerable.{objects_size, IsRoomy, IsSmall}

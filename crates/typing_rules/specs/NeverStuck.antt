@@ -1,5 +1,5 @@
 -- What holds of the runs of programs that break no rule.
-use Rattle.std.specs.Prelude.{◌≡◌, ◌≤◌, IsTrue, true, List, All, None}
+use Rattle.std.specs.Prelude.{◌≡◌, IsTrue, true, List, All, None}
 use Rattle.std.proofs.Common.{ℤ}
 use Rattle.act_words.specs.declared.ending.Ending.{Ending}
 use Rattle.act_words.specs.declared.settings.Settings.{Settings}
