@@ -1,4 +1,5 @@
 pub mod Core
 pub mod States
 pub mod Meaning
+pub mod Stacks
 pub mod Examples

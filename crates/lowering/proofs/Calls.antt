@@ -19,7 +19,7 @@ use Rattle.code_words.specs.Table as table
 use Rattle.code_words.specs.Moves.{move}
 use Rattle.code_words.specs.declared.op.Op.TheVariants as ops
 use Rattle.lowering.specs.Code.{Places, statement_size, statement_code}
-use Rattle.lowering.specs.Stacks.{statement_stack}
+use Rattle.ckc_core.specs.Stacks.{statement_stack}
 use Rattle.lowering.specs.Images.{function_code}
 use Rattle.lowering.proofs.Worlds.{KeptWorld}
 use Rattle.lowering.proofs.Executions.{Execution, image, word_of, state, IsKept, KeptBlocks, same_end}

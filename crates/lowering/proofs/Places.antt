@@ -21,7 +21,7 @@ use Rattle.code_words.specs.Table as table
 use Rattle.code_words.specs.declared.op.Op.TheVariants as ops
 use Rattle.lowering.specs.Code.{offset_code, offset_size, address_code, through_code, load_code, store_code}
 use Rattle.lowering.specs.Code as codes
-use Rattle.lowering.specs.Stacks.{offset_stack}
+use Rattle.ckc_core.specs.Stacks.{offset_stack}
 use Rattle.lowering.specs.Correct.{width_if}
 use Rattle.lowering.proofs.Numbers.{word_small, word-signed, zero_word}
 use Rattle.lowering.proofs.Shapes.{strides, shape_offset, row_place, row_of, address, place_by_shape, block_there, row_there, row_place_le, offset_least, block_within, blocks_apart, HaveBytes}

@@ -6,7 +6,7 @@ use Rattle.ckc_core.specs.Meaning.{is_char}
 use Rattle.code_words.specs.declared.op.Op.{Op}
 use Rattle.code_words.specs.declared.op.Op.TheVariants as ops
 use Rattle.lowering.specs.Code.{Places, operator_code, comparison_code, load_code, store_code, offset_code, offset_size, through_code, byte_code, byte_size, expression_size, arguments_size, place_size, before_value_size, behind_value_size, statement_size, statements_size, expression_code, arguments_code, place_code, before_value, behind_value, statement_code, statements_code}
-use Rattle.lowering.specs.Stacks.{offset_stack, expression_stack, place_stack}
+use Rattle.ckc_core.specs.Stacks.{offset_stack, expression_stack, place_stack}
 
 pub length_offset : (n : ℕ) → length (offset_code n) ≡ offset_size n
 length_offset zero = refl

@@ -14,7 +14,7 @@ use Rattle.ckc_core.specs.Meaning.{Result, Knot, Flow, Next, Broke, Continued, R
 use Rattle.code_words.specs.declared.op.Op.{Op}
 use Rattle.code_words.specs.declared.op.Op.TheVariants as ops
 use Rattle.lowering.specs.Code.{Places, operator_code, load_code, store_code, address_code, byte_code, byte_size, offset_size, expression_size, arguments_size, place_size, statement_size, statements_size, expression_code, place_code, behind_value, statement_code, statements_code}
-use Rattle.lowering.specs.Stacks.{expression_stack, offset_stack, statement_stack, statements_stack}
+use Rattle.ckc_core.specs.Stacks.{expression_stack, offset_stack, statement_stack, statements_stack}
 use Rattle.lowering.proofs.Numbers.{signed-word}
 use Rattle.lowering.proofs.Worlds.{KeptWorld}
 use Rattle.lowering.proofs.Executions.{Execution, word_of, IsKept}

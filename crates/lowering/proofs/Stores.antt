@@ -16,7 +16,7 @@ use Rattle.code_words.specs.Table as table
 use Rattle.code_words.specs.declared.op.Op.TheVariants as ops
 use Rattle.lowering.specs.Code.{Places, store_code, through_code, byte_code, byte_size, offset_size}
 use Rattle.lowering.specs.Code as codes
-use Rattle.lowering.specs.Stacks.{offset_stack}
+use Rattle.ckc_core.specs.Stacks.{offset_stack}
 use Rattle.lowering.specs.Correct.{width_if}
 use Rattle.lowering.proofs.Shapes.{strides}
 use Rattle.lowering.proofs.Bytes.{with_word_behind, word_written}

@@ -11,7 +11,7 @@ use Rattle.ckc_core.specs.Meaning.{Result, Knot, Setting, truth, number_of_test,
 use Rattle.code_words.specs.declared.op.Op.{Op}
 use Rattle.code_words.specs.declared.op.Op.TheVariants as ops
 use Rattle.lowering.specs.Code.{operator_code, comparison_code, load_code, through_code, offset_size, expression_size, arguments_size, place_size, expression_code, arguments_code, place_code}
-use Rattle.lowering.specs.Stacks.{expression_stack, arguments_stack, place_stack}
+use Rattle.ckc_core.specs.Stacks.{expression_stack, arguments_stack, place_stack}
 use Rattle.lowering.proofs.Executions.{Execution, word_of, IsKept}
 use Rattle.lowering.proofs.Steps.{HasAt, has_front, has_back, Leads, leads_on, Finishes, Layout, code, Here, pushes, here_at, Arrives, Evaluates, evaluates_at}
 use Rattle.lowering.proofs.Sizes.{length_expression, length_arguments, length_place, stack_above, place_above}

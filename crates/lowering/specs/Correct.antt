@@ -21,7 +21,7 @@ use Rattle.code_words.specs.Dumps.{blocks_held}
 use Rattle.code_words.specs.Fitting.{Fits}
 use Rattle.code_words.specs.declared.image.Image.{Image}
 use Rattle.lowering.specs.Images.{word_bytes_if, padded}
-use Rattle.lowering.specs.Stacks.{body_stack}
+use Rattle.ckc_core.specs.Stacks.{body_stack}
 
 -- ---- where blocks stand, and their bytes
 

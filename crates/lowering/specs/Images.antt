@@ -8,7 +8,7 @@ use Rattle.code_words.specs.declared.image.Func.{Func}
 use Rattle.code_words.specs.declared.image.Import.{Import}
 use Rattle.code_words.specs.declared.image.Image.{Image}
 use Rattle.lowering.specs.Code.{function_ops, result_kind}
-use Rattle.lowering.specs.Stacks.{body_stack}
+use Rattle.ckc_core.specs.Stacks.{body_stack}
 
 -- the bytes of a word in a cell: one for a `char`, and else four
 abbrev pub word_bytes_if : Bool → ℕ → List ℕ

@@ -1,5 +1,4 @@
 pub mod Code
-pub mod Stacks
 pub mod Images
 pub mod Correct
 pub mod Views

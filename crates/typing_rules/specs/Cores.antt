@@ -1,5 +1,5 @@
 -- What a program that breaks no rule becomes, and what checking answers.
-use Rattle.std.specs.Prelude.{◌≡◌, ℕ, Bool, true, false, not, bytes_eq, codes, List, [], ◌∷◌, ◌++◌, length, Result, Ok, Err}
+use Rattle.std.specs.Prelude.{◌≡◌, false, bytes_eq, codes, List, [], ◌∷◌, length, Result, Ok, Err}
 use Rattle.ckc_text.specs.declared.fault.Refused.{Refused}
 use Rattle.ckc_text.specs.declared.fault.Refused.TheVariants.{Source, NoMemory}
 use Rattle.ckc_tree.specs.Items.{Tree}

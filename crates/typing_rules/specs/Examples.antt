@@ -3,7 +3,7 @@ use Rattle.std.specs.Prelude.{◌≡◌, ℕ, false, List, [], ◌∷◌, codes,
 use Rattle.ckc_text.specs.declared.place.Span.{Span}
 use Rattle.ckc_text.specs.declared.place.Place.{Place}
 use Rattle.ckc_text.specs.declared.code.Code.{Code}
-use Rattle.ckc_text.specs.declared.code.Code.TheVariants.{E13, E15, E30}
+use Rattle.ckc_text.specs.declared.code.Code.TheVariants.{E15, E30}
 use Rattle.ckc_tree.specs.declared.identifier.Identifier.{Identifier}
 use Rattle.ckc_tree.specs.declared.item.FunctionKind.TheVariants as function_kinds
 use Rattle.ckc_tree.specs.declared.expr.UnaryOperator.TheVariants as unary
@@ -21,7 +21,7 @@ use Rattle.ckc_tree.specs.Items as i
 use Rattle.ckc_tree.specs.Items.{Item, Tree}
 use Rattle.pointer_modes.specs.declared.ctype.Mode.TheVariants as modes
 use Rattle.pointer_modes.specs.declared.ctype.Kind.TheVariants as kinds
-use Rattle.pointer_modes.specs.Types.{CType, Int, Pointer}
+use Rattle.pointer_modes.specs.Types.{Int, Pointer}
 use Rattle.ckc_core.specs.declared.program.Site.{Site}
 use Rattle.ckc_core.specs.declared.program.Operator.TheVariants as operators
 use Rattle.ckc_core.specs.Core as core
@@ -139,8 +139,12 @@ raw_in_checked =
     (checked at (main_with (s.Declare (record {
       base = types.IntType (span 17 20);
       declarators = record {
-        stars = 1; name = record { name = codes "p"; span = span 22 23 }; array = None; bounds = None;
-        initializer = Some (s.Value (e.Number 0 (span 26 27))); span = span 21 27;
+        stars = 1;
+        name = record { name = codes "p"; span = span 22 23 };
+        array = None;
+        bounds = None;
+        initializer = Some (s.Value (e.Number 0 (span 26 27)));
+        span = span 21 27;
       } ∷ [];
       span = span 17 27;
     }) (span 17 28) ∷ (s.Return (Some (e.Number 0 (span 36 37))) (span 29 38) ∷ []))))

@@ -1,8 +1,8 @@
 -- The rules of expressions, each with its name, in the order in which they are asked of a node behind its children.
-use Rattle.std.specs.Prelude.{◌≡◌, ℕ, suc, ◌+◌, Bool, true, false, not, ◌&&◌, ◌||◌, ◌==◌, bytes_eq, codes, List, [], ◌∷◌, length, Option, Some, None, pos}
+use Rattle.std.specs.Prelude.{ℕ, suc, ◌+◌, ◌^◌, nat_lt, Bool, true, false, not, ◌&&◌, ◌||◌, ◌==◌, bytes_eq, codes, List, [], ◌∷◌, length, Option, Some, None, pos}
 use Rattle.ckc_text.specs.declared.place.Place.{Place}
 use Rattle.ckc_text.specs.declared.place.Span.{Span}
-use Rattle.ckc_text.specs.declared.code.Code.TheVariants.{E10, E12, E13, E14, E19, E22, E26}
+use Rattle.ckc_text.specs.declared.code.Code.TheVariants.{E04, E10, E12, E13, E14, E19, E22, E26}
 use Rattle.ckc_tree.specs.declared.expr.UnaryOperator.{UnaryOperator}
 use Rattle.ckc_tree.specs.declared.expr.UnaryOperator.TheVariants as unary
 use Rattle.ckc_tree.specs.declared.expr.BinaryOperator.{BinaryOperator}
@@ -21,9 +21,9 @@ use Rattle.ckc_core.specs.declared.program.Operator.TheVariants as operators
 use Rattle.ckc_core.specs.declared.program.Comparison.{Comparison}
 use Rattle.ckc_core.specs.declared.program.Comparison.TheVariants as comparisons
 use Rattle.ckc_core.specs.Core as core
-use Rattle.typing_rules.specs.Verdicts.{Verdict, Passes, Breaks, passing, needs, breaks, picked}
+use Rattle.typing_rules.specs.Verdicts.{Verdict, Passes, passing, needs, breaks, picked}
 use Rattle.typing_rules.specs.Scopes.{Scope, Signature, Named, Local, Object, Nothing, named, function_named}
-use Rattle.typing_rules.specs.Types.{type_named, is_number, is_pointer, is_scalar, are_comparable, converts}
+use Rattle.typing_rules.specs.Types.{type_named, is_number, is_pointer, are_comparable, converts}
 
 -- where a value may be stored: a local, or a cell
 pub data Lvalue : Type 0 where
@@ -330,12 +330,16 @@ with_result (GivesNothing call) span = breaks E13 span
 
 -- ---- the walk
 
+-- constant-has-31-bits: E04; the tokens of a source have no other
+abbrev pub constant : ℕ → Bool → Span → Verdict Typed
+constant value zero span = needs (nat_lt value (2 ^ 31)) E04 span (Passes (Value Int zero (core.Number (pos value)) None))
+
 abbrev mutual
   -- an expression: its children from left to right, and then its own rules. Strings, casts and allocations aren't forms of
   -- which rules speak here
   pub typed : Places → Scope → Expression → Verdict Typed
-  typed at s (e.Number value span) = Passes (Value Int (value == 0) (core.Number (pos value)) None)
-  typed at s (e.Character value span) = number (core.Number (pos value))
+  typed at s (e.Number value span) = constant value (value == 0) span
+  typed at s (e.Character value span) = constant value false span
   typed at s (e.Text bytes span) = breaks E13 span
   typed at s (e.Name name) = Passes (name_typed (named s name.name))
   typed at s (e.Call callee arguments span) = passing (all_typed at s arguments) (λ ts. passing (called s (function_named s.functions callee.name) callee.name ts (site_at at span) span) (λ c. with_result c span))

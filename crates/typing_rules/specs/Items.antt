@@ -1,5 +1,5 @@
 -- The rules of what stands at file level.
-use Rattle.std.specs.Prelude.{◌≡◌, ℕ, zero, suc, ◌+◌, ◌-◌, Bool, true, false, not, ◌&&◌, ◌||◌, ◌==◌, nat_lt, nat_le, bytes_eq, List, [], ◌∷◌, ◌++◌, length, map, Option, Some, None, is_some, pos, negsuc}
+use Rattle.std.specs.Prelude.{ℕ, zero, suc, ◌+◌, ◌-◌, Bool, true, false, not, ◌&&◌, ◌||◌, ◌==◌, nat_lt, nat_le, bytes_eq, List, [], ◌∷◌, ◌++◌, length, map, Option, Some, None, is_some, pos, negsuc}
 use Rattle.std.proofs.Common.{ℤ}
 use Rattle.ckc_text.specs.declared.place.Span.{Span}
 use Rattle.ckc_text.specs.declared.code.Code.TheVariants.{E08, E10, E13, E15, E27}
@@ -8,7 +8,7 @@ use Rattle.ckc_tree.specs.declared.item.FunctionKind.{FunctionKind}
 use Rattle.ckc_tree.specs.declared.item.FunctionKind.TheVariants as function_kinds
 use Rattle.ckc_tree.specs.declared.item.Region.{Region}
 use Rattle.ckc_tree.specs.declared.item.Region.TheVariants as regions
-use Rattle.ckc_tree.specs.Types.{TypeTree, TypeName, type_span}
+use Rattle.ckc_tree.specs.Types.{TypeTree, type_span}
 use Rattle.ckc_tree.specs.Expressions as e
 use Rattle.ckc_tree.specs.Expressions.{Expression}
 use Rattle.ckc_tree.specs.Statements as s
@@ -69,7 +69,7 @@ abbrev pub structure : Walk → i.Structure → Verdict Walk
 structure w d =
     needs (nat_lt (length w.scope.structs) 4096) E08 d.span
     (passing (member_types (with_struct d.tag.name d.tainted [] w.scope) d.members []) (λ members.
-      scalar_members members (in_checked_region w.scope d.span (record w { scope = with_struct d.tag.name d.tainted members w.scope }))))
+    scalar_members members (in_checked_region w.scope d.span (record w { scope = with_struct d.tag.name d.tainted members w.scope }))))
 
 -- ---- file-level variables
 
@@ -174,19 +174,22 @@ variables at w base type span [] done = Passes (w, done)
 variables at w base type span (d ∷ ds) done =
     needs (nat_lt (length w.scope.variables) 4096) E08 span
     (passing (without_stars base d.stars type) (λ t.
-      needs (nat_le (w.taken + block_bytes w.scope t) 32768) E08 span
-      (passing (initializer at (with_variable d.name.name t w.scope) d.initializer) (λ initial.
-        variables at (record w { scope = with_variable d.name.name t w.scope; taken = w.taken + block_bytes w.scope t }) base type span ds (done ++ record { type = t; initial = initial } ∷ [])))))
+    needs (nat_le (w.taken + block_bytes w.scope t) 32768) E08 span
+    (passing (initializer at (with_variable d.name.name t w.scope) d.initializer) (λ initial.
+    variables at (record w { scope = with_variable d.name.name t w.scope; taken = w.taken + block_bytes w.scope t }) base type span ds (done ++ record { type = t; initial = initial } ∷ [])))))
 
--- the initialisers are judged behind the children of all
+-- the initialisers are judged behind the children of all. variable-has-cells: a struct is declared, and has members (E10); those
+-- of a source whose names have a meaning are
 abbrev pub with_objects : Walk → Span → List WalkedVariable → Verdict Walk
 with_objects w span [] = Passes w
-with_objects w span (v ∷ vs) = passing (object_cells w.scope.structs v.type v.initial span) (λ cells. with_objects (record w { objects = w.objects ++ cells ∷ [] }) span vs)
+with_objects w span (v ∷ vs) =
+    passing (object_cells w.scope.structs v.type v.initial span) (λ cells.
+    needs (nat_lt 0 (length cells)) E10 span (with_objects (record w { objects = w.objects ++ cells ∷ [] }) span vs))
 
 abbrev pub global : Places → Walk → i.Global → Verdict Walk
 global at w g =
     passing (base_type w.scope g.base) (λ type. passing (variables at w g.base type g.span g.declarators []) (λ x.
-      passing (with_objects x.0 g.span x.1) (λ v. in_checked_region v.scope g.span v)))
+    passing (with_objects x.0 g.span x.1) (λ v. in_checked_region v.scope g.span v)))
 
 -- ---- functions
 
@@ -256,7 +259,7 @@ abbrev pub function_body : Places → Walk → Signature → List Variable → O
 function_body at w f parameters None = Passes w
 function_body at w f parameters (Some body) =
     passing (statements at (inside f parameters w.scope) body.statements) (λ x.
-      is_checked w.scope body.mark body.span (Passes (record w { bodies = w.bodies ++ core_function f parameters x.0 x.1 ∷ [] })))
+    is_checked w.scope body.mark body.span (Passes (record w { bodies = w.bodies ++ core_function f parameters x.0 x.1 ∷ [] })))
 
 abbrev pub is_trusted : FunctionKind → Bool
 is_trusted function_kinds.Trusted = true
@@ -288,7 +291,7 @@ abbrev pub function : Places → List Item → Walk → i.Function → Verdict W
 function at all w d =
     needs (is_some (function_named w.scope.functions d.name.name) || nat_lt (length w.scope.functions) 4096) E08 d.span
     (passing (result_type w.scope d.result d.stars) (λ result. passing (parameter_types w.scope (listed d.parameters) []) (λ parameters.
-      walked (signature_of d result parameters) parameters (function_named w.scope.functions d.name.name))))
+    walked (signature_of d result parameters) parameters (function_named w.scope.functions d.name.name))))
   where
     walked : Signature → List Variable → Option Signature → Verdict Walk
     walked f parameters known =

@@ -7,3 +7,5 @@ pub mod Items
 pub mod Cores
 pub mod Examples
 pub mod NeverStuck
+pub mod Typed
+pub mod Lowerable

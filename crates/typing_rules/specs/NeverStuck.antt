@@ -1,5 +1,5 @@
 -- What holds of the runs of programs that break no rule.
-use Rattle.std.specs.Prelude.{◌≡◌, ◌≤◌, IsTrue, List, All, None}
+use Rattle.std.specs.Prelude.{◌≡◌, IsTrue, true, List, All, None}
 use Rattle.std.proofs.Common.{ℤ}
 use Rattle.act_words.specs.declared.ending.Ending.{Ending}
 use Rattle.act_words.specs.declared.settings.Settings.{Settings}
@@ -7,6 +7,7 @@ use Rattle.act_words.specs.Acts.{Act, IsAct}
 use Rattle.act_words.specs.Checks.{is_word_number}
 use Rattle.act_words.specs.Outcome.{Ends}
 use Rattle.ckc_tree.specs.Items.{Tree}
+use Rattle.built_forms.specs.Built.{is_built}
 use Rattle.ckc_names.specs.Naming.{naming_fault}
 use Rattle.ckc_core.specs.Core.{Core}
 use Rattle.ckc_core.specs.States.{State}
@@ -15,8 +16,9 @@ use Rattle.typing_rules.specs.Verdicts.{Passes}
 use Rattle.typing_rules.specs.Expressions.{Places}
 use Rattle.typing_rules.specs.Cores.{checked}
 
--- the program has a core: each name has one meaning and `main` is there, and no rule is broken
+-- the program has a core: it has only forms that are built, each name has one meaning and `main` is there, and no rule is broken
 pub record HasCore (at : Places) (t : Tree) (c : Core) : Type 0 where
+  pub forms : is_built t ≡ true
   pub names : naming_fault t ≡ None
   pub rules : checked at t ≡ Passes c
 

@@ -1,9 +1,8 @@
 -- What is known of a program while it is walked: its structs, its functions, its file-level variables, and the locals of
 -- the function that is walked.
-use Rattle.std.specs.Prelude.{◌≡◌, ℕ, zero, suc, ◌+◌, Bool, true, false, bytes_eq, List, [], ◌∷◌, ◌++◌, length, Option, Some, None, position, slice_get}
+use Rattle.std.specs.Prelude.{ℕ, suc, Bool, true, false, bytes_eq, List, [], ◌∷◌, Option, Some, None, position, slice_get}
 use Rattle.ckc_tree.specs.declared.item.FunctionKind.{FunctionKind}
 use Rattle.pointer_modes.specs.Types.{CType, Structure}
-use Rattle.ckc_core.specs.Core as core
 use Rattle.typing_rules.specs.Verdicts.{picked}
 
 -- a declared function: its kind, its parameters, and what it returns

@@ -1,7 +1,7 @@
 -- The rules of statements, in the order in which they are asked of a node behind its children.
-use Rattle.std.specs.Prelude.{◌≡◌, ℕ, suc, ◌+◌, Bool, true, false, not, ◌&&◌, ◌||◌, ◌==◌, nat_lt, List, [], ◌∷◌, ◌++◌, length, Option, Some, None, pos}
+use Rattle.std.specs.Prelude.{ℕ, Bool, true, false, not, ◌||◌, nat_lt, List, [], ◌∷◌, ◌++◌, length, Option, Some, None, pos}
 use Rattle.ckc_text.specs.declared.place.Span.{Span}
-use Rattle.ckc_text.specs.declared.code.Code.TheVariants.{E08, E12, E13, E15, E19, E30}
+use Rattle.ckc_text.specs.declared.code.Code.TheVariants.{E08, E12, E13, E15, E30}
 use Rattle.ckc_tree.specs.declared.stmt.Mark.{Mark}
 use Rattle.ckc_tree.specs.declared.stmt.Mark.TheVariants as marks
 use Rattle.ckc_tree.specs.declared.stmt.StoreOperator.{StoreOperator}
@@ -19,7 +19,7 @@ use Rattle.ckc_core.specs.declared.program.Operator.TheVariants as operators
 use Rattle.ckc_core.specs.Core as core
 use Rattle.typing_rules.specs.Verdicts.{Verdict, Passes, passing, needs, breaks}
 use Rattle.typing_rules.specs.Scopes.{Scope}
-use Rattle.typing_rules.specs.Types.{starred_type, is_number, is_pointer, is_scalar, without_stars, base_type}
+use Rattle.typing_rules.specs.Types.{is_scalar, without_stars, base_type}
 use Rattle.typing_rules.specs.Expressions.{Places, Typed, Value, AStruct, Called, Gives, GivesNothing, Lvalue, OfLocal, OfCell, site_at, typed, call_typed, scalar_of, converted, summands}
 
 -- what a statement becomes, and what is known behind it
@@ -105,8 +105,8 @@ abbrev pub declarator : Places → Scope → TypeTree → CType → Span → Dec
 declarator at g base type span d =
     needs (nat_lt (length g.locals) 256) E08 span
     (passing (without_stars base d.stars type) (λ t.
-      passing (initialised at (with_local d.name.name t g) d.initializer t (length g.locals) span) (λ initial.
-        needs (is_scalar t) E13 span (Passes (both (core.SetLocal (length g.locals) (zero_value t)) initial, with_local d.name.name t g)))))
+    passing (initialised at (with_local d.name.name t g) d.initializer t (length g.locals) span) (λ initial.
+    needs (is_scalar t) E13 span (Passes (both (core.SetLocal (length g.locals) (zero_value t)) initial, with_local d.name.name t g)))))
 
 abbrev pub declarators : Places → Scope → TypeTree → CType → Span → List Declarator → Verdict Walked
 declarators at g base type span [] = Passes (core.Nothing, g)
@@ -184,8 +184,8 @@ abbrev mutual
       passing (condition at g test) (λ c. passing (statement at (in_loop g) body) (λ x. Passes (core.Loop c x.0 core.Nothing, behind_block g x.1)))
   statement at g (s.For initial test step body span) =
       passing (first_part at g initial) (λ first. passing (optional_condition at first.1 test) (λ c.
-        passing (statement at (in_loop first.1) body) (λ x. passing (optional_step at (behind_block first.1 x.1) step) (λ y.
-          Passes (both first.0 (core.Loop c x.0 y), behind_block g x.1)))))
+      passing (statement at (in_loop first.1) body) (λ x. passing (optional_step at (behind_block first.1 x.1) step) (λ y.
+      Passes (both first.0 (core.Loop c x.0 y), behind_block g x.1)))))
   statement at g (s.Return value span) = passing (return at g value span) (λ x. Passes (x, g))
   statement at g (s.Break span) = needs g.in_loop E30 span (Passes (core.Break, g))
   statement at g (s.Continue span) = needs g.in_loop E30 span (Passes (core.Continue, g))

@@ -1,7 +1,6 @@
 -- The types that are written in a source, and what converts to what.
-use Rattle.std.specs.Prelude.{◌≡◌, ℕ, Bool, true, false, ◌&&◌, ◌||◌, ◌==◌, List, [], ◌∷◌, Option, Some, None, unwrap_or}
+use Rattle.std.specs.Prelude.{ℕ, Bool, true, false, ◌&&◌, ◌||◌, ◌==◌, unwrap_or}
 use Rattle.ckc_text.specs.declared.code.Code.TheVariants.{E15}
-use Rattle.ckc_tree.specs.declared.type_form.PointerWord.{PointerWord}
 use Rattle.ckc_tree.specs.declared.type_form.PointerMode.{PointerMode}
 use Rattle.ckc_tree.specs.declared.type_form.PointerMode.TheVariants as written_modes
 use Rattle.ckc_tree.specs.declared.type_form.PointerKind.{PointerKind}

@@ -1,5 +1,13 @@
-// Worked examples of the rules.
+// Worked examples of the rules, and what holds of all programs that keep them.
 
+ghost use Rattle.std.specs.Prelude.{◌≤◌};
+ghost use Rattle.ckc_tree.specs.Items.{Tree};
+ghost use Rattle.ckc_tree.specs.Heights.{height};
+ghost use Rattle.ckc_core.specs.Core.{Core};
+ghost use Rattle.typing_rules.specs.Expressions.{Places};
+ghost use Rattle.typing_rules.specs.NeverStuck.{HasCore, NeverStuck};
+ghost use Rattle.typing_rules.specs.Typed.{IsTyped};
+ghost use Rattle.typing_rules.specs.Lowerable.{IsSmallCore};
 ghost use Rattle.typing_rules.specs.Examples as examples;
 
 /// Programs and what they become, worked out from the rules.
@@ -7,4 +15,17 @@ pub fn examples()
     ensures first_run { examples.first_run }
     ensures raw_in_checked { examples.raw_in_checked }
     ensures break_outside { examples.break_outside }
+{}
+
+/// The core of a program that breaks no rule has types, the run of what has types ends and is never stuck, and so is that of a
+/// program that breaks no rule.
+pub fn never_stuck()
+    ensures typed { (at : Places) (t : Tree) (c : Core) → HasCore at t c → IsTyped c }
+    ensures sound { (program : Core) → IsTyped program → NeverStuck program }
+    ensures ends { (at : Places) (t : Tree) (c : Core) → HasCore at t c → NeverStuck c }
+{}
+
+/// The core of a program that breaks no rule and whose tree isn't too high is small enough to be lowered.
+pub fn lowerable()
+    ensures { (at : Places) (t : Tree) (c : Core) → HasCore at t c → height t ≤ 200 → IsSmallCore c }
 {}
