@@ -2,7 +2,7 @@
 
 ghost use Rattle.std.specs.Prelude.{◌≡◌, ◌+◌, ◌≤◌};
 ghost use Rattle.ckc_core.specs.Core.{expression, place, arguments_of, statement, statements_of};
-ghost use Rattle.lowering.specs.Stacks as stacks;
+ghost use Rattle.ckc_core.specs.Stacks as stacks;
 
 use ckc_core::program::{CellPlace, Expr, Stmt};
 

@@ -1,7 +1,7 @@
 use Rattle.std.proofs.Common.{ap, arith, rules}
 use Rattle.ckc_core.specs.declared.program.Expr.{the_lemmas}
 use Rattle.ckc_core.specs.Core.{expression}
-use Rattle.lowering.specs.Stacks.{expression_stack, arguments_stack}
+use Rattle.ckc_core.specs.Stacks.{expression_stack, arguments_stack}
 use Rattle.lowering.proofs.Sizes.{stack_above}
 use Rattle.lowering.proofs.Slices.{call_of, tainted_call_of, arguments_drop}
 use Rattle.lowering.proofs.stacks.+stacks.Goals as goal

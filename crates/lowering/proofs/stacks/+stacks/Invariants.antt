@@ -1,6 +1,6 @@
 use Rattle.std.proofs.Common.{◌≡◌, ◌+◌, ◌≤◌, max, drop}
 use Rattle.ckc_core.specs.Core.{arguments_of}
-use Rattle.lowering.specs.Stacks as stacks
+use Rattle.ckc_core.specs.Stacks as stacks
 use Rattle.lowering.proofs.stacks.+stacks.Given as goal
 
 -- the most so far and of the arguments that are left, which stand above the others, is the most of all arguments

@@ -1,6 +1,6 @@
 use Rattle.std.proofs.Common.{◌∙◌, ap, sym, arith, rules}
 use Rattle.ckc_core.specs.declared.program.Stmt.{the_lemmas}
-use Rattle.lowering.specs.Stacks.{statement_stack}
+use Rattle.ckc_core.specs.Stacks.{statement_stack}
 use Rattle.lowering.proofs.Slices.{block_of}
 use Rattle.lowering.proofs.stacks.+statement_stacks.Goals as goal
 

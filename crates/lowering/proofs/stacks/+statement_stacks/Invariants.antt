@@ -1,6 +1,6 @@
 use Rattle.std.proofs.Common.{◌≡◌, max, drop}
 use Rattle.ckc_core.specs.Core.{statements_of}
-use Rattle.lowering.specs.Stacks as stacks
+use Rattle.ckc_core.specs.Stacks as stacks
 use Rattle.lowering.proofs.stacks.+statement_stacks.Given as goal
 
 -- the most so far and of what is left is the most of all
