@@ -33,3 +33,11 @@ counter_at_base base counter (block ∷ blocks) =
 -- a block that isn't empty and fits isn't refused
 pub not_refused : (size counter bytes : ℕ) → 0 < bytes → grown counter bytes ≤ size → is_refused size counter bytes ≡ false
 not_refused size counter bytes some fits = grind (arith, nat_tests)
+
+-- the block at a place, and the counter behind it
+pub next_within : (blocks : List (List ℕ)) (counter i : ℕ) (block : List ℕ) → i < length blocks → block ≡ get_or blocks i block → grown counter (length block) ≤ counter_behind counter (drop i blocks)
+next_within blocks counter i block h e = rw (drop-cons blocks i block h, ← e) (counter_grows (grown counter (length block)) (drop (suc i) blocks))
+
+-- one more static block
+pub blocks_from-block : (size counter : ℕ) (block : List ℕ) (lens : List ℕ) → 0 < length block → grown counter (length block) ≤ size → blocks_from size counter (length block ∷ lens) ≡ (record { offset = counter; bytes = length block }) ∷ blocks_from size (grown counter (length block)) lens
+blocks_from-block size counter block lens some fits = rw (not_refused size counter (length block) some fits) refl

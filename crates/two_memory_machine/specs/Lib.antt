@@ -4,3 +4,4 @@ pub mod CallInsides
 pub mod Machines
 pub mod Insides
 pub mod Steps
+pub mod Texts

@@ -11,5 +11,6 @@ mod memory;
 mod bounds;
 mod operations;
 mod output;
+mod texts;
 mod touches;
 mod transfers;

@@ -310,10 +310,10 @@ impl<'a> Machine<'a> {
                 place,
             } => self.check_lies((*low, *high), *size, *more, *place),
             Op::Range { offset, len, place } => self.check_range(*offset, *len, *place),
-            Op::Load1 => self.load(1),
-            Op::Load4 => self.load(4),
-            Op::Store1 => self.store(1),
-            Op::Store4 => self.store(4),
+            Op::Load1 => self.load_1(),
+            Op::Load4 => self.load_4(),
+            Op::Store1 => self.store_1(),
+            Op::Store4 => self.store_4(),
             Op::TouchLoad1 => self.touch_load_1(),
             Op::TouchLoad4 => self.touch_load_4(),
             Op::TouchStore1 => self.touch_store_1(),
@@ -406,6 +406,38 @@ impl<'a> Machine<'a> {
     {
         let offset = self.offsets.get(k as usize).copied();
         self.push_some(offset)
+    }
+
+    // Pops an address, and pushes the byte there.
+    fn load_1(&mut self) -> Event
+        requires { IsReady self.old }
+        ensures { Acts Op.Load1 self.old result self.new }
+    {
+        self.load(1)
+    }
+
+    // Pops an address, and pushes the word there.
+    fn load_4(&mut self) -> Event
+        requires { IsReady self.old }
+        ensures { Acts Op.Load4 self.old result self.new }
+    {
+        self.load(4)
+    }
+
+    // Pops a value and an address, and stores the lowest byte of the value there.
+    fn store_1(&mut self) -> Event
+        requires { IsReady self.old }
+        ensures { Acts Op.Store1 self.old result self.new }
+    {
+        self.store(1)
+    }
+
+    // Pops a value and an address, and stores the value there.
+    fn store_4(&mut self) -> Event
+        requires { IsReady self.old }
+        ensures { Acts Op.Store4 self.old result self.new }
+    {
+        self.store(4)
     }
 
     // Pops an address, and pushes the byte or the word there.

@@ -13,8 +13,12 @@ ghost use Rattle.two_memory_machine.specs.Steps.{Acts, Performs, IsReady, IsIn, 
 use crate::event::Event;
 use crate::machine::{Machine, Phase};
 use crate::memory::BlockRow;
+use crate::texts;
+use crate::texts::TextEnd;
+use act_words::ending::Ending;
 use act_words::octets::Octets;
 use code_words::op::Op;
+use ckc_text::code::Code;
 use itoa::Buffer;
 
 /// The line of a number: its digits, and a line feed.
@@ -156,7 +160,26 @@ impl<'a> Machine<'a> {
         requires { IsReady self.old }
         ensures { Acts Op.TextLength self.old result self.new }
     {
-        self.end_wild()
+        let Some(start) = self.word() else {
+            return self.end_wild();
+        };
+        let walk = texts::walk(&self.memory, start, self.ticks, self.settings.budget);
+        self.ticks += walk.count;
+        if let TextEnd::NoTick = walk.end {
+            return self.end(Ending::Stop {
+                code: Code::S1,
+                act: None,
+            });
+        }
+        self.ticks += 1;
+        if let TextEnd::Outside = walk.end {
+            return self.end_wild();
+        }
+        if !self.calls.push(1, walk.count) {
+            return self.end_wild();
+        }
+        self.calls.advance();
+        Event::Ran
     }
 
     // Makes a block of the sandbox's memory, and gives its offset, or 0 where it is refused.
