@@ -1,6 +1,6 @@
 // A memory at a base address, with counted room for blocks.
 
-ghost use Rattle.std.specs.Prelude.{◌≡◌, ◌+◌, ◌-◌, ◌^◌, ◌<◌, ◌≤◌, ◌⊎◌, ◌↔◌, IfOk, IsTrue, length, vec_len};
+ghost use Rattle.std.specs.Prelude.{◌≡◌, ◌+◌, ◌-◌, ◌^◌, ◌<◌, ◌≤◌, ◌⊎◌, ◌↔◌, IfOk, IfSome, IsTrue, length, vec_len};
 ghost use Rattle.flat_bytes.specs.Words.{word_at, with_word};
 ghost use Rattle.trusted_memory.specs.Memories.{AreAllowed, Refuses, Holds, started, made, address_made, byte_of};
 
@@ -67,7 +67,8 @@ impl Trusted {
 
     /// The byte at an address, or None outside the memory.
     pub fn byte(&self, at: u32) -> Option<u8>
-        ensures { result ≡ byte_of self.now at }
+        ensures byte { result ≡ byte_of self.now at }
+        ensures before_end { IfSome result (λ _. at + 1 < 2 ^ 32) }
     {
         let offset = at.checked_sub(self.base)?;
         self.bytes.get(offset as usize).copied()

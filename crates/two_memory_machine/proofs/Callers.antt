@@ -7,8 +7,18 @@ use Rattle.std.specs.Borrow.{Bor}
 use Rattle.std.proofs.lemmas.Bool.Decides.{nat_tests}
 use Rattle.std.proofs.lemmas.List.{length-take-le, length-reverse}
 use Rattle.std.proofs.lemmas.Option.{slice_get_past, slice_get_read, slice_get_within, get_or_from_slice_get}
+use Rattle.ckc_text.specs.declared.place.Place.{Place}
+use Rattle.ckc_text.specs.declared.code.Code.{Code}
+use Rattle.ckc_text.specs.declared.code.Code.TheVariants.{C4, C9, S6}
+use Rattle.act_words.specs.declared.ending.Ending.{Ending}
+use Rattle.act_words.specs.declared.ending.Ending.TheVariants as endings
+use Rattle.code_words.specs.Marshalling.{Fault, Count, TooLarge, OutOfRange}
+use Rattle.code_words.specs.Moves.{tested, run_callback, at_place_of}
+use Rattle.code_words.specs.declared.image.Callback.{Callback}
+use Rattle.code_words.specs.declared.image.Image.{Image}
+use Rattle.code_words.specs.declared.image.Param.{Param}
 use Rattle.code_words.specs.declared.image.Func.{Func}
-use Rattle.code_words.specs.Table.{Frame, Caller, Calls, State, Step, pop_if, pop_words, wild, depth, behind, enter, call_function}
+use Rattle.code_words.specs.Table.{Frame, Caller, Calls, State, Step, Over, pop_if, pop_words, wild, depth, behind, enter, call_function}
 use Rattle.two_memory_machine.specs.declared.calls.Link.{Link}
 use Rattle.two_memory_machine.specs.declared.calls.Link.TheVariants.{Called, CallsBack}
 use Rattle.two_memory_machine.specs.declared.machine.Phase.{Phase}
@@ -16,7 +26,7 @@ use Rattle.two_memory_machine.specs.declared.machine.Phase.TheVariants as phases
 use Rattle.two_memory_machine.specs.CallStacks.{Behind, callers_with, callers_of}
 use Rattle.two_memory_machine.specs.Insides.{doing_of}
 use Rattle.two_memory_machine.specs.Machines.{Running}
-use Rattle.two_memory_machine.specs.Steps.{top_words_of}
+use Rattle.two_memory_machine.specs.Steps.{top_words_of, IsSuspended, ending_at, fault_ending}
 
 -- what `get` of a slice finds
 pub item_found : {X : Type 0} (xs : List X) (k : ℕ) (item : Option (Bor X)) → IsItemAt xs k item → option_copied item ≡ slice_get xs k
@@ -62,3 +72,41 @@ are_top n stack words h = by (nat_le n (length stack)) refl h
 
 pub call_line : (k : ℕ) (fun : Func) (f : Frame) (s : State) (words : List ℕ) → AreTop fun.args f.stack words → nat_lt (depth s) 1000 ≡ true → call_function k (Some fun) f s ≡ enter k fun words (Calls (behind f (drop fun.args f.stack))) s
 call_line k fun f s words top shallow = rw (top.enough, ← top.same, shallow) refl
+
+-- ---- callbacks
+
+-- a call that waits for the sandbox
+pub record IsAway (phase : Phase) : Type 0 where
+  pub import : ℕ
+  pub place : Place
+  pub is : phase ≡ phases.Suspended import place
+
+pub away : (phase : Phase) → IsSuspended (doing_of phase) → IsAway phase
+away phases.Running h = absurd h
+away phases.NeedsNumber h = absurd h
+away (phases.Touching touch) h = absurd h
+away (phases.Suspended import place) h = record { import = import; place = place; is = refl }
+
+pub tested_ends : (image : Image) (k : ℕ) (callback : Callback) (fault : Option Fault) (words : List ℕ) (s : State) (ending : Ending) → Some ending ≡ fault_ending callback.signature fault → tested image k callback fault words s ≡ Over ending s
+tested_ends image k callback None words s ending e = absurd (cc)
+tested_ends image k callback (Some Count) words s ending e = let same : ending ≡ endings.Stop S6 None = cc in rw same refl
+tested_ends image k callback (Some (TooLarge param)) words s ending e = by (slice_get callback.signature param) e
+  where
+    by : (p : Option Param) → Some ending ≡ ending_at C9 p → at_place_of p (λ place. Over (endings.Check C9 place) s) (wild s) ≡ Over ending s
+    by None h = let same : ending ≡ endings.Stop S6 None = cc in rw same refl
+    by (Some p) h = let same : ending ≡ endings.Check C9 p.place = cc in rw same refl
+tested_ends image k callback (Some (OutOfRange param)) words s ending e = by (slice_get callback.signature param) e
+  where
+    by : (p : Option Param) → Some ending ≡ ending_at C4 p → at_place_of p (λ place. Over (endings.Check C4 place) s) (wild s) ≡ Over ending s
+    by None h = let same : ending ≡ endings.Stop S6 None = cc in rw same refl
+    by (Some p) h = let same : ending ≡ endings.Check C4 p.place = cc in rw same refl
+
+no_ending : (code : Code) (p : Option Param) → None ≡ ending_at code p → ⊥
+no_ending code None h = cc
+no_ending code (Some p) h = cc
+
+pub tested_passes : (image : Image) (k : ℕ) (callback : Callback) (fault : Option Fault) (words : List ℕ) (s : State) → None ≡ fault_ending callback.signature fault → tested image k callback fault words s ≡ run_callback k callback (slice_get image.trusted.funs callback.fun) words s
+tested_passes image k callback None words s e = refl
+tested_passes image k callback (Some Count) words s e = absurd (cc)
+tested_passes image k callback (Some (TooLarge param)) words s e = absurd (no_ending C9 (slice_get callback.signature param) e)
+tested_passes image k callback (Some (OutOfRange param)) words s e = absurd (no_ending C4 (slice_get callback.signature param) e)

@@ -6,3 +6,5 @@ mod Callers
 mod Refusals
 mod Statics
 mod Moving
+mod Faults
+mod TextCounts

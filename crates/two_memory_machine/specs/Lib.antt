@@ -5,3 +5,5 @@ pub mod Machines
 pub mod Insides
 pub mod Steps
 pub mod Texts
+pub mod Faults
+pub mod Examples

@@ -19,6 +19,7 @@ step_at ends.Zero fun ticks count stack f s = push fun count stack f (with_ticks
 step_at ends.Outside fun ticks count stack f s = wild (with_ticks (ticks + count + 1) s)
 step_at ends.NoTick fun ticks count stack f s = Over (Stop S1 None) (with_ticks (ticks + count) s)
 
+-- the table's count from an address on comes to this
 abbrev pub IsWalked : Memory → ℕ → ℕ → ℕ → Walk → Type 0
 IsWalked memory start ticks budget w =
     (fun : Func) (stack : List ℕ) (f : Frame) (s : State) → s.memory ≡ memory → s.world.ticks ≡ ticks →

@@ -1,6 +1,6 @@
 // Checks of pointers and of bounds.
 
-ghost use Rattle.std.specs.Prelude.{◌≡◌, ◌^◌, pos, negsuc, ◌≤ℤ◌};
+ghost use Rattle.std.specs.Prelude.{◌≡◌, ◌^◌, ◌==◌, ◌||◌, not, pos, negsuc, ◌≤ℤ◌};
 ghost use Rattle.std.proofs.Common.{◌+ℤ◌, ◌*ℤ◌};
 ghost use Rattle.code_words.specs.Marshalling.{lie_in};
 ghost use Rattle.act_words.specs.Numbers.{signed};
@@ -98,14 +98,15 @@ impl Ends {
         self.low() <= at && at <= self.high()
     }
 
-    /// Whether an element lies at the upper end.
-    fn end_with(&self, pointer: u32, index: u32) -> bool
-        ensures { result ≡ same_number (place_at pointer index self.now.size)
-            (end_of self.now.base self.now.high self.now.high_plus self.now.size) }
+    /// Whether a value is 0 or its element doesn't lie at the upper end.
+    fn leave_end(&self, pointer: u32, index: u32, value: u32) -> bool
+        ensures { result ≡ (value == 0
+            || not (same_number (place_at pointer index self.now.size)
+            (end_of self.now.base self.now.high self.now.high_plus self.now.size))) }
     {
         let at = place_of(pointer, index, self.size);
         let high = self.high();
-        at <= high && high <= at
+        value == 0 || at < high || high < at
     }
 
     /// Whether new ends lie within these, unless they are turned or the pointer is null.
@@ -200,20 +201,22 @@ impl<'a> Machine<'a> {
             high_plus,
             size,
         };
-        let holds = value == 0 || !ends.end_with(pointer, index);
+        let holds = ends.leave_end(pointer, index, value);
         self.check(5, holds, Code::C3, place)
     }
 
     // Goes on if new ends lie within old ones, unless they are turned or the pointer below is null (C5).
     pub(crate) fn check_contain(
         &mut self,
-        old_plus: (i64, i64),
-        new_plus: (i64, i64),
+        old_low: i64,
+        old_high: i64,
+        new_low: i64,
+        new_high: i64,
         size: u32,
         place: Place,
     ) -> Event
         requires { IsReady self.old }
-        ensures { Acts (Op.Contain old_plus.0 old_plus.1 new_plus.0 new_plus.1 size place) self.old result self.new }
+        ensures { Acts (Op.Contain old_low old_high new_low new_high size place) self.old result self.new }
     {
         let Some((pointer, base1, low1, high1, base2, low2, high2)) = self.seven_words() else {
             return self.end_wild();
@@ -221,17 +224,17 @@ impl<'a> Machine<'a> {
         let old = Ends {
             base: base1,
             low: low1,
-            low_plus: old_plus.0,
+            low_plus: old_low,
             high: high1,
-            high_plus: old_plus.1,
+            high_plus: old_high,
             size,
         };
         let new = Ends {
             base: base2,
             low: low2,
-            low_plus: new_plus.0,
+            low_plus: new_low,
             high: high2,
-            high_plus: new_plus.1,
+            high_plus: new_high,
             size,
         };
         let holds = old.contain(pointer, &new);
@@ -240,9 +243,16 @@ impl<'a> Machine<'a> {
 
     // Goes on if ends lie in the sandbox's memory, with so many bytes more, unless they are turned or the pointer below is
     // null (C5).
-    pub(crate) fn check_lies(&mut self, plus: (i64, i64), size: u32, more: u32, place: Place) -> Event
+    pub(crate) fn check_lies(
+        &mut self,
+        low_plus: i64,
+        high_plus: i64,
+        size: u32,
+        more: u32,
+        place: Place,
+    ) -> Event
         requires { IsReady self.old }
-        ensures { Acts (Op.Lies plus.0 plus.1 size more place) self.old result self.new }
+        ensures { Acts (Op.Lies low_plus high_plus size more place) self.old result self.new }
     {
         let Some((pointer, base, low, high)) = self.four_words() else {
             return self.end_wild();
@@ -250,9 +260,9 @@ impl<'a> Machine<'a> {
         let ends = Ends {
             base,
             low,
-            low_plus: plus.0,
+            low_plus,
             high,
-            high_plus: plus.1,
+            high_plus,
             size,
         };
         let memory = self.sandbox.len() as u32;

@@ -6,6 +6,7 @@ mod arithmetic;
 mod callbacks;
 mod calls;
 pub mod event;
+pub mod laws;
 pub mod machine;
 mod memory;
 mod bounds;

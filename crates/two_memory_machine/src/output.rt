@@ -163,7 +163,7 @@ impl<'a> Machine<'a> {
         let Some(start) = self.word() else {
             return self.end_wild();
         };
-        let walk = texts::walk(&self.memory, start, self.ticks, self.settings.budget);
+        let walk = texts::walk_text(&self.memory, start, self.ticks, self.settings.budget);
         self.ticks += walk.count;
         if let TextEnd::NoTick = walk.end {
             return self.end(Ending::Stop {

@@ -24,15 +24,16 @@ pub struct Walk {
 }
 
 /// Walks over a text from an address on. Before each byte a tick is spent.
-pub fn walk(memory: &Trusted, start: u32, ticks: u32, budget: u32) -> Walk
+pub fn walk_text(memory: &Trusted, start: u32, ticks: u32, budget: u32) -> Walk
     requires { ticks ≤ budget }
     ensures walked { IsWalked memory.now start ticks budget result }
     ensures few { ticks + result.count ≤ budget }
     ensures tick { IsEarly result.end → ticks + result.count < budget }
 {
     let mut count = 0;
+    let mut at = start;
     while ticks + count < budget {
-        match start.checked_add(count).and_then(|at| memory.byte(at)) {
+        match memory.byte(at) {
             None => {
                 return Walk {
                     count,
@@ -45,8 +46,10 @@ pub fn walk(memory: &Trusted, start: u32, ticks: u32, budget: u32) -> Walk
                     end: TextEnd::Zero,
                 };
             }
-            Some(_) => count += 1,
+            Some(_) => {}
         }
+        count += 1;
+        at += 1;
     }
     Walk {
         count,

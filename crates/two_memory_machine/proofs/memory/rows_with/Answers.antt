@@ -1,7 +1,7 @@
 use Rattle.std.proofs.Common.{◌≡◌, ◌+◌, ◌*◌, ◌/◌, ◌<◌, ◌≤◌, ◌++◌, ◌∷◌, [], suc, length, vec_len, drop, take, map, get_or, refl, sym, ap, ◌∙◌, arith}
 use Rattle.std.specs.Prelude.{slice_set}
 use Rattle.std.proofs.Math.ListN.{length-set}
-use Rattle.std.proofs.lemmas.List.{drop-cons, take_more_set, append_assoc, map-append}
+use Rattle.std.proofs.lemmas.List.{drop_more, take_more_set, append_assoc, map-append}
 use Rattle.flat_bytes.specs.Blocks.{grown, blocks_from, blocks_of}
 use Rattle.code_words.specs.Runs.{counter_behind}
 use Rattle.two_memory_machine.specs.declared.memory.BlockRow.{BlockRow}
@@ -42,10 +42,19 @@ loop-i-preserved c =
     let rows = c.loop-i.rows.items in
     let inside : i < length rows = omega (arith, within a, some a, c.loop-i.invariant.room, c.loop-i.invariant.len) in
     let next : c.offset_behind-offset.result ≡ grown c.loop-i.offset (length b) = c.offset_behind-offset.ensures ∙ ap (grown c.loop-i.offset) len in
-    let left : drop i blocks ≡ b ∷ drop (i + 1) blocks = ? in
+    let left : drop i blocks ≡ b ∷ drop (i + 1) blocks = drop_more blocks i b c.loop-i-test.true ∙ ap (λ x. x ∷ drop (i + 1) blocks) (sym c.index-blocks-i.is) in
+    let some_b : 0 < length b = omega (arith, some a, len) in
+    let fits : grown c.loop-i.offset (length b) ≤ c.args.size = omega (arith, within a, len) in
+    let more : map block_row (take (i + 1) (slice_set rows i row)) ≡ map block_row (take i rows) ++ (record { offset = c.loop-i.offset; bytes = length b }) ∷ [] =
+    ap (map block_row) (take_more_set rows i row inside) ∙ map-append block_row (take i rows) (row ∷ []) ∙ ap (λ n. map block_row (take i rows) ++ (record { offset = c.loop-i.offset; bytes = n }) ∷ []) len in
+    let rest : blocks_from c.args.size c.loop-i.offset (map length (drop i blocks)) ≡ (record { offset = c.loop-i.offset; bytes = length b }) ∷ blocks_from c.args.size c.offset_behind-offset.result (map length (drop (i + 1) blocks)) =
+    ap (λ bs. blocks_from c.args.size c.loop-i.offset (map length bs)) left ∙ blocks_from-block c.args.size c.loop-i.offset b (map length (drop (i + 1) blocks)) some_b fits
+    ∙ ap (λ n. (record { offset = c.loop-i.offset; bytes = length b }) ∷ blocks_from c.args.size n (map length (drop (i + 1) blocks))) (sym next) in
     record {
-      all = ?;
-      counter = ?;
+      all = ap (λ xs. xs ++ blocks_from c.args.size c.offset_behind-offset.result (map length (drop (i + 1) blocks))) more
+          ∙ append_assoc (map block_row (take i rows)) ((record { offset = c.loop-i.offset; bytes = length b }) ∷ []) (blocks_from c.args.size c.offset_behind-offset.result (map length (drop (i + 1) blocks)))
+          ∙ ap (λ xs. map block_row (take i rows) ++ xs) (sym rest) ∙ c.loop-i.invariant.all;
+      counter = ap (λ n. counter_behind n (drop (i + 1) blocks)) next ∙ sym (ap (counter_behind c.loop-i.offset) left) ∙ c.loop-i.invariant.counter;
       len = length-set rows i row ∙ c.loop-i.invariant.len;
       room = omega (arith, some a, next, len, c.loop-i.invariant.room);
     }

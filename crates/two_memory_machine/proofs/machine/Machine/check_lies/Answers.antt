@@ -1,3 +1,12 @@
+use Rattle.std.proofs.Common.{◌≡◌, ℕ, List, length, ap, ◌∙◌, arith}
+use Rattle.std.specs.Prelude.{FitsSigned}
+use Rattle.std.proofs.lemmas.Int.{to_z-of_z}
+use mir.Syntax.{w64}
+use Rattle.act_words.specs.Acts.{Act}
+use Rattle.ckc_text.specs.declared.code.Code.TheVariants.{C5}
+use Rattle.code_words.specs.Marshalling.{lie_in}
+use Rattle.code_words.specs.Table.{State, end_of, check}
+use Rattle.two_memory_machine.specs.Machines.{state_of}
 use Rattle.two_memory_machine.proofs.Pops.{pop_3_found, three_there}
 use Rattle.two_memory_machine.proofs.machine.Machine.check_lies.Goals as goal
 
@@ -7,4 +16,13 @@ check-requires-clause-there c =
     three_there c.args.self.now.frame.stack w.pointer w.base w.low w.high w.ensures
 
 pub returns : goal.returns
-returns c = ?
+returns c = λ f here acts inputs events.
+    let w = c.in-Some in
+    let low : FitsSigned w64 c.args.low_plus = c.ranges.low_plus in
+    let high : FitsSigned w64 c.args.high_plus = c.ranges.high_plus in
+    let s : State = state_of c.args.self.now acts inputs events in
+    let size : c.self.inside.sandbox.len ≡ length c.args.self.now.sandbox = rw (← c.self.view_is) (omega (arith, c.self.inside.sandbox.ok.0)) in
+    let told = simp to_z-of_z at c.lie_in-holds.ensures in
+    let holds : c.lie_in-holds.result ≡ lie_in (length c.args.self.now.sandbox) w.pointer (end_of w.base w.low c.args.low_plus c.args.size) (end_of w.base w.high c.args.high_plus c.args.size) c.args.more =
+    told ∙ ap (λ n. lie_in n w.pointer (end_of w.base w.low c.args.low_plus c.args.size) (end_of w.base w.high c.args.high_plus c.args.size) c.args.more) size in
+    rw (pop_3_found c.args.self.now.frame.stack w.pointer w.base w.low w.high (λ p b l h rest. check (lie_in (length c.args.self.now.sandbox) p (end_of b l c.args.low_plus c.args.size) (end_of b h c.args.high_plus c.args.size) c.args.more) C5 c.args.place rest c.args.self.now.frame s) s w.ensures, ← holds) (c.check.ensures acts inputs events)

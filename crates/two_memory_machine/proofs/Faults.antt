@@ -1,0 +1,27 @@
+-- Faults of the words that the sandbox passes, one parameter after another.
+use Rattle.std.proofs.Common.{◌≡◌, ℕ, suc, ◌+◌, ◌<◌, Bool, true, false, List, ◌∷◌, Option, Some, None, length, drop, get_or, refl, sym, ap, ◌∙◌, arith}
+use Rattle.std.specs.Prelude.{slice_get, ◌==◌}
+use Rattle.std.proofs.lemmas.Bool.Decides.{nat_tests}
+use Rattle.act_words.specs.declared.ending.Ending.{Ending}
+use Rattle.code_words.specs.Marshalling.{fits_kind, optional_region_lies, fault_from, arguments_fault}
+use Rattle.code_words.specs.declared.image.Param.{Param}
+use Rattle.two_memory_machine.specs.Steps.{fault_ending, param_ending}
+use Rattle.two_memory_machine.specs.Faults.{ending_from}
+
+-- the ending of one parameter, or what the later ones come to
+abbrev pub or_later : Option Ending → Option Ending → Option Ending
+or_later None later = later
+or_later (Some ending) later = Some ending
+
+pub one_more : (params : List Param) (words : List ℕ) (size i : ℕ) (p : Param) (w : ℕ) → slice_get params i ≡ Some p → drop i params ≡ p ∷ drop (suc i) params → drop i words ≡ w ∷ drop (suc i) words → ending_from params words size i ≡ or_later (param_ending size words w p) (ending_from params words size (suc i))
+one_more params words size i p w there a b = rw (a, b) (by (fits_kind p.kind w) refl (optional_region_lies size words w p.region) refl)
+  where
+    by : (k : Bool) → fits_kind p.kind w ≡ k → (r : Bool) → optional_region_lies size words w p.region ≡ r → fault_ending params (fault_from i size words (p ∷ drop (suc i) params) (w ∷ drop (suc i) words)) ≡ or_later (param_ending size words w p) (ending_from params words size (suc i))
+    by true e true h = rw (e, h) refl
+    by true e false h = rw (e, h, there) refl
+    by false e r h = rw (e, there) refl
+
+pub from_the_first : (params : List Param) (words : List ℕ) (size : ℕ) → length params ≡ length words → fault_ending params (arguments_fault params words size) ≡ ending_from params words size 0
+from_the_first params words size e =
+    let same : (length params == length words) ≡ true = grind (arith, nat_tests) in
+    rw same refl
