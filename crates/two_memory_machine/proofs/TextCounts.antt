@@ -65,3 +65,10 @@ inside m at byte e = by (nat_le m.base at) refl
         let base : m.base ≤ at = grind (arith, nat_tests) in
         let there : slice_get m.bytes (at - m.base) ≡ Some byte = rw h at e in
         record { base = base; within = omega (arith, slice_get_within m.bytes (at - m.base) byte there) }
+
+pub one_left : (len count : ℕ) → count < len → len - count ≡ suc (len - (count + 1))
+one_left len count h = omega arith
+
+pub not_zero : (n : ℕ) → (n ≡ 0 → ⊥) → n ≡ suc (n - 1)
+not_zero zero h = absurd (h refl)
+not_zero (suc n) h = omega arith

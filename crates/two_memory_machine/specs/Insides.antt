@@ -1,5 +1,5 @@
 -- What callers see of a machine's fields, and what is always true of them.
-use Rattle.std.specs.Prelude.{◌≡◌, ℕ, ◌+◌, ◌*◌, ◌^◌, ◌<◌, ◌≤◌, ◌⊎◌, List, [], ◌∷◌, length, take, map, Option, Some, None, slice_get, IsTrue}
+use Rattle.std.specs.Prelude.{◌≡◌, ℕ, ◌+◌, ◌*◌, ◌^◌, ◌<◌, ◌≤◌, ◌⊎◌, List, [], ◌∷◌, length, take, map, Option, Some, None, slice_get, All}
 use Rattle.flat_bytes.specs.Blocks.{Block}
 use Rattle.code_words.specs.Fitting.{Fits}
 use Rattle.code_words.specs.Table.{Frame, Caller, Touch, Loads, Stores, Passes, Replies, address_of, offset_of}
@@ -86,6 +86,7 @@ pub record IsConsistent (m : Inside) : Type 0 where
   pub counter : m.memory.counter ≤ m.settings.trusted
   pub made : 16 + 32 * m.made ≤ m.memory.counter
   pub blocks : m.settings.trusted ≤ 32 * length m.blocks.items + 32
+  pub rows : All (λ r. r.offset ≤ m.settings.trusted) m.blocks.items
   -- the open calls
   pub funs : m.calls.funs ≡ m.image.now.trusted.funs
   pub there : slice_get m.calls.funs m.calls.frame.function ≡ Some m.calls.fun

@@ -153,11 +153,13 @@ impl<'a> Machine<'a> {
         requires touches { self.old.doing ≡ Touching (Replies value) }
         ensures { MovesBy (make_touch self.old.image self.old.frame (Replies value)) self.old result self.new }
     {
-        if let Some(Link::CallsBack {
-            callback: _,
-            import,
-            place,
-        }) = self.calls.link()
+        if let Some(
+            Link::CallsBack {
+                callback: _,
+                import,
+                place,
+            },
+        ) = self.calls.link()
         {
             self.calls.leave();
             self.depth -= 2;

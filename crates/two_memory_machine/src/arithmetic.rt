@@ -14,30 +14,36 @@ use ckc_text::place::Place;
 pub fn add(place: Place, left: u32, right: u32) -> Result<i32, Ending>
     ensures { checked_of result ≡ sum place (signed left) (signed right) }
 {
-    left.cast_signed().checked_add(right.cast_signed()).ok_or(Ending::Check {
-        code: Code::C6,
-        place,
-    })
+    left.cast_signed()
+        .checked_add(right.cast_signed())
+        .ok_or(Ending::Check {
+            code: Code::C6,
+            place,
+        })
 }
 
 /// The difference (C6).
 pub fn subtract(place: Place, left: u32, right: u32) -> Result<i32, Ending>
     ensures { checked_of result ≡ difference place (signed left) (signed right) }
 {
-    left.cast_signed().checked_sub(right.cast_signed()).ok_or(Ending::Check {
-        code: Code::C6,
-        place,
-    })
+    left.cast_signed()
+        .checked_sub(right.cast_signed())
+        .ok_or(Ending::Check {
+            code: Code::C6,
+            place,
+        })
 }
 
 /// The product (C6).
 pub fn multiply(place: Place, left: u32, right: u32) -> Result<i32, Ending>
     ensures { checked_of result ≡ product place (signed left) (signed right) }
 {
-    left.cast_signed().checked_mul(right.cast_signed()).ok_or(Ending::Check {
-        code: Code::C6,
-        place,
-    })
+    left.cast_signed()
+        .checked_mul(right.cast_signed())
+        .ok_or(Ending::Check {
+            code: Code::C6,
+            place,
+        })
 }
 
 /// The negated number (C6).
@@ -60,10 +66,12 @@ pub fn divide(place: Place, left: u32, right: u32) -> Result<i32, Ending>
             place,
         });
     }
-    left.cast_signed().checked_div(right.cast_signed()).ok_or(Ending::Check {
-        code: Code::C6,
-        place,
-    })
+    left.cast_signed()
+        .checked_div(right.cast_signed())
+        .ok_or(Ending::Check {
+            code: Code::C6,
+            place,
+        })
 }
 
 /// The remainder, with the sign of the left number (C7, C6).
@@ -76,10 +84,12 @@ pub fn remainder(place: Place, left: u32, right: u32) -> Result<i32, Ending>
             place,
         });
     }
-    left.cast_signed().checked_rem(right.cast_signed()).ok_or(Ending::Check {
-        code: Code::C6,
-        place,
-    })
+    left.cast_signed()
+        .checked_rem(right.cast_signed())
+        .ok_or(Ending::Check {
+            code: Code::C6,
+            place,
+        })
 }
 
 /// The left number times two as often (C8).

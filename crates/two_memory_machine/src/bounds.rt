@@ -146,7 +146,13 @@ impl<'a> Machine<'a> {
     }
 
     // Goes on if an element lies between ends (C2).
-    pub(crate) fn check_in(&mut self, low_plus: i64, high_plus: i64, size: u32, place: Place) -> Event
+    pub(crate) fn check_in(
+        &mut self,
+        low_plus: i64,
+        high_plus: i64,
+        size: u32,
+        place: Place,
+    ) -> Event
         requires { IsReady self.old }
         ensures { Acts (Op.In low_plus high_plus size place) self.old result self.new }
     {
@@ -166,7 +172,13 @@ impl<'a> Machine<'a> {
     }
 
     // Goes on if an element lies between ends, or at the upper one (C2).
-    pub(crate) fn check_up_to(&mut self, low_plus: i64, high_plus: i64, size: u32, place: Place) -> Event
+    pub(crate) fn check_up_to(
+        &mut self,
+        low_plus: i64,
+        high_plus: i64,
+        size: u32,
+        place: Place,
+    ) -> Event
         requires { IsReady self.old }
         ensures { Acts (Op.UpTo low_plus high_plus size place) self.old result self.new }
     {

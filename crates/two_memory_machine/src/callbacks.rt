@@ -129,7 +129,13 @@ impl<'a> Machine<'a> {
         let Phase::Suspended { import, place } = self.phase else {
             return Event::Ran;
         };
-        let Some(fun) = self.image.trusted.funs.as_slice().get(callback.fun as usize) else {
+        let Some(fun) = self
+            .image
+            .trusted
+            .funs
+            .as_slice()
+            .get(callback.fun as usize)
+        else {
             return self.end_move(WILD);
         };
         if fun.args as usize != words.len() {

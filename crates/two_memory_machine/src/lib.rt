@@ -3,13 +3,13 @@
 
 mod acts;
 mod arithmetic;
+mod bounds;
 mod callbacks;
 mod calls;
 pub mod event;
 pub mod laws;
 pub mod machine;
 mod memory;
-mod bounds;
 mod operations;
 mod output;
 mod texts;

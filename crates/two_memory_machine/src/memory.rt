@@ -50,11 +50,7 @@ fn place_block(memory: &mut Vec<u8>, block: &[u8]) -> Result<(), NoMemory>
 }
 
 /// Where the blocks stand, of which the first stands at an offset.
-pub fn offsets_with(
-    alloc: Global,
-    first: u32,
-    blocks: &[Listed<u8>],
-) -> Result<Vec<u32>, NoMemory>
+pub fn offsets_with(alloc: Global, first: u32, blocks: &[Listed<u8>]) -> Result<Vec<u32>, NoMemory>
     requires { counter_behind first blocks.now < 2 ^ 32 }
     ensures { IfOk result (λ offsets. offsets.items ≡ offsets_from first blocks.now) }
 {
@@ -76,14 +72,11 @@ fn offset_behind(offset: u32, block: &[u8]) -> u32
 }
 
 /// The blocks, and room behind them for all that a memory of a size can have.
-pub fn rows_with(
-    alloc: Global,
-    size: u32,
-    blocks: &[Listed<u8>],
-) -> Result<Vec<BlockRow>, NoMemory>
+pub fn rows_with(alloc: Global, size: u32, blocks: &[Listed<u8>]) -> Result<Vec<BlockRow>, NoMemory>
     requires fits { counter_behind first_offset blocks.now ≤ size }
     requires not_empty { All (λ block. 0 < length block) blocks.now }
     ensures len { IfOk result (λ rows. size ≤ 32 * length rows.items + 32) }
+    ensures low { IfOk result (λ rows. All (λ r. r.offset ≤ size) rows.items) }
     ensures rows { IfOk result
         (λ rows. map block_row (take (length blocks.now) rows.items) ≡ blocks_of size (map length blocks.now)) }
 {

@@ -17,8 +17,8 @@ use crate::texts;
 use crate::texts::TextEnd;
 use act_words::ending::Ending;
 use act_words::octets::Octets;
-use code_words::op::Op;
 use ckc_text::code::Code;
+use code_words::op::Op;
 use itoa::Buffer;
 
 /// The line of a number: its digits, and a line feed.

@@ -145,7 +145,12 @@ impl<'a> Machine<'a> {
     fn reply_word(&self, callback: u32, value: Option<u32>) -> Option<u32>
         ensures { result ≡ reply_of (slice_get self.now.image.layout.callbacks callback) value }
     {
-        let callback = self.image.layout.callbacks.as_slice().get(callback as usize)?;
+        let callback = self
+            .image
+            .layout
+            .callbacks
+            .as_slice()
+            .get(callback as usize)?;
         match callback.result {
             WordKind::Void => Some(0),
             WordKind::Int | WordKind::Char | WordKind::Pointer => value,

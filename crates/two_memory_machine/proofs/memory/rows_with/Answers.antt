@@ -2,6 +2,7 @@ use Rattle.std.proofs.Common.{◌≡◌, ◌+◌, ◌*◌, ◌/◌, ◌<◌, ◌
 use Rattle.std.specs.Prelude.{slice_set}
 use Rattle.std.proofs.Math.ListN.{length-set}
 use Rattle.std.proofs.lemmas.List.{drop_more, take_more_set, append_assoc, map-append}
+use Rattle.std.proofs.lemmas.List.Elements.{All-set}
 use Rattle.flat_bytes.specs.Blocks.{grown, blocks_from, blocks_of}
 use Rattle.code_words.specs.Runs.{counter_behind}
 use Rattle.two_memory_machine.specs.declared.memory.BlockRow.{BlockRow}
@@ -26,7 +27,9 @@ pub overflow_cast-block : goal.overflow_cast-block
 overflow_cast-block c = omega (arith, within c)
 
 pub index_mut-requires : goal.index_mut-requires
-index_mut-requires c = omega (arith, within c, some c, c.loop-i.invariant.room, c.loop-i.invariant.len, c.loop-i.rows.ok.0)
+index_mut-requires c =
+    let a = (goal.at.index_mut-requires c).After-as_slice-block in
+    omega (arith, within a, some a, c.loop-i.invariant.room, c.loop-i.invariant.len, c.loop-i.rows.ok.0)
 
 pub offset_behind-offset-requires : goal.offset_behind-offset-requires
 offset_behind-offset-requires c = omega (arith, within (goal.at.offset_behind-offset-requires c).After-as_slice-block)
@@ -56,5 +59,6 @@ loop-i-preserved c =
           ∙ ap (λ xs. map block_row (take i rows) ++ xs) (sym rest) ∙ c.loop-i.invariant.all;
       counter = ap (λ n. counter_behind n (drop (i + 1) blocks)) next ∙ sym (ap (counter_behind c.loop-i.offset) left) ∙ c.loop-i.invariant.counter;
       len = length-set rows i row ∙ c.loop-i.invariant.len;
+      low = All-set (λ (r : BlockRow). r.offset ≤ c.args.size) rows i row (omega (arith, within a)) c.loop-i.invariant.low;
       room = omega (arith, some a, next, len, c.loop-i.invariant.room);
     }

@@ -51,6 +51,7 @@ invariant_of-self c =
       counter = h.counter;
       made = h.made;
       blocks = h.blocks;
+      rows = h.rows;
       funs = ap (λ (s : CallStack). s.funs) e ∙ ap (λ (s : CallStack). s.funs) (behind_same b) ∙ h.funs;
       there = rw e (found b);
       depth = omega (arith, ap (λ (s : CallStack). length (callers_of s.behind)) e, ap (λ (s : CallStack). length (callers_of s.behind)) (behind_same b), h.depth);

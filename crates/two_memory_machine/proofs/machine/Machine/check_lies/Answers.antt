@@ -21,7 +21,7 @@ returns c = λ f here acts inputs events.
     let low : FitsSigned w64 c.args.low_plus = c.ranges.low_plus in
     let high : FitsSigned w64 c.args.high_plus = c.ranges.high_plus in
     let s : State = state_of c.args.self.now acts inputs events in
-    let size : c.self.inside.sandbox.len ≡ length c.args.self.now.sandbox = rw (← c.self.view_is) (omega (arith, c.self.inside.sandbox.ok.0)) in
+    let size : c.len-memory.result ≡ length c.args.self.now.sandbox = rw (← c.self.view_is) (omega (arith, c.len-memory.ensures, c.self.inside.sandbox.ok.0)) in
     let told = simp to_z-of_z at c.lie_in-holds.ensures in
     let holds : c.lie_in-holds.result ≡ lie_in (length c.args.self.now.sandbox) w.pointer (end_of w.base w.low c.args.low_plus c.args.size) (end_of w.base w.high c.args.high_plus c.args.size) c.args.more =
     told ∙ ap (λ n. lie_in n w.pointer (end_of w.base w.low c.args.low_plus c.args.size) (end_of w.base w.high c.args.high_plus c.args.size) c.args.more) size in

@@ -1,0 +1,39 @@
+use Rattle.std.proofs.Common.{◌≡◌, ◌+◌, ◌<◌, Some, None, true, nat_lt, length, suc, refl, sym, ap, subst, ◌∙◌, arith}
+use Rattle.std.specs.Prelude.{slice_get, ◌==◌}
+use Rattle.std.proofs.lemmas.Bool.Decides.{nat_tests}
+use Rattle.code_words.specs.Marshalling.{arguments_fault}
+use Rattle.two_memory_machine.specs.CallStacks.{callers_of}
+use Rattle.two_memory_machine.specs.Machines.{Machine, TellsAct, callers_in, state_of}
+use Rattle.two_memory_machine.specs.Insides.{doing_of, machine}
+use Rattle.two_memory_machine.specs.Steps.{IsSuspended, fault_ending}
+use Rattle.two_memory_machine.proofs.Callers.{item_found, away, tested_ends, tested_passes}
+use Rattle.two_memory_machine.proofs.Moving.{gives_at}
+use Rattle.two_memory_machine.proofs.machine.Machine.call_back.Goals as goal
+use Rattle.two_memory_machine.proofs.machine.Machine.call_back.Goals.{After-fault_of}
+
+there : (c : After-fault_of) → slice_get c.self.inside.image.now.layout.callbacks c.args.k ≡ Some c.in-Some.callback.now
+there c = rw c.as_slice.ensures at (sym (item_found c.as_slice.result.now c.args.k (Some c.in-Some.callback) c.in-Some.ensures.lookup))
+
+count : (c : After-fault_of) → (length c.in-Some.callback.now.signature == length c.args.words.now) ≡ true
+count c = let signature = ap length c.as_slice-signature.ensures in grind (arith, nat_tests, signature, c.if-signature-words.false)
+
+early : (c : After-fault_of) → nat_lt c.self.inside.ticks c.self.inside.settings.budget ≡ true
+early c = grind (arith, nat_tests, c.if-self.false)
+
+shallow : (c : After-fault_of) → nat_lt (suc (length (callers_in (doing_of c.self.inside.phase) c.self.inside.calls.frame (callers_of c.self.inside.calls.behind)))) 1000 ≡ true
+shallow c =
+    let a = away c.self.inside.phase (subst IsSuspended (ap (λ (m : Machine). m.doing) (sym c.self.view_is)) c.requires.suspended) in
+    rw a.is (grind (arith, nat_tests, c.self.invariant.depth, c.if-self-ge-MAX_DEPTH.false))
+
+same_fault : (c : After-fault_of) → c.fault_of.result ≡ fault_ending c.in-Some.callback.now.signature (arguments_fault c.in-Some.callback.now.signature c.args.words.now (length c.self.inside.sandbox.items))
+same_fault c =
+    let size : c.len-size.result ≡ length c.self.inside.sandbox.items = omega (arith, c.len-size.ensures, c.self.inside.sandbox.ok.0) in
+    c.fault_of.ensures
+    ∙ ap (λ ps. fault_ending ps (arguments_fault ps c.args.words.now c.len-size.result)) c.as_slice-signature.ensures
+    ∙ ap (λ n. fault_ending c.in-Some.callback.now.signature (arguments_fault c.in-Some.callback.now.signature c.args.words.now n)) size
+
+pub returns-in-Some-fault_of : goal.returns-in-Some-fault_of
+returns-in-Some-fault_of c = ?
+
+pub returns : goal.returns
+returns c = ?
