@@ -25,7 +25,7 @@ use Rattle.two_memory_machine.specs.declared.machine.Phase.{Phase}
 use Rattle.two_memory_machine.specs.declared.machine.Phase.TheVariants as phases
 use Rattle.two_memory_machine.specs.CallStacks.{Behind, callers_with, callers_of}
 use Rattle.two_memory_machine.specs.Insides.{doing_of}
-use Rattle.two_memory_machine.specs.Machines.{Running}
+use Rattle.two_memory_machine.specs.Machines.{Running, NeedsNumber}
 use Rattle.two_memory_machine.specs.Steps.{top_words_of, IsSuspended, ending_at, fault_ending}
 
 -- what `get` of a slice finds
@@ -110,3 +110,9 @@ tested_passes image k callback None words s e = refl
 tested_passes image k callback (Some Count) words s e = absurd (cc)
 tested_passes image k callback (Some (TooLarge param)) words s e = absurd (no_ending C9 (slice_get callback.signature param) e)
 tested_passes image k callback (Some (OutOfRange param)) words s e = absurd (no_ending C4 (slice_get callback.signature param) e)
+
+pub needs : (phase : Phase) → doing_of phase ≡ NeedsNumber → phase ≡ phases.NeedsNumber
+needs phases.Running h = absurd (cc)
+needs phases.NeedsNumber h = refl
+needs (phases.Touching touch) h = absurd (cc)
+needs (phases.Suspended import place) h = absurd (cc)

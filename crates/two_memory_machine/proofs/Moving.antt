@@ -141,13 +141,15 @@ pub takes_end : (old new : Machine) (event : Event) (touch : Touch) → old.doin
 takes_end old new event touch e moves = λ inputs events.
     let told = moves [] inputs (events ++ NoAct turns.Trusted ∷ []) in
     let line : move old.image old.settings (state_of old [] inputs events) ≡ make_touch old.image old.frame touch (state_of old [] inputs (events ++ NoAct turns.Trusted ∷ [])) = rw e refl in
-    rw (line, ap turn_of e) told
+    subst (λ turn. Gives TellsAct [] inputs (events ++ NoAct turn ∷ []) (move old.image old.settings (state_of old [] inputs events)) old event new) (sym (ap turn_of e))
+    (subst (λ step. Gives TellsAct [] inputs (events ++ NoAct turns.Trusted ∷ []) step old event new) (sym line) told)
 
 pub takes_sandbox_end : (old new : Machine) (event : Event) (import : ℕ) (place : Place) → old.doing ≡ Suspended import place → MovesBy (Over sandbox_ended) old event new → TakesEnd old event new
 takes_sandbox_end old new event import place e moves = λ inputs events.
     let told = moves [] inputs (events ++ NoAct turns.Sandbox ∷ []) in
     let line : move old.image old.settings (state_of old [] inputs events) ≡ Over sandbox_ended (state_of old [] inputs (events ++ NoAct turns.Sandbox ∷ [])) = rw e refl in
-    rw (line, ap turn_of e) told
+    subst (λ turn. Gives TellsAct [] inputs (events ++ NoAct turn ∷ []) (move old.image old.settings (state_of old [] inputs events)) old event new) (sym (ap turn_of e))
+    (subst (λ step. Gives TellsAct [] inputs (events ++ NoAct turns.Sandbox ∷ []) step old event new) (sym line) told)
 
 -- ---- what a machine waits for
 

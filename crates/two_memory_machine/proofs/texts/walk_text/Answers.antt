@@ -17,7 +17,7 @@ returns-in-Some-eq0-clause-walked c = λ fun stack f s same ticks.
     let t = with_ticks (c.args.ticks + l.count) s in
     let byte : byte_of c.args.memory.now l.at ≡ Some 0 = sym c.in-Some-eq0.ensures.byte ∙ ap Some c.in-Some-eq0.field-0-test in
     let here = inside c.args.memory.now l.at 0 byte in
-    let left = one_left (length c.args.memory.now.bytes) l.count (omega (arith, here.base, here.within, l.invariant.place, l.invariant.inside)) in
+    let left = one_left (length c.args.memory.now.bytes) l.count (omega (arith, here.base, here.within, l.invariant.inside)) in
     l.invariant.goes_on fun stack f s same ticks
     ∙ ap (λ n. count_from n fun c.args.budget l.at l.count stack f t) left
     ∙ at_zero (length c.args.memory.now.bytes - (l.count + 1)) fun c.args.budget l.at l.count stack f t (omega (arith, c.loop-count-test.true)) (rw same byte)
@@ -28,12 +28,12 @@ loop-count-preserved c =
     let b = c.in-Some.field-0 in
     let byte : byte_of c.args.memory.now l.at ≡ Some b = sym c.in-Some.ensures.byte in
     let here = inside c.args.memory.now l.at b byte in
-    let left = one_left (length c.args.memory.now.bytes) l.count (omega (arith, here.base, here.within, l.invariant.place, l.invariant.inside)) in
+    let left = one_left (length c.args.memory.now.bytes) l.count (omega (arith, here.base, here.within, l.invariant.inside)) in
     let some = not_zero b c.in-Some.field-0-test.1 in
     record {
       place = omega (arith, l.invariant.place);
       ticks = omega (arith, c.loop-count-test.true);
-      inside = λ h. omega (arith, here.base, l.invariant.place, l.invariant.inside);
+      inside = omega (arith, here.base, l.invariant.inside);
       goes_on = λ fun stack f s same ticks.
           let t = with_ticks (c.args.ticks + l.count) s in
           let all : c.args.ticks + l.count + 1 ≡ c.args.ticks + (l.count + 1) = omega arith in

@@ -1,4 +1,4 @@
-use Rattle.std.proofs.Common.{◌≡◌, ◌+◌, ◌-◌, ◌<◌, ◌≤◌, List, ℕ, length}
+use Rattle.std.proofs.Common.{◌≡◌, ◌+◌, ◌-◌, ◌≤◌, List, ℕ, length}
 use Rattle.code_words.specs.declared.image.Func.{Func}
 use Rattle.code_words.specs.Table.{Frame, State, count_from}
 use Rattle.two_memory_machine.specs.Texts.{with_ticks}
@@ -9,7 +9,7 @@ abbrev pub invariant-loop-count : goal.invariant-loop-count
 invariant-loop-count l = record {
   place : l.at ≡ l.start + l.count;
   ticks : l.ticks + l.count ≤ l.budget;
-  inside : 0 < l.count → l.memory.base ≤ l.start;
+  inside : l.count ≤ l.at - l.memory.base;
   goes_on : (fun : Func) (stack : List ℕ) (f : Frame) (s : State) → s.memory ≡ l.memory → s.world.ticks ≡ l.ticks → count_from (length l.memory.bytes) fun l.budget l.start 0 stack f s ≡ count_from (length l.memory.bytes - l.count) fun l.budget l.at l.count stack f (with_ticks (l.ticks + l.count) s);
 }
 

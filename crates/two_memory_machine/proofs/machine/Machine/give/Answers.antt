@@ -1,4 +1,10 @@
 use Rattle.two_memory_machine.proofs.machine.Machine.give.Goals as goal
 
-pub returns : goal.returns
-returns c = ?
+pub returns-clause-takes : goal.returns-clause-takes
+returns-clause-takes c = ?
+
+pub returns-clause-none : goal.returns-clause-none
+returns-clause-none c = ?
+
+pub returns-clause-over : goal.returns-clause-over
+returns-clause-over c = ?
