@@ -1,5 +1,5 @@
 -- Static blocks, one after another.
-use Rattle.std.proofs.Common.{◌≡◌, ℕ, zero, suc, ◌+◌, ◌-◌, ◌<◌, ◌≤◌, Bool, true, false, List, [], ◌∷◌, ◌++◌, Option, Some, None, length, drop, take, map, get_or, refl, sym, ap, ◌∙◌, arith}
+use Rattle.std.proofs.Common.{◌≡◌, ℕ, zero, suc, ◌+◌, ◌-◌, ◌*◌, ◌<◌, ◌≤◌, Bool, true, false, List, [], ◌∷◌, ◌++◌, Option, Some, None, length, drop, take, map, get_or, refl, sym, ap, ◌∙◌, arith}
 use Rattle.std.specs.Prelude.{slice_get, All}
 use Rattle.std.proofs.lemmas.Bool.Decides.{nat_tests}
 use Rattle.std.proofs.Common.{drop-cons}
@@ -41,3 +41,15 @@ next_within blocks counter i block h e = rw (drop-cons blocks i block h, ← e) 
 -- one more static block
 pub blocks_from-block : (size counter : ℕ) (block : List ℕ) (lens : List ℕ) → 0 < length block → grown counter (length block) ≤ size → blocks_from size counter (length block ∷ lens) ≡ (record { offset = counter; bytes = length block }) ∷ blocks_from size (grown counter (length block)) lens
 blocks_from-block size counter block lens some fits = rw (not_refused size counter (length block) some fits) refl
+
+-- blocks that aren't empty take 32 bytes at least
+pub counter_room : (counter : ℕ) (blocks : List (List ℕ)) → All (λ block. 0 < length block) blocks → counter + 32 * length blocks ≤ counter_behind counter blocks
+counter_room counter [] some = omega arith
+counter_room counter (block ∷ blocks) some =
+    let first : 0 < length block = some 0 block (omega arith) in
+    omega (arith, first, counter_room (grown counter (length block)) blocks (λ k d h. some (suc k) d (omega (arith, h))))
+
+pub slice_get-map : {A B : Type 0} (f : A → B) (xs : List A) (k : ℕ) (x : A) → slice_get xs k ≡ Some x → slice_get (map f xs) k ≡ Some (f x)
+slice_get-map f [] k x h = absurd (cc)
+slice_get-map f (y ∷ ys) zero x h = let same : y ≡ x = cc in ap (λ z. Some (f z)) same
+slice_get-map f (y ∷ ys) (suc k) x h = slice_get-map f ys k x h

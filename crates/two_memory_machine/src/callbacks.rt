@@ -112,10 +112,10 @@ impl<'a> Machine<'a> {
             });
         }
         let size = self.sandbox.len() as u32;
-        if let Some(ending) = fault_of(signature, words, size) {
-            return self.end_move(ending);
+        match fault_of(signature, words, size) {
+            Some(ending) => self.end_move(ending),
+            None => self.run_callback(k, callback, words),
         }
-        self.run_callback(k, callback, words)
     }
 
     // Runs the function of a callback, if it is there and takes as many arguments.

@@ -1,8 +1,27 @@
-use Rattle.std.proofs.Common.{◌≡◌, ◌+◌, Some, None, length, map, take, refl, sym, ap, ◌∙◌, arith}
+use Rattle.std.proofs.Common.{◌≡◌, ◌+◌, ◌≤◌, Some, length, map, take, refl, sym, ap, ◌∙◌, arith}
+use Rattle.std.specs.Prelude.{slice_get, All}
+use Rattle.std.proofs.lemmas.List.Elements.{All-take}
+use Rattle.two_memory_machine.specs.declared.memory.BlockRow.{BlockRow}
+use Rattle.two_memory_machine.specs.Places.{block_row}
+use Rattle.two_memory_machine.proofs.Callers.{item_found, all_found}
+use Rattle.two_memory_machine.proofs.Statics.{slice_get-map}
 use Rattle.two_memory_machine.proofs.machine.Machine.block.Goals as goal
+use Rattle.two_memory_machine.proofs.machine.Machine.block.Goals.{In_ok-block}
+
+there : (c : In_ok-block) → slice_get (take c.self.inside.made c.self.inside.blocks.items) c.args.k ≡ Some c.in_ok-block.block.now
+there c =
+    let found = item_found (take c.self.inside.made c.deref.result.now) c.args.k (Some c.in_ok-block.block) c.in_ok-block.ensures.lookup in
+    ap (λ xs. slice_get (take c.self.inside.made xs) c.args.k) (sym c.deref.ensures.value) ∙ sym found
+
+low : (c : In_ok-block) → c.in_ok-block.block.now.offset ≤ c.self.inside.settings.trusted
+low c =
+    let i = c.self.inside in
+    all_found (λ (r : BlockRow). r.offset ≤ i.settings.trusted) (take i.made i.blocks.items) c.args.k c.in_ok-block.block.now (All-take (λ (r : BlockRow). r.offset ≤ i.settings.trusted) i.made i.blocks.items c.self.invariant.rows) (there c)
 
 pub overflow_add-result : goal.overflow_add-result
-overflow_add-result c = ?
+overflow_add-result c = omega (arith, low c, c.self.invariant.fits.allowed.most_base, c.self.invariant.fits.allowed.most_trusted)
 
 pub returns : goal.returns
-returns c = ?
+returns c =
+    let i = c.self.inside in
+    rw (← c.self.view_is, slice_get-map block_row (take i.made i.blocks.items) c.args.k c.in_ok-block.block.now (there c), c.self.invariant.base) refl

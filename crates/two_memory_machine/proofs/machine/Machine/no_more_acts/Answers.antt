@@ -1,13 +1,29 @@
+use Rattle.std.proofs.Common.{◌≡◌, [], refl, sym, ap, subst, ◌∙◌}
+use Rattle.two_memory_machine.specs.Machines.{Machine, TakesEnd, Touching, Suspended}
+use Rattle.two_memory_machine.specs.Insides.{machine, doing_of, touch_of}
+use Rattle.two_memory_machine.proofs.Moving.{takes_end, takes_sandbox_end, act_over}
 use Rattle.two_memory_machine.proofs.machine.Machine.no_more_acts.Goals as goal
+use Rattle.two_memory_machine.proofs.machine.Machine.no_more_acts.Goals.{After-make_touch, After-end_move}
+
+touched : (c : After-make_touch) → TakesEnd c.args.self.now c.make_touch.result c.make_touch.new.self
+touched c =
+    let touch = touch_of c.in-Touching.touch in
+    let waits : c.args.self.now.doing ≡ Touching touch = ap (λ (m : Machine). m.doing) (sym c.self.view_is) ∙ ap doing_of c.in-Touching.is in
+    takes_end c.args.self.now c.make_touch.new.self c.make_touch.result touch waits (c.make_touch.ensures touch waits)
+
+ended : (c : After-end_move) → TakesEnd c.args.self.now c.end_move.result c.end_move.new.self
+ended c =
+    let waits : c.args.self.now.doing ≡ Suspended c.in-Suspended.import c.in-Suspended.place = ap (λ (m : Machine). m.doing) (sym c.self.view_is) ∙ ap doing_of c.in-Suspended.is in
+    takes_sandbox_end c.args.self.now c.end_move.new.self c.end_move.result c.in-Suspended.import c.in-Suspended.place waits c.end_move.ensures.line
 
 pub returns-in-Touching-clause-takes : goal.returns-in-Touching-clause-takes
-returns-in-Touching-clause-takes c = ?
+returns-in-Touching-clause-takes c = touched c
 
 pub returns-in-Touching-clause-over : goal.returns-in-Touching-clause-over
-returns-in-Touching-clause-over c = ?
+returns-in-Touching-clause-over c = act_over [] _ _ _ c.args.self.now c.make_touch.new.self c.make_touch.result (touched c [] [])
 
 pub returns-in-Suspended-clause-takes : goal.returns-in-Suspended-clause-takes
-returns-in-Suspended-clause-takes c = ?
+returns-in-Suspended-clause-takes c = ended c
 
 pub returns-in-Suspended-clause-over : goal.returns-in-Suspended-clause-over
-returns-in-Suspended-clause-over c = ?
+returns-in-Suspended-clause-over c = act_over [] _ _ _ c.args.self.now c.end_move.new.self c.end_move.result (ended c [] [])
