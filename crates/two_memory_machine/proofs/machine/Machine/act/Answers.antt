@@ -18,7 +18,7 @@ touched c =
     let moves = c.act_before_touch.ensures touch waits in
     subst (λ m. TakesAct m (act_view c.args.act.now) c.act_before_touch.result c.act_before_touch.new.self) c.self.view_is
     (takes_before (machine i) c.act_before_touch.new.self c.act_before_touch.result touch (act_view c.args.act.now) waits
-    (subst (λ n. MovesBy (λ s. before_touch_by i.image.now i.calls.frame touch (act_before_touch (act_view c.args.act.now) s.world) s) (record (machine i) { taken = n }) c.act_before_touch.result c.act_before_touch.new.self) c.saturating_add.ensures moves))
+    (subst (λ n. MovesBy (λ s. before_touch_by i.image.now i.calls.frame touch (act_before_touch (act_view c.args.act.now) s.world) s) (record (machine i) { taken = n }) c.act_before_touch.result c.act_before_touch.new.self) c.saturating_add-self-inside.ensures moves))
 
 passed : (c : After-act_in_sandbox) → TakesAct c.args.self.now (act_view c.args.act.now) c.act_in_sandbox.result c.act_in_sandbox.new.self
 passed c =
@@ -27,7 +27,7 @@ passed c =
     let moves = c.act_in_sandbox.ensures in
     subst (λ m. TakesAct m (act_view c.args.act.now) c.act_in_sandbox.result c.act_in_sandbox.new.self) c.self.view_is
     (takes_in_sandbox (machine i) c.act_in_sandbox.new.self c.act_in_sandbox.result c.in-Suspended.import c.in-Suspended.place (act_view c.args.act.now) waits
-    (subst (λ n. MovesBy (λ s. in_sandbox_by i.image.now i.settings (act_in_sandbox (act_view c.args.act.now) s.world) s) (record (machine i) { taken = n }) c.act_in_sandbox.result c.act_in_sandbox.new.self) c.saturating_add.ensures moves))
+    (subst (λ n. MovesBy (λ s. in_sandbox_by i.image.now i.settings (act_in_sandbox (act_view c.args.act.now) s.world) s) (record (machine i) { taken = n }) c.act_in_sandbox.result c.act_in_sandbox.new.self) c.saturating_add-self-inside.ensures moves))
 
 pub returns-in-Touching-clause-takes : goal.returns-in-Touching-clause-takes
 returns-in-Touching-clause-takes c = touched c

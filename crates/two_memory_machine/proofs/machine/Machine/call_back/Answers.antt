@@ -42,13 +42,13 @@ returns-in-Some-fault_of c = λ acts inputs events.
     let ends : Some c.in-Some-fault_of.ending ≡ fault_ending callback.signature fault = sym c.in-Some-fault_of.is ∙ same_fault b in
     rw (← c.self.view_is, there b, count b, early b, shallow b, tested_ends i.image.now c.args.k callback fault words _ c.in-Some-fault_of.ending ends) (c.end_move-in-Some-fault_of.ensures.line acts inputs events)
 
-pub returns-in-None-fault_of : goal.returns-in-None-fault_of
-returns-in-None-fault_of c = λ acts inputs events.
-    let b = (goal.at.returns-in-None-fault_of c).After-fault_of in
+pub returns : goal.returns
+returns c = λ acts inputs events.
+    let b = (goal.at.returns c).After-fault_of in
     let i = c.self.inside in
     let callback = c.in-Some.callback.now in
     let words = c.args.words.now in
     let fault = arguments_fault callback.signature words (length i.sandbox.items) in
-    let passes : None ≡ fault_ending callback.signature fault = sym c.in-None-fault_of.is ∙ same_fault b in
+    let passes : None ≡ fault_ending callback.signature fault = sym c.in-None.is ∙ same_fault b in
     rw (← c.self.view_is, there b, count b, early b, shallow b, tested_passes i.image.now c.args.k callback fault words _ passes)
     (gives_at TellsAct acts inputs events _ (machine i) _ c.run_callback.new.self c.run_callback.result refl refl (c.run_callback.ensures acts inputs events))
