@@ -42,9 +42,9 @@ returns-in-Some-fault_of c = λ acts inputs events.
     let ends : Some c.in-Some-fault_of.ending ≡ fault_ending callback.signature fault = sym c.in-Some-fault_of.is ∙ same_fault b in
     rw (← c.self.view_is, there b, count b, early b, shallow b, tested_ends i.image.now c.args.k callback fault words _ c.in-Some-fault_of.ending ends) (c.end_move-in-Some-fault_of.ensures.line acts inputs events)
 
-pub returns : goal.returns
-returns c = λ acts inputs events.
-    let b = (goal.at.returns c).After-fault_of in
+pub returns-in-None : goal.returns-in-None
+returns-in-None c = λ acts inputs events.
+    let b = (goal.at.returns-in-None c).After-fault_of in
     let i = c.self.inside in
     let callback = c.in-Some.callback.now in
     let words = c.args.words.now in
