@@ -21,21 +21,37 @@ pub enum Op {
     /// Pushes the offset of a static block of sandbox memory.
     BlockOffset(u32),
     /// `a + b` (C6).
-    Add { place: Place },
+    Add {
+        place: Place,
+    },
     /// `a - b` (C6).
-    Sub { place: Place },
+    Sub {
+        place: Place,
+    },
     /// `a * b` (C6).
-    Mul { place: Place },
+    Mul {
+        place: Place,
+    },
     /// `a / b`, rounded toward zero (C7, C6).
-    Div { place: Place },
+    Div {
+        place: Place,
+    },
     /// The remainder of `a / b` (C7, C6).
-    Rem { place: Place },
+    Rem {
+        place: Place,
+    },
     /// `-b` (C6).
-    Neg { place: Place },
+    Neg {
+        place: Place,
+    },
     /// `a << b` (C8).
-    Shl { place: Place },
+    Shl {
+        place: Place,
+    },
     /// `a >> b`, which keeps the sign (C8).
-    Shr { place: Place },
+    Shr {
+        place: Place,
+    },
     /// The same modulo 2^32; shifts take their count modulo 32.
     WrapAdd,
     WrapSub,
@@ -67,9 +83,13 @@ pub enum Op {
     /// `b` modulo 256.
     Byte,
     /// The address `a` plus `b` elements of a size.
-    Index { size: u32 },
+    Index {
+        size: u32,
+    },
     /// `b` isn't 0 (C1). It stays.
-    NonNull { place: Place },
+    NonNull {
+        place: Place,
+    },
     /// Pops an upper end, a lower end, a base, an index and a pointer: the element lies between the ends (C2).
     In {
         low: i64,
@@ -85,7 +105,11 @@ pub enum Op {
         place: Place,
     },
     /// Pops a value, an upper end, a base, an index and a pointer: at the upper end the value is 0 (C3).
-    Term { high: i64, size: u32, place: Place },
+    Term {
+        high: i64,
+        size: u32,
+        place: Place,
+    },
     /// Pops new ends with their base, and old ones with theirs: the new ones lie within the old ones, unless the pointer
     /// below is null or the new ends are turned (C5).
     Contain {
@@ -106,7 +130,11 @@ pub enum Op {
         place: Place,
     },
     /// The bytes from `b` plus an offset on lie in sandbox memory (C4). `b` stays.
-    Range { offset: u32, len: u32, place: Place },
+    Range {
+        offset: u32,
+        len: u32,
+        place: Place,
+    },
     /// Pops an address, and pushes the byte or the word there.
     Load1,
     Load4,
@@ -125,7 +153,10 @@ pub enum Op {
     /// Pops the arguments of a function of the same side, the last on top, and calls it (S2).
     Call(u32),
     /// Pops the arguments of a tainted function, the last on top, calls it, and pushes its reply (S2, C9).
-    TaintedCall { import: u32, place: Place },
+    TaintedCall {
+        import: u32,
+        place: Place,
+    },
     /// In sandbox code: pops the arguments of a callback, calls it, and pushes its reply.
     CallBack(u32),
     /// Returns the topmost word.
@@ -141,11 +172,17 @@ pub enum Op {
     /// Pops a word, and writes its lowest byte.
     PutByte,
     /// Pops a count, makes so many elements of trusted memory, and pushes their address, or 0 where there are none.
-    Alloc { size: u32 },
+    Alloc {
+        size: u32,
+    },
     /// The same with one element more.
-    AllocTerminated { size: u32 },
+    AllocTerminated {
+        size: u32,
+    },
     /// The same as the first, in sandbox memory.
-    SandboxAlloc { size: u32 },
+    SandboxAlloc {
+        size: u32,
+    },
     /// Pops an address, and pushes how many bytes stand before the first 0 from there; each byte spends a tick.
     TextLength,
 }

@@ -1,5 +1,5 @@
 -- The open calls, and the lines of the table that begin and end them.
-use Rattle.std.proofs.Common.{◌≡◌, ℕ, zero, suc, ◌+◌, ◌<◌, ◌≤◌, Bool, true, false, nat_lt, nat_le, if◌then◌else◌, List, [], ◌∷◌, Option, Some, None, length, take, drop, reverse, get_or, refl, sym, ap, ◌∙◌, arith}
+use Rattle.std.proofs.Common.{◌≡◌, ℕ, suc, ◌≤◌, Bool, true, false, nat_lt, nat_le, if◌then◌else◌, List, [], ◌∷◌, Option, Some, None, length, take, drop, reverse, refl, sym, ap, ◌∙◌, arith}
 use Rattle.std.specs.Prelude.{slice_get, All}
 use Rattle.std.specs.Option.{option_copied}
 use Rattle.std.specs.Slice.{IsItemAt}
@@ -18,7 +18,7 @@ use Rattle.code_words.specs.declared.image.Callback.{Callback}
 use Rattle.code_words.specs.declared.image.Image.{Image}
 use Rattle.code_words.specs.declared.image.Param.{Param}
 use Rattle.code_words.specs.declared.image.Func.{Func}
-use Rattle.code_words.specs.Table.{Frame, Caller, Calls, State, Step, Over, pop_if, pop_words, wild, depth, behind, enter, call_function}
+use Rattle.code_words.specs.Table.{Frame, Calls, State, Over, wild, depth, behind, enter, call_function}
 use Rattle.two_memory_machine.specs.declared.calls.Link.{Link}
 use Rattle.two_memory_machine.specs.declared.calls.Link.TheVariants.{Called, CallsBack}
 use Rattle.two_memory_machine.specs.declared.machine.Phase.{Phase}

@@ -20,7 +20,7 @@ use Rattle.two_memory_machine.specs.declared.event.Event.{Event}
 use Rattle.two_memory_machine.specs.declared.event.Event.TheVariants.{Ran, Asks, Input, Out, Showed, Touched, Ended}
 use Rattle.two_memory_machine.specs.declared.event.Waiting.TheVariants as waiting
 use Rattle.two_memory_machine.specs.Machines.{Machine, Doing, Running, NeedsNumber, Touching, Suspended, Gives, TellsStep, TellsAct, StepsIf, Steps, TakesAct, TakesEnd, is_input, next_op_of, state_of, world_of, turn_of, waiting_for, TakesNumber, TakesNoNumber, ending_given}
-use Rattle.two_memory_machine.specs.Steps.{GoesBy, IsIn, Acts, PerformsIf, Performs, MovesBy, IsSuspended, EndsBy}
+use Rattle.two_memory_machine.specs.Steps.{GoesBy, IsIn, PerformsIf, Performs, MovesBy}
 
 -- a machine of the same image
 pub gives_at : (Tells : Event → Doing → Type 0) (acts : List Act) (inputs : List ℤ) (events : List World.Event) (step : Step) (old mid new : Machine) (event : Event) → mid.image ≡ old.image → mid.settings ≡ old.settings → Gives Tells acts inputs events step mid event new → Gives Tells acts inputs events step old event new

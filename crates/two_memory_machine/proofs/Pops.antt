@@ -1,8 +1,8 @@
 -- Pops from a stack on which the words were found.
-use Rattle.std.proofs.Common.{◌≡◌, ℕ, ◌≤◌, Option, Some, None, List, [], ◌∷◌, drop, length, refl, ap, sym, ◌∙◌, arith}
+use Rattle.std.proofs.Common.{◌≡◌, ℕ, ◌≤◌, Some, List, [], ◌∷◌, drop, length, refl, ap, sym, arith}
 use Rattle.std.specs.Prelude.{slice_get}
 use Rattle.std.proofs.lemmas.Option.{same_Some}
-use Rattle.code_words.specs.Table.{State, Step, pop, pop_2, pop_3, pop_5, pop_6, peek, wild}
+use Rattle.code_words.specs.Table.{State, Step, pop, pop_2, pop_3, pop_5, pop_6, peek}
 use Rattle.two_memory_machine.specs.Steps.{two_topmost, four_topmost, five_topmost, seven_topmost}
 
 pub pop_found : (stack : List ℕ) (w : ℕ) (next : ℕ → List ℕ → Step) (s : State) → Some w ≡ slice_get stack 0 → pop stack next s ≡ next w (drop 1 stack)

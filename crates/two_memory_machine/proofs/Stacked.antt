@@ -5,12 +5,10 @@ use Rattle.std.proofs.lemmas.List.{take-set-le, take-take}
 use Rattle.std.proofs.lemmas.Option.{get_or_from_slice_get, slice_get_within}
 use Rattle.std.proofs.Math.Nat.{mul-le-mul_left}
 use Rattle.code_words.specs.declared.image.Func.{Func}
-use Rattle.two_memory_machine.specs.declared.calls.Extent.{Extent}
 use Rattle.two_memory_machine.specs.declared.calls.Row.{Row}
 use Rattle.two_memory_machine.specs.declared.calls.Link.{Link}
-use Rattle.two_memory_machine.specs.CallStacks.{Behind}
 use Rattle.two_memory_machine.specs.declared.calls.CallWords.TheInside.{Inside}
-use Rattle.two_memory_machine.specs.CallInsides.{frame_in, behind_row, behind_rows, call_stack, window, InOrder, IsCall, AreStacked, IsConsistent}
+use Rattle.two_memory_machine.specs.CallInsides.{behind_row, behind_rows, call_stack, window, InOrder, IsCall, AreStacked, IsConsistent}
 use Rattle.two_memory_machine.proofs.Windows.{length-window, drop-window}
 
 plus_one : (n : ℕ) → n + 1 ≡ suc n

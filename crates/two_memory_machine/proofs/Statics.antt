@@ -1,10 +1,10 @@
 -- Static blocks, one after another.
-use Rattle.std.proofs.Common.{◌≡◌, ℕ, zero, suc, ◌+◌, ◌-◌, ◌*◌, ◌<◌, ◌≤◌, Bool, true, false, List, [], ◌∷◌, ◌++◌, Option, Some, None, length, drop, take, map, get_or, refl, sym, ap, ◌∙◌, arith}
+use Rattle.std.proofs.Common.{◌≡◌, ℕ, zero, suc, ◌+◌, ◌*◌, ◌<◌, ◌≤◌, false, List, [], ◌∷◌, Some, length, drop, map, get_or, refl, sym, ap, ◌∙◌, arith}
 use Rattle.std.specs.Prelude.{slice_get, All}
 use Rattle.std.proofs.lemmas.Bool.Decides.{nat_tests}
 use Rattle.std.proofs.Common.{drop-cons}
-use Rattle.flat_bytes.specs.Blocks.{Block, grown, is_refused, blocks_from}
-use Rattle.code_words.specs.Runs.{spread, counter_behind}
+use Rattle.flat_bytes.specs.Blocks.{grown, is_refused, blocks_from}
+use Rattle.code_words.specs.Runs.{counter_behind}
 use Rattle.code_words.specs.Table.{offset_from, at_base}
 use Rattle.two_memory_machine.specs.Places.{offsets_from}
 

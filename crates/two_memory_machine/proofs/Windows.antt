@@ -1,9 +1,8 @@
 -- Parts of a list, and what a write in the list does to them.
-use Rattle.std.proofs.Common.{◌≡◌, ℕ, zero, suc, ◌+◌, ◌-◌, ◌<◌, ◌≤◌, List, [], ◌∷◌, ◌++◌, Option, Some, None, length, take, drop, refl, sym, ap, ◌∙◌, arith, ⊎_elim}
-use Rattle.std.specs.Prelude.{slice_get, slice_set}
+use Rattle.std.proofs.Common.{◌≡◌, ℕ, ◌+◌, ◌-◌, ◌<◌, ◌≤◌, List, ◌∷◌, length, take, drop, ap, ◌∙◌, arith}
+use Rattle.std.specs.Prelude.{slice_set}
 use Rattle.std.proofs.lemmas.List.{take-set-le, drop-set-lt, drop-set-add, drop-set, length-drop, length-take-le, drop-drop}
 use Rattle.std.proofs.Math.Seq.{take-set-lt}
-use Rattle.std.proofs.Math.ListN.{length-set}
 use Rattle.two_memory_machine.specs.CallInsides.{window}
 
 pub length-window : {A : Type 0} (low high : ℕ) (xs : List A) → high ≤ length xs → length (window low high xs) ≡ high - low

@@ -2,7 +2,6 @@
 use Rattle.std.specs.Prelude.{◌≡◌, ℕ, zero, suc, ◌+◌, ◌*◌, ◌^◌, ◌<◌, ◌≤◌, List, [], ◌∷◌, All, length, take, drop, Option, Some, None, slice_get}
 use Rattle.code_words.specs.Table.{Frame}
 use Rattle.code_words.specs.declared.image.Func.{Func}
-use Rattle.two_memory_machine.specs.declared.calls.Link.TheVariants.{Called}
 use Rattle.two_memory_machine.specs.declared.calls.Extent.{Extent}
 use Rattle.two_memory_machine.specs.declared.calls.Row.{Row}
 use Rattle.two_memory_machine.specs.declared.calls.CallWords.TheInside.{Inside}

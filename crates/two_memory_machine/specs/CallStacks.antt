@@ -1,6 +1,5 @@
 -- The open calls of the trusted side, as the rest of the machine sees them.
-use Rattle.std.specs.Prelude.{ℕ, ◌+◌, Bool, true, false, List, [], ◌∷◌, drop, Option, Some, None, slice_get, slice_set, ◌≡◌}
-use Rattle.ckc_text.specs.declared.place.Place.{Place}
+use Rattle.std.specs.Prelude.{ℕ, Bool, true, false, List, [], ◌∷◌, Option, Some, None, slice_get, slice_set, ◌≡◌}
 use Rattle.code_words.specs.Table.{Frame, Caller, Calls, Waits, CalledBack, frame_for}
 use Rattle.code_words.specs.declared.image.Func.{Func}
 use Rattle.two_memory_machine.specs.declared.calls.Link.{Link}

@@ -1,11 +1,8 @@
 -- What callers see of a machine's fields, and what is always true of them.
-use Rattle.std.specs.Prelude.{◌≡◌, ℕ, ◌+◌, ◌*◌, ◌^◌, ◌<◌, ◌≤◌, ◌⊎◌, List, [], ◌∷◌, length, take, map, Option, Some, None, slice_get, All}
-use Rattle.flat_bytes.specs.Blocks.{Block}
+use Rattle.std.specs.Prelude.{◌≡◌, ℕ, ◌+◌, ◌*◌, ◌^◌, ◌<◌, ◌≤◌, ◌⊎◌, length, take, map, Option, Some, None, slice_get, All}
 use Rattle.code_words.specs.Fitting.{Fits}
-use Rattle.code_words.specs.Table.{Frame, Caller, Touch, Loads, Stores, Passes, Replies, address_of, offset_of}
+use Rattle.code_words.specs.Table.{Touch, Loads, Stores, Passes, Replies, address_of, offset_of}
 use Rattle.code_words.specs.declared.op.Op.TheVariants.{NextInput}
-use Rattle.code_words.specs.declared.image.Func.{Func}
-use Rattle.code_words.specs.declared.image.Image.{Image}
 use Rattle.two_memory_machine.specs.declared.calls.Link.{Link}
 use Rattle.two_memory_machine.specs.declared.calls.Link.TheVariants.{Called, CallsBack}
 use Rattle.two_memory_machine.specs.declared.machine.Pending.{Pending}
@@ -14,7 +11,7 @@ use Rattle.two_memory_machine.specs.declared.machine.Phase.{Phase}
 use Rattle.two_memory_machine.specs.declared.machine.Phase.TheVariants as phases
 use Rattle.two_memory_machine.specs.declared.machine.Machine.TheInside.{Inside}
 use Rattle.two_memory_machine.specs.Places.{block_row}
-use Rattle.two_memory_machine.specs.CallStacks.{Behind, CallStack, callers_of, link_of}
+use Rattle.two_memory_machine.specs.CallStacks.{CallStack, callers_of, link_of}
 use Rattle.two_memory_machine.specs.Machines.{Doing, Running, NeedsNumber, Touching, Suspended, Machine}
 
 abbrev pub touch_of : Pending → Touch

@@ -1,5 +1,5 @@
 -- What a step does, part by part.
-use Rattle.std.specs.Prelude.{◌≡◌, ℕ, ◌+◌, ◌^◌, ◌<◌, nat_le, if◌then◌else◌, Bool, true, false, List, [], ◌∷◌, length, take, reverse, Option, Some, None, option_map, slice_get, Result, Ok, Err}
+use Rattle.std.specs.Prelude.{◌≡◌, ℕ, ◌+◌, ◌^◌, ◌<◌, nat_le, if◌then◌else◌, Bool, true, false, List, [], ◌∷◌, length, take, reverse, Option, Some, None, slice_get, Result, Ok, Err}
 use Rattle.std.proofs.Common.{ℤ}
 use Rattle.act_words.specs.Acts.{Act}
 use Rattle.act_words.specs.World

@@ -1,6 +1,6 @@
 use Rattle.std.proofs.Common.{◌≡◌, ◌+◌, suc, sym, ap, ◌∙◌, arith}
 use Rattle.two_memory_machine.specs.Faults.{ending_from}
-use Rattle.two_memory_machine.proofs.Faults.{or_later, from_the_first, fault_here, none_later, some_now, none_left}
+use Rattle.two_memory_machine.proofs.Faults.{from_the_first, fault_here, none_later, some_now, none_left}
 use Rattle.two_memory_machine.proofs.callbacks.fault_of.Goals as goal
 
 pub loop-i-init : goal.loop-i-init

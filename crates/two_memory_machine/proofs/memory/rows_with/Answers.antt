@@ -1,9 +1,9 @@
-use Rattle.std.proofs.Common.{◌≡◌, ◌+◌, ◌*◌, ◌/◌, ◌<◌, ◌≤◌, ◌++◌, ◌∷◌, [], suc, length, vec_len, drop, take, map, get_or, refl, sym, ap, ◌∙◌, arith}
+use Rattle.std.proofs.Common.{◌≡◌, ◌+◌, ◌<◌, ◌≤◌, ◌++◌, ◌∷◌, [], length, drop, take, map, sym, ap, ◌∙◌, arith}
 use Rattle.std.specs.Prelude.{slice_set}
 use Rattle.std.proofs.Math.ListN.{length-set}
 use Rattle.std.proofs.lemmas.List.{drop_more, take_more_set, append_assoc, map-append}
 use Rattle.std.proofs.lemmas.List.Elements.{All-set}
-use Rattle.flat_bytes.specs.Blocks.{grown, blocks_from, blocks_of}
+use Rattle.flat_bytes.specs.Blocks.{grown, blocks_from}
 use Rattle.code_words.specs.Runs.{counter_behind}
 use Rattle.two_memory_machine.specs.declared.memory.BlockRow.{BlockRow}
 use Rattle.two_memory_machine.specs.Places.{block_row}

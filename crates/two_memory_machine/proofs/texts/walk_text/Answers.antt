@@ -1,6 +1,6 @@
-use Rattle.std.proofs.Common.{◌≡◌, ◌+◌, ◌-◌, ◌<◌, ◌≤◌, Some, None, suc, length, refl, sym, ap, subst, ◌∙◌, arith}
-use Rattle.trusted_memory.specs.Memories.{Memory, byte_of}
-use Rattle.code_words.specs.Table.{count_from, push}
+use Rattle.std.proofs.Common.{◌≡◌, ◌+◌, ◌-◌, Some, length, sym, ap, ◌∙◌, arith}
+use Rattle.trusted_memory.specs.Memories.{byte_of}
+use Rattle.code_words.specs.Table.{count_from}
 use Rattle.two_memory_machine.specs.Texts.{with_ticks}
 use Rattle.two_memory_machine.proofs.TextCounts.{no_tick, outside, at_zero, one_more, inside, one_left, not_zero}
 use Rattle.two_memory_machine.proofs.texts.walk_text.Goals as goal

@@ -1,9 +1,8 @@
-use Rattle.std.proofs.Common.{◌≡◌, [], refl, sym, ap, subst, ◌∙◌}
+use Rattle.std.proofs.Common.{◌≡◌, [], ap, subst}
 use Rattle.act_words.specs.Acts.{act_view}
-use Rattle.act_words.specs.World.{counted}
 use Rattle.act_words.specs.Acting.{act_before_touch, act_in_sandbox}
 use Rattle.code_words.specs.Moves.{before_touch_by, in_sandbox_by}
-use Rattle.two_memory_machine.specs.Machines.{Machine, TakesAct, Touching, Suspended}
+use Rattle.two_memory_machine.specs.Machines.{TakesAct, Touching, Suspended}
 use Rattle.two_memory_machine.specs.Insides.{machine, doing_of, touch_of}
 use Rattle.two_memory_machine.specs.Steps.{MovesBy}
 use Rattle.two_memory_machine.proofs.Moving.{takes_before, takes_in_sandbox, act_over}

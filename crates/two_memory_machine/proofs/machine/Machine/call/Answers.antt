@@ -1,4 +1,4 @@
-use Rattle.std.proofs.Common.{◌≡◌, ◌+◌, ◌<◌, ◌≤◌, ◌∷◌, Some, None, true, nat_lt, length, drop, suc, refl, sym, ap, ◌∙◌, arith}
+use Rattle.std.proofs.Common.{◌≡◌, ◌+◌, Some, None, true, nat_lt, length, drop, suc, refl, sym, ap, ◌∙◌, arith}
 use Rattle.std.specs.Prelude.{slice_get}
 use Rattle.std.proofs.lemmas.Bool.Decides.{nat_tests}
 use Rattle.code_words.specs.declared.image.Func.{Func}
@@ -6,8 +6,7 @@ use Rattle.code_words.specs.Fitting.{HasSmallFrame}
 use Rattle.two_memory_machine.specs.declared.calls.Link.TheVariants.{Called}
 use Rattle.two_memory_machine.specs.declared.machine.Phase.TheVariants as phases
 use Rattle.two_memory_machine.specs.CallStacks.{CallStack, entered, at_next, with_stack, callers_of}
-use Rattle.two_memory_machine.specs.Machines.{Machine, state_of}
-use Rattle.two_memory_machine.specs.Insides.{machine}
+use Rattle.two_memory_machine.specs.Machines.{Machine}
 use Rattle.two_memory_machine.proofs.Callers.{item_found, one_found, all_found, running, length-callers, AreTop, are_top}
 use Rattle.two_memory_machine.proofs.machine.Machine.call.Goals as goal
 use Rattle.two_memory_machine.proofs.machine.Machine.call.Goals.{After-as_slice-2}

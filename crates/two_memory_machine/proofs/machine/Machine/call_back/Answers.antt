@@ -1,9 +1,9 @@
-use Rattle.std.proofs.Common.{◌≡◌, ◌+◌, ◌<◌, Some, None, true, nat_lt, length, suc, refl, sym, ap, subst, ◌∙◌, arith}
+use Rattle.std.proofs.Common.{◌≡◌, Some, None, true, nat_lt, length, suc, refl, sym, ap, subst, ◌∙◌, arith}
 use Rattle.std.specs.Prelude.{slice_get, ◌==◌}
 use Rattle.std.proofs.lemmas.Bool.Decides.{nat_tests}
 use Rattle.code_words.specs.Marshalling.{arguments_fault}
 use Rattle.two_memory_machine.specs.CallStacks.{callers_of}
-use Rattle.two_memory_machine.specs.Machines.{Machine, TellsAct, callers_in, state_of}
+use Rattle.two_memory_machine.specs.Machines.{Machine, TellsAct, callers_in}
 use Rattle.two_memory_machine.specs.Insides.{doing_of, machine}
 use Rattle.two_memory_machine.specs.Steps.{IsSuspended, fault_ending}
 use Rattle.two_memory_machine.proofs.Callers.{item_found, away, tested_ends, tested_passes}

@@ -1,8 +1,7 @@
-use Rattle.std.proofs.Common.{◌≡◌, ℕ, List, length, ap, ◌∙◌, arith}
+use Rattle.std.proofs.Common.{◌≡◌, length, ap, ◌∙◌, arith}
 use Rattle.std.specs.Prelude.{FitsSigned}
 use Rattle.std.proofs.lemmas.Int.{to_z-of_z}
 use mir.Syntax.{w64}
-use Rattle.act_words.specs.Acts.{Act}
 use Rattle.ckc_text.specs.declared.code.Code.TheVariants.{C5}
 use Rattle.code_words.specs.Marshalling.{lie_in}
 use Rattle.code_words.specs.Table.{State, end_of, check}

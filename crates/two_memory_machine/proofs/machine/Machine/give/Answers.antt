@@ -1,4 +1,4 @@
-use Rattle.std.proofs.Common.{◌≡◌, Some, [], length, refl, sym, ap, subst, ◌∙◌}
+use Rattle.std.proofs.Common.{◌≡◌, Some, [], length, sym, ap, subst, ◌∙◌}
 use Rattle.std.specs.Prelude.{slice_get}
 use Rattle.std.proofs.lemmas.Int.{to_z-of_z}
 use mir.Syntax.{w32}
@@ -6,7 +6,7 @@ use Rattle.act_words.specs.Numbers.{word}
 use Rattle.code_words.specs.declared.op.Op.TheVariants.{NextInput}
 use Rattle.code_words.specs.Table.{push}
 use Rattle.two_memory_machine.specs.declared.machine.Phase.TheVariants as phases
-use Rattle.two_memory_machine.specs.Machines.{Machine, Running, NeedsNumber, TakesNumber, TakesNoNumber}
+use Rattle.two_memory_machine.specs.Machines.{Machine, Running, TakesNumber, TakesNoNumber}
 use Rattle.two_memory_machine.specs.Insides.{machine, doing_of, IsPhaseOf}
 use Rattle.two_memory_machine.specs.Steps.{GoesBy, IsIn}
 use Rattle.two_memory_machine.proofs.Callers.{needs}

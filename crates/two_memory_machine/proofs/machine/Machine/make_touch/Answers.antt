@@ -1,4 +1,4 @@
-use Rattle.std.proofs.Common.{◌≡◌, refl, sym, ap, ◌∙◌}
+use Rattle.std.proofs.Common.{◌≡◌, refl, ap, ◌∙◌}
 use Rattle.code_words.specs.Table.{Stores, Passes, Replies}
 use Rattle.two_memory_machine.specs.Machines.{Machine, Touching}
 use Rattle.two_memory_machine.specs.Insides.{doing_of}

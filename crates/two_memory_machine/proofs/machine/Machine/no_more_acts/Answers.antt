@@ -1,6 +1,6 @@
-use Rattle.std.proofs.Common.{◌≡◌, [], refl, sym, ap, subst, ◌∙◌}
+use Rattle.std.proofs.Common.{◌≡◌, [], sym, ap, ◌∙◌}
 use Rattle.two_memory_machine.specs.Machines.{Machine, TakesEnd, Touching, Suspended}
-use Rattle.two_memory_machine.specs.Insides.{machine, doing_of, touch_of}
+use Rattle.two_memory_machine.specs.Insides.{doing_of, touch_of}
 use Rattle.two_memory_machine.proofs.Moving.{takes_end, takes_sandbox_end, act_over}
 use Rattle.two_memory_machine.proofs.machine.Machine.no_more_acts.Goals as goal
 use Rattle.two_memory_machine.proofs.machine.Machine.no_more_acts.Goals.{After-make_touch, After-end_move}

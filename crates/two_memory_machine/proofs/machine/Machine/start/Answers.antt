@@ -1,15 +1,14 @@
-use Rattle.std.proofs.Common.{◌≡◌, ℕ, ◌+◌, ◌*◌, ◌<◌, ◌≤◌, Some, None, [], length, map, take, refl, sym, ap, subst, ◌∙◌, arith}
+use Rattle.std.proofs.Common.{◌≡◌, ℕ, ◌+◌, Some, [], length, map, take, refl, sym, ap, ◌∙◌, arith}
 use Rattle.std.specs.Prelude.{slice_get}
 use Rattle.std.proofs.lemmas.Option.{slice_get_within}
 use Rattle.act_words.specs.declared.settings.Settings.{Settings}
 use Rattle.flat_bytes.specs.Blocks.{blocks_of}
 use Rattle.trusted_memory.specs.Memories.{Memory}
-use Rattle.code_words.specs.declared.image.Func.{Func}
 use Rattle.code_words.specs.declared.image.Image.{Image}
 use Rattle.code_words.specs.Fitting.{Fits}
 use Rattle.code_words.specs.Runs.{memory_of, counter_behind}
 use Rattle.code_words.specs.Table.{frame_for}
-use Rattle.two_memory_machine.specs.CallStacks.{CallStack, callers_of}
+use Rattle.two_memory_machine.specs.CallStacks.{CallStack}
 use Rattle.two_memory_machine.specs.Places.{block_row}
 use Rattle.two_memory_machine.proofs.Statics.{counter_at_base, counter_room, places_listed, offsets_listed}
 use Rattle.two_memory_machine.proofs.machine.Machine.start.Goals as goal

@@ -1,6 +1,6 @@
-use Rattle.std.proofs.Common.{◌≡◌, ◌+◌, ◌<◌, ◌^◌, Some, None, refl, sym, ap, ◌∙◌}
+use Rattle.std.proofs.Common.{◌≡◌, Some, None, refl, sym, ap, ◌∙◌}
 use Rattle.std.specs.Prelude.{slice_get}
-use Rattle.two_memory_machine.specs.Machines.{Machine, next_op_of}
+use Rattle.two_memory_machine.specs.Machines.{next_op_of}
 use Rattle.two_memory_machine.specs.Insides.{machine, IsConsistent}
 use Rattle.two_memory_machine.specs.declared.machine.Machine.TheInside.{Inside}
 use Rattle.two_memory_machine.proofs.Moving.{runs_of, steps_from, steps_wild, performs_over}
