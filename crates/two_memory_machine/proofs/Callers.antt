@@ -1,5 +1,5 @@
 -- The open calls, and the lines of the table that begin and end them.
-use Rattle.std.proofs.Common.{◌≡◌, ℕ, suc, ◌≤◌, Bool, true, false, nat_lt, nat_le, if◌then◌else◌, List, [], ◌∷◌, Option, Some, None, length, take, drop, reverse, refl, sym, ap, ◌∙◌, arith}
+use Rattle.std.proofs.Common.{◌≡◌, ℕ, suc, ◌≤◌, Bool, true, false, nat_le, if◌then◌else◌, List, [], ◌∷◌, Option, Some, None, length, take, reverse, refl, sym, ap, ◌∙◌, arith}
 use Rattle.std.specs.Prelude.{slice_get, All}
 use Rattle.std.specs.Option.{option_copied}
 use Rattle.std.specs.Slice.{IsItemAt}
@@ -17,8 +17,7 @@ use Rattle.code_words.specs.Moves.{tested, run_callback, at_place_of}
 use Rattle.code_words.specs.declared.image.Callback.{Callback}
 use Rattle.code_words.specs.declared.image.Image.{Image}
 use Rattle.code_words.specs.declared.image.Param.{Param}
-use Rattle.code_words.specs.declared.image.Func.{Func}
-use Rattle.code_words.specs.Table.{Frame, Calls, State, Over, wild, depth, behind, enter, call_function}
+use Rattle.code_words.specs.Table.{State, Over, wild}
 use Rattle.two_memory_machine.specs.declared.calls.Link.{Link}
 use Rattle.two_memory_machine.specs.declared.calls.Link.TheVariants.{Called, CallsBack}
 use Rattle.two_memory_machine.specs.declared.machine.Phase.{Phase}
@@ -69,9 +68,6 @@ are_top n stack words h = by (nat_le n (length stack)) refl h
         let low : n ≤ length stack = grind (arith, nat_tests) in
         record { enough = e; same = is; count = ap length is ∙ length-reverse (take n stack) ∙ length-take-le n stack low }
     by false e f = cc
-
-pub call_line : (k : ℕ) (fun : Func) (f : Frame) (s : State) (words : List ℕ) → AreTop fun.args f.stack words → nat_lt (depth s) 1000 ≡ true → call_function k (Some fun) f s ≡ enter k fun words (Calls (behind f (drop fun.args f.stack))) s
-call_line k fun f s words top shallow = rw (top.enough, ← top.same, shallow) refl
 
 -- ---- callbacks
 

@@ -167,19 +167,6 @@ number_of None NeedsNumber h = (refl, refl)
 number_of None (Touching touch) h = absurd (cc)
 number_of None (Suspended import place) h = absurd (cc)
 
-pub going_of : (over : Option Ending) (doing : Doing) → waiting_for over doing ≡ waiting.Act → over ≡ None
-going_of (Some ending) doing h = absurd (cc)
-going_of None doing h = refl
-
--- a machine that waits for an act neither runs nor waits for a number
-pub no_act_running : (over : Option Ending) → waiting_for over Running ≡ waiting.Act → ⊥
-no_act_running (Some ending) h = cc
-no_act_running None h = cc
-
-pub no_act_number : (over : Option Ending) → waiting_for over NeedsNumber ≡ waiting.Act → ⊥
-no_act_number (Some ending) h = cc
-no_act_number None h = cc
-
 -- ---- input numbers
 
 -- the instruction takes the number that was given
