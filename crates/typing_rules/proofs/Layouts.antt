@@ -270,7 +270,6 @@ initial_fits : (zero_value : Bool) (o : Option ℤ) → ConstantFits o → Const
 initial_fits true o h = refl
 initial_fits false o h = h
 
-
 int_cells : (structs : List Structure) (o : Option ℤ) (span : Span) → ConstantFits o → Promises (AreCellsOf structs Int) (number_or_break o span (cells_with structs Int))
 int_cells structs None span h = tt
 int_cells structs (Some z) span h = cells_of_number structs Int z h ((λ null. absurd (cc)), tt) ((λ g. h), tt)
@@ -297,7 +296,6 @@ object_promises structs t Constants span all h = tt
 
 -- constants of which no rule is broken
 module _ (at : Places) (s : Scope) where
-
   number_fits : (value : ℕ) (zero_value : Bool) (span : Span) → Promises (λ (t : Typed). nat_lt value (2 ^ 31) ≡ true) (constant value zero_value span)
   number_fits value zero_value span = needs_promises (λ (t : Typed). nat_lt value (2 ^ 31) ≡ true) (nat_lt value (2 ^ 31)) E04 span _ (λ low. low)
 
