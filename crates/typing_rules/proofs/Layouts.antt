@@ -270,14 +270,11 @@ initial_fits : (zero_value : Bool) (o : Option ℤ) → ConstantFits o → Const
 initial_fits true o h = refl
 initial_fits false o h = h
 
-abbrev IfCells : List Structure → CType → List core.Initial → Type 0
-IfCells structs t cells = AreCellsOf structs t cells
-
-int_cells : (structs : List Structure) (o : Option ℤ) (span : Span) → ConstantFits o → Promises (IfCells structs Int) (number_or_break o span (cells_with structs Int))
+int_cells : (structs : List Structure) (o : Option ℤ) (span : Span) → ConstantFits o → Promises (AreCellsOf structs Int) (number_or_break o span (cells_with structs Int))
 int_cells structs None span h = tt
 int_cells structs (Some z) span h = cells_of_number structs Int z h ((λ null. absurd (cc)), tt) ((λ g. h), tt)
 
-char_cells : (structs : List Structure) (o : Option ℤ) (span : Span) → Promises (IfCells structs Char) (number_or_break o span (λ n. cells_with structs Char (low_byte n)))
+char_cells : (structs : List Structure) (o : Option ℤ) (span : Span) → Promises (AreCellsOf structs Char) (number_or_break o span (λ n. cells_with structs Char (low_byte n)))
 char_cells structs None span = tt
 char_cells structs (Some z) span =
     let small = low_byte_small z in
@@ -285,23 +282,20 @@ char_cells structs (Some z) span =
     let word : is_word_number (low_byte z) ≡ true = grind (arith, nat_tests) in
     cells_of_number structs Char (low_byte z) word ((λ null. absurd (cc)), tt) ((λ g. test), tt)
 
-written_promises : (structs : List Structure) (t : CType) (value : Expression) (x : Typed) (span : Span) → ConstantFits (signed_constant value) → Promises (IfCells structs t) (written_cells structs t value x span)
+written_promises : (structs : List Structure) (t : CType) (value : Expression) (x : Typed) (span : Span) → ConstantFits (signed_constant value) → Promises (AreCellsOf structs t) (written_cells structs t value x span)
 written_promises structs Int value x span h = int_cells structs (initial_number value x) span (initial_fits (is_zero x) (signed_constant value) h)
 written_promises structs Char value x span h = char_cells structs (initial_number value x) span
 written_promises structs (Struct n) value x span h = tt
 written_promises structs (Pointer m k t) value x span h =
-    needs_promises (IfCells structs (Pointer m k t)) (is_zero x) E13 span _ (λ yes. cells_of_number structs (Pointer m k t) (pos 0) refl (zero_null (Pointer m k t ∷ [])) (zero_start (Pointer m k t) refl, tt))
+    needs_promises (AreCellsOf structs (Pointer m k t)) (is_zero x) E13 span _ (λ yes. cells_of_number structs (Pointer m k t) (pos 0) refl (zero_null (Pointer m k t ∷ [])) (zero_start (Pointer m k t) refl, tt))
 
-pub object_promises : (structs : List Structure) (t : CType) (x : Walked) (span : Span) → ((n : ℕ) → AllByRecursion (λ (m : Member). IsScalar m.ctype) (members_of structs n)) → IsWalked x → Promises (IfCells structs t) (object_cells structs t x span)
+pub object_promises : (structs : List Structure) (t : CType) (x : Walked) (span : Span) → ((n : ℕ) → AllByRecursion (λ (m : Member). IsScalar m.ctype) (members_of structs n)) → IsWalked x → Promises (AreCellsOf structs t) (object_cells structs t x span)
 object_promises structs t Missing span all h = zero_cells structs t all
 object_promises structs t (Written value x) span all h = written_promises structs t value x span h
 object_promises structs t Constants span all h = tt
 
 -- constants of which no rule is broken
 module _ (at : Places) (s : Scope) where
-  abbrev Constant : Expression → Typed → Type 0
-  Constant value t = ConstantFits (signed_constant value)
-
   number_fits : (value : ℕ) (zero_value : Bool) (span : Span) → Promises (λ (t : Typed). nat_lt value (2 ^ 31) ≡ true) (constant value zero_value span)
   number_fits value zero_value span = needs_promises (λ (t : Typed). nat_lt value (2 ^ 31) ≡ true) (nat_lt value (2 ^ 31)) E04 span _ (λ low. low)
 
