@@ -1,0 +1,3 @@
+pub mod Answering
+pub mod Views
+pub mod Typed
