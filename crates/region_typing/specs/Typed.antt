@@ -2,6 +2,7 @@
 use Rattle.std.specs.Prelude.{ℕ, false, Option, Some, None}
 use Rattle.std.specs.Option.{option_map}
 use Rattle.pointer_modes.specs.Types.{ctype}
+use Rattle.ckc_core.specs.declared.program.Site.{Site}
 use Rattle.ckc_core.specs.Core as core
 use Rattle.ckc_core.specs.Core.{expression, place}
 use Rattle.typing_rules.specs.Expressions.{Typed, Value, AStruct, Lvalue, OfLocal, OfCell, site_at}
@@ -21,3 +22,8 @@ typed (forms.Value type zero value) = Value (ctype type) zero (expression value)
 typed (forms.Local type local) = Value (ctype type) false (core.Local local) (Some (OfLocal local))
 typed (forms.Cell type at) = Value (ctype type) false (core.Load (ctype type) (place at)) (Some (OfCell (place at)))
 typed (forms.Struct number base) = AStruct number (option_map base_place base)
+
+-- the value of a pointer to a place
+abbrev pub pointer_value : core.Place → Site → core.Expression
+pointer_value (core.Direct object cell offset) site = core.AddressOf object cell offset
+pointer_value (core.Through pointer cell offset before) site = core.AddressThrough pointer cell offset site

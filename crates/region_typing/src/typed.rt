@@ -72,8 +72,8 @@ pub fn at_base(ctype: CType, base: Base) -> Typed
     }
 }
 
-// The cell at a base.
-fn first_cell(base: Base) -> CellPlace
+/// The cell at a base.
+pub fn first_cell(base: Base) -> CellPlace
     ensures { place_of result ≡ base_place base }
 {
     match base {

@@ -1,6 +1,6 @@
 // The types that are written in a source, and what converts to what.
 
-ghost use Rattle.std.specs.Prelude.{◌≡◌, IfOk};
+ghost use Rattle.std.specs.Prelude.{◌≡◌, ◌&&◌, IfOk};
 ghost use Rattle.pointer_modes.specs.Types.{ctype};
 ghost use Rattle.ckc_core.specs.States.{same_mode as same_mode_of, same_kind as same_kind_of, same_type as same_type_of};
 ghost use Rattle.ckc_tree.specs.Types.{type_tree, type_name};
@@ -82,6 +82,13 @@ pub fn is_number(t: &CType) -> bool
         CType::Int | CType::Char => true,
         CType::Struct(_) | CType::Pointer(..) => false,
     }
+}
+
+/// Whether two types are those of numbers.
+pub fn are_numbers(a: &CType, b: &CType) -> bool
+    ensures { result ≡ (number_type (ctype a.now) && number_type (ctype b.now)) }
+{
+    is_number(a) && is_number(b)
 }
 
 /// Whether a type is that of pointers.

@@ -1,8 +1,8 @@
 -- The rules of expressions, each with its name, in the order in which they are asked of a node behind its children.
-use Rattle.std.specs.Prelude.{◌≡◌, ℕ, suc, ◌+◌, Bool, true, false, not, ◌&&◌, ◌||◌, ◌==◌, bytes_eq, codes, List, [], ◌∷◌, length, Option, Some, None, pos}
+use Rattle.std.specs.Prelude.{◌≡◌, ℕ, suc, ◌+◌, Bool, true, false, not, ◌&&◌, ◌||◌, ◌==◌, nat_le, bytes_eq, codes, List, [], ◌∷◌, length, Option, Some, None, pos}
 use Rattle.ckc_text.specs.declared.place.Place.{Place}
 use Rattle.ckc_text.specs.declared.place.Span.{Span}
-use Rattle.ckc_text.specs.declared.code.Code.TheVariants.{E10, E12, E13, E14, E19, E22, E26}
+use Rattle.ckc_text.specs.declared.code.Code.TheVariants.{E04, E10, E12, E13, E14, E19, E22, E26}
 use Rattle.ckc_tree.specs.declared.expr.UnaryOperator.{UnaryOperator}
 use Rattle.ckc_tree.specs.declared.expr.UnaryOperator.TheVariants as unary
 use Rattle.ckc_tree.specs.declared.expr.BinaryOperator.{BinaryOperator}
@@ -332,9 +332,9 @@ with_result (GivesNothing call) span = breaks E13 span
 
 abbrev mutual
   -- an expression: its children from left to right, and then its own rules. Strings, casts and allocations aren't forms of
-  -- which rules speak here
+  -- which rules speak here. small-number: a number is at most 2,147,483,647 (E04)
   pub typed : Places → Scope → Expression → Verdict Typed
-  typed at s (e.Number value span) = Passes (Value Int (value == 0) (core.Number (pos value)) None)
+  typed at s (e.Number value span) = needs (nat_le value 2147483647) E04 span (Passes (Value Int (value == 0) (core.Number (pos value)) None))
   typed at s (e.Character value span) = number (core.Number (pos value))
   typed at s (e.Text bytes span) = breaks E13 span
   typed at s (e.Name name) = Passes (name_typed (named s name.name))
