@@ -1,15 +1,18 @@
 -- Searches in lists, by the place that they find.
-use Rattle.std.proofs.Common.{◌≡◌, ℕ, zero, suc, ◌+◌, Bool, true, false, cond, bytes_eq, position, List, [], ◌∷◌, ◌++◌, length, map, slice_get, Option, Some, None, refl, sym, ap, ◌∙◌, arith}
+use Rattle.std.proofs.Common.{◌≡◌, ℕ, zero, suc, ◌+◌, Bool, true, false, cond, bytes_eq, position, List, [], ◌∷◌, ◌++◌, length, map, take, get_or, reverse, ◌<◌, slice_get, Option, Some, None, refl, sym, ap, ◌∙◌, arith}
 use Rattle.std.specs.List.{position_from}
 use Rattle.std.specs.Option.{option_map}
 use Rattle.std.proofs.lemmas.Iterator.Adapters.{position_from-zero}
+use Rattle.std.proofs.lemmas.List.Quantifiers.{position-Some}
+use Rattle.std.proofs.lemmas.List.{take_more, map-append, reverse-append}
+use Rattle.std.proofs.lemmas.Option.{slice_get_read}
 use Rattle.pointer_modes.specs.declared.ctype.Member as code_member
-use Rattle.pointer_modes.specs.Types.{Member, member, ctype}
+use Rattle.pointer_modes.specs.Types.{CType, Member, member, ctype}
 use Rattle.typing_rules.specs.Verdicts.{picked}
-use Rattle.typing_rules.specs.Scopes.{Object, found_if, object_named, function_named}
+use Rattle.typing_rules.specs.Scopes.{Object, found_if, local_if, local_named, object_named, function_named}
 use Rattle.typing_rules.specs.Expressions.{member_from}
 use Rattle.region_typing.specs.declared.scope as code
-use Rattle.region_typing.specs.Views.{variable, signature}
+use Rattle.region_typing.specs.Views.{variable, visible, signature}
 use Rattle.region_typing.specs.Searches.{place_of, object_at, member_at, function_at}
 
 place_from : {X : Type 0} (p : X → Bool) (n : ℕ) (xs : List X) → position_from p n xs ≡ option_map (λ k. n + k) (place_of p xs)
@@ -55,3 +58,33 @@ function_found name (f ∷ fs) = by (bytes_eq name f.name) (place_of (λ w. byte
     by true o rest = refl
     by false None rest = rest
     by false (Some k) rest = rest
+
+-- what was read at a place that a search found
+pub read_at : {X : Type 0} (p : X → Bool) (xs slice : List X) (k : ℕ) (x : X) → position p slice ≡ Some k → slice ≡ xs → x ≡ get_or xs k x → (place_of p xs ≡ Some k) × (slice_get xs k ≡ Some x)
+read_at p xs slice k x found same is =
+    let here : position p xs ≡ Some k = ap (position p) (sym same) ∙ found in
+    (sym (place_found p xs) ∙ here, slice_get_read xs (length xs) k x refl (position-Some p xs k x here).0 is)
+
+pub none_at : {X : Type 0} (p : X → Bool) (xs slice : List X) → position p slice ≡ None → slice ≡ xs → place_of p xs ≡ None
+none_at p xs slice found same = sym (place_found p xs) ∙ ap (position p) (sym same) ∙ found
+
+pub object_there : (name : List ℕ) (vs : List code.Variable.Variable) (k : ℕ) (v : code.Variable.Variable) → place_of (λ w. bytes_eq name w.name) vs ≡ Some k → slice_get vs k ≡ Some v → Some (Object k (ctype v.ctype)) ≡ object_named 0 (map variable vs) name
+object_there name vs k v place at =
+    let e : 0 + k ≡ k = omega arith in
+    sym (object_found name 0 vs ∙ ap (object_at 0 vs) place ∙ ap (option_map (λ w. Object (0 + k) (ctype w.ctype))) at ∙ ap (λ j. Some (Object j (ctype v.ctype))) e)
+
+pub member_there : (name : List ℕ) (ms : List code_member.Member) (k : ℕ) (m : code_member.Member) → place_of (λ w. bytes_eq name w.name) ms ≡ Some k → slice_get ms k ≡ Some m → member_from 0 (map member ms) name ≡ Some (k, ctype m.ctype)
+member_there name ms k m place at =
+    let e : 0 + k ≡ k = omega arith in
+    member_found name 0 ms ∙ ap (member_at 0 ms) place ∙ ap (option_map (λ w. (0 + k, ctype w.ctype))) at ∙ ap (λ j. Some (j, ctype m.ctype)) e
+
+pub function_there : (name : List ℕ) (fs : List code.Signature.Signature) (k : ℕ) (f : code.Signature.Signature) → place_of (λ w. bytes_eq name w.name) fs ≡ Some k → slice_get fs k ≡ Some f → Some (signature f) ≡ function_named (map signature fs) name
+function_there name fs k f place at = sym (function_found name fs ∙ ap (function_at fs) place ∙ ap (option_map signature) at)
+
+-- the innermost of the locals up to one
+pub last_local : (types : List CType) (vs : List code.Visible.Visible) (n k : ℕ) (v : code.Visible.Visible) (name : List ℕ) → n ≡ k + 1 → k < length vs → v ≡ get_or vs k v
+    → local_named types (reverse (map visible (take n vs))) name ≡ found_if (bytes_eq name v.name) (local_if (slice_get types v.local) v.local) (local_named types (reverse (map visible (take k vs))) name)
+last_local types vs n k v name e less is =
+    ap (λ ws. local_named types (reverse (map visible ws)) name) (ap (λ j. take j vs) e ∙ take_more vs k v less ∙ ap (λ w. take k vs ++ w ∷ []) (sym is))
+    ∙ ap (λ ws. local_named types (reverse ws) name) (map-append visible (take k vs) (v ∷ []))
+    ∙ ap (λ ws. local_named types ws name) (reverse-append (map visible (take k vs)) (visible v ∷ []))

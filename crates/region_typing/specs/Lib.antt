@@ -3,3 +3,6 @@ pub mod Views
 pub mod Typed
 pub mod Operands
 pub mod Searches
+pub mod Calls
+pub mod Slices
+pub mod Targets

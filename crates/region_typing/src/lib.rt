@@ -1,6 +1,11 @@
 // Whether a program keeps the rules of names, types and regions, and what it becomes.
 #![tactic(auto)]
 
+mod assignments;
+mod calls;
+mod expressions;
+mod lookups;
+mod members;
 mod operands;
 mod operators;
 mod places;

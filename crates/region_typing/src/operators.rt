@@ -77,8 +77,8 @@ fn arithmetic(
     }))
 }
 
-// Whether an expression is a pointer.
-fn is_pointer_value(t: &Typed) -> bool
+/// Whether an expression is a pointer.
+pub fn is_pointer_value(t: &Typed) -> bool
     ensures { result ≡ pointer_value_of (typed t.now) }
 {
     match t {
@@ -138,8 +138,7 @@ fn equated(alloc: Global, left: Typed, right: Typed, span: Span) -> Result<Expr,
 {
     let left = value_of(alloc, left, span)?;
     let right = value_of(alloc, right, span)?;
-    let value = equated_operands(alloc, left, right, span)?;
-    Ok(value)
+    equated_operands(alloc, left, right, span)
 }
 
 // Whether two operands are equal.

@@ -1,6 +1,8 @@
 // What is known while a program is walked.
 
-ghost use Rattle.std.specs.Prelude.{◌≡◌, ◌≤◌, bytes_eq, position, length};
+ghost use Rattle.std.specs.Prelude.{◌≡◌, ◌≤◌, true, length};
+ghost use Rattle.std.specs.List.{list_all};
+ghost use Rattle.typing_rules.specs.Types.{is_scalar};
 
 use ckc_text::name::Name;
 use ckc_tree::item::FunctionKind;
@@ -42,27 +44,9 @@ pub struct Scope {
     pub result: Option<CType>,
     pub in_loop: bool,
     pub is_off: bool,
+    ghost scalar: { list_all (λ d. list_all (λ m. is_scalar m.ctype) d.members) structs ≡ true },
     ghost few_tags: { length tags.items ≤ 4096 },
+    ghost few_functions: { length functions.items ≤ 4096 },
     ghost few_variables: { length variables.items ≤ 4096 },
     ghost few_locals: { length locals.items ≤ 256 },
-}
-
-/// The number of the first of names that is this one.
-fn number_among(names: &[Name], name: &[u8]) -> Option<usize>
-    ensures { result ≡ position (bytes_eq name.now) names.now }
-{
-    names.iter().position(|other| name == other.as_bytes())
-}
-
-impl Scope {
-    ghost use Rattle.typing_rules.specs.Scopes.{struct_named};
-    ghost use Rattle.region_typing.specs.Views.{scope as scope_of};
-
-    /// The number of a struct.
-    pub fn struct_number(&self, tag: &[u8]) -> Option<u32>
-        ensures { result ≡ struct_named (scope_of self.now) tag.now }
-    {
-        let number = number_among(self.tags.as_slice(), tag)?;
-        Some(number as u32)
-    }
 }
