@@ -1,5 +1,5 @@
 -- Arguments as they stand in slices, and what they are.
-use Rattle.std.proofs.Common.{◌≡◌, ℕ, ◌+◌, ◌<◌, ◌≤◌, List, [], ◌∷◌, ◌++◌, length, map, drop, get_or, Vec, Global, Option, refl, ap, sym, ◌∙◌, append_assoc}
+use Rattle.std.proofs.Common.{◌≡◌, ℕ, ◌+◌, ◌<◌, ◌≤◌, List, [], ◌∷◌, ◌++◌, length, map, drop, get_or, Vec, Global, refl, ap, sym, ◌∙◌, append_assoc}
 use mathlib.Core.Former.{Count}
 use Rattle.std.proofs.lemmas.List.{append-nil, drop_more, drop_all, map-append}
 use Rattle.ckc_text.specs.declared.place.Span.{Span}
@@ -7,7 +7,7 @@ use Rattle.ckc_text.specs.declared.fault.SourceFault.{SourceFault}
 use Rattle.ckc_tree.specs.declared.identifier.Identifier.{Identifier}
 use Rattle.ckc_tree.specs.declared.expr.Expr.{Expr, Row_of-Expr, end_of-Expr, more_of-Expr, items-the_row-Expr, items_hidden-the_row-Expr-0}
 use Rattle.ckc_tree.specs.declared.expr.Expr.TheVariants as exprs
-use Rattle.ckc_tree.specs.Expressions.{Expression, Expressions, Call, Then, expression, expressions, expression_span}
+use Rattle.ckc_tree.specs.Expressions.{Call, Then, expression, expressions, expression_span}
 use Rattle.typing_rules.specs.Verdicts.{Verdict, Passes, Breaks, passing}
 use Rattle.typing_rules.specs.Scopes.{Scope}
 use Rattle.typing_rules.specs.Expressions.{Places, Typed, typed, all_typed}

@@ -1,5 +1,5 @@
 -- Rules that go on with the value of an operand.
-use Rattle.std.proofs.Common.{◌≡◌, ℕ, Bool, true, false, not, ◌||◌, List, [], ◌∷◌, Option, Some, None, refl, arith}
+use Rattle.std.proofs.Common.{◌≡◌, Bool, true, false, not, ◌||◌, List, [], ◌∷◌, Some, None, refl, arith}
 use Rattle.ckc_text.specs.declared.place.Span.{Span}
 use Rattle.ckc_text.specs.declared.code.Code.{Code}
 use Rattle.ckc_text.specs.declared.code.Code.TheVariants.{E13, E19}
@@ -8,10 +8,10 @@ use Rattle.ckc_core.specs.Core as core
 use Rattle.ckc_core.specs.declared.program.Operator.{Operator}
 use Rattle.typing_rules.specs.Verdicts.{Verdict, Passes, Breaks, passing, needs}
 use Rattle.typing_rules.specs.Types.{is_number, is_pointer, converts}
-use Rattle.typing_rules.specs.Expressions.{Places, Typed, Value, AStruct, GivesNothing, Called, number_of, converted, is_pointer_value, site_at, arguments_as, first_of, writes}
+use Rattle.typing_rules.specs.Expressions.{Places, Typed, Value, AStruct, GivesNothing, number_of, converted, is_pointer_value, site_at, first_of, writes}
 use Rattle.typing_rules.specs.Statements.{updated, set_to, store}
 use Rattle.region_typing.specs.Calls.{only_number}
-use Rattle.region_typing.specs.Targets.{Target, target_of, updated_target}
+use Rattle.region_typing.specs.Targets.{target_of, updated_target}
 
 pub needs_then : {A B : Type 0} (b : Bool) (code : Code) (span : Span) (v : A) (next : A → Verdict B) → needs b code span (next v) ≡ passing (needs b code span (Passes v)) next
 needs_then true code span v next = refl

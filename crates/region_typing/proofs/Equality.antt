@@ -1,5 +1,5 @@
 -- The rules of operators on operands.
-use Rattle.std.proofs.Common.{◌≡◌, Bool, true, false, ◌&&◌, refl, arith}
+use Rattle.std.proofs.Common.{◌≡◌, false, ◌&&◌, refl, arith}
 use Rattle.ckc_text.specs.declared.place.Span.{Span}
 use Rattle.typing_rules.specs.Types.{is_number, are_comparable}
 use Rattle.typing_rules.specs.Verdicts.{passing}

@@ -1,12 +1,12 @@
 -- Rules behind one another.
-use Rattle.std.proofs.Common.{◌≡◌, Result, Ok, Err, refl, ap, ◌∙◌}
+use Rattle.std.proofs.Common.{◌≡◌, Result, Ok, Err, refl}
 use Rattle.ckc_text.specs.declared.fault.Refused.{Refused}
 use Rattle.ckc_text.specs.declared.fault.Refused.TheVariants.{Source, NoMemory}
 use Rattle.ckc_text.specs.declared.fault.SourceFault.{SourceFault}
 use Rattle.std.specs.Result.{IsErrAnd}
 use Rattle.std.proofs.lemmas.Result.{err_from_is_err_and}
-use Rattle.typing_rules.specs.Verdicts.{Verdict, Passes, Breaks, passing}
-use Rattle.region_typing.specs.Answering.{answers_so, Answers}
+use Rattle.typing_rules.specs.Verdicts.{Verdict, Breaks, passing}
+use Rattle.region_typing.specs.Answering.{Answers}
 
 -- what comes behind a rule that is kept
 pub goes_on : {A B C D : Type 0} {view : C → A} {verdict : Verdict A} {x : C} {view' : D → B} {r : Result D Refused} (next : A → Verdict B) → Answers view verdict (Ok x) → Answers view' (next (view x)) r → Answers view' (passing verdict next) r

@@ -1,18 +1,18 @@
 -- Members of structs, and their cells.
-use Rattle.std.proofs.Common.{◌≡◌, ℕ, zero, suc, ◌+◌, ◌<◌, Bool, true, false, ◌&&◌, bytes_eq, List, [], ◌∷◌, length, map, slice_get, slice_index, get_or, position, Option, Some, None, refl, sym, ap, ◌∙◌, arith}
+use Rattle.std.proofs.Common.{◌≡◌, ℕ, zero, suc, ◌<◌, Bool, true, false, ◌&&◌, bytes_eq, List, [], ◌∷◌, length, map, slice_get, slice_index, position, Some, None, refl, sym, ap, ◌∙◌}
 use Rattle.std.specs.List.{list_all}
 use Rattle.std.proofs.lemmas.List.Quantifiers.{position-Some}
 use Rattle.ckc_text.specs.declared.place.Span.{Span}
 use Rattle.ckc_text.specs.declared.code.Code.TheVariants.{E10}
 use Rattle.pointer_modes.specs.declared.ctype.Member as code
-use Rattle.pointer_modes.specs.Types.{CType, Int, Char, Struct, Pointer, Member, member, members_of, ctype, Structure}
+use Rattle.pointer_modes.specs.Types.{CType, Int, Char, Struct, Pointer, member, members_of, ctype, Structure}
 use Rattle.pointer_modes.specs.Layout.{Cell, cells_of}
 use Rattle.ckc_core.specs.declared.program.Site.{Site}
 use Rattle.ckc_core.specs.Core as core
 use Rattle.typing_rules.specs.Verdicts.{Passes, breaks}
 use Rattle.typing_rules.specs.Scopes.{Scope}
 use Rattle.typing_rules.specs.Types.{is_scalar}
-use Rattle.typing_rules.specs.Expressions.{Value, OfCell, Typed, at_place, member_from, member_at, member_place, offset_among}
+use Rattle.typing_rules.specs.Expressions.{Value, OfCell, at_place, member_from, member_at, member_place, offset_among}
 use Rattle.region_typing.specs.Searches.{place_of, member_at as member_found_at}
 use Rattle.region_typing.proofs.Searches.{member_found, member_there, none_at}
 

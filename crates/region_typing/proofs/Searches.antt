@@ -1,5 +1,5 @@
 -- Searches in lists, by the place that they find.
-use Rattle.std.proofs.Common.{◌≡◌, ℕ, zero, suc, ◌+◌, Bool, true, false, cond, bytes_eq, position, List, [], ◌∷◌, ◌++◌, length, map, take, get_or, reverse, ◌<◌, slice_get, Option, Some, None, refl, sym, ap, ◌∙◌, arith}
+use Rattle.std.proofs.Common.{◌≡◌, ℕ, suc, ◌+◌, Bool, true, false, cond, bytes_eq, position, List, [], ◌∷◌, ◌++◌, length, map, take, get_or, reverse, ◌<◌, slice_get, Option, Some, None, refl, sym, ap, ◌∙◌, arith}
 use Rattle.std.specs.List.{position_from}
 use Rattle.std.specs.Option.{option_map}
 use Rattle.std.proofs.lemmas.Iterator.Adapters.{position_from-zero}
@@ -7,7 +7,7 @@ use Rattle.std.proofs.lemmas.List.Quantifiers.{position-Some}
 use Rattle.std.proofs.lemmas.List.{take_more, map-append, reverse-append}
 use Rattle.std.proofs.lemmas.Option.{slice_get_read}
 use Rattle.pointer_modes.specs.declared.ctype.Member as code_member
-use Rattle.pointer_modes.specs.Types.{CType, Member, member, ctype}
+use Rattle.pointer_modes.specs.Types.{CType, member, ctype}
 use Rattle.typing_rules.specs.Verdicts.{picked}
 use Rattle.typing_rules.specs.Scopes.{Object, found_if, local_if, local_named, object_named, function_named}
 use Rattle.typing_rules.specs.Expressions.{member_from}

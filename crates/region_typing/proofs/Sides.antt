@@ -1,7 +1,6 @@
 -- The numbers of functions on their side.
-use Rattle.std.proofs.Common.{◌≡◌, ℕ, suc, ◌+◌, ◌<◌, Bool, true, false, bytes_eq, List, [], ◌∷◌, length, map, drop, get_or, refl, ap, sym, ◌∙◌}
+use Rattle.std.proofs.Common.{◌≡◌, ℕ, ◌+◌, ◌<◌, Bool, true, false, bytes_eq, List, ◌∷◌, length, map, drop, get_or, refl, ap, sym, ◌∙◌}
 use Rattle.std.proofs.lemmas.List.{drop_more}
-use Rattle.typing_rules.specs.Verdicts.{picked}
 use Rattle.typing_rules.specs.Expressions.{side_number, counted, same_side, is_import}
 use Rattle.region_typing.specs.declared.scope.Signature as code
 use Rattle.region_typing.specs.Views.{signature}

@@ -1,8 +1,8 @@
 -- Inside: an operand as its value alone.
-use Rattle.std.specs.Prelude.{ℕ, zero, suc, Bool, ◌&&◌, List, [], ◌∷◌, Option, Some, None, slice_get}
+use Rattle.std.specs.Prelude.{Bool, ◌&&◌}
 use Rattle.ckc_text.specs.declared.place.Span.{Span}
 use Rattle.ckc_text.specs.declared.code.Code.TheVariants.{E13}
-use Rattle.pointer_modes.specs.Types.{CType, Member, ctype}
+use Rattle.pointer_modes.specs.Types.{CType, ctype}
 use Rattle.ckc_core.specs.Core as core
 use Rattle.ckc_core.specs.Core.{expression}
 use Rattle.typing_rules.specs.Verdicts.{Verdict, Passes, needs, breaks, picked}

@@ -3,7 +3,7 @@ use Rattle.std.specs.Prelude.{ℕ, suc, ◌+◌, Bool, cond, List, [], ◌∷◌
 use Rattle.std.specs.Option.{option_map}
 use Rattle.pointer_modes.specs.declared.ctype.Member as code_member
 use Rattle.pointer_modes.specs.Types.{CType, ctype}
-use Rattle.typing_rules.specs.Scopes.{Named, Local, Object, local_if, Signature}
+use Rattle.typing_rules.specs.Scopes.{Named, Object, local_if, Signature}
 use Rattle.region_typing.specs.declared.scope as code
 use Rattle.region_typing.specs.Views.{signature}
 

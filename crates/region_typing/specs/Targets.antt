@@ -1,5 +1,5 @@
 -- Inside: what an assignment stores in, as the code holds it.
-use Rattle.std.specs.Prelude.{Bool, not, ◌||◌, Option, Some, None}
+use Rattle.std.specs.Prelude.{not, ◌||◌, Some, None}
 use Rattle.ckc_text.specs.declared.place.Span.{Span}
 use Rattle.ckc_text.specs.declared.code.Code.TheVariants.{E12, E13, E19}
 use Rattle.pointer_modes.specs.Types.{CType, ctype}

@@ -12,7 +12,7 @@ use Rattle.ckc_core.specs.Core.{expression, place}
 use Rattle.typing_rules.specs.Verdicts.{Verdict, Passes, passing, needs}
 use Rattle.typing_rules.specs.Scopes.{Scope}
 use Rattle.typing_rules.specs.Types.{type_named}
-use Rattle.typing_rules.specs.Expressions.{number, Typed, Value, AStruct, Lvalue, OfLocal, OfCell, site_at}
+use Rattle.typing_rules.specs.Expressions.{number, Typed, Value, AStruct, OfLocal, OfCell}
 use Rattle.region_typing.specs.declared.typed.Base as code_base
 use Rattle.region_typing.specs.declared.typed.Base.TheVariants as bases
 use Rattle.region_typing.specs.declared.typed.Typed as code

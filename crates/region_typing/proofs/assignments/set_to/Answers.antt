@@ -1,4 +1,3 @@
-use Rattle.std.proofs.Common.{refl}
 use Rattle.region_typing.specs.Typed.{typed}
 use Rattle.region_typing.proofs.Going.{goes_on, refused}
 use Rattle.region_typing.proofs.Continuing.{set_parts}

@@ -1,4 +1,4 @@
-use Rattle.std.proofs.Common.{◌≡◌, ◌<◌, ◌+◌, List, [], length, map, drop, get_or, ap, sym, ◌∙◌, arith}
+use Rattle.std.proofs.Common.{◌≡◌, ◌<◌, length, map, drop, get_or, ap, sym, ◌∙◌, arith}
 use Rattle.pointer_modes.specs.Types.{ctype}
 use Rattle.typing_rules.specs.Expressions.{arguments_as}
 use Rattle.region_typing.specs.Calls.{argument}

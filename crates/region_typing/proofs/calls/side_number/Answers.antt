@@ -1,6 +1,4 @@
-use Rattle.std.proofs.Common.{sym, ap, ◌∙◌, ◌<◌, bytes_eq, length, map, drop, arith}
-use Rattle.typing_rules.specs.Expressions.{side_number}
-use Rattle.region_typing.specs.Views.{signature}
+use Rattle.std.proofs.Common.{sym, ap, ◌∙◌, ◌<◌, bytes_eq, length, arith}
 use Rattle.region_typing.proofs.Sides.{side_more, side_found}
 use Rattle.region_typing.proofs.calls.side_number.Goals as goal
 

@@ -1,6 +1,3 @@
-use Rattle.std.proofs.Common.{sym, ap, ◌∙◌}
-use Rattle.ckc_core.specs.Core.{arguments_of}
-use Rattle.region_typing.specs.Calls.{call_value}
 use Rattle.region_typing.proofs.CoreRows.{trusted_value, tainted_value}
 use Rattle.region_typing.proofs.calls.value_of_call.Goals as goal
 

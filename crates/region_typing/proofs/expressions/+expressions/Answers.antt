@@ -1,4 +1,4 @@
-use Rattle.std.proofs.Common.{◌<◌, ◌+◌, ◌∷◌, [], ◌++◌, length, map, ap, ◌∙◌, arith}
+use Rattle.std.proofs.Common.{◌<◌, length, map, arith}
 use Rattle.ckc_text.specs.Places.{place_at}
 use Rattle.region_typing.specs.Views.{scope}
 use Rattle.region_typing.specs.Calls.{argument}
