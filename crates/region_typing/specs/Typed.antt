@@ -1,18 +1,17 @@
 -- Inside: what an expression is, as the code holds it.
-use Rattle.std.specs.Prelude.{ℕ, ◌==◌, nat_le, pos, false, Option, Some, None}
+use Rattle.std.specs.Prelude.{ℕ, ◌==◌, pos, false, Option, Some, None}
 use Rattle.std.specs.Option.{option_map}
 use Rattle.ckc_text.specs.declared.place.Span.{Span}
-use Rattle.ckc_text.specs.declared.code.Code.TheVariants.{E04}
 use Rattle.ckc_tree.specs.Types.{TypeName}
 use Rattle.pointer_modes.specs.Layout.{size_of}
 use Rattle.pointer_modes.specs.Types.{CType, Int, Char, Struct, Pointer, ctype}
 use Rattle.ckc_core.specs.declared.program.Site.{Site}
 use Rattle.ckc_core.specs.Core as core
 use Rattle.ckc_core.specs.Core.{expression, place}
-use Rattle.typing_rules.specs.Verdicts.{Verdict, Passes, passing, needs}
+use Rattle.typing_rules.specs.Verdicts.{Verdict, passing}
 use Rattle.typing_rules.specs.Scopes.{Scope}
 use Rattle.typing_rules.specs.Types.{type_named}
-use Rattle.typing_rules.specs.Expressions.{number, Typed, Value, AStruct, OfLocal, OfCell}
+use Rattle.typing_rules.specs.Expressions.{constant, number, Typed, Value, AStruct, OfLocal, OfCell}
 use Rattle.region_typing.specs.declared.typed.Base as code_base
 use Rattle.region_typing.specs.declared.typed.Base.TheVariants as bases
 use Rattle.region_typing.specs.declared.typed.Typed as code
@@ -48,12 +47,9 @@ struct_behind Int = None
 struct_behind Char = None
 struct_behind (Struct struct) = None
 
--- numbers, characters and sizes
+-- numbers and sizes
 abbrev pub number_typed : ℕ → Span → Verdict Typed
-number_typed value span = needs (nat_le value 2147483647) E04 span (Passes (Value Int (value == 0) (core.Number (pos value)) None))
-
-abbrev pub character_typed : ℕ → Typed
-character_typed value = Value Int false (core.Number (pos value)) None
+number_typed value span = constant value (value == 0) span
 
 abbrev pub size_typed : Scope → TypeName → Verdict Typed
 size_typed s t = passing (type_named s t) (λ u. number (core.Number (pos (size_of s.structs u))))

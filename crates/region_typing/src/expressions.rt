@@ -1,15 +1,16 @@
 // The walk over expressions.
 
-ghost use Rattle.std.specs.Prelude.{◌≡◌, IfOk, map};
+ghost use Rattle.std.specs.Prelude.{◌≡◌, IfOk, map, false};
 ghost use Rattle.ckc_text.specs.Places.{place_at};
 ghost use Rattle.ckc_tree.specs.Types.{type_name as type_name_of};
 ghost use Rattle.ckc_tree.specs.Expressions.{expression as expression_of};
 ghost use Rattle.pointer_modes.specs.Layout.{size_of as bytes_of};
 ghost use Rattle.typing_rules.specs.Scopes.{named as named_in};
-ghost use Rattle.typing_rules.specs.Expressions.{typed as typed_of, all_typed as all_typed_of, call_typed as call_typed_of, name_typed};
+ghost use Rattle.typing_rules.specs.Verdicts.{Passes};
+ghost use Rattle.typing_rules.specs.Expressions.{constant, typed as typed_of, all_typed as all_typed_of, call_typed as call_typed_of, name_typed};
 ghost use Rattle.region_typing.specs.Answering.{Answers};
 ghost use Rattle.region_typing.specs.Views.{scope as scope_of};
-ghost use Rattle.region_typing.specs.Typed.{typed as typed_view, number_typed, character_typed, size_typed};
+ghost use Rattle.region_typing.specs.Typed.{typed as typed_view, number_typed, size_typed};
 ghost use Rattle.region_typing.specs.Calls.{argument, called as called_as};
 ghost use Rattle.region_typing.specs.Slices.{expression_list};
 
@@ -45,9 +46,9 @@ fn number(value: u32, span: Span) -> Result<Typed, Refused>
     }
 }
 
-// A character.
-fn character(value: u8) -> Typed
-    ensures { typed_view result ≡ character_typed value }
+// A character at a span.
+fn character(value: u8, span: Span) -> Typed
+    ensures { constant value false span ≡ Passes (typed_view result) }
 {
     plain(CType::Int, program::Expr::Number(value as i32))
 }
@@ -89,7 +90,7 @@ pub fn typed(alloc: Global, sites: &Sites, scope: &Scope, e: &Expr) -> Result<Ty
 {
     match e {
         Expr::Number { value, span } => number(*value, *span),
-        Expr::Character { value, .. } => Ok(character(*value)),
+        Expr::Character { value, span } => Ok(character(*value, *span)),
         Expr::Text { span, .. }
         | Expr::Cast { span, .. }
         | Expr::Malloc { span, .. }
