@@ -10,7 +10,7 @@ use Rattle.act_words.specs.Numbers.{signed, word}
 use Rattle.flat_bytes.specs.Words.{word_at}
 use Rattle.act_words.specs.Arithmetic as arithmetic
 use Rattle.act_words.specs.Arithmetic.{bit}
-use Rattle.code_words.specs.Table.{place_at, offset_of, slots_for}
+use Rattle.code_words.specs.Table.{element, offset_of, slots_for}
 use Rattle.code_words.specs.declared.op.Op.{Op}
 use Rattle.code_words.specs.declared.op.Op.TheVariants as ops
 use Rattle.code_words.specs.declared.image.WordKind.{WordKind}
@@ -239,7 +239,7 @@ act image budget fun ops.UnsignedGreater f s = of_two fun (λ a b. bit (nat_lt b
 act image budget fun ops.UnsignedGreaterEqual f s = of_two fun (λ a b. bit (nat_le b a)) f s
 act image budget fun ops.Zero f s = of_one fun (λ b. bit (b == 0)) f s
 act image budget fun ops.Byte f s = of_one fun (λ b. b % 256) f s
-act image budget fun (ops.Index size) f s = of_two fun (λ p i. word (place_at p i size)) f s
+act image budget fun (ops.Index size) f s = of_two fun (λ p i. element p i size) f s
 act image budget fun (ops.NonNull place) f s = stop s
 act image budget fun (ops.In low high size place) f s = stop s
 act image budget fun (ops.UpTo low high size place) f s = stop s
