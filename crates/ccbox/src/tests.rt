@@ -2,6 +2,7 @@
 
 mod actors;
 mod acts;
+mod answers;
 mod bounds;
 mod calls;
 mod facts;
@@ -11,7 +12,9 @@ mod layouts;
 mod limits;
 mod memories;
 mod printing;
+mod rows;
 mod runs;
+mod shapes;
 mod sources;
 mod tokens;
 mod trees;

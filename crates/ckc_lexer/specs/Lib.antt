@@ -1,4 +1,5 @@
 pub mod Bytes
+pub mod Keywords
 pub mod Words
 pub mod Marks
 pub mod Runs

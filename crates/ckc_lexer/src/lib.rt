@@ -3,6 +3,7 @@
 
 mod directive;
 mod front;
+mod keywords;
 pub mod laws;
 pub mod lexer;
 mod line;

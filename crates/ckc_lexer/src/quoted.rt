@@ -7,7 +7,7 @@ ghost use Rattle.std.specs.List.{list_any};
 ghost use Rattle.ckc_lexer.specs.Bytes.{is_hexadecimal_digit, is_control, is_forbidden};
 ghost use Rattle.ckc_lexer.specs.Runs.{Extent};
 ghost use Rattle.ckc_lexer.specs.declared.run.Run.TheVariants.{Quoted};
-ghost use Rattle.ckc_lexer.specs.Pieces.{IsString, IsCharacter};
+ghost use Rattle.ckc_lexer.specs.Pieces.{is_quote, IsString, IsCharacter};
 ghost use Rattle.ckc_lexer.specs.Quoted.{simple_escape, hexadecimal_escape, escape, quoted_byte, IsContent, string_piece, one_byte, character_piece};
 
 use crate::front::{is_control, is_forbidden};
@@ -130,6 +130,13 @@ fn character_piece(forbidden: bool, content: Option<Vec<u8>>, closed: bool) -> P
     }
 }
 
+/// Whether a text begins with this quote.
+fn is_quote(quote: u8, text: &[u8]) -> bool
+    ensures { result ≡ is_quote quote text.now }
+{
+    matches!(text, [b, ..] if *b == quote)
+}
+
 pub fn has_control(bytes: &[u8]) -> bool
     ensures { result ≡ list_any is_control bytes.now }
 {
@@ -142,7 +149,7 @@ pub fn string(alloc: Global, inner: &[u8]) -> Result<(Piece, usize), NoMemory>
 {
     let len = extent(Run::Quoted(b'"'), inner);
     let (body, rest) = inner.split_at(len);
-    let closed = matches!(rest, [b'"', ..]);
+    let closed = is_quote(b'"', rest);
     let piece = string_piece(has_control(body), content(alloc, body)?, closed);
     Ok((piece, 1 + (len + usize::from(closed))))
 }
@@ -159,7 +166,7 @@ pub fn character(alloc: Global, inner: &[u8]) -> Result<(Piece, usize), NoMemory
 {
     let len = extent(Run::Quoted(b'\''), inner);
     let (body, rest) = inner.split_at(len);
-    let closed = matches!(rest, [b'\'', ..]);
+    let closed = is_quote(b'\'', rest);
     let piece = character_piece(has_forbidden(body), content(alloc, body)?, closed);
     Ok((piece, 1 + (len + usize::from(closed))))
 }

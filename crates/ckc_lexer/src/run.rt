@@ -1,7 +1,8 @@
 // How far pieces reach that don't end at one kind of byte.
 
-ghost use Rattle.std.specs.Prelude.{◌≡◌, ◌≤◌, length};
-ghost use Rattle.ckc_lexer.specs.Runs.{width, Extent};
+ghost use Rattle.std.specs.Prelude.{◌≡◌, ◌+◌, ◌≤◌, length};
+ghost use Rattle.ckc_lexer.specs.Runs.{pair_width, width, Extent};
+ghost use Rattle.ckc_lexer.specs.declared.run.Run.TheVariants.{Comment, Directive, Quoted};
 
 /// What is read to its end.
 #[derive(Clone, Copy)]
@@ -14,22 +15,61 @@ pub enum Run {
     Quoted(u8),
 }
 
+/// How many bytes a comment has at the front of a text before it can end: none where it ends there.
+fn comment_width(text: &[u8]) -> usize
+    ensures width { result ≡ width Comment text.now }
+    ensures within { result ≤ length text.now }
+{
+    match text {
+        [] | [b'*', b'/', ..] => 0,
+        _ => 1,
+    }
+}
+
+/// How many bytes a directive has there.
+fn directive_width(text: &[u8]) -> usize
+    ensures width { result ≡ width Directive text.now }
+    ensures within { result ≤ length text.now }
+{
+    match text {
+        [] | [b'\n', ..] | [b'/', b'/' | b'*', ..] => 0,
+        _ => 1,
+    }
+}
+
+/// How many bytes a backslash and what follows it are, where a quote may stand behind them.
+fn escape_width(rest: &[u8]) -> usize
+    ensures width { result ≡ pair_width rest.now }
+    ensures within { result ≤ 1 + length rest.now }
+{
+    match rest {
+        [] | [b'\n', ..] => 0,
+        _ => 2,
+    }
+}
+
+/// How many bytes a string or a character constant has there.
+fn quoted_width(quote: u8, text: &[u8]) -> usize
+    ensures width { result ≡ width (Quoted quote) text.now }
+    ensures within { result ≤ length text.now }
+{
+    match text {
+        [] | [b'\n', ..] => 0,
+        [b, ..] if *b == quote => 0,
+        [b'\\', rest @ ..] => escape_width(rest),
+        _ => 1,
+    }
+}
+
 /// How many bytes the run has at the front of a text before it can end: none where it ends there.
 fn width(run: Run, text: &[u8]) -> usize
     ensures width { result ≡ width run text.now }
     ensures within { result ≤ length text.now }
 {
-    match (run, text) {
-        (Run::Comment, [b'*', b'/', ..]) => 0,
-        (Run::Directive, [b'/', b'/' | b'*', ..]) => 0,
-        (Run::Directive, [b'\n', ..]) => 0,
-        (Run::Quoted(_), [b'\n', ..]) => 0,
-        (Run::Quoted(quote), [b, ..]) if *b == quote => 0,
-        (Run::Quoted(_), [b'\\']) => 0,
-        (Run::Quoted(_), [b'\\', b'\n', ..]) => 0,
-        (Run::Quoted(_), [b'\\', ..]) => 2,
-        (_, []) => 0,
-        _ => 1,
+    match run {
+        Run::Comment => comment_width(text),
+        Run::Directive => directive_width(text),
+        Run::Quoted(quote) => quoted_width(quote, text),
     }
 }
 

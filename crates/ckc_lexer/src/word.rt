@@ -1,12 +1,14 @@
 // Words of a source: keywords, names and numbers.
 
-ghost use Rattle.std.specs.Prelude.{◌≡◌, ◌≤◌, IfOk};
+ghost use Rattle.std.specs.Prelude.{◌≡◌, ◌≤◌, IfOk, map};
 ghost use Rattle.std.specs.List.{list_all};
 ghost use Rattle.std.specs.Char.{digit_value};
 ghost use Rattle.std.specs.Str.Parse.{digits_value};
 ghost use Rattle.ckc_lexer.specs.Bytes.{is_digit, is_hexadecimal_digit};
+ghost use Rattle.ckc_lexer.specs.Keywords.{spelled};
 ghost use Rattle.ckc_lexer.specs.Words.{keywords, listed, is_decimal, is_hexadecimal, limited, number_of, number_piece, word_piece};
 
+use crate::keywords::{KEYWORDS, Keyword};
 use crate::piece::Piece;
 use crate::token::TokenKind;
 use ckc_text::code::Code;
@@ -17,79 +19,23 @@ use std::alloc::Global;
 /// The greatest value of a number.
 const MAX_NUMBER: u64 = 2_147_483_647;
 
+/// The keyword of a table that a word is.
+fn listed(word: &[u8], table: &[(&[u8], Keyword)]) -> Option<TokenKind>
+    ensures { result ≡ listed word.now (map spelled table.now) }
+{
+    for (text, keyword) in table {
+        if word == *text {
+            return Some(keyword.kind());
+        }
+    }
+    None
+}
+
 /// The keyword that a word is.
 pub fn keyword(word: &[u8]) -> Option<TokenKind>
     ensures { result ≡ listed word.now keywords }
 {
-    if word == b"int".as_slice() {
-        Some(TokenKind::Int)
-    } else if word == b"char".as_slice() {
-        Some(TokenKind::Char)
-    } else if word == b"void".as_slice() {
-        Some(TokenKind::Void)
-    } else if word == b"struct".as_slice() {
-        Some(TokenKind::Struct)
-    } else if word == b"if".as_slice() {
-        Some(TokenKind::If)
-    } else if word == b"else".as_slice() {
-        Some(TokenKind::Else)
-    } else if word == b"while".as_slice() {
-        Some(TokenKind::While)
-    } else if word == b"for".as_slice() {
-        Some(TokenKind::For)
-    } else if word == b"return".as_slice() {
-        Some(TokenKind::Return)
-    } else if word == b"break".as_slice() {
-        Some(TokenKind::Break)
-    } else if word == b"continue".as_slice() {
-        Some(TokenKind::Continue)
-    } else if word == b"sizeof".as_slice() {
-        Some(TokenKind::Sizeof)
-    } else if word == b"malloc".as_slice() {
-        Some(TokenKind::Malloc)
-    } else if word == b"calloc".as_slice() {
-        Some(TokenKind::Calloc)
-    } else if word == b"nt_calloc".as_slice() {
-        Some(TokenKind::NtCalloc)
-    } else if word == b"t_malloc".as_slice() {
-        Some(TokenKind::TMalloc)
-    } else if word == b"ptr".as_slice() {
-        Some(TokenKind::Ptr)
-    } else if word == b"_Ptr".as_slice() {
-        Some(TokenKind::Ptr)
-    } else if word == b"array_ptr".as_slice() {
-        Some(TokenKind::ArrayPtr)
-    } else if word == b"_Array_ptr".as_slice() {
-        Some(TokenKind::ArrayPtr)
-    } else if word == b"nt_array_ptr".as_slice() {
-        Some(TokenKind::NtArrayPtr)
-    } else if word == b"_Nt_array_ptr".as_slice() {
-        Some(TokenKind::NtArrayPtr)
-    } else if word == b"_TPtr".as_slice() {
-        Some(TokenKind::TPtr)
-    } else if word == b"_TArray_ptr".as_slice() {
-        Some(TokenKind::TArrayPtr)
-    } else if word == b"_TNt_array_ptr".as_slice() {
-        Some(TokenKind::TNtArrayPtr)
-    } else if word == b"_Checked".as_slice() {
-        Some(TokenKind::Checked)
-    } else if word == b"_Nt_checked".as_slice() {
-        Some(TokenKind::NtChecked)
-    } else if word == b"_Unchecked".as_slice() {
-        Some(TokenKind::Unchecked)
-    } else if word == b"_Bundled".as_slice() {
-        Some(TokenKind::Bundled)
-    } else if word == b"_Tainted".as_slice() {
-        Some(TokenKind::Tainted)
-    } else if word == b"_Callback".as_slice() {
-        Some(TokenKind::Callback)
-    } else if word == b"_Dynamic_bounds_cast".as_slice() {
-        Some(TokenKind::DynamicBoundsCast)
-    } else if word == b"_Assume_bounds_cast".as_slice() {
-        Some(TokenKind::AssumeBoundsCast)
-    } else {
-        None
-    }
+    listed(word, &KEYWORDS)
 }
 
 fn are_digits(bytes: &[u8]) -> bool

@@ -1,6 +1,6 @@
 pub mod Texts
+pub mod Commas
 pub mod Arguments
-pub mod Forms
 pub mod Lines
 pub mod Blocks
 pub mod SignedTokens

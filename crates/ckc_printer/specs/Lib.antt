@@ -5,6 +5,7 @@ pub mod StatementPieces
 pub mod ItemPieces
 pub mod Spaced
 pub mod Examples
+pub mod Parts
 pub mod Slices
 pub mod Laid
 pub mod ReadingBack

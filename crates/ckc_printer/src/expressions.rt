@@ -1,11 +1,14 @@
 // Printing of expressions and bounds.
 
-ghost use Rattle.std.specs.Prelude.{◌≡◌, ◌++◌, OnOk};
+ghost use Rattle.std.specs.Prelude.{◌≡◌, ◌∷◌, [], ◌++◌, OnOk};
+ghost use Rattle.ckc_tree.specs.Types.{type_name as type_name_tree};
 ghost use Rattle.ckc_tree.specs.Expressions.{expression, bounds};
 ghost use Rattle.ckc_printer.specs.Pieces.{kind_text, sign_text};
-ghost use Rattle.ckc_printer.specs.ExpressionPieces.{unary_kind, binary_sign, cast_kind, malloc_kind, calloc_kind, is_compound, is_binary, expression_pieces, arguments_pieces, bounds_pieces, more_pieces};
+ghost use Rattle.ckc_printer.specs.ExpressionPieces.{unary_kind, binary_sign, cast_kind, malloc_kind, calloc_kind, is_compound, operand_pieces, expression_pieces, arguments_pieces, bounds_pieces};
+ghost use Rattle.ckc_printer.specs.TypePieces.{angled_pieces};
+ghost use Rattle.ckc_printer.specs.Parts.{size_pieces, closed_pieces, limits_pieces, call_pieces};
 ghost use Rattle.ckc_printer.specs.Slices.{expressions_of};
-ghost use Rattle.ckc_printer.specs.Spaced.{spaced_text};
+ghost use Rattle.ckc_printer.specs.Spaced.{spaced, spaced_text};
 
 use crate::quoted::{put_character, put_string};
 use crate::signs::{put, put_if, put_name, put_number};
@@ -14,6 +17,8 @@ use ckc_text::fault::NoMemory;
 use ckc_tree::expr::{
     BinaryOperator, BoundsText, CallocWord, CastWord, Expr, MallocWord, UnaryOperator,
 };
+use ckc_tree::identifier::Identifier;
+use ckc_tree::type_form::TypeName;
 
 /// An operator before its operand.
 fn unary_text(operator: UnaryOperator) -> &'static [u8]
@@ -148,6 +153,33 @@ fn is_compound_expr(expr: &Expr) -> bool
     }
 }
 
+/// A word, a type in angle brackets and the parenthesis behind them.
+fn put_opened(out: &mut Vec<u8>, word: &[u8], type_name: &TypeName) -> Result<(), NoMemory>
+    ensures { OnOk result (out.new.items ≡ out.old.items ++ (spaced word.now ++ (spaced_text (angled_pieces (type_name_tree type_name.now)) ++ spaced (40 ∷ [])))) }
+{
+    put(out, word)?;
+    angled(out, type_name)?;
+    put(out, b"(")
+}
+
+/// The size of a type.
+#[tactic(auto, using(crate::proofs::Texts::spaced_append))]
+fn put_size(out: &mut Vec<u8>, type_name: &TypeName) -> Result<(), NoMemory>
+    ensures { OnOk result (out.new.items ≡ out.old.items ++ spaced_text (size_pieces (type_name_tree type_name.now))) }
+{
+    put(out, b"sizeof (")?;
+    type_with_stars(out, type_name)?;
+    put(out, b")")
+}
+
+/// A member behind its mark.
+fn put_member(out: &mut Vec<u8>, mark: &[u8], member: &Identifier) -> Result<(), NoMemory>
+    ensures { OnOk result (out.new.items ≡ out.old.items ++ (spaced mark.now ++ spaced member.now.name)) }
+{
+    put(out, mark)?;
+    put_name(out, member)
+}
+
 /// An expression.
 #[cycle(expressions)]
 #[tactic(auto, using(crate::proofs::Texts::spaced_append, crate::proofs::Texts::spaced_around))]
@@ -163,18 +195,8 @@ pub fn put_expr(out: &mut Vec<u8>, expr: &Expr) -> Result<(), NoMemory>
             callee,
             arguments,
             span: _,
-        } => {
-            put_name(out, callee)?;
-            put(out, b"(")?;
-            put_arguments(out, arguments.as_slice())?;
-            put(out, b")")?;
-            Ok(())
-        }
-        Expr::SizeOf { type_name, span: _ } => {
-            put(out, b"sizeof (")?;
-            type_with_stars(out, type_name)?;
-            put(out, b")")
-        }
+        } => put_call(out, callee, arguments.as_slice()),
+        Expr::SizeOf { type_name, span: _ } => put_size(out, type_name),
         Expr::Cast {
             word,
             type_name,
@@ -182,17 +204,10 @@ pub fn put_expr(out: &mut Vec<u8>, expr: &Expr) -> Result<(), NoMemory>
             bounds,
             span: _,
         } => {
-            put(out, cast_text(*word))?;
-            angled(out, type_name)?;
-            put(out, b"(")?;
+            put_opened(out, cast_text(*word), type_name)?;
             put_expr(out, operand)?;
             match bounds {
-                Some(written) => {
-                    put(out, b",")?;
-                    put_bounds(out, written)?;
-                    put(out, b")")?;
-                    Ok(())
-                }
+                Some(written) => put_limits(out, written),
                 None => put(out, b")"),
             }
         }
@@ -202,11 +217,8 @@ pub fn put_expr(out: &mut Vec<u8>, expr: &Expr) -> Result<(), NoMemory>
             size,
             span: _,
         } => {
-            put(out, malloc_text(*word))?;
-            angled(out, type_name)?;
-            put(out, b"(")?;
-            put_expr(out, size)?;
-            put(out, b")")
+            put_opened(out, malloc_text(*word), type_name)?;
+            put_closed(out, size)
         }
         Expr::Calloc {
             word,
@@ -215,52 +227,36 @@ pub fn put_expr(out: &mut Vec<u8>, expr: &Expr) -> Result<(), NoMemory>
             size,
             span: _,
         } => {
-            put(out, calloc_text(*word))?;
-            angled(out, type_name)?;
-            put(out, b"(")?;
+            put_opened(out, calloc_text(*word), type_name)?;
             put_expr(out, count)?;
             put(out, b",")?;
-            put_expr(out, size)?;
-            put(out, b")")?;
-            Ok(())
+            put_closed(out, size)
         }
         Expr::Index {
             base,
             index,
             span: _,
         } => {
-            let compound = is_compound_expr(base);
-            put_if(out, compound, b"(")?;
-            put_expr(out, base)?;
-            put_if(out, compound, b")")?;
+            put_operand(out, base)?;
             put(out, b"[")?;
             put_expr(out, index)?;
-            put(out, b"]")?;
-            Ok(())
+            put(out, b"]")
         }
         Expr::Dot {
             base,
             member,
             span: _,
         } => {
-            let compound = is_compound_expr(base);
-            put_if(out, compound, b"(")?;
-            put_expr(out, base)?;
-            put_if(out, compound, b")")?;
-            put(out, b".")?;
-            put_name(out, member)
+            put_operand(out, base)?;
+            put_member(out, b".", member)
         }
         Expr::Arrow {
             base,
             member,
             span: _,
         } => {
-            let compound = is_compound_expr(base);
-            put_if(out, compound, b"(")?;
-            put_expr(out, base)?;
-            put_if(out, compound, b")")?;
-            put(out, b"->")?;
-            put_name(out, member)
+            put_operand(out, base)?;
+            put_member(out, b"->", member)
         }
         Expr::Unary {
             operator,
@@ -268,10 +264,7 @@ pub fn put_expr(out: &mut Vec<u8>, expr: &Expr) -> Result<(), NoMemory>
             span: _,
         } => {
             put(out, unary_text(*operator))?;
-            let compound = is_compound_expr(operand);
-            put_if(out, compound, b"(")?;
-            put_expr(out, operand)?;
-            put_if(out, compound, b")")
+            put_operand(out, operand)
         }
         Expr::Binary {
             operator,
@@ -279,18 +272,56 @@ pub fn put_expr(out: &mut Vec<u8>, expr: &Expr) -> Result<(), NoMemory>
             right,
             span: _,
         } => {
-            let compound = is_compound_expr(left);
-            put_if(out, compound, b"(")?;
-            put_expr(out, left)?;
-            put_if(out, compound, b")")?;
+            put_operand(out, left)?;
             put(out, binary_text(*operator))?;
-            let compound = is_compound_expr(right);
-            put_if(out, compound, b"(")?;
-            put_expr(out, right)?;
-            put_if(out, compound, b")")?;
-            Ok(())
+            put_operand(out, right)
         }
     }
+}
+
+/// An operand or a base, in parentheses where it is compound.
+#[cycle(expressions)]
+#[tactic(auto, using(crate::proofs::Texts::spaced_around))]
+fn put_operand(out: &mut Vec<u8>, operand: &Expr) -> Result<(), NoMemory>
+    ensures { OnOk result (out.new.items ≡ out.old.items ++ spaced_text (operand_pieces (expression operand.now))) }
+{
+    let compound = is_compound_expr(operand);
+    put_if(out, compound, b"(")?;
+    put_expr(out, operand)?;
+    put_if(out, compound, b")")
+}
+
+/// An expression and the parenthesis behind it.
+#[cycle(expressions)]
+#[tactic(auto, using(crate::proofs::Texts::spaced_append))]
+fn put_closed(out: &mut Vec<u8>, last: &Expr) -> Result<(), NoMemory>
+    ensures { OnOk result (out.new.items ≡ out.old.items ++ spaced_text (closed_pieces (expression last.now))) }
+{
+    put_expr(out, last)?;
+    put(out, b")")
+}
+
+/// The bounds of a cast, between the comma before them and the parenthesis behind them.
+#[cycle(expressions)]
+#[tactic(auto, using(crate::proofs::Texts::spaced_append))]
+fn put_limits(out: &mut Vec<u8>, written: &BoundsText) -> Result<(), NoMemory>
+    ensures { OnOk result (out.new.items ≡ out.old.items ++ spaced_text (limits_pieces (bounds written.now))) }
+{
+    put(out, b",")?;
+    put_bounds(out, written)?;
+    put(out, b")")
+}
+
+/// A call.
+#[cycle(expressions)]
+#[tactic(auto, using(crate::proofs::Texts::spaced_append))]
+fn put_call(out: &mut Vec<u8>, callee: &Identifier, arguments: &[Expr]) -> Result<(), NoMemory>
+    ensures { OnOk result (out.new.items ≡ out.old.items ++ spaced_text (call_pieces callee.now (expressions_of arguments.now))) }
+{
+    put_name(out, callee)?;
+    put(out, b"(")?;
+    put_arguments(out, arguments)?;
+    put(out, b")")
 }
 
 /// The arguments of a call, with commas between.
@@ -314,23 +345,18 @@ pub fn put_bounds(out: &mut Vec<u8>, written: &BoundsText) -> Result<(), NoMemor
     match written {
         BoundsText::Count { count, span: _ } => {
             put(out, b"count (")?;
-            put_expr(out, count)?;
-            put(out, b")")
+            put_closed(out, count)
         }
         BoundsText::ByteCount { count, span: _ } => {
-            put(out, b"byte_count")?;
-            put(out, b"(")?;
-            put_expr(out, count)?;
-            put(out, b")")?;
-            Ok(())
+            put(out, b"byte_count (")?;
+            put_closed(out, count)
         }
         BoundsText::Unknown { span: _ } => put(out, b"bounds ( unknown )"),
         BoundsText::Range { low, high, span: _ } => {
             put(out, b"bounds (")?;
             put_expr(out, low)?;
             put(out, b",")?;
-            put_expr(out, high)?;
-            put(out, b")")
+            put_closed(out, high)
         }
     }
 }

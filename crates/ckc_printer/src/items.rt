@@ -10,7 +10,7 @@ ghost use Rattle.ckc_printer.specs.Spaced.{spaced_text};
 
 use crate::declarations::{declarators, optional_bounds};
 use crate::signs::{put, put_if, put_name};
-use crate::statements::{optional_mark, put_stmts};
+use crate::statements::{optional_mark, put_block};
 use crate::types::{stars, type_form, type_with_stars};
 use ckc_text::fault::NoMemory;
 use ckc_tree::item::{
@@ -123,12 +123,7 @@ fn put_body(out: &mut Vec<u8>, written: &Option<Block>) -> Result<(), NoMemory>
     ensures { OnOk result (out.new.items ≡ out.old.items ++ spaced_text (body_pieces (option_map body written.now))) }
 {
     match written {
-        Some(block) => {
-            optional_mark(out, block.mark)?;
-            put(out, b"{")?;
-            put_stmts(out, block.statements.as_slice())?;
-            put(out, b"}")
-        }
+        Some(block) => put_block(out, block.mark, block.statements.as_slice()),
         None => put(out, b";"),
     }
 }

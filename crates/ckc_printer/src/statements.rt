@@ -1,12 +1,13 @@
 // Printing of statements.
 
-ghost use Rattle.std.specs.Prelude.{◌≡◌, ◌++◌, OnOk};
+ghost use Rattle.std.specs.Prelude.{◌≡◌, ◌++◌, map, OnOk};
 ghost use Rattle.std.specs.Option.{option_map};
 ghost use Rattle.ckc_tree.specs.Expressions.{expression};
 ghost use Rattle.ckc_tree.specs.Statements.{assignment, for_initial, on_heap, statement};
 ghost use Rattle.ckc_tree.specs.Items.{statement_list};
 ghost use Rattle.ckc_lexer.specs.declared.token.TokenKind.TheVariants as kinds;
 ghost use Rattle.ckc_printer.specs.StatementPieces.{mark_pieces, initial_pieces, optional_expression_pieces, optional_assignment_pieces, for_head_pieces, tested_pieces, statement_pieces, statements_pieces};
+ghost use Rattle.ckc_printer.specs.Parts.{bundle_pieces, return_pieces, block_pieces};
 ghost use Rattle.ckc_printer.specs.Spaced.{spaced_text};
 
 use crate::assignments::{bundled, put_assignment};
@@ -98,6 +99,26 @@ fn while_head(out: &mut Vec<u8>, condition: &Expr) -> Result<(), NoMemory>
     put(out, b")")
 }
 
+/// A bundle.
+#[tactic(auto, using(crate::proofs::Texts::spaced_append))]
+fn put_bundle(out: &mut Vec<u8>, assignments: &[Assignment]) -> Result<(), NoMemory>
+    ensures { OnOk result (out.new.items ≡ out.old.items ++ spaced_text (bundle_pieces (map assignment assignments.now))) }
+{
+    put(out, b"_Bundled {")?;
+    bundled(out, assignments)?;
+    put(out, b"}")
+}
+
+/// A `return`.
+#[tactic(auto, using(crate::proofs::Texts::spaced_append))]
+fn put_return(out: &mut Vec<u8>, value: &Option<Box<Expr>>) -> Result<(), NoMemory>
+    ensures { OnOk result (out.new.items ≡ out.old.items ++ spaced_text (return_pieces (option_map on_heap value.now))) }
+{
+    put(out, b"return")?;
+    optional_expr(out, value)?;
+    put(out, b";")
+}
+
 /// A statement.
 #[cycle(statements)]
 #[tactic(auto, using(crate::proofs::Texts::spaced_append))]
@@ -109,21 +130,11 @@ fn put_stmt(out: &mut Vec<u8>, stmt: &Stmt) -> Result<(), NoMemory>
             mark,
             statements,
             span: _,
-        } => {
-            optional_mark(out, *mark)?;
-            put(out, b"{")?;
-            put_stmts(out, statements.as_slice())?;
-            put(out, b"}")?;
-            Ok(())
-        }
+        } => put_block(out, *mark, statements.as_slice()),
         Stmt::Bundle {
             assignments,
             span: _,
-        } => {
-            put(out, b"_Bundled {")?;
-            bundled(out, assignments.as_slice())?;
-            put(out, b"}")
-        }
+        } => put_bundle(out, assignments.as_slice()),
         Stmt::Declare {
             declaration,
             span: _,
@@ -177,11 +188,7 @@ fn put_stmt(out: &mut Vec<u8>, stmt: &Stmt) -> Result<(), NoMemory>
             for_head(out, initial, condition, step)?;
             put_stmt(out, body)
         }
-        Stmt::Return { value, span: _ } => {
-            put(out, b"return")?;
-            optional_expr(out, value)?;
-            put(out, b";")
-        }
+        Stmt::Return { value, span: _ } => put_return(out, value),
         Stmt::Break { span: _ } => put(out, b"break ;"),
         Stmt::Continue { span: _ } => put(out, b"continue ;"),
     }
@@ -190,11 +197,23 @@ fn put_stmt(out: &mut Vec<u8>, stmt: &Stmt) -> Result<(), NoMemory>
 /// The statements of a block.
 #[cycle(statements)]
 #[tactic(auto, using(crate::proofs::Texts::spaced_append))]
-pub fn put_stmts(out: &mut Vec<u8>, stmts: &[Stmt]) -> Result<(), NoMemory>
+fn put_stmts(out: &mut Vec<u8>, stmts: &[Stmt]) -> Result<(), NoMemory>
     ensures { OnOk result (out.new.items ≡ out.old.items ++ spaced_text (statements_pieces (statement_list stmts.now))) }
 {
     for stmt in stmts {
         put_stmt(out, stmt)?;
     }
     Ok(())
+}
+
+/// A block, with the word before it.
+#[cycle(statements)]
+#[tactic(auto, using(crate::proofs::Texts::spaced_append))]
+pub fn put_block(out: &mut Vec<u8>, mark: Option<Mark>, stmts: &[Stmt]) -> Result<(), NoMemory>
+    ensures { OnOk result (out.new.items ≡ out.old.items ++ spaced_text (block_pieces mark (statement_list stmts.now))) }
+{
+    optional_mark(out, mark)?;
+    put(out, b"{")?;
+    put_stmts(out, stmts)?;
+    put(out, b"}")
 }

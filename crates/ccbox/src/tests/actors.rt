@@ -1,19 +1,32 @@
 // The actor of a file, over files in memory.
 
-use super::calls::{field, written_out};
+use super::rows::{expect, field, written_out};
 use act_words::act::Turn;
 use act_words::writing::write_act;
 use ckc_io::mem_shelf::MemShelf;
+use ckc_text::fault::NoMemory;
 use sandbox_actor::actor::{Actor, ActorFault, Now};
 use sandbox_actor::list_actor::ListActor;
 use std::alloc::Global;
 use std::test::Fail;
 
 // The files of a test: `acts`, with this text.
-fn shelf_of(alloc: Global, text: &[u8]) -> Result<MemShelf, Fail> {
+fn shelf_of(alloc: Global, text: &[u8]) -> Result<MemShelf, NoMemory> {
     let mut shelf = MemShelf::new(alloc);
     shelf.add("acts", text)?;
     Ok(shelf)
+}
+
+// Why no act came, in a line.
+fn reason(alloc: Global, fault: ActorFault) -> Result<Vec<u8>, NoMemory> {
+    let line = match fault {
+        ActorFault::Ended => String::from_str(alloc, "end\n")?,
+        ActorFault::Line { line, code } => format!(in alloc; "{line} {}\n", code.number())?,
+        ActorFault::Missing => String::from_str(alloc, "missing\n")?,
+        ActorFault::Failed => String::from_str(alloc, "failed\n")?,
+        ActorFault::NoMemory => return Err(NoMemory),
+    };
+    Ok(line.into_bytes())
 }
 
 // The line of the next act, or why none came.
@@ -22,53 +35,49 @@ fn given(
     shelf: &mut MemShelf,
     actor: &mut ListActor,
     turn: Turn,
-) -> Result<Vec<u8>, Fail> {
+) -> Result<Vec<u8>, NoMemory> {
     match actor.next(shelf, &Now { turn, last: None }) {
-        Ok(act) => Ok(write_act(alloc, &act)?),
-        Err(ActorFault::Ended) => Ok(Vec::from_slice(alloc, b"end\n")?),
-        Err(ActorFault::Line { line, code }) => {
-            Ok(format!(in alloc; "{line} {}\n", code.number())?.into_bytes())
-        }
-        Err(fault) => Err(Fail::from(fault)),
+        Ok(act) => write_act(alloc, &act),
+        Err(fault) => reason(alloc, fault),
     }
 }
 
-// Fails unless the actor gives this next, with a line feed behind it.
-fn expect_next(
+// Whether the actor gives this next, with a line feed behind it.
+fn gives(
     alloc: Global,
     shelf: &mut MemShelf,
     actor: &mut ListActor,
     turn: Turn,
     expected: &str,
-) -> Result<(), Fail> {
+) -> Result<bool, NoMemory> {
     let found = given(alloc, shelf, actor, turn)?;
-    if found.as_slice().strip_suffix(b"\n") == Some(expected.as_bytes()) {
-        Ok(())
-    } else {
-        Err(Fail::new(expected))
-    }
+    Ok(found.as_slice().strip_suffix(b"\n") == Some(expected.as_bytes()))
 }
 
-// Fails unless the lines of the acts that a file gives, and then why no more came, are these.
-fn expect_all(alloc: Global, shelf: &mut MemShelf, turn: Turn, expected: &str) -> Result<(), Fail> {
-    let mut actor = ListActor::start(alloc, shelf, "acts")?;
+// Whether the lines of the acts that a file gives, and then why no more came, are these.
+fn gives_all(
+    alloc: Global,
+    shelf: &mut MemShelf,
+    turn: Turn,
+    expected: &str,
+) -> Result<bool, NoMemory> {
+    let Ok(mut actor) = ListActor::start(alloc, shelf, "acts") else {
+        return Ok(false);
+    };
     for line in expected.lines() {
-        expect_next(alloc, shelf, &mut actor, turn, line)?;
+        if !gives(alloc, shelf, &mut actor, turn, line)? {
+            return Ok(false);
+        }
     }
-    Ok(())
+    Ok(true)
 }
 
-// Fails unless a file of this text gives these lines.
-fn expect_given(alloc: Global, text: &[u8], expected: &str) -> Result<(), Fail> {
-    let mut shelf = shelf_of(alloc, text)?;
-    expect_all(alloc, &mut shelf, Turn::Trusted, expected)
-}
-
-// A row has the lines and the file.
-fn expect_row(alloc: Global, row: &str) -> Result<(), Fail> {
+// Whether a row is right: it has the lines and the file.
+fn is_right(alloc: Global, row: &str) -> Result<bool, NoMemory> {
     let row = written_out(alloc, row)?;
     let (expected, text) = field(row.as_str());
-    expect_given(alloc, text.as_bytes(), expected)
+    let mut shelf = shelf_of(alloc, text.as_bytes())?;
+    gives_all(alloc, &mut shelf, Turn::Trusted, expected)
 }
 
 const FILES: &str = "end@
@@ -86,7 +95,9 @@ end@`1048576×~`
 #[test]
 fn files_to_their_ends(rt: HostRuntime) -> Result<(), Fail> {
     for row in FILES.lines() {
-        expect_row(rt.alloc(), row)?;
+        if !is_right(rt.alloc(), row)? {
+            return Err(Fail::new(row));
+        }
     }
     Ok(())
 }
@@ -94,38 +105,29 @@ fn files_to_their_ends(rt: HostRuntime) -> Result<(), Fail> {
 #[test]
 fn missing_file(rt: HostRuntime) -> Result<(), Fail> {
     let mut empty = MemShelf::new(rt.alloc());
-    match ListActor::start(rt.alloc(), &mut empty, "acts") {
-        Err(ActorFault::Missing) => Ok(()),
-        _ => Err(Fail::new("the file is not missing")),
-    }
+    let started = ListActor::start(rt.alloc(), &mut empty, "acts");
+    expect(matches!(started, Err(ActorFault::Missing)))
 }
 
 const GO: &[u8] = b"{\"act\":\"go\"}\n";
 
-// Fails unless no actor starts where the read of this number fails.
-fn expect_failed(alloc: Global, read: u64) -> Result<(), Fail> {
+// Whether no actor starts where the read of this number fails.
+fn start_fails(alloc: Global, read: u64) -> Result<bool, NoMemory> {
     let mut shelf = shelf_of(alloc, GO)?;
     shelf.fail_at(read)?;
-    match ListActor::start(alloc, &mut shelf, "acts") {
-        Err(ActorFault::Failed) => Ok(()),
-        _ => Err(Fail::new("the file was read")),
-    }
+    let started = ListActor::start(alloc, &mut shelf, "acts");
+    Ok(matches!(started, Err(ActorFault::Failed)))
 }
 
-#[test]
-fn failing_files(rt: HostRuntime) -> Result<(), Fail> {
-    expect_failed(rt.alloc(), 1)?;
-    expect_failed(rt.alloc(), 2)
-}
-
-#[test]
-fn reads_no_more_than_the_file(rt: HostRuntime) -> Result<(), Fail> {
-    let mut shelf = shelf_of(rt.alloc(), GO)?;
+// Whether the acts of a file are read with no more than two reads.
+fn reads_twice(alloc: Global) -> Result<bool, NoMemory> {
+    let mut shelf = shelf_of(alloc, GO)?;
     shelf.fail_at(3)?;
-    expect_all(
-        rt.alloc(),
-        &mut shelf,
-        Turn::Sandbox,
-        "{\"act\":\"go\"}\nend",
-    )
+    gives_all(alloc, &mut shelf, Turn::Sandbox, "{\"act\":\"go\"}\nend")
+}
+
+#[test]
+fn reads_of_a_file(rt: HostRuntime) -> Result<(), Fail> {
+    let alloc = rt.alloc();
+    expect(start_fails(alloc, 1)? && start_fails(alloc, 2)? && reads_twice(alloc)?)
 }

@@ -1,61 +1,45 @@
 // Act lines both ways, and the lines of what is seen and released.
 
-use super::calls::{field, written_out};
+use super::rows::{expect, field, passed, written_out};
 use act_recorder::lines::{release_line, seen_line};
-use act_words::act::{Act, Release, Seen};
+use act_words::act::{Release, Seen};
 use act_words::reading::{ActFault, read_act};
 use act_words::writing::write_act;
+use ckc_text::fault::NoMemory;
 use std::alloc::Global;
 use std::test::Fail;
 
-// The line that an act is written as, without its line feed.
-fn written(alloc: Global, act: &Act) -> Result<Vec<u8>, Fail> {
-    let mut line = write_act(alloc, act)?;
-    if line.pop() == Some(b'\n') {
-        Ok(line)
-    } else {
-        Err(Fail::new("no line feed"))
-    }
-}
-
-// The line that the act of this line is written as, without its line feed, or the number of the refusal.
-fn answer(alloc: Global, line: &[u8]) -> Result<Vec<u8>, Fail> {
+// The line that the act of this line is written as, or the number of the refusal, with a line feed behind it.
+fn answer(alloc: Global, line: &[u8]) -> Result<Vec<u8>, NoMemory> {
     match read_act(alloc, line) {
-        Ok(act) => written(alloc, &act),
-        Err(ActFault::Bad(code)) => Ok(Vec::from_slice(alloc, code.number().as_bytes())?),
-        Err(fault) => Err(Fail::from(fault)),
+        Ok(act) => write_act(alloc, &act),
+        Err(ActFault::Bad(code)) => Ok(format!(in alloc; "{}\n", code.number())?.into_bytes()),
+        Err(ActFault::NoMemory) => Err(NoMemory),
     }
 }
 
-// Fails unless a line has this answer.
-fn expect_answer(alloc: Global, line: &[u8], expected: &str) -> Result<(), Fail> {
+// Whether a line has this answer.
+fn has_answer(alloc: Global, line: &[u8], expected: &str) -> Result<bool, NoMemory> {
     let found = answer(alloc, line)?;
-    if found.as_slice() == expected.as_bytes() {
-        Ok(())
-    } else {
-        Err(Fail::new(expected))
-    }
+    Ok(found.as_slice().strip_suffix(b"\n") == Some(expected.as_bytes()))
 }
 
-// Fails unless a line has this answer, where `=` stands for the line itself.
-fn expect_line(alloc: Global, line: &str, expected: &str) -> Result<(), Fail> {
-    let expected = if expected == "=" { line } else { expected };
-    expect_answer(alloc, line.as_bytes(), expected)
-}
-
-// A row has the answer and the line.
-fn expect_row(alloc: Global, row: &str) -> Result<(), Fail> {
+// Whether a row is right: it has the answer, where `=` stands for the line itself, and the line.
+fn is_right(alloc: Global, row: &str) -> Result<bool, NoMemory> {
     let row = written_out(alloc, row)?;
     let (expected, line) = field(row.as_str());
-    expect_line(alloc, line, expected)
+    let expected = if expected == "=" { line } else { expected };
+    has_answer(alloc, line.as_bytes(), expected)
 }
 
-// Fails unless each row of a table has what its line answers.
-fn expect_rows(alloc: Global, table: &str) -> Result<(), Fail> {
+// The first row of a table whose line has another answer.
+fn wrong_line(alloc: Global, table: &str) -> Result<Option<&str>, NoMemory> {
     for row in table.lines() {
-        expect_row(alloc, row)?;
+        if !is_right(alloc, row)? {
+            return Ok(Some(row));
+        }
     }
-    Ok(())
+    Ok(None)
 }
 
 const ACTS: &str = r#"=@{"act":"go"}
@@ -70,12 +54,6 @@ const ACTS: &str = r#"=@{"act":"go"}
 {"act":"write","at":16,"hex":"0a1f"}@{"hex":"0A1f","at":16,"act":"write"}"#;
 
 const SPACED: &[u8] = b" { \"len\" : 4, \"act\" : \"read\", \"at\" : 16 }\t\r";
-
-#[test]
-fn lines_of_acts(rt: HostRuntime) -> Result<(), Fail> {
-    expect_rows(rt.alloc(), ACTS)?;
-    expect_answer(rt.alloc(), SPACED, r#"{"act":"read","at":16,"len":4}"#)
-}
 
 const REFUSED: &str = r#"A1@
 A1@{"act":"go"
@@ -108,12 +86,6 @@ A5@{"act":"write","at":0,"hex":""}"#;
 
 const NO_TEXT: &[u8] = b"{\"act\":\"g\xffo\"}";
 
-#[test]
-fn refused_act_lines(rt: HostRuntime) -> Result<(), Fail> {
-    expect_rows(rt.alloc(), REFUSED)?;
-    expect_answer(rt.alloc(), NO_TEXT, "A1")
-}
-
 const LIMITS: &str = r#"{"act":"go"}@{"act":"go"}`4084× `
 A4@{"act":"go"}`4085× `
 =@{"act":"write","at":0,"hex":"`64×0f`"}
@@ -123,24 +95,36 @@ A5@{"act":"call","args":[0`16×,4294967295`],"fun":9}
 A2@`127×[``127×]`
 A1@[`127×[``128×]`"#;
 
+const TABLES: [&str; 3] = [ACTS, REFUSED, LIMITS];
+
+// Lines that are no rows, and their answers.
+const LINES: [(&[u8], &str); 2] = [
+    (SPACED, r#"{"act":"read","at":16,"len":4}"#),
+    (NO_TEXT, "A1"),
+];
+
 #[test]
-fn limits_of_act_lines(rt: HostRuntime) -> Result<(), Fail> {
-    expect_rows(rt.alloc(), LIMITS)
+fn lines_of_acts(rt: HostRuntime) -> Result<(), Fail> {
+    for table in &TABLES {
+        passed(wrong_line(rt.alloc(), table)?)?;
+    }
+    for (line, expected) in &LINES {
+        expect(has_answer(rt.alloc(), line, expected)?)?;
+    }
+    Ok(())
 }
 
-// Fails unless these are the bytes of a text.
-fn expect_text(found: &[u8], expected: &str) -> Result<(), Fail> {
-    if found == expected.as_bytes() {
-        Ok(())
-    } else {
-        Err(Fail::new(expected))
-    }
+// Whether these are the lines of what is seen and released.
+fn are_recorded(alloc: Global) -> Result<bool, NoMemory> {
+    let seen = seen_line(alloc, &Seen::Replied { value: 7 })?;
+    let released = release_line(alloc, &Release::Looked)?;
+    Ok(
+        seen.as_slice() == b"{\"seen\":\"replied\",\"value\":7}\n".as_slice()
+            && released.as_slice() == b"{\"release\":\"looked\"}\n".as_slice(),
+    )
 }
 
 #[test]
 fn lines_of_what_is_seen_and_released(rt: HostRuntime) -> Result<(), Fail> {
-    let seen = seen_line(rt.alloc(), &Seen::Replied { value: 7 })?;
-    expect_text(seen.as_slice(), "{\"seen\":\"replied\",\"value\":7}\n")?;
-    let released = release_line(rt.alloc(), &Release::Looked)?;
-    expect_text(released.as_slice(), "{\"release\":\"looked\"}\n")
+    expect(are_recorded(rt.alloc())?)
 }

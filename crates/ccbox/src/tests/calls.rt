@@ -1,15 +1,13 @@
 // The program over files and an output in memory.
 
+use super::rows::{expect, field, passed, written_out};
 use crate::call::ccbox;
 use ckc_io::mem_shelf::MemShelf;
 use ckc_io::mem_sink::MemSink;
 use ckc_io::shelf::{Shelf, ShelfFault};
+use ckc_text::fault::NoMemory;
 use std::alloc::Global;
-use std::str;
 use std::test::Fail;
-
-// A row of a table is a case, with fields between `@`s. A `~` stands for a line feed, and a count, a `×` and a piece
-// between two backticks for so many of the piece. No case has one of these characters.
 
 const FIRST_RUN: &str = "int g = 1; int main(void) { ptr<int> p = &g; *p = 41; return g + 1; }\n";
 
@@ -36,30 +34,8 @@ impl Shelf for OneByteShelf {
     }
 }
 
-// What stands before the first `@`, and behind it.
-pub fn field(row: &str) -> (&str, &str) {
-    row.split_once('@').unwrap_or((row, ""))
-}
-
-// What a part of a row between backticks, or outside of them, stands for.
-fn repeated(alloc: Global, part: &str) -> Result<String, Fail> {
-    match part.split_once('×') {
-        Some((times, piece)) => Ok(piece.repeat(alloc, times.parse::<usize>()?)?),
-        None => Ok(String::from_str(alloc, part)?),
-    }
-}
-
-// What a row stands for.
-pub fn written_out(alloc: Global, row: &str) -> Result<String, Fail> {
-    let mut text = String::new(alloc);
-    for part in row.split('`') {
-        text.push_str(repeated(alloc, part)?.as_str())?;
-    }
-    Ok(text.replace(alloc, '~', "\n")?)
-}
-
 // The words of a text, with one space between two of them; an empty text has none.
-fn words_of(alloc: Global, text: &str) -> Result<Vec<&str>, Fail> {
+fn words_of(alloc: Global, text: &str) -> Result<Vec<&str>, NoMemory> {
     let mut words = Vec::new(alloc);
     if !text.is_empty() {
         for word in text.split(' ') {
@@ -70,7 +46,7 @@ fn words_of(alloc: Global, text: &str) -> Result<Vec<&str>, Fail> {
 }
 
 // The files of a test: `a.c` with this source, and `f` with these acts.
-fn files(alloc: Global, source: &str, acts: &str) -> Result<MemShelf, Fail> {
+fn files(alloc: Global, source: &str, acts: &str) -> Result<MemShelf, NoMemory> {
     let mut shelf = MemShelf::new(alloc);
     shelf.add("a.c", source.as_bytes())?;
     shelf.add("f", acts.as_bytes())?;
@@ -78,65 +54,57 @@ fn files(alloc: Global, source: &str, acts: &str) -> Result<MemShelf, Fail> {
 }
 
 // An output that takes one byte at a time.
-fn output(alloc: Global) -> Result<MemSink, Fail> {
-    Ok(MemSink::with_room(alloc, 512, 1)?)
+fn output(alloc: Global) -> Result<MemSink, NoMemory> {
+    MemSink::with_room(alloc, 512, 1)
 }
 
-// Fails unless a call with these words over a shelf prints a text and ends with a status.
-fn expect_call<F: Shelf>(
+// Whether a call with these words over a shelf prints a text and ends with a status.
+fn does<F: Shelf>(
     alloc: Global,
     words: &[&str],
     shelf: &mut F,
     sink: &mut MemSink,
     text: &[u8],
     status: u8,
-) -> Result<(), Fail> {
+) -> bool {
     let ended = ccbox(alloc, words, shelf, sink);
-    if sink.bytes() == text && ended.number == status {
-        Ok(())
-    } else {
-        Err(Fail::new(str::from_utf8(sink.bytes())?))
-    }
+    sink.bytes() == text && ended.number == status
 }
 
-// Fails unless a call with these words over a source and acts prints a text and ends with a status.
-fn expect(
+// Whether a call with these words over a source and acts prints a text and ends with a status.
+fn answers(
     alloc: Global,
     words: &[&str],
     source: &str,
     acts: &str,
     text: &str,
     status: u8,
-) -> Result<(), Fail> {
+) -> Result<bool, NoMemory> {
     let mut shelf = files(alloc, source, acts)?;
     let mut sink = output(alloc)?;
-    expect_call(alloc, words, &mut shelf, &mut sink, text.as_bytes(), status)
+    Ok(does(alloc, words, &mut shelf, &mut sink, text.as_bytes(), status))
 }
 
-// A row has the status, the words, the text, the acts and the source.
-fn expect_row(alloc: Global, row: &str) -> Result<(), Fail> {
+// Whether a row is right: it has the status, the words, the text, the acts and the source.
+fn is_right(alloc: Global, row: &str) -> Result<bool, NoMemory> {
     let row = written_out(alloc, row)?;
     let (status, row) = field(row.as_str());
+    let status = status.parse::<u8>().unwrap_or(u8::MAX);
     let (words, row) = field(row);
     let (text, row) = field(row);
     let (acts, source) = field(row);
     let words = words_of(alloc, words)?;
-    expect(
-        alloc,
-        words.as_slice(),
-        source,
-        acts,
-        text,
-        status.parse::<u8>()?,
-    )
+    answers(alloc, words.as_slice(), source, acts, text, status)
 }
 
-// Fails unless each row of a table has what its call answers.
-pub fn expect_rows(alloc: Global, table: &str) -> Result<(), Fail> {
+// The first row of a table whose call answers something else.
+pub fn wrong_call(alloc: Global, table: &str) -> Result<Option<&str>, NoMemory> {
     for row in table.lines() {
-        expect_row(alloc, row)?;
+        if !is_right(alloc, row)? {
+            return Ok(Some(row));
+        }
     }
-    Ok(())
+    Ok(None)
 }
 
 const RUNS: &str =
@@ -152,11 +120,6 @@ const RUNS: &str =
 0@run a.c@[exit 42]~@@#include <stdio.h>~#define N 40~int g = N; /* two~lines */ int main(void) { return (g) + 0x2; }
 0@run a.c@[exit 3]~@@int x; int main(void) { (x) = 3; return (x); }
 6@run a.c@[check C6 1:50 overflow]~@@int g = 2147483647; int main(void) { return 0 + (g + 1); }";
-
-#[test]
-fn runs(rt: HostRuntime) -> Result<(), Fail> {
-    expect_rows(rt.alloc(), RUNS)
-}
 
 const REFUSALS: &str = "1@run a.c@[refused E09 1:1 not built yet]~@@
 1@run a.c@[refused E09 1:1 not built yet]~@@int main(void) { while (1) { } }~
@@ -183,11 +146,6 @@ const REFUSALS: &str = "1@run a.c@[refused E09 1:1 not built yet]~@@
 1@run a.c@[refused E06 1:27 syntax]~@@int main(void) { return 0;
 1@run a.c@[refused E06 1:27 syntax]~@@int main(void) { return 0 }";
 
-#[test]
-fn refusals(rt: HostRuntime) -> Result<(), Fail> {
-    expect_rows(rt.alloc(), REFUSALS)
-}
-
 const WORDS: &str =
     "3@run nofile@[missing nofile]~@@int g = 1; int main(void) { ptr<int> p = &g; *p = 41; return g + 1; }~
 3@run @[missing ]~@@int g = 1; int main(void) { ptr<int> p = &g; *p = 41; return g + 1; }~
@@ -210,11 +168,6 @@ const WORDS: &str =
 2@run --view a.c@[usage] ccbox check|split|run|record|big|exec~@@int g = 1; int main(void) { ptr<int> p = &g; *p = 41; return g + 1; }~
 0@run a.c --releases --sandbox 00016777216 --view@[exit 42]~@@int g = 1; int main(void) { ptr<int> p = &g; *p = 41; return g + 1; }~";
 
-#[test]
-fn words_and_files(rt: HostRuntime) -> Result<(), Fail> {
-    expect_rows(rt.alloc(), WORDS)
-}
-
 // The body, the statement, the differences and the last numbers stand one inside the other. A source has up to
 // 1048576 bytes.
 const LIMITS: &str = "0@run a.c@[exit -1]~@@int main(void) { return `196×0 - (`0 - 1`196×)`; }
@@ -224,109 +177,132 @@ const LIMITS: &str = "0@run a.c@[exit -1]~@@int main(void) { return `196×0 - (`
 0@run a.c@[exit 7]~@@int main(void) { return 7; }`1048548× `
 1@run a.c@[refused E08 1:1 limit]~@@int main(void) { return 7; }`1048549× `";
 
+const TABLES: [&str; 4] = [RUNS, REFUSALS, WORDS, LIMITS];
+
 #[test]
-fn depths_and_sizes(rt: HostRuntime) -> Result<(), Fail> {
-    expect_rows(rt.alloc(), LIMITS)
+fn answers_of_calls(rt: HostRuntime) -> Result<(), Fail> {
+    for table in &TABLES {
+        passed(wrong_call(rt.alloc(), table)?)?;
+    }
+    Ok(())
 }
 
 // A program with these many variables that exits with the last one's value, its number.
-fn with_variables(alloc: Global, count: u32) -> Result<String, Fail> {
+fn with_variables(alloc: Global, count: u32) -> Result<String, NoMemory> {
     let mut source = String::new(alloc);
     for i in 0..count {
-        write!(source, "int v{i} = {i};\n")?;
+        source.push_str(format!(in alloc; "int v{i} = {i};\n")?.as_str())?;
     }
-    write!(
-        source,
-        "int main(void) {{ return v{}; }}",
-        count.saturating_sub(1)
-    )?;
+    let last = count.saturating_sub(1);
+    source.push_str(format!(in alloc; "int main(void) {{ return v{last}; }}")?.as_str())?;
     Ok(source)
 }
 
-// Fails unless the run of a program with these many variables answers so.
-fn expect_variables(alloc: Global, count: u32, text: &str, status: u8) -> Result<(), Fail> {
+// Whether the run of a program with these many variables answers so.
+fn counts(alloc: Global, count: u32, text: &str, status: u8) -> Result<bool, NoMemory> {
     let source = with_variables(alloc, count)?;
-    expect(alloc, &RUN, source.as_str(), "", text, status)
+    answers(alloc, &RUN, source.as_str(), "", text, status)
 }
+
+// How many variables a program has, and what its run answers.
+const VARIABLES: [(u32, &str, u8); 3] = [
+    (300, "[exit 299]\n", 0),
+    (1024, "[exit 1023]\n", 0),
+    (1025, "[refused E09 1:1 not built yet]\n", 1),
+];
 
 #[test]
 fn many_variables(rt: HostRuntime) -> Result<(), Fail> {
-    expect_variables(rt.alloc(), 300, "[exit 299]\n", 0)?;
-    expect_variables(rt.alloc(), 1024, "[exit 1023]\n", 0)?;
-    expect_variables(rt.alloc(), 1025, "[refused E09 1:1 not built yet]\n", 1)
+    for (count, text, status) in &VARIABLES {
+        if !counts(rt.alloc(), *count, text, *status)? {
+            return Err(Fail::new(*text));
+        }
+    }
+    Ok(())
 }
 
-#[test]
-fn one_byte_a_read(rt: HostRuntime) -> Result<(), Fail> {
-    let inner = files(rt.alloc(), FIRST_RUN, "")?;
+// Whether the first run answers so where a call of the shelf gives one byte.
+fn answers_by_bytes(alloc: Global) -> Result<bool, NoMemory> {
+    let inner = files(alloc, FIRST_RUN, "")?;
     let mut shelf = OneByteShelf { inner };
-    let mut sink = output(rt.alloc())?;
-    expect_call(rt.alloc(), &RUN, &mut shelf, &mut sink, b"[exit 42]\n", 0)
+    let mut sink = output(alloc)?;
+    Ok(does(alloc, &RUN, &mut shelf, &mut sink, b"[exit 42]\n", 0))
 }
 
-// Fails unless a call prints nothing where the read of this number fails.
-fn expect_read(
+// Whether a call prints nothing where the read of this number fails.
+fn read_fails(
     alloc: Global,
     words: &[&str],
     source: &str,
     acts: &str,
     read: u64,
-) -> Result<(), Fail> {
+) -> Result<bool, NoMemory> {
     let mut shelf = files(alloc, source, acts)?;
     shelf.fail_at(read)?;
     let mut sink = output(alloc)?;
-    expect_call(alloc, words, &mut shelf, &mut sink, b"", 4)
+    Ok(does(alloc, words, &mut shelf, &mut sink, b"", 4))
 }
 
-// Fails unless a call prints nothing where one of its first reads fails.
-pub fn expect_reads(
+// Whether a call prints nothing where one of its first reads fails.
+pub fn reads_fail(
     alloc: Global,
     words: &[&str],
     source: &str,
     acts: &str,
     reads: u64,
-) -> Result<(), Fail> {
+) -> Result<bool, NoMemory> {
     for read in 1..=reads {
-        expect_read(alloc, words, source, acts, read)?;
+        if !read_fails(alloc, words, source, acts, read)? {
+            return Ok(false);
+        }
     }
-    Ok(())
+    Ok(true)
 }
 
-#[test]
-fn failing_files(rt: HostRuntime) -> Result<(), Fail> {
-    expect_reads(rt.alloc(), &RUN, FIRST_RUN, "", 2)
-}
-
-// Fails unless a call prints just this where the put of this number fails.
-fn expect_put(
+// Whether a call prints just this where the put of this number fails.
+fn put_fails(
     alloc: Global,
     words: &[&str],
     source: &str,
     acts: &str,
     put: usize,
     text: &[u8],
-) -> Result<(), Fail> {
+) -> Result<bool, NoMemory> {
     let mut shelf = files(alloc, source, acts)?;
     let mut sink = output(alloc)?;
     sink.fail_at(put as u64)?;
-    expect_call(alloc, words, &mut shelf, &mut sink, text, 5)
+    Ok(does(alloc, words, &mut shelf, &mut sink, text, 5))
 }
 
-// Fails unless a call prints a front of its text where one of its puts fails.
-pub fn expect_puts(
+// Whether a call prints a front of its text where one of its puts fails.
+pub fn puts_fail(
     alloc: Global,
     words: &[&str],
     source: &str,
     acts: &str,
     text: &[u8],
-) -> Result<(), Fail> {
+) -> Result<bool, NoMemory> {
     for put in 1..=text.len() {
-        expect_put(alloc, words, source, acts, put, &text[..put - 1])?;
+        if !put_fails(alloc, words, source, acts, put, &text[..put - 1])? {
+            return Ok(false);
+        }
     }
-    Ok(())
+    Ok(true)
 }
 
 #[test]
-fn failing_output(rt: HostRuntime) -> Result<(), Fail> {
-    expect_puts(rt.alloc(), &RUN, FIRST_RUN, "", b"[exit 42]\n")
+fn slow_and_failing_files(rt: HostRuntime) -> Result<(), Fail> {
+    let alloc = rt.alloc();
+    expect(
+        answers_by_bytes(alloc)?
+            && reads_fail(alloc, &RUN, FIRST_RUN, "", 2)?
+            && puts_fail(
+                alloc,
+                &RUN,
+                FIRST_RUN,
+                "",
+                b"[exit 42]
+",
+            )?,
+    )
 }

@@ -4,15 +4,17 @@ ghost use Rattle.std.specs.Prelude.{◌≤◌, length, IfOk};
 ghost use Rattle.code_words.specs.Fitting.{Fits};
 ghost use Rattle.ccbox.specs.Requests.{no_options, settings_of};
 
+use super::rows::expect;
+use super::sources::tree_of;
 use crate::front::front;
 use act_words::settings::Settings;
 use built_forms::forms::built;
 use built_forms::program::{Expr, Program as Built, Stmt};
 use ckc_core::program::{Function, Site, Stmt as CoreStmt};
 use ckc_lexer::lexer::lex;
-use ckc_parser::parser::parse;
+use ckc_lexer::token::Token;
 use ckc_text::code::Code;
-use ckc_text::fault::Refused;
+use ckc_text::fault::{NoMemory, Refused};
 use ckc_text::line_index::LineIndex;
 use ckc_text::place::{Place, place_of};
 use ckc_tree::item::Program as Tree;
@@ -26,27 +28,30 @@ use two_memory_machine::machine::{Machine, Waiting};
 // A store through a pointer stands in the second line.
 const SOURCE: &[u8] = b"int x = 5; int main(void) { ptr<int> p = &x;\n *p = 7; return x; }";
 
+// Codes, with their numbers and texts.
+const CODES: [(Code, &str, &str); 2] = [
+    (Code::E17, "E17", "bounds not proved"),
+    (Code::C2, "C2", "bounds"),
+];
+
 #[test]
 fn numbers_and_texts() -> Result<(), Fail> {
-    let found = [
-        Code::E17.number(),
-        Code::E17.text(),
-        Code::C2.number(),
-        Code::C2.text(),
-    ];
-    if found == ["E17", "bounds not proved", "C2", "bounds"] {
-        Ok(())
-    } else {
-        Err(Fail::new("another text"))
+    for (code, number, text) in &CODES {
+        if code.number() != *number || code.text() != *text {
+            return Err(Fail::new(*number));
+        }
     }
+    Ok(())
 }
 
+// Places of a text: the byte, the line and the column.
+const PLACES: [(usize, u32, u32); 5] = [(0, 1, 1), (1, 1, 2), (2, 1, 3), (3, 2, 1), (4, 3, 1)];
+
 // Whether the place of a byte is found in both ways.
-fn is_at(src: &[u8], index: &LineIndex, at: usize, line: u32, col: u32) -> bool
+fn is_at(src: &[u8], index: &LineIndex, at: usize, place: Place) -> bool
     requires within { at ≤ length src.now }
     requires small { at ≤ 1048577 }
 {
-    let place = Place { line, col };
     place_of(src, at) == place && index.place(at as u32) == place
 }
 
@@ -54,88 +59,32 @@ fn is_at(src: &[u8], index: &LineIndex, at: usize, line: u32, col: u32) -> bool
 fn places_of_a_text(rt: HostRuntime) -> Result<(), Fail> {
     let src = b"ab\n\nc";
     let index = LineIndex::new(rt.alloc(), src)?;
-    if is_at(src, &index, 0, 1, 1)
-        && is_at(src, &index, 1, 1, 2)
-        && is_at(src, &index, 2, 1, 3)
-        && is_at(src, &index, 3, 2, 1)
-        && is_at(src, &index, 4, 3, 1)
-    {
-        Ok(())
-    } else {
-        Err(Fail::new("another place"))
-    }
-}
-
-// The bytes that each token of the text stands on.
-const SPANS: [(u32, u32); 10] = [
-    (0, 3),
-    (4, 8),
-    (8, 9),
-    (9, 13),
-    (13, 14),
-    (15, 16),
-    (17, 23),
-    (24, 25),
-    (25, 26),
-    (27, 28),
-];
-
-#[test]
-fn spans_of_tokens(rt: HostRuntime) -> Result<(), Fail> {
-    let tokens = lex(rt.alloc(), b"int main(void) { return 0; }")?;
-    let mut same = tokens.len() == SPANS.len();
-    for (token, (from, to)) in tokens.iter().zip(&SPANS) {
-        same = same && token.span.from == *from && token.span.to == *to;
-    }
-    if same {
-        Ok(())
-    } else {
-        Err(Fail::new("another span"))
-    }
-}
-
-// How many tokens a text has.
-const COUNTS: [(&str, Option<usize>); 18] = [
-    ("", Some(0)),
-    (" \t\r\n", Some(0)),
-    ("returns", Some(1)),
-    ("a<b>c=d+e-f*g&h;", Some(16)),
-    ("ptr<int> p = &x;", Some(9)),
-    ("_Ptr9 2147483647", Some(2)),
-    ("2147483648", None),
-    ("99999999999999999999999", None),
-    ("007", None),
-    ("12ab", None),
-    ("_Tainted t(a, b)", Some(7)),
-    ("while", Some(1)),
-    ("_Checked", Some(1)),
-    ("a / b", Some(3)),
-    ("a // b", Some(1)),
-    ("a >>= b", Some(4)),
-    ("#define N -4\nN", Some(2)),
-    ("a\x0bb", None),
-];
-
-// How many tokens a text has, if it has no fault.
-fn count_of(alloc: Global, src: &str) -> Option<usize> {
-    let tokens = lex(alloc, src.as_bytes()).ok()?;
-    Some(tokens.len())
-}
-
-#[test]
-fn counts_of_tokens(rt: HostRuntime) -> Result<(), Fail> {
-    for (src, count) in &COUNTS {
-        if count_of(rt.alloc(), src) != *count {
-            return Err(Fail::new(*src));
+    for (at, line, col) in &PLACES {
+        let place = Place {
+            line: *line,
+            col: *col,
+        };
+        if !is_at(src, &index, src.len().min(*at), place) {
+            return Err(Fail::new(*at));
         }
     }
     Ok(())
 }
 
-// The tree of the source.
-fn tree(alloc: Global) -> Result<Tree, Refused> {
-    let tokens = lex(alloc, SOURCE)?;
-    parse(alloc, SOURCE.len() as u32, tokens.as_slice())
+// The bytes that the tokens of a text stand on.
+fn spans_of(alloc: Global, tokens: &[Token]) -> Result<String, NoMemory> {
+    let mut spans = String::new(alloc);
+    for token in tokens {
+        spans.push_str(format!(in alloc; "{}-{} ", token.span.from, token.span.to)?.as_str())?;
+    }
+    Ok(spans)
+}
+
+#[test]
+fn spans_of_tokens(rt: HostRuntime) -> Result<(), Fail> {
+    let tokens = lex(rt.alloc(), b"int main(void) { return 0; }")?;
+    let spans = spans_of(rt.alloc(), tokens.as_slice())?;
+    expect(spans.as_str() == "0-3 4-8 8-9 9-13 13-14 15-16 17-23 24-25 25-26 27-28 ")
 }
 
 // Whether a program has the global variable and the statements of the source.
@@ -155,11 +104,16 @@ fn is_built(program: &Built) -> bool {
         )
 }
 
+// Whether a tree is built to the program of the source.
+fn is_tree(alloc: Global, tree: &Tree) -> Result<bool, Refused> {
+    let program = built(alloc, tree)?;
+    Ok(tree.items.len() == 2 && is_built(&program))
+}
+
 #[test]
 fn a_tree(rt: HostRuntime) -> Result<(), Fail> {
-    let tree = tree(rt.alloc())?;
-    let program = built(rt.alloc(), &tree)?;
-    if tree.items.len() == 2 && is_built(&program) {
+    let tree = tree_of(rt.alloc(), SOURCE)?;
+    if is_tree(rt.alloc(), &tree)? {
         Ok(())
     } else {
         Err(Fail::new("another tree"))

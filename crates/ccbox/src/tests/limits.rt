@@ -1,57 +1,37 @@
-// The limits of a source.
+// How many tokens texts have, up to the limits of a source.
 
-use ckc_lexer::lexer::lex;
-use ckc_text::fault::Refused;
-use std::alloc::Global;
+use super::answers::{Question, wrong_answer};
+use super::rows::passed;
 use std::test::Fail;
 
-// So many bytes `;` or blanks between a front and a back.
-fn text_of(
-    alloc: Global,
-    front: &str,
-    byte: u8,
-    count: usize,
-    back: &str,
-) -> Result<Vec<u8>, Fail> {
-    let mut text = Vec::from_slice(alloc, front.as_bytes())?;
-    for _ in 0..count {
-        text.push(byte)?;
-    }
-    text.extend_from_slice(back.as_bytes())?;
-    Ok(text)
-}
-
-// How many tokens a text has, or its fault.
-fn count_of(alloc: Global, text: &[u8]) -> Result<String, Fail> {
-    match lex(alloc, text) {
-        Ok(tokens) => Ok(format!(in alloc; "{}", tokens.len())?),
-        Err(Refused::Source(fault)) => {
-            Ok(format!(in alloc; "{} {}", fault.code.number(), fault.span.from)?)
-        }
-        Err(Refused::NoMemory) => Ok(format!(in alloc; "no memory")?),
-    }
-}
-
-// A front, a byte, how often, a back, and how many tokens the text has, or its fault.
-const LIMITS: [(&str, u8, usize, &str, &str); 8] = [
-    ("", b';', 200_000, "", "200000"),
-    ("", b';', 200_001, "", "E08 200000"),
-    ("#define N -1\n", b';', 199_998, "N", "200000"),
-    ("#define N -1\n", b';', 199_999, "N", "E08 200012"),
-    ("", b' ', 1_048_576, "", "0"),
-    ("", b' ', 1_048_577, "", "E08 0"),
-    ("@", b' ', 1_048_576, "", "E08 0"),
-    ("/*", b' ', 1_048_574, "", "E03 0"),
-];
+const COUNTS: &str = "0@
+0@ \t\r~
+1@returns
+16@a<b>c=d+e-f*g&h;
+9@ptr<int> p = &x;
+2@_Ptr9 2147483647
+E04 0@2147483648
+E04 0@99999999999999999999999
+E02 0@007
+E02 0@12ab
+7@_Tainted t(a, b)
+1@while
+1@_Checked
+3@a / b
+1@a // b
+4@a >>= b
+2@#define N -4~N
+E01 1@a\u{b}b
+200000@`200000×;`
+E08 200000@`200001×;`
+200000@#define N -1~`199998×;`N
+E08 200012@#define N -1~`199999×;`N
+0@`1048576× `
+E08 0@`1048577× `
+E08 0@@`1048576× `
+E03 0@/*`1048574× `";
 
 #[test]
-fn limits(rt: HostRuntime) -> Result<(), Fail> {
-    for (front, byte, count, back, want) in &LIMITS {
-        let text = text_of(rt.alloc(), front, *byte, *count, back)?;
-        let found = count_of(rt.alloc(), text.as_slice())?;
-        if found.as_str() != *want {
-            return Err(Fail::new(found));
-        }
-    }
-    Ok(())
+fn counts_of_tokens(rt: HostRuntime) -> Result<(), Fail> {
+    passed(wrong_answer(rt.alloc(), Question::Count, COUNTS)?)
 }

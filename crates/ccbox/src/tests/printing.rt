@@ -1,18 +1,9 @@
 // What trees are printed as.
 
-use ckc_lexer::lexer::lex;
-use ckc_parser::parser::parse;
-use ckc_printer::program::print;
+use super::sources::printed;
 use ckc_text::fault::Refused;
 use std::alloc::Global;
 use std::test::Fail;
-
-// What a source is printed as.
-fn printed(alloc: Global, src: &str) -> Result<Vec<u8>, Refused> {
-    let tokens = lex(alloc, src.as_bytes())?;
-    let program = parse(alloc, src.len() as u32, tokens.as_slice())?;
-    Ok(print(alloc, &program)?)
-}
 
 // A source, and what it is printed as.
 const TEXTS: [(&str, &str); 8] = [
@@ -41,10 +32,16 @@ const TEXTS: [(&str, &str); 8] = [
     ),
 ];
 
+// Whether a source is printed so.
+fn is_right(alloc: Global, src: &str, want: &str) -> Result<bool, Refused> {
+    let text = printed(alloc, src.as_bytes())?;
+    Ok(text.as_slice() == want.as_bytes())
+}
+
 #[test]
 fn texts(rt: HostRuntime) -> Result<(), Fail> {
     for (src, want) in &TEXTS {
-        if printed(rt.alloc(), src)?.as_slice() != want.as_bytes() {
+        if !is_right(rt.alloc(), src, want)? {
             return Err(Fail::new(*src));
         }
     }

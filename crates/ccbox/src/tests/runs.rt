@@ -1,6 +1,7 @@
 // Runs in which the sandbox acts.
 
-use super::calls::{expect_puts, expect_reads, expect_rows};
+use super::calls::{puts_fail, reads_fail, wrong_call};
+use super::rows::{expect, passed};
 use std::test::Fail;
 
 // The turns and the lines of the acts. Members may come in any order, and twice.
@@ -27,12 +28,6 @@ const TURNS: &str =
 const BLANKS: &str =
     "0@run a.c --acts f --sandbox 65536@[exit 9]~@~ \t\r~{\"act\":\"go\"}\r~~{\"act\":\"return\",\"value\":9}~{\"act\":\"stop\"}~{@_Tainted int t(void);~int main(void) { return t(); }~";
 
-#[test]
-fn turns(rt: HostRuntime) -> Result<(), Fail> {
-    expect_rows(rt.alloc(), TURNS)?;
-    expect_rows(rt.alloc(), BLANKS)
-}
-
 // What was shown before a refused line stands before it.
 const VIEWS: &str =
     r#"0@run a.c --view --acts=f --releases@{"args":[1],"fun":0,"release":"passed"}~{"args":[1],"fun":0,"seen":"called"}~[exit 10]~@{"act":"go"}~{"act":"return","value":9}~@_Tainted int t(int x);~int main(void) { return t(1) + 1; }~
@@ -40,11 +35,6 @@ const VIEWS: &str =
 0@run a.c --acts=f@[exit 10]~@{"act":"go"}~{"act":"return","value":9}~@_Tainted int t(int x);~int main(void) { return t(1) + 1; }~
 7@run a.c --sandbox=65536 --view --acts=f@{"args":[],"fun":0,"seen":"called"}~{"at":65535,"hex":"ff","seen":"bytes"}~[stop S3 sandbox ended]~@{"act":"write","at":65534,"hex":"0aFF"}~{"act":"go"}~{"act":"read","at":65535,"len":1}~@_Tainted int t(void);~int main(void) { return t(); }~
 8@run a.c --sandbox=65536 --view --acts=f@{"args":[],"fun":0,"seen":"called"}~[act line 3 A1 not JSON]~@{"act":"go"}~{"act":"go"}~?~@_Tainted int t(void);~int main(void) { return t(); }~"#;
-
-#[test]
-fn views_and_releases(rt: HostRuntime) -> Result<(), Fail> {
-    expect_rows(rt.alloc(), VIEWS)
-}
 
 // A refused source is named before a missing file. Without acts the sandbox does nothing, and a program that doesn't
 // call it needs none.
@@ -55,11 +45,6 @@ const MISSING: &str =
 0@run a.c --acts f@[exit 7]~@?@int main(void) { return 7; }
 8@run a.c --acts=f@[act line 1 A1 not JSON]~@?@_Tainted int t(void);~int main(void) { return t(); }~";
 
-#[test]
-fn missing_acts(rt: HostRuntime) -> Result<(), Fail> {
-    expect_rows(rt.alloc(), MISSING)
-}
-
 const CALL: &str = "_Tainted int t(void);\nint main(void) { return t(); }\n";
 
 const WORDS: [&str; 3] = ["run", "a.c", "--acts=f"];
@@ -67,8 +52,8 @@ const WORDS: [&str; 3] = ["run", "a.c", "--acts=f"];
 #[test]
 fn failing_act_files(rt: HostRuntime) -> Result<(), Fail> {
     // Two reads of the source, and two of the acts.
-    expect_reads(rt.alloc(), &WORDS, CALL, "?", 4)?;
-    expect_puts(rt.alloc(), &WORDS, CALL, "?", b"[act line 1 A1 not JSON]\n")
+    expect(reads_fail(rt.alloc(), &WORDS, CALL, "?", 4)?)?;
+    expect(puts_fail(rt.alloc(), &WORDS, CALL, "?", b"[act line 1 A1 not JSON]\n")?)
 }
 
 const CALLS: &str =
@@ -92,7 +77,12 @@ const CALLS: &str =
 1@run a.c --acts=f --releases@[refused E06 1:22 syntax]~@@_Tainted int t(void) int main(void) { return 0; }
 1@run a.c --acts=f --releases@[refused E06 1:52 syntax]~@@_Tainted int t(int x); int main(void) { return t(1,); }"#;
 
+const TABLES: [&str; 5] = [TURNS, BLANKS, VIEWS, MISSING, CALLS];
+
 #[test]
-fn calls_and_prototypes(rt: HostRuntime) -> Result<(), Fail> {
-    expect_rows(rt.alloc(), CALLS)
+fn runs_with_acts(rt: HostRuntime) -> Result<(), Fail> {
+    for table in &TABLES {
+        passed(wrong_call(rt.alloc(), table)?)?;
+    }
+    Ok(())
 }

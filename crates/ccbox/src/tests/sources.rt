@@ -53,34 +53,22 @@ const SOURCES: [&str; 41] = [
 ];
 
 // The tree of a source.
-fn tree_of(alloc: Global, src: &[u8]) -> Result<Program, Refused> {
+pub fn tree_of(alloc: Global, src: &[u8]) -> Result<Program, Refused> {
     let tokens = lex(alloc, src)?;
     parse(alloc, src.len() as u32, tokens.as_slice())
 }
 
 // What the tree of a source is printed as.
-fn printed(alloc: Global, src: &[u8]) -> Result<Vec<u8>, Refused> {
+pub fn printed(alloc: Global, src: &[u8]) -> Result<Vec<u8>, Refused> {
     let program = tree_of(alloc, src)?;
     Ok(print(alloc, &program)?)
 }
 
-// Fails unless the printed source is printed as it is.
-fn expect_same(alloc: Global, src: &'static str) -> Result<(), Fail> {
-    let first = printed(alloc, src.as_bytes())?;
+// Whether the printed source is printed as it is.
+fn is_same(alloc: Global, src: &[u8]) -> Result<bool, Refused> {
+    let first = printed(alloc, src)?;
     let second = printed(alloc, first.as_slice())?;
-    if first.as_slice() == second.as_slice() {
-        Ok(())
-    } else {
-        Err(Fail::new(src))
-    }
-}
-
-#[test]
-fn printed_and_read_back(rt: HostRuntime) -> Result<(), Fail> {
-    for src in &SOURCES {
-        expect_same(rt.alloc(), src)?;
-    }
-    Ok(())
+    Ok(first.as_slice() == second.as_slice())
 }
 
 // Whether a text is a source, or has a fault that stands in it or at its end.
@@ -92,21 +80,24 @@ fn is_answered(alloc: Global, src: &[u8]) -> Result<bool, NoMemory> {
     }
 }
 
-// Fails unless each text that a source begins with is answered.
-fn expect_fronts(alloc: Global, src: &'static str) -> Result<(), Fail> {
-    let bytes = src.as_bytes();
-    for len in 0..bytes.len() {
-        if !is_answered(alloc, &bytes[..len])? {
-            return Err(Fail::new(src));
+// Whether each text that a source begins with is answered.
+fn are_fronts_answered(alloc: Global, src: &[u8]) -> Result<bool, NoMemory> {
+    for len in 0..src.len() {
+        if !is_answered(alloc, &src[..len])? {
+            return Ok(false);
         }
     }
-    Ok(())
+    Ok(true)
 }
 
 #[test]
-fn fronts(rt: HostRuntime) -> Result<(), Fail> {
+fn printed_and_read_back(rt: HostRuntime) -> Result<(), Fail> {
     for src in &SOURCES {
-        expect_fronts(rt.alloc(), src)?;
+        if !is_same(rt.alloc(), src.as_bytes())?
+            || !are_fronts_answered(rt.alloc(), src.as_bytes())?
+        {
+            return Err(Fail::new(*src));
+        }
     }
     Ok(())
 }

@@ -1,14 +1,16 @@
 // The tokens of many texts, and the faults of others.
 
+use super::answers::refusal;
 use ckc_lexer::lexer::lex;
-use ckc_lexer::token::{CheckedScope, TokenKind};
-use ckc_text::fault::Refused;
+use ckc_lexer::token::{CheckedScope, Token, TokenKind};
+use ckc_text::fault::NoMemory;
 use std::alloc::Global;
 use std::fmt::Write;
 use std::test::Fail;
 
-// Keywords, names and marks.
-const WORDS: [(&[u8], &str); 7] = [
+// Texts, each with the line of its tokens, or its fault.
+const LINES: [(&[u8], &str); 101] = [
+    // Keywords, names and marks.
     (
         b"int char void struct if else while for return break continue sizeof malloc calloc nt_calloc t_malloc ptr _Ptr array_ptr _Array_ptr nt_array_ptr _Nt_array_ptr _TPtr _TArray_ptr _TNt_array_ptr _Checked _Nt_checked _Unchecked _Bundled _Tainted _Callback _Dynamic_bounds_cast _Assume_bounds_cast",
         "int char void struct if else while for return break continue sizeof malloc calloc nt_calloc t_malloc ptr ptr array_ptr array_ptr nt_array_ptr nt_array_ptr _TPtr _TArray_ptr _TNt_array_ptr _Checked _Nt_checked _Unchecked _Bundled _Tainted _Callback _Dynamic_bounds_cast _Assume_bounds_cast",
@@ -28,10 +30,7 @@ const WORDS: [(&[u8], &str); 7] = [
         "name:intx name:_ name:x9 name:NULL name:count name:byte_count name:bounds name:unknown",
     ),
     (b"\t\r\n ", ""),
-];
-
-// Numbers, characters, strings and comments.
-const CONSTANTS: [(&[u8], &str); 7] = [
+    // Numbers, characters, strings and comments.
     (
         b"0 7 0x0 0XfF 2147483647 0x7fffffff 1.5",
         "number:0 number:7 number:0 number:255 number:2147483647 number:2147483647 number:1 . number:5",
@@ -51,10 +50,7 @@ const CONSTANTS: [(&[u8], &str); 7] = [
     (b"\"\xc3\xa9\"", "text:195,169"),
     (b"// \xc3\xa9\na", "name:a"),
     (b"/* \xc3 */ a", "name:a"),
-];
-
-// What is no number, or too great.
-const NUMBERS: [(&[u8], &str); 14] = [
+    // What is no number, or too great.
     (b"2147483648", "E04 0"),
     (b"a 2147483648;", "E04 2"),
     (b"a 0x80000000", "E04 2"),
@@ -69,10 +65,7 @@ const NUMBERS: [(&[u8], &str); 14] = [
     (b"4_", "E02 0"),
     (b"a 2147483648", "E04 2"),
     (b"a b 08", "E02 4"),
-];
-
-// Bytes that no source has there.
-const BYTES: [(&[u8], &str); 13] = [
+    // Bytes that no source has there.
     (b"\x01", "E01 0"),
     (b"a \x7f b", "E01 2"),
     (b"a\x1f", "E01 1"),
@@ -86,10 +79,7 @@ const BYTES: [(&[u8], &str); 13] = [
     (b"a '\x80' b", "E01 2"),
     (b"#define N 4\xc3", "E01 0"),
     (b"a\xff", "E01 1"),
-];
-
-// What begins no token.
-const NO_TOKENS: [(&[u8], &str); 11] = [
+    // What begins no token.
     (b"@", "E02 0"),
     (b"a $ b", "E02 2"),
     (b"a ?", "E02 2"),
@@ -101,10 +91,7 @@ const NO_TOKENS: [(&[u8], &str); 11] = [
     (b"a # b", "E02 2"),
     (b"\"\\q", "E02 0"),
     (b"\\", "E02 0"),
-];
-
-// Comments and strings without an end.
-const OPEN: [(&[u8], &str); 11] = [
+    // Comments and strings without an end.
     (b"/*", "E03 0"),
     (b"a /* b", "E03 2"),
     (b"/*/", "E03 0"),
@@ -116,10 +103,7 @@ const OPEN: [(&[u8], &str); 11] = [
     (b"\"a\\", "E03 0"),
     (b"#define N 4 /* c", "E03 12"),
     (b"a b /*", "E03 4"),
-];
-
-// Lines that are no directive of the language.
-const DIRECTIVES: [(&[u8], &str); 11] = [
+    // Lines that are no directive of the language.
     (b"#", "E05 0"),
     (b"a\n #x\nb", "E05 3"),
     (b"a\n#pragma CHECKED_SCOPE pop", "E05 2"),
@@ -131,10 +115,7 @@ const DIRECTIVES: [(&[u8], &str); 11] = [
     (b"#define N", "E05 0"),
     (b"#define N 4 5", "E05 0"),
     (b"a\n#define N", "E05 2"),
-];
-
-// Definitions of what can't be defined so.
-const DEFINITIONS: [(&[u8], &str); 13] = [
+    // Definitions of what can't be defined so.
     (b"#define int 4", "E05 0"),
     (b"#define int 08", "E02 0"),
     (b"#define N 08", "E02 0"),
@@ -148,10 +129,7 @@ const DEFINITIONS: [(&[u8], &str); 13] = [
     (b"#define 4 N", "E05 0"),
     (b"#defined N 4", "E05 0"),
     (b"#includes", "E05 0"),
-];
-
-// Directives, and what they make of the names behind them.
-const DEFINED: [(&[u8], &str); 14] = [
+    // Directives, and what they make of the names behind them.
     (b"#define N 4\n#define N 0x4\n N", "number:4"),
     (b"#define N 4 // c\nN", "number:4"),
     (b"#define N 4 /* c\n d */ N", "number:4"),
@@ -254,83 +232,82 @@ fn spelling(kind: &TokenKind) -> &'static str {
     }
 }
 
+// A number behind a mark.
+fn push_number(line: &mut String, mark: char, value: u32) -> Result<(), NoMemory> {
+    match write!(line, "{mark}{value}") {
+        Ok(()) => Ok(()),
+        Err(_) => Err(NoMemory),
+    }
+}
+
 // The bytes of a text, as numbers, behind a colon.
-fn push_bytes(line: &mut String, bytes: &[u8]) -> Result<(), Fail> {
-    let mut before = ':';
+fn push_bytes(line: &mut String, bytes: &[u8]) -> Result<(), NoMemory> {
+    let mut mark = ':';
     for b in bytes {
-        write!(line, "{before}{b}")?;
-        before = ',';
+        push_number(line, mark, u32::from(*b))?;
+        mark = ',';
     }
     Ok(())
 }
 
-// What a token is, with its value.
-fn push_kind(line: &mut String, kind: &TokenKind) -> Result<(), Fail> {
-    line.push_str(spelling(kind))?;
+// The bytes of a name, behind a colon.
+fn push_name(line: &mut String, bytes: &[u8]) -> Result<(), NoMemory> {
+    line.push(':')?;
+    for b in bytes {
+        line.push(char::from(*b))?;
+    }
+    Ok(())
+}
+
+// The value of a token, if it has one.
+fn push_value(line: &mut String, kind: &TokenKind) -> Result<(), NoMemory> {
     match kind {
-        TokenKind::Name(name) => {
-            line.push(':')?;
-            for b in name.as_bytes() {
-                line.push(char::from(*b))?;
-            }
-        }
-        TokenKind::Number(value) => write!(line, ":{value}")?,
-        TokenKind::Character(b) => write!(line, ":{b}")?,
-        TokenKind::Text(text) => push_bytes(line, text.as_bytes())?,
-        _ => {}
+        TokenKind::Name(name) => push_name(line, name.as_bytes()),
+        TokenKind::Number(value) => push_number(line, ':', *value),
+        TokenKind::Character(b) => push_number(line, ':', u32::from(*b)),
+        TokenKind::Text(text) => push_bytes(line, text.as_bytes()),
+        _ => Ok(()),
     }
-    Ok(())
 }
 
-// The tokens of a text in one line, or its fault.
-fn line_of(alloc: Global, src: &[u8]) -> Result<String, Fail> {
+// What a token is, with its value, and a space before it unless it is the first one.
+fn push_kind(line: &mut String, kind: &TokenKind) -> Result<(), NoMemory> {
+    if !line.is_empty() {
+        line.push(' ')?;
+    }
+    line.push_str(spelling(kind))?;
+    push_value(line, kind)
+}
+
+// The tokens in one line.
+fn line_of(alloc: Global, tokens: &[Token]) -> Result<String, NoMemory> {
     let mut line = String::new(alloc);
-    match lex(alloc, src) {
-        Ok(tokens) => {
-            for token in &tokens {
-                if !line.is_empty() {
-                    line.push(' ')?;
-                }
-                push_kind(&mut line, &token.kind)?;
-            }
-        }
-        Err(Refused::Source(fault)) => write!(line, "{} {}", fault.code.number(), fault.span.from)?,
-        Err(Refused::NoMemory) => line.push_str("no memory")?,
+    for token in tokens {
+        push_kind(&mut line, &token.kind)?;
     }
     Ok(line)
 }
 
-// Fails unless each text has the line of its tokens, or its fault.
-fn expect_lines(alloc: Global, rows: &[(&[u8], &str)]) -> Result<(), Fail> {
-    for (src, want) in rows {
-        let line = line_of(alloc, src)?;
-        if line.as_str() != *want {
-            return Err(Fail::new(line));
-        }
+// The tokens of a text in one line, or its fault.
+fn answer(alloc: Global, src: &[u8]) -> Result<String, NoMemory> {
+    match lex(alloc, src) {
+        Ok(tokens) => line_of(alloc, tokens.as_slice()),
+        Err(refused) => refusal(alloc, &refused),
     }
-    Ok(())
+}
+
+// Whether a text has this line.
+fn is_right(alloc: Global, src: &[u8], want: &str) -> Result<bool, NoMemory> {
+    let line = answer(alloc, src)?;
+    Ok(line.as_str() == want)
 }
 
 #[test]
 fn lines_of_tokens(rt: HostRuntime) -> Result<(), Fail> {
-    let alloc = rt.alloc();
-    expect_lines(alloc, &WORDS)?;
-    expect_lines(alloc, &CONSTANTS)?;
-    expect_lines(alloc, &DEFINED)
-}
-
-#[test]
-fn refused_tokens(rt: HostRuntime) -> Result<(), Fail> {
-    let alloc = rt.alloc();
-    expect_lines(alloc, &NUMBERS)?;
-    expect_lines(alloc, &BYTES)?;
-    expect_lines(alloc, &NO_TOKENS)?;
-    expect_lines(alloc, &OPEN)
-}
-
-#[test]
-fn refused_directives(rt: HostRuntime) -> Result<(), Fail> {
-    let alloc = rt.alloc();
-    expect_lines(alloc, &DIRECTIVES)?;
-    expect_lines(alloc, &DEFINITIONS)
+    for (src, want) in &LINES {
+        if !is_right(rt.alloc(), src, want)? {
+            return Err(Fail::new(*want));
+        }
+    }
+    Ok(())
 }
