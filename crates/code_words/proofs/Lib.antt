@@ -1,3 +1,5 @@
 mod Keeps
 pub mod Runs
 pub mod Worlds
+mod Paces
+pub mod Left

@@ -4,5 +4,6 @@ pub mod Moves
 pub mod SandboxCode
 pub mod Runs
 pub mod Paced
+pub mod Left
 pub mod Fitting
 pub mod Dumps

@@ -22,7 +22,8 @@ target_of (ops.Jump target) = Some target
 target_of (ops.JumpIfZero target) = Some target
 target_of _ = None
 
-abbrev tested : (Op → Bool) → Option Op → Bool
+-- an instruction is there, and passes a test
+abbrev pub tested : (Op → Bool) → Option Op → Bool
 tested test None = false
 tested test (Some op) = test op
 
@@ -32,7 +33,7 @@ follows_tick all zero = false
 follows_tick all (suc before) = tested is_tick (slice_get all before)
 
 -- a jump goes to a later instruction or to a tick, and to no call; a target that isn't there breaks nothing
-abbrev goes_well : List Op → ℕ → Option ℕ → Bool
+abbrev pub goes_well : List Op → ℕ → Option ℕ → Bool
 goes_well all place None = true
 goes_well all place (Some target) = lands (slice_get all target)
   where
