@@ -259,14 +259,14 @@ module _ (image : Image) (settings : Settings) (paced : IsTrue (is_paced image))
   abbrev most : ℕ
   most = longest image.trusted.funs
 
-  abbrev left : State → ℕ
+  abbrev pub left : State → ℕ
   left s = moves_left image settings s
 
   -- what is left beside the ticks
   abbrev rest : State → ℕ
   rest s = rest_of_control image s.control + rest_of_callers image s.callers
 
-  abbrev Falls : State → Step → Type 0
+  abbrev pub Falls : State → Step → Type 0
   Falls s (Goes t) = left t < left s
   Falls s (Over ending t) = Unit {0}
 
@@ -448,9 +448,9 @@ module _ (image : Image) (settings : Settings) (paced : IsTrue (is_paced image))
   touch-falls f (Passes import words place) s w waits same = less s _ (omega (arith, same)) (rw waits (omega arith))
   touch-falls f (Replies value) s w waits same = less s _ (omega (arith, same)) (rw waits (omega (arith, fewer_callers s.callers)))
 
-  -- fewer moves are left, or as many, where this is so
-  abbrev Sooner : Type 0 → State → Step → Type 0
-  Sooner Leaves s (Goes t) = (left t < left s) ⊎ ((left t ≡ left s) × Leaves)
+  -- fewer moves are left, or as many, where this is so and the trusted side does the same as before
+  abbrev pub Sooner : Type 0 → State → Step → Type 0
+  Sooner Leaves s (Goes t) = (left t < left s) ⊎ ((left t ≡ left s) × (t.control ≡ s.control) × Leaves)
   Sooner Leaves s (Over ending t) = Unit {0}
 
   sooner : (Leaves : Type 0) (s : State) (next : Step) → Falls s next → Sooner Leaves s next
@@ -462,12 +462,12 @@ module _ (image : Image) (settings : Settings) (paced : IsTrue (is_paced image))
   before-sooner f touch (Read at len) acts s waits = by (lies_in at len s.world.sandbox)
     where
       by : (inside : Bool) → Sooner (Unit {0}) s (before_touch_by image f touch (waits_or_ends (shown_if inside at len (taken_one acts s.world)) (taken_one acts s.world)) s)
-      by true = inr (as_many s _ refl refl refl, tt)
+      by true = inr (as_many s _ refl refl refl, refl, tt)
       by false = tt
   before-sooner f touch (Write at bytes) acts s waits = by (lies_in at (length bytes) s.world.sandbox)
     where
       by : (inside : Bool) → Sooner (Unit {0}) s (before_touch_by image f touch (waits_or_ends (written_if inside at bytes (taken_one acts s.world)) (taken_one acts s.world)) s)
-      by true = inr (as_many s _ refl refl refl, tt)
+      by true = inr (as_many s _ refl refl refl, refl, tt)
       by false = tt
   before-sooner f touch (Call fun args) acts s waits = tt
   before-sooner f touch (Return value) acts s waits = tt
@@ -527,16 +527,16 @@ module _ (image : Image) (settings : Settings) (paced : IsTrue (is_paced image))
       by_count false = tt
 
   in_sandbox-sooner : (act : Act) (acts : List Act) (s : State) → s.control ≡ Away → Sooner (LeavesTurn act turns.Sandbox) s (take_in_sandbox image settings act acts s)
-  in_sandbox-sooner Go acts s away = inr (as_many s _ refl refl refl, tt)
+  in_sandbox-sooner Go acts s away = inr (as_many s _ refl refl refl, refl, tt)
   in_sandbox-sooner (Read at len) acts s away = by (lies_in at len s.world.sandbox)
     where
       by : (inside : Bool) → Sooner (Unit {0}) s (in_sandbox_by image settings (keeps_or_ends (shown_if inside at len (taken_one acts s.world)) (taken_one acts s.world)) s)
-      by true = inr (as_many s _ refl refl refl, tt)
+      by true = inr (as_many s _ refl refl refl, refl, tt)
       by false = tt
   in_sandbox-sooner (Write at bytes) acts s away = by (lies_in at (length bytes) s.world.sandbox)
     where
       by : (inside : Bool) → Sooner (Unit {0}) s (in_sandbox_by image settings (keeps_or_ends (written_if inside at bytes (taken_one acts s.world)) (taken_one acts s.world)) s)
-      by true = inr (as_many s _ refl refl refl, tt)
+      by true = inr (as_many s _ refl refl refl, refl, tt)
       by false = tt
   in_sandbox-sooner (Call fun args) acts s away = sooner _ s _ (call_back-falls fun (slice_get image.layout.callbacks fun) args s (taken_one acts s.world) away refl)
   in_sandbox-sooner (Return value) acts s away = sooner _ s _ (answer-falls s.callers value s (in_turn turns.Trusted (taken_one acts s.world)) refl away refl)

@@ -1,8 +1,8 @@
 mod Feeds
 mod Dues
-mod Leading
-mod Stepping
+mod Reaching
 mod Goings
 mod Playing
 mod Nearing
 mod Ending
+mod Dumping

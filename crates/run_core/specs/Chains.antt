@@ -1,5 +1,6 @@
 -- The acts that an actor gave in a run: one answer after another, each at the moment at which the run needs it.
 use Rattle.std.specs.Prelude.{List, [], ◌∷◌, ◌++◌, Option}
+use Rattle.std.proofs.Common.{ℤ}
 use Rattle.act_words.specs.declared.settings.Settings.{Settings}
 use Rattle.act_words.specs.Acts.{Act}
 use Rattle.act_words.specs.World.{Event}
@@ -13,6 +14,6 @@ abbrev pub Answering : Type 0 → Type 1
 Answering S = S → Option Files → Moment → Answer → S → Type 0
 
 -- while the image ran, the actor gave these acts, and went from the first state to the second
-pub data Chain {S : Type 0} (answers : Answering S) (files : Option Files) (image : Image) (settings : Settings) : S → List Act → S → Type 0 where
-  none : {state : S} → Chain answers files image settings state [] state
-  more : {first mid last : S} {acts : List Act} {act : Act} {moment : Moment} {events : List Event} → Chain answers files image settings first acts mid → IsDue image settings acts moment events → answers mid files moment (Gives act) last → Chain answers files image settings first (acts ++ act ∷ []) last
+pub data Chain {S : Type 0} (answers : Answering S) (files : Option Files) (image : Image) (settings : Settings) (inputs : List ℤ) : S → List Act → S → Type 0 where
+  none : {state : S} → Chain answers files image settings inputs state [] state
+  more : {first mid last : S} {acts : List Act} {act : Act} {moment : Moment} {events : List Event} → Chain answers files image settings inputs first acts mid → IsDue image settings inputs acts moment events → answers mid files moment (Gives act) last → Chain answers files image settings inputs first (acts ++ act ∷ []) last

@@ -1,11 +1,12 @@
 -- When a run needs an act that its list hasn't got.
 use Rattle.std.specs.Prelude.{◌≡◌, ℕ, List, [], ◌∷◌, Option, Some, None}
+use Rattle.std.proofs.Common.{ℤ}
 use Rattle.act_words.specs.declared.settings.Settings.{Settings}
 use Rattle.act_words.specs.Acts.{Act, Seen}
 use Rattle.act_words.specs.World.{Event, Output, Released, Showed, NoAct}
 use Rattle.sandbox_actor.specs.Answers.{Moment}
 use Rattle.code_words.specs.declared.image.Image.{Image}
-use Rattle.code_words.specs.Machine.{exec, started, events_of}
+use Rattle.code_words.specs.Runs.{exec, started, events_of}
 
 -- the first moment at which an act was due and none was left, where this was shown last before the events
 abbrev pub due_from : Option Seen → List Event → Option Moment
@@ -26,8 +27,8 @@ before_due (Released release ∷ events) = Released release ∷ before_due event
 before_due (Showed seen ∷ events) = Showed seen ∷ before_due events
 before_due (NoAct turn ∷ events) = []
 
--- a run of the image over these acts takes them all, and then an act is due, at this moment, behind these events
-pub record IsDue (image : Image) (settings : Settings) (acts : List Act) (moment : Moment) (events : List Event) : Type 0 where
+-- a run of the image over these inputs and acts takes all the acts, and then an act is due, at this moment, behind these events
+pub record IsDue (image : Image) (settings : Settings) (inputs : List ℤ) (acts : List Act) (moment : Moment) (events : List Event) : Type 0 where
   pub steps : ℕ
-  pub due : due_in (events_of (exec image settings steps (started image settings acts))) ≡ Some moment
-  pub before : events ≡ before_due (events_of (exec image settings steps (started image settings acts)))
+  pub due : due_in (events_of (exec image settings steps (started image settings inputs acts))) ≡ Some moment
+  pub before : events ≡ before_due (events_of (exec image settings steps (started image settings inputs acts)))

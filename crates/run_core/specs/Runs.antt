@@ -1,5 +1,6 @@
 -- What running an image with an actor comes to, and what it writes.
 use Rattle.std.specs.Prelude.{◌≡◌, ℕ, ◌≤◌, List, ◌++◌, length, take, Option, None, Result, Ok, Err}
+use Rattle.std.proofs.Common.{ℤ}
 use Rattle.ckc_text.specs.declared.code.Code.{Code}
 use Rattle.ckc_io.specs.Counts.{Rises}
 use Rattle.ckc_io.specs.Files.{Files}
@@ -8,9 +9,12 @@ use Rattle.act_words.specs.declared.ending.Ending.{Ending}
 use Rattle.act_words.specs.declared.settings.Settings.{Settings}
 use Rattle.act_words.specs.Acts.{Act}
 use Rattle.act_words.specs.World.{Event}
+use Rattle.act_words.specs.Shown.{Shown}
 use Rattle.sandbox_actor.specs.Answers.{Moment, Ended, Refused, Missing}
 use Rattle.code_words.specs.declared.image.Image.{Image}
-use Rattle.code_words.specs.Machine.{State, CodeRun}
+use Rattle.code_words.specs.Table.{State}
+use Rattle.code_words.specs.Runs.{CodeRun}
+use Rattle.code_words.specs.Dumps.{blocks_held}
 use Rattle.run_core.specs.declared.run.RunFault.{RunFault}
 use Rattle.run_core.specs.declared.run.RunFault.TheVariants as faults
 use Rattle.run_core.specs.Texts.{run_text, front_text}
@@ -24,43 +28,44 @@ pub data Outcome : Type 0 where
   LineRefused : (line : ℕ) (code : Code) → Outcome
   FileMissing : Outcome
 
--- over these acts, whichever follow them, the run ends so, behind these events; none of those that follow is taken
-pub record EndsBefore (image : Image) (settings : Settings) (acts : List Act) (ending : Ending) (events : List Event) : Type 0 where
-  pub runs : (rest : List Act) → (t : State) × CodeRun image settings (acts ++ rest) ending t × (t.world.acts ≡ rest) × (t.world.events ≡ events)
+-- over these acts, whichever follow them, the run ends so, behind these events and with these blocks; none of those that
+-- follow is taken
+pub record EndsBefore (image : Image) (settings : Settings) (inputs : List ℤ) (acts : List Act) (ending : Ending) (events : List Event) (blocks : List Shown) : Type 0 where
+  pub runs : (rest : List Act) → (t : State) × CodeRun image settings inputs (acts ++ rest) ending t × (t.world.acts ≡ rest) × (t.world.events ≡ events) × (blocks_held t ≡ blocks)
   pub undue : due_in events ≡ None
 
 -- the image's run with an actor, from one state of it to another, comes to this, with this text
-pub data Comes {S : Type 0} (answers : Answering S) (files : Option Files) (image : Image) (settings : Settings) (first : S) : S → Outcome → List ℕ → Type 0 where
+pub data Comes {S : Type 0} (answers : Answering S) (files : Option Files) (image : Image) (settings : Settings) (inputs : List ℤ) (first : S) : S → Outcome → List ℕ → Type 0 where
   -- the run ended by itself, or by its last act
-  ended : {last : S} {ending : Ending} (acts : List Act) (events : List Event) → Chain answers files image settings first acts last → EndsBefore image settings acts ending events → Comes answers files image settings first last (Ends ending) (run_text settings events ending)
+  ended : {last : S} {ending : Ending} (acts : List Act) (events : List Event) (blocks : List Shown) → Chain answers files image settings inputs first acts last → EndsBefore image settings inputs acts ending events blocks → Comes answers files image settings inputs first last (Ends ending) (run_text settings events ending blocks)
   -- the run needed an act where the actor had none left
-  ran_out : {mid last : S} {ending : Ending} {moment : Moment} {events : List Event} (acts : List Act) (t : State) → Chain answers files image settings first acts mid → IsDue image settings acts moment events → answers mid files moment Ended last → CodeRun image settings acts ending t → Comes answers files image settings first last (Ends ending) (run_text settings t.world.events ending)
+  ran_out : {mid last : S} {ending : Ending} {moment : Moment} {events : List Event} (acts : List Act) (t : State) → Chain answers files image settings inputs first acts mid → IsDue image settings inputs acts moment events → answers mid files moment Ended last → CodeRun image settings inputs acts ending t → Comes answers files image settings inputs first last (Ends ending) (run_text settings t.world.events ending (blocks_held t))
   -- the run needed an act that stands in a line that is refused
-  refused : {mid last : S} {line : ℕ} {code : Code} {moment : Moment} (acts : List Act) (events : List Event) → Chain answers files image settings first acts mid → IsDue image settings acts moment events → answers mid files moment (Refused line code) last → Comes answers files image settings first last (LineRefused line code) (front_text settings events)
+  refused : {mid last : S} {line : ℕ} {code : Code} {moment : Moment} (acts : List Act) (events : List Event) → Chain answers files image settings inputs first acts mid → IsDue image settings inputs acts moment events → answers mid files moment (Refused line code) last → Comes answers files image settings inputs first last (LineRefused line code) (front_text settings events)
   -- the run needed an act from a file that isn't there
-  missing : {mid last : S} {moment : Moment} (acts : List Act) (events : List Event) → Chain answers files image settings first acts mid → IsDue image settings acts moment events → answers mid files moment Missing last → Comes answers files image settings first last FileMissing (front_text settings events)
+  missing : {mid last : S} {moment : Moment} (acts : List Act) (events : List Event) → Chain answers files image settings inputs first acts mid → IsDue image settings inputs acts moment events → answers mid files moment Missing last → Comes answers files image settings inputs first last FileMissing (front_text settings events)
 
 -- the whole text of what the run comes to was written
-abbrev pub WritesAll : {S : Type 0} → Answering S → Option Files → Image → Settings → S → S → Outcome → (old new : Option (List ℕ)) → Type 0
-WritesAll answers files image settings first last outcome old new = (text : List ℕ) × Comes answers files image settings first last outcome text × (new ≡ grown old text)
+abbrev pub WritesAll : {S : Type 0} → Answering S → Option Files → Image → Settings → List ℤ → S → S → Outcome → (old new : Option (List ℕ)) → Type 0
+WritesAll answers files image settings inputs first last outcome old new = (text : List ℕ) × Comes answers files image settings inputs first last outcome text × (new ≡ grown old text)
 
 -- a front of it was written
-pub record WritesFront {S : Type 0} (answers : Answering S) (files : Option Files) (image : Image) (settings : Settings) (first last : S) (old new : Option (List ℕ)) : Type 0 where
+pub record WritesFront {S : Type 0} (answers : Answering S) (files : Option Files) (image : Image) (settings : Settings) (inputs : List ℤ) (first last : S) (old new : Option (List ℕ)) : Type 0 where
   pub outcome : Outcome
   pub text : List ℕ
-  pub comes : Comes answers files image settings first last outcome text
+  pub comes : Comes answers files image settings inputs first last outcome text
   pub size : ℕ
   pub fits : size ≤ length text
   pub front : new ≡ grown old (take size text)
 
 -- what was written, by the answer
-abbrev pub RunWrites : {S : Type 0} → Answering S → Option Files → Image → Settings → S → S → (old new : Option (List ℕ)) → Result Ending RunFault → Type 0
-RunWrites answers files image settings first last old new (Ok ending) = WritesAll answers files image settings first last (Ends ending) old new
-RunWrites answers files image settings first last old new (Err (faults.Line line code)) = WritesAll answers files image settings first last (LineRefused line code) old new
-RunWrites answers files image settings first last old new (Err faults.Missing) = WritesAll answers files image settings first last FileMissing old new
-RunWrites answers files image settings first last old new (Err faults.ShelfFailed) = new ≡ old
-RunWrites answers files image settings first last old new (Err faults.SinkFailed) = WritesFront answers files image settings first last old new
-RunWrites answers files image settings first last old new (Err faults.NoMemory) = new ≡ old
+abbrev pub RunWrites : {S : Type 0} → Answering S → Option Files → Image → Settings → List ℤ → S → S → (old new : Option (List ℕ)) → Result Ending RunFault → Type 0
+RunWrites answers files image settings inputs first last old new (Ok ending) = WritesAll answers files image settings inputs first last (Ends ending) old new
+RunWrites answers files image settings inputs first last old new (Err (faults.Line line code)) = WritesAll answers files image settings inputs first last (LineRefused line code) old new
+RunWrites answers files image settings inputs first last old new (Err faults.Missing) = WritesAll answers files image settings inputs first last FileMissing old new
+RunWrites answers files image settings inputs first last old new (Err faults.ShelfFailed) = new ≡ old
+RunWrites answers files image settings inputs first last old new (Err faults.SinkFailed) = WritesFront answers files image settings inputs first last old new
+RunWrites answers files image settings inputs first last old new (Err faults.NoMemory) = new ≡ old
 
 -- ---- counts of failures
 

@@ -8,7 +8,7 @@ ghost use Rattle.act_words.specs.Acts.{Looked, SeenReply};
 ghost use Rattle.act_words.specs.World.{Output, Released, Showed, NoAct};
 ghost use Rattle.run_core.specs.Texts.{ending_text, run_text, front_text};
 ghost use Rattle.run_core.specs.Moments.{due_in, before_due};
-ghost use Rattle.run_core.specs.Examples.{plain, viewed, written};
+ghost use Rattle.run_core.specs.Examples.{plain, viewed, dumped, written, echo, text_by};
 
 /// The line of each ending.
 pub fn endings()
@@ -20,9 +20,9 @@ pub fn endings()
 
 /// Output as it is, with the line feed that it lacks, and as lines among others.
 pub fn texts()
-    ensures quiet { run_text plain (Released Looked ∷ Showed (SeenReply 1) ∷ []) (Exit (pos 0)) ≡ codes "[exit 0]\n" }
-    ensures fed { run_text plain written (Exit (pos 0)) ≡ codes "ab\n[exit 0]\n" }
-    ensures lines { run_text viewed (Released Looked ∷ written) (Exit (pos 0)) ≡ codes "{\"out\":\"6162\"}\n[exit 0]\n" }
+    ensures quiet { run_text plain (Released Looked ∷ Showed (SeenReply 1) ∷ []) (Exit (pos 0)) [] ≡ codes "[exit 0]\n" }
+    ensures fed { run_text plain written (Exit (pos 0)) [] ≡ codes "ab\n[exit 0]\n" }
+    ensures lines { run_text viewed (Released Looked ∷ written) (Exit (pos 0)) [] ≡ codes "{\"out\":\"6162\"}\n[exit 0]\n" }
     ensures front { front_text plain written ≡ codes "ab\n" }
 {}
 
@@ -32,4 +32,11 @@ pub fn due()
         ≡ Some (record { turn = turns.Sandbox; last = Some (SeenReply 1) }) }
     ensures before { before_due (Released Looked ∷ NoAct turns.Sandbox ∷ written) ≡ Released Looked ∷ [] }
     ensures none { due_in written ≡ None }
+{}
+
+/// A run that prints an input number, and 0 where none is left, with its last blocks.
+pub fn runs()
+    ensures number { text_by echo plain (pos 7 ∷ []) ≡ codes "7\n[exit 0]\n" }
+    ensures none { text_by echo plain [] ≡ codes "0\n[exit 0]\n" }
+    ensures blocks { text_by echo dumped (pos 7 ∷ []) ≡ codes "7\n[exit 0]\n[block 65552 4 2a000000]\n" }
 {}

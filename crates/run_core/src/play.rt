@@ -1,35 +1,41 @@
 // A run in play: its machine, the text so far, and what the actor has to be told.
 
-ghost use Rattle.std.specs.Prelude.{◌≡◌, ◌<◌, ◌++◌, None, Some, true, false, IfOk, OnOk, []};
+ghost use Rattle.std.specs.Prelude.{◌≡◌, ◌<◌, ◌++◌, List, None, true, false, IfOk, OnOk, []};
+ghost use Rattle.std.proofs.Common.{ℤ};
 ghost use Rattle.act_words.specs.declared.settings.Settings.{Settings as SettingsData};
 ghost use Rattle.act_words.specs.Acts.{act_view, seen_view, release_view};
-ghost use Rattle.act_words.specs.World.{Released, Showed};
+ghost use Rattle.act_words.specs.World.{Output, Released, Showed};
 ghost use Rattle.code_words.specs.declared.image.Image.{Image as ImageData};
 ghost use Rattle.code_words.specs.Fitting.{Fits};
-ghost use Rattle.two_memory_machine.specs.Machines.{start_of, moves_left, Steps, Sooner, ending_given};
-ghost use Rattle.two_memory_machine.specs.declared.machine.Event.{Event as EventData};
-ghost use Rattle.two_memory_machine.specs.declared.machine.Event.TheVariants as EventOf;
-ghost use Rattle.two_memory_machine.specs.Steps.{IsAsked};
-ghost use Rattle.run_core.specs.Texts.{event_text};
-ghost use Rattle.run_core.specs.Progress.{Played, AskAnswers, AskLowers, PlayGoes, PlayEnds, PlayCounts, Nears, Takes, TakesNone, Tells, moment_in};
+ghost use Rattle.code_words.specs.Left.{LeavesTurn};
+ghost use Rattle.two_memory_machine.specs.Machines.{IsStart, waiting_of, turn_of, moves_left, ending_given};
+ghost use Rattle.two_memory_machine.specs.declared.event.Event.TheVariants as EventOf;
+ghost use Rattle.run_core.specs.Texts.{event_text, ending_text, dump_text};
+ghost use Rattle.run_core.specs.Progress.{Played, AskAnswers, AskLowers, PlayGoes, PlayEnds, PlayCounts, IsAsked, Leads, Steps, TakesInput, Takes, TakesNone, Tells, NearsBy, Nears, FallsUnless, IsOnward, ending_in, moment_in, blocks_of};
 
+use crate::dump::add_blocks;
 use crate::run::RunFault;
+use crate::texts::{answer_text, output_line};
 use act_recorder::lines::{release_line, seen_line};
 use act_words::act::{Act, Release, Seen, Turn};
 use act_words::ending::Ending;
+use act_words::octets::Octets;
 use act_words::settings::Settings;
 use ckc_io::shelf::Shelf;
 use ckc_text::fault::NoMemory;
 use code_words::image::Image;
 use sandbox_actor::actor::{Actor, ActorFault, Now};
 use std::alloc::Global;
-use two_memory_machine::machine::{Event, Machine, Waiting};
+use two_memory_machine::event::{Event, Waiting};
+use two_memory_machine::machine::Machine;
 
 /// A run so far.
 #[derive(Drop)]
 pub struct Play<'a> {
     machine: Machine<'a>,
     settings: Settings,
+    // The input numbers that are left.
+    inputs: &'a [i32],
     /// The lines of what happened.
     pub text: Vec<u8>,
     // What the sandbox was shown last.
@@ -38,22 +44,69 @@ pub struct Play<'a> {
     ended: bool,
 }
 
+/// How far an act led.
+#[derive(Clone, Copy)]
+pub enum Progressed {
+    /// The same side has the turn, and waits for the next act.
+    Stays,
+    /// The run goes on.
+    Moves,
+    /// The run is over.
+    Ends { ending: Ending },
+}
+
 // The ending that an event gave the run.
 fn ending_of(event: &Event) -> Option<Ending>
     ensures { result ≡ ending_given event.now }
 {
-    match *event {
-        Event::Ended { ending } => Some(ending),
+    match event {
+        Event::Ended { ending } => Some(*ending),
         _ => None,
+    }
+}
+
+// Whether an act leaves the turn, and makes no touch.
+fn leaves_turn(act: &Act, turn: Turn) -> bool
+    ensures leaves { result ≡ true → LeavesTurn (act_view act.now) turn }
+    ensures not { result ≡ false → LeavesTurn (act_view act.now) turn → ⊥ }
+{
+    match act {
+        Act::Go => match turn {
+            Turn::Trusted => false,
+            Turn::Sandbox => true,
+        },
+        Act::Read { at: _, len: _ } | Act::Write { at: _, bytes: _ } => true,
+        Act::Call { fun: _, args: _ } | Act::Return { value: _ } | Act::Stop => false,
+    }
+}
+
+// Makes steps up to one that has to be told.
+fn run_on(machine: &mut Machine) -> Event
+    requires { waiting_of machine.old ≡ Waiting.Runs }
+    ensures leads { (inputs : List ℤ) → Leads machine.old inputs result machine.new inputs }
+    ensures over { machine.new.over ≡ ending_given result }
+    ensures sooner { moves_left machine.new < moves_left machine.old }
+{
+    'steps: loop {
+        match machine.step() {
+            Event::Ran => {}
+            event => return event,
+        }
     }
 }
 
 impl<'a> Play<'a> {
     /// Before the first step.
-    pub fn start(alloc: Global, image: &'a Image, settings: &Settings) -> Result<Play<'a>, NoMemory>
+    pub fn start(
+        alloc: Global,
+        image: &'a Image,
+        settings: &Settings,
+        inputs: &'a [i32],
+    ) -> Result<Play<'a>, NoMemory>
         requires { Fits image.now settings.now }
-        ensures machine { IfOk result (λ p. p.machine ≡ start_of image.now settings.now) }
+        ensures machine { IfOk result (λ p. IsStart image.now settings.now p.machine) }
         ensures settings { IfOk result (λ p. p.settings ≡ settings.now) }
+        ensures inputs { IfOk result (λ p. p.inputs.now ≡ inputs.now) }
         ensures text { IfOk result (λ p. p.text.items ≡ []) }
         ensures last { IfOk result (λ p. p.last ≡ None) }
         ensures ended { IfOk result (λ p. p.ended ≡ false) }
@@ -61,6 +114,7 @@ impl<'a> Play<'a> {
         Ok(Play {
             machine: Machine::start(alloc, image, settings)?,
             settings: *settings,
+            inputs,
             text: Vec::new(alloc),
             last: None,
             ended: false,
@@ -75,10 +129,11 @@ impl<'a> Play<'a> {
         shelf: &mut F,
     ) -> Result<Ending, RunFault>
         requires { self.old.machine.over ≡ None }
-        ensures ends { (image : ImageData) (settings : SettingsData) (first : A.State)
-            → Played A.answers (F.files shelf.old) image settings first (A.state_of actor.old) self.old
-            → PlayEnds A.answers (F.files shelf.old) image settings first (A.state_of actor.new)
-            self.new.text.items result }
+        ensures ends { (image : ImageData) (settings : SettingsData) (inputs : List ℤ) (first : A.State)
+            → Played A.answers (F.files shelf.old) image settings inputs first (A.state_of actor.old) self.old
+            → PlayEnds A.answers (F.files shelf.old) image settings inputs first (A.state_of actor.new)
+            self.new.text.items (blocks_of self.new.machine) result }
+        ensures settings { self.new.settings ≡ self.old.settings }
         ensures files { F.files shelf.new ≡ F.files shelf.old }
         ensures counts { PlayCounts result
             (F.misses shelf.old) (F.misses shelf.new) (F.faults shelf.old) (F.faults shelf.new) }
@@ -90,7 +145,19 @@ impl<'a> Play<'a> {
         }
     }
 
-    // Makes the step of the next instruction, or takes the acts of a turn.
+    /// The line of an ending, and behind it the last blocks, where they are asked for.
+    pub fn last_lines(&self, alloc: Global, ending: &Ending) -> Result<Vec<u8>, NoMemory>
+        ensures { IfOk result (λ text. text.items
+            ≡ ending_text ending.now ++ dump_text self.now.settings (blocks_of self.now.machine)) }
+    {
+        let mut text = answer_text(alloc, ending)?;
+        if self.settings.dump {
+            add_blocks(alloc, &self.machine, &mut text)?;
+        }
+        Ok(text)
+    }
+
+    // Makes the steps of the next instructions, gives an input number, or takes the acts of a turn.
     fn go_on<A: Actor, F: Shelf>(
         &mut self,
         alloc: Global,
@@ -98,32 +165,63 @@ impl<'a> Play<'a> {
         shelf: &mut F,
     ) -> Result<Option<Ending>, RunFault>
         requires { self.old.machine.over ≡ None }
-        ensures goes { (image : ImageData) (settings : SettingsData) (first : A.State)
-            → Played A.answers (F.files shelf.old) image settings first (A.state_of actor.old) self.old
-            → PlayGoes A.answers (F.files shelf.old) image settings first (A.state_of actor.new) self.new result }
+        ensures goes { (image : ImageData) (settings : SettingsData) (inputs : List ℤ) (first : A.State)
+            → Played A.answers (F.files shelf.old) image settings inputs first (A.state_of actor.old) self.old
+            → PlayGoes A.answers (F.files shelf.old) image settings inputs first (A.state_of actor.new) self.new result }
         ensures over { IfOk result (λ ending. self.new.machine.over ≡ ending) }
-        ensures sooner { OnOk result (moves_left self.new.machine < moves_left self.old.machine) }
+        ensures sooner { IfOk result (λ ending. FallsUnless ending self.old.machine self.new.machine) }
+        ensures settings { self.new.settings ≡ self.old.settings }
         ensures files { F.files shelf.new ≡ F.files shelf.old }
         ensures counts { PlayCounts result
             (F.misses shelf.old) (F.misses shelf.new) (F.faults shelf.old) (F.faults shelf.new) }
     {
         match self.machine.waiting() {
-            Waiting::Runs => Ok(self.step()),
+            Waiting::Runs => Ok(self.step(alloc)?),
+            Waiting::Number => Ok(self.give(alloc)?),
             Waiting::Act => self.take_turn(alloc, actor, shelf),
             Waiting::Over => unreachable!(),
         }
     }
 
-    // Makes the machine's next step, which shows and releases nothing.
-    fn step(&mut self) -> Option<Ending>
-        requires running { self.old.machine.over ≡ None }
-        requires free { self.old.machine.pending ≡ None }
-        ensures steps { (event : EventData) × Steps self.old.machine event self.new.machine }
-        ensures over { self.new.machine.over ≡ result }
-        ensures sooner { moves_left self.new.machine < moves_left self.old.machine }
-        ensures rest { self.new ≡ record self.old { machine = self.new.machine } }
+    // Makes steps, and tells what the last of them did.
+    fn step(&mut self, alloc: Global) -> Result<Option<Ending>, NoMemory>
+        requires { waiting_of self.old.machine ≡ Waiting.Runs }
+        ensures steps { OnOk result (Steps self.old self.new) }
+        ensures over { IfOk result (λ ending. self.new.machine.over ≡ ending) }
+        ensures sooner { IfOk result (λ ending. FallsUnless ending self.old.machine self.new.machine) }
+        ensures settings { self.new.settings ≡ self.old.settings }
     {
-        ending_of(&self.machine.step())
+        let event = run_on(&mut self.machine);
+        self.tell(alloc, &event)?;
+        Ok(ending_of(&event))
+    }
+
+    // Gives the machine the number that it waits for.
+    fn give(&mut self, alloc: Global) -> Result<Option<Ending>, NoMemory>
+        requires { waiting_of self.old.machine ≡ Waiting.Number }
+        ensures steps { OnOk result (Steps self.old self.new) }
+        ensures over { IfOk result (λ ending. self.new.machine.over ≡ ending) }
+        ensures sooner { IfOk result (λ ending. FallsUnless ending self.old.machine self.new.machine) }
+        ensures settings { self.new.settings ≡ self.old.settings }
+    {
+        let number = self.next_input();
+        let event = self.machine.give(number);
+        self.tell(alloc, &event)?;
+        Ok(ending_of(&event))
+    }
+
+    // The next input number, and 0 behind the last.
+    fn next_input(&mut self) -> i32
+        ensures number { TakesInput self.old.inputs.now result self.new.inputs.now }
+        ensures rest { self.new ≡ record self.old { inputs = self.new.inputs } }
+    {
+        match self.inputs {
+            [] => 0,
+            [number, left @ ..] => {
+                self.inputs = left;
+                *number
+            }
+        }
     }
 
     // Takes acts until the side that has the turn loses it, or the run ends.
@@ -133,31 +231,25 @@ impl<'a> Play<'a> {
         actor: &mut A,
         shelf: &mut F,
     ) -> Result<Option<Ending>, RunFault>
-        requires { IsAsked self.old.machine.turn self.old.machine }
-        ensures goes { (image : ImageData) (settings : SettingsData) (first : A.State)
-            → Played A.answers (F.files shelf.old) image settings first (A.state_of actor.old) self.old
-            → PlayGoes A.answers (F.files shelf.old) image settings first (A.state_of actor.new) self.new result }
+        requires { IsAsked self.old.machine }
+        ensures goes { (image : ImageData) (settings : SettingsData) (inputs : List ℤ) (first : A.State)
+            → Played A.answers (F.files shelf.old) image settings inputs first (A.state_of actor.old) self.old
+            → PlayGoes A.answers (F.files shelf.old) image settings inputs first (A.state_of actor.new) self.new result }
         ensures over { IfOk result (λ ending. self.new.machine.over ≡ ending) }
-        ensures sooner { OnOk result (moves_left self.new.machine < moves_left self.old.machine) }
+        ensures sooner { IfOk result (λ ending. FallsUnless ending self.old.machine self.new.machine) }
+        ensures settings { self.new.settings ≡ self.old.settings }
         ensures files { F.files shelf.new ≡ F.files shelf.old }
         ensures counts { PlayCounts result
             (F.misses shelf.old) (F.misses shelf.new) (F.faults shelf.old) (F.faults shelf.new) }
     {
-        let turn = self.machine.turn();
-        loop {
-            let ending = self.take_next(alloc, actor, shelf)?;
-            if !self.is_asked(turn) {
-                return Ok(ending);
+        'turn: loop {
+            let progressed = self.take_next(alloc, actor, shelf)?;
+            match progressed {
+                Progressed::Stays => {}
+                Progressed::Moves => return Ok(None),
+                Progressed::Ends { ending } => return Ok(Some(ending)),
             }
         }
-    }
-
-    // Whether a call waits while this side has the turn.
-    fn is_asked(&self, turn: Turn) -> bool
-        ensures asked { result ≡ true → IsAsked turn self.now.machine }
-        ensures not { result ≡ false → IsAsked turn self.now.machine → ⊥ }
-    {
-        matches!(self.machine.waiting(), Waiting::Act) && self.machine.turn() == turn
     }
 
     // Takes the next act, or goes on without one where none is left.
@@ -166,14 +258,15 @@ impl<'a> Play<'a> {
         alloc: Global,
         actor: &mut A,
         shelf: &mut F,
-    ) -> Result<Option<Ending>, RunFault>
-        requires { IsAsked self.old.machine.turn self.old.machine }
-        ensures goes { (image : ImageData) (settings : SettingsData) (first : A.State)
-            → Played A.answers (F.files shelf.old) image settings first (A.state_of actor.old) self.old
-            → PlayGoes A.answers (F.files shelf.old) image settings first (A.state_of actor.new) self.new result }
-        ensures over { IfOk result (λ ending. self.new.machine.over ≡ ending) }
-        ensures nears { OnOk result
-            (Nears self.old.machine self.new.machine (A.measure actor.old) (A.measure actor.new)) }
+    ) -> Result<Progressed, RunFault>
+        requires { IsAsked self.old.machine }
+        ensures goes { (image : ImageData) (settings : SettingsData) (inputs : List ℤ) (first : A.State)
+            → Played A.answers (F.files shelf.old) image settings inputs first (A.state_of actor.old) self.old
+            → PlayGoes A.answers (F.files shelf.old) image settings inputs first (A.state_of actor.new) self.new result }
+        ensures over { IfOk result (λ progressed. self.new.machine.over ≡ ending_in progressed) }
+        ensures nears { IfOk result (λ progressed. Nears progressed
+            self.old.machine self.new.machine (A.measure actor.old) (A.measure actor.new)) }
+        ensures settings { self.new.settings ≡ self.old.settings }
         ensures files { F.files shelf.new ≡ F.files shelf.old }
         ensures counts { PlayCounts result
             (F.misses shelf.old) (F.misses shelf.new) (F.faults shelf.old) (F.faults shelf.new) }
@@ -188,7 +281,7 @@ impl<'a> Play<'a> {
     fn ask<A: Actor, F: Shelf>(&self, actor: &mut A, shelf: &mut F) -> Result<Option<Act>, RunFault>
         ensures answer { AskAnswers A.answers (F.files shelf.old) (moment_in self.now) self.now.ended
             (A.state_of actor.old) (A.state_of actor.new) result }
-        ensures lowers { AskLowers self.now.machine.turn result (A.measure actor.old) (A.measure actor.new) }
+        ensures lowers { AskLowers (turn_of self.now.machine.doing) result (A.measure actor.old) (A.measure actor.new) }
         ensures files { F.files shelf.new ≡ F.files shelf.old }
         ensures counts { PlayCounts result
             (F.misses shelf.old) (F.misses shelf.new) (F.faults shelf.old) (F.faults shelf.new) }
@@ -209,41 +302,80 @@ impl<'a> Play<'a> {
     }
 
     // Takes an act.
-    fn take(&mut self, alloc: Global, act: &Act) -> Result<Option<Ending>, NoMemory>
-        requires { IsAsked self.old.machine.turn self.old.machine }
+    fn take(&mut self, alloc: Global, act: &Act) -> Result<Progressed, NoMemory>
+        requires { IsAsked self.old.machine }
         ensures takes { OnOk result (Takes (act_view act.now) self.old self.new) }
-        ensures over { IfOk result (λ ending. self.new.machine.over ≡ ending) }
-        ensures sooner { OnOk result (Sooner (act_view act.now) self.old.machine self.new.machine) }
+        ensures over { IfOk result (λ progressed. self.new.machine.over ≡ ending_in progressed) }
+        ensures nears { IfOk result (λ progressed. NearsBy (act_view act.now) progressed self.old.machine self.new.machine) }
+        ensures settings { self.new.settings ≡ self.old.settings }
     {
+        let turn = self.machine.turn();
         let event = self.machine.act(act);
         self.tell(alloc, &event)?;
-        Ok(ending_of(&event))
+        if let Some(ending) = ending_of(&event) {
+            return Ok(Progressed::Ends { ending });
+        }
+        if leaves_turn(act, turn) && self.is_asked() {
+            return Ok(Progressed::Stays);
+        }
+        Ok(Progressed::Moves)
+    }
+
+    // Whether the machine waits for an act.
+    fn is_asked(&self) -> bool
+        ensures asked { result ≡ true → IsAsked self.now.machine }
+        ensures not { result ≡ false → IsAsked self.now.machine → ⊥ }
+    {
+        matches!(self.machine.waiting(), Waiting::Act)
     }
 
     // Goes on without an act, as from now on.
-    fn take_none(&mut self, alloc: Global) -> Result<Option<Ending>, NoMemory>
-        requires { IsAsked self.old.machine.turn self.old.machine }
+    fn take_none(&mut self, alloc: Global) -> Result<Progressed, NoMemory>
+        requires { IsAsked self.old.machine }
         ensures takes { OnOk result (TakesNone self.old self.new) }
-        ensures over { IfOk result (λ ending. self.new.machine.over ≡ ending) }
-        ensures sooner { OnOk result (moves_left self.new.machine < moves_left self.old.machine) }
+        ensures over { IfOk result (λ progressed. self.new.machine.over ≡ ending_in progressed) }
+        ensures nears { IfOk result (λ progressed. FallsUnless (ending_in progressed) self.old.machine self.new.machine) }
+        ensures moves { IfOk result (λ progressed. IsOnward progressed) }
+        ensures settings { self.new.settings ≡ self.old.settings }
     {
         self.ended = true;
         let event = self.machine.no_more_acts();
         self.tell(alloc, &event)?;
-        Ok(ending_of(&event))
+        match ending_of(&event) {
+            Some(ending) => Ok(Progressed::Ends { ending }),
+            None => Ok(Progressed::Moves),
+        }
     }
 
     // Tells what happened.
     fn tell(&mut self, alloc: Global, event: &Event) -> Result<(), NoMemory>
         ensures machine { self.new.machine ≡ self.old.machine }
+        ensures settings { self.new.settings ≡ self.old.settings }
+        ensures inputs { self.new.inputs ≡ self.old.inputs }
         ensures ended { self.new.ended ≡ self.old.ended }
         ensures tells { OnOk result (Tells event.now self.old self.new) }
     {
         match event {
+            Event::Out { bytes } => self.write(alloc, bytes),
             Event::Showed { seen } => self.show(alloc, seen),
             Event::Touched { release, seen } => self.touch(alloc, release, seen),
-            Event::Ran | Event::Asks | Event::Ended { ending: _ } => Ok(()),
+            Event::Ran | Event::Asks | Event::Input | Event::Ended { ending: _ } => Ok(()),
         }
+    }
+
+    // Tells of what the program wrote: as it is, or as a line where lines are asked for.
+    fn write(&mut self, alloc: Global, bytes: &Octets) -> Result<(), NoMemory>
+        ensures rest { self.new ≡ record self.old { text = self.new.text } }
+        ensures text { OnOk result (self.new.text.items
+            ≡ self.old.text.items ++ event_text self.old.settings (Output bytes.now)) }
+    {
+        if self.settings.view || self.settings.releases {
+            self.text
+                .extend_from_slice(&output_line(alloc, bytes.as_slice())?)?;
+        } else {
+            self.text.extend_from_slice(bytes.as_slice())?;
+        }
+        Ok(())
     }
 
     // Tells of a touch: what it released, and then what the sandbox was shown of it.
@@ -254,6 +386,8 @@ impl<'a> Play<'a> {
         seen: &Option<Seen>,
     ) -> Result<(), NoMemory>
         ensures machine { self.new.machine ≡ self.old.machine }
+        ensures settings { self.new.settings ≡ self.old.settings }
+        ensures inputs { self.new.inputs ≡ self.old.inputs }
         ensures ended { self.new.ended ≡ self.old.ended }
         ensures tells { OnOk result (Tells (EventOf.Touched release.now seen.now) self.old self.new) }
     {

@@ -6,9 +6,10 @@ ghost use Rattle.code_words.specs.Fitting.{Fits};
 ghost use Rattle.run_core.specs.Texts.{with_last_line};
 ghost use Rattle.run_core.specs.Runs.{RunWrites, RunCounts};
 ghost use Rattle.run_core.specs.Finishes.{Finish, Finishes};
+ghost use Rattle.run_core.specs.Progress.{blocks_of};
 
 use crate::play::Play;
-use crate::texts::{add_last_line, answer_text};
+use crate::texts::add_last_line;
 use act_words::ending::Ending;
 use act_words::settings::Settings;
 use ckc_io::shelf::Shelf;
@@ -51,8 +52,9 @@ impl From<NoMemory> for RunFault {
     }
 }
 
-/// Runs an image to its end, with the sandbox's acts from an actor, and writes the text of the run: what the settings ask
-/// for of what happened, and the line of the ending. The shelf is lent to the actor at each act.
+/// Runs an image to its end, with these input numbers and the sandbox's acts from an actor, and writes the text of the
+/// run: what the settings ask for of what happened, the line of the ending, and the last blocks of trusted memory, where
+/// they are asked for. Behind the last input number come zeros. The shelf is lent to the actor at each act.
 ///
 /// # Errors
 ///
@@ -63,42 +65,43 @@ pub fn run<A: Actor, F: Shelf, K: Sink>(
     alloc: Global,
     image: &Image,
     settings: &Settings,
+    inputs: &[i32],
     actor: &mut A,
     shelf: &mut F,
     sink: &mut K,
 ) -> Result<Ending, RunFault>
     requires { Fits image.now settings.now }
-    ensures writes { RunWrites A.answers (F.files shelf.old) image.now settings.now (A.state_of actor.old) (A.state_of actor.new)
+    ensures writes { RunWrites A.answers (F.files shelf.old) image.now settings.now inputs.now (A.state_of actor.old) (A.state_of actor.new)
         (K.written sink.old) (K.written sink.new) result }
     ensures files { F.files shelf.new ≡ F.files shelf.old }
     ensures counts { RunCounts result
         (record { misses = F.misses shelf.old; faults = F.faults shelf.old; sink = K.faults sink.old })
         (record { misses = F.misses shelf.new; faults = F.faults shelf.new; sink = K.faults sink.new }) }
 {
-    let mut play = Play::start(alloc, image, settings)?;
+    let mut play = Play::start(alloc, image, settings, inputs)?;
     let outcome = play.to_end(alloc, actor, shelf);
-    finish(alloc, play.text, outcome, sink)
+    finish(alloc, play, outcome, sink)
 }
 
-// Writes the text of a run that has come to its end, or to an act that can't be given.
+// Writes the text of a run that has come to its end, or to an act that can't be given, and nothing else.
 fn finish<K: Sink>(
     alloc: Global,
-    text: Vec<u8>,
+    play: Play,
     outcome: Result<Ending, RunFault>,
     sink: &mut K,
 ) -> Result<Ending, RunFault>
-    ensures { Finishes text.items outcome
+    ensures { Finishes play.text.items play.settings (blocks_of play.machine) outcome
         (K.written sink.old) (K.written sink.new) (K.faults sink.old) (K.faults sink.new) result }
 {
     match outcome {
         Ok(ending) => {
-            let line = answer_text(alloc, &ending)?;
-            write_text(text, line.as_slice(), Ok(ending), sink)
+            let last = play.last_lines(alloc, &ending)?;
+            write_text(play.text, last.as_slice(), Ok(ending), sink)
         }
         Err(RunFault::Line { line, code }) => {
-            write_text(text, &[], Err(RunFault::Line { line, code }), sink)
+            write_text(play.text, &[], Err(RunFault::Line { line, code }), sink)
         }
-        Err(RunFault::Missing) => write_text(text, &[], Err(RunFault::Missing), sink),
+        Err(RunFault::Missing) => write_text(play.text, &[], Err(RunFault::Missing), sink),
         Err(fault) => Err(fault),
     }
 }

@@ -1,7 +1,7 @@
-// The lines that end a run.
+// The lines of a run.
 
 ghost use Rattle.std.specs.Prelude.{◌≡◌, ◌++◌, ◌∷◌, [], if◌then◌else◌, IfOk, OnOk, codes, None, Some};
-ghost use Rattle.run_core.specs.Texts.{ending_text, placed_text, missing_feed, with_last_line};
+ghost use Rattle.run_core.specs.Texts.{ending_text, placed_text, output_line, missing_feed, with_last_line};
 
 use act_words::ending::Ending;
 use ckc_text::code::Code;
@@ -53,6 +53,14 @@ fn act_stop_line(alloc: Global, code: Code, act: u64) -> Result<Vec<u8>, NoMemor
     let number = code.number();
     let name = code.text();
     Ok(format!(in alloc; "[stop {number} act {act} {name}]\n")?.into_bytes())
+}
+
+/// The line of what a program wrote.
+pub fn output_line(alloc: Global, bytes: &[u8]) -> Result<Vec<u8>, NoMemory>
+    ensures { IfOk result (λ line. line.items ≡ output_line bytes.now) }
+{
+    let hex = hex::encode(alloc, bytes)?;
+    Ok(format!(in alloc; "{{\"out\":\"{hex}\"}}\n")?.into_bytes())
 }
 
 /// Adds a line to a text, and before it the line feed that the text lacks.

@@ -6,5 +6,6 @@ mod Callers
 mod Refusals
 mod Statics
 mod Moving
+mod Ends
 mod Faults
 mod TextCounts

@@ -1,5 +1,5 @@
 -- From what a part of a call does to the table's move.
-use Rattle.std.proofs.Common.{◌≡◌, ℕ, ℤ, ◌++◌, pos, Bool, true, false, List, [], ◌∷◌, Option, Some, None, refl, sym, ap, subst, ◌∙◌}
+use Rattle.std.proofs.Common.{◌≡◌, ◌≤◌, ℕ, ℤ, ◌++◌, pos, Bool, true, false, List, [], ◌∷◌, Option, Some, None, refl, sym, ap, subst, ◌∙◌, arith}
 use Rattle.std.specs.Prelude.{slice_get}
 use Rattle.ckc_text.specs.declared.place.Place.{Place}
 use Rattle.act_words.specs.declared.act.Turn.TheVariants as turns
@@ -20,7 +20,10 @@ use Rattle.two_memory_machine.specs.declared.event.Event.{Event}
 use Rattle.two_memory_machine.specs.declared.event.Event.TheVariants.{Ran, Asks, Input, Out, Showed, Touched, Ended}
 use Rattle.two_memory_machine.specs.declared.event.Waiting.TheVariants as waiting
 use Rattle.two_memory_machine.specs.Machines.{Machine, Doing, Running, NeedsNumber, Touching, Suspended, Gives, TellsStep, TellsAct, StepsIf, Steps, TakesAct, TakesEnd, is_input, next_op_of, state_of, world_of, turn_of, waiting_for, TakesNumber, TakesNoNumber, ending_given}
-use Rattle.two_memory_machine.specs.Steps.{GoesBy, IsIn, PerformsIf, Performs, MovesBy}
+use Rattle.two_memory_machine.specs.declared.outcome.Outcome.{Outcome}
+use Rattle.two_memory_machine.specs.declared.outcome.Outcome.TheVariants as outcomes
+use Rattle.two_memory_machine.specs.Families.{family}
+use Rattle.two_memory_machine.specs.Steps.{EventBy, GoesBy, Brings, IsIn, Acts, event_of, PerformsIf, Performs, MovesBy}
 
 -- a machine of the same image
 pub gives_at : (Tells : Event → Doing → Type 0) (acts : List Act) (inputs : List ℤ) (events : List World.Event) (step : Step) (old mid new : Machine) (event : Event) → mid.image ≡ old.image → mid.settings ≡ old.settings → Gives Tells acts inputs events step mid event new → Gives Tells acts inputs events step old event new
@@ -82,6 +85,34 @@ steps_from old new event op runs next performs = subst (λ o. StepsIf (is_input 
         let s = stands_in old op next in
         subst (λ line. Gives TellsStep acts inputs events line old event new) (sym (line_moves old s.f op acts inputs events runs s.here s.stands)) (h s.f s.here acts inputs events)
 
+-- an instruction of another family takes no input number
+no_input : (op : Op) → 1 ≤ family op → is_input (Some op) ≡ false
+no_input ops.NextInput h = absurd (omega arith)
+no_input _ h = refl
+
+pub other_family : (op : Op) → (op ≡ ops.NextInput → ⊥) → (op ≡ ops.Print → ⊥) → (op ≡ ops.PutByte → ⊥) → 1 ≤ family op
+other_family ops.NextInput input line byte = absurd (input refl)
+other_family ops.Print input line byte = absurd (line refl)
+other_family ops.PutByte input line byte = absurd (byte refl)
+other_family _ input line byte = omega arith
+
+-- an outcome told by its event
+gives_told : (acts : List Act) (inputs : List ℤ) (events : List World.Event) (step : Step) (old new : Machine) (outcome : Outcome) → Brings acts inputs events step old outcome new → Gives TellsStep acts inputs events step old (event_of outcome new.over) new
+gives_told acts inputs events (Goes s) old new outcome brings = by outcome brings
+  where
+    by : (o : Outcome) → Brings acts inputs events (Goes s) old o new → Gives TellsStep acts inputs events (Goes s) old (event_of o new.over) new
+    by outcomes.Ran b = b
+    by outcomes.Asks b = b
+    by outcomes.Ended b = absurd b.1
+gives_told acts inputs events (Over ending s) old new outcome brings = rw (brings.0, brings.1) (refl, refl, brings.2, brings.3, brings.4, brings.5)
+
+pub performs_told : (old new : Machine) (event : Event) (outcome : Outcome) (op : Op) → 1 ≤ family op → event ≡ event_of outcome new.over → Acts op old outcome new → Performs op old event new
+performs_told old new event outcome op other told acts =
+    rw (no_input op other, told) (λ f here all inputs events. gives_told all inputs events _ old new outcome (acts f here all inputs events))
+
+pub event_told : (line : State → Step) (old new : Machine) (event : Event) (outcome : Outcome) → event ≡ event_of outcome new.over → GoesBy line old outcome new → EventBy line old event new
+event_told line old new event outcome told goes = rw told (λ acts inputs events. gives_told acts inputs events _ old new outcome (goes acts inputs events))
+
 pub performs_over : (old new : Machine) (event : Event) (op : Op) → old.over ≡ None → next_op_of old ≡ Some op → Performs op old event new → new.over ≡ ending_given event
 performs_over old new event op going next performs = by (is_input (Some op)) performs
   where
@@ -90,10 +121,10 @@ performs_over old new event op going next performs = by (is_input (Some op)) per
     by false h = let s = stands_in old op next in step_over [] [] [] _ old new event (h s.f s.here [] [] [])
 
 -- where no instruction stands, the step is wild
-pub steps_wild : (old new : Machine) (event : Event) → old.doing ≡ Running → next_op_of old ≡ None → GoesBy wild old event new → Steps old event new
+pub steps_wild : (old new : Machine) (event : Event) → old.doing ≡ Running → next_op_of old ≡ None → EventBy wild old event new → Steps old event new
 steps_wild old new event runs next goes = subst (λ o. StepsIf (is_input o) old event new) (sym next) (λ acts inputs events. by (slice_get old.image.trusted.funs old.frame.function) refl acts inputs events)
   where
-    by : (f : Option Func) → slice_get old.image.trusted.funs old.frame.function ≡ f → GoesBy (move old.image old.settings) old event new
+    by : (f : Option Func) → slice_get old.image.trusted.funs old.frame.function ≡ f → EventBy (move old.image old.settings) old event new
     by None here = λ acts inputs events.
         let line : move old.image old.settings (state_of old acts inputs events) ≡ wild (state_of old acts inputs events) = rw (runs, here) refl in
         rw line (goes acts inputs events)
@@ -171,14 +202,14 @@ number_of None (Suspended import place) h = absurd (cc)
 
 -- the instruction takes the number that was given
 pub takes_number : (old new : Machine) (event : Event) (f : Func) (number : ℤ) → old.doing ≡ NeedsNumber → IsIn old f → slice_get f.ops old.frame.next ≡ Some ops.NextInput →
-    GoesBy (push f (word number) old.frame.stack old.frame) (record old { doing = Running }) event new → TakesNumber old number event new
+    EventBy (push f (word number) old.frame.stack old.frame) (record old { doing = Running }) event new → TakesNumber old number event new
 takes_number old new event f number waits here stands goes = λ acts inputs events.
     let s = state_of old acts (number ∷ inputs) events in
     let line : move old.image old.settings s ≡ push f (word number) old.frame.stack old.frame (state_of (record old { doing = Running }) acts inputs events) = rw (waits, here, stands) refl in
     subst (λ step. Gives TellsStep acts inputs events step old event new) (sym line) (gives_at TellsStep acts inputs events _ old (record old { doing = Running }) new event refl refl (goes acts inputs events))
 
 pub takes_no_number : (old new : Machine) (event : Event) (f : Func) (number : ℤ) → number ≡ pos 0 → old.doing ≡ NeedsNumber → IsIn old f → slice_get f.ops old.frame.next ≡ Some ops.NextInput →
-    GoesBy (push f (word number) old.frame.stack old.frame) (record old { doing = Running }) event new → TakesNoNumber old event new
+    EventBy (push f (word number) old.frame.stack old.frame) (record old { doing = Running }) event new → TakesNoNumber old event new
 takes_no_number old new event f number zero waits here stands goes = λ acts events.
     let s = state_of old acts [] events in
     let line : move old.image old.settings s ≡ push f (word number) old.frame.stack old.frame (state_of (record old { doing = Running }) acts [] events) = rw (waits, here, stands, zero) refl in

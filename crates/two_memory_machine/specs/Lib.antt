@@ -3,6 +3,7 @@ pub mod CallStacks
 pub mod CallInsides
 pub mod Machines
 pub mod Insides
+pub mod Families
 pub mod Steps
 pub mod Texts
 pub mod Faults

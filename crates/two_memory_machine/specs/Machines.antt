@@ -1,5 +1,5 @@
 -- A running image, as its callers see it, and what its calls do by the instruction table.
-use Rattle.std.specs.Prelude.{◌≡◌, ℕ, ◌+◌, Bool, true, false, List, [], ◌∷◌, ◌++◌, Option, Some, None, slice_get}
+use Rattle.std.specs.Prelude.{◌≡◌, ℕ, ◌+◌, ◌*◌, ◌<◌, ◌⊎◌, Bool, true, false, List, [], ◌∷◌, ◌++◌, Option, Some, None, slice_get}
 use Rattle.std.proofs.Common.{ℤ}
 use Rattle.ckc_text.specs.declared.place.Place.{Place}
 use Rattle.act_words.specs.declared.act.Turn.{Turn}
@@ -17,6 +17,8 @@ use Rattle.code_words.specs.declared.image.Func.{Func}
 use Rattle.code_words.specs.declared.image.Image.{Image}
 use Rattle.code_words.specs.Table.{Frame, Caller, Waits, Touch, Control, Runs, Touches, Away, State, Step, Goes, Over}
 use Rattle.code_words.specs.Moves.{move}
+use Rattle.code_words.specs.Left as left
+use Rattle.code_words.specs.Left.{LeavesTurn}
 use Rattle.code_words.specs.Runs.{started}
 use Rattle.two_memory_machine.specs.declared.event.Event.{Event}
 use Rattle.two_memory_machine.specs.declared.event.Event.TheVariants.{Ran, Asks, Input, Out, Showed, Touched, Ended}
@@ -203,6 +205,24 @@ abbrev pub TakesEnd : Machine → Event → Machine → Type 0
 TakesEnd old event new =
     (inputs : List ℤ) (events : List World.Event) →
     Gives TellsAct [] inputs (events ++ NoAct (turn_of old.doing) ∷ []) (move old.image old.settings (state_of old [] inputs events)) old event new
+
+-- ---- the end of a run
+
+-- an instruction may be begun before its number is given
+abbrev pub left_for : Option Ending → Doing → ℕ → ℕ
+left_for (Some ending) doing moves = 0
+left_for None Running moves = 2 * moves + 1
+left_for None NeedsNumber moves = 2 * moves
+left_for None (Touching touch) moves = 2 * moves
+left_for None (Suspended import place) moves = 2 * moves
+
+-- how many calls of the machine can still change it at most, until its run is over
+unfoldable pub moves_left : Machine → ℕ
+moves_left m = left_for m.over m.doing (left.moves_left m.image m.settings (state_of m [] [] []))
+
+-- fewer moves are left behind an act, or as many, where the act leaves the turn; then the machine waits for the next one
+abbrev pub Sooner : Act → Machine → Machine → Type 0
+Sooner act old new = (moves_left new < moves_left old) ⊎ ((moves_left new ≡ moves_left old) × (waiting_of new ≡ waiting.Act) × LeavesTurn act (turn_of old.doing))
 
 -- ---- what can be looked at
 

@@ -13,29 +13,60 @@ use Rattle.act_words.specs.Acting.{bytes_at, stopped_by_act}
 use Rattle.act_words.specs.Checks.{Checked, Holds, Fails}
 use Rattle.code_words.specs.declared.op.Op.{Op}
 use Rattle.code_words.specs.declared.image.Func.{Func}
-use Rattle.code_words.specs.Table.{State, Step, Goes, Over, act}
+use Rattle.code_words.specs.Table.{Touch, State, Step, Goes, Over, act}
 use Rattle.code_words.specs.Moves.{in_world}
 use Rattle.two_memory_machine.specs.declared.event.Event.{Event}
-use Rattle.two_memory_machine.specs.declared.event.Event.TheVariants.{Input, Ended}
-use Rattle.two_memory_machine.specs.Machines.{Machine, Doing, Running, NeedsNumber, Touching, Suspended, Gives, TellsStep, TellsAct, state_of, is_input}
+use Rattle.two_memory_machine.specs.declared.outcome.Outcome.{Outcome}
+use Rattle.two_memory_machine.specs.declared.outcome.Outcome.TheVariants as outcomes
+use Rattle.two_memory_machine.specs.declared.event.Event.TheVariants.{Ran, Asks, Input, Ended}
+use Rattle.two_memory_machine.specs.Machines.{Machine, Doing, Running, NeedsNumber, Touching, Suspended, Gives, TellsStep, TellsAct, IsOfSame, state_of, world_of, is_input}
+
+-- the step goes as a line of the table, and an event tells it
+abbrev pub EventBy : (State → Step) → Machine → Event → Machine → Type 0
+EventBy line old event new =
+    (acts : List Act) (inputs : List ℤ) (events : List World.Event) → Gives TellsStep acts inputs events (line (state_of old acts inputs events)) old event new
+
+-- an instruction that doesn't end the run goes on to the next one, or its touch waits from now on
+abbrev pub IsLeft : Outcome → Doing → Type 0
+IsLeft outcomes.Ran doing = doing ≡ Running
+IsLeft outcomes.Asks doing = (touch : Touch) × (doing ≡ Touching touch)
+IsLeft outcomes.Ended doing = ⊥
+
+-- with these acts, inputs and events, a move of the table leads to the machine's new state, or ends the run as the machine
+-- does, with the same memories, and adds no event
+abbrev pub Brings : List Act → List ℤ → List World.Event → Step → Machine → Outcome → Machine → Type 0
+Brings acts inputs events (Goes s) old outcome new =
+    (s ≡ state_of new acts inputs events) × IsLeft outcome new.doing × (new.over ≡ None) × IsOfSame old new
+Brings acts inputs events (Over ending s) old outcome new =
+    (outcome ≡ outcomes.Ended) × (new.over ≡ Some ending) × (s.memory ≡ new.memory) × (s.blocks ≡ new.blocks) × (s.world ≡ world_of new acts inputs events) × IsOfSame old new
 
 -- the step goes as a line of the table, whichever acts and inputs are left and whatever came before
-abbrev pub GoesBy : (State → Step) → Machine → Event → Machine → Type 0
-GoesBy line old event new =
-    (acts : List Act) (inputs : List ℤ) (events : List World.Event) → Gives TellsStep acts inputs events (line (state_of old acts inputs events)) old event new
+abbrev pub GoesBy : (State → Step) → Machine → Outcome → Machine → Type 0
+GoesBy line old outcome new =
+    (acts : List Act) (inputs : List ℤ) (events : List World.Event) → Brings acts inputs events (line (state_of old acts inputs events)) old outcome new
+
+-- what an outcome tells: where it ended the run, the machine has the ending
+abbrev pub event_of : Outcome → Option Ending → Event
+event_of outcomes.Ran over = Ran
+event_of outcomes.Asks over = Asks
+event_of outcomes.Ended None = Ran
+event_of outcomes.Ended (Some ending) = Ended ending
 
 -- the innermost call is one of this function
 abbrev pub IsIn : Machine → Func → Type 0
 IsIn m f = slice_get m.image.trusted.funs m.frame.function ≡ Some f
 
 -- the step is the line of an instruction
-abbrev pub Acts : Op → Machine → Event → Machine → Type 0
-Acts op old event new = (f : Func) → IsIn old f → GoesBy (act old.image old.settings f op old.frame) old event new
+abbrev pub Tells : Op → Machine → Event → Machine → Type 0
+Tells op old event new = (f : Func) → IsIn old f → EventBy (act old.image old.settings f op old.frame) old event new
+
+abbrev pub Acts : Op → Machine → Outcome → Machine → Type 0
+Acts op old outcome new = (f : Func) → IsIn old f → GoesBy (act old.image old.settings f op old.frame) old outcome new
 
 -- the same, but where the instruction takes an input number, which it waits for
 abbrev pub PerformsIf : Bool → Op → Machine → Event → Machine → Type 0
 PerformsIf true op old event new = (event ≡ Input) × (new ≡ record old { doing = NeedsNumber })
-PerformsIf false op old event new = Acts op old event new
+PerformsIf false op old event new = Tells op old event new
 
 abbrev pub Performs : Op → Machine → Event → Machine → Type 0
 Performs op old event new = PerformsIf (is_input (Some op)) op old event new
@@ -55,6 +86,9 @@ two_topmost (right ∷ left ∷ below) = Some (left, right)
 -- the run ends so, and nothing else changes
 abbrev pub EndsBy : Machine → Ending → Event → Machine → Type 0
 EndsBy old ending event new = (event ≡ Ended ending) × (new ≡ record old { over = Some ending })
+
+abbrev pub StopsBy : Machine → Ending → Outcome → Machine → Type 0
+StopsBy old ending outcome new = (outcome ≡ outcomes.Ended) × (new ≡ record old { over = Some ending })
 
 -- the number, or how the check of it fails
 abbrev pub checked_of : Result ℤ Ending → Checked ℤ

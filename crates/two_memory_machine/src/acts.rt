@@ -9,7 +9,7 @@ ghost use Rattle.act_words.specs.declared.act.Turn.TheVariants as turns;
 ghost use Rattle.code_words.specs.Table.{Touch, Loads, Stores, Passes, Replies, Over};
 ghost use Rattle.code_words.specs.Moves.{make_touch, before_touch_by, in_sandbox_by, answer, call_back, in_world};
 ghost use Rattle.two_memory_machine.specs.Machines.{Touching};
-ghost use Rattle.two_memory_machine.specs.Steps.{MovesBy, IsSuspended, moved_if, bytes_if, EndsBy};
+ghost use Rattle.two_memory_machine.specs.Steps.{MovesBy, IsSuspended, moved_if, bytes_if, EndsBy, EventBy};
 
 use crate::calls::{Link, MAX_DEPTH};
 use crate::event::Event;
@@ -232,6 +232,7 @@ impl<'a> Machine<'a> {
     pub(crate) fn end_move(&mut self, ending: Ending) -> Event
         ensures ends { EndsBy self.old ending result self.new }
         ensures line { MovesBy (Over ending) self.old result self.new }
+        ensures step { EventBy (Over ending) self.old result self.new }
     {
         self.over = Some(ending);
         Event::Ended { ending }

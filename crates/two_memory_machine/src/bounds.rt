@@ -7,8 +7,8 @@ ghost use Rattle.act_words.specs.Numbers.{signed};
 ghost use Rattle.code_words.specs.Table.{place_at, end_of, is_in, is_up_to, same_number, contains};
 ghost use Rattle.two_memory_machine.specs.Steps.{Acts, IsReady};
 
-use crate::event::Event;
 use crate::machine::Machine;
+use crate::outcome::Outcome;
 use ckc_text::code::Code;
 use ckc_text::place::Place;
 use code_words::op::Op;
@@ -135,7 +135,7 @@ impl Ends {
 
 impl<'a> Machine<'a> {
     // Goes on if the topmost word isn't 0 (C1).
-    pub(crate) fn non_null(&mut self, place: Place) -> Event
+    pub(crate) fn non_null(&mut self, place: Place) -> Outcome
         requires { IsReady self.old }
         ensures { Acts (Op.NonNull place) self.old result self.new }
     {
@@ -152,7 +152,7 @@ impl<'a> Machine<'a> {
         high_plus: i64,
         size: u32,
         place: Place,
-    ) -> Event
+    ) -> Outcome
         requires { IsReady self.old }
         ensures { Acts (Op.In low_plus high_plus size place) self.old result self.new }
     {
@@ -178,7 +178,7 @@ impl<'a> Machine<'a> {
         high_plus: i64,
         size: u32,
         place: Place,
-    ) -> Event
+    ) -> Outcome
         requires { IsReady self.old }
         ensures { Acts (Op.UpTo low_plus high_plus size place) self.old result self.new }
     {
@@ -198,7 +198,7 @@ impl<'a> Machine<'a> {
     }
 
     // Goes on if the value is 0 or the element doesn't lie at the upper end (C3).
-    pub(crate) fn check_term(&mut self, high_plus: i64, size: u32, place: Place) -> Event
+    pub(crate) fn check_term(&mut self, high_plus: i64, size: u32, place: Place) -> Outcome
         requires { IsReady self.old }
         ensures { Acts (Op.Term high_plus size place) self.old result self.new }
     {
@@ -226,7 +226,7 @@ impl<'a> Machine<'a> {
         new_high: i64,
         size: u32,
         place: Place,
-    ) -> Event
+    ) -> Outcome
         requires { IsReady self.old }
         ensures { Acts (Op.Contain old_low old_high new_low new_high size place) self.old result self.new }
     {
@@ -262,7 +262,7 @@ impl<'a> Machine<'a> {
         size: u32,
         more: u32,
         place: Place,
-    ) -> Event
+    ) -> Outcome
         requires { IsReady self.old }
         ensures { Acts (Op.Lies low_plus high_plus size more place) self.old result self.new }
     {
@@ -283,7 +283,7 @@ impl<'a> Machine<'a> {
     }
 
     // Goes on if the bytes from the topmost word on lie in the sandbox's memory (C4).
-    pub(crate) fn check_range(&mut self, offset: u32, len: u32, place: Place) -> Event
+    pub(crate) fn check_range(&mut self, offset: u32, len: u32, place: Place) -> Outcome
         requires { IsReady self.old }
         ensures { Acts (Op.Range offset len place) self.old result self.new }
     {

@@ -8,14 +8,15 @@ ghost use Rattle.trusted_memory.specs.Memories.{byte_of};
 ghost use Rattle.code_words.specs.Fitting.{Fits};
 ghost use Rattle.code_words.specs.declared.image.Func.{Func as FuncData};
 ghost use Rattle.code_words.specs.Table.{Over, wild, pop, pop_2, on_with, push, push_some, push_checked, check, load, store};
-ghost use Rattle.two_memory_machine.specs.Machines.{IsStart, waiting_of, turn_of, next_op_of, Steps, TakesAct, TakesEnd, TakesNumber, TakesNoNumber, ending_given, block_of};
-ghost use Rattle.two_memory_machine.specs.Steps.{GoesBy, IsIn, Acts, Performs, IsReady, EndsBy, two_topmost, four_topmost, five_topmost, seven_topmost, top_words_of, checked_of};
+ghost use Rattle.two_memory_machine.specs.Machines.{IsStart, waiting_of, turn_of, Steps, TakesAct, TakesEnd, TakesNumber, TakesNoNumber, ending_given, moves_left, Sooner, block_of};
+ghost use Rattle.two_memory_machine.specs.Steps.{GoesBy, IsIn, Acts, IsReady, StopsBy, event_of, two_topmost, four_topmost, five_topmost, seven_topmost, top_words_of, checked_of};
 
-use crate::acts::SANDBOX_ENDED;
+use crate::acts::{SANDBOX_ENDED, WILD};
 use crate::calls::CallWords;
 use crate::event::{Event, Waiting};
 use crate::memory;
 use crate::memory::BlockRow;
+use crate::outcome::Outcome;
 use act_words::act::{Act, Turn};
 use act_words::ending::Ending;
 use act_words::octets::Octets;
@@ -135,18 +136,17 @@ impl<'a> Machine<'a> {
     pub fn waiting(&self) -> Waiting
         ensures { result ≡ waiting_of self.now }
     {
-        match (self.over, self.phase) {
-            (Some(_), _) => Waiting::Over,
-            (None, Phase::Running) => Waiting::Runs,
-            (None, Phase::NeedsNumber) => Waiting::Number,
-            (None, Phase::Touching { touch: _ })
-            | (
-                None,
-                Phase::Suspended {
-                    import: _,
-                    place: _,
-                },
-            ) => Waiting::Act,
+        if self.over.is_some() {
+            return Waiting::Over;
+        }
+        match &self.phase {
+            Phase::Running => Waiting::Runs,
+            Phase::NeedsNumber => Waiting::Number,
+            Phase::Touching { touch: _ }
+            | Phase::Suspended {
+                import: _,
+                place: _,
+            } => Waiting::Act,
         }
     }
 
@@ -168,10 +168,19 @@ impl<'a> Machine<'a> {
         requires { waiting_of self.old ≡ Waiting.Runs }
         ensures steps { Steps self.old result self.new }
         ensures over { self.new.over ≡ ending_given result }
+        ensures sooner { moves_left self.new < moves_left self.old }
     {
-        match self.calls.op() {
-            Some(op) => self.perform(op),
-            None => self.end_wild(),
+        let Some(op) = self.calls.op() else {
+            return self.end_move(WILD);
+        };
+        match op {
+            Op::NextInput => self.next_input(),
+            Op::Print => self.print(),
+            Op::PutByte => self.put_byte(),
+            _ => {
+                let outcome = self.perform(op);
+                self.event(outcome)
+            }
         }
     }
 
@@ -180,6 +189,7 @@ impl<'a> Machine<'a> {
         requires { waiting_of self.old ≡ Waiting.Act }
         ensures takes { TakesAct self.old (act_view act.now) result self.new }
         ensures over { self.new.over ≡ ending_given result }
+        ensures sooner { Sooner (act_view act.now) self.old self.new }
     {
         self.taken = self.taken.saturating_add(1);
         match self.phase {
@@ -197,6 +207,7 @@ impl<'a> Machine<'a> {
         requires { waiting_of self.old ≡ Waiting.Act }
         ensures takes { TakesEnd self.old result self.new }
         ensures over { self.new.over ≡ ending_given result }
+        ensures sooner { moves_left self.new < moves_left self.old }
     {
         match self.phase {
             Phase::Touching { touch: _ } => self.make_touch(),
@@ -214,14 +225,17 @@ impl<'a> Machine<'a> {
         ensures takes { TakesNumber self.old number result self.new }
         ensures none { number ≡ pos 0 → TakesNoNumber self.old result self.new }
         ensures over { self.new.over ≡ ending_given result }
+        ensures sooner { moves_left self.new < moves_left self.old }
     {
         self.phase = Phase::Running;
-        self.push(0, number.cast_unsigned())
+        let outcome = self.push(0, number.cast_unsigned());
+        self.event(outcome)
     }
 
     /// The address and the length of a block of trusted memory, or None past the last.
     pub fn block(&self, k: u32) -> Option<(u32, u32)>
-        ensures { result ≡ block_of self.now k }
+        ensures block { result ≡ block_of self.now k }
+        ensures before_end { IfSome result (λ _. k + 1 < 2 ^ 32) }
     {
         let block = self.blocks[..self.made].get(k as usize)?;
         Some((self.settings.base + block.offset, block.bytes))
@@ -229,115 +243,25 @@ impl<'a> Machine<'a> {
 
     /// The byte at an address of trusted memory, or None outside it.
     pub fn byte(&self, at: u32) -> Option<u8>
-        ensures { result ≡ byte_of self.now.memory at }
+        ensures byte { result ≡ byte_of self.now.memory at }
+        ensures before_end { IfSome result (λ _. at + 1 < 2 ^ 32) }
     {
         self.memory.byte(at)
     }
 
-    // Makes the step of an instruction.
-    fn perform(&mut self, op: &Op) -> Event
-        requires ready { IsReady self.old }
-        requires there { next_op_of self.old ≡ Some op.now }
-        ensures { Performs op.now self.old result self.new }
+    // What an instruction tells.
+    fn event(&self, outcome: Outcome) -> Event
+        ensures { result ≡ event_of outcome self.now.over }
     {
-        match op {
-            Op::Const(number) => self.push(0, number.cast_unsigned()),
-            Op::Local(slot) => self.local(*slot),
-            Op::Set(slot) => self.set(*slot),
-            Op::Discard => self.discard(),
-            Op::Duplicate => self.duplicate(),
-            Op::BlockAddress(k) => self.block_address(*k),
-            Op::BlockOffset(k) => self.block_offset(*k),
-            Op::Add { place } => self.add(*place),
-            Op::Sub { place } => self.subtract(*place),
-            Op::Mul { place } => self.multiply(*place),
-            Op::Div { place } => self.divide(*place),
-            Op::Rem { place } => self.remainder(*place),
-            Op::Neg { place } => self.negate(*place),
-            Op::Shl { place } => self.shift_left(*place),
-            Op::Shr { place } => self.shift_right(*place),
-            Op::WrapAdd => self.wrapping_add(),
-            Op::WrapSub => self.wrapping_subtract(),
-            Op::WrapMul => self.wrapping_multiply(),
-            Op::WrapNeg => self.wrapping_negate(),
-            Op::WrapShl => self.wrapping_shift_left(),
-            Op::WrapShr => self.wrapping_shift_right(),
-            Op::WrapDiv | Op::WrapRem => self.end_wild(),
-            Op::And => self.and(),
-            Op::Or => self.or(),
-            Op::Xor => self.xor(),
-            Op::Not => self.complement(),
-            Op::Equal => self.equal(),
-            Op::NotEqual => self.not_equal(),
-            Op::Less => self.less(),
-            Op::LessEqual => self.less_equal(),
-            Op::Greater => self.greater(),
-            Op::GreaterEqual => self.greater_equal(),
-            Op::UnsignedLess => self.unsigned_less(),
-            Op::UnsignedLessEqual => self.unsigned_less_equal(),
-            Op::UnsignedGreater => self.unsigned_greater(),
-            Op::UnsignedGreaterEqual => self.unsigned_greater_equal(),
-            Op::Zero => self.is_zero(),
-            Op::Byte => self.low_byte(),
-            Op::Index { size } => self.index(*size),
-            Op::NonNull { place } => self.non_null(*place),
-            Op::In {
-                low,
-                high,
-                size,
-                place,
-            } => self.check_in(*low, *high, *size, *place),
-            Op::UpTo {
-                low,
-                high,
-                size,
-                place,
-            } => self.check_up_to(*low, *high, *size, *place),
-            Op::Term { high, size, place } => self.check_term(*high, *size, *place),
-            Op::Contain {
-                old_low,
-                old_high,
-                new_low,
-                new_high,
-                size,
-                place,
-            } => self.check_contain(*old_low, *old_high, *new_low, *new_high, *size, *place),
-            Op::Lies {
-                low,
-                high,
-                size,
-                more,
-                place,
-            } => self.check_lies(*low, *high, *size, *more, *place),
-            Op::Range { offset, len, place } => self.check_range(*offset, *len, *place),
-            Op::Load1 => self.load_1(),
-            Op::Load4 => self.load_4(),
-            Op::Store1 => self.store_1(),
-            Op::Store4 => self.store_4(),
-            Op::TouchLoad1 => self.touch_load_1(),
-            Op::TouchLoad4 => self.touch_load_4(),
-            Op::TouchStore1 => self.touch_store_1(),
-            Op::TouchStore4 => self.touch_store_4(),
-            Op::Jump(target) => self.jump(*target),
-            Op::JumpIfZero(target) => self.jump_if_zero(*target),
-            Op::Call(k) => self.call(*k),
-            Op::TaintedCall { import, place } => self.call_tainted(*import, *place),
-            Op::CallBack(_) => self.end_wild(),
-            Op::Return => self.return_word(),
-            Op::ReturnNothing => self.return_nothing(),
-            Op::Tick => self.tick(),
-            Op::NextInput => self.next_input(),
-            Op::Print => self.print(),
-            Op::PutByte => self.put_byte(),
-            Op::Alloc { size } => self.alloc(*size),
-            Op::AllocTerminated { size } => self.alloc_terminated(*size),
-            Op::SandboxAlloc { size } => self.sandbox_alloc(*size),
-            Op::TextLength => self.text_length(),
+        match (outcome, self.over) {
+            (Outcome::Ran, _) | (Outcome::Ended, None) => Event::Ran,
+            (Outcome::Asks, _) => Event::Asks,
+            (Outcome::Ended, Some(ending)) => Event::Ended { ending },
         }
     }
 
     // Pops words, and pushes the number of a check that holds.
-    pub(crate) fn push_number(&mut self, popped: usize, number: Result<i32, Ending>) -> Event
+    pub(crate) fn push_number(&mut self, popped: usize, number: Result<i32, Ending>) -> Outcome
         requires ready { IsReady self.old }
         requires there { popped ≤ length self.old.frame.stack }
         ensures { (f : FuncData) → IsIn self.old f
@@ -351,7 +275,7 @@ impl<'a> Machine<'a> {
 
     // Pops words, and goes on where a check holds.
     #[tactic(auto, using(std::proofs::lemmas::Bool::Decides::nat_tests))]
-    pub(crate) fn check(&mut self, popped: usize, holds: bool, code: Code, place: Place) -> Event
+    pub(crate) fn check(&mut self, popped: usize, holds: bool, code: Code, place: Place) -> Outcome
         requires ready { IsReady self.old }
         requires there { popped ≤ length self.old.frame.stack }
         ensures { GoesBy (check holds code place (drop popped self.old.frame.stack) self.old.frame) self.old result self.new }
@@ -361,12 +285,12 @@ impl<'a> Machine<'a> {
         }
         self.calls.pop(popped);
         self.calls.advance();
-        Event::Ran
+        Outcome::Ran
     }
 
     // Pops a word into a slot.
     #[tactic(auto, using(std::proofs::lemmas::Bool::Decides::nat_tests))]
-    pub(crate) fn set(&mut self, slot: u32) -> Event
+    pub(crate) fn set(&mut self, slot: u32) -> Outcome
         requires { IsReady self.old }
         ensures { Acts (Op.Set slot) self.old result self.new }
     {
@@ -378,11 +302,11 @@ impl<'a> Machine<'a> {
         }
         self.calls.pop(1);
         self.calls.advance();
-        Event::Ran
+        Outcome::Ran
     }
 
     // Pushes the word of a slot.
-    pub(crate) fn local(&mut self, slot: u32) -> Event
+    pub(crate) fn local(&mut self, slot: u32) -> Outcome
         requires { IsReady self.old }
         ensures { Acts (Op.Local slot) self.old result self.new }
     {
@@ -391,7 +315,7 @@ impl<'a> Machine<'a> {
     }
 
     // Pushes the address of a static block of trusted memory.
-    pub(crate) fn block_address(&mut self, k: u32) -> Event
+    pub(crate) fn block_address(&mut self, k: u32) -> Outcome
         requires { IsReady self.old }
         ensures { Acts (Op.BlockAddress k) self.old result self.new }
     {
@@ -400,7 +324,7 @@ impl<'a> Machine<'a> {
     }
 
     // Pushes the offset of a static block of the sandbox's memory.
-    pub(crate) fn block_offset(&mut self, k: u32) -> Event
+    pub(crate) fn block_offset(&mut self, k: u32) -> Outcome
         requires { IsReady self.old }
         ensures { Acts (Op.BlockOffset k) self.old result self.new }
     {
@@ -409,7 +333,7 @@ impl<'a> Machine<'a> {
     }
 
     // Pops an address, and pushes the byte there.
-    fn load_1(&mut self) -> Event
+    pub(crate) fn load_1(&mut self) -> Outcome
         requires { IsReady self.old }
         ensures { Acts Op.Load1 self.old result self.new }
     {
@@ -417,7 +341,7 @@ impl<'a> Machine<'a> {
     }
 
     // Pops an address, and pushes the word there.
-    fn load_4(&mut self) -> Event
+    pub(crate) fn load_4(&mut self) -> Outcome
         requires { IsReady self.old }
         ensures { Acts Op.Load4 self.old result self.new }
     {
@@ -425,7 +349,7 @@ impl<'a> Machine<'a> {
     }
 
     // Pops a value and an address, and stores the lowest byte of the value there.
-    fn store_1(&mut self) -> Event
+    pub(crate) fn store_1(&mut self) -> Outcome
         requires { IsReady self.old }
         ensures { Acts Op.Store1 self.old result self.new }
     {
@@ -433,7 +357,7 @@ impl<'a> Machine<'a> {
     }
 
     // Pops a value and an address, and stores the value there.
-    fn store_4(&mut self) -> Event
+    pub(crate) fn store_4(&mut self) -> Outcome
         requires { IsReady self.old }
         ensures { Acts Op.Store4 self.old result self.new }
     {
@@ -441,7 +365,7 @@ impl<'a> Machine<'a> {
     }
 
     // Pops an address, and pushes the byte or the word there.
-    fn load(&mut self, len: u32) -> Event
+    fn load(&mut self, len: u32) -> Outcome
         requires ready { IsReady self.old }
         requires width { (len ≡ 1) ⊎ (len ≡ 4) }
         ensures { (f : FuncData) → IsIn self.old f
@@ -459,7 +383,7 @@ impl<'a> Machine<'a> {
 
     // Pops a value and an address, and stores the lowest byte or all of the value there.
     #[tactic(auto, using(std::proofs::lemmas::Bool::Decides::nat_tests))]
-    fn store(&mut self, len: u32) -> Event
+    fn store(&mut self, len: u32) -> Outcome
         requires ready { IsReady self.old }
         requires width { (len ≡ 1) ⊎ (len ≡ 4) }
         ensures { GoesBy
@@ -475,23 +399,23 @@ impl<'a> Machine<'a> {
         self.memory.store(address, len, word);
         self.calls.pop(2);
         self.calls.advance();
-        Event::Ran
+        Outcome::Ran
     }
 
     // Goes on at an instruction of the same function.
-    pub(crate) fn jump(&mut self, target: u32) -> Event
+    pub(crate) fn jump(&mut self, target: u32) -> Outcome
         requires { IsReady self.old }
         ensures { Acts (Op.Jump target) self.old result self.new }
     {
         if !self.calls.jump(target) {
             return self.end_wild();
         }
-        Event::Ran
+        Outcome::Ran
     }
 
     // Pops a word, and goes on there where it is 0.
     #[tactic(auto, using(std::proofs::lemmas::Bool::Decides::nat_tests))]
-    pub(crate) fn jump_if_zero(&mut self, target: u32) -> Event
+    pub(crate) fn jump_if_zero(&mut self, target: u32) -> Outcome
         requires { IsReady self.old }
         ensures { Acts (Op.JumpIfZero target) self.old result self.new }
     {
@@ -501,18 +425,18 @@ impl<'a> Machine<'a> {
         if word != 0 {
             self.calls.pop(1);
             self.calls.advance();
-            return Event::Ran;
+            return Outcome::Ran;
         }
         if !self.calls.jump(target) {
             return self.end_wild();
         }
         self.calls.pop(1);
-        Event::Ran
+        Outcome::Ran
     }
 
     // Spends a tick.
     #[tactic(auto, using(std::proofs::lemmas::Bool::Decides::nat_tests))]
-    pub(crate) fn tick(&mut self) -> Event
+    pub(crate) fn tick(&mut self) -> Outcome
         requires { IsReady self.old }
         ensures { Acts Op.Tick self.old result self.new }
     {
@@ -524,11 +448,11 @@ impl<'a> Machine<'a> {
         }
         self.ticks += 1;
         self.calls.advance();
-        Event::Ran
+        Outcome::Ran
     }
 
     // Pushes what is there.
-    pub(crate) fn push_some(&mut self, word: Option<u32>) -> Event
+    pub(crate) fn push_some(&mut self, word: Option<u32>) -> Outcome
         requires { IsReady self.old }
         ensures { (f : FuncData) → IsIn self.old f
             → GoesBy (push_some f word self.old.frame.stack self.old.frame) self.old result self.new }
@@ -540,7 +464,7 @@ impl<'a> Machine<'a> {
     }
 
     // Pops words, pushes a word if there is room for it then, and goes on to the next instruction.
-    pub(crate) fn push(&mut self, popped: usize, word: u32) -> Event
+    pub(crate) fn push(&mut self, popped: usize, word: u32) -> Outcome
         requires ready { IsReady self.old }
         requires there { popped ≤ length self.old.frame.stack }
         ensures { (f : FuncData) → IsIn self.old f
@@ -550,23 +474,23 @@ impl<'a> Machine<'a> {
             return self.end_wild();
         }
         self.calls.advance();
-        Event::Ran
+        Outcome::Ran
     }
 
     // Pops words, and goes on to the next instruction.
-    pub(crate) fn go_on(&mut self, popped: usize) -> Event
+    pub(crate) fn go_on(&mut self, popped: usize) -> Outcome
         requires ready { IsReady self.old }
         requires there { popped ≤ length self.old.frame.stack }
         ensures { GoesBy (on_with self.old.frame (drop popped self.old.frame.stack)) self.old result self.new }
     {
         self.calls.pop(popped);
         self.calls.advance();
-        Event::Ran
+        Outcome::Ran
     }
 
     // Ends the run, since no line of the table has a result.
-    pub(crate) fn end_wild(&mut self) -> Event
-        ensures ends { EndsBy self.old (Ending.Stop Code.S6 None) result self.new }
+    pub(crate) fn end_wild(&mut self) -> Outcome
+        ensures ends { StopsBy self.old (Ending.Stop Code.S6 None) result self.new }
         ensures line { GoesBy wild self.old result self.new }
     {
         self.end(Ending::Stop {
@@ -576,12 +500,12 @@ impl<'a> Machine<'a> {
     }
 
     // Ends the run.
-    pub(crate) fn end(&mut self, ending: Ending) -> Event
-        ensures ends { EndsBy self.old ending result self.new }
+    pub(crate) fn end(&mut self, ending: Ending) -> Outcome
+        ensures ends { StopsBy self.old ending result self.new }
         ensures line { GoesBy (Over ending) self.old result self.new }
     {
         self.over = Some(ending);
-        Event::Ended { ending }
+        Outcome::Ended
     }
 
     // The topmost word, if there is one.

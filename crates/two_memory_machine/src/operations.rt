@@ -4,14 +4,14 @@ ghost use Rattle.std.specs.Prelude.{◌≡◌};
 ghost use Rattle.two_memory_machine.specs.Steps.{Acts, IsReady};
 
 use crate::arithmetic;
-use crate::event::Event;
 use crate::machine::Machine;
+use crate::outcome::Outcome;
 use ckc_text::place::Place;
 use code_words::op::Op;
 
 impl<'a> Machine<'a> {
     // Pops two numbers, and pushes their sum.
-    pub(crate) fn add(&mut self, place: Place) -> Event
+    pub(crate) fn add(&mut self, place: Place) -> Outcome
         requires { IsReady self.old }
         ensures { Acts (Op.Add place) self.old result self.new }
     {
@@ -23,7 +23,7 @@ impl<'a> Machine<'a> {
     }
 
     // Pops two numbers, and pushes their difference.
-    pub(crate) fn subtract(&mut self, place: Place) -> Event
+    pub(crate) fn subtract(&mut self, place: Place) -> Outcome
         requires { IsReady self.old }
         ensures { Acts (Op.Sub place) self.old result self.new }
     {
@@ -35,7 +35,7 @@ impl<'a> Machine<'a> {
     }
 
     // Pops two numbers, and pushes their product.
-    pub(crate) fn multiply(&mut self, place: Place) -> Event
+    pub(crate) fn multiply(&mut self, place: Place) -> Outcome
         requires { IsReady self.old }
         ensures { Acts (Op.Mul place) self.old result self.new }
     {
@@ -47,7 +47,7 @@ impl<'a> Machine<'a> {
     }
 
     // Pops two numbers, and pushes their quotient.
-    pub(crate) fn divide(&mut self, place: Place) -> Event
+    pub(crate) fn divide(&mut self, place: Place) -> Outcome
         requires { IsReady self.old }
         ensures { Acts (Op.Div place) self.old result self.new }
     {
@@ -59,7 +59,7 @@ impl<'a> Machine<'a> {
     }
 
     // Pops two numbers, and pushes their remainder.
-    pub(crate) fn remainder(&mut self, place: Place) -> Event
+    pub(crate) fn remainder(&mut self, place: Place) -> Outcome
         requires { IsReady self.old }
         ensures { Acts (Op.Rem place) self.old result self.new }
     {
@@ -71,7 +71,7 @@ impl<'a> Machine<'a> {
     }
 
     // Pops two numbers, and pushes their shifted number.
-    pub(crate) fn shift_left(&mut self, place: Place) -> Event
+    pub(crate) fn shift_left(&mut self, place: Place) -> Outcome
         requires { IsReady self.old }
         ensures { Acts (Op.Shl place) self.old result self.new }
     {
@@ -83,7 +83,7 @@ impl<'a> Machine<'a> {
     }
 
     // Pops two numbers, and pushes their shifted number.
-    pub(crate) fn shift_right(&mut self, place: Place) -> Event
+    pub(crate) fn shift_right(&mut self, place: Place) -> Outcome
         requires { IsReady self.old }
         ensures { Acts (Op.Shr place) self.old result self.new }
     {
@@ -95,7 +95,7 @@ impl<'a> Machine<'a> {
     }
 
     // Pops a number, and pushes it negated.
-    pub(crate) fn negate(&mut self, place: Place) -> Event
+    pub(crate) fn negate(&mut self, place: Place) -> Outcome
         requires { IsReady self.old }
         ensures { Acts (Op.Neg place) self.old result self.new }
     {
@@ -107,7 +107,7 @@ impl<'a> Machine<'a> {
     }
 
     // Pops an address and an index, and pushes the address of the element.
-    pub(crate) fn index(&mut self, size: u32) -> Event
+    pub(crate) fn index(&mut self, size: u32) -> Outcome
         requires { IsReady self.old }
         ensures { Acts (Op.Index size) self.old result self.new }
     {
@@ -119,7 +119,7 @@ impl<'a> Machine<'a> {
     }
 
     // Pushes the topmost word again.
-    pub(crate) fn duplicate(&mut self) -> Event
+    pub(crate) fn duplicate(&mut self) -> Outcome
         requires { IsReady self.old }
         ensures { Acts Op.Duplicate self.old result self.new }
     {
@@ -130,7 +130,7 @@ impl<'a> Machine<'a> {
     }
 
     // Pops a word.
-    pub(crate) fn discard(&mut self) -> Event
+    pub(crate) fn discard(&mut self) -> Outcome
         requires { IsReady self.old }
         ensures { Acts Op.Discard self.old result self.new }
     {
@@ -141,7 +141,7 @@ impl<'a> Machine<'a> {
     }
 
     // Pops a word, and pushes the negated word.
-    pub(crate) fn wrapping_negate(&mut self) -> Event
+    pub(crate) fn wrapping_negate(&mut self) -> Outcome
         requires { IsReady self.old }
         ensures { Acts Op.WrapNeg self.old result self.new }
     {
@@ -152,7 +152,7 @@ impl<'a> Machine<'a> {
     }
 
     // Pops a word, and pushes the word with each bit turned.
-    pub(crate) fn complement(&mut self) -> Event
+    pub(crate) fn complement(&mut self) -> Outcome
         requires { IsReady self.old }
         ensures { Acts Op.Not self.old result self.new }
     {
@@ -163,7 +163,7 @@ impl<'a> Machine<'a> {
     }
 
     // Pops a word, and pushes whether it is 0.
-    pub(crate) fn is_zero(&mut self) -> Event
+    pub(crate) fn is_zero(&mut self) -> Outcome
         requires { IsReady self.old }
         ensures { Acts Op.Zero self.old result self.new }
     {
@@ -174,7 +174,7 @@ impl<'a> Machine<'a> {
     }
 
     // Pops a word, and pushes its lowest byte.
-    pub(crate) fn low_byte(&mut self) -> Event
+    pub(crate) fn low_byte(&mut self) -> Outcome
         requires { IsReady self.old }
         ensures { Acts Op.Byte self.old result self.new }
     {
@@ -185,7 +185,7 @@ impl<'a> Machine<'a> {
     }
 
     // Pops two words, and pushes their sum modulo 2^32.
-    pub(crate) fn wrapping_add(&mut self) -> Event
+    pub(crate) fn wrapping_add(&mut self) -> Outcome
         requires { IsReady self.old }
         ensures { Acts Op.WrapAdd self.old result self.new }
     {
@@ -196,7 +196,7 @@ impl<'a> Machine<'a> {
     }
 
     // Pops two words, and pushes their difference modulo 2^32.
-    pub(crate) fn wrapping_subtract(&mut self) -> Event
+    pub(crate) fn wrapping_subtract(&mut self) -> Outcome
         requires { IsReady self.old }
         ensures { Acts Op.WrapSub self.old result self.new }
     {
@@ -207,7 +207,7 @@ impl<'a> Machine<'a> {
     }
 
     // Pops two words, and pushes their product modulo 2^32.
-    pub(crate) fn wrapping_multiply(&mut self) -> Event
+    pub(crate) fn wrapping_multiply(&mut self) -> Outcome
         requires { IsReady self.old }
         ensures { Acts Op.WrapMul self.old result self.new }
     {
@@ -218,7 +218,7 @@ impl<'a> Machine<'a> {
     }
 
     // Pops two words, and pushes the lower one shifted left.
-    pub(crate) fn wrapping_shift_left(&mut self) -> Event
+    pub(crate) fn wrapping_shift_left(&mut self) -> Outcome
         requires { IsReady self.old }
         ensures { Acts Op.WrapShl self.old result self.new }
     {
@@ -229,7 +229,7 @@ impl<'a> Machine<'a> {
     }
 
     // Pops two words, and pushes the lower one shifted right.
-    pub(crate) fn wrapping_shift_right(&mut self) -> Event
+    pub(crate) fn wrapping_shift_right(&mut self) -> Outcome
         requires { IsReady self.old }
         ensures { Acts Op.WrapShr self.old result self.new }
     {
@@ -240,7 +240,7 @@ impl<'a> Machine<'a> {
     }
 
     // Pops two words, and pushes the bits that both have.
-    pub(crate) fn and(&mut self) -> Event
+    pub(crate) fn and(&mut self) -> Outcome
         requires { IsReady self.old }
         ensures { Acts Op.And self.old result self.new }
     {
@@ -251,7 +251,7 @@ impl<'a> Machine<'a> {
     }
 
     // Pops two words, and pushes the bits that one of them has.
-    pub(crate) fn or(&mut self) -> Event
+    pub(crate) fn or(&mut self) -> Outcome
         requires { IsReady self.old }
         ensures { Acts Op.Or self.old result self.new }
     {
@@ -262,7 +262,7 @@ impl<'a> Machine<'a> {
     }
 
     // Pops two words, and pushes the bits that just one of them has.
-    pub(crate) fn xor(&mut self) -> Event
+    pub(crate) fn xor(&mut self) -> Outcome
         requires { IsReady self.old }
         ensures { Acts Op.Xor self.old result self.new }
     {
@@ -273,7 +273,7 @@ impl<'a> Machine<'a> {
     }
 
     // Pops two words, and pushes whether they are equal.
-    pub(crate) fn equal(&mut self) -> Event
+    pub(crate) fn equal(&mut self) -> Outcome
         requires { IsReady self.old }
         ensures { Acts Op.Equal self.old result self.new }
     {
@@ -284,7 +284,7 @@ impl<'a> Machine<'a> {
     }
 
     // Pops two words, and pushes whether they differ.
-    pub(crate) fn not_equal(&mut self) -> Event
+    pub(crate) fn not_equal(&mut self) -> Outcome
         requires { IsReady self.old }
         ensures { Acts Op.NotEqual self.old result self.new }
     {
@@ -295,7 +295,7 @@ impl<'a> Machine<'a> {
     }
 
     // Pops two words, and pushes whether the lower number is the less.
-    pub(crate) fn less(&mut self) -> Event
+    pub(crate) fn less(&mut self) -> Outcome
         requires { IsReady self.old }
         ensures { Acts Op.Less self.old result self.new }
     {
@@ -306,7 +306,7 @@ impl<'a> Machine<'a> {
     }
 
     // Pops two words, and pushes whether the lower number is no more.
-    pub(crate) fn less_equal(&mut self) -> Event
+    pub(crate) fn less_equal(&mut self) -> Outcome
         requires { IsReady self.old }
         ensures { Acts Op.LessEqual self.old result self.new }
     {
@@ -317,7 +317,7 @@ impl<'a> Machine<'a> {
     }
 
     // Pops two words, and pushes whether the lower number is the greater.
-    pub(crate) fn greater(&mut self) -> Event
+    pub(crate) fn greater(&mut self) -> Outcome
         requires { IsReady self.old }
         ensures { Acts Op.Greater self.old result self.new }
     {
@@ -328,7 +328,7 @@ impl<'a> Machine<'a> {
     }
 
     // Pops two words, and pushes whether the lower number is no less.
-    pub(crate) fn greater_equal(&mut self) -> Event
+    pub(crate) fn greater_equal(&mut self) -> Outcome
         requires { IsReady self.old }
         ensures { Acts Op.GreaterEqual self.old result self.new }
     {
@@ -339,7 +339,7 @@ impl<'a> Machine<'a> {
     }
 
     // Pops two words, and pushes whether the lower word is the less.
-    pub(crate) fn unsigned_less(&mut self) -> Event
+    pub(crate) fn unsigned_less(&mut self) -> Outcome
         requires { IsReady self.old }
         ensures { Acts Op.UnsignedLess self.old result self.new }
     {
@@ -350,7 +350,7 @@ impl<'a> Machine<'a> {
     }
 
     // Pops two words, and pushes whether the lower word is no more.
-    pub(crate) fn unsigned_less_equal(&mut self) -> Event
+    pub(crate) fn unsigned_less_equal(&mut self) -> Outcome
         requires { IsReady self.old }
         ensures { Acts Op.UnsignedLessEqual self.old result self.new }
     {
@@ -361,7 +361,7 @@ impl<'a> Machine<'a> {
     }
 
     // Pops two words, and pushes whether the lower word is the greater.
-    pub(crate) fn unsigned_greater(&mut self) -> Event
+    pub(crate) fn unsigned_greater(&mut self) -> Outcome
         requires { IsReady self.old }
         ensures { Acts Op.UnsignedGreater self.old result self.new }
     {
@@ -372,7 +372,7 @@ impl<'a> Machine<'a> {
     }
 
     // Pops two words, and pushes whether the lower word is no less.
-    pub(crate) fn unsigned_greater_equal(&mut self) -> Event
+    pub(crate) fn unsigned_greater_equal(&mut self) -> Outcome
         requires { IsReady self.old }
         ensures { Acts Op.UnsignedGreaterEqual self.old result self.new }
     {

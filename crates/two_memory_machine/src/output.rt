@@ -8,11 +8,13 @@ ghost use Rattle.act_words.specs.Touches.{offset_unless};
 ghost use Rattle.code_words.specs.Table.{pop, allocate, blocks_made};
 ghost use Rattle.code_words.specs.declared.image.Func.{Func as FuncData};
 ghost use Rattle.two_memory_machine.specs.Machines.{next_op_of};
-ghost use Rattle.two_memory_machine.specs.Steps.{Acts, Performs, IsReady, IsIn, GoesBy};
+ghost use Rattle.two_memory_machine.specs.Steps.{Acts, Tells, Performs, IsReady, IsIn, GoesBy};
 
+use crate::acts::WILD;
 use crate::event::Event;
 use crate::machine::{Machine, Phase};
 use crate::memory::BlockRow;
+use crate::outcome::Outcome;
 use crate::texts;
 use crate::texts::TextEnd;
 use act_words::ending::Ending;
@@ -44,10 +46,10 @@ impl<'a> Machine<'a> {
     // Pops a number, and writes its line.
     pub(crate) fn print(&mut self) -> Event
         requires { IsReady self.old }
-        ensures { Acts Op.Print self.old result self.new }
+        ensures { Tells Op.Print self.old result self.new }
     {
         let Some(word) = self.word() else {
-            return self.end_wild();
+            return self.end_move(WILD);
         };
         let bytes = line_of(word.cast_signed());
         self.calls.pop(1);
@@ -58,10 +60,10 @@ impl<'a> Machine<'a> {
     // Pops a word, and writes its lowest byte.
     pub(crate) fn put_byte(&mut self) -> Event
         requires { IsReady self.old }
-        ensures { Acts Op.PutByte self.old result self.new }
+        ensures { Tells Op.PutByte self.old result self.new }
     {
         let Some(word) = self.word() else {
-            return self.end_wild();
+            return self.end_move(WILD);
         };
         let bytes = byte_of(word);
         self.calls.pop(1);
@@ -80,7 +82,7 @@ impl<'a> Machine<'a> {
     }
 
     // Pops a count, and pushes the address of a block of so many elements, or 0 where there are none.
-    pub(crate) fn alloc(&mut self, size: u32) -> Event
+    pub(crate) fn alloc(&mut self, size: u32) -> Outcome
         requires { IsReady self.old }
         ensures { Acts (Op.Alloc size) self.old result self.new }
     {
@@ -88,7 +90,7 @@ impl<'a> Machine<'a> {
     }
 
     // The same with one element more.
-    pub(crate) fn alloc_terminated(&mut self, size: u32) -> Event
+    pub(crate) fn alloc_terminated(&mut self, size: u32) -> Outcome
         requires { IsReady self.old }
         ensures { Acts (Op.AllocTerminated size) self.old result self.new }
     {
@@ -96,7 +98,7 @@ impl<'a> Machine<'a> {
     }
 
     // Pops a count, and pushes the address of a block of so many elements and some more, or 0 where there are none.
-    fn allocate(&mut self, size: u32, more: u32) -> Event
+    fn allocate(&mut self, size: u32, more: u32) -> Outcome
         requires ready { IsReady self.old }
         requires few { more ≤ 1 }
         ensures { (f : FuncData) → IsIn self.old f
@@ -113,7 +115,7 @@ impl<'a> Machine<'a> {
             return self.end_wild();
         }
         self.calls.advance();
-        Event::Ran
+        Outcome::Ran
     }
 
     // Makes a block of trusted memory, and gives its address, or 0 where it is refused.
@@ -137,7 +139,7 @@ impl<'a> Machine<'a> {
     }
 
     // Pops a count, and pushes the offset of a block of the sandbox's memory of so many elements, or 0 where there are none.
-    pub(crate) fn sandbox_alloc(&mut self, size: u32) -> Event
+    pub(crate) fn sandbox_alloc(&mut self, size: u32) -> Outcome
         requires { IsReady self.old }
         ensures { Acts (Op.SandboxAlloc size) self.old result self.new }
     {
@@ -152,11 +154,11 @@ impl<'a> Machine<'a> {
             return self.end_wild();
         }
         self.calls.advance();
-        Event::Ran
+        Outcome::Ran
     }
 
     // Pops an address, and pushes how many bytes stand before the first 0 from there; each spends a tick (S1).
-    pub(crate) fn text_length(&mut self) -> Event
+    pub(crate) fn text_length(&mut self) -> Outcome
         requires { IsReady self.old }
         ensures { Acts Op.TextLength self.old result self.new }
     {
@@ -179,7 +181,7 @@ impl<'a> Machine<'a> {
             return self.end_wild();
         }
         self.calls.advance();
-        Event::Ran
+        Outcome::Ran
     }
 
     // Makes a block of the sandbox's memory, and gives its offset, or 0 where it is refused.

@@ -5,8 +5,8 @@ ghost use Rattle.std.specs.Int.{to_le_bytes, w8, w32};
 ghost use Rattle.code_words.specs.Table.{pop, touch_if, is_touchable, Loads, Stores};
 ghost use Rattle.two_memory_machine.specs.Steps.{Acts, IsReady, GoesBy};
 
-use crate::event::Event;
 use crate::machine::{Machine, Pending, Phase};
+use crate::outcome::Outcome;
 use act_words::octets::Octets;
 use code_words::op::Op;
 
@@ -27,7 +27,7 @@ fn word_bytes(word: u32) -> Octets
 
 impl<'a> Machine<'a> {
     // A load of a byte waits.
-    pub(crate) fn touch_load_1(&mut self) -> Event
+    pub(crate) fn touch_load_1(&mut self) -> Outcome
         requires { IsReady self.old }
         ensures { Acts Op.TouchLoad1 self.old result self.new }
     {
@@ -35,7 +35,7 @@ impl<'a> Machine<'a> {
     }
 
     // A load of a word waits.
-    pub(crate) fn touch_load_4(&mut self) -> Event
+    pub(crate) fn touch_load_4(&mut self) -> Outcome
         requires { IsReady self.old }
         ensures { Acts Op.TouchLoad4 self.old result self.new }
     {
@@ -43,7 +43,7 @@ impl<'a> Machine<'a> {
     }
 
     // A store of a byte waits.
-    pub(crate) fn touch_store_1(&mut self) -> Event
+    pub(crate) fn touch_store_1(&mut self) -> Outcome
         requires { IsReady self.old }
         ensures { Acts Op.TouchStore1 self.old result self.new }
     {
@@ -54,7 +54,7 @@ impl<'a> Machine<'a> {
     }
 
     // A store of a word waits.
-    pub(crate) fn touch_store_4(&mut self) -> Event
+    pub(crate) fn touch_store_4(&mut self) -> Outcome
         requires { IsReady self.old }
         ensures { Acts Op.TouchStore4 self.old result self.new }
     {
@@ -66,7 +66,7 @@ impl<'a> Machine<'a> {
 
     // Pops an offset, and a load of so many bytes from it on waits for its acts.
     #[tactic(auto, using(std::proofs::lemmas::Bool::Decides::nat_tests))]
-    fn touch_load(&mut self, len: u32) -> Event
+    fn touch_load(&mut self, len: u32) -> Outcome
         requires ready { IsReady self.old }
         requires width { (len ≡ 1) ⊎ (len ≡ 4) }
         ensures { GoesBy
@@ -83,12 +83,12 @@ impl<'a> Machine<'a> {
         self.phase = Phase::Touching {
             touch: Pending::Loads { at, len },
         };
-        Event::Asks
+        Outcome::Asks
     }
 
     // Pops two words, and a store of bytes waits for its acts.
     #[tactic(auto, using(std::proofs::lemmas::Bool::Decides::nat_tests))]
-    fn touch_store(&mut self, at: u32, bytes: Octets) -> Event
+    fn touch_store(&mut self, at: u32, bytes: Octets) -> Outcome
         requires ready { IsReady self.old }
         requires there { 2 ≤ length self.old.frame.stack }
         ensures { GoesBy
@@ -102,6 +102,6 @@ impl<'a> Machine<'a> {
         self.phase = Phase::Touching {
             touch: Pending::Stores { at, bytes },
         };
-        Event::Asks
+        Outcome::Asks
     }
 }

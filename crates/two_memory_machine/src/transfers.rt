@@ -6,8 +6,8 @@ ghost use Rattle.two_memory_machine.specs.Machines.{next_op_of};
 ghost use Rattle.two_memory_machine.specs.Steps.{Acts, Performs, IsReady, GoesBy};
 
 use crate::calls::{Link, MAX_DEPTH};
-use crate::event::Event;
 use crate::machine::{Machine, Pending, Phase};
+use crate::outcome::Outcome;
 use act_words::ending::Ending;
 use ckc_text::code::Code;
 use ckc_text::place::Place;
@@ -16,7 +16,7 @@ use code_words::op::Op;
 
 impl<'a> Machine<'a> {
     // Calls a function of the same side with the words that it pops (S2).
-    pub(crate) fn call(&mut self, k: u32) -> Event
+    pub(crate) fn call(&mut self, k: u32) -> Outcome
         requires { IsReady self.old }
         ensures { Acts (Op.Call k) self.old result self.new }
     {
@@ -37,11 +37,11 @@ impl<'a> Machine<'a> {
         self.calls.advance();
         self.depth += 1;
         self.calls.enter(Link::Called, k, words.as_slice());
-        Event::Ran
+        Outcome::Ran
     }
 
     // A call of a tainted function with the words that it pops waits for its touch (S2).
-    pub(crate) fn call_tainted(&mut self, import: u32, place: Place) -> Event
+    pub(crate) fn call_tainted(&mut self, import: u32, place: Place) -> Outcome
         requires { IsReady self.old }
         ensures { Acts (Op.TaintedCall import place) self.old result self.new }
     {
@@ -66,11 +66,11 @@ impl<'a> Machine<'a> {
                 place,
             },
         };
-        Event::Asks
+        Outcome::Asks
     }
 
     // Returns the topmost word.
-    pub(crate) fn return_word(&mut self) -> Event
+    pub(crate) fn return_word(&mut self) -> Outcome
         requires { IsReady self.old }
         ensures { Acts Op.Return self.old result self.new }
     {
@@ -81,7 +81,7 @@ impl<'a> Machine<'a> {
     }
 
     // Returns nothing.
-    pub(crate) fn return_nothing(&mut self) -> Event
+    pub(crate) fn return_nothing(&mut self) -> Outcome
         requires { IsReady self.old }
         ensures { Acts Op.ReturnNothing self.old result self.new }
     {
@@ -89,7 +89,7 @@ impl<'a> Machine<'a> {
     }
 
     // Pops words, and goes back to what called the innermost function, with what this one returns.
-    fn leave(&mut self, popped: usize, value: Option<u32>) -> Event
+    fn leave(&mut self, popped: usize, value: Option<u32>) -> Outcome
         requires ready { IsReady self.old }
         requires there { popped ≤ length self.old.frame.stack }
         ensures { GoesBy
@@ -104,12 +104,12 @@ impl<'a> Machine<'a> {
                 self.calls.leave();
                 self.depth -= 1;
                 let Some(word) = value else {
-                    return Event::Ran;
+                    return Outcome::Ran;
                 };
                 if !self.calls.push(0, word) {
                     return self.end_wild();
                 }
-                Event::Ran
+                Outcome::Ran
             }
             Link::CallsBack {
                 callback,
@@ -123,13 +123,13 @@ impl<'a> Machine<'a> {
                 self.phase = Phase::Touching {
                     touch: Pending::Replies { value: reply },
                 };
-                Event::Asks
+                Outcome::Asks
             }
         }
     }
 
     // Ends the run with what `main` returned.
-    fn exit(&mut self, value: Option<u32>) -> Event
+    fn exit(&mut self, value: Option<u32>) -> Outcome
         requires { IsReady self.old }
         ensures { GoesBy (exit_with value) self.old result self.new }
     {

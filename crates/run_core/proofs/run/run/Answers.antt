@@ -6,10 +6,11 @@ pub returns-clause-writes : goal.returns-clause-writes
 returns-clause-writes g c =
     let image = c.args.image.now in
     let settings = c.args.settings.now in
+    let inputs = c.args.inputs.now in
     let first = g.A.Actor.state_of c.args.actor.now in
     let is = c.in_ok-play.ensures in
-    let started = played_first g.A.Actor.answers (g.F.Shelf.files c.args.shelf.now) image settings first c.in_ok-play.play is.machine is.settings is.text is.last is.ended in
-    run_writes g.A.Actor.answers _ image settings first _ _ _ _ _ c.to_end-outcome.new.self.text.items c.to_end-outcome.result c.finish.result (c.to_end-outcome.ensures.ends image settings first started) c.finish.ensures
+    let started = played_first g.A.Actor.answers (g.F.Shelf.files c.args.shelf.now) image settings inputs first c.in_ok-play.play is.machine is.settings is.inputs is.text is.last is.ended in
+    run_writes g.A.Actor.answers _ image settings inputs first _ _ _ _ _ c.to_end-outcome.new.self.text.items c.to_end-outcome.result c.finish.result (c.to_end-outcome.ensures.ends image settings inputs first started) c.finish.ensures
 
 pub returns-clause-counts : goal.returns-clause-counts
 returns-clause-counts g c =

@@ -1,20 +1,23 @@
-use Rattle.std.proofs.Common.{◌∙◌, subst, rules, arith}
-use Rattle.two_memory_machine.specs.Steps.{IsAsked}
-use Rattle.run_core.specs.Progress.{Played}
-use Rattle.run_core.proofs.Nearing.{near_again}
+use Rattle.std.proofs.Common.{◌∙◌, subst, arith}
+use Rattle.run_core.specs.Progress.{Played, Nears}
 use Rattle.run_core.proofs.play.Play.take_turn.Goals as goal
 
-pub loop-ending-preserved : goal.loop-ending-preserved
-loop-ending-preserved g c =
-    let at = c.loop-ending.invariant in
-    let now = c.in_ok-ending.ensures in
-    let asked : IsAsked c.turn-turn.result c.take_next.new.self.machine = c.is_asked.ensures.asked (search rules) in
+pub turn-preserved : goal.turn-preserved
+turn-preserved g c =
+    let at = c.turn.invariant in
+    let now = c.in_ok-progressed.ensures in
+    let near = subst (λ p. Nears p c.turn.self.machine c.take_next.new.self.machine (g.A.Actor.measure c.turn.actor) (g.A.Actor.measure c.take_next.new.actor)) c.in-Stays.is now.nears in
     record {
-      asked = asked;
-      goes = λ image settings first played.
-          subst (λ files. Played g.A.Actor.answers files image settings first (g.A.Actor.state_of c.loop-ending.actor) c.loop-ending.self → Played g.A.Actor.answers files image settings first (g.A.Actor.state_of c.take_next.new.actor) c.take_next.new.self) at.files (now.goes image settings first) (at.goes image settings first played);
-      moves = omega (arith, at.moves, (near_again c.turn-turn.result at.asked.turn_is now.nears asked).0);
+      asked = near.0;
+      goes = λ image settings inputs first played.
+          subst (λ files. Played g.A.Actor.answers files image settings inputs first (g.A.Actor.state_of c.turn.actor) c.turn.self → Played g.A.Actor.answers files image settings inputs first (g.A.Actor.state_of c.take_next.new.actor) c.take_next.new.self) at.files (now.goes image settings inputs first) (at.goes image settings inputs first played);
+      moves = omega (arith, at.moves, near.1);
+      settings = now.settings ∙ at.settings;
       files = now.files ∙ at.files;
       misses = now.counts.0 ∙ at.misses;
       faults = now.counts.1 ∙ at.faults;
     }
+
+pub turn-smaller : goal.turn-smaller
+turn-smaller g c =
+    (subst (λ p. Nears p c.turn.self.machine c.take_next.new.self.machine (g.A.Actor.measure c.turn.actor) (g.A.Actor.measure c.take_next.new.actor)) c.in-Stays.is c.in_ok-progressed.ensures.nears).2

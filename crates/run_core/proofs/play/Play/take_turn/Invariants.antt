@@ -1,25 +1,25 @@
-use Rattle.std.proofs.Common.{◌≡◌, ◌≤◌}
+use Rattle.std.proofs.Common.{◌≡◌, ◌≤◌, List, ℤ}
 use Rattle.act_words.specs.declared.settings.Settings.{Settings}
 use Rattle.code_words.specs.declared.image.Image.{Image}
 use Rattle.two_memory_machine.specs.Machines.{moves_left}
-use Rattle.two_memory_machine.specs.Steps.{IsAsked}
-use Rattle.run_core.specs.Progress.{Played}
+use Rattle.run_core.specs.Progress.{IsAsked, Played}
 use Rattle.run_core.proofs.play.Play.take_turn.Given as goal
 
 -- the turn goes on, and what was reached at its start leads here
-abbrev pub invariant-loop-ending : goal.invariant-loop-ending
-invariant-loop-ending g l =
+abbrev pub invariant-turn : goal.invariant-turn
+invariant-turn g l =
     record {
-      asked : IsAsked l.turn l.self.machine;
+      asked : IsAsked l.self.machine;
       goes :
-          (image : Image) (settings : Settings) (first : g.A.Actor.State)
-          → Played g.A.Actor.answers (g.F.Shelf.files l.fn.shelf) image settings first (g.A.Actor.state_of l.fn.actor) l.fn.self
-          → Played g.A.Actor.answers (g.F.Shelf.files l.fn.shelf) image settings first (g.A.Actor.state_of l.actor) l.self;
+          (image : Image) (settings : Settings) (inputs : List ℤ) (first : g.A.Actor.State)
+          → Played g.A.Actor.answers (g.F.Shelf.files l.fn.shelf) image settings inputs first (g.A.Actor.state_of l.fn.actor) l.fn.self
+          → Played g.A.Actor.answers (g.F.Shelf.files l.fn.shelf) image settings inputs first (g.A.Actor.state_of l.actor) l.self;
       moves : moves_left l.self.machine ≤ moves_left l.fn.self.machine;
+      settings : l.self.settings ≡ l.fn.self.settings;
       files : g.F.Shelf.files l.shelf ≡ g.F.Shelf.files l.fn.shelf;
       misses : g.F.Shelf.misses l.shelf ≡ g.F.Shelf.misses l.fn.shelf;
       faults : g.F.Shelf.faults l.shelf ≡ g.F.Shelf.faults l.fn.shelf;
     }
 
-abbrev pub decreases-loop-ending : goal.decreases-loop-ending
-decreases-loop-ending g l = g.A.Actor.measure l.actor
+abbrev pub decreases-turn : goal.decreases-turn
+decreases-turn g l = g.A.Actor.measure l.actor

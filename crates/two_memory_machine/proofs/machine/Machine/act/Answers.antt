@@ -1,11 +1,14 @@
 use Rattle.std.proofs.Common.{◌≡◌, [], ap, subst}
+use Rattle.std.specs.Prelude.{IsTrue}
 use Rattle.act_words.specs.Acts.{act_view}
+use Rattle.code_words.specs.Paced.{is_paced}
 use Rattle.act_words.specs.Acting.{act_before_touch, act_in_sandbox}
 use Rattle.code_words.specs.Moves.{before_touch_by, in_sandbox_by}
 use Rattle.two_memory_machine.specs.Machines.{TakesAct, Touching, Suspended}
 use Rattle.two_memory_machine.specs.Insides.{machine, doing_of, touch_of}
 use Rattle.two_memory_machine.specs.Steps.{MovesBy}
 use Rattle.two_memory_machine.proofs.Moving.{takes_before, takes_in_sandbox, act_over}
+use Rattle.two_memory_machine.proofs.Ends.{act_sooner}
 use Rattle.two_memory_machine.proofs.machine.Machine.act.Goals as goal
 use Rattle.two_memory_machine.proofs.machine.Machine.act.Goals.{After-act_before_touch, After-act_in_sandbox}
 
@@ -39,3 +42,13 @@ returns-in-Suspended-clause-takes c = passed c
 
 pub returns-in-Suspended-clause-over : goal.returns-in-Suspended-clause-over
 returns-in-Suspended-clause-over c = act_over [] [] [] _ c.args.self.now c.act_in_sandbox.new.self c.act_in_sandbox.result (passed c [] [] [])
+
+pub returns-in-Touching-clause-sooner : goal.returns-in-Touching-clause-sooner
+returns-in-Touching-clause-sooner c =
+    let paced : IsTrue (is_paced c.args.self.now.image) = rw (← c.self.view_is) c.self.invariant.fits.paced in
+    act_sooner c.args.self.now c.act_before_touch.new.self (act_view c.args.act.now) c.act_before_touch.result paced c.requires (touched c)
+
+pub returns-in-Suspended-clause-sooner : goal.returns-in-Suspended-clause-sooner
+returns-in-Suspended-clause-sooner c =
+    let paced : IsTrue (is_paced c.args.self.now.image) = rw (← c.self.view_is) c.self.invariant.fits.paced in
+    act_sooner c.args.self.now c.act_in_sandbox.new.self (act_view c.args.act.now) c.act_in_sandbox.result paced c.requires (passed c)

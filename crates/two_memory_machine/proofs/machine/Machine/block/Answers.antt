@@ -1,6 +1,8 @@
 use Rattle.std.proofs.Common.{◌≡◌, ◌≤◌, Some, take, refl, sym, ap, ◌∙◌, arith}
 use Rattle.std.specs.Prelude.{slice_get}
+use Rattle.std.proofs.lemmas.List.{length-take}
 use Rattle.std.proofs.lemmas.List.Elements.{All-take}
+use Rattle.std.proofs.lemmas.Option.{slice_get_within}
 use Rattle.two_memory_machine.specs.declared.memory.BlockRow.{BlockRow}
 use Rattle.two_memory_machine.specs.Places.{block_row}
 use Rattle.two_memory_machine.proofs.Callers.{item_found, all_found}
@@ -21,7 +23,12 @@ low c =
 pub overflow_add-result : goal.overflow_add-result
 overflow_add-result c = omega (arith, low c, c.self.invariant.fits.allowed.most_base, c.self.invariant.fits.allowed.most_trusted)
 
-pub returns : goal.returns
-returns c =
+pub returns-clause-before_end : goal.returns-clause-before_end
+returns-clause-before_end c =
+    let i = c.self.inside in
+    omega (arith, slice_get_within (take i.made i.blocks.items) c.args.k c.in_ok-block.block.now (there c), length-take i.made i.blocks.items, c.self.invariant.made, c.self.invariant.counter, c.self.invariant.fits.allowed.most_trusted)
+
+pub returns-clause-block : goal.returns-clause-block
+returns-clause-block c =
     let i = c.self.inside in
     rw (← c.self.view_is, slice_get-map block_row (take i.made i.blocks.items) c.args.k c.in_ok-block.block.now (there c), c.self.invariant.base) refl

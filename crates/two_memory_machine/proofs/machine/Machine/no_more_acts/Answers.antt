@@ -1,7 +1,10 @@
 use Rattle.std.proofs.Common.{◌≡◌, [], sym, ap, ◌∙◌}
+use Rattle.std.specs.Prelude.{IsTrue}
+use Rattle.code_words.specs.Paced.{is_paced}
 use Rattle.two_memory_machine.specs.Machines.{Machine, TakesEnd, Touching, Suspended}
 use Rattle.two_memory_machine.specs.Insides.{doing_of, touch_of}
 use Rattle.two_memory_machine.proofs.Moving.{takes_end, takes_sandbox_end, act_over}
+use Rattle.two_memory_machine.proofs.Ends.{end_sooner}
 use Rattle.two_memory_machine.proofs.machine.Machine.no_more_acts.Goals as goal
 use Rattle.two_memory_machine.proofs.machine.Machine.no_more_acts.Goals.{After-make_touch, After-end_move}
 
@@ -27,3 +30,13 @@ returns-in-Suspended-clause-takes c = ended c
 
 pub returns-in-Suspended-clause-over : goal.returns-in-Suspended-clause-over
 returns-in-Suspended-clause-over c = act_over [] _ _ _ c.args.self.now c.end_move.new.self c.end_move.result (ended c [] [])
+
+pub returns-in-Touching-clause-sooner : goal.returns-in-Touching-clause-sooner
+returns-in-Touching-clause-sooner c =
+    let paced : IsTrue (is_paced c.args.self.now.image) = rw (← c.self.view_is) c.self.invariant.fits.paced in
+    end_sooner c.args.self.now c.make_touch.new.self c.make_touch.result paced c.requires (touched c)
+
+pub returns-in-Suspended-clause-sooner : goal.returns-in-Suspended-clause-sooner
+returns-in-Suspended-clause-sooner c =
+    let paced : IsTrue (is_paced c.args.self.now.image) = rw (← c.self.view_is) c.self.invariant.fits.paced in
+    end_sooner c.args.self.now c.end_move.new.self c.end_move.result paced c.requires (ended c)

@@ -2,7 +2,8 @@ use Rattle.std.proofs.Common.{rules}
 use Rattle.std.specs.Prelude.{FitsSigned}
 use Rattle.std.proofs.lemmas.Int.{to_z-of_z}
 use mir.Syntax.{w64}
-use Rattle.two_memory_machine.proofs.machine.Machine.perform.Goals as goal
+use Rattle.two_memory_machine.proofs.machine.Machine.check_operands.Goals as goal
+
 
 pub returns-in-In : goal.returns-in-In
 returns-in-In c =

@@ -1,0 +1,150 @@
+-- Runs that come to where a machine stands, and on from there.
+use Rattle.std.proofs.Common.{◌≡◌, ℕ, ℤ, pos, Bool, true, false, zero, suc, List, [], ◌∷◌, ◌++◌, Option, Some, None, refl, sym, ap, ◌∙◌, subst, append-nil}
+use Rattle.act_words.specs.declared.ending.Ending.{Ending}
+use Rattle.act_words.specs.declared.settings.Settings.{Settings}
+use Rattle.act_words.specs.Acts.{Act}
+use Rattle.act_words.specs.World.{Event, NoAct}
+use Rattle.code_words.specs.declared.image.Image.{Image}
+use Rattle.code_words.specs.Table.{State, Step, Goes, Over}
+use Rattle.code_words.specs.Moves.{move}
+use Rattle.code_words.specs.Runs.{Run, Unfinished, Finished, exec, go_on}
+use Rattle.two_memory_machine.specs.declared.event.Event.{Event as MachineEvent}
+use Rattle.two_memory_machine.specs.declared.event.Event.TheVariants as told_by
+use Rattle.two_memory_machine.specs.declared.event.Waiting.TheVariants as waiting
+use Rattle.two_memory_machine.specs.Machines.{Machine, Doing, Running, NeedsNumber, Touching, Suspended, Gives, TellsStep, Steps as MachineSteps, StepsIf, TakesNumber, TakesNoNumber, IsOfSame, state_of, turn_of, waiting_of, waiting_for, told_behind, ending_given, is_input, next_op_of}
+use Rattle.run_core.specs.Progress.{IsAt, Reaches, Leads, TakesInput, told}
+
+-- what an event tells stands behind the events
+pub told_is : (event : MachineEvent) (events : List Event) → told_behind event events ≡ events ++ told event
+told_is told_by.Ran events = sym (append-nil events)
+told_is told_by.Asks events = sym (append-nil events)
+told_is told_by.Input events = sym (append-nil events)
+told_is (told_by.Out bytes) events = refl
+told_is (told_by.Showed seen) events = refl
+told_is (told_by.Touched release None) events = refl
+told_is (told_by.Touched release (Some seen)) events = refl
+told_is (told_by.Ended ending) events = sym (append-nil events)
+
+-- one move more
+pub one_more : (image : Image) (settings : Settings) (n : ℕ) (s u : State) → exec image settings n s ≡ Unfinished u → exec image settings (suc n) s ≡ go_on (move image settings u) Unfinished
+one_more image settings zero s u e = let same : s ≡ u = cc in ap (λ t. go_on (move image settings t) Unfinished) same
+one_more image settings (suc n) s u e = by (move image settings s) (λ t h. one_more image settings n t u h) e
+  where
+    by : (x : Step) → ((t : State) → exec image settings n t ≡ Unfinished u → exec image settings (suc n) t ≡ go_on (move image settings u) Unfinished) → go_on x (exec image settings n) ≡ Unfinished u → go_on x (exec image settings (suc n)) ≡ go_on (move image settings u) Unfinished
+    by (Goes t) more h = more t h
+    by (Over ending t) more h = absurd (cc)
+
+-- where a move of the table leads
+landed : (Tells : MachineEvent → Doing → Type 0) (acts : List Act) (inputs : List ℤ) (events : List Event) (step : Step) (old new : Machine) (event : MachineEvent) → Gives Tells acts inputs events step old event new → IsAt (go_on step Unfinished) new acts inputs (told_behind event events)
+landed Tells acts inputs events (Goes t) old new event gives = (gives.2, gives.0)
+landed Tells acts inputs events (Over ending t) old new event gives = rw gives.0 (gives.1, gives.2, gives.3, gives.4)
+
+-- from where a machine stands, one move on
+pub reached : (Tells : MachineEvent → Doing → Type 0) (s : State) (old new : Machine) (event : MachineEvent) (acts acts' : List Act) (inputs inputs' : List ℤ) (events events' : List Event) → old.over ≡ None → Gives Tells acts' inputs' events' (move old.image old.settings (state_of old acts inputs events)) old event new → Reaches old.image old.settings s old acts inputs events → Reaches old.image old.settings s new acts' inputs' (told_behind event events')
+reached Tells s old new event acts acts' inputs inputs' events events' going gives r = by (exec old.image old.settings r.moves s) refl r.there
+  where
+    by : (run : Run) → exec old.image old.settings r.moves s ≡ run → IsAt run old acts inputs events → Reaches old.image old.settings s new acts' inputs' (told_behind event events')
+    by (Unfinished u) e at =
+        let here : exec old.image old.settings r.moves s ≡ Unfinished (state_of old acts inputs events) = e ∙ ap Unfinished at.1 in
+        record {
+          moves = suc r.moves;
+          there = rw (one_more old.image old.settings r.moves s (state_of old acts inputs events) here) (landed Tells acts' inputs' events' (move old.image old.settings (state_of old acts inputs events)) old new event gives);
+        }
+    by (Finished ending t) e at = absurd (let no : None ≡ Some ending = sym going ∙ at.0 in cc)
+
+pub gives_same : (Tells : MachineEvent → Doing → Type 0) (acts : List Act) (inputs : List ℤ) (events : List Event) (step : Step) (old new : Machine) (event : MachineEvent) → Gives Tells acts inputs events step old event new → IsOfSame old new
+gives_same Tells acts inputs events (Goes t) old new event gives = gives.3
+gives_same Tells acts inputs events (Over ending t) old new event gives = gives.5
+
+-- ---- what a machine waits for
+
+pub runs_of : (m : Machine) → waiting_of m ≡ waiting.Runs → (m.over ≡ None) × (m.doing ≡ Running)
+runs_of m = by m.over m.doing
+  where
+    by : (over : Option Ending) (doing : Doing) → waiting_for over doing ≡ waiting.Runs → (over ≡ None) × (doing ≡ Running)
+    by (Some ending) doing h = absurd (cc)
+    by None Running h = (refl, refl)
+    by None NeedsNumber h = absurd (cc)
+    by None (Touching touch) h = absurd (cc)
+    by None (Suspended import place) h = absurd (cc)
+
+pub not_over : (m : Machine) → waiting_of m ≡ waiting.Number → m.over ≡ None
+not_over m = by m.over
+  where
+    by : (over : Option Ending) → waiting_for over m.doing ≡ waiting.Number → over ≡ None
+    by (Some ending) h = absurd (cc)
+    by None h = refl
+
+pub unended : (m : Machine) → waiting_of m ≡ waiting.Act → m.over ≡ None
+unended m = by m.over
+  where
+    by : (over : Option Ending) → waiting_for over m.doing ≡ waiting.Act → over ≡ None
+    by (Some ending) h = absurd (cc)
+    by None h = refl
+
+-- ---- steps and numbers
+
+pub leads_none : (m : Machine) (inputs : List ℤ) → Leads m inputs told_by.Ran m inputs
+leads_none m inputs = record { same = (refl, refl); goes = λ s acts events r. r }
+
+-- steps that tell nothing, and one more
+pub leads_on : (first mid last : Machine) (inputs : List ℤ) (event : MachineEvent) → Leads first inputs told_by.Ran mid inputs → Leads mid inputs event last inputs → Leads first inputs event last inputs
+leads_on first mid last inputs event a b =
+    record {
+      same = (b.same.0 ∙ a.same.0, b.same.1 ∙ a.same.1);
+      goes = λ s acts events r.
+          subst (λ image. Reaches image first.settings s last acts inputs (told_behind event events)) a.same.0
+          (subst (λ settings. Reaches mid.image settings s last acts inputs (told_behind event events)) a.same.1
+          (b.goes s acts events (subst (λ image. Reaches image mid.settings s mid acts inputs events) (sym a.same.0) (subst (λ settings. Reaches first.image settings s mid acts inputs events) (sym a.same.1) (a.goes s acts events r)))));
+    }
+
+-- the step waits for a number: the table makes no move
+leads_needs : (old : Machine) (inputs : List ℤ) → old.over ≡ None → old.doing ≡ Running → Leads old inputs told_by.Input (record old { doing = NeedsNumber }) inputs
+leads_needs old inputs going runs =
+    record {
+      same = (refl, refl);
+      goes = λ s acts events r. record { moves = r.moves; there = by (exec old.image old.settings r.moves s) acts events r.there };
+    }
+  where
+    by : (run : Run) (acts : List Act) (events : List Event) → IsAt run old acts inputs events → IsAt run (record old { doing = NeedsNumber }) acts inputs events
+    by (Unfinished u) acts events at = rw runs at
+    by (Finished ending t) acts events at = rw runs at
+
+pub step_leads : (old new : Machine) (event : MachineEvent) (inputs : List ℤ) → old.over ≡ None → old.doing ≡ Running → MachineSteps old event new → Leads old inputs event new inputs
+step_leads old new event inputs going runs steps = by (is_input (next_op_of old)) steps
+  where
+    by : (input : Bool) → StepsIf input old event new → Leads old inputs event new inputs
+    by true h = rw (h.0, h.1) (leads_needs old inputs going runs)
+    by false h = record {
+      same = gives_same TellsStep [] inputs [] _ old new event (h [] inputs []);
+      goes = λ s acts events r. reached TellsStep s old new event acts acts inputs inputs events events going (h acts inputs events) r;
+    }
+
+pub give_leads : (old new : Machine) (event : MachineEvent) (inputs : List ℤ) (number : ℤ) (after : List ℤ) → old.over ≡ None → TakesInput inputs number after → TakesNumber old number event new → (number ≡ pos 0 → TakesNoNumber old event new) → Leads old inputs event new after
+give_leads old new event [] number after going taken takes none =
+    rw taken.1
+    (record {
+      same = gives_same TellsStep [] [] [] _ old new event (none taken.0 [] []);
+      goes = λ s acts events r. reached TellsStep s old new event acts acts [] [] events events going (none taken.0 acts events) r;
+    })
+give_leads old new event (next ∷ left) number after going taken takes none =
+    rw (taken.1, ← taken.0)
+    (record {
+      same = gives_same TellsStep [] left [] _ old new event (takes [] left []);
+      goes = λ s acts events r. reached TellsStep s old new event acts acts (number ∷ left) left events events going (takes acts left events) r;
+    })
+
+-- a step that tells nothing leaves an instruction next
+pub runs_again : (old new : Machine) (event : MachineEvent) → event ≡ told_by.Ran → new.over ≡ ending_given event → MachineSteps old event new → waiting_of new ≡ waiting.Runs
+runs_again old new event ran over steps = by (is_input (next_op_of old)) steps
+  where
+    going : new.over ≡ None
+    going = over ∙ ap ending_given ran
+
+    next : (step : Step) → Gives TellsStep [] [] [] step old event new → waiting_of new ≡ waiting.Runs
+    next (Goes t) gives = let runs : new.doing ≡ Running = subst (λ e. TellsStep e new.doing) ran gives.1 in rw (going, runs) refl
+    next (Over ending t) gives = absurd (let no : told_by.Ran ≡ told_by.Ended ending = sym ran ∙ gives.0 in cc)
+
+    by : (input : Bool) → StepsIf input old event new → waiting_of new ≡ waiting.Runs
+    by true h = absurd (let no : told_by.Ran ≡ told_by.Input = sym ran ∙ h.0 in cc)
+    by false h = next _ (h [] [] [])

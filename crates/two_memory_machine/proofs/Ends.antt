@@ -1,0 +1,214 @@
+-- Fewer moves are left behind each call that moves a machine.
+use Rattle.std.proofs.Common.{◌≡◌, ℕ, ◌+◌, ◌*◌, ◌<◌, ◌≤◌, ◌⊎◌, ◌++◌, ℤ, pos, Bool, true, false, List, [], ◌∷◌, Option, Some, None, refl, sym, ap, subst, ◌∙◌, inl, inr, ⊎_elim, arith}
+use Rattle.std.specs.Prelude.{IsTrue}
+use Rattle.ckc_text.specs.declared.place.Place.{Place}
+use Rattle.act_words.specs.declared.act.Turn.TheVariants as turns
+use Rattle.act_words.specs.declared.ending.Ending.{Ending}
+use Rattle.act_words.specs.Acts.{Act}
+use Rattle.act_words.specs.World
+use Rattle.act_words.specs.World.{NoAct}
+use Rattle.code_words.specs.declared.op.Op.{Op}
+use Rattle.code_words.specs.Table.{Frame, Waits, Touch, wild, Control, Runs, Touches, Away, State, Step, Goes, Over}
+use Rattle.code_words.specs.Moves.{move}
+use Rattle.code_words.specs.Paced.{is_paced}
+use Rattle.code_words.specs.Left as code
+use Rattle.code_words.specs.Left.{LeavesTurn}
+use Rattle.code_words.proofs.Left.{Falls, Sooner as StepSooner, runs-falls, touches-sooner, away-sooner, touches-falls, away-falls, some_run, some_touch, some_wait}
+use Rattle.two_memory_machine.specs.declared.event.Event.{Event}
+use Rattle.two_memory_machine.specs.declared.event.Waiting.TheVariants as waiting
+use Rattle.two_memory_machine.specs.Machines.{Machine, Doing, Running, NeedsNumber, Touching, Suspended, Gives, TellsStep, TellsAct, StepsIf, Steps, TakesAct, TakesEnd, TakesNumber, is_input, next_op_of, state_of, control_of, callers_in, waiting_of, waiting_for, turn_of, told_behind, left_for, moves_left, Sooner, ending_given}
+use Rattle.two_memory_machine.specs.Steps.{EventBy, Performs}
+use Rattle.two_memory_machine.proofs.Moving.{runs_of, steps_from, steps_wild, performs_over, step_over}
+
+-- the moves that the table can make from here
+abbrev number : Machine → ℕ
+number m = code.moves_left m.image m.settings (state_of m [] [] [])
+
+over_left : (m : Machine) (ending : Ending) → m.over ≡ Some ending → moves_left m ≡ 0
+unfolding moves_left
+over_left m ending e = rw e refl
+
+runs_left : (m : Machine) → m.over ≡ None → m.doing ≡ Running → moves_left m ≡ 2 * number m + 1
+unfolding moves_left
+runs_left m e h = rw (e, h) refl
+
+at_most : (m : Machine) → m.over ≡ None → moves_left m ≤ 2 * number m + 1
+unfolding moves_left
+at_most m e = rw e (by m.doing (number m))
+  where
+    by : (doing : Doing) (moves : ℕ) → left_for None doing moves ≤ 2 * moves + 1
+    by Running moves = omega arith
+    by NeedsNumber moves = omega arith
+    by (Touching touch) moves = omega arith
+    by (Suspended import place) moves = omega arith
+
+abbrev IsRun : Control → Type 0
+IsRun (Runs f) = Unit {0}
+IsRun (Touches f touch) = ⊥
+IsRun Away = ⊥
+
+-- where no instruction is next
+waits_left : (m : Machine) → m.over ≡ None → (IsRun (control_of m.doing m.frame) → ⊥) → moves_left m ≡ 2 * number m
+unfolding moves_left
+waits_left m e waits = rw e (by m.doing (number m) waits)
+  where
+    by : (doing : Doing) (moves : ℕ) → (IsRun (control_of doing m.frame) → ⊥) → left_for None doing moves ≡ 2 * moves
+    by Running moves h = absurd (h tt)
+    by NeedsNumber moves h = refl
+    by (Touching touch) moves h = refl
+    by (Suspended import place) moves h = refl
+
+waits_again : (m : Machine) → m.over ≡ None → (IsRun (control_of m.doing m.frame) → ⊥) → waiting_of m ≡ waiting.Act
+waits_again m e waits = rw e (by m.doing waits)
+  where
+    by : (doing : Doing) → (IsRun (control_of doing m.frame) → ⊥) → waiting_for None doing ≡ waiting.Act
+    by Running h = absurd (h tt)
+    by NeedsNumber h = absurd (h tt)
+    by (Touching touch) h = refl
+    by (Suspended import place) h = refl
+
+needs_left : (m : Machine) → m.over ≡ None → m.doing ≡ NeedsNumber → moves_left m ≡ 2 * number m
+unfolding moves_left
+needs_left m e h = rw (e, h) refl
+
+-- what the number doesn't depend on
+same_number : (m : Machine) (acts : List Act) (inputs : List ℤ) (events : List World.Event) → code.moves_left m.image m.settings (state_of m acts inputs events) ≡ number m
+unfolding code.moves_left
+same_number m acts inputs events = refl
+
+gone : (acts : List Act) (inputs : List ℤ) (events : List World.Event) (s : State) (old new : Machine) → s ≡ state_of new acts inputs events → new.image ≡ old.image → new.settings ≡ old.settings → code.moves_left old.image old.settings s ≡ number new
+gone acts inputs events s old new e image settings = rw (e, ← image, ← settings) (same_number new acts inputs events)
+
+module _ (Tells : Event → Doing → Type 0) (acts : List Act) (inputs : List ℤ) (events : List World.Event) (old new : Machine) (event : Event) where
+  -- a move behind which fewer moves of the table are left
+  fewer : (paced : IsTrue (is_paced old.image)) (first : State) (step : Step) → code.moves_left old.image old.settings first ≡ number old → 0 < number old → Falls old.image old.settings paced first step → Gives Tells acts inputs events step old event new → moves_left new < 2 * number old
+  fewer paced first (Goes s) same some falls gives =
+      omega (arith, same, falls, gone acts inputs (told_behind event events) s old new gives.0 gives.3.0 gives.3.1, at_most new gives.2)
+  fewer paced first (Over ending s) same some falls gives = omega (arith, some, over_left new ending gives.1)
+
+  sooner : (paced : IsTrue (is_paced old.image)) (act : Act) (first : State) (step : Step) → old.over ≡ None → (IsRun first.control → ⊥) → first.control ≡ control_of old.doing old.frame → code.moves_left old.image old.settings first ≡ number old → 0 < number old → StepSooner old.image old.settings paced (LeavesTurn act (turn_of old.doing)) first step → Gives Tells acts inputs events step old event new → Sooner act old new
+  sooner paced act first (Goes s) going waits control same some soon gives =
+      let before : moves_left old ≡ 2 * number old = waits_left old going (subst (λ c. IsRun c → ⊥) control waits) in
+      let behind : code.moves_left old.image old.settings s ≡ number new = gone acts inputs (told_behind event events) s old new gives.0 gives.3.0 gives.3.1 in
+      ⊎_elim
+      (λ falls. inl (omega (arith, same, before, behind, falls, at_most new gives.2)))
+      (λ stays.
+          let still : s.control ≡ control_of new.doing new.frame = ap (λ (t : State). t.control) gives.0 in
+          let quiet : IsRun (control_of new.doing new.frame) → ⊥ = subst (λ c. IsRun c → ⊥) (sym stays.1 ∙ still) waits in
+          let after : moves_left new ≡ 2 * number new = waits_left new gives.2 quiet in
+          inr (omega (arith, same, before, behind, after, stays.0), waits_again new gives.2 quiet, stays.2))
+      soon
+  sooner paced act first (Over ending s) going waits control same some soon gives =
+      let before : moves_left old ≡ 2 * number old = waits_left old going (subst (λ c. IsRun c → ⊥) control waits) in
+      inl (omega (arith, some, before, over_left new ending gives.1))
+
+-- ---- the calls
+
+-- the step waits for a number, and the table makes no move
+needs_sooner : (old new : Machine) → old.over ≡ None → old.doing ≡ Running → new ≡ record old { doing = NeedsNumber } → moves_left new < moves_left old
+unfolding code.moves_left
+needs_sooner old new going runs is =
+    let same : number (record old { doing = NeedsNumber }) ≡ number old = rw runs refl in
+    rw is (omega (arith, runs_left old going runs, needs_left (record old { doing = NeedsNumber }) going refl, same))
+
+pub step_sooner : (old new : Machine) (event : Event) → IsTrue (is_paced old.image) → old.over ≡ None → old.doing ≡ Running → Steps old event new → moves_left new < moves_left old
+step_sooner old new event paced going runs steps = by (is_input (next_op_of old)) steps
+  where
+    at_run : control_of old.doing old.frame ≡ Runs old.frame
+    at_run = rw runs refl
+
+    by : (b : Bool) → StepsIf b old event new → moves_left new < moves_left old
+    by true h = needs_sooner old new going runs h.1
+    by false h =
+        omega (arith, runs_left old going runs,
+        fewer TellsStep [] [] [] old new event paced (state_of old [] [] []) _ refl (some_run old.image old.settings paced old.frame (state_of old [] [] []) at_run) (runs-falls old.image old.settings paced old.frame (state_of old [] [] []) at_run) (h [] [] []))
+
+pub give_sooner : (old new : Machine) (given : ℤ) (event : Event) → IsTrue (is_paced old.image) → old.over ≡ None → old.doing ≡ NeedsNumber → TakesNumber old given event new → moves_left new < moves_left old
+give_sooner old new given event paced going needs takes =
+    let first = state_of old [] (given ∷ []) [] in
+    let at_run : control_of old.doing old.frame ≡ Runs old.frame = rw needs refl in
+    let same : code.moves_left old.image old.settings first ≡ number old = same_number old [] (given ∷ []) [] in
+    let some : 0 < number old = subst (λ n. 0 < n) same (some_run old.image old.settings paced old.frame first at_run) in
+    omega (arith, needs_left old going needs,
+    fewer TellsStep [] [] [] old new event paced first _ same some (runs-falls old.image old.settings paced old.frame first at_run) (takes [] [] []))
+
+unended : (m : Machine) → waiting_of m ≡ waiting.Act → m.over ≡ None
+unended m = by m.over
+  where
+    by : (over : Option Ending) → waiting_for over m.doing ≡ waiting.Act → over ≡ None
+    by (Some ending) h = absurd (cc)
+    by None h = refl
+
+not_asked : (m : Machine) → m.doing ≡ Running → waiting_of m ≡ waiting.Act → ⊥
+not_asked m e waits = let no : waiting.Runs ≡ waiting.Act = rw (unended m waits, e) at waits in cc
+
+not_given : (m : Machine) → m.doing ≡ NeedsNumber → waiting_of m ≡ waiting.Act → ⊥
+not_given m e waits = let no : waiting.Number ≡ waiting.Act = rw (unended m waits, e) at waits in cc
+
+pub act_sooner : (old new : Machine) (act : Act) (event : Event) → IsTrue (is_paced old.image) → waiting_of old ≡ waiting.Act → TakesAct old act event new → Sooner act old new
+act_sooner old new act event paced waits takes = by old.doing refl
+  where
+    first : State
+    first = state_of old (act ∷ []) [] []
+
+    same : code.moves_left old.image old.settings first ≡ number old
+    same = same_number old (act ∷ []) [] []
+
+    by : (doing : Doing) → old.doing ≡ doing → Sooner act old new
+    by Running e = absurd (not_asked old e waits)
+    by NeedsNumber e = absurd (not_given old e waits)
+    by (Touching touch) e =
+        let at : control_of old.doing old.frame ≡ Touches old.frame touch = rw e refl in
+        let turn : turn_of old.doing ≡ turns.Trusted = rw e refl in
+        let some : 0 < number old = subst (λ n. 0 < n) same (some_touch old.image old.settings paced old.frame touch first at) in
+        let soon : StepSooner old.image old.settings paced (LeavesTurn act (turn_of old.doing)) first (move old.image old.settings first) =
+        subst (λ t. StepSooner old.image old.settings paced (LeavesTurn act t) first (move old.image old.settings first)) (sym turn) (touches-sooner old.image old.settings paced old.frame touch act [] first at refl) in
+        sooner TellsAct [] [] [] old new event paced act first _ (unended old waits) (subst (λ c. IsRun c → ⊥) (sym at) (λ h. h)) refl same some soon (takes [] [] [])
+    by (Suspended import place) e =
+        let at : control_of old.doing old.frame ≡ Away = rw e refl in
+        let turn : turn_of old.doing ≡ turns.Sandbox = rw e refl in
+        let calls : callers_in old.doing old.frame old.callers ≡ Waits old.frame import place ∷ old.callers = rw e refl in
+        let some : 0 < number old = subst (λ n. 0 < n) same (some_wait old.image old.settings paced old.frame import place old.callers first calls) in
+        let soon : StepSooner old.image old.settings paced (LeavesTurn act (turn_of old.doing)) first (move old.image old.settings first) =
+        subst (λ t. StepSooner old.image old.settings paced (LeavesTurn act t) first (move old.image old.settings first)) (sym turn) (away-sooner old.image old.settings paced act [] first at refl) in
+        sooner TellsAct [] [] [] old new event paced act first _ (unended old waits) (subst (λ c. IsRun c → ⊥) (sym at) (λ h. h)) refl same some soon (takes [] [] [])
+
+pub end_sooner : (old new : Machine) (event : Event) → IsTrue (is_paced old.image) → waiting_of old ≡ waiting.Act → TakesEnd old event new → moves_left new < moves_left old
+end_sooner old new event paced waits takes = by old.doing refl
+  where
+    first : State
+    first = state_of old [] [] []
+
+    before : (IsRun (control_of old.doing old.frame) → ⊥) → moves_left old ≡ 2 * number old
+    before quiet = waits_left old (unended old waits) quiet
+
+    by : (doing : Doing) → old.doing ≡ doing → moves_left new < moves_left old
+    by Running e = absurd (not_asked old e waits)
+    by NeedsNumber e = absurd (not_given old e waits)
+    by (Touching touch) e =
+        let at : control_of old.doing old.frame ≡ Touches old.frame touch = rw e refl in
+        omega (arith, before (subst (λ c. IsRun c → ⊥) (sym at) (λ h. h)),
+        fewer TellsAct [] [] _ old new event paced first _ refl (some_touch old.image old.settings paced old.frame touch first at) (touches-falls old.image old.settings paced old.frame touch first at refl) (takes [] []))
+    by (Suspended import place) e =
+        let at : control_of old.doing old.frame ≡ Away = rw e refl in
+        let calls : callers_in old.doing old.frame old.callers ≡ Waits old.frame import place ∷ old.callers = rw e refl in
+        omega (arith, before (subst (λ c. IsRun c → ⊥) (sym at) (λ h. h)),
+        fewer TellsAct [] [] _ old new event paced first _ refl (some_wait old.image old.settings paced old.frame import place old.callers first calls) (away-falls old.image old.settings paced first at refl) (takes [] []))
+
+-- what a step promises, where it does what the next instruction says, or where none stands there
+pub record Stepped (old : Machine) (event : Event) (new : Machine) : Type 0 where
+  pub steps : Steps old event new
+  pub over : new.over ≡ ending_given event
+  pub sooner : moves_left new < moves_left old
+
+pub stepped : (old new : Machine) (event : Event) (op : Op) → IsTrue (is_paced old.image) → waiting_of old ≡ waiting.Runs → next_op_of old ≡ Some op → Performs op old event new → Stepped old event new
+stepped old new event op paced waits next performs =
+    let runs = runs_of old.over old.doing waits in
+    let steps = steps_from old new event op runs.1 next performs in
+    record { steps = steps; over = performs_over old new event op runs.0 next performs; sooner = step_sooner old new event paced runs.0 runs.1 steps }
+
+pub stepped_wild : (old new : Machine) (event : Event) → IsTrue (is_paced old.image) → waiting_of old ≡ waiting.Runs → next_op_of old ≡ None → EventBy wild old event new → Stepped old event new
+stepped_wild old new event paced waits next goes =
+    let runs = runs_of old.over old.doing waits in
+    let steps = steps_wild old new event runs.1 next goes in
+    record { steps = steps; over = step_over [] [] [] (wild (state_of old [] [] [])) old new event (goes [] [] []); sooner = step_sooner old new event paced runs.0 runs.1 steps }
