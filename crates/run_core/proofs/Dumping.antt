@@ -57,9 +57,12 @@ pub text_more : (m : Machine) (k address len : ℕ) → Some (address, len) ≡ 
 text_more m k address len found =
     let i = is_block m k address len found in
     let shown : Block → Shown = λ b. record { address = m.memory.base + b.offset; bytes = take b.bytes (drop b.offset m.memory.bytes) } in
-    let offset : address - m.memory.base ≡ i.b.offset = omega (arith, i.address_is) in
+    let shown_at : ℕ → ℕ → ℕ → Shown = λ a n o. record { address = a; bytes = take n (drop o m.memory.bytes) } in
+    let offset : i.b.offset ≡ address - m.memory.base = omega (arith, i.address_is) in
     let there : slice_get (blocks_of m) k ≡ Some (shown i.b) = slice_get-map shown m.blocks k ∙ rw i.there refl in
-    rw (offset, i.address_is, i.len_is) (flat_more block_text (blocks_of m) k (shown i.b) there)
+    let same : shown i.b ≡ shown_at address len (address - m.memory.base) =
+    ap (λ a. shown_at a i.b.bytes i.b.offset) (sym i.address_is) ∙ ap (λ n. shown_at address n i.b.offset) (sym i.len_is) ∙ ap (λ o. shown_at address len o) offset in
+    flat_more block_text (blocks_of m) k (shown i.b) there ∙ ap (λ (s : Shown). flat_map block_text (take k (blocks_of m)) ++ block_text s) same
 
 pub text_whole : (m : Machine) (k : ℕ) → None ≡ block_of m k → flat_map block_text (take k (blocks_of m)) ≡ flat_map block_text (blocks_of m)
 text_whole m k none = by (slice_get m.blocks k) refl

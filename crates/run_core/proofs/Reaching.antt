@@ -107,8 +107,8 @@ leads_needs old inputs going runs =
     }
   where
     by : (run : Run) (acts : List Act) (events : List Event) → IsAt run old acts inputs events → IsAt run (record old { doing = NeedsNumber }) acts inputs events
-    by (Unfinished u) acts events at = rw runs at
-    by (Finished ending t) acts events at = rw runs at
+    by (Unfinished u) acts events here = rw runs at here
+    by (Finished ending t) acts events here = rw runs at here
 
 pub step_leads : (old new : Machine) (event : MachineEvent) (inputs : List ℤ) → old.over ≡ None → old.doing ≡ Running → MachineSteps old event new → Leads old inputs event new inputs
 step_leads old new event inputs going runs steps = by (is_input (next_op_of old)) steps

@@ -13,7 +13,7 @@ pub fn add_blocks(alloc: Global, machine: &Machine, text: &mut Vec<u8>) -> Resul
     ensures { OnOk result (text.new.items ≡ text.old.items ++ flat_map block_text (blocks_of machine.now)) }
 {
     let mut k = 0;
-    'blocks: while let Some((address, len)) = machine.block(k) {
+    'adding: while let Some((address, len)) = machine.block(k) {
         let line = block_line(alloc, machine, address, len)?;
         text.extend_from_slice(&line)?;
         k += 1;

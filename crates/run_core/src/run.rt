@@ -90,7 +90,7 @@ fn finish<K: Sink>(
     outcome: Result<Ending, RunFault>,
     sink: &mut K,
 ) -> Result<Ending, RunFault>
-    ensures { Finishes play.text.items play.settings (blocks_of play.machine) outcome
+    ensures { Finishes play.entry.text.items play.entry.settings (blocks_of play.entry.machine) outcome
         (K.written sink.old) (K.written sink.new) (K.faults sink.old) (K.faults sink.new) result }
 {
     match outcome {

@@ -4,8 +4,8 @@ use Rattle.run_core.specs.Texts.{block_text}
 use Rattle.run_core.specs.Progress.{blocks_of}
 use Rattle.run_core.proofs.dump.add_blocks.Given as goal
 
-abbrev pub invariant-blocks : goal.invariant-blocks
-invariant-blocks l = l.text.items ≡ l.fn.text.items ++ flat_map block_text (take l.k (blocks_of l.machine))
+abbrev pub invariant-adding : goal.invariant-adding
+invariant-adding l = l.text.items ≡ l.fn.text.items ++ flat_map block_text (take l.k (blocks_of l.machine))
 
-abbrev pub decreases-blocks : goal.decreases-blocks
-decreases-blocks l = length l.machine.blocks - l.k
+abbrev pub decreases-adding : goal.decreases-adding
+decreases-adding l = length l.machine.blocks - l.k

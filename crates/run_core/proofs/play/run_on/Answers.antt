@@ -12,18 +12,18 @@ steps-preserved c =
     let now = c.in-Ran.ensures in
     let runs = runs_of c.steps.machine at.waits in
     record {
-      waits = runs_again c.steps.machine c.step.new.machine Ran refl now.over now.steps;
-      leads = λ inputs. leads_on c.args.machine.now c.steps.machine c.step.new.machine inputs Ran (at.leads inputs) (step_leads c.steps.machine c.step.new.machine Ran inputs runs.0 runs.1 now.steps);
+      waits = runs_again c.steps.machine c.step.new.self Ran refl now.over now.steps;
+      leads = λ inputs. leads_on c.args.machine.now c.steps.machine c.step.new.self inputs Ran (at.leads inputs) (step_leads c.steps.machine c.step.new.self Ran inputs runs.0 runs.1 now.steps);
       moves = omega (arith, at.moves, now.sooner);
     }
 
-pub returns : goal.returns
-returns c =
+pub returns-in_default : goal.returns-in_default
+returns-in_default c =
     let at = c.steps.invariant in
     let now = c.step.ensures in
     let runs = runs_of c.steps.machine at.waits in
     record {
-      leads = λ inputs. leads_on c.args.machine.now c.steps.machine c.step.new.machine inputs c.step.result (at.leads inputs) (step_leads c.steps.machine c.step.new.machine c.step.result inputs runs.0 runs.1 now.steps);
+      leads = λ inputs. leads_on c.args.machine.now c.steps.machine c.step.new.self inputs c.step.result (at.leads inputs) (step_leads c.steps.machine c.step.new.self c.step.result inputs runs.0 runs.1 now.steps);
       over = now.over;
       sooner = omega (arith, at.moves, now.sooner);
     }

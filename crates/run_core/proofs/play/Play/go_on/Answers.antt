@@ -1,2 +1,10 @@
 use Rattle.run_core.proofs.Playing.{played_step}
 use Rattle.run_core.proofs.play.Play.go_on.Goals as goal
+
+pub returns-in_ok-step-in-Runs-clause-goes : goal.returns-in_ok-step-in-Runs-clause-goes
+returns-in_ok-step-in-Runs-clause-goes g c = λ image settings inputs first played.
+    played_step g.A.Actor.answers _ image settings inputs first _ c.args.self.now c.step.new.self c.in_ok-step-in-Runs.ensures.steps played
+
+pub returns-in_ok-give-in-Number-clause-goes : goal.returns-in_ok-give-in-Number-clause-goes
+returns-in_ok-give-in-Number-clause-goes g c = λ image settings inputs first played.
+    played_step g.A.Actor.answers _ image settings inputs first _ c.args.self.now c.give.new.self c.in_ok-give-in-Number.ensures.steps played

@@ -1,0 +1,11 @@
+use Rattle.run_core.proofs.play.Play.step.Goals as goal
+
+pub returns-clause-steps : goal.returns-clause-steps
+returns-clause-steps c =
+    let e = c.in_ok-tell.ensures in
+    record {
+      event = c.run_on-event.result;
+      leads = rw (e.machine, e.inputs) (c.run_on-event.ensures.leads c.args.self.now.inputs.now);
+      tells = record { settings = e.tells.settings; text = e.tells.text; last = e.tells.last };
+      ended = e.ended;
+    }
