@@ -1,22 +1,21 @@
 -- Fewer moves are left behind each move of a paced image.
-use Rattle.std.proofs.Common.{◌≡◌, ℕ, zero, suc, ◌+◌, ◌-◌, ◌*◌, ◌%◌, ◌<◌, ◌≤◌, ◌⊎◌, ℤ, Bool, true, false, List, [], ◌∷◌, ◌++◌, length, Option, Some, None, refl, sym, ap, subst, ◌∙◌, ⊎_elim, inl, inr, arith}
-use Rattle.std.specs.Prelude.{slice_get, nat_lt, nat_le, ◌==◌, not, IsTrue}
+use Rattle.std.proofs.Common.{◌≡◌, ℕ, zero, suc, ◌+◌, ◌-◌, ◌*◌, ◌%◌, ◌<◌, ◌≤◌, ◌⊎◌, ℤ, Bool, true, false, List, [], ◌∷◌, length, Option, Some, None, refl, sym, ap, subst, ⊎_elim, inl, inr, arith}
+use Rattle.std.specs.Prelude.{slice_get, nat_lt, nat_le, ◌==◌, IsTrue}
 use Rattle.std.proofs.Math.Nat.{mul-le-mul_right}
 use Rattle.std.proofs.lemmas.Bool.Decides.{nat_tests}
 use Rattle.ckc_text.specs.declared.place.Place.{Place}
 use Rattle.ckc_text.specs.declared.code.Code.{Code}
 use Rattle.ckc_text.specs.declared.code.Code.TheVariants.{C4, C9}
 use Rattle.act_words.specs.declared.act.Turn.TheVariants as turns
-use Rattle.act_words.specs.declared.ending.Ending.{Ending}
 use Rattle.act_words.specs.declared.ending.Ending.TheVariants as endings
 use Rattle.act_words.specs.declared.settings.Settings.{Settings}
 use Rattle.act_words.specs.Acts.{Act, Go, Read, Write, Call, Return, Stop}
 use Rattle.act_words.specs.World.{World, NoAct, telling, taken_one, in_turn, spent_one}
-use Rattle.act_words.specs.Acting.{BeforeTouch, InSandbox, lies_in, shown_if, written_if, waits_or_ends, keeps_or_ends, act_before_touch, act_in_sandbox}
+use Rattle.act_words.specs.Acting.{lies_in, shown_if, written_if, waits_or_ends, keeps_or_ends}
 use Rattle.act_words.specs.Checks.{Checked, Holds, Fails}
 use Rattle.act_words.specs.Numbers.{signed, word, number_line}
 use Rattle.act_words.specs.Arithmetic as arithmetic
-use Rattle.act_words.specs.Touches.{Asked, Got, Ended, spend_tick, spent_if, enter_call, entered_if, input_from, next_input, write}
+use Rattle.act_words.specs.Touches.{spend_tick, spent_if, enter_call, entered_if, input_from, write}
 use Rattle.code_words.specs.declared.op.Op.{Op}
 use Rattle.code_words.specs.declared.op.Op.TheVariants as ops
 use Rattle.code_words.specs.declared.image.WordKind.{WordKind}
@@ -26,10 +25,10 @@ use Rattle.code_words.specs.declared.image.Callback.{Callback}
 use Rattle.code_words.specs.declared.image.Param.{Param}
 use Rattle.code_words.specs.declared.image.Image.{Image}
 use Rattle.code_words.specs.Marshalling.{Fault, Count, TooLarge, OutOfRange, arguments_fault, fits_kind}
-use Rattle.code_words.specs.Table.{Frame, Caller, Calls, Waits, CalledBack, Touch, Loads, Stores, Passes, Replies, Control, Runs, Touches, Away, State, Step, Goes, Over, wild, holds, depth, is_positive, asked, push, push_if, push_some, push_checked, pop, on_with, pop_2, pop_3, pop_5, pop_6, pop_if, pop_words, peek, set_if, load_if, load, store_if, store, check, touch_if, behind, enter, call_function, call_tainted, push_result, reply_of, reply_with, exit_with, return_to, allocate_if, allocate, allocate_sandbox_if, byte_at, by_byte, count_from, jump_if, jump, jump_if_zero, of_two, of_one, checked_of_two, act, act_next, step_in, step, frame_for}
-use Rattle.code_words.specs.Moves.{in_world, without_first, make_touch, before_touch_by, run_if, run_callback, at_place_of, tested, call_back_if, call_back, reply_if, reply_to, answer, in_sandbox_by, take_before_touch, take_in_sandbox, touch_at_end, before_touch, in_sandbox, move, move_by}
+use Rattle.code_words.specs.Table.{Frame, Caller, Calls, Waits, CalledBack, Touch, Loads, Stores, Passes, Replies, Control, Runs, Touches, Away, State, Step, Goes, Over, wild, holds, depth, is_positive, asked, push, push_if, push_some, push_checked, pop, on_with, pop_2, pop_3, pop_5, pop_6, pop_if, peek, set_if, load_if, load, store_if, store, check, touch_if, behind, enter, call_function, call_tainted, push_result, reply_of, reply_with, return_to, allocate_if, allocate, allocate_sandbox_if, byte_at, by_byte, count_from, jump_if, jump, jump_if_zero, of_two, of_one, checked_of_two, act, act_next, step_in, step, frame_for}
+use Rattle.code_words.specs.Moves.{in_world, without_first, make_touch, before_touch_by, run_if, run_callback, at_place_of, tested, call_back_if, call_back, reply_if, reply_to, answer, in_sandbox_by, take_before_touch, take_in_sandbox, before_touch, in_sandbox, move, move_by}
 use Rattle.code_words.specs.Paced.{is_tick, is_call, target_of, is_paced}
-use Rattle.code_words.specs.Left.{longest, ops_of, rest_in, rest_of, rest_of_control, rest_of_callers, moves_left, LeavesTurn}
+use Rattle.code_words.specs.Left.{longest, rest_of, rest_of_control, rest_of_callers, moves_left, LeavesTurn}
 use Rattle.code_words.proofs.Paces.{paced_function, not_longer, some_left, few_left, first_left, calm_falls, call_falls, jump_falls}
 
 -- ---- instructions that go on to the next one, or to a touch

@@ -1,14 +1,18 @@
 // What holds of the runs of all images.
 
-ghost use Rattle.std.specs.Prelude.{◌≡◌, ◌++◌, ℕ, List};
+ghost use Rattle.std.specs.Prelude.{◌≡◌, ◌++◌, ◌∷◌, ◌<◌, ◌⊎◌, ℕ, IsTrue, List};
 ghost use Rattle.std.proofs.Common.{ℤ};
+ghost use Rattle.act_words.specs.declared.act.Turn.TheVariants as turns;
 ghost use Rattle.act_words.specs.declared.ending.Ending.{Ending};
 ghost use Rattle.act_words.specs.declared.settings.Settings.{Settings};
 ghost use Rattle.act_words.specs.Acts.{Act};
 ghost use Rattle.act_words.specs.World.{Event};
 ghost use Rattle.act_words.specs.View.{ViewIsFold};
 ghost use Rattle.code_words.specs.declared.image.Image.{Image};
-ghost use Rattle.code_words.specs.Table.{State};
+ghost use Rattle.code_words.specs.Table.{Frame, Touch, State, Runs, Touches, Away, Goes};
+ghost use Rattle.code_words.specs.Moves.{move};
+ghost use Rattle.code_words.specs.Paced.{is_paced};
+ghost use Rattle.code_words.specs.Left.{moves_left, LeavesTurn};
 ghost use Rattle.code_words.specs.Runs.{CodeRun, exec, started, events_of};
 
 /// Whatever the image is, what its run shows to the sandbox is determined by the sandbox's memory at the start, by the acts
@@ -23,4 +27,17 @@ pub fn events_stay()
     ensures { (image : Image) (settings : Settings) (inputs : List ℤ) (acts : List Act) (n : ℕ) (ending : Ending) (t : State)
         → CodeRun image settings inputs acts ending t
         → (more : List Event) × (t.world.events ≡ events_of (exec image settings n (started image settings inputs acts)) ++ more) }
+{}
+
+/// Behind an instruction of a paced image fewer moves are left. Behind an act fewer are left too, or as many where it leaves
+/// the turn and makes no touch.
+pub fn moves_fall()
+    ensures instructions { (image : Image) (settings : Settings) (f : Frame) (s t : State) → IsTrue (is_paced image)
+        → s.control ≡ Runs f → move image settings s ≡ Goes t → moves_left image settings t < moves_left image settings s }
+    ensures touches { (image : Image) (settings : Settings) (f : Frame) (touch : Touch) (act : Act) (acts : List Act) (s t : State) → IsTrue (is_paced image)
+        → s.control ≡ Touches f touch → s.world.acts ≡ act ∷ acts → move image settings s ≡ Goes t
+        → (moves_left image settings t < moves_left image settings s) ⊎ ((moves_left image settings t ≡ moves_left image settings s) × LeavesTurn act turns.Trusted) }
+    ensures sandbox { (image : Image) (settings : Settings) (act : Act) (acts : List Act) (s t : State) → IsTrue (is_paced image)
+        → s.control ≡ Away → s.world.acts ≡ act ∷ acts → move image settings s ≡ Goes t
+        → (moves_left image settings t < moves_left image settings s) ⊎ ((moves_left image settings t ≡ moves_left image settings s) × LeavesTurn act turns.Sandbox) }
 {}

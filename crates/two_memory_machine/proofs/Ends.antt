@@ -1,14 +1,13 @@
 -- Fewer moves are left behind each call that moves a machine.
-use Rattle.std.proofs.Common.{◌≡◌, ℕ, ◌+◌, ◌*◌, ◌<◌, ◌≤◌, ◌⊎◌, ◌++◌, ℤ, pos, Bool, true, false, List, [], ◌∷◌, Option, Some, None, refl, sym, ap, subst, ◌∙◌, inl, inr, ⊎_elim, arith}
+use Rattle.std.proofs.Common.{◌≡◌, ℕ, ◌+◌, ◌*◌, ◌<◌, ◌≤◌, ℤ, Bool, true, false, List, [], ◌∷◌, Option, Some, None, refl, sym, ap, subst, ◌∙◌, inl, inr, ⊎_elim, arith}
 use Rattle.std.specs.Prelude.{IsTrue}
-use Rattle.ckc_text.specs.declared.place.Place.{Place}
 use Rattle.act_words.specs.declared.act.Turn.TheVariants as turns
 use Rattle.act_words.specs.declared.ending.Ending.{Ending}
 use Rattle.act_words.specs.Acts.{Act}
 use Rattle.act_words.specs.World
 use Rattle.act_words.specs.World.{NoAct}
 use Rattle.code_words.specs.declared.op.Op.{Op}
-use Rattle.code_words.specs.Table.{Frame, Waits, Touch, wild, Control, Runs, Touches, Away, State, Step, Goes, Over}
+use Rattle.code_words.specs.Table.{Waits, wild, Control, Runs, Touches, Away, State, Step, Goes, Over}
 use Rattle.code_words.specs.Moves.{move}
 use Rattle.code_words.specs.Paced.{is_paced}
 use Rattle.code_words.specs.Left as code

@@ -7,7 +7,7 @@ use Rattle.code_words.specs.Paced.{is_paced}
 use Rattle.code_words.specs.declared.op.Op.TheVariants.{NextInput}
 use Rattle.code_words.specs.Table.{push}
 use Rattle.two_memory_machine.specs.declared.machine.Phase.TheVariants as phases
-use Rattle.two_memory_machine.specs.Machines.{Machine, Running, NeedsNumber, TakesNumber, TakesNoNumber}
+use Rattle.two_memory_machine.specs.Machines.{Machine, Running, TakesNumber, TakesNoNumber}
 use Rattle.two_memory_machine.specs.Insides.{machine, doing_of, IsPhaseOf}
 use Rattle.two_memory_machine.specs.Steps.{EventBy, GoesBy, IsIn}
 use Rattle.two_memory_machine.proofs.Callers.{needs}

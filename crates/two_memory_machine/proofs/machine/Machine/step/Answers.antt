@@ -2,7 +2,7 @@ use Rattle.std.proofs.Common.{◌≡◌, Some, None, refl, sym, ap, ◌∙◌, s
 use Rattle.std.specs.Prelude.{slice_get, IsTrue}
 use Rattle.code_words.specs.Paced.{is_paced}
 use Rattle.code_words.specs.declared.op.Op.{Op}
-use Rattle.two_memory_machine.specs.Machines.{Machine, next_op_of}
+use Rattle.two_memory_machine.specs.Machines.{next_op_of}
 use Rattle.two_memory_machine.specs.Steps.{Performs}
 use Rattle.two_memory_machine.specs.Insides.{machine, IsConsistent}
 use Rattle.two_memory_machine.specs.declared.machine.Machine.TheInside.{Inside}
