@@ -1,0 +1,4 @@
+mod Cuts
+mod Digits
+mod Lists
+mod Choices
