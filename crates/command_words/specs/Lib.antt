@@ -1,3 +1,4 @@
 pub mod Requests
-pub mod Acceptance
+pub mod Pieces
+pub mod Requested
 pub mod Examples

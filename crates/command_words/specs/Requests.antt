@@ -1,8 +1,8 @@
 -- What the words of the command line ask for.
-use Rattle.std.specs.Prelude.{ℕ, zero, suc, ◌+◌, ◌%◌, Bool, true, false, not, ◌&&◌, ◌==◌, nat_le, if◌then◌else◌, List, [], ◌∷◌, codes, length, Option, Some, None, option_map, unwrap_or, pos, negsuc}
+use Rattle.std.specs.Prelude.{ℕ, zero, suc, ◌%◌, Bool, true, false, not, ◌&&◌, ◌==◌, nat_le, if◌then◌else◌, List, [], ◌∷◌, codes, drop, length, Option, Some, None, option_map, unwrap_or, pos, negsuc}
 use Rattle.std.proofs.Common.{ℤ}
 use Rattle.std.specs.Option.{option_and_then}
-use Rattle.std.specs.List.{list_all, list_any, before_first, after_first}
+use Rattle.std.specs.List.{list_all, starts_with}
 use Rattle.std.specs.Str.{bytes_eq}
 use Rattle.std.specs.Str.Parse.{digits_value}
 use Rattle.act_words.specs.declared.settings.Settings.{Settings}
@@ -77,8 +77,8 @@ negative (suc n) = negsuc n
 
 -- a number of 32 bits, with a minus before it or without
 abbrev pub input_number : List ℕ → Option ℤ
-input_number [] = None
-input_number (b ∷ bs) = if b == 45 then option_map negative (number_from 0 2147483648 bs) else option_map pos (number_from 0 2147483647 (b ∷ bs))
+input_number text =
+    if starts_with ◌==◌ text (codes "-") then option_map negative (number_from 0 2147483648 (drop 1 text)) else option_map pos (number_from 0 2147483647 text)
 
 -- the pieces of a text between commas: what stands before the first, and the others
 abbrev pub with_byte : ℕ → List (List ℕ) → List (List ℕ)
@@ -117,19 +117,24 @@ pub data Choice : Type 0 where
 abbrev pub acts_choice : List ℕ → Option Choice
 acts_choice file = if may_name_file file then Some (ActsFrom file) else None
 
+abbrev pub input_choice : List ℕ → Option Choice
+input_choice text = option_map InputOf (input_list text)
+
 -- what an option of this name chooses with a value
 abbrev pub value_choice : List ℕ → List ℕ → Option Choice
 value_choice name value =
     if bytes_eq name (codes "--acts") then acts_choice value
-    else if bytes_eq name (codes "--input") then option_map InputOf (input_list value)
+    else if bytes_eq name (codes "--input") then input_choice value
     else if bytes_eq name (codes "--budget") then option_map BudgetOf (number_from 1 1000000000 value)
     else if bytes_eq name (codes "--sandbox") then option_map SandboxOf (number_from 65536 16777216 value)
     else if bytes_eq name (codes "--trusted") then option_map TrustedOf (number_from 65536 4194304 value)
     else if bytes_eq name (codes "--base") then option_map BaseOf (base_from value)
     else None
 
-abbrev pub is_equals : ℕ → Bool
-is_equals b = b == 61
+-- what stands before the first such byte of a text, and what stands behind it
+abbrev pub cut_at : ℕ → List ℕ → Option (List ℕ × List ℕ)
+cut_at c [] = None
+cut_at c (b ∷ bs) = if b == c then Some ([], bs) else option_map (λ cut. (b ∷ cut.0, cut.1)) (cut_at c bs)
 
 -- what a word chooses by itself: a flag, or a name with its value behind an equals sign
 abbrev pub word_choice : List ℕ → Option Choice
@@ -137,8 +142,7 @@ word_choice word =
     if bytes_eq word (codes "--view") then Some View
     else if bytes_eq word (codes "--releases") then Some Releases
     else if bytes_eq word (codes "--dump") then Some Dump
-    else if list_any is_equals word then value_choice (before_first is_equals word) (after_first is_equals word)
-    else None
+    else option_and_then (λ cut. value_choice cut.0 cut.1) (cut_at 61 word)
 
 -- what a word chooses with the word behind it, which doesn't begin with `-`
 abbrev pub pair_choice : List ℕ → List ℕ → Option Choice

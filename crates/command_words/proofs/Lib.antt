@@ -1,0 +1,5 @@
+mod Cuts
+mod Digits
+mod Lists
+mod Choices
+pub mod Allowed

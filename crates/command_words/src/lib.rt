@@ -1,0 +1,7 @@
+// The words of the command line.
+#![tactic(auto)]
+
+mod inputs;
+pub mod laws;
+mod numbers;
+pub mod request;
