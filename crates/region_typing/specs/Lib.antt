@@ -6,3 +6,4 @@ pub mod Searches
 pub mod Calls
 pub mod Slices
 pub mod Targets
+pub mod Walks

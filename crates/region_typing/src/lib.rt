@@ -4,6 +4,8 @@
 mod assignments;
 mod calls;
 mod expressions;
+mod declarations;
+mod locals;
 mod lookups;
 mod members;
 mod operands;
@@ -13,4 +15,5 @@ mod refusals;
 mod scope;
 pub mod sites;
 mod typed;
+mod statements;
 mod types;
