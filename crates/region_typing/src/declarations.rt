@@ -1,44 +1,35 @@
 // Declarations of locals.
 
-ghost use Rattle.std.specs.Prelude.{◌≡◌, ◌∷◌, [], IfOk, map, length};
+ghost use Rattle.std.specs.Prelude.{◌≡◌, ◌<◌, map, length};
 ghost use Rattle.std.specs.Option.{option_map};
 ghost use Rattle.ckc_text.specs.Places.{place_at};
 ghost use Rattle.ckc_tree.specs.Types.{type_tree};
 ghost use Rattle.ckc_tree.specs.Statements.{initializer as initializer_tree, declarator as declarator_tree, declaration as declaration_tree};
 ghost use Rattle.pointer_modes.specs.Types.{ctype as ctype_of};
 ghost use Rattle.ckc_core.specs.Core.{expression, statement};
-ghost use Rattle.typing_rules.specs.Statements.{both as both_of, zero_value as zero_of, initialised as initialised_as, declarator as declarator_of, declarators as declarators_of, declaration as declaration_of};
-ghost use Rattle.region_typing.specs.Answering.{Answers};
-ghost use Rattle.region_typing.specs.Views.{scope as scope_of};
-ghost use Rattle.region_typing.specs.Walks.{Walks};
+ghost use Rattle.typing_rules.specs.Statements.{zero_value as zero_of, initialised as initialised_as, declarator as declarator_of, declarators as declarators_of, declaration as declaration_of};
+ghost use Rattle.expression_typing.specs.Answering.{Answers};
+ghost use Rattle.expression_typing.specs.Views.{scope as scope_of};
+ghost use Rattle.region_typing.specs.Walks.{Walks, from_zero as from_zero_as, declared_local};
 
-use crate::calls::converted;
-use crate::expressions::typed;
-use crate::refusals::{needs, refusal};
-use crate::scope::Scope;
-use crate::sites::Sites;
-use crate::types::{base_type, copied, is_scalar, without_stars};
+use crate::core_forms::both;
 use ckc_core::program::{Expr, Stmt};
 use ckc_text::code::Code;
-use ckc_text::fault::{NoMemory, Refused};
+use ckc_text::fault::Refused;
 use ckc_text::place::Span;
 use ckc_tree::stmt::{Declaration, Declarator, Initializer};
 use ckc_tree::type_form::TypeForm;
+use expression_typing::calls::converted;
+use expression_typing::expressions::typed;
+use expression_typing::refusals::{needs, refusal};
+use expression_typing::scope::Scope;
+use expression_typing::sites::Sites;
+use expression_typing::types::{base_type, copied, is_scalar, without_stars};
 use pointer_modes::ctype::CType;
 use std::alloc::Global;
 
 /// How many locals a function may have.
 const MOST_LOCALS: usize = 256;
-
-/// Two statements in a row.
-pub fn both(alloc: Global, first: Stmt, second: Stmt) -> Result<Stmt, NoMemory>
-    ensures { IfOk result (λ s. statement s ≡ both_of (statement first) (statement second)) }
-{
-    let mut statements = Vec::new(alloc);
-    statements.push(first)?;
-    statements.push(second)?;
-    Ok(Stmt::Block(statements))
-}
 
 // What a local is before it is given a value.
 fn zero_value(t: &CType) -> Expr
@@ -73,6 +64,42 @@ fn initialised(
     }
 }
 
+// What a local is before it is given a value, and then its initial value.
+fn from_zero(
+    alloc: Global,
+    sites: &Sites,
+    scope: &Scope,
+    written: &Option<Initializer>,
+    t: &CType,
+    local: u32,
+    span: Span,
+) -> Result<Stmt, Refused>
+    ensures { Answers statement (from_zero_as (place_at sites.now) (scope_of scope.now) (option_map initializer_tree written.now) (ctype_of t.now) local span) result }
+{
+    let initial = initialised(alloc, sites, scope, written, t, local, span)?;
+    needs(is_scalar(t), Code::E13, span)?;
+    let value = zero_value(t);
+    Ok(both(alloc, Stmt::SetLocal { local, value }, initial)?)
+}
+
+// A local more, which is given what it is at first.
+fn declared(
+    alloc: Global,
+    sites: &Sites,
+    scope: &mut Scope,
+    d: &Declarator,
+    t: CType,
+    span: Span,
+) -> Result<Stmt, Refused>
+    requires { length scope.old.locals.items < 256 }
+    ensures { Walks statement (declared_local (place_at sites.now) (scope_of scope.old) (declarator_tree d.now) (ctype_of t) span) scope.old result scope.new }
+{
+    let local = scope.locals.len() as u32;
+    let kept = copied(alloc, &t)?;
+    scope.add_local(alloc, d.name.name.as_bytes(), kept)?;
+    from_zero(alloc, sites, scope, &d.initializer, &t, local, span)
+}
+
 // One local of a declaration.
 fn declarator(
     alloc: Global,
@@ -85,15 +112,11 @@ fn declarator(
 ) -> Result<Stmt, Refused>
     ensures { Walks statement (declarator_of (place_at sites.now) (scope_of scope.old) (type_tree base.now) (ctype_of t.now) span (declarator_tree d.now)) scope.old result scope.new }
 {
-    let local = scope.locals.len();
-    needs(local < MOST_LOCALS, Code::E08, span)?;
+    if scope.locals.len() >= MOST_LOCALS {
+        return Err(refusal(Code::E08, span));
+    }
     let t = without_stars(base, d.stars, copied(alloc, t)?)?;
-    scope.add_local(alloc, d.name.name.as_bytes(), copied(alloc, &t)?)?;
-    let local = local as u32;
-    let initial = initialised(alloc, sites, scope, &d.initializer, &t, local, span)?;
-    needs(is_scalar(&t), Code::E13, span)?;
-    let value = zero_value(&t);
-    Ok(both(alloc, Stmt::SetLocal { local, value }, initial)?)
+    declared(alloc, sites, scope, d, t, span)
 }
 
 // The locals of a declaration.
@@ -128,13 +151,5 @@ pub fn declaration(
     ensures { Walks statement (declaration_of (place_at sites.now) (scope_of scope.old) (declaration_tree d.now)) scope.old result scope.new }
 {
     let t = base_type(alloc, scope, &d.base)?;
-    declarators(
-        alloc,
-        sites,
-        scope,
-        &d.base,
-        &t,
-        d.span,
-        d.declarators.as_slice(),
-    )
+    declarators(alloc, sites, scope, &d.base, &t, d.span, d.declarators.as_slice())
 }
