@@ -1,4 +1,5 @@
 pub mod Walking
+pub mod Testing
 pub mod Rows
 pub mod Verdicts
 pub mod Locals

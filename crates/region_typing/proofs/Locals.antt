@@ -41,3 +41,7 @@ local_declared at d t u local span old mid r known same number more answer =
     let here : scope mid ≡ with_local d.name.name t (scope old) = known ∙ ap (λ v. with_local d.name.name v (scope old)) same in
     let last : local ≡ length (scope old).locals = number ∙ sym (length-map old.locals.items ctype) in
     from_more statement _ _ old mid mid r (rw (← last, ← here) refl) more (kept mid answer)
+
+-- few locals, as the code counts them
+pub few_locals : (g : code.Scope.Scope) (n : ℕ) → n ≡ length g.locals.items → nat_lt n 256 ≡ nat_lt (length (scope g).locals) 256
+few_locals g n is = ap (λ k. nat_lt k 256) (is ∙ sym (length-map g.locals.items ctype))

@@ -1,15 +1,21 @@
 -- Statements that have statements, by their parts.
-use Rattle.std.proofs.Common.{◌≡◌, true, Option, refl, sym, ◌∙◌}
+use Rattle.std.proofs.Common.{◌≡◌, ℕ, Bool, true, Option, length, map, reverse, take, Result, Ok, refl, ap, sym, ◌∙◌}
+use Rattle.ckc_text.specs.declared.fault.Refused.{Refused}
 use Rattle.ckc_text.specs.declared.place.Span.{Span}
 use Rattle.ckc_tree.specs.Expressions.{Expression}
 use Rattle.ckc_tree.specs.Statements as s
 use Rattle.ckc_tree.specs.Statements.{Statement, Assignment, ForInitial}
+use Rattle.ckc_core.specs.declared.program.Stmt.{Stmt}
 use Rattle.ckc_core.specs.Core as core
+use Rattle.ckc_core.specs.Core.{statement as core_statement}
 use Rattle.typing_rules.specs.Verdicts.{Verdict, Passes, passing}
 use Rattle.typing_rules.specs.Scopes.{Scope}
 use Rattle.typing_rules.specs.Expressions.{Places}
 use Rattle.typing_rules.specs.Statements.{both, behind_block, in_loop, condition, optional_condition, optional_step, first_part, statement}
-use Rattle.region_typing.specs.Walks.{nested, turns, while_loop, for_loop}
+use Rattle.expression_typing.specs.declared.scope as code
+use Rattle.expression_typing.specs.Views.{scope, visible}
+use Rattle.region_typing.specs.Walks.{Walks, nested, turns, while_loop, for_loop}
+use Rattle.region_typing.proofs.Walking.{left, left_walk, grown, other_loop}
 use Rattle.region_typing.proofs.Verdicts.{same_behind, in_parts}
 
 -- behind a statement whose locals are gone
@@ -38,3 +44,27 @@ turned at g outside first test step body =
 
 pub for_parts : (at : Places) (g : Scope) (initial : ForInitial) (test : Option Expression) (step : Option Assignment) (body : Statement) (span : Span) → statement at g (s.For initial test step body span) ≡ for_loop at g initial test step body
 for_parts at g initial test step body span = same_behind (first_part at g initial) _ _ (λ first. sym (turned at first.1 g first.0 test step body))
+
+-- ---- walks by these parts
+
+pub if_walk : {old new : code.Scope.Scope} {r : Result Stmt Refused} (at : Places) (x : Statement) (test : Expression) (consequent : Statement) (span : Span) → x ≡ s.If test consequent span
+    → Walks core_statement (passing (condition at (scope old) test) (λ c. passing (nested at (scope old) (scope old).in_loop consequent) (λ y. Passes (core.If c y.0 core.Nothing, y.1)))) old r new → Walks core_statement (statement at (scope old) x) old r new
+if_walk {old = old} at x test consequent span is walk = rw (is, if_parts at (scope old) test consequent span) walk
+
+pub if_else_walk : {old new : code.Scope.Scope} {r : Result Stmt Refused} (at : Places) (x : Statement) (test : Expression) (consequent alternative : Statement) (span : Span) → x ≡ s.IfElse test consequent alternative span
+    → Walks core_statement (passing (condition at (scope old) test) (λ c. passing (nested at (scope old) (scope old).in_loop consequent) (λ y. passing (nested at y.1 (scope old).in_loop alternative) (λ z. Passes (core.If c y.0 z.0, z.1))))) old r new → Walks core_statement (statement at (scope old) x) old r new
+if_else_walk {old = old} at x test consequent alternative span is walk = rw (is, if_else_parts at (scope old) test consequent alternative span) walk
+
+pub while_walk : {old new : code.Scope.Scope} {r : Result Stmt Refused} (at : Places) (x : Statement) (test : Expression) (body : Statement) (span : Span) → x ≡ s.While test body span → Walks core_statement (while_loop at (scope old) test body) old r new → Walks core_statement (statement at (scope old) x) old r new
+while_walk {old = old} at x test body span is walk = rw (is, while_parts at (scope old) test body span) walk
+
+pub for_walk : {old new : code.Scope.Scope} {r : Result Stmt Refused} (at : Places) (x : Statement) (initial : ForInitial) (test : Option Expression) (step : Option Assignment) (body : Statement) (span : Span) → x ≡ s.For initial test step body span → Walks core_statement (for_loop at (scope old) initial test step body) old r new → Walks core_statement (statement at (scope old) x) old r new
+for_walk {old = old} at x initial test step body span is walk = rw (is, for_parts at (scope old) initial test step body span) walk
+
+-- behind a nested statement its locals are gone
+pub nested_walk : {before : code.Scope.Scope} (at : Places) (loop : Bool) (n : ℕ) (around : Bool) (s : Statement) (x : Stmt) (old mid new : code.Scope.Scope) → Walks core_statement (statement at (scope before) s) before (Ok x) mid → scope before ≡ record (scope old) { in_loop = loop } → before.visible.items ≡ old.visible.items
+    → n ≡ length old.visible.items → around ≡ old.in_loop → scope new ≡ record (scope mid) { visible = reverse (map visible (take n mid.visible.items)); in_loop = around } → new.visible.items ≡ take n mid.visible.items
+    → Walks core_statement (nested at (scope old) loop s) old (Ok x) new
+nested_walk {before = before} at loop n around s x old mid new walk inside_is same all around_is known seen =
+    left_walk core_statement (λ y. y) (statement at (record (scope old) { in_loop = loop }) s) (core_statement x) x old mid new (ap (λ g. statement at g s) (sym inside_is) ∙ walk.so.0)
+    (left n around old mid new (grown (other_loop loop old before inside_is same) walk.so.1) all around_is known seen) refl

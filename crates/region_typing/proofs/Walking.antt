@@ -5,6 +5,7 @@ use Rattle.std.proofs.lemmas.List.{append-nil, take_at}
 use Rattle.std.proofs.lemmas.Result.{err_from_is_err_and}
 use Rattle.ckc_text.specs.declared.fault.Refused.{Refused}
 use Rattle.ckc_text.specs.declared.fault.Refused.TheVariants.{Source, NoMemory}
+use Rattle.ckc_text.specs.declared.fault.SourceFault.{SourceFault}
 use Rattle.pointer_modes.specs.Types.{CType}
 use Rattle.typing_rules.specs.Verdicts.{Verdict, Passes, Breaks, passing}
 use Rattle.typing_rules.specs.Scopes.{Scope}
@@ -96,6 +97,14 @@ kept {view = view} {v = v} g {r = r} answer = record { so = kept_so view v g r a
 pub kept_as : {C A : Type 0} {view : C → A} {v : Verdict A} (w : Verdict (A × Scope)) (g : code.Scope.Scope) {r : Result C Refused} → w ≡ passing v (λ x. Passes (x, scope g)) → Answers view v r → Walks view w g r g
 kept_as w g is answer = rw is (kept g answer)
 
+-- what was built last
+pub done : {B D : Type 0} (view : D → B) (y : D) (z : B) (g : code.Scope.Scope) → view y ≡ z → Walks view (Passes (z, scope g)) g (Ok y) g
+done view y z g is = record { so = (ap (λ x. Passes (x, scope g)) (sym is), none_more g) }
+
+-- behind a block
+pub left_walk : {A B D : Type 0} (view : D → B) (f : A → B) (v : Verdict (A × Scope)) (x : A) (y : D) (old mid new : code.Scope.Scope) → v ≡ Passes (x, scope mid) → Left old mid new → view y ≡ f x → Walks view (passing v (λ w. Passes (f w.0, behind_block (scope old) w.1))) old (Ok y) new
+left_walk view f v x y old mid new first gone is = record { so = (ap (λ w. passing w (λ w. Passes (f w.0, behind_block (scope old) w.1))) first ∙ ap (λ z. Passes (z, behind_block (scope old) (scope mid))) (sym is) ∙ ap (λ g. Passes (view y, g)) (sym gone.known), gone.grows) }
+
 -- ---- rules that are broken
 
 stops : {A B C D : Type 0} (view : C → A) (verdict : Verdict A) (view' : D → B) (next : A → Verdict (B × Scope)) (old new : code.Scope.Scope) (e : Refused) → Answers view verdict (Err e) → Walks view' (passing verdict next) old (Err e) new
@@ -112,5 +121,15 @@ as_answer view verdict old mid (Source fault) walk = record { so = walk.so }
 as_answer view verdict old mid NoMemory walk = record { so = tt }
 
 -- a walk in which a rule is broken
-pub refused_walk : {A B C D : Type 0} {view : C → A} {verdict : Verdict (A × Scope)} {view' : D → B} {old mid new : code.Scope.Scope} {e : Refused} (next : A × Scope → Verdict (B × Scope)) (r : Result D Refused) → IsErrAnd r (λ y. y ≡ e) → Walks view verdict old (Err e) mid → Walks view' (passing verdict next) old r new
-refused_walk {view = view} {verdict = verdict} {old = old} {mid = mid} {e = e} next r is first = refused next r is (as_answer view verdict old mid e first)
+pub refused_walk : {A B C D : Type 0} {view : C → A} {verdict : Verdict (A × Scope)} {view' : D → B} {before old mid new : code.Scope.Scope} {e : Refused} (next : A × Scope → Verdict (B × Scope)) (r : Result D Refused) → IsErrAnd r (λ y. y ≡ e) → Walks view verdict before (Err e) mid → Walks view' (passing verdict next) old r new
+refused_walk {view = view} {verdict = verdict} {before = before} {mid = mid} {e = e} next r is first = refused next r is (as_answer view verdict before mid e first)
+
+by_part : {A B C D : Type 0} (view : C → A) (v : Verdict (A × Scope)) (view' : D → B) (w : Verdict (B × Scope)) (before mid old new : code.Scope.Scope) (e : Refused) → ((fault : SourceFault) → v ≡ Breaks fault → w ≡ Breaks fault) → Walks view v before (Err e) mid → Walks view' w old (Err e) new
+by_part view v view' w before mid old new (Source fault) breaks part = record { so = breaks fault part.so }
+by_part view v view' w before mid old new NoMemory breaks part = record { so = tt }
+
+-- what a part is refused for the whole is refused for
+pub refused_by : {A B C D : Type 0} {view : C → A} {v : Verdict (A × Scope)} {view' : D → B} {w : Verdict (B × Scope)} {before mid old new : code.Scope.Scope} {e : Refused} (r : Result D Refused) → IsErrAnd r (λ y. y ≡ e) → ((fault : SourceFault) → v ≡ Breaks fault → w ≡ Breaks fault) → Walks view v before (Err e) mid → Walks view' w old r new
+refused_by {view = view} {v = v} {view' = view'} {w = w} {before = before} {mid = mid} {old = old} {new = new} {e = e} r is breaks part =
+    let p = err_from_is_err_and r is in
+    rw (p.1, p.2) (by_part view v view' w before mid old new e breaks part)

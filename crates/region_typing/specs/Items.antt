@@ -17,7 +17,7 @@ use Rattle.typing_rules.specs.Statements.{statements, is_unchecked}
 use Rattle.typing_rules.specs.Items.{Walk, with_variable, block_bytes, initializer, inside, core_function, is_trusted, is_defined, in_checked_region}
 use Rattle.expression_typing.specs.Views.{scope}
 use Rattle.region_typing.specs.declared.walk as code
-use Rattle.region_typing.specs.declared.globals.Variable as code_variable
+use Rattle.region_typing.specs.declared.globals.WalkedVariable as code_variable
 use Rattle.region_typing.specs.Initials.{Judged, judged, judged_as, judged_cells}
 
 abbrev pub walk : code.Walk.Walk → Walk
@@ -44,7 +44,7 @@ pub record JudgedVariable : Type 0 where
   pub type : CType
   pub initial : Judged
 
-abbrev pub judged_variable : code_variable.Variable → JudgedVariable
+abbrev pub judged_variable : code_variable.WalkedVariable → JudgedVariable
 judged_variable v = record { type = ctype v.ctype; initial = judged v.initial }
 
 -- the type of a variable that there is room for (E08)

@@ -11,7 +11,7 @@ use Rattle.ckc_core.specs.declared.program.Stmt.{Stmt}
 use Rattle.ckc_tree.specs.Expressions.{Expression}
 use Rattle.ckc_tree.specs.Statements.{Statement, Assignment, ForInitial, Initializer, Declarator}
 use Rattle.typing_rules.specs.Verdicts.{Verdict, Passes, Breaks, passing, needs}
-use Rattle.typing_rules.specs.Expressions.{Places, call_typed}
+use Rattle.typing_rules.specs.Expressions.{Places, typed, converted, call_typed}
 use Rattle.typing_rules.specs.Types.{is_scalar}
 use Rattle.typing_rules.specs.Statements.{both, alone, zero_value, initialised, with_local, statement, behind_block, condition, optional_condition, optional_step, first_part}
 use Rattle.typing_rules.specs.Scopes.{Scope}
@@ -27,6 +27,10 @@ walks_so view verdict old (Err NoMemory) new = Unit {0}
 -- the answer is the verdict's value with what is known behind it, or the fault of the rule that is broken
 pub record Walks {C A : Type 0} (view : C → A) (verdict : Verdict (A × Scope)) (old : code.Scope.Scope) (result : Result C Refused) (new : code.Scope.Scope) : Type 0 where
   pub so : walks_so view verdict old result new
+
+-- the value that a local is given
+abbrev pub initial_value : Places → Scope → Expression → CType → ℕ → Span → Verdict core.Statement
+initial_value at g value t local span = passing (typed at g value) (λ u. converted u t span (λ v. Passes (core.SetLocal local v)))
 
 -- what a local is before it is given a value, and then its initial value
 abbrev pub from_zero : Places → Scope → Option Initializer → CType → ℕ → Span → Verdict core.Statement

@@ -4,19 +4,22 @@ ghost use Rattle.std.specs.Prelude.{◌≡◌, ◌<◌, map, length};
 ghost use Rattle.std.specs.Option.{option_map};
 ghost use Rattle.ckc_text.specs.Places.{place_at};
 ghost use Rattle.ckc_tree.specs.Types.{type_tree};
+ghost use Rattle.ckc_tree.specs.Expressions.{expression as expression_tree};
 ghost use Rattle.ckc_tree.specs.Statements.{initializer as initializer_tree, declarator as declarator_tree, declaration as declaration_tree};
 ghost use Rattle.pointer_modes.specs.Types.{ctype as ctype_of};
 ghost use Rattle.ckc_core.specs.Core.{expression, statement};
 ghost use Rattle.typing_rules.specs.Statements.{zero_value as zero_of, initialised as initialised_as, declarator as declarator_of, declarators as declarators_of, declaration as declaration_of};
 ghost use Rattle.expression_typing.specs.Answering.{Answers};
 ghost use Rattle.expression_typing.specs.Views.{scope as scope_of};
-ghost use Rattle.region_typing.specs.Walks.{Walks, from_zero as from_zero_as, declared_local};
+ghost use Rattle.region_typing.specs.Walks.{Walks, initial_value as initial_value_as, from_zero as from_zero_as, declared_local};
 
 use crate::core_forms::both;
-use ckc_core::program::{Expr, Stmt};
+use ckc_core::program;
+use ckc_core::program::Stmt;
 use ckc_text::code::Code;
 use ckc_text::fault::Refused;
 use ckc_text::place::Span;
+use ckc_tree::expr::Expr;
 use ckc_tree::stmt::{Declaration, Declarator, Initializer};
 use ckc_tree::type_form::TypeForm;
 use expression_typing::calls::converted;
@@ -32,16 +35,33 @@ use std::alloc::Global;
 const MOST_LOCALS: usize = 256;
 
 // What a local is before it is given a value.
-fn zero_value(t: &CType) -> Expr
+fn zero_value(t: &CType) -> program::Expr
     ensures { expression result ≡ zero_of (ctype_of t.now) }
 {
     match t {
-        CType::Int | CType::Char => Expr::Number(0),
-        CType::Struct(_) | CType::Pointer(..) => Expr::Null,
+        CType::Int | CType::Char => program::Expr::Number(0),
+        CType::Struct(_) | CType::Pointer(..) => program::Expr::Null,
     }
 }
 
-// The initial value of a local.
+// The value that a local is given.
+fn initial_value(
+    alloc: Global,
+    sites: &Sites,
+    scope: &Scope,
+    value: &Expr,
+    t: &CType,
+    local: u32,
+    span: Span,
+) -> Result<Stmt, Refused>
+    ensures { Answers statement (initial_value_as (place_at sites.now) (scope_of scope.now) (expression_tree value.now) (ctype_of t.now) local span) result }
+{
+    let given = typed(alloc, sites, scope, value)?;
+    let value = converted(alloc, given, t, span)?;
+    Ok(Stmt::SetLocal { local, value })
+}
+
+// The initial value of a local, if it has one.
 fn initialised(
     alloc: Global,
     sites: &Sites,
@@ -56,9 +76,7 @@ fn initialised(
     match written {
         None => Ok(Stmt::Nothing),
         Some(Initializer::Value { value }) => {
-            let value = typed(alloc, sites, scope, value)?;
-            let value = converted(alloc, value, t, span)?;
-            Ok(Stmt::SetLocal { local, value })
+            initial_value(alloc, sites, scope, value, t, local, span)
         }
         Some(Initializer::List { .. }) => Err(refusal(Code::E13, span)),
     }
@@ -112,10 +130,10 @@ fn declarator(
 ) -> Result<Stmt, Refused>
     ensures { Walks statement (declarator_of (place_at sites.now) (scope_of scope.old) (type_tree base.now) (ctype_of t.now) span (declarator_tree d.now)) scope.old result scope.new }
 {
-    if scope.locals.len() >= MOST_LOCALS {
-        return Err(refusal(Code::E08, span));
-    }
-    let t = without_stars(base, d.stars, copied(alloc, t)?)?;
+    let few = scope.locals.len() < MOST_LOCALS;
+    needs(few, Code::E08, span)?;
+    let given = copied(alloc, t)?;
+    let t = without_stars(base, d.stars, given)?;
     declared(alloc, sites, scope, d, t, span)
 }
 

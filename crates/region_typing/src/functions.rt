@@ -11,7 +11,7 @@ ghost use Rattle.expression_typing.specs.Answering.{Answers};
 ghost use Rattle.expression_typing.specs.Views.{scope as scope_of, signature, variable as variable_of};
 ghost use Rattle.region_typing.specs.Items.{walk as walk_of, Outside, one_parameter, body_core};
 
-use crate::statements::{is_unchecked, statements};
+use crate::statements::{is_checked, statements};
 use crate::walk::Walk;
 use ckc_core::program::{Function, Stmt};
 use ckc_text::code::Code;
@@ -181,7 +181,7 @@ pub fn function_body(
     match body {
         None => Ok(()),
         Some(body) => {
-            let checked = !(is_unchecked(body.mark) || walk.scope.is_off);
+            let checked = is_checked(&walk.scope, body.mark);
             let written = body.statements.as_slice();
             let built = body_of(alloc, sites, &mut walk.scope, f, parameters, written)?;
             needs(checked, Code::E15, body.span)?;

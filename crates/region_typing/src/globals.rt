@@ -38,7 +38,7 @@ const MOST_BYTES: u32 = 32768;
 
 /// A walked variable with what it is initialised with.
 #[derive(Drop)]
-pub struct Variable {
+pub struct WalkedVariable {
     pub ctype: CType,
     pub initial: Judged,
 }
@@ -111,13 +111,13 @@ fn variable(
     t: &CType,
     span: Span,
     d: &Declarator,
-) -> Result<Variable, Refused>
+) -> Result<WalkedVariable, Refused>
     ensures { Answers (λ v. (walk_of walk.new, judged_variable v)) (one_variable (place_at sites.now) (walk_of walk.old) (type_tree base.now) (ctype_of t.now) span (declarator_tree d.now)) result }
 {
     let t = variable_type(alloc, walk, base, t, span, d)?;
     add_variable(alloc, walk, d.name.name.as_bytes(), &t)?;
     let initial = initializer(alloc, sites, &walk.scope, &d.initializer)?;
-    Ok(Variable { ctype: t, initial })
+    Ok(WalkedVariable { ctype: t, initial })
 }
 
 // The variables of a declaration.
@@ -129,7 +129,7 @@ fn variables(
     t: &CType,
     span: Span,
     ds: &[Declarator],
-) -> Result<Vec<Variable>, Refused>
+) -> Result<Vec<WalkedVariable>, Refused>
     ensures { Answers (λ v. (walk_of walk.new, map judged_variable v.items)) (judged_variables (place_at sites.now) (type_tree base.now) (ctype_of t.now) span (map declarator_tree ds.now) (walk_of walk.old, [])) result }
 {
     let mut walked = Vec::new(alloc);
@@ -140,7 +140,7 @@ fn variables(
 }
 
 // The cells of a variable.
-fn object(alloc: Global, walk: &mut Walk, span: Span, v: &Variable) -> Result<(), Refused>
+fn object(alloc: Global, walk: &mut Walk, span: Span, v: &WalkedVariable) -> Result<(), Refused>
     ensures { Answers (λ _. walk_of walk.new) (one_object span (judged_variable v.now) (walk_of walk.old)) result }
 {
     let cells = cells_of(alloc, &walk.scope.structs, &v.ctype, v.initial, span)?;
@@ -150,7 +150,7 @@ fn object(alloc: Global, walk: &mut Walk, span: Span, v: &Variable) -> Result<()
 }
 
 // The cells of variables.
-fn objects(alloc: Global, walk: &mut Walk, span: Span, vs: &[Variable]) -> Result<(), Refused>
+fn objects(alloc: Global, walk: &mut Walk, span: Span, vs: &[WalkedVariable]) -> Result<(), Refused>
     ensures { Answers (λ _. walk_of walk.new) (judged_objects span (map judged_variable vs.now) (walk_of walk.old)) result }
 {
     for v in vs {

@@ -11,7 +11,7 @@ ghost use Rattle.region_typing.specs.Items.{walk as walk_of, Outside, kept_rules
 
 use crate::functions::function_body;
 use crate::globals::global;
-use crate::signatures::{Declared, agrees, declare, declared, is_scalar_signature};
+use crate::signatures::{Prototype, agrees, declare, declared, is_scalar_signature};
 use crate::statements::is_unchecked;
 use crate::structures::structure;
 use crate::walk::Walk;
@@ -87,7 +87,7 @@ fn function(
     ensures { Answers (λ _. walk_of walk.new) (function_of (place_at sites.now) (map item_tree items.now) (walk_of walk.old) (function_tree d.now)) result }
 {
     needs(has_room(&walk.scope, d.name.name.as_bytes()), Code::E08, d.span)?;
-    let Declared {
+    let Prototype {
         signature,
         parameters,
     } = declared(alloc, &walk.scope, d)?;

@@ -22,7 +22,7 @@ use std::alloc::Global;
 
 /// A declaration of a function: its signature, and its parameters with their names.
 #[derive(Drop)]
-pub struct Declared {
+pub struct Prototype {
     pub signature: Signature,
     pub parameters: Vec<Variable>,
     ghost few: { length parameters.items ≤ 16 },
@@ -125,7 +125,7 @@ fn types_of(alloc: Global, parameters: &[Variable]) -> Result<Vec<CType>, NoMemo
 }
 
 /// A declaration of a function.
-pub fn declared(alloc: Global, scope: &Scope, d: &Function) -> Result<Declared, Refused>
+pub fn declared(alloc: Global, scope: &Scope, d: &Function) -> Result<Prototype, Refused>
     ensures { Answers declared_view (declared_function (scope_of scope.now) (function_tree d.now)) result }
 {
     let result = result_type(alloc, scope, &d.result, d.stars)?;
@@ -136,7 +136,7 @@ pub fn declared(alloc: Global, scope: &Scope, d: &Function) -> Result<Declared, 
         parameters: types_of(alloc, parameters.as_slice())?,
         result,
     };
-    Ok(Declared {
+    Ok(Prototype {
         signature,
         parameters,
     })

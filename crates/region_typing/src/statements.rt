@@ -1,6 +1,6 @@
 // Statements.
 
-ghost use Rattle.std.specs.Prelude.{◌≡◌};
+ghost use Rattle.std.specs.Prelude.{◌≡◌, ◌||◌, not};
 ghost use Rattle.std.specs.Option.{option_map};
 ghost use Rattle.ckc_text.specs.Places.{place_at};
 ghost use Rattle.ckc_tree.specs.Expressions.{expression as expression_tree};
@@ -160,6 +160,13 @@ pub fn is_unchecked(mark: Option<Mark>) -> bool
     }
 }
 
+/// Whether neither a block nor its region is unchecked.
+pub fn is_checked(scope: &Scope, mark: Option<Mark>) -> bool
+    ensures { result ≡ not (unchecked_mark mark || scope.now.is_off) }
+{
+    !(is_unchecked(mark) || scope.is_off)
+}
+
 /// A statement.
 #[cycle(statements)]
 pub fn statement(
@@ -239,7 +246,7 @@ fn block(
 {
     let visible = scope.visible.len();
     let around = scope.in_loop;
-    let checked = !(is_unchecked(mark) || scope.is_off);
+    let checked = is_checked(scope, mark);
     let built = statements(alloc, sites, scope, inner)?;
     scope.leave(visible, around);
     needs(checked, Code::E15, span)?;
@@ -332,7 +339,8 @@ pub fn statements(
 {
     let mut built = Vec::new(alloc);
     for listed in written {
-        built.push(statement(alloc, sites, scope, listed)?)?;
+        let next = statement(alloc, sites, scope, listed)?;
+        built.push(next)?;
     }
     Ok(built)
 }
