@@ -1,13 +1,22 @@
 -- Functions with their bodies.
-use Rattle.std.proofs.Common.{◌≡◌, ℕ, Bool, true, false, not, ◌&&◌, ◌||◌, nat_lt, List, [], ◌∷◌, ◌++◌, length, map, is_some, Option, Some, None, refl, ap, sym, ◌∙◌}
-use Rattle.std.proofs.lemmas.List.{length-map}
+use Rattle.std.proofs.Common.{◌≡◌, ℕ, ◌+◌, ◌<◌, ◌≤◌, drop, get_or, Bool, true, false, not, ◌&&◌, ◌||◌, nat_lt, List, [], ◌∷◌, ◌++◌, length, map, is_some, Option, Some, None, Result, Err, refl, ap, sym, ◌∙◌}
+use Rattle.std.specs.Option.{option_map}
+use Rattle.std.specs.Result.{IsErrAnd}
+use Rattle.std.proofs.lemmas.Result.{err_from_is_err_and}
+use Rattle.std.proofs.lemmas.List.{length-map, length-append}
 use Rattle.ckc_text.specs.declared.place.Span.{Span}
 use Rattle.ckc_text.specs.declared.code.Code.{Code}
 use Rattle.ckc_text.specs.declared.code.Code.TheVariants.{E08, E10, E13, E15}
+use Rattle.ckc_text.specs.declared.fault.Refused.{Refused}
+use Rattle.ckc_text.specs.declared.fault.Refused.TheVariants.{Source, NoMemory}
+use Rattle.ckc_text.specs.declared.fault.SourceFault.{SourceFault}
 use Rattle.ckc_tree.specs.Items as i
 use Rattle.ckc_tree.specs.Items.{Item}
 use Rattle.ckc_tree.specs.Statements.{Statements}
-use Rattle.pointer_modes.specs.Types.{CType}
+use Rattle.pointer_modes.specs.declared.ctype.CType as code_type
+use Rattle.pointer_modes.specs.Types.{CType, ctype}
+use Rattle.ckc_core.specs.declared.program.Function as code_function
+use Rattle.ckc_core.specs.declared.program.Stmt.{Stmt}
 use Rattle.ckc_core.specs.Core as core
 use Rattle.typing_rules.specs.Verdicts.{Verdict, Passes, Breaks, passing, needs, picked}
 use Rattle.typing_rules.specs.Scopes.{Scope, Signature, Variable, Visible, function_named}
@@ -15,11 +24,15 @@ use Rattle.typing_rules.specs.Expressions.{Places}
 use Rattle.typing_rules.specs.Statements.{statements, is_unchecked, with_local}
 use Rattle.typing_rules.specs.Items.{Walk, with_parameters, inside, core_function, function_body, listed, parameter_types, result_type, signature_of, agrees, all_scalar, scalar_result, with_function, is_trusted, is_defined, in_checked_region, function_rules, function}
 use Rattle.expression_typing.specs.declared.scope as code
-use Rattle.expression_typing.specs.Views.{scope}
+use Rattle.expression_typing.specs.declared.signature.Signature as code_signature
+use Rattle.expression_typing.specs.Views.{scope, signature, variable}
+use Rattle.expression_typing.specs.Answering.{Answers}
 use Rattle.expression_typing.specs.Locals.{Grows}
+use Rattle.region_typing.specs.Walks.{Walks}
 use Rattle.region_typing.specs.Items.{Outside, body_core, kept_rules}
 use Rattle.region_typing.specs.Signatures.{declared_function}
 use Rattle.region_typing.proofs.Verdicts.{same_behind, in_parts}
+use Rattle.region_typing.proofs.Steps.{parts_at, no_parts}
 
 -- ---- a function is left
 
@@ -91,3 +104,35 @@ named_so (Passes r) (Passes ps) of name x named is = let same : (of r ps, ps) �
 -- a declared function has the name that is written
 pub declared_name : (g : Scope) (d : i.Function) (x : Signature × List Variable) → declared_function g d ≡ Passes x → x.0.name ≡ d.name.name
 declared_name g d x is = named_so (result_type g d.result d.stars) (parameter_types g (listed d.parameters) []) (λ r ps. signature_of d r ps) d.name.name x (λ r ps. refl) is
+
+-- a body in which a rule is broken
+broken_body : (at : Places) (f : Signature) (ps : List Variable) (body : Statements) (g : Scope) (h : Scope) (fault : SourceFault) → h ≡ inside f ps g → statements at h body ≡ Breaks fault → body_core at g f ps body ≡ Breaks fault
+broken_body at f ps body g h fault is breaks = ap (λ k. passing (statements at k body) (λ x. Passes (core_function f ps x.0 x.1, g))) (sym is) ∙ rw breaks refl
+
+body_refused_so : {C D : Type 0} (view : C → core.Statements) (view' : D → core.Function × Scope) (at : Places) (f : Signature) (ps : List Variable) (body : Statements) (old entered mid : code.Scope.Scope) (e : Refused) → scope entered ≡ inside f ps (scope old) → Walks view (statements at (scope entered) body) entered (Err e) mid → Answers view' (body_core at (scope old) f ps body) (Err e)
+body_refused_so view view' at f ps body old entered mid (Source fault) is first = record { so = broken_body at f ps body (scope old) (scope entered) fault is first.so }
+body_refused_so view view' at f ps body old entered mid NoMemory is first = record { so = tt }
+
+pub body_refused : {C D : Type 0} {view : C → core.Statements} {view' : D → core.Function × Scope} {mid : code.Scope.Scope} {e : Refused} (at : Places) (f : Signature) (ps : List Variable) (body : Statements) (old entered : code.Scope.Scope) (r : Result D Refused) → scope entered ≡ inside f ps (scope old) → IsErrAnd r (λ y. y ≡ e) → Walks view (statements at (scope entered) body) entered (Err e) mid → Answers view' (body_core at (scope old) f ps body) r
+body_refused {view = view} {view' = view'} {mid = mid} {e = e} at f ps body old entered r is err first =
+    let p = err_from_is_err_and r err in
+    rw (p.1, p.2) (body_refused_so view view' at f ps body old entered mid e is first)
+
+-- the core of a function, as it is put together
+pub core_built : (f : code_signature.Signature) (ps : List code.Variable.Variable) (n : ℕ) → n ≡ length ps → (locals : List code_type.CType) (g : Scope) → map ctype locals ≡ g.locals → (xs : List Stmt) (c : code_function.Function) → core.function c ≡ record { name = f.name; parameters = n; locals = map ctype locals; result = option_map ctype f.result; body = core.statements_of xs }
+    → core.function c ≡ core_function (signature f) (map variable ps) (core.statements_of xs) g
+core_built f ps n count locals g are xs c is =
+    is ∙ ap (λ ts. record { name = f.name; parameters = n; locals = ts; result = option_map ctype f.result; body = core.statements_of xs }) are
+    ∙ ap (λ k. record { name = f.name; parameters = k; locals = g.locals; result = option_map ctype f.result; body = core.statements_of xs }) (count ∙ sym (length-map ps variable))
+
+-- ---- parameters as locals
+
+pub parameter_added : (ps : List code.Variable.Variable) (k : ℕ) (p : code.Variable.Variable) (g h : Scope) → k < length ps → p ≡ get_or ps k p → h ≡ with_local p.name (ctype p.ctype) g → with_parameters (map variable (drop k ps)) g ≡ with_parameters (map variable (drop (k + 1) ps)) h
+parameter_added ps k p g h less is known = ap (λ qs. with_parameters qs g) (parts_at variable ps k p less is) ∙ ap (λ j. with_parameters (map variable (drop (k + 1) ps)) j) (sym known)
+
+pub parameters_all : (ps : List code.Variable.Variable) (k : ℕ) (g : Scope) → length ps ≤ k → with_parameters (map variable (drop k ps)) g ≡ g
+parameters_all ps k g end = ap (λ qs. with_parameters qs g) (no_parts variable ps k end)
+
+pub local_counted : (p : Variable) (a b : code.Scope.Scope) (k : ℕ) → scope b ≡ with_local p.name p.type (scope a) → length a.locals.items ≡ k → length b.locals.items ≡ k + 1
+local_counted p a b k known count =
+    sym (length-map b.locals.items ctype) ∙ ap (λ (g : Scope). length g.locals) known ∙ length-append (map ctype a.locals.items) (p.type ∷ []) ∙ ap (λ n. n + 1) (length-map a.locals.items ctype ∙ count)

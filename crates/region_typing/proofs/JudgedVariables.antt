@@ -1,8 +1,9 @@
 -- File-level variables, by what is judged of their initialisers.
-use Rattle.std.proofs.Common.{◌≡◌, ◌+◌, Bool, true, false, nat_lt, nat_le, List, [], ◌∷◌, ◌++◌, length, map, refl, ap, sym, ◌∙◌}
+use Rattle.std.proofs.Common.{◌≡◌, ◌+◌, Bool, true, false, nat_lt, nat_le, List, [], ◌∷◌, ◌++◌, length, map, Result, refl, ap, sym, ◌∙◌, subst}
 use Rattle.std.proofs.lemmas.List.{map-append}
 use Rattle.ckc_text.specs.declared.place.Span.{Span}
 use Rattle.ckc_text.specs.declared.code.Code.TheVariants.{E08, E10}
+use Rattle.ckc_text.specs.declared.fault.Refused.{Refused}
 use Rattle.ckc_tree.specs.Types.{TypeTree}
 use Rattle.ckc_tree.specs.Items as i
 use Rattle.ckc_tree.specs.Statements.{Declarator}
@@ -13,6 +14,7 @@ use Rattle.typing_rules.specs.Types.{base_type, without_stars}
 use Rattle.typing_rules.specs.Expressions.{Places}
 use Rattle.typing_rules.specs.Items as rules
 use Rattle.typing_rules.specs.Items.{Walk, WalkedVariable, with_variable, block_bytes, initializer, variables, object_cells, with_objects, global, in_checked_region}
+use Rattle.expression_typing.specs.Answering.{Answers}
 use Rattle.region_typing.specs.Initials.{Judged, judged_as, judged_cells}
 use Rattle.region_typing.specs.Items.{JudgedVariable, variable_type, with_one, one_variable, judged_variables, judged_initializer, one_object, judged_objects}
 use Rattle.region_typing.proofs.Verdicts.{same_behind, in_parts}
@@ -84,3 +86,9 @@ pub global_judged : (at : Places) (w : Walk) (d : i.Global) → global at w d �
 global_judged at w d =
     same_behind (base_type w.scope d.base) _ _ (λ t. variables_judged at w d.base t d.span d.declarators [] _ (λ x. passing (judged_objects d.span x.1 x.0) (λ v. in_checked_region v.scope d.span v))
     (λ x. ap (λ objects. passing objects (λ v. in_checked_region v.scope d.span v)) (objects_judged x.0 d.span x.1)))
+
+-- a variable more, behind its type
+pub one_more_variable : {D : Type 0} {view : D → Walk × JudgedVariable} {r : Result D Refused} (at : Places) (base : TypeTree) (type : CType) (span : Span) (d : Declarator) (t : CType) (old new : Walk) → new ≡ with_one d.name.name t old → variable_type old base type span d ≡ Passes t
+    → Answers view (passing (judged_initializer at new.scope d.initializer) (λ j. Passes (new, record { type = t; initial = j }))) r → Answers view (one_variable at old base type span d) r
+one_more_variable {view = view} {r = r} at base type span d t old new is first rest =
+    rw first (subst (λ (v : Walk). Answers view (passing (judged_initializer at v.scope d.initializer) (λ j. Passes (v, record { type = t; initial = j }))) r) is rest)

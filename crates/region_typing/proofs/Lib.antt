@@ -12,3 +12,5 @@ pub mod Outside
 pub mod Bodies
 pub mod Constants
 pub mod JudgedVariables
+pub mod StructParts
+pub mod CoreLists

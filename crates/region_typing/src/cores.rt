@@ -39,7 +39,8 @@ fn without_bodies(alloc: Global, functions: &[Signature]) -> Result<Vec<Function
     let mut built = Vec::new(alloc);
     for f in functions {
         if !is_import(f) {
-            built.push(without_body(alloc, f)?)?;
+            let next = without_body(alloc, f)?;
+            built.push(next)?;
         }
     }
     Ok(built)
@@ -62,7 +63,8 @@ fn imports(alloc: Global, functions: &[Signature]) -> Result<Vec<Import>, NoMemo
     let mut built = Vec::new(alloc);
     for f in functions {
         if is_import(f) {
-            built.push(import(alloc, f)?)?;
+            let next = import(alloc, f)?;
+            built.push(next)?;
         }
     }
     Ok(built)

@@ -111,7 +111,8 @@ fn add_parameters(alloc: Global, scope: &mut Scope, parameters: &[Variable]) -> 
     ensures { IfOk result (λ _. scope_of scope.new ≡ with_parameters (map variable_of parameters.now) (scope_of scope.old)) }
 {
     for p in parameters {
-        scope.add_local(alloc, p.name.as_bytes(), copied(alloc, &p.ctype)?)?;
+        let ctype = copied(alloc, &p.ctype)?;
+        scope.add_local(alloc, p.name.as_bytes(), ctype)?;
     }
     Ok(())
 }

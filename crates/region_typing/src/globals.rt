@@ -134,7 +134,8 @@ fn variables(
 {
     let mut walked = Vec::new(alloc);
     for d in ds {
-        walked.push(variable(alloc, sites, walk, base, t, span, d)?)?;
+        let next = variable(alloc, sites, walk, base, t, span, d)?;
+        walked.push(next)?;
     }
     Ok(walked)
 }

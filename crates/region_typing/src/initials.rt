@@ -1,6 +1,6 @@
 // The cells of file-level variables before the run.
 
-ghost use Rattle.std.specs.Prelude.{◌≡◌, ◌<◌, true, pos, length, map, IfOk};
+ghost use Rattle.std.specs.Prelude.{◌≡◌, ◌<◌, ◌≤◌, true, pos, length, map, IfOk};
 ghost use Rattle.ckc_tree.specs.Expressions.{expression as expression_tree};
 ghost use Rattle.pointer_modes.specs.Types.{ctype as ctype_of, member as member_of};
 ghost use Rattle.pointer_modes.specs.Layout.{cells_of as cells_in};
@@ -133,14 +133,17 @@ fn member_cells(
     members: &[Member],
     number: i32,
 ) -> Result<Vec<Initial>, NoMemory>
-    requires { IsStructOf structs.now (ctype_of t.now) (map member_of members.now) }
+    requires are { IsStructOf structs.now (ctype_of t.now) (map member_of members.now) }
+    requires few { length members.now ≤ 64 }
     ensures { IfOk result (λ v. map initial_of v.items ≡ cells_as structs.now (ctype_of t.now) number) }
 {
     let mut cells = Vec::new(alloc);
-    for (i, member) in members.iter().enumerate() {
+    for member in members {
+        let ctype = copied(alloc, &member.ctype)?;
+        let stride = stride(structs, t, members.len() as u32, cells.len() as u32);
         cells.push(Initial {
-            ctype: copied(alloc, &member.ctype)?,
-            stride: stride(structs, t, members.len() as u32, i as u32),
+            ctype,
+            stride,
             number,
         })?;
     }

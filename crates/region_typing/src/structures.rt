@@ -81,9 +81,10 @@ fn are_scalar(members: &[Member]) -> Result<(), Refused>
 pub fn structure(alloc: Global, walk: &mut Walk, d: &Structure) -> Result<(), Refused>
     ensures { Answers (λ _. walk_of walk.new) (structure_of (walk_of walk.old) (structure_tree d.now)) result }
 {
+    let checked = !walk.scope.is_off;
     let number = walk.scope.add_struct(alloc, d.tag.name.as_bytes(), d.tainted, d.span)?;
     let members = member_types(alloc, &walk.scope, d.members.as_slice())?;
     are_scalar(members.as_slice())?;
     walk.scope.give_members(number, members);
-    needs(!walk.scope.is_off, Code::E15, d.span)
+    needs(checked, Code::E15, d.span)
 }
