@@ -1,9 +1,9 @@
 -- Functions with their bodies.
-use Rattle.std.proofs.Common.{◌≡◌, ℕ, ◌+◌, ◌<◌, ◌≤◌, drop, get_or, Bool, true, false, not, ◌&&◌, ◌||◌, nat_lt, List, [], ◌∷◌, ◌++◌, length, map, is_some, Option, Some, None, Result, Err, refl, ap, sym, ◌∙◌}
+use Rattle.std.proofs.Common.{◌≡◌, ℕ, ◌+◌, ◌<◌, ◌≤◌, drop, get_or, Bool, true, false, not, ◌&&◌, ◌||◌, nat_lt, List, [], ◌∷◌, ◌++◌, length, map, is_some, Option, Some, None, Result, Ok, Err, refl, ap, sym, ◌∙◌, subst}
 use Rattle.std.specs.Option.{option_map}
 use Rattle.std.specs.Result.{IsErrAnd}
 use Rattle.std.proofs.lemmas.Result.{err_from_is_err_and}
-use Rattle.std.proofs.lemmas.List.{length-map, length-append}
+use Rattle.std.proofs.lemmas.List.{length-map, length-append, map-append}
 use Rattle.ckc_text.specs.declared.place.Span.{Span}
 use Rattle.ckc_text.specs.declared.code.Code.{Code}
 use Rattle.ckc_text.specs.declared.code.Code.TheVariants.{E08, E10, E13, E15}
@@ -26,7 +26,7 @@ use Rattle.typing_rules.specs.Items.{Walk, with_parameters, inside, core_functio
 use Rattle.expression_typing.specs.declared.scope as code
 use Rattle.expression_typing.specs.declared.signature.Signature as code_signature
 use Rattle.expression_typing.specs.Views.{scope, signature, variable}
-use Rattle.expression_typing.specs.Answering.{Answers}
+use Rattle.expression_typing.specs.Answering.{Answers, answers_so}
 use Rattle.expression_typing.specs.Locals.{Grows}
 use Rattle.region_typing.specs.Walks.{Walks}
 use Rattle.region_typing.specs.Items.{Outside, body_core, kept_rules}
@@ -136,3 +136,40 @@ parameters_all ps k g end = ap (λ qs. with_parameters qs g) (no_parts variable 
 pub local_counted : (p : Variable) (a b : code.Scope.Scope) (k : ℕ) → scope b ≡ with_local p.name p.type (scope a) → length a.locals.items ≡ k → length b.locals.items ≡ k + 1
 local_counted p a b k known count =
     sym (length-map b.locals.items ctype) ∙ ap (λ (g : Scope). length g.locals) known ∙ length-append (map ctype a.locals.items) (p.type ∷ []) ∙ ap (λ n. n + 1) (length-map a.locals.items ctype ∙ count)
+
+-- ---- a body more
+
+scope_of_core : (v : Verdict (core.Statements × Scope)) (f : Signature) (ps : List Variable) (g : Scope) (b : core.Function) (h : Scope) → passing v (λ x. Passes (core_function f ps x.0 x.1, g)) ≡ Passes (b, h) → h ≡ g
+scope_of_core (Passes x) f ps g b h is = let same : (core_function f ps x.0 x.1, g) ≡ (b, h) = cc in sym (ap (λ (p : core.Function × Scope). p.1) same)
+scope_of_core (Breaks fault) f ps g b h is = absurd (cc)
+
+pub scope_kept : (at : Places) (g : Scope) (f : Signature) (ps : List Variable) (body : Statements) (b : core.Function) (h : Scope) → body_core at g f ps body ≡ Passes (b, h) → h ≡ g
+scope_kept at g f ps body b h is = scope_of_core (statements at (inside f ps g) body) f ps g b h is
+
+pub bodies_more : (w : Walk) (g : Scope) (bs new : List code_function.Function) (b : code_function.Function) → g ≡ w.scope → new ≡ bs ++ b ∷ [] → ◌≡◌ {A = Verdict Walk} (Passes (record w { bodies = map core.function bs ++ core.function b ∷ [] })) (Passes (record w { scope = g; bodies = map core.function new }))
+bodies_more w g bs new b same are =
+    ap (λ ys. Passes (record w { bodies = ys })) (sym (ap (map core.function) are ∙ map-append core.function bs (b ∷ []))) ∙ ap (λ h. Passes (record w { scope = h; bodies = map core.function new })) (sym same)
+
+-- ---- a function, step by step
+
+kept_last_so : {B : Type 0} (new : B) (v : Verdict (Unit {0})) (r : Result (Unit {0}) Refused) → Answers {C = Unit {0}} (λ x. x) v r → answers_so {C = Unit {0}} (λ u. new) (passing v (λ u. Passes new)) r
+kept_last_so new v (Ok u) first = rw first.so refl
+kept_last_so new v (Err (Source fault)) first = rw first.so refl
+kept_last_so new v (Err NoMemory) first = tt
+
+pub kept_last : {B : Type 0} (new : B) (v : Verdict (Unit {0})) (r : Result (Unit {0}) Refused) → Answers {C = Unit {0}} (λ x. x) v r → Answers {C = Unit {0}} (λ u. new) (passing v (λ u. Passes new)) r
+kept_last new v r first = record { so = kept_last_so new v r first }
+
+-- behind a declaration
+pub function_walk : {new : Walk} {r : Result (Unit {0}) Refused} (at : Places) (all : List Item) (w : Walk) (d : i.Function) (x : Signature × List Variable) (mid : Scope) → declared_function w.scope d ≡ Passes x → mid ≡ with_function (function_named w.scope.functions x.0.name) x.0 w.scope
+    → Answers {C = Unit {0}} (λ u. new) (passing (function_body at (record w { scope = mid }) x.0 x.1 d.body) (λ v. passing (kept_rules all d (agrees (function_named w.scope.functions x.0.name) x.0 && (all_scalar x.0.parameters && scalar_result x.0.result)) v.scope) (λ u. Passes v))) r
+    → Answers {C = Unit {0}} (λ u. new) (passing (declared_function w.scope d) (λ y. passing (function_body at (record w { scope = with_function (function_named w.scope.functions d.name.name) y.0 w.scope }) y.0 y.1 d.body) (λ v. passing (kept_rules all d (agrees (function_named w.scope.functions d.name.name) y.0 && (all_scalar y.0.parameters && scalar_result y.0.result)) v.scope) (λ u. Passes v)))) r
+function_walk {new = new} {r = r} at all w d x mid first known rest =
+    let named = declared_name w.scope d x first in
+    rw first
+    (subst (λ name. Answers {C = Unit {0}} (λ u. new) (passing (function_body at (record w { scope = with_function (function_named w.scope.functions name) x.0 w.scope }) x.0 x.1 d.body) (λ v. passing (kept_rules all d (agrees (function_named w.scope.functions name) x.0 && (all_scalar x.0.parameters && scalar_result x.0.result)) v.scope) (λ u. Passes v))) r) named
+    (subst (λ (g : Scope). Answers {C = Unit {0}} (λ u. new) (passing (function_body at (record w { scope = g }) x.0 x.1 d.body) (λ v. passing (kept_rules all d (agrees (function_named w.scope.functions x.0.name) x.0 && (all_scalar x.0.parameters && scalar_result x.0.result)) v.scope) (λ u. Passes v))) r) known rest))
+
+pub room_left : (o : Option Signature) (b : Bool) → (is_some o || b) ≡ true → o ≡ None → b ≡ true
+room_left None b some none = some
+room_left (Some f) b some none = absurd (cc)

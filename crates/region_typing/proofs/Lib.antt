@@ -14,3 +14,4 @@ pub mod Constants
 pub mod JudgedVariables
 pub mod StructParts
 pub mod CoreLists
+pub mod Checks

@@ -23,7 +23,7 @@ use Rattle.region_typing.specs.Walks.{Walks, from_zero, declared_local}
 use Rattle.region_typing.proofs.Verdicts.{same_behind}
 use Rattle.region_typing.proofs.Walking.{kept, from_more}
 
-with_initial : (v : Verdict core.Statement) (scalar : Bool) (span : Span) (of : core.Statement → core.Statement) (g : Scope) → passing v (λ i. needs scalar E13 span (Passes (of i, g))) ≡ passing (passing v (λ i. needs scalar E13 span (Passes (of i)))) (λ x. Passes (x, g))
+with_initial : (v : Verdict core.Statement) (scalar : Bool) (span : Span) (of : core.Statement → core.Statement) (g : Scope) → passing {B = core.Statement × Scope} v (λ i. needs scalar E13 span (Passes (of i, g))) ≡ passing {B = core.Statement × Scope} (passing {B = core.Statement} v (λ i. needs scalar E13 span (Passes (of i)))) (λ x. Passes (x, g))
 with_initial (Passes i) true span of g = refl
 with_initial (Passes i) false span of g = refl
 with_initial (Breaks fault) scalar span of g = refl
@@ -38,9 +38,11 @@ declarator_parts at g base t span d few =
 pub local_declared : (at : Places) (d : Declarator) (t u : CType) (local : ℕ) (span : Span) (old mid : code.Scope.Scope) (r : Result Stmt Refused) → scope mid ≡ with_local d.name.name u (scope old) → u ≡ t → local ≡ length old.locals.items → Grows old mid
     → Answers statement (from_zero at (scope mid) d.initializer t local span) r → Walks statement (declared_local at (scope old) d t span) old r mid
 local_declared at d t u local span old mid r known same number more answer =
-    let here : scope mid ≡ with_local d.name.name t (scope old) = known ∙ ap (λ v. with_local d.name.name v (scope old)) same in
+    let here : scope mid ≡ with_local d.name.name t (scope old) = known ∙ ap (λ (v : CType). with_local d.name.name v (scope old)) same in
     let last : local ≡ length (scope old).locals = number ∙ sym (length-map old.locals.items ctype) in
-    from_more statement _ _ old mid mid r (rw (← last, ← here) refl) more (kept mid answer)
+    let by_number = λ (n : ℕ). passing {B = core.Statement × Scope} (from_zero at (with_local d.name.name t (scope old)) d.initializer t n span) (λ x. Passes (x, with_local d.name.name t (scope old))) in
+    let by_scope = λ (g : Scope). passing {B = core.Statement × Scope} (from_zero at g d.initializer t local span) (λ x. Passes (x, g)) in
+    from_more statement (declared_local at (scope old) d t span) (by_scope (scope mid)) old mid mid r (ap by_number (sym last) ∙ ap by_scope (sym here)) more (kept mid answer)
 
 -- few locals, as the code counts them
 pub few_locals : (g : code.Scope.Scope) (n : ℕ) → n ≡ length g.locals.items → nat_lt n 256 ≡ nat_lt (length (scope g).locals) 256

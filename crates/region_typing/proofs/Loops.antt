@@ -1,6 +1,7 @@
 -- Statements that have statements, by their parts.
-use Rattle.std.proofs.Common.{◌≡◌, ℕ, Bool, true, Option, length, map, reverse, take, Result, Ok, refl, ap, sym, ◌∙◌}
+use Rattle.std.proofs.Common.{◌≡◌, ℕ, Bool, true, false, Option, length, map, reverse, take, Result, Ok, refl, ap, sym, ◌∙◌}
 use Rattle.ckc_text.specs.declared.fault.Refused.{Refused}
+use Rattle.ckc_text.specs.declared.code.Code.TheVariants.{E30}
 use Rattle.ckc_text.specs.declared.place.Span.{Span}
 use Rattle.ckc_tree.specs.Expressions.{Expression}
 use Rattle.ckc_tree.specs.Statements as s
@@ -8,13 +9,13 @@ use Rattle.ckc_tree.specs.Statements.{Statement, Assignment, ForInitial}
 use Rattle.ckc_core.specs.declared.program.Stmt.{Stmt}
 use Rattle.ckc_core.specs.Core as core
 use Rattle.ckc_core.specs.Core.{statement as core_statement}
-use Rattle.typing_rules.specs.Verdicts.{Verdict, Passes, passing}
+use Rattle.typing_rules.specs.Verdicts.{Verdict, Passes, passing, needs}
 use Rattle.typing_rules.specs.Scopes.{Scope}
-use Rattle.typing_rules.specs.Expressions.{Places}
-use Rattle.typing_rules.specs.Statements.{both, behind_block, in_loop, condition, optional_condition, optional_step, first_part, statement}
+use Rattle.typing_rules.specs.Expressions.{Places, call_typed}
+use Rattle.typing_rules.specs.Statements.{both, alone, behind_block, in_loop, condition, optional_condition, optional_step, first_part, statement}
 use Rattle.expression_typing.specs.declared.scope as code
 use Rattle.expression_typing.specs.Views.{scope, visible}
-use Rattle.region_typing.specs.Walks.{Walks, nested, turns, while_loop, for_loop}
+use Rattle.region_typing.specs.Walks.{Walks, nested, turns, while_loop, for_loop, call_statement, needs_loop}
 use Rattle.region_typing.proofs.Walking.{left, left_walk, grown, other_loop}
 use Rattle.region_typing.proofs.Verdicts.{same_behind, in_parts}
 
@@ -34,12 +35,12 @@ pub while_parts : (at : Places) (g : Scope) (test : Expression) (body : Statemen
 while_parts at g test body span = same_behind (condition at g test) _ _ (λ c. sym (nested_on at g (in_loop g) body (λ x. Passes (core.Loop c x.0 core.Nothing, x.1))))
 
 turned : (at : Places) (g outside : Scope) (first : core.Statement) (test : Option Expression) (step : Option Assignment) (body : Statement)
-    → passing (turns at g body test step) (λ t. Passes (both first t.0, behind_block outside t.1))
-    ≡ passing (optional_condition at g test) (λ c. passing (statement at (in_loop g) body) (λ x. passing (optional_step at (behind_block g x.1) step) (λ y. Passes (both first (core.Loop c x.0 y), behind_block outside x.1))))
+    → passing {B = core.Statement × Scope} (turns at g body test step) (λ t. Passes (both first t.0, behind_block outside t.1))
+    ≡ passing {B = core.Statement × Scope} (optional_condition at g test) (λ c. passing {B = core.Statement × Scope} (statement at (in_loop g) body) (λ x. passing {B = core.Statement × Scope} (optional_step at (behind_block g x.1) step) (λ y. Passes (both first (core.Loop c x.0 y), behind_block outside x.1))))
 turned at g outside first test step body =
     in_parts (optional_condition at g test) _ (λ t. Passes (both first t.0, behind_block outside t.1))
     ∙ same_behind (optional_condition at g test) _ _ (λ c. in_parts (nested at g true body) _ (λ t. Passes (both first t.0, behind_block outside t.1))
-    ∙ nested_on at g (in_loop g) body (λ x. passing (passing (optional_step at x.1 step) (λ y. Passes (core.Loop c x.0 y, x.1))) (λ t. Passes (both first t.0, behind_block outside t.1)))
+    ∙ nested_on at g (in_loop g) body (λ x. passing {B = core.Statement × Scope} (passing {B = core.Statement × Scope} (optional_step at x.1 step) (λ y. Passes (core.Loop c x.0 y, x.1))) (λ t. Passes (both first t.0, behind_block outside t.1)))
     ∙ same_behind (statement at (in_loop g) body) _ _ (λ x. in_parts (optional_step at (behind_block g x.1) step) (λ y. Passes (core.Loop c x.0 y, behind_block g x.1)) (λ t. Passes (both first t.0, behind_block outside t.1))))
 
 pub for_parts : (at : Places) (g : Scope) (initial : ForInitial) (test : Option Expression) (step : Option Assignment) (body : Statement) (span : Span) → statement at g (s.For initial test step body span) ≡ for_loop at g initial test step body
@@ -68,3 +69,15 @@ pub nested_walk : {before : code.Scope.Scope} (at : Places) (loop : Bool) (n : �
 nested_walk {before = before} at loop n around s x old mid new walk inside_is same all around_is known seen =
     left_walk core_statement (λ y. y) (statement at (record (scope old) { in_loop = loop }) s) (core_statement x) x old mid new (ap (λ g. statement at g s) (sym inside_is) ∙ walk.so.0)
     (left n around old mid new (grown (other_loop loop old before inside_is same) walk.so.1) all around_is known seen) refl
+
+-- ---- statements that leave known what was known
+
+pub call_parts : (at : Places) (g : Scope) (call : Expression) (span : Span) → statement at g (s.CallAlone call span) ≡ passing {B = core.Statement × Scope} (call_statement at g call) (λ x. Passes (x, g))
+call_parts at g call span = sym (in_parts (call_typed at g call) (λ c. Passes (alone c)) (λ x. Passes (x, g)))
+
+pub loop_parts : (g : Scope) (x : core.Statement) (span : Span) → needs {A = core.Statement × Scope} g.in_loop E30 span (Passes (x, g)) ≡ passing {B = core.Statement × Scope} (needs_loop g x span) (λ y. Passes (y, g))
+loop_parts g x span = by g.in_loop
+  where
+    by : (b : Bool) → needs {A = core.Statement × Scope} b E30 span (Passes (x, g)) ≡ passing {B = core.Statement × Scope} (needs {A = core.Statement} b E30 span (Passes x)) (λ y. Passes (y, g))
+    by true = refl
+    by false = refl

@@ -56,7 +56,7 @@ global_outside at w d o =
     (λ x h. passing_promises OutsideBehind OutsideBehind (with_objects x.0 d.span x.1) _ (objects_outside x.0 d.span x.1 h)
     (λ v h'. needs_promises OutsideBehind (not v.scope.is_off) E15 d.span _ (λ _. h'))))
 
-known_outside : (known : Option Signature) (f : Signature) (g : Scope) → Outside g → Outside (with_function known f g)
+pub known_outside : (known : Option Signature) (f : Signature) (g : Scope) → Outside g → Outside (with_function known f g)
 known_outside None f g o = ap (with_function None f) o
 known_outside (Some before) f g o = o
 

@@ -1,13 +1,15 @@
 -- The places of bodies among trusted functions.
-use Rattle.std.proofs.Common.{◌≡◌, ℕ, zero, suc, ◌+◌, ◌<◌, Bool, true, false, not, bytes_eq, List, [], ◌∷◌, ◌++◌, length, map, set, Option, Some, None, refl, ap, sym, ◌∙◌, arith, true≢false}
+use Rattle.std.proofs.Common.{◌≡◌, ℕ, zero, suc, ◌+◌, ◌<◌, Bool, true, false, not, bytes_eq, List, [], ◌∷◌, ◌++◌, length, map, set, Option, Some, None, refl, ap, sym, ◌∙◌, append_assoc, arith, true≢false}
+use Rattle.std.proofs.lemmas.List.{map-append, map-set}
 use Rattle.std.proofs.lemmas.Slice.Eq.{bytes_eq-Decides}
+use Rattle.ckc_core.specs.declared.program.Function as code_core
 use Rattle.ckc_core.specs.Core as core
 use Rattle.typing_rules.specs.Verdicts.{picked}
 use Rattle.typing_rules.specs.Scopes.{Signature, function_named}
 use Rattle.typing_rules.specs.Expressions.{is_import, side_number, counted, same_side}
 use Rattle.typing_rules.specs.Cores.{body_of, without_body, trusted_functions}
-use Rattle.expression_typing.specs.Names.{Distinct}
-use Rattle.expression_typing.proofs.FileLevel.{turned}
+use Rattle.expression_typing.specs.Names.{Distinct, are_distinct}
+use Rattle.expression_typing.proofs.FileLevel.{turned, distinct}
 use Rattle.region_typing.specs.CoreParts.{trusted_place}
 
 -- how many there are doesn't depend on their bodies
@@ -130,3 +132,16 @@ place_within fs name k is = by (function_named fs name) refl
             let here = rw (e, e') at is in
             let same : side_number false fs name 0 ≡ k = cc in
             rw (← same) (trusted_within fs name f e e')
+
+-- ---- bodies as the code holds them
+
+pub body_put : (b : code_core.Function) (bodies : List core.Function) (fs : List Signature) (k : ℕ) (old new : List code_core.Function) → are_distinct fs ≡ true → trusted_place fs b.name ≡ Some k → new ≡ set old k b → map core.function old ≡ trusted_functions bodies fs → map core.function new ≡ trusted_functions (core.function b ∷ bodies) fs
+body_put b bodies fs k old new apart is are so_far =
+    ap (map core.function) are ∙ map-set core.function old k b ∙ ap (λ xs. set xs k (core.function b)) so_far ∙ sym (placed (core.function b) bodies fs k (distinct fs apart) is)
+
+pub body_left : (b : code_core.Function) (bodies : List core.Function) (fs : List Signature) (old : List code_core.Function) → are_distinct fs ≡ true → trusted_place fs b.name ≡ None → map core.function old ≡ trusted_functions bodies fs → map core.function old ≡ trusted_functions (core.function b ∷ bodies) fs
+body_left b bodies fs old apart is so_far = so_far ∙ sym (not_placed (core.function b) bodies fs (distinct fs apart) is)
+
+pub body_popped : (all : List core.Function) (old new : List code_core.Function) (b : code_core.Function) (placed_bodies : List core.Function) → old ≡ new ++ b ∷ [] → all ≡ map core.function old ++ placed_bodies → all ≡ map core.function new ++ core.function b ∷ placed_bodies
+body_popped all old new b placed_bodies are so_far =
+    so_far ∙ ap (λ xs. xs ++ placed_bodies) (ap (map core.function) are ∙ map-append core.function new (b ∷ [])) ∙ append_assoc (map core.function new) (core.function b ∷ []) placed_bodies

@@ -15,20 +15,20 @@ use Rattle.typing_rules.specs.Items.{Walk, is_struct, member_types, scalar_membe
 use Rattle.expression_typing.specs.Filling.{struct_added}
 use Rattle.region_typing.proofs.Verdicts.{same_behind}
 
-scalars_first : {A : Type 0} (ms : List types.Member) (next : Verdict A) → scalar_members ms next ≡ passing (scalar_members ms (Passes {A = Unit {0}} tt)) (λ u. next)
+scalars_first : {A : Type 0} (ms : List types.Member) (next : Verdict A) → scalar_members ms next ≡ passing (scalar_members {A = Unit {0}} ms (Passes tt)) (λ u. next)
 scalars_first [] next = refl
 scalars_first (m ∷ ms) next = by (not (is_struct m.ctype)) (scalars_first ms next)
   where
-    by : (b : Bool) → scalar_members ms next ≡ passing (scalar_members ms (Passes {A = Unit {0}} tt)) (λ u. next) → needs b E27 m.span (scalar_members ms next) ≡ passing (needs b E27 m.span (scalar_members ms (Passes {A = Unit {0}} tt))) (λ u. next)
+    by : (b : Bool) → scalar_members ms next ≡ passing (scalar_members {A = Unit {0}} ms (Passes tt)) (λ u. next) → needs b E27 m.span (scalar_members ms next) ≡ passing (needs b E27 m.span (scalar_members {A = Unit {0}} ms (Passes tt))) (λ u. next)
     by true rest = rest
     by false rest = refl
 
 -- a struct by its number, its members, and their types
-pub structure_parts : (w : Walk) (d : i.Structure) → structure w d ≡ passing (struct_added d.tag.name d.tainted d.span w.scope) (λ p. passing (member_types p.1 d.members []) (λ ms. passing (scalar_members ms (Passes {A = Unit {0}} tt)) (λ u. in_checked_region w.scope d.span (record w { scope = with_struct d.tag.name d.tainted ms w.scope }))))
+pub structure_parts : (w : Walk) (d : i.Structure) → structure w d ≡ passing (struct_added d.tag.name d.tainted d.span w.scope) (λ p. passing (member_types p.1 d.members []) (λ ms. passing (scalar_members {A = Unit {0}} ms (Passes tt)) (λ u. in_checked_region w.scope d.span (record w { scope = with_struct d.tag.name d.tainted ms w.scope }))))
 structure_parts w d = by (nat_lt (length w.scope.structs) 4096)
   where
     by : (b : Bool) → needs b E08 d.span (passing (member_types (with_struct d.tag.name d.tainted [] w.scope) d.members []) (λ ms. scalar_members ms (in_checked_region w.scope d.span (record w { scope = with_struct d.tag.name d.tainted ms w.scope }))))
-      ≡ passing (needs b E08 d.span (Passes (length w.scope.structs, with_struct d.tag.name d.tainted [] w.scope))) (λ p. passing (member_types p.1 d.members []) (λ ms. passing (scalar_members ms (Passes {A = Unit {0}} tt)) (λ u. in_checked_region w.scope d.span (record w { scope = with_struct d.tag.name d.tainted ms w.scope }))))
+      ≡ passing (needs b E08 d.span (Passes (length w.scope.structs, with_struct d.tag.name d.tainted [] w.scope))) (λ p. passing (member_types p.1 d.members []) (λ ms. passing (scalar_members {A = Unit {0}} ms (Passes tt)) (λ u. in_checked_region w.scope d.span (record w { scope = with_struct d.tag.name d.tainted ms w.scope }))))
     by true = same_behind (member_types (with_struct d.tag.name d.tainted [] w.scope) d.members []) _ _ (λ ms. scalars_first ms (in_checked_region w.scope d.span (record w { scope = with_struct d.tag.name d.tainted ms w.scope })))
     by false = refl
 
@@ -39,11 +39,11 @@ scalar_type Char plain = refl
 scalar_type (Struct number) plain = absurd (cc)
 scalar_type (Pointer mode kind target) plain = refl
 
-pub all_scalar : (ms : List types.Member) → scalar_members ms (Passes {A = Unit {0}} tt) ≡ Passes tt → list_all (λ (m : types.Member). is_scalar m.ctype) ms ≡ true
+pub all_scalar : (ms : List types.Member) → scalar_members {A = Unit {0}} ms (Passes tt) ≡ Passes tt → list_all (λ (m : types.Member). is_scalar m.ctype) ms ≡ true
 all_scalar [] passes = refl
 all_scalar (m ∷ ms) passes = by (not (is_struct m.ctype)) refl (λ rest. all_scalar ms rest)
   where
-    by : (b : Bool) → not (is_struct m.ctype) ≡ b → (scalar_members ms (Passes {A = Unit {0}} tt) ≡ Passes tt → list_all (λ (n : types.Member). is_scalar n.ctype) ms ≡ true) → (is_scalar m.ctype && list_all (λ (n : types.Member). is_scalar n.ctype) ms) ≡ true
+    by : (b : Bool) → not (is_struct m.ctype) ≡ b → (scalar_members {A = Unit {0}} ms (Passes tt) ≡ Passes tt → list_all (λ (n : types.Member). is_scalar n.ctype) ms ≡ true) → (is_scalar m.ctype && list_all (λ (n : types.Member). is_scalar n.ctype) ms) ≡ true
     by true e more = let rest = rw e at passes in rw (scalar_type m.ctype e, more rest) refl
     by false e more = let broken = rw e at passes in absurd (cc)
 

@@ -17,7 +17,7 @@ use Rattle.region_typing.proofs.Walking as walking
 abbrev Tested : Bool → Code → Span → Result (Unit {0}) Refused → Type 0
 Tested test code span r = Answers {C = Unit {0}} {A = Unit {0}} (λ x. x) (needs test code span (Passes tt)) r
 
-needs_all : {A : Type 0} (b : Bool) (code : Code) (span : Span) (v : Verdict A) → needs b code span v ≡ passing (needs b code span (Passes {A = Unit {0}} tt)) (λ x. v)
+needs_all : {A : Type 0} (b : Bool) (code : Code) (span : Span) (v : Verdict A) → needs b code span v ≡ passing (needs {A = Unit {0}} b code span (Passes tt)) (λ x. v)
 needs_all true code span v = refl
 needs_all false code span v = refl
 

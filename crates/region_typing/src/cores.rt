@@ -1,6 +1,6 @@
 // The core of a program that breaks no rule.
 
-ghost use Rattle.std.specs.Prelude.{◌≡◌, ◌∷◌, [], map, length, IfOk};
+ghost use Rattle.std.specs.Prelude.{◌≡◌, ◌<◌, ◌∷◌, ◌++◌, [], slice_set, map, length, IfOk};
 ghost use Rattle.pointer_modes.specs.Types.{ctype as ctype_of};
 ghost use Rattle.ckc_core.specs.Core.{function as function_of, import_of, core as core_view};
 ghost use Rattle.typing_rules.specs.Cores.{without_body as without_body_of, trusted_functions, tainted_functions, core_of as core_of_walk};
@@ -32,16 +32,25 @@ fn without_body(alloc: Global, f: &Signature) -> Result<Function, NoMemory>
     })
 }
 
+// A function more without its body, where it is trusted.
+fn push_trusted(alloc: Global, f: &Signature, built: &mut Vec<Function>) -> Result<(), NoMemory>
+    ensures { IfOk result (λ _. map function_of built.new.items ≡ map function_of built.old.items ++ trusted_functions [] (signature f.now ∷ [])) }
+{
+    if is_import(f) {
+        return Ok(());
+    }
+    let next = without_body(alloc, f)?;
+    built.push(next)?;
+    Ok(())
+}
+
 // Trusted functions, without their bodies.
 fn without_bodies(alloc: Global, functions: &[Signature]) -> Result<Vec<Function>, NoMemory>
     ensures { IfOk result (λ v. map function_of v.items ≡ trusted_functions [] (map signature functions.now)) }
 {
     let mut built = Vec::new(alloc);
     for f in functions {
-        if !is_import(f) {
-            let next = without_body(alloc, f)?;
-            built.push(next)?;
-        }
+        push_trusted(alloc, f, &mut built)?;
     }
     Ok(built)
 }
@@ -56,16 +65,25 @@ fn import(alloc: Global, f: &Signature) -> Result<Import, NoMemory>
     })
 }
 
+// A function more, where it is tainted.
+fn push_import(alloc: Global, f: &Signature, built: &mut Vec<Import>) -> Result<(), NoMemory>
+    ensures { IfOk result (λ _. map import_of built.new.items ≡ map import_of built.old.items ++ tainted_functions (signature f.now ∷ [])) }
+{
+    if !is_import(f) {
+        return Ok(());
+    }
+    let next = import(alloc, f)?;
+    built.push(next)?;
+    Ok(())
+}
+
 // Tainted functions.
 fn imports(alloc: Global, functions: &[Signature]) -> Result<Vec<Import>, NoMemory>
     ensures { IfOk result (λ v. map import_of v.items ≡ tainted_functions (map signature functions.now)) }
 {
     let mut built = Vec::new(alloc);
     for f in functions {
-        if is_import(f) {
-            let next = import(alloc, f)?;
-            built.push(next)?;
-        }
+        push_import(alloc, f, &mut built)?;
     }
     Ok(built)
 }
@@ -82,6 +100,14 @@ fn trusted_place(scope: &Scope, name: &[u8]) -> Option<usize>
     }
 }
 
+// Puts a function in the place of another.
+fn put(built: &mut Vec<Function>, number: usize, f: Function)
+    requires { number < length built.old.items }
+    ensures { built.new.items ≡ slice_set built.old.items number f }
+{
+    built[number] = f;
+}
+
 // Puts a body in the place of its function.
 fn place(built: &mut Vec<Function>, scope: &Scope, body: Function)
     requires { length built.old.items ≡ length (trusted_functions [] (map signature scope.now.functions.items)) }
@@ -89,7 +115,7 @@ fn place(built: &mut Vec<Function>, scope: &Scope, body: Function)
     ensures placed { (bodies : _) → map function_of built.old.items ≡ trusted_functions bodies (map signature scope.now.functions.items) → map function_of built.new.items ≡ trusted_functions (function_of body ∷ bodies) (map signature scope.now.functions.items) }
 {
     match trusted_place(scope, body.name.as_bytes()) {
-        Some(number) => built[number] = body,
+        Some(number) => put(built, number, body),
         None => drop(body),
     }
 }

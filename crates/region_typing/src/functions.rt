@@ -1,6 +1,6 @@
 // Functions.
 
-ghost use Rattle.std.specs.Prelude.{◌≡◌, ◌≤◌, [], length, map, IfOk};
+ghost use Rattle.std.specs.Prelude.{◌≡◌, ◌≤◌, [], Some, length, map, IfOk};
 ghost use Rattle.std.specs.Option.{option_map};
 ghost use Rattle.ckc_text.specs.Places.{place_at};
 ghost use Rattle.ckc_tree.specs.Items.{parameter as parameter_tree, parameters as parameters_tree, result_form as result_tree, body as body_tree, statement_list};
@@ -166,6 +166,27 @@ fn body_of(
     Ok(core_function(alloc, f, parameters.len(), locals, built)?)
 }
 
+// The body of a function.
+fn with_body(
+    alloc: Global,
+    sites: &Sites,
+    walk: &mut Walk,
+    f: &Signature,
+    parameters: &[Variable],
+    body: &Block,
+) -> Result<(), Refused>
+    requires few { length parameters.now ≤ 16 }
+    requires outside { Outside (scope_of walk.old.scope) }
+    ensures { Answers (λ _. walk_of walk.new) (function_body_of (place_at sites.now) (walk_of walk.old) (signature f.now) (map variable_of parameters.now) (Some (body_tree body.now))) result }
+{
+    let checked = is_checked(&walk.scope, body.mark);
+    let written = body.statements.as_slice();
+    let built = body_of(alloc, sites, &mut walk.scope, f, parameters, written)?;
+    needs(checked, Code::E15, body.span)?;
+    walk.bodies.push(built)?;
+    Ok(())
+}
+
 /// The body of a function, if it has one.
 pub fn function_body(
     alloc: Global,
@@ -181,13 +202,6 @@ pub fn function_body(
 {
     match body {
         None => Ok(()),
-        Some(body) => {
-            let checked = is_checked(&walk.scope, body.mark);
-            let written = body.statements.as_slice();
-            let built = body_of(alloc, sites, &mut walk.scope, f, parameters, written)?;
-            needs(checked, Code::E15, body.span)?;
-            walk.bodies.push(built)?;
-            Ok(())
-        }
+        Some(body) => with_body(alloc, sites, walk, f, parameters, body),
     }
 }

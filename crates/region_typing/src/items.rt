@@ -1,17 +1,18 @@
 // What stands at file level.
 
-ghost use Rattle.std.specs.Prelude.{◌≡◌, ◌&&◌, ◌||◌, nat_lt, is_some, length, map};
+ghost use Rattle.std.specs.Prelude.{◌≡◌, ◌&&◌, ◌||◌, nat_lt, true, is_some, length, map};
 ghost use Rattle.ckc_text.specs.Places.{place_at};
 ghost use Rattle.ckc_tree.specs.Items.{function as function_tree, item as item_tree};
+ghost use Rattle.typing_rules.specs.Verdicts.{picked};
 ghost use Rattle.typing_rules.specs.Scopes.{function_named};
-ghost use Rattle.typing_rules.specs.Items.{is_trusted as trusted_kind, is_defined as defined_in, defines as defines_of, is_off as is_off_of, function as function_of, item as item_of, items as items_of};
+ghost use Rattle.typing_rules.specs.Items.{is_trusted as trusted_kind, is_defined as defined_in, defines as defines_of, is_off as is_off_of, agrees as agrees_of, all_scalar, scalar_result, function as function_of, item as item_of, items as items_of};
 ghost use Rattle.expression_typing.specs.Answering.{Answers};
-ghost use Rattle.expression_typing.specs.Views.{scope as scope_of};
+ghost use Rattle.expression_typing.specs.Views.{scope as scope_of, signature};
 ghost use Rattle.region_typing.specs.Items.{walk as walk_of, Outside, kept_rules};
 
 use crate::functions::function_body;
 use crate::globals::global;
-use crate::signatures::{Prototype, agrees, declare, declared, is_scalar_signature};
+use crate::signatures::{agrees, declare, declared, is_scalar_signature};
 use crate::statements::is_unchecked;
 use crate::structures::structure;
 use crate::walk::Walk;
@@ -20,6 +21,7 @@ use ckc_text::fault::Refused;
 use ckc_tree::item::{Function, FunctionKind, Item, Region};
 use expression_typing::refusals::needs;
 use expression_typing::scope::Scope;
+use expression_typing::signature::Signature;
 use expression_typing::sites::Sites;
 use std::alloc::Global;
 
@@ -57,13 +59,30 @@ fn is_defined(items: &[Item], name: &[u8]) -> bool
     false
 }
 
+// Whether a function has a body where it needs one.
+fn has_body(items: &[Item], d: &Function) -> bool
+    ensures { result ≡ picked (trusted_kind d.now.kind) (defined_in (map item_tree items.now) d.now.name.name) true }
+{
+    if is_trusted(d.kind) {
+        is_defined(items, d.name.name.as_bytes())
+    } else {
+        true
+    }
+}
+
+// Whether a declaration agrees with the first one of its name, and its types are scalars.
+fn fits(scope: &Scope, f: &Signature) -> bool
+    ensures { result ≡ (agrees_of (function_named (scope_of scope.now).functions f.now.name) (signature f.now) && (all_scalar (signature f.now).parameters && scalar_result (signature f.now).result)) }
+{
+    agrees(scope, f) && is_scalar_signature(f)
+}
+
 // The rules of a function whose body was walked.
 fn keep_rules(items: &[Item], scope: &Scope, d: &Function, fits: bool) -> Result<(), Refused>
     ensures { Answers (λ x. x) (kept_rules (map item_tree items.now) (function_tree d.now) fits (scope_of scope.now)) result }
 {
     needs(fits, Code::E13, d.span)?;
-    let has_body = !is_trusted(d.kind) || is_defined(items, d.name.name.as_bytes());
-    needs(has_body, Code::E10, d.span)?;
+    needs(has_body(items, d), Code::E10, d.span)?;
     needs(!is_unchecked(d.mark), Code::E15, d.span)?;
     needs(!scope.is_off, Code::E15, d.span)
 }
@@ -87,14 +106,12 @@ fn function(
     ensures { Answers (λ _. walk_of walk.new) (function_of (place_at sites.now) (map item_tree items.now) (walk_of walk.old) (function_tree d.now)) result }
 {
     needs(has_room(&walk.scope, d.name.name.as_bytes()), Code::E08, d.span)?;
-    let Prototype {
-        signature,
-        parameters,
-    } = declared(alloc, &walk.scope, d)?;
-    let fits = agrees(&walk.scope, &signature) && is_scalar_signature(&signature);
-    declare(alloc, &mut walk.scope, &signature)?;
-    function_body(alloc, sites, walk, &signature, parameters.as_slice(), &d.body)?;
-    keep_rules(items, &walk.scope, d, fits)
+    let known = declared(alloc, &walk.scope, d)?;
+    let suits = fits(&walk.scope, &known.signature);
+    declare(alloc, &mut walk.scope, &known.signature)?;
+    let parameters = known.parameters.as_slice();
+    function_body(alloc, sites, walk, &known.signature, parameters, &d.body)?;
+    keep_rules(items, &walk.scope, d, suits)
 }
 
 fn is_off(region: Region) -> bool

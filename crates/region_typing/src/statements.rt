@@ -6,7 +6,9 @@ ghost use Rattle.ckc_text.specs.Places.{place_at};
 ghost use Rattle.ckc_tree.specs.Expressions.{expression as expression_tree};
 ghost use Rattle.ckc_tree.specs.Statements.{on_heap, assignment as assignment_tree, for_initial as initial_tree, statement as statement_tree, Block};
 ghost use Rattle.ckc_tree.specs.Items.{statement_list};
-ghost use Rattle.ckc_core.specs.Core.{expression, statement as statement_of, statements_of};
+ghost use Rattle.ckc_core.specs.Core.{expression, statement as statement_of, statements_of, Return};
+ghost use Rattle.typing_rules.specs.Verdicts.{Passes};
+ghost use Rattle.typing_rules.specs.Expressions.{converted as converted_as};
 ghost use Rattle.typing_rules.specs.Statements.{optional_condition as optional_condition_of, optional_step as optional_step_of, first_part as first_part_of, return as return_of, returned as returned_as, returned_nothing as nothing_as, alone as alone_of, is_unchecked as unchecked_mark, statement as statement_in, statements as statements_in};
 ghost use Rattle.expression_typing.specs.Answering.{Answers};
 ghost use Rattle.expression_typing.specs.Views.{scope as scope_of};
@@ -109,16 +111,21 @@ fn returned_nothing(result_type: &Option<CType>, span: Span) -> Result<Stmt, Ref
     }
 }
 
-// A return of a value.
+// A return of a value that converts.
+fn return_value(alloc: Global, t: &CType, value: Typed, span: Span) -> Result<Stmt, Refused>
+    ensures { Answers statement_of (converted_as (typed_view value) (ctype_of t.now) span (λ v. Passes (Return v))) result }
+{
+    let value = converted(alloc, value, t, span)?;
+    Ok(Stmt::Return(value))
+}
+
+// A return of a value, where the function has a result.
 fn returned(alloc: Global, result_type: &Option<CType>, value: Typed, span: Span) -> Result<Stmt, Refused>
     ensures { Answers statement_of (returned_as (option_map ctype_of result_type.now) (typed_view value) span) result }
 {
     match result_type {
         None => Err(refusal(Code::E13, span)),
-        Some(t) => {
-            let value = converted(alloc, value, t, span)?;
-            Ok(Stmt::Return(value))
-        }
+        Some(t) => return_value(alloc, t, value, span),
     }
 }
 
