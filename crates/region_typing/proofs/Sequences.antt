@@ -18,9 +18,12 @@ use Rattle.region_typing.specs.Walks.{joined}
 abbrev pub behind : List Stmt → Verdict (core.Statements × Scope) → Verdict (core.Statements × Scope)
 behind built rest = passing rest (λ w. Passes (joined built w.0, w.1))
 
-pub behind_none : (v : Verdict (core.Statements × Scope)) → v ≡ behind [] v
+behind_none : (v : Verdict (core.Statements × Scope)) → v ≡ behind [] v
 behind_none (Passes w) = refl
 behind_none (Breaks fault) = refl
+
+pub behind_empty : (built : List Stmt) (v : Verdict (core.Statements × Scope)) → built ≡ [] → v ≡ behind built v
+behind_empty built v is = rw is (behind_none v)
 
 joined_none : (xs : List Stmt) → joined xs core.NoMore ≡ statements_of xs
 joined_none [] = refl

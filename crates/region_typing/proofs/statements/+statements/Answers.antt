@@ -1,4 +1,5 @@
 use Rattle.std.proofs.Common.{◌<◌, length, map, ap, sym, refl, ◌∙◌, arith}
+use Rattle.std.specs.Option.{option_map}
 use Rattle.ckc_text.specs.Places.{place_at}
 use Rattle.ckc_text.specs.declared.code.Code.TheVariants.{E15}
 use Rattle.ckc_tree.specs.Statements as s
@@ -14,7 +15,7 @@ use Rattle.region_typing.proofs.Walking.{goes_on, refused, walks_on, refused_wal
 use Rattle.region_typing.proofs.Testing.{walk_fails, tested}
 use Rattle.region_typing.proofs.Rows.{block_tree}
 use Rattle.region_typing.proofs.Loops.{call_parts, loop_parts, if_walk, if_else_walk, while_walk, for_walk, nested_walk}
-use Rattle.region_typing.proofs.Sequences.{behind_none, statement_more, statement_breaks, statements_done}
+use Rattle.region_typing.proofs.Sequences.{behind_empty, statement_more, statement_breaks, statements_done}
 use Rattle.region_typing.proofs.statements.+statements.Goals as goal
 
 pub nested-returns-in_err-inner : goal.nested-returns-in_err-inner
@@ -22,7 +23,7 @@ nested-returns-in_err-inner t c = refused_walk _ c.from_residual.result c.from_r
 
 pub nested-returns : goal.nested-returns
 nested-returns t c =
-    nested_walk (place_at c.args.sites.now) c.args.in_loop c.len-visible.result c.args.scope.now.in_loop (s.statement c.args.written.now) c.in_ok-inner.inner c.args.scope.now c.statement.new.scope c.leave.new.self c.in_ok-inner.ensures refl refl c.len-visible.ensures refl c.leave.ensures.known c.leave.ensures.seen
+    nested_walk (place_at c.args.sites.now) c.args.in_loop c.len-visible.result c.args.scope.now.in_loop (s.statement c.args.written.now) c.in_ok-inner.inner c.args.scope.now c.statement.new.scope c.leave.new.self c.in_ok-inner.ensures refl refl (omega (arith, c.args.scope.now.visible.ok.0)) refl c.leave.ensures.known c.leave.ensures.seen
 
 pub turns-returns-in_err-test : goal.turns-returns-in_err-test
 turns-returns-in_err-test t c = refused _ c.from_residual.result c.from_residual.ensures.1 c.in_err-test.ensures
@@ -55,7 +56,7 @@ pub for_loop-returns : goal.for_loop-returns
 for_loop-returns t c =
     rw c.in_ok-first.ensures.so.0
     (left_walk statement (rules.both (statement c.in_ok-first.first)) _ (statement c.in_ok-turns.turns) c.in_ok-both.field-0 c.args.scope.now c.turns.new.scope c.leave.new.self c.in_ok-turns.ensures.so.0
-    (left c.len-visible.result c.args.scope.now.in_loop c.args.scope.now c.turns.new.scope c.leave.new.self (grown c.in_ok-first.ensures.so.1 c.in_ok-turns.ensures.so.1) c.len-visible.ensures refl c.leave.ensures.known c.leave.ensures.seen)
+    (left c.len-visible.result c.args.scope.now.in_loop c.args.scope.now c.turns.new.scope c.leave.new.self (grown c.in_ok-first.ensures.so.1 c.in_ok-turns.ensures.so.1) (omega (arith, c.args.scope.now.visible.ok.0)) refl c.leave.ensures.known c.leave.ensures.seen)
     c.in_ok-both.ensures)
 
 pub block-returns-in_err-built : goal.block-returns-in_err-built
@@ -69,7 +70,7 @@ block-returns t c =
     let on = sym c.is_checked-checked.ensures ∙ tested _ E15 c.args.span c.in_ok-needs.ensures in
     rw on
     (left_walk statement core.Block _ (statements_of c.in_ok-built.built.items) c.block.result c.args.scope.now c.statements.new.scope c.leave.new.self c.in_ok-built.ensures.so.0
-    (left c.len-visible.result c.args.scope.now.in_loop c.args.scope.now c.statements.new.scope c.leave.new.self c.in_ok-built.ensures.so.1 c.len-visible.ensures refl c.leave.ensures.known c.leave.ensures.seen)
+    (left c.len-visible.result c.args.scope.now.in_loop c.args.scope.now c.statements.new.scope c.leave.new.self c.in_ok-built.ensures.so.1 (omega (arith, c.args.scope.now.visible.ok.0)) refl c.leave.ensures.known c.leave.ensures.seen)
     c.block.ensures)
 
 pub statements-returns-in_err-next : goal.statements-returns-in_err-next
@@ -115,7 +116,9 @@ statement-returns-in-While t c =
     while_walk (place_at c.args.sites.now) (s.statement c.args.written.now) (trees.expression c.in-While.test.value) (s.statement c.in-While.body.value) c.in-While.span (ap s.statement c.in-While.is) walk
 
 pub statement-returns-in-For : goal.statement-returns-in-For
-statement-returns-in-For t c = ?
+statement-returns-in-For t c =
+    let walk = rw c.deref-in-For.ensures at c.for_loop.ensures in
+    for_walk (place_at c.args.sites.now) (s.statement c.args.written.now) (s.for_initial c.in-For.initial) (option_map s.on_heap c.in-For.test) (option_map s.assignment c.in-For.step) (s.statement c.in-For.body.value) c.in-For.span (ap s.statement c.in-For.is) walk
 
 pub statement-returns-in-Return : goal.statement-returns-in-Return
 statement-returns-in-Return t c = rw c.in-Return.is (kept c.args.scope.now c.return_from.ensures)
@@ -128,7 +131,7 @@ statement-returns-in-Break t c =
 pub statement-returns-in-Continue : goal.statement-returns-in-Continue
 statement-returns-in-Continue t c =
     let g = scope c.args.scope.now in
-    rw c.in-Continue.is (kept_as (rules.statement (place_at c.args.sites.now) g (s.Continue c.in-Continue.span)) c.args.scope.now (loop_parts g core.Continue c.in-Continue.span) c.in_loop.ensures)
+    rw c.in-Continue.is (kept_as (rules.statement (place_at c.args.sites.now) g (s.Continue c.in-Continue.span)) c.args.scope.now (loop_parts g core.Continue c.in-Continue.span) c.in_loop-in-Continue.ensures)
 
 pub statement-returns-in_err-test-in-None : goal.statement-returns-in_err-test-in-None
 statement-returns-in_err-test-in-None t c =
@@ -137,16 +140,47 @@ statement-returns-in_err-test-in-None t c =
     (refused _ c.from_residual.result c.from_residual.ensures.1 broken)
 
 pub statement-returns-in_err-first-in-None : goal.statement-returns-in_err-first-in-None
-statement-returns-in_err-first-in-None t c = ?
+statement-returns-in_err-first-in-None t c =
+    let test = rw c.deref-in-None.ensures at c.in_ok-test-in-None.ensures in
+    let broken = rw c.deref-in-None-2.ensures at c.in_err-first-in-None.ensures in
+    if_walk (place_at c.args.sites.now) (s.statement c.args.written.now) (trees.expression c.in-If.test.value) (s.statement c.in-If.consequent.value) c.in-If.span (rw (c.in-If.is, c.in-None.is) refl)
+    (goes_on _ test (refused_walk _ c.from_residual-in_err-first-in-None.result c.from_residual-in_err-first-in-None.ensures.1 broken))
+
+pub statement-returns-in_ok-choice-in-None : goal.statement-returns-in_ok-choice-in-None
+statement-returns-in_ok-choice-in-None t c =
+    let test = rw c.deref-in-None.ensures at c.in_ok-test-in-None.ensures in
+    let first = rw c.deref-in-None-2.ensures at c.in_ok-first-in-None.ensures in
+    if_walk (place_at c.args.sites.now) (s.statement c.args.written.now) (trees.expression c.in-If.test.value) (s.statement c.in-If.consequent.value) c.in-If.span (rw (c.in-If.is, c.in-None.is) refl)
+    (goes_on _ test (walks_on _ first (done statement c.in_ok-choice-in-None.field-0 _ c.nested.new.scope c.in_ok-choice-in-None.ensures)))
 
 pub statement-returns-in_err-test-in-Some : goal.statement-returns-in_err-test-in-Some
-statement-returns-in_err-test-in-Some t c = ?
+statement-returns-in_err-test-in-Some t c =
+    let broken = rw c.deref-in-Some.ensures at c.in_err-test-in-Some.ensures in
+    if_else_walk (place_at c.args.sites.now) (s.statement c.args.written.now) (trees.expression c.in-If.test.value) (s.statement c.in-If.consequent.value) (s.statement c.in-Some.alternative.value) c.in-If.span (rw (c.in-If.is, c.in-Some.is) refl)
+    (refused _ c.from_residual-in_err-test-in-Some.result c.from_residual-in_err-test-in-Some.ensures.1 broken)
 
 pub statement-returns-in_err-first-in-Some : goal.statement-returns-in_err-first-in-Some
-statement-returns-in_err-first-in-Some t c = ?
+statement-returns-in_err-first-in-Some t c =
+    let test = rw c.deref-in-Some.ensures at c.in_ok-test-in-Some.ensures in
+    let broken = rw c.deref-in-Some-2.ensures at c.in_err-first-in-Some.ensures in
+    if_else_walk (place_at c.args.sites.now) (s.statement c.args.written.now) (trees.expression c.in-If.test.value) (s.statement c.in-If.consequent.value) (s.statement c.in-Some.alternative.value) c.in-If.span (rw (c.in-If.is, c.in-Some.is) refl)
+    (goes_on _ test (refused_walk _ c.from_residual-in_err-first-in-Some.result c.from_residual-in_err-first-in-Some.ensures.1 broken))
 
 pub statement-returns-in_err-second-in-Some : goal.statement-returns-in_err-second-in-Some
-statement-returns-in_err-second-in-Some t c = ?
+statement-returns-in_err-second-in-Some t c =
+    let test = rw c.deref-in-Some.ensures at c.in_ok-test-in-Some.ensures in
+    let first = rw c.deref-in-Some-2.ensures at c.in_ok-first-in-Some.ensures in
+    let broken = rw c.deref-in-Some-3.ensures at c.in_err-second-in-Some.ensures in
+    if_else_walk (place_at c.args.sites.now) (s.statement c.args.written.now) (trees.expression c.in-If.test.value) (s.statement c.in-If.consequent.value) (s.statement c.in-Some.alternative.value) c.in-If.span (rw (c.in-If.is, c.in-Some.is) refl)
+    (goes_on _ test (walks_on _ first (refused_walk _ c.from_residual-in_err-second-in-Some.result c.from_residual-in_err-second-in-Some.ensures.1 broken)))
+
+pub statement-returns-in_ok-choice-in-Some : goal.statement-returns-in_ok-choice-in-Some
+statement-returns-in_ok-choice-in-Some t c =
+    let test = rw c.deref-in-Some.ensures at c.in_ok-test-in-Some.ensures in
+    let first = rw c.deref-in-Some-2.ensures at c.in_ok-first-in-Some.ensures in
+    let second = rw c.deref-in-Some-3.ensures at c.in_ok-second-in-Some.ensures in
+    if_else_walk (place_at c.args.sites.now) (s.statement c.args.written.now) (trees.expression c.in-If.test.value) (s.statement c.in-If.consequent.value) (s.statement c.in-Some.alternative.value) c.in-If.span (rw (c.in-If.is, c.in-Some.is) refl)
+    (goes_on _ test (walks_on _ first (walks_on _ second (done statement c.in_ok-choice-in-Some.field-0 _ c.nested-in-Some-2.new.scope c.in_ok-choice-in-Some.ensures))))
 
 pub statements-loop-listed-init : goal.statements-loop-listed-init
-statements-loop-listed-init t c = record { so_far = behind_none _; more = none_more c.args.scope.now }
+statements-loop-listed-init t c = record { so_far = behind_empty c.new-built.result.items _ c.new-built.ensures.items; more = none_more c.args.scope.now }
