@@ -2,7 +2,7 @@
 
 ghost use Rattle.std.specs.Prelude.{◌≡◌, ◌<◌, ◌≤◌, [], IfOk, length, map};
 ghost use Rattle.pointer_modes.specs.Types.{member, members_of, is_tainted};
-ghost use Rattle.pointer_modes.specs.Declaring.{Declares, Adds, MayBe, first_twice, is_named, first_struct};
+ghost use Rattle.pointer_modes.specs.Declaring.{Declares, Adds, MayBe, first_twice, is_named, first_struct, with_members};
 
 use crate::ctype::{CType, Member};
 use ckc_text::code::Code;
@@ -72,16 +72,25 @@ impl Structs {
     /// Gives a struct its members, of which each has a name of its own and isn't a struct: else E08 at the 65th member,
     /// E11 at the first whose name stands before it, or E27 at the first that is a struct, in this order. Members that
     /// are refused are dropped. This takes no memory.
-    #[tactic(auto, using(crate::proofs::Giving::given))]
     pub fn add(&mut self, at: u32, members: Vec<Member>) -> Result<(), Refused>
         requires declared { at < length self.old }
         requires without_members { members_of self.old at ≡ [] }
         ensures { Adds self.old at (map member members.items) result self.new }
     {
         may_be_members(members.as_slice())?;
+        self.give(at, members);
+        Ok(())
+    }
+
+    /// Gives a struct members, at most 64, in place of those that it had. This takes no memory.
+    #[tactic(auto, using(crate::proofs::Giving::given))]
+    pub fn give(&mut self, at: u32, members: Vec<Member>)
+        requires declared { at < length self.old }
+        requires few { length members.items ≤ 64 }
+        ensures { self.new ≡ with_members self.old at (map member members.items) }
+    {
         let s = &mut self.items[at as usize];
         s.members = members;
-        Ok(())
     }
 
     /// Whether a struct is declared as tainted. No struct is where none has this number.

@@ -1,8 +1,5 @@
-pub mod Answering
-pub mod Views
-pub mod Typed
-pub mod Operands
-pub mod Searches
-pub mod Calls
-pub mod Slices
-pub mod Targets
+pub mod Walks
+pub mod Initials
+pub mod Items
+pub mod Signatures
+pub mod CoreParts

@@ -1,16 +1,15 @@
 // Whether a program keeps the rules of names, types and regions, and what it becomes.
 #![tactic(auto)]
 
-mod assignments;
-mod calls;
-mod expressions;
-mod lookups;
-mod members;
-mod operands;
-mod operators;
-mod places;
-mod refusals;
-mod scope;
-pub mod sites;
-mod typed;
-mod types;
+pub mod checker;
+mod core_forms;
+mod cores;
+mod declarations;
+mod functions;
+mod globals;
+mod initials;
+mod items;
+mod signatures;
+mod statements;
+mod structures;
+mod walk;

@@ -1,0 +1,10 @@
+pub mod Going
+pub mod Equality
+pub mod Searches
+pub mod MemberCells
+pub mod Arguments
+pub mod Continuing
+pub mod Sides
+pub mod CoreRows
+pub mod Conversions
+pub mod FileLevel

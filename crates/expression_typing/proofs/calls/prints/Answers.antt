@@ -1,0 +1,12 @@
+use Rattle.std.proofs.Common.{map, refl}
+use Rattle.ckc_core.specs.Core.{Print}
+use Rattle.expression_typing.specs.Calls.{argument}
+use Rattle.expression_typing.proofs.Going.{goes_on, refused}
+use Rattle.expression_typing.proofs.Continuing.{writes_parts}
+use Rattle.expression_typing.proofs.calls.prints.Goals as goal
+
+pub returns-in_err-value : goal.returns-in_err-value
+returns-in_err-value c = rw (writes_parts Print (map argument c.args.arguments.items) c.args.span) (refused _ c.from_residual.result c.from_residual.ensures.1 c.in_err-value.ensures)
+
+pub returns : goal.returns
+returns c = rw (writes_parts Print (map argument c.args.arguments.items) c.args.span) (goes_on _ c.in_ok-value.ensures (record { so = refl }))

@@ -1,0 +1,36 @@
+-- Inside: calls and their arguments, as the code holds them.
+use Rattle.std.specs.Prelude.{ℕ, Bool, true, false, List, [], ◌∷◌}
+use Rattle.ckc_text.specs.declared.place.Span.{Span}
+use Rattle.ckc_text.specs.declared.code.Code.TheVariants.{E14}
+use Rattle.ckc_core.specs.declared.program.Site.{Site}
+use Rattle.ckc_core.specs.Core as core
+use Rattle.typing_rules.specs.Verdicts.{Verdict, Passes, breaks}
+use Rattle.pointer_modes.specs.Types.{Int, ctype}
+use Rattle.ckc_core.specs.Core.{expression, statement}
+use Rattle.typing_rules.specs.Expressions.{Typed, Called, Gives, GivesNothing, converted}
+use Rattle.expression_typing.specs.declared.calls.Called as code
+use Rattle.expression_typing.specs.declared.calls.Called.TheVariants as calls
+use Rattle.expression_typing.specs.declared.calls.Argument as code_argument
+use Rattle.expression_typing.specs.Typed.{typed}
+
+abbrev pub called : code.Called → Called
+called (calls.Gives type value) = Gives (ctype type) (expression value)
+called (calls.GivesNothing call) = GivesNothing (statement call)
+
+-- an argument with its span
+abbrev pub argument : code_argument.Argument → Typed × Span
+argument a = (typed a.typed, a.span)
+
+-- the only argument of a call, as a number: E14, E13
+abbrev pub only_number : List (Typed × Span) → Span → Verdict core.Expression
+only_number [] span = breaks E14 span
+only_number (a ∷ []) span = converted a.0 Int a.1 Passes
+only_number (a ∷ b ∷ others) span = breaks E14 span
+
+abbrev pub call_value : Bool → ℕ → Site → core.Arguments → core.Expression
+call_value true number site arguments = core.TaintedCall number arguments site
+call_value false number site arguments = core.Call number arguments
+
+abbrev pub call_statement : Bool → ℕ → Site → core.Arguments → core.Statement
+call_statement true number site arguments = core.TaintedAlone number arguments site
+call_statement false number site arguments = core.CallAlone number arguments

@@ -1,0 +1,12 @@
+pub mod Answering
+pub mod Names
+pub mod Signatures
+pub mod Views
+pub mod Typed
+pub mod Operands
+pub mod Searches
+pub mod Calls
+pub mod Slices
+pub mod Targets
+pub mod Locals
+pub mod Filling

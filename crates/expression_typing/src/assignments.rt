@@ -1,0 +1,262 @@
+// Assignments.
+
+ghost use Rattle.std.specs.Prelude.{◌≡◌};
+ghost use Rattle.ckc_text.specs.Places.{place_at};
+ghost use Rattle.ckc_tree.specs.Expressions.{expression as expression_tree};
+ghost use Rattle.ckc_tree.specs.Statements.{assignment as assignment_tree};
+ghost use Rattle.pointer_modes.specs.Types.{ctype as ctype_of};
+ghost use Rattle.ckc_core.specs.Core.{expression, statement, place as place_of};
+ghost use Rattle.typing_rules.specs.Expressions.{site_at};
+ghost use Rattle.typing_rules.specs.Statements.{is_char as is_char_of, store as store_of, update as update_with, updated_place as updated_at, set_to as set_to_of, updated as updated_of, stored as stored_of, step_of as step_from, one as one_of, assignment as assignment_of, condition as condition_of};
+ghost use Rattle.expression_typing.specs.Answering.{Answers};
+ghost use Rattle.expression_typing.specs.Views.{scope as scope_of};
+ghost use Rattle.expression_typing.specs.Typed.{typed as typed_view};
+ghost use Rattle.expression_typing.specs.Targets.{target as target_view, lvalue, target_of as target_in, updated_target};
+
+use crate::calls::converted;
+use crate::expressions::typed;
+use crate::operands::{number, scalar};
+use crate::operators::is_pointer_value;
+use crate::refusals::{needs, refusal};
+use crate::scope::Scope;
+use crate::sites::Sites;
+use crate::typed::{Typed, plain};
+use crate::types::{is_number, is_pointer};
+use ckc_core::program;
+use ckc_core::program::{CellPlace, Operator, Site, Stmt};
+use ckc_text::code::Code;
+use ckc_text::fault::Refused;
+use ckc_text::place::Span;
+use ckc_tree::expr::Expr;
+use ckc_tree::stmt::{Assignment, StepOperator, StoreOperator};
+use pointer_modes::ctype::CType;
+use std::alloc::Global;
+
+/// Where a value may be stored.
+#[derive(Drop)]
+pub enum Lvalue {
+    Local(u32),
+    Cell(CellPlace),
+}
+
+/// A place that a value may be stored in, and its type.
+#[derive(Drop)]
+pub struct Target {
+    pub ctype: CType,
+    pub place: Lvalue,
+}
+
+/// The place that an expression stands for.
+fn target_of(t: Typed, span: Span) -> Result<Target, Refused>
+    ensures { Answers target_view (target_in (typed_view t) span) result }
+{
+    match t {
+        Typed::Value { .. } => Err(refusal(Code::E12, span)),
+        Typed::Local { ctype, local } => Ok(Target {
+            ctype,
+            place: Lvalue::Local(local),
+        }),
+        Typed::Cell { ctype, place } => Ok(Target {
+            ctype,
+            place: Lvalue::Cell(place),
+        }),
+        Typed::Struct { .. } => Err(refusal(Code::E13, span)),
+    }
+}
+
+// A store.
+fn store(target: Target, value: program::Expr) -> Stmt
+    ensures { statement result ≡ store_of (lvalue target.place) (ctype_of target.ctype) (expression value) }
+{
+    let Target { ctype, place } = target;
+    match place {
+        Lvalue::Local(local) => Stmt::SetLocal { local, value },
+        Lvalue::Cell(cell) => Stmt::Store { ctype, cell, value },
+    }
+}
+
+// A store of a value that converts.
+fn set_to(alloc: Global, left: Typed, right: Typed, span: Span) -> Result<Stmt, Refused>
+    ensures { Answers statement (set_to_of (typed_view left) (typed_view right) span) result }
+{
+    let target = target_of(left, span)?;
+    let value = converted(alloc, right, &target.ctype, span)?;
+    Ok(store(target, value))
+}
+
+// Whether a type is `char`.
+fn is_char(t: &CType) -> bool
+    ensures { result ≡ is_char_of (ctype_of t.now) }
+{
+    match t {
+        CType::Char => true,
+        CType::Int | CType::Struct(_) | CType::Pointer(..) => false,
+    }
+}
+
+// A place whose checks name another expression.
+fn updated_place(place: CellPlace, site: Site) -> CellPlace
+    ensures { place_of result ≡ updated_at (place_of place) site }
+{
+    match place {
+        CellPlace::Direct {
+            object,
+            cell,
+            offset,
+        } => CellPlace::Direct {
+            object,
+            cell,
+            offset,
+        },
+        CellPlace::Through {
+            pointer,
+            cell,
+            offset,
+            ..
+        } => CellPlace::Through {
+            pointer,
+            cell,
+            offset,
+            site,
+        },
+    }
+}
+
+// An update.
+fn update(target: Target, operator: Operator, value: program::Expr, site: Site) -> Stmt
+    ensures { statement result ≡ update_with (lvalue target.place) (ctype_of target.ctype) operator (expression value) site }
+{
+    let Target { ctype, place } = target;
+    match place {
+        Lvalue::Local(local) => Stmt::UpdateLocal {
+            is_char: is_char(&ctype),
+            local,
+            operator,
+            value,
+            site,
+        },
+        Lvalue::Cell(cell) => Stmt::Update {
+            ctype,
+            cell: updated_place(cell, site),
+            operator,
+            value,
+            site,
+        },
+    }
+}
+
+// An update of a target.
+fn update_target(
+    alloc: Global,
+    operator: Operator,
+    target: Target,
+    right: Typed,
+    site: Site,
+    span: Span,
+) -> Result<Stmt, Refused>
+    ensures { Answers statement (updated_target operator (target_view target) (typed_view right) site span) result }
+{
+    if is_pointer(&target.ctype) || is_pointer_value(&right) {
+        return Err(refusal(Code::E19, span));
+    }
+    if !is_number(&target.ctype) {
+        return Err(refusal(Code::E13, span));
+    }
+    let value = number(alloc, right, span)?;
+    Ok(update(target, operator, Box::into_inner(value), site))
+}
+
+// An update by the rules of the sum or the difference.
+fn updated(
+    alloc: Global,
+    sites: &Sites,
+    operator: Operator,
+    left: Typed,
+    right: Typed,
+    span: Span,
+) -> Result<Stmt, Refused>
+    ensures { Answers statement (updated_of (place_at sites.now) operator (typed_view left) (typed_view right) span) result }
+{
+    let target = target_of(left, span)?;
+    update_target(alloc, operator, target, right, sites.site(span), span)
+}
+
+// An assignment by its operator.
+fn stored(
+    alloc: Global,
+    sites: &Sites,
+    operator: StoreOperator,
+    left: Typed,
+    right: Typed,
+    span: Span,
+) -> Result<Stmt, Refused>
+    ensures { Answers statement (stored_of (place_at sites.now) operator (typed_view left) (typed_view right) span) result }
+{
+    match operator {
+        StoreOperator::Set => set_to(alloc, left, right, span),
+        StoreOperator::Add => updated(alloc, sites, Operator::Add, left, right, span),
+        StoreOperator::Subtract => updated(alloc, sites, Operator::Subtract, left, right, span),
+    }
+}
+
+fn step_of(operator: StepOperator) -> Operator
+    ensures { result ≡ step_from operator }
+{
+    match operator {
+        StepOperator::Increment => Operator::Add,
+        StepOperator::Decrement => Operator::Subtract,
+    }
+}
+
+// The number 1.
+fn one() -> Typed
+    ensures { typed_view result ≡ one_of }
+{
+    plain(CType::Int, program::Expr::Number(1))
+}
+
+/// An assignment.
+pub fn assignment(
+    alloc: Global,
+    sites: &Sites,
+    scope: &Scope,
+    written: &Assignment,
+) -> Result<Stmt, Refused>
+    ensures { Answers statement (assignment_of (place_at sites.now) (scope_of scope.now) (assignment_tree written.now)) result }
+{
+    match written {
+        Assignment::Store {
+            operator,
+            target,
+            value,
+            span,
+        } => {
+            let left = typed(alloc, sites, scope, target)?;
+            let right = typed(alloc, sites, scope, value)?;
+            stored(alloc, sites, *operator, left, right, *span)
+        }
+        Assignment::Step {
+            operator,
+            target,
+            span,
+            ..
+        } => {
+            let left = typed(alloc, sites, scope, target)?;
+            updated(alloc, sites, step_of(*operator), left, one(), *span)
+        }
+    }
+}
+
+/// A condition.
+pub fn condition(
+    alloc: Global,
+    sites: &Sites,
+    scope: &Scope,
+    e: &Expr,
+) -> Result<program::Expr, Refused>
+    ensures { Answers expression (condition_of (place_at sites.now) (scope_of scope.now) (expression_tree e.now)) result }
+{
+    let t = typed(alloc, sites, scope, e)?;
+    let value = scalar(alloc, t, e.span())?;
+    Ok(Box::into_inner(value))
+}

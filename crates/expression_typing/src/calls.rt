@@ -1,0 +1,292 @@
+// Calls.
+
+ghost use Rattle.std.specs.Prelude.{◌≡◌, ◌+◌, ◌<◌, ◌≤◌, length, map, IfOk};
+ghost use Rattle.std.specs.Option.{option_map};
+ghost use Rattle.pointer_modes.specs.Types.{ctype as ctype_of};
+ghost use Rattle.ckc_core.specs.Core.{expression, arguments_of, statement, Print, PutByte};
+ghost use Rattle.typing_rules.specs.Verdicts.{Passes};
+ghost use Rattle.typing_rules.specs.Expressions.{converted as converted_to, in_type as value_in_type, as_pointer, with_result as with_result_of, arguments_as as arguments_in, predefined_call as predefined_in, writes, call_of as call_in, is_import as is_import_of, side_number as side_number_of, same_side, counted as counted_if, declared_call as declared_in, called as called_in};
+ghost use Rattle.typing_rules.specs.Scopes.{function_named};
+ghost use Rattle.expression_typing.specs.Views.{scope as scope_of, signature};
+ghost use Rattle.expression_typing.specs.Answering.{Answers};
+ghost use Rattle.expression_typing.specs.Typed.{typed};
+ghost use Rattle.expression_typing.specs.Calls.{argument, called as called_as, only_number, call_value, call_statement};
+
+use crate::operands::{Operand, value_of};
+use crate::refusals::{needs, refusal};
+use crate::scope::Scope;
+use crate::signature::Signature;
+use crate::typed::{Typed, plain};
+use crate::types::{converts, copied, is_number};
+use ckc_core::program::{Expr, Site, Stmt};
+use ckc_text::code::Code;
+use ckc_text::fault::{NoMemory, Refused};
+use ckc_text::place::Span;
+use ckc_tree::item::FunctionKind;
+use pointer_modes::ctype::CType;
+use std::alloc::Global;
+use std::collections::VecDeque;
+
+/// What a call is: a value of a type, or a statement where it has no result.
+#[derive(Drop)]
+pub enum Called {
+    Gives { ctype: CType, value: Expr },
+    GivesNothing { call: Stmt },
+}
+
+/// An argument of a call.
+#[derive(Drop)]
+pub struct Argument {
+    pub typed: Typed,
+    pub span: Span,
+}
+
+// A value as one of a type.
+fn in_type(to: &CType, null: bool, value: Box<Expr>) -> Expr
+    ensures { expression result ≡ value_in_type (ctype_of to.now) null (expression value.value) }
+{
+    match to {
+        CType::Char => Expr::LowByte(value),
+        CType::Pointer(..) => pointer_value(null, value),
+        CType::Int | CType::Struct(_) => Box::into_inner(value),
+    }
+}
+
+// A pointer, where the constant 0 is null.
+fn pointer_value(null: bool, value: Box<Expr>) -> Expr
+    ensures { expression result ≡ as_pointer null (expression value.value) }
+{
+    if null {
+        Expr::Null
+    } else {
+        Box::into_inner(value)
+    }
+}
+
+/// A value as one of a type that it converts to.
+pub fn converted(alloc: Global, t: Typed, to: &CType, span: Span) -> Result<Expr, Refused>
+    ensures { Answers expression (converted_to (typed t) (ctype_of to.now) span Passes) result }
+{
+    let Operand { ctype, zero, value } = value_of(alloc, t, span)?;
+    needs(converts(&ctype, zero, to), Code::E13, span)?;
+    let null = zero && is_number(&ctype);
+    Ok(in_type(to, null, value))
+}
+
+// The arguments of a call as values of the types of its parameters.
+fn arguments_as(
+    alloc: Global,
+    mut arguments: VecDeque<Argument>,
+    types: &[CType],
+) -> Result<Vec<Expr>, Refused>
+    requires { length arguments.items ≡ length types.now }
+    ensures { Answers (λ v. arguments_of v.items) (arguments_in (map argument arguments.items) (map ctype_of types.now)) result }
+{
+    let mut built = Vec::new(alloc);
+    while let Some(argument) = arguments.pop_front() {
+        let to = &types[built.len()];
+        let value = converted(alloc, argument.typed, to, argument.span)?;
+        built.push(value)?;
+    }
+    Ok(built)
+}
+
+// The only argument of a call, as a number.
+fn one_number(alloc: Global, mut arguments: VecDeque<Argument>, span: Span) -> Result<Expr, Refused>
+    ensures { Answers expression (only_number (map argument arguments.items) span) result }
+{
+    match arguments.pop_front() {
+        Some(argument) => {
+            needs(arguments.is_empty(), Code::E14, span)?;
+            converted(alloc, argument.typed, &CType::Int, argument.span)
+        }
+        None => Err(refusal(Code::E14, span)),
+    }
+}
+
+// A call of `print_int`.
+fn prints(alloc: Global, arguments: VecDeque<Argument>, span: Span) -> Result<Called, Refused>
+    ensures { Answers called_as (writes Print (map argument arguments.items) span) result }
+{
+    let value = one_number(alloc, arguments, span)?;
+    Ok(Called::GivesNothing {
+        call: Stmt::Print(value),
+    })
+}
+
+// A call of `put_byte`.
+fn puts_byte(alloc: Global, arguments: VecDeque<Argument>, span: Span) -> Result<Called, Refused>
+    ensures { Answers called_as (writes PutByte (map argument arguments.items) span) result }
+{
+    let value = one_number(alloc, arguments, span)?;
+    Ok(Called::GivesNothing {
+        call: Stmt::PutByte(value),
+    })
+}
+
+// A call of a function that is there before the program.
+fn predefined(
+    alloc: Global,
+    name: &[u8],
+    arguments: VecDeque<Argument>,
+    span: Span,
+) -> Result<Called, Refused>
+    ensures { Answers called_as (predefined_in name.now (map argument arguments.items) span) result }
+{
+    if name == b"next_input".as_slice() {
+        needs(arguments.is_empty(), Code::E14, span)?;
+        return Ok(Called::Gives {
+            ctype: CType::Int,
+            value: Expr::NextInput,
+        });
+    }
+    if name == b"print_int".as_slice() {
+        prints(alloc, arguments, span)
+    } else {
+        puts_byte(alloc, arguments, span)
+    }
+}
+
+// A call of a function by its number.
+fn call_of(
+    alloc: Global,
+    import: bool,
+    number: u32,
+    result_type: &Option<CType>,
+    site: Site,
+    arguments: Vec<Expr>,
+) -> Result<Called, NoMemory>
+    ensures { IfOk result (λ c. called_as c ≡ call_in import number (option_map ctype_of result_type.now) site (arguments_of arguments.items)) }
+{
+    match result_type {
+        Some(t) => Ok(Called::Gives {
+            ctype: copied(alloc, t)?,
+            value: value_of_call(import, number, site, arguments),
+        }),
+        None => Ok(Called::GivesNothing {
+            call: statement_of_call(import, number, site, arguments),
+        }),
+    }
+}
+
+// The value of a call.
+fn value_of_call(import: bool, number: u32, site: Site, arguments: Vec<Expr>) -> Expr
+    ensures { expression result ≡ call_value import number site (arguments_of arguments.items) }
+{
+    if import {
+        Expr::TaintedCall {
+            import: number,
+            arguments,
+            site,
+        }
+    } else {
+        Expr::Call {
+            function: number,
+            arguments,
+        }
+    }
+}
+
+// A call without a result.
+fn statement_of_call(import: bool, number: u32, site: Site, arguments: Vec<Expr>) -> Stmt
+    ensures { statement result ≡ call_statement import number site (arguments_of arguments.items) }
+{
+    if import {
+        Stmt::TaintedAlone {
+            import: number,
+            arguments,
+            site,
+        }
+    } else {
+        Stmt::CallAlone {
+            function: number,
+            arguments,
+        }
+    }
+}
+
+/// Whether a function runs on the other side of the boundary.
+pub fn is_import(f: &Signature) -> bool
+    ensures { result ≡ is_import_of (signature f.now) }
+{
+    match f.kind {
+        FunctionKind::Tainted => true,
+        FunctionKind::Trusted | FunctionKind::Callback => false,
+    }
+}
+
+// One more, where a function is of a side.
+fn counted(side: bool, f: &Signature, number: u32) -> u32
+    requires { number < 4096 }
+    ensures counted { result ≡ counted_if (same_side side (is_import_of (signature f.now))) number }
+    ensures few { result ≤ number + 1 }
+{
+    let import = is_import(f);
+    if side && import || !side && !import {
+        number + 1
+    } else {
+        number
+    }
+}
+
+/// How many functions of a side stand before the one of a name.
+pub fn side_number(functions: &[Signature], side: bool, name: &[u8]) -> u32
+    requires { length functions.now ≤ 4096 }
+    ensures { result ≡ side_number_of side (map signature functions.now) name.now 0 }
+{
+    let mut number = 0;
+    for f in functions {
+        if name == f.name.as_bytes() {
+            return number;
+        }
+        number = counted(side, f, number);
+    }
+    number
+}
+
+// A call of a declared function.
+fn declared(
+    alloc: Global,
+    scope: &Scope,
+    f: &Signature,
+    arguments: VecDeque<Argument>,
+    site: Site,
+    span: Span,
+) -> Result<Called, Refused>
+    ensures { Answers called_as (declared_in (scope_of scope.now) (signature f.now) (map argument arguments.items) site span) result }
+{
+    if f.parameters.len() != arguments.len() {
+        return Err(refusal(Code::E14, span));
+    }
+    let values = arguments_as(alloc, arguments, f.parameters.as_slice())?;
+    let import = is_import(f);
+    let number = side_number(scope.functions.as_slice(), import, f.name.as_bytes());
+    Ok(call_of(alloc, import, number, &f.result, site, values)?)
+}
+
+/// A call of a function by its name.
+pub fn call(
+    alloc: Global,
+    scope: &Scope,
+    name: &[u8],
+    arguments: VecDeque<Argument>,
+    site: Site,
+    span: Span,
+) -> Result<Called, Refused>
+    ensures { Answers called_as (called_in (scope_of scope.now) (function_named (scope_of scope.now).functions name.now) name.now (map argument arguments.items) site span) result }
+{
+    match scope.function(name) {
+        Some(f) => declared(alloc, scope, f, arguments, site, span),
+        None => predefined(alloc, name, arguments, span),
+    }
+}
+
+/// The value of a call that has a result.
+pub fn with_result(called: Called, span: Span) -> Result<Typed, Refused>
+    ensures { Answers typed (with_result_of (called_as called) span) result }
+{
+    match called {
+        Called::Gives { ctype, value } => Ok(plain(ctype, value)),
+        Called::GivesNothing { .. } => Err(refusal(Code::E13, span)),
+    }
+}

@@ -1,0 +1,183 @@
+// The walk over expressions.
+
+ghost use Rattle.std.specs.Prelude.{◌≡◌, IfOk, map, false};
+ghost use Rattle.ckc_text.specs.Places.{place_at};
+ghost use Rattle.ckc_tree.specs.Types.{type_name as type_name_of};
+ghost use Rattle.ckc_tree.specs.Expressions.{expression as expression_of};
+ghost use Rattle.pointer_modes.specs.Layout.{size_of as bytes_of};
+ghost use Rattle.typing_rules.specs.Scopes.{named as named_in};
+ghost use Rattle.typing_rules.specs.Verdicts.{Passes};
+ghost use Rattle.typing_rules.specs.Expressions.{constant, typed as typed_of, all_typed as all_typed_of, call_typed as call_typed_of, name_typed};
+ghost use Rattle.expression_typing.specs.Answering.{Answers};
+ghost use Rattle.expression_typing.specs.Views.{scope as scope_of};
+ghost use Rattle.expression_typing.specs.Typed.{typed as typed_view, number_typed, size_typed};
+ghost use Rattle.expression_typing.specs.Calls.{argument, called as called_as};
+ghost use Rattle.expression_typing.specs.Slices.{expression_list};
+
+use crate::calls::{Argument, Called, call, with_result};
+use crate::members::{arrowed, dotted};
+use crate::operators::{binary, indexed, unary};
+use crate::refusals::refusal;
+use crate::scope::Scope;
+use crate::sites::Sites;
+use crate::typed::{Base, Typed, at_base, at_local, plain};
+use crate::types::{copied, type_named};
+use ckc_core::program;
+use ckc_text::code::Code;
+use ckc_text::fault::{NoMemory, Refused};
+use ckc_text::place::Span;
+use ckc_tree::expr::Expr;
+use ckc_tree::type_form::TypeName;
+use pointer_modes::ctype::CType;
+use std::alloc::Global;
+use std::collections::VecDeque;
+
+// A number, which has at most 31 bits.
+fn number(value: u32, span: Span) -> Result<Typed, Refused>
+    ensures { Answers typed_view (number_typed value span) result }
+{
+    match i32::try_from(value) {
+        Ok(number) => Ok(Typed::Value {
+            ctype: CType::Int,
+            zero: value == 0,
+            value: program::Expr::Number(number),
+        }),
+        Err(_) => Err(refusal(Code::E04, span)),
+    }
+}
+
+// A character at a span.
+fn character(value: u8, span: Span) -> Typed
+    ensures { constant value false span ≡ Passes (typed_view result) }
+{
+    plain(CType::Int, program::Expr::Number(value as i32))
+}
+
+// The bytes of a type.
+fn size_of(alloc: Global, scope: &Scope, t: &TypeName) -> Result<Typed, Refused>
+    ensures { Answers typed_view (size_typed (scope_of scope.now) (type_name_of t.now)) result }
+{
+    let named = type_named(alloc, scope, t)?;
+    let bytes = scope.structs.size_of(&named);
+    Ok(plain(CType::Int, program::Expr::Number(bytes as i32)))
+}
+
+// What a name stands for.
+fn named(alloc: Global, scope: &Scope, name: &[u8]) -> Result<Typed, NoMemory>
+    ensures { IfOk result (λ t. typed_view t ≡ name_typed (named_in (scope_of scope.now) name.now)) }
+{
+    if let Some(local) = scope.local(name) {
+        let ctype = copied(alloc, local.ctype)?;
+        return Ok(at_local(ctype, local.number));
+    }
+    match scope.object(name) {
+        Some(object) => {
+            let ctype = copied(alloc, object.ctype)?;
+            Ok(at_base(ctype, Base::Object(object.number)))
+        }
+        None => Ok(Typed::Value {
+            ctype: CType::Int,
+            zero: true,
+            value: program::Expr::Number(0),
+        }),
+    }
+}
+
+/// What an expression is.
+#[cycle(expressions)]
+pub fn typed(alloc: Global, sites: &Sites, scope: &Scope, e: &Expr) -> Result<Typed, Refused>
+    ensures { Answers typed_view (typed_of (place_at sites.now) (scope_of scope.now) (expression_of e.now)) result }
+{
+    match e {
+        Expr::Number { value, span } => number(*value, *span),
+        Expr::Character { value, span } => Ok(character(*value, *span)),
+        Expr::Text { span, .. }
+        | Expr::Cast { span, .. }
+        | Expr::Malloc { span, .. }
+        | Expr::Calloc { span, .. } => Err(refusal(Code::E13, *span)),
+        Expr::Name { name } => Ok(named(alloc, scope, name.name.as_bytes())?),
+        Expr::Call {
+            callee,
+            arguments,
+            span,
+        } => {
+            let arguments = all_typed(alloc, sites, scope, arguments.as_slice())?;
+            let site = sites.site(*span);
+            let answer = call(alloc, scope, callee.name.as_bytes(), arguments, site, *span)?;
+            with_result(answer, *span)
+        }
+        Expr::SizeOf { type_name, .. } => size_of(alloc, scope, type_name),
+        Expr::Index { base, index, span } => {
+            let base = typed(alloc, sites, scope, base)?;
+            let index = typed(alloc, sites, scope, index)?;
+            indexed(alloc, base, index, *span)
+        }
+        Expr::Dot { base, member, span } => {
+            let base = typed(alloc, sites, scope, base)?;
+            let site = sites.site(*span);
+            dotted(alloc, scope, base, member.name.as_bytes(), site, *span)
+        }
+        Expr::Arrow { base, member, span } => {
+            let base = typed(alloc, sites, scope, base)?;
+            let site = sites.site(*span);
+            arrowed(alloc, scope, base, member.name.as_bytes(), site, *span)
+        }
+        Expr::Unary {
+            operator,
+            operand,
+            span,
+        } => {
+            let operand = typed(alloc, sites, scope, operand)?;
+            unary(alloc, *operator, operand, sites.site(*span), *span)
+        }
+        Expr::Binary {
+            operator,
+            left,
+            right,
+            span,
+        } => {
+            let left = typed(alloc, sites, scope, left)?;
+            let right = typed(alloc, sites, scope, right)?;
+            binary(alloc, *operator, left, right, sites.site(*span), *span)
+        }
+    }
+}
+
+/// What arguments are, from left to right.
+#[cycle(expressions)]
+fn all_typed(
+    alloc: Global,
+    sites: &Sites,
+    scope: &Scope,
+    arguments: &[Expr],
+) -> Result<VecDeque<Argument>, Refused>
+    ensures { Answers (λ v. map argument v.items) (all_typed_of (place_at sites.now) (scope_of scope.now) (expression_list arguments.now)) result }
+{
+    let mut built = VecDeque::new(alloc);
+    for written in arguments {
+        let typed = typed(alloc, sites, scope, written)?;
+        built.push_back(Argument {
+            typed,
+            span: written.span(),
+        })?;
+    }
+    Ok(built)
+}
+
+/// A call that stands alone.
+pub fn call_typed(alloc: Global, sites: &Sites, scope: &Scope, e: &Expr) -> Result<Called, Refused>
+    ensures { Answers called_as (call_typed_of (place_at sites.now) (scope_of scope.now) (expression_of e.now)) result }
+{
+    match e {
+        Expr::Call {
+            callee,
+            arguments,
+            span,
+        } => {
+            let arguments = all_typed(alloc, sites, scope, arguments.as_slice())?;
+            let site = sites.site(*span);
+            call(alloc, scope, callee.name.as_bytes(), arguments, site, *span)
+        }
+        _ => Err(refusal(Code::E13, Span { from: 0, to: 0 })),
+    }
+}

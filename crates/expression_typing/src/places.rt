@@ -1,0 +1,93 @@
+// Members, what pointers point to, and addresses.
+
+ghost use Rattle.std.specs.Prelude.{◌≡◌, ◌<◌, ◌+◌, IfOk, map, length};
+ghost use Rattle.std.specs.Option.{option_map};
+ghost use Rattle.pointer_modes.specs.Types.{ctype as ctype_of, member as member_view};
+ghost use Rattle.ckc_core.specs.Core.{expression, place as place_of};
+ghost use Rattle.typing_rules.specs.Expressions.{dereferenced, address as address_of, pointer_to as pointer_at, struct_place, member_at as member_in, member_place as place_in, dotted as dotted_in, arrowed as arrowed_in};
+ghost use Rattle.expression_typing.specs.Answering.{Answers};
+ghost use Rattle.expression_typing.specs.Views.{scope as scope_of};
+ghost use Rattle.expression_typing.specs.Typed.{typed, base_place, pointer_value};
+
+use crate::operands::{Operand, value_of};
+use crate::refusals::refusal;
+use crate::scope::Scope;
+use crate::typed::{Base, Typed, at_base, first_cell, plain};
+use ckc_core::program::{CellPlace, Expr, Site};
+use ckc_text::code::Code;
+use ckc_text::fault::{NoMemory, Refused};
+use ckc_text::place::Span;
+use pointer_modes::ctype::{CType, Kind, Mode};
+use std::alloc::Global;
+
+/// What a pointer points to.
+pub fn pointed_at(alloc: Global, t: Typed, site: Site, span: Span) -> Result<Typed, Refused>
+    ensures { Answers typed (dereferenced (typed t) site span) result }
+{
+    let Operand {
+        ctype,
+        zero: _,
+        value: pointer,
+    } = value_of(alloc, t, span)?;
+    match ctype {
+        CType::Pointer(_, _, target) => {
+            Ok(at_base(Box::into_inner(target), Base::Behind { pointer, site }))
+        }
+        _ => Err(refusal(Code::E13, span)),
+    }
+}
+
+// A pointer to a place.
+fn pointer_to(alloc: Global, ctype: CType, place: CellPlace, site: Site) -> Result<Typed, NoMemory>
+    ensures { IfOk result (λ t. typed t ≡ pointer_at (ctype_of ctype) (place_of place) site) }
+{
+    let target = Box::new(alloc, ctype)?;
+    let ctype = CType::Pointer(Mode::Checked, Kind::One, target);
+    Ok(plain(ctype, pointer_of(place, site)))
+}
+
+// The value of a pointer to a place.
+fn pointer_of(place: CellPlace, site: Site) -> Expr
+    ensures { expression result ≡ pointer_value (place_of place) site }
+{
+    match place {
+        CellPlace::Direct {
+            object,
+            cell,
+            offset,
+        } => Expr::AddressOf {
+            object,
+            cell,
+            offset,
+        },
+        CellPlace::Through {
+            pointer,
+            cell,
+            offset,
+            ..
+        } => Expr::AddressThrough {
+            pointer,
+            cell,
+            offset,
+            site,
+        },
+    }
+}
+
+/// The address of a place.
+pub fn address(alloc: Global, t: Typed, site: Site, span: Span) -> Result<Typed, Refused>
+    ensures { Answers typed (address_of (typed t) site span) result }
+{
+    match t {
+        Typed::Value { .. } => Err(refusal(Code::E12, span)),
+        Typed::Local { .. } => Err(refusal(Code::E22, span)),
+        Typed::Cell { ctype, place } => Ok(pointer_to(alloc, ctype, place, site)?),
+        Typed::Struct { number, base } => match base {
+            None => Err(refusal(Code::E22, span)),
+            Some(base) => {
+                let place = first_cell(base);
+                Ok(pointer_to(alloc, CType::Struct(number), place, site)?)
+            }
+        },
+    }
+}

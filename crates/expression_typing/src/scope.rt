@@ -1,0 +1,47 @@
+// What is known while a program is walked.
+
+ghost use Rattle.std.specs.Prelude.{◌≡◌, ◌≤◌, true, length, map};
+ghost use Rattle.std.specs.List.{list_all};
+ghost use Rattle.typing_rules.specs.Types.{is_scalar};
+ghost use Rattle.expression_typing.specs.Names.{are_distinct};
+ghost use Rattle.expression_typing.specs.Signatures.{signature};
+
+use crate::signature::Signature;
+use ckc_text::name::Name;
+use pointer_modes::ctype::CType;
+use pointer_modes::structs::Structs;
+
+/// A variable that has a name, and its type.
+#[derive(Drop)]
+pub struct Variable {
+    pub name: Name,
+    pub ctype: CType,
+}
+
+/// A local that is visible: its name, and its number in its function.
+#[derive(Drop)]
+pub struct Visible {
+    pub name: Name,
+    pub local: u32,
+}
+
+/// What stands at file level, and the locals of the function that is walked.
+#[derive(Drop)]
+pub struct Scope {
+    pub tags: Vec<Name>,
+    pub structs: Structs,
+    pub functions: Vec<Signature>,
+    pub variables: Vec<Variable>,
+    pub locals: Vec<CType>,
+    pub visible: Vec<Visible>,
+    pub result: Option<CType>,
+    pub in_loop: bool,
+    pub is_off: bool,
+    ghost scalar: { list_all (λ d. list_all (λ m. is_scalar m.ctype) d.members) structs ≡ true },
+    ghost few_tags: { length tags.items ≤ length structs },
+    ghost few_structs: { length structs ≤ 4096 },
+    ghost few_functions: { length functions.items ≤ 4096 },
+    ghost distinct: { are_distinct (map signature functions.items) ≡ true },
+    ghost few_variables: { length variables.items ≤ 4096 },
+    ghost few_locals: { length locals.items ≤ 256 },
+}
