@@ -15,6 +15,7 @@ use ckc_core::program::{Core, Site, Stmt as CoreStmt};
 use ckc_lexer::lexer::lex;
 use ckc_lexer::token::Token;
 use ckc_text::code::Code;
+use ckc_text::fault::NoMemory;
 use ckc_text::line_index::LineIndex;
 use ckc_text::place::{Place, place_of};
 use ckc_tree::item::Program as Tree;
@@ -159,7 +160,10 @@ fn code(alloc: Global) -> Option<Image>
     let Ok(program) = front(alloc, SOURCE) else {
         return None;
     };
-    lower(alloc, &program).ok()
+    match lower(alloc, &program) {
+        Ok(image) => Some(image),
+        Err(NoMemory) => None,
+    }
 }
 
 // Makes the next step, if the run has one.

@@ -62,65 +62,25 @@ fn fits_by_whole_numbers() -> Result<(), Fail> {
 }
 
 // How many bytes a block is asked for, and its address.
-struct Block {
-    bytes: u32,
-    address: u32,
-}
+struct Block(u32, u32);
 
 const BLOCKS: &[Block] = &[
-    Block {
-        bytes: 0,
-        address: 0,
-    },
-    Block {
-        bytes: 4,
-        address: 1048592,
-    },
-    Block {
-        bytes: 4,
-        address: 1048624,
-    },
-    Block {
-        bytes: 17,
-        address: 1048656,
-    },
-    Block {
-        bytes: 65505,
-        address: 0,
-    },
-    Block {
-        bytes: u32::MAX,
-        address: 0,
-    },
-    Block {
-        bytes: 65392,
-        address: 1048704,
-    },
-    Block {
-        bytes: 1,
-        address: 0,
-    },
+    Block(0, 0),
+    Block(4, 1048592),
+    Block(4, 1048624),
+    Block(17, 1048656),
+    Block(65505, 0),
+    Block(u32::MAX, 0),
+    Block(65392, 1048704),
+    Block(1, 0),
 ];
 
-const WHOLE_BLOCKS: &[Block] = &[
-    Block {
-        bytes: 65505,
-        address: 0,
-    },
-    Block {
-        bytes: 65504,
-        address: 32,
-    },
-    Block {
-        bytes: 1,
-        address: 0,
-    },
-];
+const WHOLE_BLOCKS: &[Block] = &[Block(65505, 0), Block(65504, 32), Block(1, 0)];
 
 // Whether a memory makes these blocks.
 fn makes(memory: &mut Trusted, blocks: &[Block]) -> bool {
-    for block in blocks {
-        if memory.make(block.bytes) != block.address {
+    for Block(bytes, address) in blocks {
+        if memory.make(*bytes) != *address {
             return false;
         }
     }
@@ -159,74 +119,24 @@ fn stored(memory: &mut Trusted, at: u32, len: u32, v: u32) -> Option<u32> {
 }
 
 // An address, the length of a word, the word, and what is read, where it is in the memory.
-struct Stored {
-    at: u32,
-    len: u32,
-    v: u32,
-    read: Option<u32>,
-}
+struct Word(u32, u32, u32, Option<u32>);
 
-const STORED: &[Stored] = &[
-    Stored {
-        at: 65536,
-        len: 4,
-        v: 0x87654321,
-        read: Some(0x87654321),
-    },
-    Stored {
-        at: 65539,
-        len: 1,
-        v: 0x1ff,
-        read: Some(0xff),
-    },
-    Stored {
-        at: 131068,
-        len: 4,
-        v: 7,
-        read: Some(7),
-    },
-    Stored {
-        at: 131071,
-        len: 1,
-        v: 256,
-        read: Some(0),
-    },
-    Stored {
-        at: 65535,
-        len: 1,
-        v: 1,
-        read: None,
-    },
-    Stored {
-        at: 65535,
-        len: 4,
-        v: 1,
-        read: None,
-    },
-    Stored {
-        at: 131069,
-        len: 4,
-        v: 1,
-        read: None,
-    },
-    Stored {
-        at: 131072,
-        len: 1,
-        v: 1,
-        read: None,
-    },
-    Stored {
-        at: u32::MAX,
-        len: 4,
-        v: 1,
-        read: None,
-    },
+const STORED: &[Word] = &[
+    Word(65536, 4, 0x87654321, Some(0x87654321)),
+    Word(65539, 1, 0x1ff, Some(0xff)),
+    Word(131068, 4, 7, Some(7)),
+    Word(131071, 1, 256, Some(0)),
+    Word(65535, 1, 1, None),
+    Word(65535, 4, 1, None),
+    Word(131069, 4, 1, None),
+    Word(131072, 1, 1, None),
+    Word(u32::MAX, 4, 1, None),
 ];
 
 // Whether words that are stored one after another are read so.
-fn stores(memory: &mut Trusted, words: &[Stored]) -> bool {
-    for word in words {
-        if stored(memory, word.at, word.len, word.v) != word.read {
+fn stores(memory: &mut Trusted, words: &[Word]) -> bool {
+    for Word(at, len, v, read) in words {
+        if stored(memory, *at, *len, *v) != *read {
             return false;
         }
     }

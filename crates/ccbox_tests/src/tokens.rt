@@ -8,425 +8,152 @@ use std::alloc::Global;
 use std::test::Fail;
 
 // A text, with the line of its tokens, or its fault.
-struct Row {
-    src: &'static [u8],
-    want: &'static str,
-}
+struct Row(&'static [u8], &'static str);
 
 const ROWS: &[Row] = &[
     // Keywords, names and marks.
-    Row {
-        src: b"int char void struct if else while for return break continue sizeof malloc calloc nt_calloc t_malloc ptr _Ptr array_ptr _Array_ptr nt_array_ptr _Nt_array_ptr _TPtr _TArray_ptr _TNt_array_ptr _Checked _Nt_checked _Unchecked _Bundled _Tainted _Callback _Dynamic_bounds_cast _Assume_bounds_cast",
-        want: "int char void struct if else while for return break continue sizeof malloc calloc nt_calloc t_malloc ptr ptr array_ptr array_ptr nt_array_ptr nt_array_ptr _TPtr _TArray_ptr _TNt_array_ptr _Checked _Nt_checked _Unchecked _Bundled _Tainted _Callback _Dynamic_bounds_cast _Assume_bounds_cast",
-    },
-    Row {
-        src: b"{ } ( ) [ ] < > <= >= == != = += -= ++ -- + - * / % & && | || ^ ~ ! << . -> , ; :",
-        want: "{ } ( ) [ ] < > <= >= == != = += -= ++ -- + - * / % & && | || ^ ~ ! << . -> , ; :",
-    },
-    Row {
-        src: b"{}()[]<=>===!=+=-=++--&&||<<->",
-        want: "{ } ( ) [ ] <= >= == != += -= ++ -- && || << ->",
-    },
-    Row {
-        src: b"a >>= b",
-        want: "name:a > >= name:b",
-    },
-    Row {
-        src: b"<<=",
-        want: "<< =",
-    },
-    Row {
-        src: b"intx _ x9 NULL count byte_count bounds unknown",
-        want: "name:intx name:_ name:x9 name:NULL name:count name:byte_count name:bounds name:unknown",
-    },
-    Row {
-        src: b"\t\r\n ",
-        want: "",
-    },
+    Row(
+        b"int char void struct if else while for return break continue sizeof malloc calloc nt_calloc t_malloc ptr _Ptr array_ptr _Array_ptr nt_array_ptr _Nt_array_ptr _TPtr _TArray_ptr _TNt_array_ptr _Checked _Nt_checked _Unchecked _Bundled _Tainted _Callback _Dynamic_bounds_cast _Assume_bounds_cast",
+        "int char void struct if else while for return break continue sizeof malloc calloc nt_calloc t_malloc ptr ptr array_ptr array_ptr nt_array_ptr nt_array_ptr _TPtr _TArray_ptr _TNt_array_ptr _Checked _Nt_checked _Unchecked _Bundled _Tainted _Callback _Dynamic_bounds_cast _Assume_bounds_cast",
+    ),
+    Row(
+        b"{ } ( ) [ ] < > <= >= == != = += -= ++ -- + - * / % & && | || ^ ~ ! << . -> , ; :",
+        "{ } ( ) [ ] < > <= >= == != = += -= ++ -- + - * / % & && | || ^ ~ ! << . -> , ; :",
+    ),
+    Row(
+        b"{}()[]<=>===!=+=-=++--&&||<<->",
+        "{ } ( ) [ ] <= >= == != += -= ++ -- && || << ->",
+    ),
+    Row(b"a >>= b", "name:a > >= name:b"),
+    Row(b"<<=", "<< ="),
+    Row(
+        b"intx _ x9 NULL count byte_count bounds unknown",
+        "name:intx name:_ name:x9 name:NULL name:count name:byte_count name:bounds name:unknown",
+    ),
+    Row(b"\t\r\n ", ""),
     // Numbers, characters, strings and comments.
-    Row {
-        src: b"0 7 0x0 0XfF 2147483647 0x7fffffff 1.5",
-        want: "number:0 number:7 number:0 number:255 number:2147483647 number:2147483647 number:1 . number:5",
-    },
-    Row {
-        src: b"'a' '\\n' '\\t' '\\r' '\\0' '\\\\' '\\'' '\\\"' '\"' '\\xfF'",
-        want: "character:97 character:10 character:9 character:13 character:0 character:92 character:39 character:34 character:34 character:255",
-    },
-    Row {
-        src: b"\"\" \"b\" \"a\\n\\t\\r\\0\\\\\\'\\\"\\x41'\"",
-        want: "text text:98 text:97,10,9,13,0,92,39,34,65,39",
-    },
-    Row {
-        src: b"a // b\nc /* d\n * / e */ f /**/ /*/ g */",
-        want: "name:a name:c name:f",
-    },
-    Row {
-        src: b"\"\xc3\xa9\"",
-        want: "text:195,169",
-    },
-    Row {
-        src: b"// \xc3\xa9\na",
-        want: "name:a",
-    },
-    Row {
-        src: b"/* \xc3 */ a",
-        want: "name:a",
-    },
+    Row(
+        b"0 7 0x0 0XfF 2147483647 0x7fffffff 1.5",
+        "number:0 number:7 number:0 number:255 number:2147483647 number:2147483647 number:1 . number:5",
+    ),
+    Row(
+        b"'a' '\\n' '\\t' '\\r' '\\0' '\\\\' '\\'' '\\\"' '\"' '\\xfF'",
+        "character:97 character:10 character:9 character:13 character:0 character:92 character:39 character:34 character:34 character:255",
+    ),
+    Row(
+        b"\"\" \"b\" \"a\\n\\t\\r\\0\\\\\\'\\\"\\x41'\"",
+        "text text:98 text:97,10,9,13,0,92,39,34,65,39",
+    ),
+    Row(
+        b"a // b\nc /* d\n * / e */ f /**/ /*/ g */",
+        "name:a name:c name:f",
+    ),
+    Row(b"\"\xc3\xa9\"", "text:195,169"),
+    Row(b"// \xc3\xa9\na", "name:a"),
+    Row(b"/* \xc3 */ a", "name:a"),
     // What is no number, or too great.
-    Row {
-        src: b"2147483648",
-        want: "E04 0",
-    },
-    Row {
-        src: b"a 2147483648;",
-        want: "E04 2",
-    },
-    Row {
-        src: b"a 0x80000000",
-        want: "E04 2",
-    },
-    Row {
-        src: b"99999999999999999999",
-        want: "E04 0",
-    },
-    Row {
-        src: b"08",
-        want: "E02 0",
-    },
-    Row {
-        src: b"int x = 08;",
-        want: "E02 8",
-    },
-    Row {
-        src: b"007",
-        want: "E02 0",
-    },
-    Row {
-        src: b"12ab",
-        want: "E02 0",
-    },
-    Row {
-        src: b"0x",
-        want: "E02 0",
-    },
-    Row {
-        src: b"0xg",
-        want: "E02 0",
-    },
-    Row {
-        src: b"a 2147483648x",
-        want: "E02 2",
-    },
-    Row {
-        src: b"4_",
-        want: "E02 0",
-    },
-    Row {
-        src: b"a 2147483648",
-        want: "E04 2",
-    },
-    Row {
-        src: b"a b 08",
-        want: "E02 4",
-    },
+    Row(b"2147483648", "E04 0"),
+    Row(b"a 2147483648;", "E04 2"),
+    Row(b"a 0x80000000", "E04 2"),
+    Row(b"99999999999999999999", "E04 0"),
+    Row(b"08", "E02 0"),
+    Row(b"int x = 08;", "E02 8"),
+    Row(b"007", "E02 0"),
+    Row(b"12ab", "E02 0"),
+    Row(b"0x", "E02 0"),
+    Row(b"0xg", "E02 0"),
+    Row(b"a 2147483648x", "E02 2"),
+    Row(b"4_", "E02 0"),
+    Row(b"a 2147483648", "E04 2"),
+    Row(b"a b 08", "E02 4"),
     // Bytes that no source has there.
-    Row {
-        src: b"\x01",
-        want: "E01 0",
-    },
-    Row {
-        src: b"a \x7f b",
-        want: "E01 2",
-    },
-    Row {
-        src: b"a\x1f",
-        want: "E01 1",
-    },
-    Row {
-        src: b"/*\x01",
-        want: "E01 0",
-    },
-    Row {
-        src: b"a //\x01\n",
-        want: "E01 2",
-    },
-    Row {
-        src: b"a \"b\x01\" c",
-        want: "E01 2",
-    },
-    Row {
-        src: b"#include \x01\n",
-        want: "E01 0",
-    },
-    Row {
-        src: b"a\n#define N \x01\n",
-        want: "E01 2",
-    },
-    Row {
-        src: b"a '\x02'",
-        want: "E01 2",
-    },
-    Row {
-        src: b"\x80",
-        want: "E01 0",
-    },
-    Row {
-        src: b"a '\x80' b",
-        want: "E01 2",
-    },
-    Row {
-        src: b"#define N 4\xc3",
-        want: "E01 0",
-    },
-    Row {
-        src: b"a\xff",
-        want: "E01 1",
-    },
+    Row(b"\x01", "E01 0"),
+    Row(b"a \x7f b", "E01 2"),
+    Row(b"a\x1f", "E01 1"),
+    Row(b"/*\x01", "E01 0"),
+    Row(b"a //\x01\n", "E01 2"),
+    Row(b"a \"b\x01\" c", "E01 2"),
+    Row(b"#include \x01\n", "E01 0"),
+    Row(b"a\n#define N \x01\n", "E01 2"),
+    Row(b"a '\x02'", "E01 2"),
+    Row(b"\x80", "E01 0"),
+    Row(b"a '\x80' b", "E01 2"),
+    Row(b"#define N 4\xc3", "E01 0"),
+    Row(b"a\xff", "E01 1"),
     // What begins no token.
-    Row {
-        src: b"@",
-        want: "E02 0",
-    },
-    Row {
-        src: b"a $ b",
-        want: "E02 2",
-    },
-    Row {
-        src: b"a ?",
-        want: "E02 2",
-    },
-    Row {
-        src: b"''",
-        want: "E02 0",
-    },
-    Row {
-        src: b"a 'bc' d",
-        want: "E02 2",
-    },
-    Row {
-        src: b"\"\\q\"",
-        want: "E02 0",
-    },
-    Row {
-        src: b"a \"\\x4\" ",
-        want: "E02 2",
-    },
-    Row {
-        src: b"'\\q'",
-        want: "E02 0",
-    },
-    Row {
-        src: b"a # b",
-        want: "E02 2",
-    },
-    Row {
-        src: b"\"\\q",
-        want: "E02 0",
-    },
-    Row {
-        src: b"\\",
-        want: "E02 0",
-    },
+    Row(b"@", "E02 0"),
+    Row(b"a $ b", "E02 2"),
+    Row(b"a ?", "E02 2"),
+    Row(b"''", "E02 0"),
+    Row(b"a 'bc' d", "E02 2"),
+    Row(b"\"\\q\"", "E02 0"),
+    Row(b"a \"\\x4\" ", "E02 2"),
+    Row(b"'\\q'", "E02 0"),
+    Row(b"a # b", "E02 2"),
+    Row(b"\"\\q", "E02 0"),
+    Row(b"\\", "E02 0"),
     // Comments and strings without an end.
-    Row {
-        src: b"/*",
-        want: "E03 0",
-    },
-    Row {
-        src: b"a /* b",
-        want: "E03 2",
-    },
-    Row {
-        src: b"/*/",
-        want: "E03 0",
-    },
-    Row {
-        src: b"a \"b\n\"",
-        want: "E03 2",
-    },
-    Row {
-        src: b"\"ab\\\n\"",
-        want: "E03 0",
-    },
-    Row {
-        src: b"a '",
-        want: "E03 2",
-    },
-    Row {
-        src: b"a \"",
-        want: "E03 2",
-    },
-    Row {
-        src: b"'ab",
-        want: "E03 0",
-    },
-    Row {
-        src: b"\"a\\",
-        want: "E03 0",
-    },
-    Row {
-        src: b"#define N 4 /* c",
-        want: "E03 12",
-    },
-    Row {
-        src: b"a b /*",
-        want: "E03 4",
-    },
+    Row(b"/*", "E03 0"),
+    Row(b"a /* b", "E03 2"),
+    Row(b"/*/", "E03 0"),
+    Row(b"a \"b\n\"", "E03 2"),
+    Row(b"\"ab\\\n\"", "E03 0"),
+    Row(b"a '", "E03 2"),
+    Row(b"a \"", "E03 2"),
+    Row(b"'ab", "E03 0"),
+    Row(b"\"a\\", "E03 0"),
+    Row(b"#define N 4 /* c", "E03 12"),
+    Row(b"a b /*", "E03 4"),
     // Lines that are no directive of the language.
-    Row {
-        src: b"#",
-        want: "E05 0",
-    },
-    Row {
-        src: b"a\n #x\nb",
-        want: "E05 3",
-    },
-    Row {
-        src: b"a\n#pragma CHECKED_SCOPE pop",
-        want: "E05 2",
-    },
-    Row {
-        src: b"#pragma once",
-        want: "E05 0",
-    },
-    Row {
-        src: b"#pragma CHECKED_SCOPE",
-        want: "E05 0",
-    },
-    Row {
-        src: b"#pragma CHECKED_SCOPE ons",
-        want: "E05 0",
-    },
-    Row {
-        src: b"#pragma CHECKED_SCOPE on off",
-        want: "E05 0",
-    },
-    Row {
-        src: b"#define",
-        want: "E05 0",
-    },
-    Row {
-        src: b"#define N",
-        want: "E05 0",
-    },
-    Row {
-        src: b"#define N 4 5",
-        want: "E05 0",
-    },
-    Row {
-        src: b"a\n#define N",
-        want: "E05 2",
-    },
+    Row(b"#", "E05 0"),
+    Row(b"a\n #x\nb", "E05 3"),
+    Row(b"a\n#pragma CHECKED_SCOPE pop", "E05 2"),
+    Row(b"#pragma once", "E05 0"),
+    Row(b"#pragma CHECKED_SCOPE", "E05 0"),
+    Row(b"#pragma CHECKED_SCOPE ons", "E05 0"),
+    Row(b"#pragma CHECKED_SCOPE on off", "E05 0"),
+    Row(b"#define", "E05 0"),
+    Row(b"#define N", "E05 0"),
+    Row(b"#define N 4 5", "E05 0"),
+    Row(b"a\n#define N", "E05 2"),
     // Definitions of what can't be defined so.
-    Row {
-        src: b"#define int 4",
-        want: "E05 0",
-    },
-    Row {
-        src: b"#define int 08",
-        want: "E02 0",
-    },
-    Row {
-        src: b"#define N 08",
-        want: "E02 0",
-    },
-    Row {
-        src: b"#define N 2147483648",
-        want: "E04 0",
-    },
-    Row {
-        src: b"#define N /* c */ 4",
-        want: "E05 0",
-    },
-    Row {
-        src: b"#define N 4 /* c */ int",
-        want: "E05 0",
-    },
-    Row {
-        src: b"#define N 4 /* c */ @",
-        want: "E05 0",
-    },
-    Row {
-        src: b"#define N 4\n#define N 5\n",
-        want: "E05 12",
-    },
-    Row {
-        src: b"#define N 0\n#define N -0",
-        want: "E05 12",
-    },
-    Row {
-        src: b"#define N M",
-        want: "E05 0",
-    },
-    Row {
-        src: b"#define 4 N",
-        want: "E05 0",
-    },
-    Row {
-        src: b"#defined N 4",
-        want: "E05 0",
-    },
-    Row {
-        src: b"#includes",
-        want: "E05 0",
-    },
+    Row(b"#define int 4", "E05 0"),
+    Row(b"#define int 08", "E02 0"),
+    Row(b"#define N 08", "E02 0"),
+    Row(b"#define N 2147483648", "E04 0"),
+    Row(b"#define N /* c */ 4", "E05 0"),
+    Row(b"#define N 4 /* c */ int", "E05 0"),
+    Row(b"#define N 4 /* c */ @", "E05 0"),
+    Row(b"#define N 4\n#define N 5\n", "E05 12"),
+    Row(b"#define N 0\n#define N -0", "E05 12"),
+    Row(b"#define N M", "E05 0"),
+    Row(b"#define 4 N", "E05 0"),
+    Row(b"#defined N 4", "E05 0"),
+    Row(b"#includes", "E05 0"),
     // Directives, and what they make of the names behind them.
-    Row {
-        src: b"#define N 4\n#define N 0x4\n N",
-        want: "number:4",
-    },
-    Row {
-        src: b"#define N 4 // c\nN",
-        want: "number:4",
-    },
-    Row {
-        src: b"#define N 4 /* c\n d */ N",
-        want: "number:4",
-    },
-    Row {
-        src: b" /* c */ # define N - 4 \nN NN",
-        want: "- number:4 name:NN",
-    },
-    Row {
-        src: b"/* c\n*/ #define N 4\nN",
-        want: "number:4",
-    },
-    Row {
-        src: b"N\n#define N 4\nN",
-        want: "name:N number:4",
-    },
-    Row {
-        src: b"#define NULL 4\nNULL",
-        want: "number:4",
-    },
-    Row {
-        src: b"#define N 4\n#define M 5\n#define N 4\nM N",
-        want: "number:5 number:4",
-    },
-    Row {
-        src: b"#include <a/*b>\na",
-        want: "name:a",
-    },
-    Row {
-        src: b"  #include\"x\"",
-        want: "",
-    },
-    Row {
-        src: b"#pragma CHECKED_SCOPE Off\n#pragma CHECKED_SCOPE PUSH\n# pragma  CHECKED_SCOPE on // c\n#pragma CHECKED_SCOPE pop\n",
-        want: "off off on off",
-    },
-    Row {
-        src: b"#pragma CHECKED_SCOPE push\n#pragma CHECKED_SCOPE pop\n#pragma CHECKED_SCOPE pop",
-        want: "E05 53",
-    },
-    Row {
-        src: b"#include \xc3\na",
-        want: "name:a",
-    },
-    Row {
-        src: b"#define N 4 // \xc3\nN",
-        want: "number:4",
-    },
+    Row(b"#define N 4\n#define N 0x4\n N", "number:4"),
+    Row(b"#define N 4 // c\nN", "number:4"),
+    Row(b"#define N 4 /* c\n d */ N", "number:4"),
+    Row(b" /* c */ # define N - 4 \nN NN", "- number:4 name:NN"),
+    Row(b"/* c\n*/ #define N 4\nN", "number:4"),
+    Row(b"N\n#define N 4\nN", "name:N number:4"),
+    Row(b"#define NULL 4\nNULL", "number:4"),
+    Row(
+        b"#define N 4\n#define M 5\n#define N 4\nM N",
+        "number:5 number:4",
+    ),
+    Row(b"#include <a/*b>\na", "name:a"),
+    Row(b"  #include\"x\"", ""),
+    Row(
+        b"#pragma CHECKED_SCOPE Off\n#pragma CHECKED_SCOPE PUSH\n# pragma  CHECKED_SCOPE on // c\n#pragma CHECKED_SCOPE pop\n",
+        "off off on off",
+    ),
+    Row(
+        b"#pragma CHECKED_SCOPE push\n#pragma CHECKED_SCOPE pop\n#pragma CHECKED_SCOPE pop",
+        "E05 53",
+    ),
+    Row(b"#include \xc3\na", "name:a"),
+    Row(b"#define N 4 // \xc3\nN", "number:4"),
 ];
 
 // How a keyword or a mark is spelled; of two spellings the short one.
@@ -553,18 +280,18 @@ fn line_of(alloc: Global, tokens: &[Token]) -> String {
 }
 
 // Whether a text has this line of tokens, or this fault.
-fn is_right(alloc: Global, row: &Row) -> bool {
-    match lex(alloc, row.src) {
-        Ok(tokens) => line_of(alloc, tokens.as_slice()).as_str() == row.want,
-        Err(refused) => is_refusal(&refused, row.want),
+fn is_right(alloc: Global, src: &[u8], want: &str) -> bool {
+    match lex(alloc, src) {
+        Ok(tokens) => line_of(alloc, tokens.as_slice()).as_str() == want,
+        Err(refused) => is_refusal(&refused, want),
     }
 }
 
 #[test]
 fn lines_of_tokens(rt: HostRuntime) -> Result<(), Fail> {
-    for row in ROWS {
-        if !is_right(rt.alloc(), row) {
-            return Err(Fail::new(row.want));
+    for Row(src, want) in ROWS {
+        if !is_right(rt.alloc(), src, want) {
+            return Err(Fail::new(*want));
         }
     }
     Ok(())

@@ -22,7 +22,9 @@ fn main(rt: HostRuntime) -> ExitCode {
     if does(&rt, words.as_slice()) {
         ExitCode::SUCCESS
     } else {
-        let _ = eprintln!(rt; "wanted: read N, print N or facts N N N, with numbers that aren't too great");
+        let _ = eprintln!(rt;
+            "wanted: read N, print N or facts N N N, with numbers that aren't too great"
+        );
         ExitCode::FAILURE
     }
 }
