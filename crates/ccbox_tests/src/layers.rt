@@ -188,11 +188,16 @@ fn has_stored(machine: &Machine) -> bool {
         && machine.byte(65_552) == Some(7)
 }
 
-// Whether a machine has the block of the global variable alone, and stores in it.
+// Whether a machine has the block of the global variable alone.
+fn has_one_block(machine: &Machine) -> bool {
+    machine.block(0) == Some((65_552, 4)) && machine.block(1).is_none()
+}
+
+// Whether a machine has this block, and stores in it.
 fn runs_so(mut machine: Machine) -> bool {
-    let blocks = [machine.block(0), machine.block(1)];
+    let has_block = has_one_block(&machine);
     make_steps(&mut machine, 11);
-    blocks == [Some((65_552, 4)), None] && has_stored(&machine)
+    has_block && has_stored(&machine)
 }
 
 // Whether the code runs so.
