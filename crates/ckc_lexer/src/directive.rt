@@ -21,7 +21,12 @@ pub fn word_len(text: &[u8]) -> usize
     ensures len { result ≡ word_len text.now }
     ensures within { result ≤ length text.now }
 {
-    text.iter().take_while(|b| is_word_byte(**b)).count()
+    for (len, b) in text.iter().enumerate() {
+        if !is_word_byte(*b) {
+            return len;
+        }
+    }
+    text.len()
 }
 
 /// How many bytes stand before the end of the line.
@@ -29,14 +34,24 @@ pub fn line_len(text: &[u8]) -> usize
     ensures len { result ≡ line_len text.now }
     ensures within { result ≤ length text.now }
 {
-    text.iter().take_while(|b| **b != b'\n').count()
+    for (len, b) in text.iter().enumerate() {
+        if *b == b'\n' {
+            return len;
+        }
+    }
+    text.len()
 }
 
 fn blanks_len(text: &[u8]) -> usize
     ensures len { result ≡ prefix_len is_blank text.now }
     ensures within { result ≤ length text.now }
 {
-    text.iter().take_while(|b| is_blank(**b)).count()
+    for (len, b) in text.iter().enumerate() {
+        if !is_blank(*b) {
+            return len;
+        }
+    }
+    text.len()
 }
 
 fn unblanked(text: &[u8]) -> &[u8]
@@ -64,7 +79,12 @@ fn part(text: &[u8]) -> (&[u8], &[u8])
 fn are_blanks(text: &[u8]) -> bool
     ensures { result ≡ list_all is_blank text.now }
 {
-    text.iter().all(|b| is_blank(*b))
+    for b in text {
+        if !is_blank(*b) {
+            return false;
+        }
+    }
+    true
 }
 
 fn is_keyword(word: &[u8]) -> bool

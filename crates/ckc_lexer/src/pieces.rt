@@ -21,7 +21,12 @@ use std::alloc::Global;
 fn has_line_feed(bytes: &[u8]) -> bool
     ensures { result ≡ list_any is_line_feed bytes.now }
 {
-    bytes.iter().any(|b| *b == b'\n')
+    for b in bytes {
+        if *b == b'\n' {
+            return true;
+        }
+    }
+    false
 }
 
 /// What a comment is, by what stands in it and by whether it is closed.

@@ -41,13 +41,23 @@ pub fn keyword(word: &[u8]) -> Option<TokenKind>
 fn are_digits(bytes: &[u8]) -> bool
     ensures { result ≡ list_all is_digit bytes.now }
 {
-    bytes.iter().all(|b| b.is_ascii_digit())
+    for b in bytes {
+        if !b.is_ascii_digit() {
+            return false;
+        }
+    }
+    true
 }
 
 fn are_hexadecimal_digits(bytes: &[u8]) -> bool
     ensures { result ≡ list_all is_hexadecimal_digit bytes.now }
 {
-    bytes.iter().all(|b| b.is_ascii_hexdigit())
+    for b in bytes {
+        if !b.is_ascii_hexdigit() {
+            return false;
+        }
+    }
+    true
 }
 
 #[tactic(auto, using(crate::proofs::Numerals::is_decimal_digits))]
