@@ -10,7 +10,6 @@ use Rattle.ckc_tree.specs.declared.expr.UnaryOperator.{UnaryOperator}
 use Rattle.ckc_tree.specs.declared.expr.BinaryOperator.{BinaryOperator}
 use Rattle.ckc_tree.specs.Expressions.{Expression, expression}
 use Rattle.ckc_tree.specs.Heights.{Reach, expression_reach, ◌beside◌}
-use Rattle.std.specs.Borrow.{Bor}
 use Rattle.ckc_expr_parser.specs.declared.stuck.Stuck.{Stuck}
 use Rattle.ckc_expr_parser.specs.declared.operand.Operand.{Operand}
 use Rattle.ckc_expr_parser.specs.declared.expressions.Around.{Around}
@@ -38,6 +37,18 @@ unary_operator_is kinds.Minus operator e = rw (← same_Some _ _ e) words.negate
 unary_operator_is kinds.Not operator e = rw (← same_Some _ _ e) words.not
 unary_operator_is kinds.Tilde operator e = rw (← same_Some _ _ e) words.complement
 unary_operator_is _ operator e = absurd (none-some _ e)
+
+no_prefix : (k : TokenKind) → words.open_paren k ≡ false → unary_operator_of k ≡ None → prefix_word k ≡ false
+no_prefix kinds.Star other none = absurd cc
+no_prefix kinds.Ampersand other none = absurd cc
+no_prefix kinds.Minus other none = absurd cc
+no_prefix kinds.Not other none = absurd cc
+no_prefix kinds.Tilde other none = absurd cc
+no_prefix kinds.OpenParen other none = other
+no_prefix _ other none = refl
+
+pub no_prefix_word : {rest : List Token} (ts : List Token) (t : Token) → ts ≡ t ∷ rest → next_is words.open_paren ts ≡ false → None ≡ unary_operator_of t.kind → next_is prefix_word ts ≡ false
+no_prefix_word ts t is other none = rw is (no_prefix t.kind (rw is at other) (sym none))
 
 -- an operator takes tokens
 marks_shorter : {ts us : List Token} {operator : BinaryOperator} → Marks ts operator us → length us < length ts
@@ -250,6 +261,6 @@ pub tight_before : {b : Base} {a : Around} {o : Span} {ts us : List Token} {e : 
 tight_before {b} {a} {o} {ts} {us} {e} {operator} whole found = subst (λ (n : ℕ). HasTight b a n e o ts) (ap looseness found) whole.read
 
 -- an expression without binary operators
-pub unary_reads : (d : ℕ) (ts : List Token) (r : Result (Operand × Bor (List Token)) Stuck) → Reads (λ x rest. IsBinary 0 d ts (expression x.expr.value) x.outer rest) (StuckBinary 0 d ts) r → Reads (λ x rest. IsUnary d ts (expression x.expr.value) x.outer rest) (StuckUnary d ts) r
-unary_reads d ts (Ok found) read = (unary_spelled read.0, read.1)
-unary_reads d ts (Err e) stuck = unary_stuck stuck
+pub unary_reads : {d : ℕ} {ts rest : List Token} (r : Result Operand Stuck) → Reads (λ x us. IsBinary 0 d ts (expression x.expr.value) x.outer us) (StuckBinary 0 d ts) r rest → Reads (λ x us. IsUnary d ts (expression x.expr.value) x.outer us) (StuckUnary d ts) r rest
+unary_reads (Ok found) read = (unary_spelled read.0, read.1)
+unary_reads (Err e) stuck = unary_stuck stuck

@@ -5,5 +5,6 @@ pub mod ContextSteps
 pub mod Selecting
 pub mod Arguments
 pub mod BoundsForms
+pub mod TypedParts
 pub mod SingleWords
 mod Terminals

@@ -2,21 +2,18 @@
 use Rattle.std.proofs.Common.{◌≡◌, ℕ, zero, suc, ◌+◌, ◌<◌, ◌≤◌, Bool, true, false, List, [], ◌∷◌, Some, Result, Ok, Err, length, refl, ap, ◌∙◌, arith}
 use Rattle.std.proofs.lemmas.Option.{same_Some, none-some}
 use Rattle.std.specs.Result.{IsErrAnd}
-use Rattle.ckc_text.specs.declared.place.Span.{Span}
 use Rattle.ckc_lexer.specs.declared.token.Token.{Token}
 use Rattle.ckc_lexer.specs.declared.token.TokenKind.{TokenKind}
 use Rattle.ckc_lexer.specs.declared.token.TokenKind.TheVariants as kinds
 use Rattle.ckc_tree.specs.declared.type_form.PointerWord.{PointerWord}
-use Rattle.ckc_tree.specs.Expressions.{Expression, expression}
 use Rattle.ckc_tree.specs.Heights.{Reach, around}
 use Rattle.ckc_expr_parser.specs.declared.stuck.Stuck.{Stuck}
-use Rattle.ckc_expr_parser.specs.declared.operand.Operand.{Operand}
 use Rattle.ckc_grammar.specs.Tokens as words
 use Rattle.ckc_grammar.specs.Tokens.{token, next_is, IsPointerWord}
 use Rattle.ckc_grammar.specs.Failures.{Failure, unexpected, no_memory, IsLow}
 use Rattle.ckc_grammar.specs.StuckTypes.{name_token}
-use Rattle.ckc_expr_parser.specs.Answers.{Reads, FailsName, no_name, no_room}
-use Rattle.ckc_expr_parser.specs.Readings.{pointer_word_of, Builds}
+use Rattle.ckc_expr_parser.specs.Answers.{FailsName, no_name, no_room, TakesTokens, MayTakeTokens}
+use Rattle.ckc_expr_parser.specs.Readings.{pointer_word_of}
 
 -- an error that is passed on
 pub err : {T : Type 0} (r : Result T Stuck) (e : Stuck) → IsErrAnd r (λ x. x ≡ e) → r ≡ Err e
@@ -42,11 +39,19 @@ pub name_fails : {ts : List Token} {f : Failure} (Fails : Failure → Type 0) �
 name_fails Fails (no_name other) stops full = stops other
 name_fails Fails no_room stops full = full
 
--- what was built is the form that it belongs to
-pub built_reads : {e : Expression} {o : Span} {rest : List Token} (Is : Expression → Span → List Token → Type 0) (Fails : Failure → Type 0) (r : Result Operand Stuck) → Builds e o r → Is e o rest → Fails no_memory
-    → Reads (λ x rest. Is (expression x.expr.value) x.outer rest) Fails r rest
-built_reads Is Fails (Ok x) built is full = rw (built.0, built.1) is
-built_reads Is Fails (Err e) built is full = rw built full
+-- tokens are taken, whatever a last call answers that takes none
+pub takes : {X : Type 0} {ts rest : List Token} (r : Result X Stuck) → length rest < length ts → TakesTokens ts r rest
+takes (Ok found) less = less
+takes (Err e) less = tt
+
+pub may_take : {X : Type 0} {ts rest : List Token} (r : Result X Stuck) → length rest ≤ length ts → MayTakeTokens ts r rest
+may_take (Ok found) less = less
+may_take (Err e) less = tt
+
+-- the same of a last call that takes tokens of those that are left
+pub takes_more : {X : Type 0} {ts mid rest : List Token} (r : Result X Stuck) → length mid ≤ length ts → TakesTokens mid r rest → TakesTokens ts r rest
+takes_more (Ok found) less shorter = omega arith
+takes_more (Err e) less shorter = tt
 
 pub low_around : (d s : ℕ) (r : Reach) → d < 200 → IsLow (suc d) r → IsLow d (around s r)
 low_around d s r less low = around_low r.height r.start less low

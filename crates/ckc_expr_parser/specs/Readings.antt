@@ -1,5 +1,6 @@
 -- Inside: what the functions that read forms answer, in the code's types.
 use Rattle.std.specs.Prelude.{◌≡◌, ◌≤◌, ℕ, Bool, true, false, List, [], ◌∷◌, codes, Option, Some, None, Result, Ok, Err}
+use Rattle.std.specs.Borrow.{Bor}
 use Rattle.ckc_text.specs.declared.place.Span.{Span}
 use Rattle.ckc_lexer.specs.declared.token.Token.{Token}
 use Rattle.ckc_lexer.specs.declared.token.TokenKind.{TokenKind}
@@ -126,9 +127,9 @@ counted true count span = Count count span
 counted false count span = ByteCount count span
 
 -- the word `unknown` and the parenthesis behind it
-abbrev pub ReadsUnknown : List Token → Option Span → List Token → Type 0
-ReadsUnknown ts None rest = (rest ≡ ts) × (is_unknown ts ≡ false)
-ReadsUnknown ts (Some end) rest = (q : Span) × (ts ≡ token (kinds.Name (codes "unknown")) q ∷ token kinds.CloseParen end ∷ rest)
+abbrev pub ReadsUnknown : List Token → Option (Span × Bor (List Token)) → Type 0
+ReadsUnknown ts None = is_unknown ts ≡ false
+ReadsUnknown ts (Some found) = (q : Span) × (ts ≡ token (kinds.Name (codes "unknown")) q ∷ token kinds.CloseParen found.0 ∷ found.1.now)
 
 abbrev pub IsRefusal : Span → List Token → Bool → Failure → Type 0
 IsRefusal q rest true f = f ≡ too_deep q.from

@@ -119,11 +119,11 @@ fn counted(is_count: bool, start: Span, count: Ended) -> ReadBounds
     let span = join(start, count.end);
     let reach = count.operand.reach;
     let count = count.operand.expr;
-    let text = if is_count {
-        BoundsText::Count { count, span }
-    } else {
-        BoundsText::ByteCount { count, span }
-    };
+    if is_count {
+        let text = BoundsText::Count { count, span };
+        return ReadBounds { text, span, reach };
+    }
+    let text = BoundsText::ByteCount { count, span };
     ReadBounds { text, span, reach }
 }
 
@@ -139,7 +139,8 @@ fn ends(
     ensures reads { (p : Place) → Reads (λ x rest. IsBounds depth (token (kinds.Name (codes "bounds")) start ∷ token kinds.OpenParen p ∷ tokens.old.now) (bounds_of x.text) x.span rest) (StuckBounds depth (token (kinds.Name (codes "bounds")) start ∷ token kinds.OpenParen p ∷ tokens.old.now)) result tokens.new.now }
     ensures shorter { TakesTokens tokens.old.now result tokens.new.now }
 {
-    if let Some(end) = unknown(tokens) {
+    if let Some((end, rest)) = unknown(tokens) {
+        *tokens = rest;
         let span = join(start, end);
         let text = BoundsText::Unknown { span };
         let reach = Reach::nowhere();
@@ -148,22 +149,21 @@ fn ends(
     range(alloc, depth, start, tokens)
 }
 
-/// Takes the word `unknown` and the parenthesis behind it, where these two stand next. The span is that of the parenthesis.
-fn unknown(tokens: &mut &[Token]) -> Option<Span>
-    ensures { ReadsUnknown tokens.old.now result tokens.new.now }
+/// The parenthesis behind the word `unknown`, where these two stand next, and the tokens behind them.
+fn unknown(tokens: &[Token]) -> Option<(Span, &[Token])>
+    ensures { ReadsUnknown tokens.now result }
 {
-    let mut ahead: &[Token] = *tokens;
-    let Ok((word, _)) = name(&mut ahead) else {
+    let mut rest = tokens;
+    let Ok((word, _)) = name(&mut rest) else {
         return None;
     };
     if !is_word(word, b"unknown") {
         return None;
     }
-    let Ok(end) = close_paren(&mut ahead) else {
+    let Ok(end) = close_paren(&mut rest) else {
         return None;
     };
-    *tokens = ahead;
-    Some(end)
+    Some((end, rest))
 }
 
 /// Whether the tokens go on behind a name as an expression that a comma ends.
