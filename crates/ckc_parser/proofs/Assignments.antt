@@ -7,13 +7,13 @@ use Rattle.ckc_tree.specs.Expressions.{Expression}
 use Rattle.ckc_tree.specs.declared.stmt as code
 use Rattle.ckc_tree.specs.Statements.{Assignment, assignment}
 use Rattle.ckc_tree.specs.Heights.{expression_reach, assignment_reach}
-use Rattle.ckc_parser.specs.declared.stuck.Stuck.{Stuck}
+use Rattle.ckc_expr_parser.specs.declared.stuck.Stuck.{Stuck}
 use Rattle.ckc_grammar.specs.Tokens.{next_is}
 use Rattle.ckc_grammar.specs.ExpressionGrammar.{SpellsUnary}
 use Rattle.ckc_grammar.specs.StatementGrammar as g
 use Rattle.ckc_grammar.specs.StatementGrammar.{SpellsAssignment}
 use Rattle.ckc_grammar.specs.Failures.{Failure, IsLow}
-use Rattle.ckc_parser.specs.Answers.{Reads}
+use Rattle.ckc_expr_parser.specs.Answers.{Reads}
 use Rattle.ckc_grammar.specs.StuckExpressions.{unary_word}
 use Rattle.ckc_grammar.specs.StuckStatements as stuck
 use Rattle.ckc_grammar.specs.StuckStatements.{step_word, assignment_word, StuckAssignment}

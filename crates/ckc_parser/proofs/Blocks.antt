@@ -22,8 +22,8 @@ use Rattle.ckc_grammar.specs.StuckStatements as stuck
 use Rattle.ckc_grammar.specs.StuckStatements.{plain_word, assignment_word, statement_word, is_call, is_call_alone, StuckStatement}
 use Rattle.ckc_parser.specs.StatementReadings as r
 use Rattle.ckc_parser.specs.StatementReadings.{SpellsCondition, SpellsEnd, IsForHead, StuckAssigned}
-use Rattle.ckc_parser.proofs.Readings.{low_around}
-use Rattle.ckc_parser.proofs.Ahead.{low_beside}
+use Rattle.ckc_expr_parser.proofs.Readings.{low_around}
+use Rattle.ckc_expr_parser.proofs.ContextSteps.{low_beside}
 use Rattle.ckc_grammar.proofs.Paths.{shorter, led_shorter}
 use Rattle.ckc_grammar.proofs.ExpressionPaths.{binary_path, call_path}
 use Rattle.ckc_grammar.proofs.StatementPaths.{declaration_path, assignment_path, assignments_path, statement_path, statements_path}

@@ -1,6 +1,5 @@
 -- Inside: what the functions that read declarations, statements and items answer, in the code's types.
-use Rattle.std.specs.Prelude.{◌≡◌, ℕ, suc, Bool, true, false, List, ◌∷◌, Option, Some, None, Result, Ok, Err}
-use Rattle.std.specs.Borrow.{Bor}
+use Rattle.std.specs.Prelude.{◌≡◌, ℕ, suc, true, false, List, ◌∷◌, Option, Some, None}
 use Rattle.ckc_text.specs.declared.place.Span.{Span}
 use Rattle.ckc_lexer.specs.declared.token.Token.{Token}
 use Rattle.ckc_lexer.specs.declared.token.TokenKind.{TokenKind}
@@ -11,40 +10,12 @@ use Rattle.ckc_tree.specs.declared.stmt.StepSide.TheVariants.{After}
 use Rattle.ckc_tree.specs.Expressions.{Expression}
 use Rattle.ckc_tree.specs.Statements.{Assignment, Store, Step, ForInitial}
 use Rattle.ckc_tree.specs.Heights.{for_initial_reach, optional_expression_reach, optional_assignment_reach}
-use Rattle.ckc_parser.specs.declared.stuck.Stuck.{Stuck}
 use Rattle.ckc_grammar.specs.Tokens.{token, join, IsStoreOperator, IsStepOperator, next_is}
 use Rattle.ckc_grammar.specs.ExpressionGrammar.{SpellsExpression}
 use Rattle.ckc_grammar.specs.StatementGrammar.{SpellsForInitial, SpellsForCondition, SpellsForStep}
 use Rattle.ckc_grammar.specs.Failures.{Failure, unexpected, no_memory, IsLow}
-use Rattle.ckc_parser.specs.Answers.{failure}
 use Rattle.ckc_grammar.specs.StuckExpressions.{StuckExpression}
 use Rattle.ckc_grammar.specs.StuckStatements.{assign_word, is_call}
-
--- ---- words and marks that stand alone
-
-abbrev pub minus : TokenKind → Bool
-minus kinds.Minus = true
-minus _ = false
-
-abbrev pub store_word : TokenKind → Bool
-store_word kinds.Equal = true
-store_word kinds.PlusEqual = true
-store_word kinds.MinusEqual = true
-store_word _ = false
-
-pub data IsNumber : TokenKind → ℕ → Type 0 where
-  number : {n : ℕ} → IsNumber (kinds.Number n) n
-
--- a word that says one thing, with its span, and the tokens behind it
-pub record WordAt {W : Type 0} (Says : TokenKind → W → Type 0) (word : W) (span : Span) (ts rest : List Token) : Type 0 where
-  pub kind : TokenKind
-  pub says : Says kind word
-  pub at : ts ≡ token kind span ∷ rest
-
--- what a function that reads such a word answers: what it says and its span before these tokens, or that another token stands there
-abbrev pub ReadsWord : {W : Type 0} → (TokenKind → W → Type 0) → (TokenKind → Bool) → List Token → Result (W × Span × Bor (List Token)) Stuck → Type 0
-ReadsWord Says is ts (Ok found) = WordAt Says found.0 found.1 ts found.2.now
-ReadsWord Says is ts (Err e) = (failure e ≡ unexpected ts) × (next_is is ts ≡ false)
 
 -- ---- what stands behind the target of an assignment
 

@@ -8,22 +8,22 @@ ghost use Rattle.ckc_tree.specs.Heights.{around, expression_reach, optional_boun
 ghost use Rattle.ckc_grammar.specs.Tokens.{start_of, from_first, next_is};
 ghost use Rattle.ckc_grammar.specs.StatementGrammar.{SpellsOptionalBounds, SpellsOptionalArray, SpellsSigned, SpellsConstants, SpellsOptionalInitializer, SpellsDeclarator, SpellsDeclarators, SpellsDeclaration, SpellsAssignment};
 ghost use Rattle.ckc_grammar.specs.Failures.{IsLow};
-ghost use Rattle.ckc_parser.specs.Answers.{Reads};
+ghost use Rattle.ckc_expr_parser.specs.Answers.{Reads};
 ghost use Rattle.ckc_grammar.specs.StuckTypes.{type_word};
 ghost use Rattle.ckc_grammar.specs.StuckStatements.{step_word, assignment_word, StuckOptionalBounds, StuckOptionalArray, StuckSigned, StuckConstants, StuckOptionalInitializer, StuckDeclarator, StuckDeclarators, StuckDeclaration, StuckAssignment};
 ghost use Rattle.ckc_parser.specs.StatementReadings.{SpellsAssigned, StuckAssigned};
 
-use crate::bounds::bounds;
-use crate::expressions::{expression, starts_unary, unary};
-use crate::memory::push;
-use crate::operand::Operand;
-use crate::stuck::Stuck;
-use crate::tokens::{
+use ckc_expr_parser::bounds::bounds;
+use ckc_expr_parser::expressions::{expression, starts_unary, unary};
+use ckc_expr_parser::memory::push;
+use ckc_expr_parser::operand::Operand;
+use ckc_expr_parser::stuck::Stuck;
+use ckc_expr_parser::tokens::{
     MAX_DEPTH, close_brace, close_bracket, comma, copied, first, join, name, open_brace,
     open_bracket,
 };
-use crate::types::{star_count, stars, type_form};
-use crate::words::{
+use ckc_expr_parser::types::{star_count, stars, type_form};
+use ckc_expr_parser::words::{
     array_word, colon, constant, equal, minus, number, step_operator, store_operator,
 };
 use ckc_lexer::token::{Token, TokenKind};

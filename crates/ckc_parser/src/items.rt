@@ -12,22 +12,22 @@ ghost use Rattle.ckc_grammar.specs.Tokens as words;
 ghost use Rattle.ckc_grammar.specs.ItemGrammar.{SpellsTainted, SpellsKind, SpellsOptionalMark, SpellsMember, SpellsMembers, SpellsListed, SpellsParameters, SpellsResult, SpellsBody, SpellsRegion, SpellsItem, SpellsItems};
 ghost use Rattle.ckc_grammar.specs.TypeGrammar.{SpellsType};
 ghost use Rattle.ckc_grammar.specs.Failures.{IsLow};
-ghost use Rattle.ckc_parser.specs.Answers.{Reads, ReadsMark};
+ghost use Rattle.ckc_expr_parser.specs.Answers.{Reads, ReadsMark};
 ghost use Rattle.ckc_grammar.specs.StuckItems as marks;
 ghost use Rattle.ckc_grammar.specs.StuckItems.{IsLowMember, StuckMember, StuckMembers, StuckListed, StuckParameters, StuckBody, StuckItem};
-ghost use Rattle.ckc_parser.specs.StatementReadings.{ReadsWord};
+ghost use Rattle.ckc_expr_parser.specs.WordReadings.{ReadsWord};
 ghost use Rattle.ckc_parser.specs.ItemReadings.{IsScope, IsKindWord, SideAnswers, IsLed, IsBase, IsStructureHead, IsStructure, IsNamed, StuckNamed, StuckResult, IsHead};
 
 use crate::declarations::{Read, declarators, from_first, optional_bounds};
-use crate::memory::push;
+use ckc_expr_parser::memory::push;
 use crate::statements::statements;
-use crate::stuck::Stuck;
-use crate::terminal::{Terminal, expect};
-use crate::tokens::{
+use ckc_expr_parser::stuck::Stuck;
+use ckc_expr_parser::terminal::{Terminal, expect};
+use ckc_expr_parser::tokens::{
     close_brace, close_paren, comma, copied, join, name, open_brace, open_paren, semicolon,
 };
-use crate::types::{star_count, stars, type_form, type_name};
-use crate::words::mark;
+use ckc_expr_parser::types::{star_count, stars, type_form, type_name};
+use ckc_expr_parser::words::mark;
 use ckc_lexer::token::{CheckedScope, Token, TokenKind};
 use ckc_text::name::Name;
 use ckc_text::place::Span;

@@ -9,12 +9,12 @@ ghost use Rattle.ckc_tree.specs.Heights.{items_reach};
 ghost use Rattle.ckc_grammar.specs.ItemGrammar.{SpellsItems};
 ghost use Rattle.ckc_grammar.specs.StuckItems.{StuckItems};
 ghost use Rattle.ckc_grammar.specs.Failures.{IsLow};
-ghost use Rattle.ckc_parser.specs.Answers.{failure};
+ghost use Rattle.ckc_expr_parser.specs.Answers.{failure};
 
 use crate::items::item;
-use crate::memory::push;
-use crate::stuck::Stuck;
-use crate::tokens::first;
+use ckc_expr_parser::memory::push;
+use ckc_expr_parser::stuck::Stuck;
+use ckc_expr_parser::tokens::first;
 use ckc_lexer::token::Token;
 use ckc_text::code::Code;
 use ckc_text::fault::{Refused, SourceFault};

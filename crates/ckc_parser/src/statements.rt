@@ -10,20 +10,20 @@ ghost use Rattle.ckc_tree.specs.Heights.{expression_reach, assignments_reach, fo
 ghost use Rattle.ckc_grammar.specs.Tokens.{token, join, next_is};
 ghost use Rattle.ckc_grammar.specs.StatementGrammar.{SpellsAssignments, SpellsForInitial, SpellsForStep, SpellsStatement, SpellsStatements};
 ghost use Rattle.ckc_grammar.specs.Failures.{IsLow};
-ghost use Rattle.ckc_parser.specs.Answers.{Reads};
+ghost use Rattle.ckc_expr_parser.specs.Answers.{Reads};
 ghost use Rattle.ckc_grammar.specs.StuckTypes.{type_word, name_token};
 ghost use Rattle.ckc_grammar.specs.StuckStatements.{plain_word, statement_word, assignment_word, is_call_alone, StuckAssignments, StuckForInitial, StuckForCondition, StuckForStep, StuckCondition, StuckStatement, StuckStatements};
 ghost use Rattle.ckc_parser.specs.StatementReadings.{SpellsCondition, SpellsEnd, IsCallEnd, IsForHead};
 
 use crate::declarations::{Read, assigned, assignment, declaration, starts_assignment};
-use crate::expressions::{expression, unary};
-use crate::memory::{boxed, push};
-use crate::stuck::Stuck;
-use crate::tokens::{
+use ckc_expr_parser::expressions::{expression, unary};
+use ckc_expr_parser::memory::{boxed, push};
+use ckc_expr_parser::stuck::Stuck;
+use ckc_expr_parser::tokens::{
     MAX_DEPTH, close_brace, close_paren, first, join, name, open_brace, open_paren, semicolon,
 };
-use crate::types::starts_type;
-use crate::words::{else_word, mark};
+use ckc_expr_parser::types::starts_type;
+use ckc_expr_parser::words::{else_word, mark};
 use ckc_lexer::token::{Token, TokenKind};
 use ckc_text::place::Span;
 use ckc_tree::expr::Expr;

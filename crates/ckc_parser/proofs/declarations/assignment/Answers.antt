@@ -1,11 +1,11 @@
 use Rattle.std.proofs.Common.{◌≡◌, ◌≤◌, ◌<◌, true, arith, sym, add-one}
 use Rattle.ckc_grammar.specs.Tokens.{next_is}
 use Rattle.ckc_grammar.specs.StuckStatements.{assignment_word}
-use Rattle.ckc_parser.proofs.Readings.{next, next_none, low_around}
+use Rattle.ckc_expr_parser.proofs.Readings.{next, next_none, low_around}
 use Rattle.ckc_parser.proofs.Assignments.{no_step_word, assignment_reads}
 use Rattle.ckc_grammar.specs.StatementGrammar as g
 use Rattle.ckc_grammar.specs.StuckStatements as stuck
-use Rattle.ckc_parser.proofs.Readings.{err}
+use Rattle.ckc_expr_parser.proofs.Readings.{err}
 use Rattle.ckc_parser.proofs.declarations.assignment.Goals as goal
 
 pub returns-in_err-token : goal.returns-in_err-token

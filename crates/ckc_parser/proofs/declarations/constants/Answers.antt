@@ -5,7 +5,7 @@ use Rattle.ckc_grammar.proofs.Paths.{shorter}
 use Rattle.ckc_grammar.proofs.StatementPaths.{signed_path}
 use Rattle.ckc_grammar.specs.StatementGrammar as g
 use Rattle.ckc_grammar.specs.StuckStatements as stuck
-use Rattle.ckc_parser.proofs.Readings.{err}
+use Rattle.ckc_expr_parser.proofs.Readings.{err}
 use Rattle.ckc_parser.proofs.declarations.constants.Goals as goal
 
 pub returns-in_err-item : goal.returns-in_err-item

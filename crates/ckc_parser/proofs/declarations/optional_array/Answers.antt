@@ -1,7 +1,7 @@
-use Rattle.ckc_parser.proofs.Ahead.{number_at}
+use Rattle.ckc_expr_parser.proofs.SingleWords.{number_at}
 use Rattle.ckc_grammar.specs.StatementGrammar as g
 use Rattle.ckc_grammar.specs.StuckStatements as stuck
-use Rattle.ckc_parser.proofs.Readings.{err}
+use Rattle.ckc_expr_parser.proofs.Readings.{err}
 use Rattle.ckc_parser.proofs.declarations.optional_array.Goals as goal
 
 pub returns-in_default : goal.returns-in_default

@@ -1,11 +1,11 @@
 use Rattle.std.proofs.Common.{arith}
 use Rattle.ckc_grammar.specs.Parsing.{point}
-use Rattle.ckc_parser.proofs.Ahead.{low_beside}
+use Rattle.ckc_expr_parser.proofs.ContextSteps.{low_beside}
 use Rattle.ckc_parser.proofs.FileLevel.{stuck_first, item_shorter, none_left}
 use Rattle.ckc_grammar.proofs.Lists.{goes_on}
 use Rattle.ckc_grammar.specs.ItemGrammar as g
 use Rattle.ckc_grammar.specs.StuckItems as stuck
-use Rattle.ckc_parser.proofs.Readings.{err}
+use Rattle.ckc_expr_parser.proofs.Readings.{err}
 use Rattle.ckc_parser.proofs.parser.items.Goals as goal
 
 pub returns-in_default : goal.returns-in_default

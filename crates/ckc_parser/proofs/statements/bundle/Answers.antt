@@ -1,8 +1,8 @@
 use Rattle.std.proofs.Common.{add-one}
-use Rattle.ckc_parser.proofs.Readings.{low_around}
+use Rattle.ckc_expr_parser.proofs.Readings.{low_around}
 use Rattle.ckc_grammar.specs.StatementGrammar as g
 use Rattle.ckc_grammar.specs.StuckStatements as stuck
-use Rattle.ckc_parser.proofs.Readings.{err}
+use Rattle.ckc_expr_parser.proofs.Readings.{err}
 use Rattle.ckc_parser.proofs.statements.bundle.Goals as goal
 
 pub returns-in_err-rest : goal.returns-in_err-rest

@@ -1,7 +1,7 @@
 use Rattle.std.proofs.Common.{arith}
 use Rattle.ckc_grammar.specs.StatementGrammar as g
 use Rattle.ckc_grammar.specs.StuckStatements as stuck
-use Rattle.ckc_parser.proofs.Readings.{err}
+use Rattle.ckc_expr_parser.proofs.Readings.{err}
 use Rattle.ckc_parser.proofs.statements.continue_statement.Goals as goal
 
 pub returns-in_err-end : goal.returns-in_err-end
