@@ -12,13 +12,13 @@ use std::{fs, process};
 fn reads(rt: &HostRuntime, name: &str) -> bool {
     let mut into = [0u8; 4];
     let read = FileShelf::new(rt).read_at(name, 8, &mut into);
-    read == Ok(2) && into == [b'8', b'9', 0, 0]
+    matches!(read, Ok(2)) && into.as_slice() == b"89\0\0".as_slice()
 }
 
-// Whether a file can't be read for this reason.
-fn fails(rt: &HostRuntime, name: &str, at: u64, fault: ShelfFault) -> bool {
+// Why a file can't be read, if it can't.
+fn fault(rt: &HostRuntime, name: &str, from: u64) -> Option<ShelfFault> {
     let mut into = [0u8; 4];
-    FileShelf::new(rt).read_at(name, at, &mut into) == Err(fault)
+    FileShelf::new(rt).read_at(name, from, &mut into).err()
 }
 
 #[test]
@@ -29,13 +29,13 @@ fn reads_a_file_of_the_system(rt: HostRuntime) -> Result<(), Fail> {
     let read = reads(&rt, path.as_str());
     fs::remove_file(&rt, path.as_str())?;
     expect(
-        read && fails(&rt, path.as_str(), 8, ShelfFault::Missing)
-            && fails(&rt, "/", 0, ShelfFault::Failed),
+        read && matches!(fault(&rt, path.as_str(), 8), Some(ShelfFault::Missing))
+            && matches!(fault(&rt, "/", 0), Some(ShelfFault::Failed)),
     )
 }
 
 #[test]
 fn takes_a_piece(rt: HostRuntime) -> Result<(), Fail> {
     let mut sink = OutSink::new(&rt);
-    expect(sink.put(b"") == Ok(0) && sink.put(b"a") == Ok(1))
+    expect(matches!(sink.put(b""), Ok(0)) && matches!(sink.put(b"a"), Ok(1)))
 }
