@@ -36,24 +36,8 @@ fn unary_text(operator: UnaryOperator) -> &'static [u8]
 
 /// Each operator between its operands, in their order.
 static BINARY_TEXTS: [&[u8]; 18] = [
-    b"||",
-    b"&&",
-    b"|",
-    b"^",
-    b"&",
-    b"==",
-    b"!=",
-    b"<",
-    b"<=",
-    b">",
-    b">=",
-    b"<<",
-    b">>",
-    b"+",
-    b"-",
-    b"*",
-    b"/",
-    b"%",
+    b"||", b"&&", b"|", b"^", b"&", b"==", b"!=", b"<", b"<=", b">", b">=", b"<<", b">>", b"+",
+    b"-", b"*", b"/", b"%",
 ];
 
 /// An operator between its operands.

@@ -19,20 +19,20 @@ fn reads_a_file_of_the_system(rt: HostRuntime) -> Result<(), Fail> {
     let bytes = into;
     let missing = shelf.read_at(path.as_str(), 8, &mut into);
     let failed = shelf.read_at("/", 0, &mut into);
-    let answers = [Ok(2), Err(ShelfFault::Missing), Err(ShelfFault::Failed)];
-    if [read, missing, failed] == answers && bytes == [b'8', b'9', 0, 0] {
-        Ok(())
-    } else {
-        Err(Fail::new("another answer"))
+    if bytes != [b'8', b'9', 0, 0] {
+        return Err(Fail::new("other bytes"));
+    }
+    match (read, missing, failed) {
+        (Ok(2), Err(ShelfFault::Missing), Err(ShelfFault::Failed)) => Ok(()),
+        _ => Err(Fail::new("another answer")),
     }
 }
 
 #[test]
 fn takes_a_piece(rt: HostRuntime) -> Result<(), Fail> {
     let mut sink = OutSink::new(&rt);
-    if [sink.put(b""), sink.put(b"a")] == [Ok(0), Ok(1)] {
-        Ok(())
-    } else {
-        Err(Fail::new("another count"))
+    match (sink.put(b""), sink.put(b"a")) {
+        (Ok(0), Ok(1)) => Ok(()),
+        _ => Err(Fail::new("another count")),
     }
 }
