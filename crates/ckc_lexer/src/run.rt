@@ -2,7 +2,7 @@
 
 ghost use Rattle.std.specs.Prelude.{◌≡◌, ◌+◌, ◌≤◌, length};
 ghost use Rattle.ckc_lexer.specs.Runs.{pair_width, width, Extent};
-ghost use Rattle.ckc_lexer.specs.declared.run.Run.TheVariants.{Quoted};
+ghost use Rattle.ckc_lexer.specs.declared.run.Run.TheVariants.{Comment, Directive, Quoted};
 
 /// What is read to its end.
 #[derive(Clone, Copy)]
@@ -13,6 +13,28 @@ pub enum Run {
     Directive,
     /// A string or a character constant, up to this quote or the end of the line.
     Quoted(u8),
+}
+
+/// How many bytes a comment has at the front of a text before it can end: none where it ends there.
+fn comment_width(text: &[u8]) -> usize
+    ensures width { result ≡ width Comment text.now }
+    ensures within { result ≤ length text.now }
+{
+    match text {
+        [] | [b'*', b'/', ..] => 0,
+        _ => 1,
+    }
+}
+
+/// How many bytes a directive has there.
+fn directive_width(text: &[u8]) -> usize
+    ensures width { result ≡ width Directive text.now }
+    ensures within { result ≤ length text.now }
+{
+    match text {
+        [] | [b'\n', ..] | [b'/', b'/' | b'*', ..] => 0,
+        _ => 1,
+    }
 }
 
 /// How many bytes a backslash and what follows it are, where a quote may stand behind them.
@@ -45,14 +67,8 @@ fn width(run: Run, text: &[u8]) -> usize
     ensures within { result ≤ length text.now }
 {
     match run {
-        Run::Comment => match text {
-            [] | [b'*', b'/', ..] => 0,
-            _ => 1,
-        },
-        Run::Directive => match text {
-            [] | [b'\n', ..] | [b'/', b'/' | b'*', ..] => 0,
-            _ => 1,
-        },
+        Run::Comment => comment_width(text),
+        Run::Directive => directive_width(text),
         Run::Quoted(quote) => quoted_width(quote, text),
     }
 }

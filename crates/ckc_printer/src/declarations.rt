@@ -1,6 +1,6 @@
 // Printing of declarations.
 
-ghost use Rattle.std.specs.Prelude.{◌≡◌, ◌++◌, map};
+ghost use Rattle.std.specs.Prelude.{◌≡◌, map};
 ghost use Rattle.std.specs.Option.{option_map};
 ghost use Rattle.ckc_tree.specs.Expressions.{bounds};
 ghost use Rattle.ckc_tree.specs.Statements.{initializer, declarator, declaration};

@@ -34,30 +34,17 @@ fn unary_text(operator: UnaryOperator) -> &'static [u8]
     }
 }
 
+/// Each operator between its operands, in their order.
+static BINARY_TEXTS: [&[u8]; 18] = [
+    b"||", b"&&", b"|", b"^", b"&", b"==", b"!=", b"<", b"<=", b">", b">=", b"<<", b">>", b"+",
+    b"-", b"*", b"/", b"%",
+];
+
 /// An operator between its operands.
 fn binary_text(operator: BinaryOperator) -> &'static [u8]
     ensures { result.now ≡ sign_text (binary_sign operator) }
 {
-    match operator {
-        BinaryOperator::Or => b"||",
-        BinaryOperator::And => b"&&",
-        BinaryOperator::BitOr => b"|",
-        BinaryOperator::BitXor => b"^",
-        BinaryOperator::BitAnd => b"&",
-        BinaryOperator::Equal => b"==",
-        BinaryOperator::NotEqual => b"!=",
-        BinaryOperator::Less => b"<",
-        BinaryOperator::LessEqual => b"<=",
-        BinaryOperator::Greater => b">",
-        BinaryOperator::GreaterEqual => b">=",
-        BinaryOperator::ShiftLeft => b"<<",
-        BinaryOperator::ShiftRight => b">>",
-        BinaryOperator::Add => b"+",
-        BinaryOperator::Subtract => b"-",
-        BinaryOperator::Multiply => b"*",
-        BinaryOperator::Divide => b"/",
-        BinaryOperator::Remainder => b"%",
-    }
+    BINARY_TEXTS[operator as usize]
 }
 
 fn cast_text(word: CastWord) -> &'static [u8]

@@ -1,6 +1,6 @@
 // Printing of texts, each with a space behind it.
 
-ghost use Rattle.std.specs.Prelude.{◌≡◌, ◌∷◌, [], ◌++◌, decimal};
+ghost use Rattle.std.specs.Prelude.{decimal};
 ghost use Rattle.ckc_printer.specs.Output.{Puts};
 ghost use Rattle.ckc_printer.specs.Spaced.{spaced, spaced_if};
 

@@ -1,6 +1,6 @@
 // Printing of statements.
 
-ghost use Rattle.std.specs.Prelude.{◌≡◌, ◌∷◌, [], ◌++◌, map};
+ghost use Rattle.std.specs.Prelude.{◌∷◌, [], ◌++◌, map};
 ghost use Rattle.std.specs.Option.{option_map};
 ghost use Rattle.ckc_tree.specs.Expressions.{expression};
 ghost use Rattle.ckc_tree.specs.Statements.{assignment, for_initial, on_heap, statement};
