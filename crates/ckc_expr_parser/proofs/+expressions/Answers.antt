@@ -104,7 +104,7 @@ pub expressions::indexed-returns-clause-shorter : goal.expressions::indexed-retu
 expressions::indexed-returns-clause-shorter t c = takes _ _ _ c.in_ok-index.ensures.shorter
 
 pub expressions::operators-operators-init : goal.expressions::operators-operators-init
-expressions::operators-operators-init t c = 
+expressions::operators-operators-init t c =
     let b : Base = record { loosest = c.args.loosest; depth = c.args.depth; tokens = c.args.tokens.now.now } in
     (needs_in b _ _ [] (ap waiting c.new.ensures.items) refl refl (c.requires.loose, c.requires.high) (needs_first b), omega arith)
 
@@ -160,7 +160,7 @@ pub expressions::selectors-overflow_add-depth : goal.expressions::selectors-over
 expressions::selectors-overflow_add-depth t c = omega (arith, height_is c.selectors.operand, c.selectors.invariant.0.low)
 
 pub expressions::selectors-returns-then-depth-operand-ge-MAX_DEPTH-clause-reads : goal.expressions::selectors-returns-then-depth-operand-ge-MAX_DEPTH-clause-reads
-expressions::selectors-returns-then-depth-operand-ge-MAX_DEPTH-clause-reads t c = 
+expressions::selectors-returns-then-depth-operand-ge-MAX_DEPTH-clause-reads t c =
     let deep : 200 ≤ c.args.depth + (expression_reach (expression c.selectors.operand.expr.value)).height = omega (arith, height_is c.selectors.operand) in
     rw (start_is c.selectors.operand) (c.selectors.invariant.0.fails (rw c.in-Some.ensures.1 (s.selectors_deep (selector_is c.in-Some.selector) deep)))
 
@@ -186,12 +186,12 @@ pub primary::arguments-returns-in_err-arguments-clause-reads : goal.primary::arg
 primary::arguments-returns-in_err-arguments-clause-reads t c = rw (err _ _ c.from_residual-in_err-arguments.ensures.1) (s.arguments_no_room)
 
 pub primary::arguments-more_arguments-requires : goal.primary::arguments-more_arguments-requires
-primary::arguments-more_arguments-requires t c = 
+primary::arguments-more_arguments-requires t c =
     let one = rw c.no_arguments-2.ensures at c.in_ok-arguments.ensures in
     (search rules, (c.requires, low_pushed _ [] _ _ one (omega arith) c.in_ok-first.ensures.reads.1))
 
 pub primary::arguments-returns-clause-reads : goal.primary::arguments-returns-clause-reads
-primary::arguments-returns-clause-reads t c = 
+primary::arguments-returns-clause-reads t c =
     let one = rw c.no_arguments-2.ensures at c.in_ok-arguments.ensures in
     first_read _ _ _ _ _ one (rw c.in_default.ensures.left at c.in_ok-first.ensures.reads.0) c.in_ok-first.ensures.reads.1 c.more_arguments.ensures.reads
 
@@ -336,7 +336,7 @@ pub primary::name_or_call-returns-in_err-read-clause-reads : goal.primary::name_
 primary::name_or_call-returns-in_err-read-clause-reads t c = rw (err _ _ c.from_residual-in_err-read.ensures.1, c.in-Ok.ensures) (s.arguments c.requires (rw add-one at c.in_err-read.ensures.reads))
 
 pub primary::name_or_call-returns-clause-reads : goal.primary::name_or_call-returns-clause-reads
-primary::name_or_call-returns-clause-reads t c = 
+primary::name_or_call-returns-clause-reads t c =
     let low = low_around c.args.depth c.args.span.from (expressions_reach (listed c.in_ok-read.read.items.items)) c.requires (rw add-one at c.in_ok-read.ensures.reads.1) in
     rw c.in-Ok.ensures (primary_built _ _ (rw c.in_ok-name.ensures at c.call_with.ensures) (g.called (g.call c.in_ok-read.ensures.reads.0)) low)
 
