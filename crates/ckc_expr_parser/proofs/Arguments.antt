@@ -125,9 +125,9 @@ all_read {ys} {t} {mid} {rest} sofar is =
     record { others = all.0; spelled = all.1; is = all.2; low = sofar.low }
 
 -- the first argument, and what was read behind it
-pub first_read : {d : ℕ} {o : Span} {ts mid rest : List Token} (x : Expr) (xs : List Expr) (r : Result (ReadArguments × Span) Stuck) → xs ≡ x ∷ [] → SpellsBinary 10 ts (expression x) o mid → IsLow d (expression_reach (expression x))
+pub first_read : {o : Span} {ts mid : List Token} (d : ℕ) (rest : List Token) (x : Expr) (xs : List Expr) (r : Result (ReadArguments × Span) Stuck) → xs ≡ x ∷ [] → SpellsBinary 10 ts (expression x) o mid → IsLow d (expression_reach (expression x))
     → Reads (λ y us. IsMore d xs mid y.0.items.items y.1 us) (StuckMoreArguments d mid) r rest → Reads (λ y us. IsArguments d ts (listed y.0.items.items) y.1 us) (StuckArguments d ts) r rest
-first_read {ts} x xs (Ok found) is spelled low more =
+first_read {ts} d rest x xs (Ok found) is spelled low more =
     let all : listed found.0.items.items ≡ Then (expression x) more.others = more.is ∙ ap (λ ys. before ys more.others) is in
     (rw all (g.argument spelled more.spelled), more.low)
-first_read x xs (Err e) is spelled low stuck = s.others spelled low stuck
+first_read d rest x xs (Err e) is spelled low stuck = s.others spelled low stuck

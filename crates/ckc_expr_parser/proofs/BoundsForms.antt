@@ -43,10 +43,10 @@ pub count_stuck : {d : ℕ} {start p : Span} {ts : List Token} {f : Failure} (is
 count_stuck is_count (within stuck) = s.count (word_of_count is_count) stuck
 count_stuck is_count (unended spelled low other) = s.count_close (word_of_count is_count) spelled low other
 
-pub count_read : {d : ℕ} {start p o t : Span} {ts rest : List Token} {e : Expression} (is_count : Bool) → SpellsBinary 10 ts e o (token kinds.CloseParen t ∷ rest) → IsLow d (expression_reach e)
+pub count_read : {start p o t : Span} {ts rest : List Token} {e : Expression} (d : ℕ) (is_count : Bool) → SpellsBinary 10 ts e o (token kinds.CloseParen t ∷ rest) → IsLow d (expression_reach e)
     → IsBounds d (token (kinds.Name (count_word is_count)) start ∷ token kinds.OpenParen p ∷ ts) (counted is_count e (join start t)) (join start t) rest
-count_read true spelled low = (g.count refl spelled, low)
-count_read false spelled low = (g.byte_count refl spelled, low)
+count_read d true spelled low = (g.count refl spelled, low)
+count_read d false spelled low = (g.byte_count refl spelled, low)
 
 no_end : (k : TokenKind) → comma k ≡ false → close_paren k ≡ false → comma_or_paren k ≡ false
 no_end kinds.Comma h p = h

@@ -261,6 +261,6 @@ pub tight_before : {b : Base} {a : Around} {o : Span} {ts us : List Token} {e : 
 tight_before {b} {a} {o} {ts} {us} {e} {operator} whole found = subst (λ (n : ℕ). HasTight b a n e o ts) (ap looseness found) whole.read
 
 -- an expression without binary operators
-pub unary_reads : {d : ℕ} {ts rest : List Token} (r : Result Operand Stuck) → Reads (λ x us. IsBinary 0 d ts (expression x.expr.value) x.outer us) (StuckBinary 0 d ts) r rest → Reads (λ x us. IsUnary d ts (expression x.expr.value) x.outer us) (StuckUnary d ts) r rest
-unary_reads (Ok found) read = (unary_spelled read.0, read.1)
-unary_reads (Err e) stuck = unary_stuck stuck
+pub unary_reads : (d : ℕ) (ts rest : List Token) (r : Result Operand Stuck) → Reads (λ x us. IsBinary 0 d ts (expression x.expr.value) x.outer us) (StuckBinary 0 d ts) r rest → Reads (λ x us. IsUnary d ts (expression x.expr.value) x.outer us) (StuckUnary d ts) r rest
+unary_reads d ts rest (Ok found) read = (unary_spelled read.0, read.1)
+unary_reads d ts rest (Err e) stuck = unary_stuck stuck

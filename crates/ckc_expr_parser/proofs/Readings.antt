@@ -40,18 +40,18 @@ name_fails Fails (no_name other) stops full = stops other
 name_fails Fails no_room stops full = full
 
 -- tokens are taken, whatever a last call answers that takes none
-pub takes : {X : Type 0} {ts rest : List Token} (r : Result X Stuck) → length rest < length ts → TakesTokens ts r rest
-takes (Ok found) less = less
-takes (Err e) less = tt
+pub takes : {X : Type 0} (ts rest : List Token) (r : Result X Stuck) → length rest < length ts → TakesTokens ts r rest
+takes ts rest (Ok found) less = less
+takes ts rest (Err e) less = tt
 
-pub may_take : {X : Type 0} {ts rest : List Token} (r : Result X Stuck) → length rest ≤ length ts → MayTakeTokens ts r rest
-may_take (Ok found) less = less
-may_take (Err e) less = tt
+pub may_take : {X : Type 0} (ts rest : List Token) (r : Result X Stuck) → length rest ≤ length ts → MayTakeTokens ts r rest
+may_take ts rest (Ok found) less = less
+may_take ts rest (Err e) less = tt
 
 -- the same of a last call that takes tokens of those that are left
-pub takes_more : {X : Type 0} {ts mid rest : List Token} (r : Result X Stuck) → length mid ≤ length ts → TakesTokens mid r rest → TakesTokens ts r rest
-takes_more (Ok found) less shorter = omega arith
-takes_more (Err e) less shorter = tt
+pub takes_more : {X : Type 0} (ts mid rest : List Token) (r : Result X Stuck) → length mid ≤ length ts → TakesTokens mid r rest → TakesTokens ts r rest
+takes_more ts mid rest (Ok found) less shorter = omega arith
+takes_more ts mid rest (Err e) less shorter = tt
 
 pub low_around : (d s : ℕ) (r : Reach) → d < 200 → IsLow (suc d) r → IsLow d (around s r)
 low_around d s r less low = around_low r.height r.start less low

@@ -78,11 +78,11 @@ selects_built (Ok x) built selects = rw (built.0, built.1) selects
 selects_built (Err f) built selects = rw built s.selectors_no_room
 
 -- what was built is the smallest expression that was read
-pub primary_built : {d : ℕ} {o : Span} {ts rest : List Token} {e : Expression} (r : Result Operand Stuck) → Builds e o r → SpellsPrimary ts e o rest → IsLow d (expression_reach e) → Reads (λ x us. IsPrimary d ts (expression x.expr.value) x.outer us) (StuckPrimary d ts) r rest
-primary_built (Ok x) built spelled low = rw (built.0, built.1) (spelled, low)
-primary_built (Err f) built spelled low = rw built s.primary_no_room
+pub primary_built : {o : Span} {ts rest : List Token} {e : Expression} (d : ℕ) (r : Result Operand Stuck) → Builds e o r → SpellsPrimary ts e o rest → IsLow d (expression_reach e) → Reads (λ x us. IsPrimary d ts (expression x.expr.value) x.outer us) (StuckPrimary d ts) r rest
+primary_built d (Ok x) built spelled low = rw (built.0, built.1) (spelled, low)
+primary_built d (Err f) built spelled low = rw built s.primary_no_room
 
 -- a failure of a form that a word begins is one of the smallest expressions
-pub primary_reads : {d : ℕ} {ts rest : List Token} (r : Result Operand Stuck) → Reads (λ x us. IsPrimary d ts (expression x.expr.value) x.outer us) (StuckPrimary d ts) r rest → Reads (λ x us. IsPrimary d ts (expression x.expr.value) x.outer us) (FailsPrimary d ts) r rest
-primary_reads (Ok found) read = read
-primary_reads (Err e) stuck = in_primary stuck
+pub primary_reads : (d : ℕ) (ts rest : List Token) (r : Result Operand Stuck) → Reads (λ x us. IsPrimary d ts (expression x.expr.value) x.outer us) (StuckPrimary d ts) r rest → Reads (λ x us. IsPrimary d ts (expression x.expr.value) x.outer us) (FailsPrimary d ts) r rest
+primary_reads d ts rest (Ok found) read = read
+primary_reads d ts rest (Err e) stuck = in_primary stuck

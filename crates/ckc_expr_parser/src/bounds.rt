@@ -129,12 +129,7 @@ fn counted(is_count: bool, start: Span, count: Ended) -> ReadBounds
 
 /// Two ends, or the word `unknown`, behind the parenthesis.
 #[cycle(expressions)]
-fn ends(
-    alloc: Global,
-    depth: u32,
-    start: Span,
-    tokens: &mut &[Token],
-) -> Result<ReadBounds, Stuck>
+fn ends(alloc: Global, depth: u32, start: Span, tokens: &mut &[Token]) -> Result<ReadBounds, Stuck>
     requires { depth ≤ 200 }
     ensures reads { (p : Place) → Reads (λ x rest. IsBounds depth (token (kinds.Name (codes "bounds")) start ∷ token kinds.OpenParen p ∷ tokens.old.now) (bounds_of x.text) x.span rest) (StuckBounds depth (token (kinds.Name (codes "bounds")) start ∷ token kinds.OpenParen p ∷ tokens.old.now)) result tokens.new.now }
     ensures shorter { TakesTokens tokens.old.now result tokens.new.now }
@@ -188,12 +183,7 @@ fn goes_on(tokens: &[Token]) -> bool
 
 /// Two ends. The word `unknown` is an expression as soon as the token behind it shows that it is.
 #[cycle(expressions)]
-fn range(
-    alloc: Global,
-    depth: u32,
-    start: Span,
-    tokens: &mut &[Token],
-) -> Result<ReadBounds, Stuck>
+fn range(alloc: Global, depth: u32, start: Span, tokens: &mut &[Token]) -> Result<ReadBounds, Stuck>
     requires high { depth ≤ 200 }
     requires known { is_unknown tokens.old.now ≡ false }
     ensures reads { (p : Place) → Reads (λ x rest. IsBounds depth (token (kinds.Name (codes "bounds")) start ∷ token kinds.OpenParen p ∷ tokens.old.now) (bounds_of x.text) x.span rest) (StuckBounds depth (token (kinds.Name (codes "bounds")) start ∷ token kinds.OpenParen p ∷ tokens.old.now)) result tokens.new.now }

@@ -85,11 +85,7 @@ pub fn binary_with(
 }
 
 /// An element, up to the bracket behind its index.
-pub fn index_with(
-    alloc: Global,
-    base: Operand,
-    index: Ended,
-) -> Result<Operand, Stuck>
+pub fn index_with(alloc: Global, base: Operand, index: Ended) -> Result<Operand, Stuck>
     requires base { base.reach.height ≤ 200 }
     requires index { index.operand.reach.height ≤ 200 }
     ensures { Builds (trees.Index (expression base.expr.value) (expression index.operand.expr.value) (words.join base.outer index.end)) (words.join base.outer index.end) result }
@@ -159,12 +155,7 @@ pub fn size_of_with(alloc: Global, read: ReadTypeName, outer: Span) -> Result<Op
 }
 
 /// A cast without bounds.
-pub fn cast_with(
-    alloc: Global,
-    word: CastWord,
-    parts: Typed,
-    outer: Span,
-) -> Result<Operand, Stuck>
+pub fn cast_with(alloc: Global, word: CastWord, parts: Typed, outer: Span) -> Result<Operand, Stuck>
     requires type_name { parts.read.reach.height ≤ 200 }
     requires operand { parts.operand.reach.height ≤ 200 }
     ensures { Builds (trees.Cast word (type_name_of parts.read.type_name) (expression parts.operand.expr.value) outer) outer result }

@@ -250,11 +250,7 @@ fn next_operator(around: &Around, tokens: &mut &[Token]) -> Option<BinaryOperato
 }
 
 /// Lets an operand wait as the left one of an operator, which makes it deeper by one.
-fn wait_for_right(
-    around: &mut Around,
-    operator: BinaryOperator,
-    left: Operand,
-) -> Result<(), Stuck>
+fn wait_for_right(around: &mut Around, operator: BinaryOperator, left: Operand) -> Result<(), Stuck>
     requires low { IsLow around.old.depth (expression_reach (expression left.expr.value)) }
     requires depth { around.old.depth ≤ 200 }
     ensures { (b : Base) (ts us : List Sign) → words.operator_at ts ≡ Some (operator, us) → words.level operator ≤ limit around.old.loosest (waiting around.old.pending.items)

@@ -37,7 +37,7 @@ pub bounds::count-returns-in_err-count-clause-reads : goal.bounds::count-returns
 bounds::count-returns-in_err-count-clause-reads t c = λ p. rw (err _ _ c.from_residual.ensures.1) (count_stuck c.args.is_count c.in_err-count.ensures.reads)
 
 pub bounds::count-returns-clause-reads : goal.bounds::count-returns-clause-reads
-bounds::count-returns-clause-reads t c = λ p. rw (c.counted.ensures.tree, c.counted.ensures.placed) (count_read c.args.is_count c.in_ok-count.ensures.reads.0 c.in_ok-count.ensures.reads.1)
+bounds::count-returns-clause-reads t c = λ p. rw (c.counted.ensures.tree, c.counted.ensures.placed) (count_read _ c.args.is_count c.in_ok-count.ensures.reads.0 c.in_ok-count.ensures.reads.1)
 
 pub bounds::ends-returns-in-Some-clause-reads : goal.bounds::ends-returns-in-Some-clause-reads
 bounds::ends-returns-in-Some-clause-reads t c = λ p. rw (c.in-Some.ensures.1, c.join-span.ensures) (g.unknown refl refl, omega arith)
@@ -101,10 +101,10 @@ pub expressions::indexed-returns-clause-reads : goal.expressions::indexed-return
 expressions::indexed-returns-clause-reads t c = λ start. selects_built _ c.index_with.ensures (index_selects (room _ c.args.operand c.requires) c.in_ok-index.ensures.reads.0 (rw add-one at c.in_ok-index.ensures.reads.1))
 
 pub expressions::indexed-returns-clause-shorter : goal.expressions::indexed-returns-clause-shorter
-expressions::indexed-returns-clause-shorter t c = takes _ c.in_ok-index.ensures.shorter
+expressions::indexed-returns-clause-shorter t c = takes _ _ _ c.in_ok-index.ensures.shorter
 
 pub expressions::operators-operators-init : goal.expressions::operators-operators-init
-expressions::operators-operators-init t c = 
+expressions::operators-operators-init t c =
     let b : Base = record { loosest = c.args.loosest; depth = c.args.depth; tokens = c.args.tokens.now.now } in
     (needs_in b _ _ [] (ap waiting c.new.ensures.items) refl refl (c.requires.loose, c.requires.high) (needs_first b), omega arith)
 
@@ -160,7 +160,7 @@ pub expressions::selectors-overflow_add-depth : goal.expressions::selectors-over
 expressions::selectors-overflow_add-depth t c = omega (arith, height_is c.selectors.operand, c.selectors.invariant.0.low)
 
 pub expressions::selectors-returns-then-depth-operand-ge-MAX_DEPTH-clause-reads : goal.expressions::selectors-returns-then-depth-operand-ge-MAX_DEPTH-clause-reads
-expressions::selectors-returns-then-depth-operand-ge-MAX_DEPTH-clause-reads t c = 
+expressions::selectors-returns-then-depth-operand-ge-MAX_DEPTH-clause-reads t c =
     let deep : 200 ≤ c.args.depth + (expression_reach (expression c.selectors.operand.expr.value)).height = omega (arith, height_is c.selectors.operand) in
     rw (start_is c.selectors.operand) (c.selectors.invariant.0.fails (rw c.in-Some.ensures.1 (s.selectors_deep (selector_is c.in-Some.selector) deep)))
 
@@ -186,17 +186,17 @@ pub primary::arguments-returns-in_err-arguments-clause-reads : goal.primary::arg
 primary::arguments-returns-in_err-arguments-clause-reads t c = rw (err _ _ c.from_residual-in_err-arguments.ensures.1) (s.arguments_no_room)
 
 pub primary::arguments-more_arguments-requires : goal.primary::arguments-more_arguments-requires
-primary::arguments-more_arguments-requires t c = 
+primary::arguments-more_arguments-requires t c =
     let one = rw c.no_arguments-2.ensures at c.in_ok-arguments.ensures in
     (search rules, (c.requires, low_pushed _ [] _ _ one (omega arith) c.in_ok-first.ensures.reads.1))
 
 pub primary::arguments-returns-clause-reads : goal.primary::arguments-returns-clause-reads
-primary::arguments-returns-clause-reads t c = 
+primary::arguments-returns-clause-reads t c =
     let one = rw c.no_arguments-2.ensures at c.in_ok-arguments.ensures in
-    first_read _ _ _ one (rw c.in_default.ensures.left at c.in_ok-first.ensures.reads.0) c.in_ok-first.ensures.reads.1 c.more_arguments.ensures.reads
+    first_read _ _ _ _ _ one (rw c.in_default.ensures.left at c.in_ok-first.ensures.reads.0) c.in_ok-first.ensures.reads.1 c.more_arguments.ensures.reads
 
 pub primary::arguments-returns-clause-shorter : goal.primary::arguments-returns-clause-shorter
-primary::arguments-returns-clause-shorter t c = takes_more _ (omega (arith, ap length c.in_default.ensures.left, c.in_ok-first.ensures.shorter)) c.more_arguments.ensures.shorter
+primary::arguments-returns-clause-shorter t c = takes_more _ _ _ _ (omega (arith, ap length c.in_default.ensures.left, c.in_ok-first.ensures.shorter)) c.more_arguments.ensures.shorter
 
 pub primary::more_arguments-arguments-init : goal.primary::more_arguments-arguments-init
 primary::more_arguments-arguments-init t c = (follows_none c.requires.low, omega arith)
@@ -260,10 +260,10 @@ pub primary::cast-returns-in-Ok-clause-reads : goal.primary::cast-returns-in-Ok-
 primary::cast-returns-in-Ok-clause-reads t c = λ k is.
     let parts = rw add-one at c.in_ok-parts.ensures.reads in
     let low = low_around _ c.args.start.from _ c.requires (low_beside _ _ _ parts.type_low parts.low) in
-    primary_built _ (rw c.join.ensures at c.cast_with.ensures) (g.cast is parts.type (rw c.in-Ok.ensures at parts.operand)) low
+    primary_built _ _ (rw c.join.ensures at c.cast_with.ensures) (g.cast is parts.type (rw c.in-Ok.ensures at parts.operand)) low
 
 pub primary::cast-returns-in-Ok-clause-shorter : goal.primary::cast-returns-in-Ok-clause-shorter
-primary::cast-returns-in-Ok-clause-shorter t c = takes _ (omega (arith, ap length c.in-Ok.ensures, c.in_ok-parts.ensures.shorter))
+primary::cast-returns-in-Ok-clause-shorter t c = takes _ _ _ (omega (arith, ap length c.in-Ok.ensures, c.in_ok-parts.ensures.shorter))
 
 pub primary::cast-returns-in_err-written-clause-reads : goal.primary::cast-returns-in_err-written-clause-reads
 primary::cast-returns-in_err-written-clause-reads t c = λ k is.
@@ -275,10 +275,10 @@ primary::cast-returns-clause-reads t c = λ k is.
     let parts = rw add-one at c.in_ok-parts.ensures.reads in
     let last = rw (add-one, c.in_default.ensures.left) at c.in_ok-written.ensures.reads in
     let low = low_around _ c.args.start.from _ c.requires (low_beside _ _ _ (low_beside _ _ _ parts.type_low parts.low) last.low) in
-    primary_built _ (rw c.join-2.ensures at c.bounded_cast_with.ensures) (g.bounded_cast is parts.type (rw last.at at parts.operand) last.spelled) low
+    primary_built _ _ (rw c.join-2.ensures at c.bounded_cast_with.ensures) (g.bounded_cast is parts.type (rw last.at at parts.operand) last.spelled) low
 
 pub primary::cast-returns-clause-shorter : goal.primary::cast-returns-clause-shorter
-primary::cast-returns-clause-shorter t c = takes _ (omega (arith, ap length c.in_default.ensures.left, c.in_ok-parts.ensures.shorter, c.in_ok-written.ensures.shorter))
+primary::cast-returns-clause-shorter t c = takes _ _ _ (omega (arith, ap length c.in_default.ensures.left, c.in_ok-parts.ensures.shorter, c.in_ok-written.ensures.shorter))
 
 pub primary::malloc-returns-in_err-parts-clause-reads : goal.primary::malloc-returns-in_err-parts-clause-reads
 primary::malloc-returns-in_err-parts-clause-reads t c = λ k is. rw (err _ _ c.from_residual.ensures.1) (malloc_stuck is c.requires (rw add-one at c.in_err-parts.ensures.reads))
@@ -292,10 +292,10 @@ pub primary::malloc-returns-clause-reads : goal.primary::malloc-returns-clause-r
 primary::malloc-returns-clause-reads t c = λ k is.
     let parts = rw add-one at c.in_ok-parts.ensures.reads in
     let low = low_around _ c.args.start.from _ c.requires (low_beside _ _ _ parts.type_low parts.low) in
-    primary_built _ (rw c.join.ensures at c.malloc_with.ensures) (g.malloc is parts.type (rw c.in_ok-end.ensures at parts.operand)) low
+    primary_built _ _ (rw c.join.ensures at c.malloc_with.ensures) (g.malloc is parts.type (rw c.in_ok-end.ensures at parts.operand)) low
 
 pub primary::malloc-returns-clause-shorter : goal.primary::malloc-returns-clause-shorter
-primary::malloc-returns-clause-shorter t c = takes _ (omega (arith, ap length c.in_ok-end.ensures, c.in_ok-parts.ensures.shorter))
+primary::malloc-returns-clause-shorter t c = takes _ _ _ (omega (arith, ap length c.in_ok-end.ensures, c.in_ok-parts.ensures.shorter))
 
 pub primary::calloc-returns-in_err-parts-clause-reads : goal.primary::calloc-returns-in_err-parts-clause-reads
 primary::calloc-returns-in_err-parts-clause-reads t c = λ k is. rw (err _ _ c.from_residual.ensures.1) (calloc_stuck is c.requires (rw add-one at c.in_err-parts.ensures.reads))
@@ -315,10 +315,10 @@ primary::calloc-returns-clause-reads t c = λ k is.
     let parts = rw (add-one, c.in_ok-comma.ensures) at c.in_ok-parts.ensures.reads in
     let size = rw add-one at c.in_ok-size.ensures.reads in
     let low = low_around _ c.args.start.from _ c.requires (low_beside _ _ _ (low_beside _ _ _ parts.type_low parts.low) size.1) in
-    primary_built _ c.calloc_with.ensures (g.calloc is parts.type parts.operand size.0) low
+    primary_built _ _ c.calloc_with.ensures (g.calloc is parts.type parts.operand size.0) low
 
 pub primary::calloc-returns-clause-shorter : goal.primary::calloc-returns-clause-shorter
-primary::calloc-returns-clause-shorter t c = takes _ (omega (arith, ap length c.in_ok-comma.ensures, c.in_ok-parts.ensures.shorter, c.in_ok-size.ensures.shorter))
+primary::calloc-returns-clause-shorter t c = takes _ _ _ (omega (arith, ap length c.in_ok-comma.ensures, c.in_ok-parts.ensures.shorter, c.in_ok-size.ensures.shorter))
 
 pub primary::name_or_call-returns-in_err-name-clause-reads : goal.primary::name_or_call-returns-in_err-name-clause-reads
 primary::name_or_call-returns-in_err-name-clause-reads t c = rw (err _ _ c.from_residual.ensures.1) (s.primary_no_room)
@@ -327,63 +327,63 @@ pub primary::name_or_call-leaf-requires : goal.primary::name_or_call-leaf-requir
 primary::name_or_call-leaf-requires t c = rw c.in_ok-name.ensures refl
 
 pub primary::name_or_call-returns-in_default-clause-reads : goal.primary::name_or_call-returns-in_default-clause-reads
-primary::name_or_call-returns-in_default-clause-reads t c = rw c.in_default.ensures.left (primary_built _ (rw c.in_ok-name.ensures at c.leaf.ensures) (g.name c.in_default.ensures.other) (omega arith))
+primary::name_or_call-returns-in_default-clause-reads t c = rw c.in_default.ensures.left (primary_built _ _ (rw c.in_ok-name.ensures at c.leaf.ensures) (g.name c.in_default.ensures.other) (omega arith))
 
 pub primary::name_or_call-returns-in_default-clause-shorter : goal.primary::name_or_call-returns-in_default-clause-shorter
-primary::name_or_call-returns-in_default-clause-shorter t c = may_take _ (omega (arith, ap length c.in_default.ensures.left))
+primary::name_or_call-returns-in_default-clause-shorter t c = may_take _ _ _ (omega (arith, ap length c.in_default.ensures.left))
 
 pub primary::name_or_call-returns-in_err-read-clause-reads : goal.primary::name_or_call-returns-in_err-read-clause-reads
 primary::name_or_call-returns-in_err-read-clause-reads t c = rw (err _ _ c.from_residual-in_err-read.ensures.1, c.in-Ok.ensures) (s.arguments c.requires (rw add-one at c.in_err-read.ensures.reads))
 
 pub primary::name_or_call-returns-clause-reads : goal.primary::name_or_call-returns-clause-reads
-primary::name_or_call-returns-clause-reads t c = 
+primary::name_or_call-returns-clause-reads t c =
     let low = low_around c.args.depth c.args.span.from (expressions_reach (listed c.in_ok-read.read.items.items)) c.requires (rw add-one at c.in_ok-read.ensures.reads.1) in
-    rw c.in-Ok.ensures (primary_built _ (rw c.in_ok-name.ensures at c.call_with.ensures) (g.called (g.call c.in_ok-read.ensures.reads.0)) low)
+    rw c.in-Ok.ensures (primary_built _ _ (rw c.in_ok-name.ensures at c.call_with.ensures) (g.called (g.call c.in_ok-read.ensures.reads.0)) low)
 
 pub primary::name_or_call-returns-clause-shorter : goal.primary::name_or_call-returns-clause-shorter
-primary::name_or_call-returns-clause-shorter t c = may_take _ (omega (arith, ap length c.in-Ok.ensures, c.in_ok-read.ensures.shorter))
+primary::name_or_call-returns-clause-shorter t c = may_take _ _ _ (omega (arith, ap length c.in-Ok.ensures, c.in_ok-read.ensures.shorter))
 
 pub primary::primary-returns-in_err-token-clause-reads : goal.primary::primary-returns-in_err-token-clause-reads
 primary::primary-returns-in_err-token-clause-reads t c = rw (err _ _ c.from_residual.ensures.1) c.in_err-token.ensures
 
 pub primary::primary-returns-in-Number-clause-reads : goal.primary::primary-returns-in-Number-clause-reads
-primary::primary-returns-in-Number-clause-reads t c = rw (begins _ _ _ _ c.in_ok-token.ensures.0 c.in-Number.is) (primary_reads _ (primary_built _ c.leaf.ensures g.number (omega (arith, c.in_ok-token.ensures.2))))
+primary::primary-returns-in-Number-clause-reads t c = rw (begins _ _ _ _ c.in_ok-token.ensures.0 c.in-Number.is) (primary_reads _ _ _ _ (primary_built _ _ c.leaf.ensures g.number (omega (arith, c.in_ok-token.ensures.2))))
 
 pub primary::primary-returns-in-Number-clause-shorter : goal.primary::primary-returns-in-Number-clause-shorter
-primary::primary-returns-in-Number-clause-shorter t c = takes _ (omega (arith, ap length c.in_ok-token.ensures.0))
+primary::primary-returns-in-Number-clause-shorter t c = takes _ _ _ (omega (arith, ap length c.in_ok-token.ensures.0))
 
 pub primary::primary-returns-in-Character-clause-reads : goal.primary::primary-returns-in-Character-clause-reads
-primary::primary-returns-in-Character-clause-reads t c = rw (begins _ _ _ _ c.in_ok-token.ensures.0 c.in-Character.is) (primary_reads _ (primary_built _ c.leaf-in-Character.ensures g.character (omega (arith, c.in_ok-token.ensures.2))))
+primary::primary-returns-in-Character-clause-reads t c = rw (begins _ _ _ _ c.in_ok-token.ensures.0 c.in-Character.is) (primary_reads _ _ _ _ (primary_built _ _ c.leaf-in-Character.ensures g.character (omega (arith, c.in_ok-token.ensures.2))))
 
 pub primary::primary-returns-in-Character-clause-shorter : goal.primary::primary-returns-in-Character-clause-shorter
-primary::primary-returns-in-Character-clause-shorter t c = takes _ (omega (arith, ap length c.in_ok-token.ensures.0))
+primary::primary-returns-in-Character-clause-shorter t c = takes _ _ _ (omega (arith, ap length c.in_ok-token.ensures.0))
 
 pub primary::primary-returns-in-Text-clause-reads : goal.primary::primary-returns-in-Text-clause-reads
-primary::primary-returns-in-Text-clause-reads t c = rw (begins _ _ _ _ c.in_ok-token.ensures.0 c.in-Text.is) (primary_reads _ (primary_built _ c.text_literal.ensures g.text (omega (arith, c.in_ok-token.ensures.2))))
+primary::primary-returns-in-Text-clause-reads t c = rw (begins _ _ _ _ c.in_ok-token.ensures.0 c.in-Text.is) (primary_reads _ _ _ _ (primary_built _ _ c.text_literal.ensures g.text (omega (arith, c.in_ok-token.ensures.2))))
 
 pub primary::primary-returns-in-Text-clause-shorter : goal.primary::primary-returns-in-Text-clause-shorter
-primary::primary-returns-in-Text-clause-shorter t c = takes _ (omega (arith, ap length c.in_ok-token.ensures.0))
+primary::primary-returns-in-Text-clause-shorter t c = takes _ _ _ (omega (arith, ap length c.in_ok-token.ensures.0))
 
 pub primary::primary-returns-in-Name-clause-reads : goal.primary::primary-returns-in-Name-clause-reads
-primary::primary-returns-in-Name-clause-reads t c = rw (begins _ _ _ _ c.in_ok-token.ensures.0 c.in-Name.is) (primary_reads _ c.name_or_call.ensures.reads)
+primary::primary-returns-in-Name-clause-reads t c = rw (begins _ _ _ _ c.in_ok-token.ensures.0 c.in-Name.is) (primary_reads _ _ _ _ c.name_or_call.ensures.reads)
 
 pub primary::primary-returns-in-Sizeof-clause-reads : goal.primary::primary-returns-in-Sizeof-clause-reads
-primary::primary-returns-in-Sizeof-clause-reads t c = rw (begins _ _ _ _ c.in_ok-token.ensures.0 c.in-Sizeof.is) (primary_reads _ c.size_of.ensures.reads)
+primary::primary-returns-in-Sizeof-clause-reads t c = rw (begins _ _ _ _ c.in_ok-token.ensures.0 c.in-Sizeof.is) (primary_reads _ _ _ _ c.size_of.ensures.reads)
 
 pub primary::primary-returns-in-DynamicBoundsCast-clause-reads : goal.primary::primary-returns-in-DynamicBoundsCast-clause-reads
-primary::primary-returns-in-DynamicBoundsCast-clause-reads t c = rw (begins _ _ _ _ c.in_ok-token.ensures.0 c.in-DynamicBoundsCast.is) (primary_reads _ (c.cast.ensures.reads _ words.dynamic))
+primary::primary-returns-in-DynamicBoundsCast-clause-reads t c = rw (begins _ _ _ _ c.in_ok-token.ensures.0 c.in-DynamicBoundsCast.is) (primary_reads _ _ _ _ (c.cast.ensures.reads _ words.dynamic))
 
 pub primary::primary-returns-in-AssumeBoundsCast-clause-reads : goal.primary::primary-returns-in-AssumeBoundsCast-clause-reads
-primary::primary-returns-in-AssumeBoundsCast-clause-reads t c = rw (begins _ _ _ _ c.in_ok-token.ensures.0 c.in-AssumeBoundsCast.is) (primary_reads _ (c.cast-in-AssumeBoundsCast.ensures.reads _ words.assume))
+primary::primary-returns-in-AssumeBoundsCast-clause-reads t c = rw (begins _ _ _ _ c.in_ok-token.ensures.0 c.in-AssumeBoundsCast.is) (primary_reads _ _ _ _ (c.cast-in-AssumeBoundsCast.ensures.reads _ words.assume))
 
 pub primary::primary-returns-in-Malloc-clause-reads : goal.primary::primary-returns-in-Malloc-clause-reads
-primary::primary-returns-in-Malloc-clause-reads t c = rw (begins _ _ _ _ c.in_ok-token.ensures.0 c.in-Malloc.is) (primary_reads _ (c.malloc.ensures.reads _ words.malloc))
+primary::primary-returns-in-Malloc-clause-reads t c = rw (begins _ _ _ _ c.in_ok-token.ensures.0 c.in-Malloc.is) (primary_reads _ _ _ _ (c.malloc.ensures.reads _ words.malloc))
 
 pub primary::primary-returns-in-TMalloc-clause-reads : goal.primary::primary-returns-in-TMalloc-clause-reads
-primary::primary-returns-in-TMalloc-clause-reads t c = rw (begins _ _ _ _ c.in_ok-token.ensures.0 c.in-TMalloc.is) (primary_reads _ (c.malloc-in-TMalloc.ensures.reads _ words.t_malloc))
+primary::primary-returns-in-TMalloc-clause-reads t c = rw (begins _ _ _ _ c.in_ok-token.ensures.0 c.in-TMalloc.is) (primary_reads _ _ _ _ (c.malloc-in-TMalloc.ensures.reads _ words.t_malloc))
 
 pub primary::primary-returns-in-Calloc-clause-reads : goal.primary::primary-returns-in-Calloc-clause-reads
-primary::primary-returns-in-Calloc-clause-reads t c = rw (begins _ _ _ _ c.in_ok-token.ensures.0 c.in-Calloc.is) (primary_reads _ (c.calloc.ensures.reads _ words.calloc))
+primary::primary-returns-in-Calloc-clause-reads t c = rw (begins _ _ _ _ c.in_ok-token.ensures.0 c.in-Calloc.is) (primary_reads _ _ _ _ (c.calloc.ensures.reads _ words.calloc))
 
 pub primary::primary-returns-in-NtCalloc-clause-reads : goal.primary::primary-returns-in-NtCalloc-clause-reads
-primary::primary-returns-in-NtCalloc-clause-reads t c = rw (begins _ _ _ _ c.in_ok-token.ensures.0 c.in-NtCalloc.is) (primary_reads _ (c.calloc-in-NtCalloc.ensures.reads _ words.nt_calloc))
+primary::primary-returns-in-NtCalloc-clause-reads t c = rw (begins _ _ _ _ c.in_ok-token.ensures.0 c.in-NtCalloc.is) (primary_reads _ _ _ _ (c.calloc-in-NtCalloc.ensures.reads _ words.nt_calloc))

@@ -16,4 +16,4 @@ pub returns-clause-reads : goal.returns-clause-reads
 returns-clause-reads c = λ d start less. rw c.in_ok-member.ensures (selects_built _ c.member_with.ensures (member_selects c.args.is_arrow (room d c.args.operand less)))
 
 pub returns-clause-shorter : goal.returns-clause-shorter
-returns-clause-shorter c = takes _ (omega (arith, ap length c.in_ok-member.ensures))
+returns-clause-shorter c = takes _ _ _ (omega (arith, ap length c.in_ok-member.ensures))

@@ -1,5 +1,6 @@
 use Rattle.std.proofs.Common.{◌≤◌, ◌<◌, suc, length, arith, ◌∙◌, add-one, ap, sym}
 use Rattle.ckc_grammar.specs.StuckExpressions as s
+use Rattle.ckc_expr_parser.specs.ContextAnswers.{prefix_word}
 use Rattle.ckc_expr_parser.proofs.Readings.{err, next_none}
 use Rattle.ckc_expr_parser.proofs.Waiting.{waiting_last}
 use Rattle.ckc_expr_parser.proofs.Contexts.{needs_fails, needs_parens, needs_operand}
@@ -15,7 +16,9 @@ returns-in-Ok-clause-reads c = λ b has.
     needs_in b _ _ _ (waiting_last _ _ _ c.in_ok-push.ensures) has.around.loosest has.around.depth has.around.fits inside
 
 pub returns-in_default-split_first-clause-reads : goal.returns-in_default-split_first-clause-reads
-returns-in_default-split_first-clause-reads c = λ b has. rw c.in_default.ensures.left (has, rw c.in_default.ensures.left at (next_none _ _ c.in_default-split_first.ensures.cases))
+returns-in_default-split_first-clause-reads c = λ b has.
+    let none = next_none prefix_word c.open_paren.new.tokens.now c.in_default-split_first.ensures.cases in
+    rw c.in_default.ensures.left (has, rw c.in_default.ensures.left at none)
 
 pub returns-in_default-unary_operator-clause-reads : goal.returns-in_default-unary_operator-clause-reads
 returns-in_default-unary_operator-clause-reads c = λ b has.

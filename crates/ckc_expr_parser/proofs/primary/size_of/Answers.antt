@@ -18,7 +18,7 @@ returns-in_err-end-clause-reads c =
 pub returns-clause-reads : goal.returns-clause-reads
 returns-clause-reads c =
     let low = low_around _ c.args.word.from _ c.requires (rw add-one at c.in_ok-read.ensures.reads.1) in
-    rw c.in_ok-open_paren.ensures (primary_built _ (rw c.join.ensures at c.size_of_with.ensures) (g.size_of (rw c.in_ok-end.ensures at c.in_ok-read.ensures.reads.0)) low)
+    rw c.in_ok-open_paren.ensures (primary_built _ _ (rw c.join.ensures at c.size_of_with.ensures) (g.size_of (rw c.in_ok-end.ensures at c.in_ok-read.ensures.reads.0)) low)
 
 pub returns-clause-shorter : goal.returns-clause-shorter
-returns-clause-shorter c = takes _ (omega (arith, ap length c.in_ok-open_paren.ensures, ap length c.in_ok-end.ensures, c.in_ok-read.ensures.shorter))
+returns-clause-shorter c = takes _ _ _ (omega (arith, ap length c.in_ok-open_paren.ensures, ap length c.in_ok-end.ensures, c.in_ok-read.ensures.shorter))
