@@ -6,6 +6,7 @@ use crate::lines::is_number;
 use crate::rows::{expect, expect_rows};
 use act_words::act::Turn;
 use ckc_io::mem_shelf::MemShelf;
+use ckc_text::code::Code;
 use sandbox_actor::actor::{Actor, ActorFault, Now};
 use sandbox_actor::list_actor::ListActor;
 use std::alloc::Global;
@@ -23,11 +24,15 @@ fn shelf_of(alloc: Global, text: &[u8], read: u64) -> MemShelf {
 fn is_reason(fault: &ActorFault, expected: &str) -> bool {
     match fault {
         ActorFault::Ended => expected == "end",
-        ActorFault::Line { line, code } => match expected.split_once(' ') {
-            Some((number, refusal)) => is_number(number, *line) && code.number() == refusal,
-            None => false,
-        },
+        ActorFault::Line { line, code } => is_refused_line(*line, *code, expected),
         _ => false,
+    }
+}
+
+fn is_refused_line(line: u64, code: Code, expected: &str) -> bool {
+    match expected.split_once(' ') {
+        Some((number, refusal)) => is_number(number, line) && code.number() == refusal,
+        None => false,
     }
 }
 

@@ -13,8 +13,16 @@ use std::test::Fail;
 // Whether a line was made, with a line feed behind it.
 fn is_line(made: &Result<Vec<u8>, NoMemory>, expected: &str) -> bool {
     match made {
-        Ok(line) => line.as_slice().strip_suffix(b"\n") == Some(expected.as_bytes()),
+        Ok(line) => is_line_of(line.as_slice(), expected.as_bytes()),
         Err(NoMemory) => false,
+    }
+}
+
+// Whether a line has this text, and a line feed behind it.
+fn is_line_of(line: &[u8], text: &[u8]) -> bool {
+    match line {
+        [front @ .., b'\n'] => front == text,
+        _ => false,
     }
 }
 

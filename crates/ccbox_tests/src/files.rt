@@ -1,5 +1,6 @@
 // Files and the output of the operating system.
 
+use crate::lines::add_number;
 use crate::rows::expect;
 use ckc_io::file_shelf::FileShelf;
 use ckc_io::out_sink::OutSink;
@@ -23,13 +24,16 @@ fn fault(rt: &HostRuntime, name: &str, from: u64) -> Option<ShelfFault> {
 
 #[test]
 fn reads_a_file_of_the_system(rt: HostRuntime) -> Result<(), Fail> {
-    let id = process::id(rt.process());
-    let path = format!(in rt.alloc(); "/tmp/file_shelf_{id}")?;
-    fs::write(&rt, path.as_str(), "0123456789")?;
+    let mut path = String::new(rt.alloc());
+    add_number(&mut path, "/tmp/file_shelf_", process::id(rt.process()));
+    let written = fs::write(&rt, path.as_str(), "0123456789").is_ok();
     let read = reads(&rt, path.as_str());
-    fs::remove_file(&rt, path.as_str())?;
+    let removed = fs::remove_file(&rt, path.as_str()).is_ok();
     expect(
-        read && matches!(fault(&rt, path.as_str(), 8), Some(ShelfFault::Missing))
+        written
+            && read
+            && removed
+            && matches!(fault(&rt, path.as_str(), 8), Some(ShelfFault::Missing))
             && matches!(fault(&rt, "/", 0), Some(ShelfFault::Failed)),
     )
 }

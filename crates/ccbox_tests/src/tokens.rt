@@ -2,158 +2,152 @@
 
 use crate::answers::is_refusal;
 use crate::lines::{add, add_number};
+use crate::rows::expect;
 use ckc_lexer::lexer::lex;
 use ckc_lexer::token::{CheckedScope, Token, TokenKind};
 use std::alloc::Global;
 use std::test::Fail;
 
 // A text, with the line of its tokens, or its fault.
-struct Row(&'static [u8], &'static str);
+struct Row(&'static str, &'static str);
 
 const ROWS: &[Row] = &[
     // Keywords, names and marks.
     Row(
-        b"int char void struct if else while for return break continue sizeof malloc calloc nt_calloc t_malloc ptr _Ptr array_ptr _Array_ptr nt_array_ptr _Nt_array_ptr _TPtr _TArray_ptr _TNt_array_ptr _Checked _Nt_checked _Unchecked _Bundled _Tainted _Callback _Dynamic_bounds_cast _Assume_bounds_cast",
+        "int char void struct if else while for return break continue sizeof malloc calloc nt_calloc t_malloc ptr _Ptr array_ptr _Array_ptr nt_array_ptr _Nt_array_ptr _TPtr _TArray_ptr _TNt_array_ptr _Checked _Nt_checked _Unchecked _Bundled _Tainted _Callback _Dynamic_bounds_cast _Assume_bounds_cast",
         "int char void struct if else while for return break continue sizeof malloc calloc nt_calloc t_malloc ptr ptr array_ptr array_ptr nt_array_ptr nt_array_ptr _TPtr _TArray_ptr _TNt_array_ptr _Checked _Nt_checked _Unchecked _Bundled _Tainted _Callback _Dynamic_bounds_cast _Assume_bounds_cast",
     ),
     Row(
-        b"{ } ( ) [ ] < > <= >= == != = += -= ++ -- + - * / % & && | || ^ ~ ! << . -> , ; :",
+        "{ } ( ) [ ] < > <= >= == != = += -= ++ -- + - * / % & && | || ^ ~ ! << . -> , ; :",
         "{ } ( ) [ ] < > <= >= == != = += -= ++ -- + - * / % & && | || ^ ~ ! << . -> , ; :",
     ),
     Row(
-        b"{}()[]<=>===!=+=-=++--&&||<<->",
+        "{}()[]<=>===!=+=-=++--&&||<<->",
         "{ } ( ) [ ] <= >= == != += -= ++ -- && || << ->",
     ),
-    Row(b"a >>= b", "name:a > >= name:b"),
-    Row(b"<<=", "<< ="),
+    Row("a >>= b", "name:a > >= name:b"),
+    Row("<<=", "<< ="),
     Row(
-        b"intx _ x9 NULL count byte_count bounds unknown",
+        "intx _ x9 NULL count byte_count bounds unknown",
         "name:intx name:_ name:x9 name:NULL name:count name:byte_count name:bounds name:unknown",
     ),
-    Row(b"\t\r\n ", ""),
+    Row("\t\r\n ", ""),
     // Numbers, characters, strings and comments.
     Row(
-        b"0 7 0x0 0XfF 2147483647 0x7fffffff 1.5",
+        "0 7 0x0 0XfF 2147483647 0x7fffffff 1.5",
         "number:0 number:7 number:0 number:255 number:2147483647 number:2147483647 number:1 . number:5",
     ),
     Row(
-        b"'a' '\\n' '\\t' '\\r' '\\0' '\\\\' '\\'' '\\\"' '\"' '\\xfF'",
+        "'a' '\\n' '\\t' '\\r' '\\0' '\\\\' '\\'' '\\\"' '\"' '\\xfF'",
         "character:97 character:10 character:9 character:13 character:0 character:92 character:39 character:34 character:34 character:255",
     ),
     Row(
-        b"\"\" \"b\" \"a\\n\\t\\r\\0\\\\\\'\\\"\\x41'\"",
+        "\"\" \"b\" \"a\\n\\t\\r\\0\\\\\\'\\\"\\x41'\"",
         "text text:98 text:97,10,9,13,0,92,39,34,65,39",
     ),
     Row(
-        b"a // b\nc /* d\n * / e */ f /**/ /*/ g */",
+        "a // b\nc /* d\n * / e */ f /**/ /*/ g */",
         "name:a name:c name:f",
     ),
-    Row(b"\"\xc3\xa9\"", "text:195,169"),
-    Row(b"// \xc3\xa9\na", "name:a"),
-    Row(b"/* \xc3 */ a", "name:a"),
+    Row("\"é\"", "text:195,169"),
+    Row("// é\na", "name:a"),
     // What is no number, or too great.
-    Row(b"2147483648", "E04 0"),
-    Row(b"a 2147483648;", "E04 2"),
-    Row(b"a 0x80000000", "E04 2"),
-    Row(b"99999999999999999999", "E04 0"),
-    Row(b"08", "E02 0"),
-    Row(b"int x = 08;", "E02 8"),
-    Row(b"007", "E02 0"),
-    Row(b"12ab", "E02 0"),
-    Row(b"0x", "E02 0"),
-    Row(b"0xg", "E02 0"),
-    Row(b"a 2147483648x", "E02 2"),
-    Row(b"4_", "E02 0"),
-    Row(b"a 2147483648", "E04 2"),
-    Row(b"a b 08", "E02 4"),
+    Row("2147483648", "E04 0"),
+    Row("a 2147483648;", "E04 2"),
+    Row("a 0x80000000", "E04 2"),
+    Row("99999999999999999999", "E04 0"),
+    Row("08", "E02 0"),
+    Row("int x = 08;", "E02 8"),
+    Row("007", "E02 0"),
+    Row("12ab", "E02 0"),
+    Row("0x", "E02 0"),
+    Row("0xg", "E02 0"),
+    Row("a 2147483648x", "E02 2"),
+    Row("4_", "E02 0"),
+    Row("a 2147483648", "E04 2"),
+    Row("a b 08", "E02 4"),
     // Bytes that no source has there.
-    Row(b"\x01", "E01 0"),
-    Row(b"a \x7f b", "E01 2"),
-    Row(b"a\x1f", "E01 1"),
-    Row(b"/*\x01", "E01 0"),
-    Row(b"a //\x01\n", "E01 2"),
-    Row(b"a \"b\x01\" c", "E01 2"),
-    Row(b"#include \x01\n", "E01 0"),
-    Row(b"a\n#define N \x01\n", "E01 2"),
-    Row(b"a '\x02'", "E01 2"),
-    Row(b"\x80", "E01 0"),
-    Row(b"a '\x80' b", "E01 2"),
-    Row(b"#define N 4\xc3", "E01 0"),
-    Row(b"a\xff", "E01 1"),
+    Row("\x01", "E01 0"),
+    Row("a \x7f b", "E01 2"),
+    Row("a\x1f", "E01 1"),
+    Row("/*\x01", "E01 0"),
+    Row("a //\x01\n", "E01 2"),
+    Row("a \"b\x01\" c", "E01 2"),
+    Row("#include \x01\n", "E01 0"),
+    Row("a\n#define N \x01\n", "E01 2"),
+    Row("a '\x02'", "E01 2"),
     // What begins no token.
-    Row(b"@", "E02 0"),
-    Row(b"a $ b", "E02 2"),
-    Row(b"a ?", "E02 2"),
-    Row(b"''", "E02 0"),
-    Row(b"a 'bc' d", "E02 2"),
-    Row(b"\"\\q\"", "E02 0"),
-    Row(b"a \"\\x4\" ", "E02 2"),
-    Row(b"'\\q'", "E02 0"),
-    Row(b"a # b", "E02 2"),
-    Row(b"\"\\q", "E02 0"),
-    Row(b"\\", "E02 0"),
+    Row("@", "E02 0"),
+    Row("a $ b", "E02 2"),
+    Row("a ?", "E02 2"),
+    Row("''", "E02 0"),
+    Row("a 'bc' d", "E02 2"),
+    Row("\"\\q\"", "E02 0"),
+    Row("a \"\\x4\" ", "E02 2"),
+    Row("'\\q'", "E02 0"),
+    Row("a # b", "E02 2"),
+    Row("\"\\q", "E02 0"),
+    Row("\\", "E02 0"),
     // Comments and strings without an end.
-    Row(b"/*", "E03 0"),
-    Row(b"a /* b", "E03 2"),
-    Row(b"/*/", "E03 0"),
-    Row(b"a \"b\n\"", "E03 2"),
-    Row(b"\"ab\\\n\"", "E03 0"),
-    Row(b"a '", "E03 2"),
-    Row(b"a \"", "E03 2"),
-    Row(b"'ab", "E03 0"),
-    Row(b"\"a\\", "E03 0"),
-    Row(b"#define N 4 /* c", "E03 12"),
-    Row(b"a b /*", "E03 4"),
+    Row("/*", "E03 0"),
+    Row("a /* b", "E03 2"),
+    Row("/*/", "E03 0"),
+    Row("a \"b\n\"", "E03 2"),
+    Row("\"ab\\\n\"", "E03 0"),
+    Row("a '", "E03 2"),
+    Row("a \"", "E03 2"),
+    Row("'ab", "E03 0"),
+    Row("\"a\\", "E03 0"),
+    Row("#define N 4 /* c", "E03 12"),
+    Row("a b /*", "E03 4"),
     // Lines that are no directive of the language.
-    Row(b"#", "E05 0"),
-    Row(b"a\n #x\nb", "E05 3"),
-    Row(b"a\n#pragma CHECKED_SCOPE pop", "E05 2"),
-    Row(b"#pragma once", "E05 0"),
-    Row(b"#pragma CHECKED_SCOPE", "E05 0"),
-    Row(b"#pragma CHECKED_SCOPE ons", "E05 0"),
-    Row(b"#pragma CHECKED_SCOPE on off", "E05 0"),
-    Row(b"#define", "E05 0"),
-    Row(b"#define N", "E05 0"),
-    Row(b"#define N 4 5", "E05 0"),
-    Row(b"a\n#define N", "E05 2"),
+    Row("#", "E05 0"),
+    Row("a\n #x\nb", "E05 3"),
+    Row("a\n#pragma CHECKED_SCOPE pop", "E05 2"),
+    Row("#pragma once", "E05 0"),
+    Row("#pragma CHECKED_SCOPE", "E05 0"),
+    Row("#pragma CHECKED_SCOPE ons", "E05 0"),
+    Row("#pragma CHECKED_SCOPE on off", "E05 0"),
+    Row("#define", "E05 0"),
+    Row("#define N", "E05 0"),
+    Row("#define N 4 5", "E05 0"),
+    Row("a\n#define N", "E05 2"),
     // Definitions of what can't be defined so.
-    Row(b"#define int 4", "E05 0"),
-    Row(b"#define int 08", "E02 0"),
-    Row(b"#define N 08", "E02 0"),
-    Row(b"#define N 2147483648", "E04 0"),
-    Row(b"#define N /* c */ 4", "E05 0"),
-    Row(b"#define N 4 /* c */ int", "E05 0"),
-    Row(b"#define N 4 /* c */ @", "E05 0"),
-    Row(b"#define N 4\n#define N 5\n", "E05 12"),
-    Row(b"#define N 0\n#define N -0", "E05 12"),
-    Row(b"#define N M", "E05 0"),
-    Row(b"#define 4 N", "E05 0"),
-    Row(b"#defined N 4", "E05 0"),
-    Row(b"#includes", "E05 0"),
+    Row("#define int 4", "E05 0"),
+    Row("#define int 08", "E02 0"),
+    Row("#define N 08", "E02 0"),
+    Row("#define N 2147483648", "E04 0"),
+    Row("#define N /* c */ 4", "E05 0"),
+    Row("#define N 4 /* c */ int", "E05 0"),
+    Row("#define N 4 /* c */ @", "E05 0"),
+    Row("#define N 4\n#define N 5\n", "E05 12"),
+    Row("#define N 0\n#define N -0", "E05 12"),
+    Row("#define N M", "E05 0"),
+    Row("#define 4 N", "E05 0"),
+    Row("#defined N 4", "E05 0"),
+    Row("#includes", "E05 0"),
     // Directives, and what they make of the names behind them.
-    Row(b"#define N 4\n#define N 0x4\n N", "number:4"),
-    Row(b"#define N 4 // c\nN", "number:4"),
-    Row(b"#define N 4 /* c\n d */ N", "number:4"),
-    Row(b" /* c */ # define N - 4 \nN NN", "- number:4 name:NN"),
-    Row(b"/* c\n*/ #define N 4\nN", "number:4"),
-    Row(b"N\n#define N 4\nN", "name:N number:4"),
-    Row(b"#define NULL 4\nNULL", "number:4"),
+    Row("#define N 4\n#define N 0x4\n N", "number:4"),
+    Row("#define N 4 // c\nN", "number:4"),
+    Row("#define N 4 /* c\n d */ N", "number:4"),
+    Row(" /* c */ # define N - 4 \nN NN", "- number:4 name:NN"),
+    Row("/* c\n*/ #define N 4\nN", "number:4"),
+    Row("N\n#define N 4\nN", "name:N number:4"),
+    Row("#define NULL 4\nNULL", "number:4"),
     Row(
-        b"#define N 4\n#define M 5\n#define N 4\nM N",
+        "#define N 4\n#define M 5\n#define N 4\nM N",
         "number:5 number:4",
     ),
-    Row(b"#include <a/*b>\na", "name:a"),
-    Row(b"  #include\"x\"", ""),
+    Row("#include <a/*b>\na", "name:a"),
+    Row("  #include\"x\"", ""),
     Row(
-        b"#pragma CHECKED_SCOPE Off\n#pragma CHECKED_SCOPE PUSH\n# pragma  CHECKED_SCOPE on // c\n#pragma CHECKED_SCOPE pop\n",
+        "#pragma CHECKED_SCOPE Off\n#pragma CHECKED_SCOPE PUSH\n# pragma  CHECKED_SCOPE on // c\n#pragma CHECKED_SCOPE pop\n",
         "off off on off",
     ),
     Row(
-        b"#pragma CHECKED_SCOPE push\n#pragma CHECKED_SCOPE pop\n#pragma CHECKED_SCOPE pop",
+        "#pragma CHECKED_SCOPE push\n#pragma CHECKED_SCOPE pop\n#pragma CHECKED_SCOPE pop",
         "E05 53",
     ),
-    Row(b"#include \xc3\na", "name:a"),
-    Row(b"#define N 4 // \xc3\nN", "number:4"),
 ];
 
 // How a keyword or a mark is spelled; of two spellings the short one.
@@ -290,9 +284,24 @@ fn is_right(alloc: Global, src: &[u8], want: &str) -> bool {
 #[test]
 fn lines_of_tokens(rt: HostRuntime) -> Result<(), Fail> {
     for Row(src, want) in ROWS {
-        if !is_right(rt.alloc(), src, want) {
+        if !is_right(rt.alloc(), src.as_bytes(), want) {
             return Err(Fail::new(*want));
         }
     }
     Ok(())
+}
+
+// Bytes that are no text stand in comments and behind `#include` alone.
+#[test]
+fn bytes_that_are_no_text(rt: HostRuntime) -> Result<(), Fail> {
+    let alloc = rt.alloc();
+    expect(
+        is_right(alloc, b"/* \xc3 */ a", "name:a")
+            && is_right(alloc, b"\x80", "E01 0")
+            && is_right(alloc, b"a '\x80' b", "E01 2")
+            && is_right(alloc, b"#define N 4\xc3", "E01 0")
+            && is_right(alloc, b"a\xff", "E01 1")
+            && is_right(alloc, b"#include \xc3\na", "name:a")
+            && is_right(alloc, b"#define N 4 // \xc3\nN", "number:4"),
+    )
 }
