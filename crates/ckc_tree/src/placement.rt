@@ -367,13 +367,14 @@ fn walk_declared(
 fn walk_members(cursor: &mut Cursor, members: &[Member])
     ensures { cursor.new ≡ walks.each_walked walks.member_walked (map member_of members.now) cursor.old }
 {
-    for Member {
-        span,
-        type_name,
-        name,
-        bounds,
-    } in members {
-        walk_declared(cursor, *span, type_name, name.span, bounds);
+    for member in members {
+        walk_declared(
+            cursor,
+            member.span,
+            &member.type_name,
+            member.name.span,
+            &member.bounds,
+        );
     }
 }
 
