@@ -1,4 +1,4 @@
-use Rattle.std.proofs.Common.{◌≤◌, ◌+◌, [], ◌∷◌, length, refl, sym, ap, ◌∙◌, arith, add-one, rules}
+use Rattle.std.proofs.Common.{◌≤◌, ◌+◌, [], length, refl, sym, ap, ◌∙◌, arith, add-one, rules}
 use Rattle.ckc_tree.specs.Expressions.{expression}
 use Rattle.ckc_tree.specs.Heights.{expression_reach, expressions_reach}
 use Rattle.ckc_grammar.specs.Tokens as words

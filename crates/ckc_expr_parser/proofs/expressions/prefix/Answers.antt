@@ -1,4 +1,4 @@
-use Rattle.std.proofs.Common.{◌≤◌, ◌<◌, suc, length, arith, ◌∙◌, add-one, ap, sym}
+use Rattle.std.proofs.Common.{◌≤◌, ◌<◌, suc, arith, ◌∙◌, add-one, ap, sym}
 use Rattle.ckc_grammar.specs.StuckExpressions as s
 use Rattle.ckc_expr_parser.specs.ContextAnswers.{prefix_word}
 use Rattle.ckc_expr_parser.proofs.Readings.{err, next_none}

@@ -1,4 +1,4 @@
-use Rattle.std.proofs.Common.{◌≤◌, sym, arith, add-one}
+use Rattle.std.proofs.Common.{sym, arith, add-one}
 use Rattle.ckc_grammar.specs.TypeGrammar as grammar
 use Rattle.ckc_grammar.specs.StuckTypes as stuck
 use Rattle.ckc_expr_parser.proofs.Readings.{err, begins, low_around, pointer_word_is}
