@@ -187,5 +187,6 @@ item_shorter (g.function k m r st p b body) = omega (arith, kind_shorter k, mark
 pub stuck_first : {t : Token} {ts rest : List Token} {f : Failure} → ts ≡ t ∷ rest → StuckItem ts f → StuckItems ts f
 stuck_first {t} {rest} at fails = rw at (stuck.first {t = t} {ts = rest} (rw at at fails))
 
-pub none_left : {ts rest : List Token} {items : List code.Item} (w : Span) → GoesOn AreItems StuckItems ts items rest → rest ≡ [] → AreItems ts items w rest
-none_left {rest} w so_far none = ended {end = rest} {w = w} so_far (rw none (g.none, omega arith))
+pub none_left : {ts : List Token} {items : List code.Item} (rest : List Token) (w : Span) → GoesOn AreItems StuckItems ts items rest → length rest ≡ 0 → AreItems ts items w rest
+none_left [] w so_far none = ended {end = []} {w = w} so_far (g.none, omega arith)
+none_left (t ∷ rest) w so_far none = absurd (omega arith)

@@ -1,5 +1,5 @@
 -- Inside: what the functions that read declarations, statements and items answer, in the code's types.
-use Rattle.std.specs.Prelude.{◌≡◌, ℕ, suc, true, false, List, ◌∷◌, Option, Some, None}
+use Rattle.std.specs.Prelude.{◌≡◌, ℕ, suc, Bool, true, false, List, ◌∷◌, Option, Some, None}
 use Rattle.ckc_text.specs.declared.place.Span.{Span}
 use Rattle.ckc_lexer.specs.declared.token.Token.{Token}
 use Rattle.ckc_lexer.specs.declared.token.TokenKind.{TokenKind}
@@ -8,14 +8,14 @@ use Rattle.ckc_tree.specs.declared.stmt.StoreOperator.{StoreOperator}
 use Rattle.ckc_tree.specs.declared.stmt.StepOperator.{StepOperator}
 use Rattle.ckc_tree.specs.declared.stmt.StepSide.TheVariants.{After}
 use Rattle.ckc_tree.specs.Expressions.{Expression}
-use Rattle.ckc_tree.specs.Statements.{Assignment, Store, Step, ForInitial}
+use Rattle.ckc_tree.specs.Statements.{Assignment, Store, Step, ForInitial, Statement, Break, Continue}
 use Rattle.ckc_tree.specs.Heights.{for_initial_reach, optional_expression_reach, optional_assignment_reach}
 use Rattle.ckc_grammar.specs.Tokens.{token, join, IsStoreOperator, IsStepOperator, next_is}
 use Rattle.ckc_grammar.specs.ExpressionGrammar.{SpellsExpression}
 use Rattle.ckc_grammar.specs.StatementGrammar.{SpellsForInitial, SpellsForCondition, SpellsForStep}
 use Rattle.ckc_grammar.specs.Failures.{Failure, unexpected, no_memory, IsLow}
 use Rattle.ckc_grammar.specs.StuckExpressions.{StuckExpression}
-use Rattle.ckc_grammar.specs.StuckStatements.{assign_word, is_call}
+use Rattle.ckc_grammar.specs.StuckStatements.{assign_word, is_call, is_call_alone}
 
 -- ---- what stands behind the target of an assignment
 
@@ -43,6 +43,21 @@ pub data SpellsEnd : List Token → Option Expression → Span → List Token �
 pub record IsCallEnd (target : Expression) (end : Span) (ts rest : List Token) : Type 0 where
   pub call : is_call target ≡ true
   pub at : ts ≡ token kinds.Semicolon end ∷ rest
+
+-- the semicolon behind a call, where it stands next; nothing is taken else
+abbrev pub EndsCall : Expression → List Token → Option Span → List Token → Type 0
+EndsCall target ts None rest = (rest ≡ ts) × (is_call_alone target ts ≡ false)
+EndsCall target ts (Some end) rest = IsCallEnd target end ts rest
+
+-- the word `break`, or `continue`
+abbrev pub jump_word : Bool → TokenKind
+jump_word true = kinds.Break
+jump_word false = kinds.Continue
+
+-- the statement that such a word begins
+abbrev pub jump : Bool → Span → Statement
+jump true span = Break span
+jump false span = Continue span
 
 -- what stands in the parentheses of a for, with so many nodes around the for
 pub record IsForHead (depth : ℕ) (ts : List Token) (initial : ForInitial) (condition : Option Expression) (step : Option Assignment) (rest : List Token) : Type 0 where

@@ -7,7 +7,7 @@ pub returns-in_err-members : goal.returns-in_err-members
 returns-in_err-members c = rw (err _ _ c.from_residual.ensures.1) (stuck.members c.requires.taint c.in_err-members.ensures)
 
 pub returns-in_err-end : goal.returns-in_err-end
-returns-in_err-end c = rw (err _ _ c.from_residual-in_err-end.ensures.1, c.in_err-end.ensures.0) (stuck.structure_end c.requires.taint c.in_ok-members.ensures.0 c.in_ok-members.ensures.1 c.in_err-end.ensures.1)
+returns-in_err-end c = rw (err _ _ c.from_residual-in_err-end.ensures.1, c.in_err-end.ensures.reason, c.in_err-end.ensures.left) (stuck.structure_end c.requires.taint c.in_ok-members.ensures.0 c.in_ok-members.ensures.1 c.in_err-end.ensures.other)
 
 pub returns-in_err-tag : goal.returns-in_err-tag
 returns-in_err-tag c = rw (err _ _ c.from_residual-in_err-tag.ensures.1) stuck.no_room
