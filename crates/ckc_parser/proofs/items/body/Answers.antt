@@ -21,4 +21,4 @@ pub returns : goal.returns
 returns c =
     let marked = rw (c.in_ok-open_brace.ensures, c.in_default.ensures.left) at c.optional_mark-mark.ensures in
     let deep : 0 < 200 = omega arith in
-    rw c.from_first-span.ensures (g.present marked c.in_ok-read.ensures.0, low_around 0 _ _ deep c.in_ok-read.ensures.1)
+    rw (c.from_first-span.ensures, c.in_default.ensures.left) (g.present marked c.in_ok-read.ensures.0, low_around 0 _ _ deep c.in_ok-read.ensures.1)

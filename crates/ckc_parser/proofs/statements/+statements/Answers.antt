@@ -63,7 +63,7 @@ plain-returns-in_err-inner t c = rw (err _ _ c.from_residual-in_err-inner.ensure
 
 pub plain-returns-in-Ok-open_brace : goal.plain-returns-in-Ok-open_brace
 plain-returns-in-Ok-open_brace t c =
-    rw (← c.in_default.ensures.left, c.in-Ok-open_brace.ensures, c.in_ok-boxed-2.ensures, c.block-2.ensures) (g.block c.in_ok-inner.ensures.0, low_around _ _ _ c.requires.deep (rw add-one at c.in_ok-inner.ensures.1))
+    rw (← c.in_default.ensures.left, c.in-Ok-open_brace.ensures, c.in_ok-boxed-2.ensures, c.block-in-Ok-open_brace.ensures) (g.block c.in_ok-inner.ensures.0, low_around _ _ _ c.requires.deep (rw add-one at c.in_ok-inner.ensures.1))
 
 pub plain-if_statement-requires : goal.plain-if_statement-requires
 plain-if_statement-requires t c =
@@ -172,7 +172,7 @@ if_statement-returns-in-Ok t c =
     let consequent = rw c.in-Ok.ensures at c.in_ok-consequent.ensures.0 in
     let condition_low = rw add-one at c.in_ok-condition.ensures.1 in
     let consequent_low = rw add-one at c.in_ok-consequent.ensures.1 in
-    rw (c.in_ok-boxed.ensures, c.if_else.ensures, c.join-span.ensures, c.span.ensures)
+    rw (c.in_ok-boxed.ensures, c.if_else.ensures, c.join-span.ensures, c.span.ensures, c.deref.ensures)
     (blocks.is_if_else c.in_ok-condition.ensures.0 consequent c.in_ok-alternative.ensures.0, low_around _ _ _ c.requires (low_beside _ _ _ (low_beside _ _ _ condition_low consequent_low) (rw add-one at c.in_ok-alternative.ensures.1)))
 
 pub if_statement-returns-in_err-boxed-2 : goal.if_statement-returns-in_err-boxed-2
@@ -181,7 +181,7 @@ if_statement-returns-in_err-boxed-2 t c = rw (err _ _ c.from_residual-in_err-box
 pub if_statement-returns : goal.if_statement-returns
 if_statement-returns t c =
     let condition_low = rw add-one at c.in_ok-condition.ensures.1 in
-    rw (c.in_default.ensures.left, c.in_ok-boxed-2.ensures, c.if_alone.ensures, c.join-span-2.ensures, c.span-2.ensures)
+    rw (c.in_default.ensures.left, c.in_ok-boxed-2.ensures, c.if_alone.ensures, c.join-span-2.ensures, c.span-2.ensures, c.deref-2.ensures)
     (blocks.is_if c.in_ok-condition.ensures.0 c.in_ok-consequent.ensures.0 c.in_default.ensures.other, low_around _ _ _ c.requires (low_beside _ _ _ condition_low (rw add-one at c.in_ok-consequent.ensures.1)))
 
 pub while_statement-statement-requires : goal.while_statement-statement-requires
@@ -201,7 +201,7 @@ while_statement-returns-in_err-boxed t c = rw (err _ _ c.from_residual-in_err-bo
 pub while_statement-returns : goal.while_statement-returns
 while_statement-returns t c =
     let condition_low = rw add-one at c.in_ok-condition.ensures.1 in
-    rw (c.in_ok-boxed.ensures, c.while_loop.ensures, c.join-span.ensures, c.span.ensures)
+    rw (c.in_ok-boxed.ensures, c.while_loop.ensures, c.join-span.ensures, c.span.ensures, c.deref.ensures)
     (blocks.is_while c.in_ok-condition.ensures.0 c.in_ok-body.ensures.0, low_around _ _ _ c.requires (low_beside _ _ _ condition_low (rw add-one at c.in_ok-body.ensures.1)))
 
 pub for_statement-statement-requires : goal.for_statement-statement-requires
@@ -219,5 +219,5 @@ for_statement-returns-in_err-boxed t c = rw (err _ _ c.from_residual-in_err-boxe
 
 pub for_statement-returns : goal.for_statement-returns
 for_statement-returns t c =
-    rw (c.in_ok-boxed.ensures, c.for_loop.ensures, c.into_inner.ensures, c.join-span.ensures, c.span.ensures)
+    rw (c.in_ok-boxed.ensures, c.for_loop.ensures, c.into_inner.ensures, c.join-span.ensures, c.span.ensures, c.deref.ensures)
     (blocks.is_for c.in_ok-head.ensures c.in_ok-body.ensures.0, blocks.low_for (statement c.in_ok-body.body.value) c.args.start.from c.requires c.in_ok-head.ensures (rw add-one at c.in_ok-body.ensures.1))
