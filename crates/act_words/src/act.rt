@@ -6,14 +6,14 @@ use crate::octets::Octets;
 use crate::words::Words;
 
 /// Whose turn it is.
-#[derive(Clone, Copy, Debug, PartialEq, Eq)]
+#[derive(Clone, Copy, PartialEq, Eq)]
 pub enum Turn {
     Trusted,
     Sandbox,
 }
 
 /// A count of bytes, from 1 to 64. An enum keeps no fact about its fields, so this field of `Act` is a type of its own.
-#[derive(Clone, Copy, Debug, PartialEq, Eq)]
+#[derive(Clone, Copy)]
 pub struct ByteCount {
     pub number: u32,
     pub ghost in_range: { (1 ≤ number) × (number ≤ 64) },
@@ -36,7 +36,7 @@ impl ByteCount {
 }
 
 /// From 1 to 64 bytes: a type of its own for the reason that `ByteCount` is.
-#[derive(Clone, Copy, Debug, PartialEq, Eq)]
+#[derive(Clone, Copy)]
 pub struct SomeOctets {
     pub octets: Octets,
     pub ghost not_empty: { 1 ≤ length octets },
@@ -59,7 +59,7 @@ impl SomeOctets {
 }
 
 /// One act of the sandbox. Offsets are in its memory, and words have 32 bits without a sign.
-#[derive(Clone, Copy, Debug, PartialEq, Eq)]
+#[derive(Clone, Copy)]
 pub enum Act {
     /// Let the trusted side make its next touch.
     Go,
@@ -76,7 +76,7 @@ pub enum Act {
 }
 
 /// What the sandbox is shown.
-#[derive(Clone, Copy, Debug, PartialEq, Eq)]
+#[derive(Clone, Copy)]
 pub enum Seen {
     /// The bytes that it looked at.
     Bytes { at: u32, bytes: Octets },
@@ -87,7 +87,7 @@ pub enum Seen {
 }
 
 /// A touch: what the trusted side gave away.
-#[derive(Clone, Copy, Debug, PartialEq, Eq)]
+#[derive(Clone, Copy)]
 pub enum Release {
     /// It loaded from the sandbox memory.
     Looked,

@@ -1,12 +1,12 @@
 // A few bytes, as an act moves them.
 
-ghost use Rattle.std.specs.Prelude.{◌≡◌, ◌≤◌, ◌<◌, ◌^◌, ◌↔◌, length, IsSome, IfSome};
+ghost use Rattle.std.specs.Prelude.{◌≡◌, ◌≤◌, ◌<◌, ◌↔◌, length, IsSome, IfSome};
 ghost use Rattle.std.specs.List.{All};
 
 use std::marker::Model;
 
 /// A list of at most 64 bytes, which lie in the value itself.
-#[derive(Clone, Copy, Debug, PartialEq, Eq)]
+#[derive(Clone, Copy)]
 pub struct Octets {
     // The bytes, and zeros behind them.
     cells: [u8; 64],

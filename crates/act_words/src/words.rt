@@ -6,7 +6,7 @@ ghost use Rattle.std.specs.List.{All};
 use std::marker::Model;
 
 /// A list of at most 16 words, which lie in the value itself.
-#[derive(Clone, Copy, Debug, PartialEq, Eq)]
+#[derive(Clone, Copy)]
 pub struct Words {
     // The words, and zeros behind them.
     cells: [u32; 16],

@@ -13,12 +13,12 @@ use std::fmt::Write as _;
 pub fn write_act(alloc: Global, act: &Act) -> Result<Vec<u8>, NoMemory>
     ensures line { IfOk result (λ text. text.items ≡ act_line (act_view act.now)) }
 {
-    match *act {
+    match act {
         Act::Go => Ok(Vec::from_slice(alloc, b"{\"act\":\"go\"}\n")?),
-        Act::Read { at, len } => read_line(alloc, at, len.number),
-        Act::Write { at, bytes } => write_line(alloc, at, bytes.octets.as_slice()),
-        Act::Call { fun, args } => call_line(alloc, fun, args.as_slice()),
-        Act::Return { value } => return_line(alloc, value),
+        Act::Read { at, len } => read_line(alloc, *at, len.number),
+        Act::Write { at, bytes } => write_line(alloc, *at, bytes.octets.as_slice()),
+        Act::Call { fun, args } => call_line(alloc, *fun, args.as_slice()),
+        Act::Return { value } => return_line(alloc, *value),
         Act::Stop => Ok(Vec::from_slice(alloc, b"{\"act\":\"stop\"}\n")?),
     }
 }

@@ -1,17 +1,7 @@
 // Checks a C file, and runs it.
 #![tactic(auto)]
 
-pub mod call;
-mod front;
-pub mod laws;
-mod output;
-mod request;
-mod run;
-#[cfg(test)]
-mod tests;
-mod texts;
-
-use call::{Status, ccbox};
+use ccbox_call::call::{Status, ccbox};
 use ckc_io::file_shelf::FileShelf;
 use ckc_io::out_sink::OutSink;
 use std::alloc::AllocError;
@@ -29,9 +19,7 @@ fn main(rt: HostRuntime) -> ExitCode {
 }
 
 // The status where memory runs out before the call.
-const NO_MEMORY: Status = Status {
-    number: output::NO_MEMORY,
-};
+const NO_MEMORY: Status = Status { number: 9 };
 
 // The words after the program's name.
 fn arguments(rt: &HostRuntime) -> io::Result<Vec<String>> {

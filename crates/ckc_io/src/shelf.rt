@@ -5,7 +5,7 @@ ghost use Rattle.ckc_io.specs.Counts.{ShelfCounts};
 ghost use Rattle.ckc_io.specs.Files.{Files, Told, ShelfAnswers};
 
 /// Why a read gave no bytes.
-#[derive(Clone, Copy, Debug, PartialEq, Eq)]
+#[derive(Clone, Copy)]
 pub enum ShelfFault {
     /// No file has the name.
     Missing,

@@ -5,7 +5,7 @@ ghost use Rattle.ckc_io.specs.Counts.{SinkCounts};
 ghost use Rattle.ckc_io.specs.Written.{grown, taken_by};
 
 /// Why a piece wasn't taken.
-#[derive(Clone, Copy, Debug, PartialEq, Eq)]
+#[derive(Clone, Copy)]
 pub enum SinkFault {
     /// The device failed.
     Failed,

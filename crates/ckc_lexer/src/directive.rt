@@ -1,8 +1,8 @@
 // Directives.
 
-ghost use Rattle.std.specs.Prelude.{◌≡◌, ℕ, ◌≤◌, length, drop, IfOk};
-ghost use Rattle.std.specs.List.{list_all, list_any, prefix_len};
-ghost use Rattle.ckc_lexer.specs.Bytes.{is_blank, is_digit, is_letter, is_word_byte, is_in_line, is_control, begins_with};
+ghost use Rattle.std.specs.Prelude.{◌≡◌, ◌≤◌, length, IfOk};
+ghost use Rattle.std.specs.List.{list_all, prefix_len};
+ghost use Rattle.ckc_lexer.specs.Bytes.{is_blank, is_letter, is_word_byte, begins_with};
 ghost use Rattle.ckc_lexer.specs.Directives.{part, part_len, unblanked, is_keyword, numbered_definition, signed_definition, definition_of, scope_word, scope_of, pragma_of, named_directive};
 ghost use Rattle.ckc_lexer.specs.Pieces.{word_len, line_len, is_include, include_piece, directive_piece, IsHash};
 
@@ -10,7 +10,7 @@ use crate::front::{is_blank, is_control, is_word_byte};
 use crate::piece::{Definition, Piece, ScopeWord};
 use crate::quoted::{has_control, has_forbidden};
 use crate::run::{Run, extent};
-use crate::word::{keyword, number_of};
+use crate::word::{begins_with_digit, keyword, number_of};
 use ckc_text::code::Code;
 use ckc_text::fault::NoMemory;
 use ckc_text::name::Name;
@@ -21,7 +21,12 @@ pub fn word_len(text: &[u8]) -> usize
     ensures len { result ≡ word_len text.now }
     ensures within { result ≤ length text.now }
 {
-    text.iter().take_while(|b| is_word_byte(**b)).count()
+    for (len, b) in text.iter().enumerate() {
+        if !is_word_byte(*b) {
+            return len;
+        }
+    }
+    text.len()
 }
 
 /// How many bytes stand before the end of the line.
@@ -29,14 +34,24 @@ pub fn line_len(text: &[u8]) -> usize
     ensures len { result ≡ line_len text.now }
     ensures within { result ≤ length text.now }
 {
-    text.iter().take_while(|b| **b != b'\n').count()
+    for (len, b) in text.iter().enumerate() {
+        if *b == b'\n' {
+            return len;
+        }
+    }
+    text.len()
 }
 
 fn blanks_len(text: &[u8]) -> usize
     ensures len { result ≡ prefix_len is_blank text.now }
     ensures within { result ≤ length text.now }
 {
-    text.iter().take_while(|b| is_blank(**b)).count()
+    for (len, b) in text.iter().enumerate() {
+        if !is_blank(*b) {
+            return len;
+        }
+    }
+    text.len()
 }
 
 fn unblanked(text: &[u8]) -> &[u8]
@@ -64,7 +79,12 @@ fn part(text: &[u8]) -> (&[u8], &[u8])
 fn are_blanks(text: &[u8]) -> bool
     ensures { result ≡ list_all is_blank text.now }
 {
-    text.iter().all(|b| is_blank(*b))
+    for b in text {
+        if !is_blank(*b) {
+            return false;
+        }
+    }
+    true
 }
 
 fn is_keyword(word: &[u8]) -> bool
@@ -102,12 +122,6 @@ fn begins_with_letter(text: &[u8]) -> bool
     ensures { result ≡ begins_with is_letter text.now }
 {
     matches!(text, [b'a'..=b'z' | b'A'..=b'Z' | b'_', ..])
-}
-
-fn begins_with_digit(text: &[u8]) -> bool
-    ensures { result ≡ begins_with is_digit text.now }
-{
-    matches!(text, [b'0'..=b'9', ..])
 }
 
 #[tactic(auto, unfolding(crate::specs::Directives::signed_definition))]

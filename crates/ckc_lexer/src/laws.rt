@@ -1,7 +1,7 @@
 // What the definitions of tokens say: a source has one list of tokens or one fault, the tokens stand in order,
 // and worked examples.
 
-ghost use Rattle.std.specs.Prelude.{◌≡◌, ℕ, List, ◌∷◌, ◌++◌, [], codes, length, Result, Ok, Err};
+ghost use Rattle.std.specs.Prelude.{◌≡◌, ℕ, List, ◌∷◌, ◌++◌, [], codes, length, Result};
 ghost use Rattle.ckc_text.specs.declared.code.Code.TheVariants.{E02, E03, E04, E05};
 ghost use Rattle.ckc_text.specs.declared.fault.SourceFault.{SourceFault};
 ghost use Rattle.ckc_lexer.specs.Tokens.{Lexes, AreTokens, HasFault, InOrder, token_at, fault_at};

@@ -1,8 +1,8 @@
 // Cutting a source into tokens.
 
-ghost use Rattle.std.specs.Prelude.{◌≡◌, ℕ, ◌+◌, ◌-◌, ◌<◌, ◌≤◌, length, drop, OnOk};
+ghost use Rattle.std.specs.Prelude.{◌≡◌, ◌+◌, ◌-◌, ◌<◌, ◌≤◌, length, OnOk};
 ghost use Rattle.ckc_text.specs.declared.fault.Refused.TheVariants.{Source};
-ghost use Rattle.ckc_lexer.specs.Tokens.{fault_at, push, push_after, definition_for, number_tokens, name_tokens, behind_mark, forbidden, fault, is_same_sign, define, go_on, scope_from, pop_scope, change_scope, is_first, next, LexAnswers};
+ghost use Rattle.ckc_lexer.specs.Tokens.{fault_at, push, definition_for, number_tokens, name_tokens, behind_mark, forbidden, fault, define, go_on, scope_from, change_scope, is_first, next, LexAnswers};
 ghost use Rattle.ckc_lexer.specs.declared.piece.Piece.TheVariants.{Gap};
 ghost use Rattle.ckc_lexer.specs.Progress.{state_of, Gives, Steps};
 

@@ -1,10 +1,10 @@
 // The piece at the front of a text.
 
-ghost use Rattle.std.specs.Prelude.{◌≡◌, ℕ, ◌<◌, ◌≤◌, length, drop, IfOk};
-ghost use Rattle.std.specs.List.{list_any, prefix_len};
-ghost use Rattle.ckc_lexer.specs.Bytes.{is_blank, is_word_byte, is_line_feed};
+ghost use Rattle.std.specs.Prelude.{◌≡◌, ℕ, ◌<◌, length, IfOk};
+ghost use Rattle.std.specs.List.{list_any};
+ghost use Rattle.ckc_lexer.specs.Bytes.{is_line_feed};
 ghost use Rattle.ckc_lexer.specs.Runs.{Extent};
-ghost use Rattle.ckc_lexer.specs.Pieces.{comment_piece, IsBlankByte, IsLineComment, IsBlockComment, IsWord, Stands};
+ghost use Rattle.ckc_lexer.specs.Pieces.{comment_piece, is_closing, IsBlankByte, IsLineComment, IsBlockComment, IsWord, Stands};
 ghost use Rattle.ckc_lexer.specs.declared.run.Run.TheVariants.{Comment};
 
 use crate::directive::{hash, line_len, word_len};
@@ -21,7 +21,12 @@ use std::alloc::Global;
 fn has_line_feed(bytes: &[u8]) -> bool
     ensures { result ≡ list_any is_line_feed bytes.now }
 {
-    bytes.iter().any(|b| *b == b'\n')
+    for b in bytes {
+        if *b == b'\n' {
+            return true;
+        }
+    }
+    false
 }
 
 /// What a comment is, by what stands in it and by whether it is closed.
@@ -51,13 +56,20 @@ fn line_comment(inner: &[u8]) -> (Piece, usize)
     (comment_piece(&inner[..len], true), 2 + len)
 }
 
+/// Whether a comment ends at a text.
+fn is_closing(text: &[u8]) -> bool
+    ensures { result ≡ is_closing text.now }
+{
+    matches!(text, [b'*', b'/', ..])
+}
+
 /// A comment to the next `*/`, by the text behind its beginning.
 fn block_comment(inner: &[u8]) -> (Piece, usize)
     ensures { (m : ℕ) × Extent Comment inner.now m × IsBlockComment inner.now m result.0 result.1 }
 {
     let len = extent(Run::Comment, inner);
     let (body, rest) = inner.split_at(len);
-    let closed = matches!(rest, [b'*', b'/', ..]);
+    let closed = is_closing(rest);
     let closing = if closed { 2 } else { 0 };
     (comment_piece(body, closed), 2 + (len + closing))
 }

@@ -140,7 +140,12 @@ fn is_quote(quote: u8, text: &[u8]) -> bool
 pub fn has_control(bytes: &[u8]) -> bool
     ensures { result ≡ list_any is_control bytes.now }
 {
-    bytes.iter().any(|b| is_control(*b))
+    for b in bytes {
+        if is_control(*b) {
+            return true;
+        }
+    }
+    false
 }
 
 /// What stands at a string's quote, by the text behind it, and its length.
@@ -157,7 +162,12 @@ pub fn string(alloc: Global, inner: &[u8]) -> Result<(Piece, usize), NoMemory>
 pub fn has_forbidden(bytes: &[u8]) -> bool
     ensures { result ≡ list_any is_forbidden bytes.now }
 {
-    bytes.iter().any(|b| is_forbidden(*b))
+    for b in bytes {
+        if is_forbidden(*b) {
+            return true;
+        }
+    }
+    false
 }
 
 /// What stands at a character constant's quote, by the text behind it, and its length.

@@ -4,7 +4,7 @@ ghost use Rattle.std.specs.Prelude.{◌≡◌, ◌≤◌, IfOk, map};
 ghost use Rattle.std.specs.List.{list_all};
 ghost use Rattle.std.specs.Char.{digit_value};
 ghost use Rattle.std.specs.Str.Parse.{digits_value};
-ghost use Rattle.ckc_lexer.specs.Bytes.{is_digit, is_hexadecimal_digit};
+ghost use Rattle.ckc_lexer.specs.Bytes.{is_digit, is_hexadecimal_digit, begins_with};
 ghost use Rattle.ckc_lexer.specs.Keywords.{spelled};
 ghost use Rattle.ckc_lexer.specs.Words.{keywords, listed, is_decimal, is_hexadecimal, limited, number_of, number_piece, word_piece};
 
@@ -41,13 +41,23 @@ pub fn keyword(word: &[u8]) -> Option<TokenKind>
 fn are_digits(bytes: &[u8]) -> bool
     ensures { result ≡ list_all is_digit bytes.now }
 {
-    bytes.iter().all(|b| b.is_ascii_digit())
+    for b in bytes {
+        if !b.is_ascii_digit() {
+            return false;
+        }
+    }
+    true
 }
 
 fn are_hexadecimal_digits(bytes: &[u8]) -> bool
     ensures { result ≡ list_all is_hexadecimal_digit bytes.now }
 {
-    bytes.iter().all(|b| b.is_ascii_hexdigit())
+    for b in bytes {
+        if !b.is_ascii_hexdigit() {
+            return false;
+        }
+    }
+    true
 }
 
 #[tactic(auto, using(crate::proofs::Numerals::is_decimal_digits))]
@@ -119,11 +129,18 @@ fn number_piece(word: &[u8]) -> Piece
     }
 }
 
+/// Whether a text begins with a digit.
+pub fn begins_with_digit(text: &[u8]) -> bool
+    ensures { result ≡ begins_with is_digit text.now }
+{
+    matches!(text, [b'0'..=b'9', ..])
+}
+
 /// What letters and digits are, taken to their end.
 pub fn word_piece(alloc: Global, word: &[u8]) -> Result<Piece, NoMemory>
     ensures { IfOk result (λ piece. piece ≡ word_piece word.now) }
 {
-    if let [b'0'..=b'9', ..] = word {
+    if begins_with_digit(word) {
         return Ok(number_piece(word));
     }
     match keyword(word) {

@@ -1,19 +1,11 @@
--- Words that say one thing each, and tokens of which several may stand.
-use Rattle.std.proofs.Common.{◌≡◌, ℕ, nat_lt, Bool, true, false, List, [], ◌∷◌, refl}
-use Rattle.ckc_text.specs.declared.place.Span.{Span}
+-- Tokens of which several may stand.
+use Rattle.std.proofs.Common.{◌≡◌, false, List, [], ◌∷◌, refl}
 use Rattle.ckc_lexer.specs.declared.token.Token.{Token}
 use Rattle.ckc_lexer.specs.declared.token.TokenKind.{TokenKind}
 use Rattle.ckc_lexer.specs.declared.token.TokenKind.TheVariants as kinds
-use Rattle.ckc_tree.specs.Heights.{Reach, ◌beside◌}
-use Rattle.ckc_grammar.specs.Tokens.{token, next_is, comma}
-use Rattle.ckc_grammar.specs.Failures.{IsLow}
+use Rattle.ckc_grammar.specs.Tokens.{next_is, comma}
 use Rattle.ckc_grammar.specs.StuckStatements.{constant_token, minus_or_constant, step_word, assign_word, comma_or_brace, close_brace}
-use Rattle.ckc_parser.specs.StatementReadings.{minus, store_word, IsNumber, number, WordAt}
-
-pub word_at : {W : Type 0} {Says : TokenKind → W → Type 0} {w : W} {t : Token} {k : TokenKind} {ts rest : List Token} → ts ≡ t ∷ rest → t.kind ≡ k → Says k w → WordAt Says w t.span ts rest
-word_at {t} at is says = record { kind = t.kind; says = rw is says; at = at }
-
--- ---- none of several tokens stands next
+use Rattle.ckc_expr_parser.specs.WordReadings.{minus, store_word}
 
 neither_minus : (k : TokenKind) → minus k ≡ false → constant_token k ≡ false → minus_or_constant k ≡ false
 neither_minus kinds.Minus m c = m
@@ -41,18 +33,3 @@ neither_comma k m c = refl
 pub no_comma_or_brace : (ts : List Token) → next_is comma ts ≡ false → next_is close_brace ts ≡ false → next_is comma_or_brace ts ≡ false
 no_comma_or_brace [] m c = refl
 no_comma_or_brace (t ∷ ts) m c = neither_comma t.kind m c
-
-pub number_at : {n : ℕ} {s : Span} {ts rest : List Token} → WordAt IsNumber n s ts rest → ts ≡ token (kinds.Number n) s ∷ rest
-number_at w = number_of w.says w.at
-  where
-    number_of : {n : ℕ} {k : TokenKind} {s : Span} {ts rest : List Token} → IsNumber k n → ts ≡ token k s ∷ rest → ts ≡ token (kinds.Number n) s ∷ rest
-    number_of number at = at
-
--- ---- heights
-
-pub low_beside : (d : ℕ) (p q : Reach) → IsLow d p → IsLow d q → IsLow d (p beside q)
-low_beside d p q low high = by_test (nat_lt p.height q.height) refl
-  where
-    by_test : (b : Bool) → nat_lt p.height q.height ≡ b → IsLow d (p beside q)
-    by_test true less = rw less high
-    by_test false less = rw less low

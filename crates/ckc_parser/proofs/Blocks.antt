@@ -16,14 +16,14 @@ use Rattle.ckc_grammar.specs.ExpressionGrammar as grammar
 use Rattle.ckc_grammar.specs.ExpressionGrammar.{SpellsUnary, SpellsSelectors, SpellsPrimary, SpellsCall}
 use Rattle.ckc_grammar.specs.StatementGrammar as g
 use Rattle.ckc_grammar.specs.StatementGrammar.{SpellsForInitial, SpellsForCondition, SpellsForStep, SpellsStatement}
-use Rattle.ckc_grammar.specs.Failures.{Failure, IsLow}
+use Rattle.ckc_grammar.specs.Failures.{Failure, unexpected, IsLow}
 use Rattle.ckc_grammar.specs.StuckTypes.{type_word, name_token}
 use Rattle.ckc_grammar.specs.StuckStatements as stuck
-use Rattle.ckc_grammar.specs.StuckStatements.{plain_word, assignment_word, statement_word, is_call, is_call_alone, StuckStatement}
+use Rattle.ckc_grammar.specs.StuckStatements.{semicolon, plain_word, assignment_word, statement_word, is_call, is_call_alone, StuckStatement}
 use Rattle.ckc_parser.specs.StatementReadings as r
-use Rattle.ckc_parser.specs.StatementReadings.{SpellsCondition, SpellsEnd, IsForHead, StuckAssigned}
-use Rattle.ckc_parser.proofs.Readings.{low_around}
-use Rattle.ckc_parser.proofs.Ahead.{low_beside}
+use Rattle.ckc_parser.specs.StatementReadings.{SpellsCondition, SpellsEnd, IsForHead, StuckAssigned, jump_word, jump}
+use Rattle.ckc_expr_parser.proofs.Readings.{low_around}
+use Rattle.ckc_expr_parser.proofs.ContextSteps.{low_beside}
 use Rattle.ckc_grammar.proofs.Paths.{shorter, led_shorter}
 use Rattle.ckc_grammar.proofs.ExpressionPaths.{binary_path, call_path}
 use Rattle.ckc_grammar.proofs.StatementPaths.{declaration_path, assignment_path, assignments_path, statement_path, statements_path}
@@ -94,6 +94,14 @@ stuck_named deep named u low alone (r.operator none) = stuck.named_end named u l
 stuck_named deep named u low alone (r.value w s) = stuck.named_value deep named u low w s
 
 -- ---- statements behind their word
+
+pub stuck_jump : (is_break : Bool) {d : ℕ} {s : Span} {ts : List Token} → d < 200 → next_is semicolon ts ≡ false → StuckStatement d (token (jump_word is_break) s ∷ ts) (unexpected ts)
+stuck_jump true deep none = stuck.break deep none
+stuck_jump false deep none = stuck.continue deep none
+
+pub is_jump : (is_break : Bool) {d : ℕ} {s end : Span} {rest : List Token} → d < 200 → SpellsStatement (token (jump_word is_break) s ∷ token kinds.Semicolon end ∷ rest) (jump is_break (join s end)) rest × IsLow d (statement_reach (jump is_break (join s end)))
+is_jump true deep = (g.break, omega arith)
+is_jump false deep = (g.continue, omega arith)
 
 pub stuck_consequent : {d : ℕ} {s : Span} {ts us : List Token} {e : Expression} {f : Failure} → d < 200 → SpellsCondition ts e us → IsLow (suc d) (expression_reach e) → StuckStatement (suc d) us f → StuckStatement d (token kinds.If s ∷ ts) f
 stuck_consequent deep (r.condition e) low fails = stuck.if_consequent deep e low fails

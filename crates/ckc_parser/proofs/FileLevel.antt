@@ -25,10 +25,10 @@ use Rattle.ckc_grammar.specs.StuckExpressions.{close_paren, comma_or_paren}
 use Rattle.ckc_grammar.specs.StuckStatements.{open_brace, semicolon}
 use Rattle.ckc_grammar.specs.StuckItems as stuck
 use Rattle.ckc_grammar.specs.StuckItems.{scope_word, struct_word, body_word, is_name_before, is_structure, is_function, IsAlone, IsLowMember, StuckBody, StuckItem, StuckItems}
-use Rattle.ckc_parser.specs.StatementReadings.{WordAt}
+use Rattle.ckc_expr_parser.specs.WordReadings.{WordAt}
 use Rattle.ckc_parser.specs.ItemReadings as r
 use Rattle.ckc_parser.specs.ItemReadings.{IsScope, IsKindWord, IsSide, IsLed, IsStructureHead, StuckNamed, StuckResult}
-use Rattle.ckc_parser.proofs.Ahead.{low_beside}
+use Rattle.ckc_expr_parser.proofs.ContextSteps.{low_beside}
 use Rattle.ckc_grammar.proofs.Lists.{GoesOn, AreItems, ended}
 use Rattle.ckc_grammar.proofs.Paths.{shorter}
 use Rattle.ckc_grammar.proofs.TypePaths.{type_path, type_name_path, stars_path}
@@ -187,5 +187,6 @@ item_shorter (g.function k m r st p b body) = omega (arith, kind_shorter k, mark
 pub stuck_first : {t : Token} {ts rest : List Token} {f : Failure} → ts ≡ t ∷ rest → StuckItem ts f → StuckItems ts f
 stuck_first {t} {rest} at fails = rw at (stuck.first {t = t} {ts = rest} (rw at at fails))
 
-pub none_left : {ts rest : List Token} {items : List code.Item} (w : Span) → GoesOn AreItems StuckItems ts items rest → rest ≡ [] → AreItems ts items w rest
-none_left {rest} w so_far none = ended {end = rest} {w = w} so_far (rw none (g.none, omega arith))
+pub none_left : {ts : List Token} {items : List code.Item} (rest : List Token) (w : Span) → GoesOn AreItems StuckItems ts items rest → length rest ≡ 0 → AreItems ts items w rest
+none_left [] w so_far none = ended {end = []} {w = w} so_far (g.none, omega arith)
+none_left (t ∷ rest) w so_far none = absurd (omega arith)

@@ -1,6 +1,5 @@
 -- Inside: what the functions that read declarations, statements and items answer, in the code's types.
-use Rattle.std.specs.Prelude.{◌≡◌, ℕ, suc, Bool, true, false, List, ◌∷◌, Option, Some, None, Result, Ok, Err}
-use Rattle.std.specs.Borrow.{Bor}
+use Rattle.std.specs.Prelude.{◌≡◌, ℕ, suc, Bool, true, false, List, ◌∷◌, Option, Some, None}
 use Rattle.ckc_text.specs.declared.place.Span.{Span}
 use Rattle.ckc_lexer.specs.declared.token.Token.{Token}
 use Rattle.ckc_lexer.specs.declared.token.TokenKind.{TokenKind}
@@ -9,42 +8,14 @@ use Rattle.ckc_tree.specs.declared.stmt.StoreOperator.{StoreOperator}
 use Rattle.ckc_tree.specs.declared.stmt.StepOperator.{StepOperator}
 use Rattle.ckc_tree.specs.declared.stmt.StepSide.TheVariants.{After}
 use Rattle.ckc_tree.specs.Expressions.{Expression}
-use Rattle.ckc_tree.specs.Statements.{Assignment, Store, Step, ForInitial}
+use Rattle.ckc_tree.specs.Statements.{Assignment, Store, Step, ForInitial, Statement, Break, Continue}
 use Rattle.ckc_tree.specs.Heights.{for_initial_reach, optional_expression_reach, optional_assignment_reach}
-use Rattle.ckc_parser.specs.declared.stuck.Stuck.{Stuck}
 use Rattle.ckc_grammar.specs.Tokens.{token, join, IsStoreOperator, IsStepOperator, next_is}
 use Rattle.ckc_grammar.specs.ExpressionGrammar.{SpellsExpression}
 use Rattle.ckc_grammar.specs.StatementGrammar.{SpellsForInitial, SpellsForCondition, SpellsForStep}
 use Rattle.ckc_grammar.specs.Failures.{Failure, unexpected, no_memory, IsLow}
-use Rattle.ckc_parser.specs.Answers.{failure}
 use Rattle.ckc_grammar.specs.StuckExpressions.{StuckExpression}
-use Rattle.ckc_grammar.specs.StuckStatements.{assign_word, is_call}
-
--- ---- words and marks that stand alone
-
-abbrev pub minus : TokenKind → Bool
-minus kinds.Minus = true
-minus _ = false
-
-abbrev pub store_word : TokenKind → Bool
-store_word kinds.Equal = true
-store_word kinds.PlusEqual = true
-store_word kinds.MinusEqual = true
-store_word _ = false
-
-pub data IsNumber : TokenKind → ℕ → Type 0 where
-  number : {n : ℕ} → IsNumber (kinds.Number n) n
-
--- a word that says one thing, with its span, and the tokens behind it
-pub record WordAt {W : Type 0} (Says : TokenKind → W → Type 0) (word : W) (span : Span) (ts rest : List Token) : Type 0 where
-  pub kind : TokenKind
-  pub says : Says kind word
-  pub at : ts ≡ token kind span ∷ rest
-
--- what a function that reads such a word answers: what it says and its span before these tokens, or that another token stands there
-abbrev pub ReadsWord : {W : Type 0} → (TokenKind → W → Type 0) → (TokenKind → Bool) → List Token → Result (W × Span × Bor (List Token)) Stuck → Type 0
-ReadsWord Says is ts (Ok found) = WordAt Says found.0 found.1 ts found.2.now
-ReadsWord Says is ts (Err e) = (failure e ≡ unexpected ts) × (next_is is ts ≡ false)
+use Rattle.ckc_grammar.specs.StuckStatements.{assign_word, is_call, is_call_alone}
 
 -- ---- what stands behind the target of an assignment
 
@@ -72,6 +43,21 @@ pub data SpellsEnd : List Token → Option Expression → Span → List Token �
 pub record IsCallEnd (target : Expression) (end : Span) (ts rest : List Token) : Type 0 where
   pub call : is_call target ≡ true
   pub at : ts ≡ token kinds.Semicolon end ∷ rest
+
+-- the semicolon behind a call, where it stands next; nothing is taken else
+abbrev pub EndsCall : Expression → List Token → Option Span → List Token → Type 0
+EndsCall target ts None rest = (rest ≡ ts) × (is_call_alone target ts ≡ false)
+EndsCall target ts (Some end) rest = IsCallEnd target end ts rest
+
+-- the word `break`, or `continue`
+abbrev pub jump_word : Bool → TokenKind
+jump_word true = kinds.Break
+jump_word false = kinds.Continue
+
+-- the statement that such a word begins
+abbrev pub jump : Bool → Span → Statement
+jump true span = Break span
+jump false span = Continue span
 
 -- what stands in the parentheses of a for, with so many nodes around the for
 pub record IsForHead (depth : ℕ) (ts : List Token) (initial : ForInitial) (condition : Option Expression) (step : Option Assignment) (rest : List Token) : Type 0 where

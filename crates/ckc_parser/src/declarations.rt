@@ -8,29 +8,29 @@ ghost use Rattle.ckc_tree.specs.Heights.{around, expression_reach, optional_boun
 ghost use Rattle.ckc_grammar.specs.Tokens.{start_of, from_first, next_is};
 ghost use Rattle.ckc_grammar.specs.StatementGrammar.{SpellsOptionalBounds, SpellsOptionalArray, SpellsSigned, SpellsConstants, SpellsOptionalInitializer, SpellsDeclarator, SpellsDeclarators, SpellsDeclaration, SpellsAssignment};
 ghost use Rattle.ckc_grammar.specs.Failures.{IsLow};
-ghost use Rattle.ckc_parser.specs.Answers.{Reads};
+ghost use Rattle.ckc_expr_parser.specs.Answers.{Reads};
 ghost use Rattle.ckc_grammar.specs.StuckTypes.{type_word};
 ghost use Rattle.ckc_grammar.specs.StuckStatements.{step_word, assignment_word, StuckOptionalBounds, StuckOptionalArray, StuckSigned, StuckConstants, StuckOptionalInitializer, StuckDeclarator, StuckDeclarators, StuckDeclaration, StuckAssignment};
 ghost use Rattle.ckc_parser.specs.StatementReadings.{SpellsAssigned, StuckAssigned};
 
-use crate::bounds::bounds;
-use crate::expressions::{expression, starts_unary, unary};
-use crate::memory::push;
-use crate::operand::Operand;
-use crate::stuck::Stuck;
-use crate::tokens::{
-    MAX_DEPTH, close_brace, close_bracket, comma, copied, first, join, name, open_brace,
-    open_bracket,
+use ckc_expr_parser::bounds::bounds;
+use ckc_expr_parser::expressions::{expression, starts_unary, unary};
+use ckc_expr_parser::memory::push;
+use ckc_expr_parser::operand::Operand;
+use ckc_expr_parser::stuck::Stuck;
+use ckc_expr_parser::tokens::{
+    MAX_DEPTH, close_brace, close_bracket, comma, identifier, join, open_brace, open_bracket,
 };
-use crate::types::{star_count, stars, type_form};
-use crate::words::{
+use ckc_expr_parser::types::{star_count, stars, type_form};
+use ckc_expr_parser::words::{
     array_word, colon, constant, equal, minus, number, step_operator, store_operator,
 };
 use ckc_lexer::token::{Token, TokenKind};
 use ckc_text::place::Span;
-use ckc_tree::expr::BoundsText;
+use ckc_tree::expr::{BoundsText, Expr};
 use ckc_tree::stmt::{
-    ArrayForm, Assignment, Declaration, Declarator, Initializer, SignedConstant, StepSide,
+    ArrayForm, Assignment, Declaration, Declarator, Initializer, SignedConstant, StepOperator,
+    StepSide, StoreOperator,
 };
 use std::alloc::Global;
 
@@ -41,15 +41,24 @@ pub struct Read<T> {
     pub span: Span,
 }
 
+/// Where the tokens start.
+fn start_of(tokens: &[Token]) -> u32
+    ensures { result ≡ start_of tokens.now }
+{
+    match tokens.split_first() {
+        Some((token, _)) => token.span.from,
+        None => 0,
+    }
+}
+
 /// From where the tokens start to the end of a span.
 pub fn from_first(tokens: &[Token], last: Span) -> Span
     ensures { result ≡ from_first tokens.now last }
 {
-    let from = match tokens.split_first() {
-        Some((token, _)) => token.span.from,
-        None => 0,
-    };
-    Span { from, to: last.to }
+    Span {
+        from: start_of(tokens),
+        to: last.to,
+    }
 }
 
 /// Bounds behind a colon, where one stands next. The span is that of the whole so far, and with the bounds.
@@ -57,89 +66,75 @@ pub fn optional_bounds(
     alloc: Global,
     depth: u32,
     so_far: Span,
-    tokens: &[Token],
-) -> Result<(Read<Option<BoundsText>>, &[Token]), Stuck<'_>>
+    tokens: &mut &[Token],
+) -> Result<Read<Option<BoundsText>>, Stuck>
     requires { depth ≤ 200 }
-    ensures { Reads (λ x rest. SpellsOptionalBounds so_far tokens.now (option_map bounds x.form) x.span rest × IsLow depth (optional_bounds_reach (option_map bounds x.form))) (StuckOptionalBounds depth tokens.now) result }
+    ensures { Reads (λ x rest. SpellsOptionalBounds so_far tokens.old.now (option_map bounds x.form) x.span rest × IsLow depth (optional_bounds_reach (option_map bounds x.form))) (StuckOptionalBounds depth tokens.old.now) result tokens.new.now }
 {
-    let Ok((_, rest)) = colon(tokens) else {
+    let Ok(_) = colon(tokens) else {
         let form = None;
         let span = so_far;
-        return Ok((Read { form, span }, tokens));
+        return Ok(Read { form, span });
     };
-    let (read, rest) = bounds(alloc, depth, rest)?;
+    let read = bounds(alloc, depth, tokens)?;
     let span = join(so_far, read.span);
     let form = Some(read.text);
-    Ok((Read { form, span }, rest))
+    Ok(Read { form, span })
 }
 
 /// What makes a variable an array, where it stands next.
-fn optional_array(
-    so_far: Span,
-    tokens: &[Token],
-) -> Result<(Read<Option<ArrayForm>>, &[Token]), Stuck<'_>>
-    ensures { Reads (λ x rest. SpellsOptionalArray so_far tokens.now x.form x.span rest) (StuckOptionalArray tokens.now) result }
+fn optional_array(so_far: Span, tokens: &mut &[Token]) -> Result<Read<Option<ArrayForm>>, Stuck>
+    ensures { Reads (λ x rest. SpellsOptionalArray so_far tokens.old.now x.form x.span rest) (StuckOptionalArray tokens.old.now) result tokens.new.now }
 {
-    let Ok((kind, start, rest)) = array_word(tokens) else {
+    let Ok((kind, start)) = array_word(tokens) else {
         let form = None;
         let span = so_far;
-        return Ok((Read { form, span }, tokens));
+        return Ok(Read { form, span });
     };
-    let (_, rest) = open_bracket(rest)?;
-    let (length, _, rest) = number(rest)?;
-    let (end, rest) = close_bracket(rest)?;
+    open_bracket(tokens)?;
+    let (length, _) = number(tokens)?;
+    let end = close_bracket(tokens)?;
     let span = join(start, end);
     let form = Some(ArrayForm { kind, length, span });
     let span = join(so_far, end);
-    Ok((Read { form, span }, rest))
+    Ok(Read { form, span })
 }
 
 /// A number or a character, with a minus before it or none.
-fn signed(tokens: &[Token]) -> Result<(SignedConstant, &[Token]), Stuck<'_>>
-    ensures { Reads (SpellsSigned tokens.now) (StuckSigned tokens.now) result }
+fn signed(tokens: &mut &[Token]) -> Result<SignedConstant, Stuck>
+    ensures { Reads (SpellsSigned tokens.old.now) (StuckSigned tokens.old.now) result tokens.new.now }
 {
-    if let Ok((start, behind)) = minus(tokens) {
+    if let Ok(start) = minus(tokens) {
         let negative = true;
-        let (constant, end, rest) = constant(behind)?;
+        let (constant, end) = constant(tokens)?;
         let span = join(start, end);
-        return Ok((
-            SignedConstant {
-                negative,
-                constant,
-                span,
-            },
-            rest,
-        ));
-    }
-    let negative = false;
-    let (constant, span, rest) = constant(tokens)?;
-    Ok((
-        SignedConstant {
+        return Ok(SignedConstant {
             negative,
             constant,
             span,
-        },
-        rest,
-    ))
+        });
+    }
+    let negative = false;
+    let (constant, span) = constant(tokens)?;
+    Ok(SignedConstant {
+        negative,
+        constant,
+        span,
+    })
 }
 
 /// At least one constant, and the brace behind them, whose span is given.
-fn constants(
-    alloc: Global,
-    tokens: &[Token],
-) -> Result<(Read<Vec<SignedConstant>>, &[Token]), Stuck<'_>>
-    ensures { Reads (λ x rest. SpellsConstants tokens.now x.form.items x.span rest) (StuckConstants tokens.now) result }
+fn constants(alloc: Global, tokens: &mut &[Token]) -> Result<Read<Vec<SignedConstant>>, Stuck>
+    ensures { Reads (λ x rest. SpellsConstants tokens.old.now x.form.items x.span rest) (StuckConstants tokens.old.now) result tokens.new.now }
 {
     let mut form = Vec::new(alloc);
-    let mut rest = tokens;
     'constants: loop {
-        let (item, behind) = signed(rest)?;
+        let item = signed(tokens)?;
         push(&mut form, item)?;
-        if let Ok((span, behind)) = close_brace(behind) {
-            return Ok((Read { form, span }, behind));
+        if let Ok(span) = close_brace(tokens) {
+            return Ok(Read { form, span });
         }
-        let (_, behind) = comma(behind)?;
-        rest = behind;
+        comma(tokens)?;
     }
 }
 
@@ -149,47 +144,42 @@ fn optional_initializer(
     alloc: Global,
     depth: u32,
     so_far: Span,
-    tokens: &[Token],
-) -> Result<(Read<Option<Initializer>>, &[Token]), Stuck<'_>>
+    tokens: &mut &[Token],
+) -> Result<Read<Option<Initializer>>, Stuck>
     requires { depth ≤ 200 }
-    ensures { Reads (λ x rest. SpellsOptionalInitializer so_far tokens.now (option_map views.initializer x.form) x.span rest × IsLow depth (optional_initializer_reach (option_map views.initializer x.form))) (StuckOptionalInitializer depth tokens.now) result }
+    ensures { Reads (λ x rest. SpellsOptionalInitializer so_far tokens.old.now (option_map views.initializer x.form) x.span rest × IsLow depth (optional_initializer_reach (option_map views.initializer x.form))) (StuckOptionalInitializer depth tokens.old.now) result tokens.new.now }
 {
-    let Ok((_, rest)) = equal(tokens) else {
+    let Ok(_) = equal(tokens) else {
         let form = None;
         let span = so_far;
-        return Ok((Read { form, span }, tokens));
+        return Ok(Read { form, span });
     };
-    if let Ok((start, rest)) = open_brace(rest) {
-        let (read, rest) = constants(alloc, rest)?;
+    if let Ok(start) = open_brace(tokens) {
+        let read = constants(alloc, tokens)?;
         let constants = read.form;
         let span = join(start, read.span);
         let form = Some(Initializer::List { constants, span });
         let span = join(so_far, read.span);
-        return Ok((Read { form, span }, rest));
+        return Ok(Read { form, span });
     }
-    let (read, rest) = expression(alloc, depth, rest)?;
+    let read = expression(alloc, depth, tokens)?;
     let span = join(so_far, read.outer);
     let form = Some(Initializer::Value { value: read.expr });
-    Ok((Read { form, span }, rest))
+    Ok(Read { form, span })
 }
 
 /// One variable of a declaration.
-fn declarator(
-    alloc: Global,
-    depth: u32,
-    tokens: &[Token],
-) -> Result<(Declarator, &[Token]), Stuck<'_>>
+fn declarator(alloc: Global, depth: u32, tokens: &mut &[Token]) -> Result<Declarator, Stuck>
     requires { depth ≤ 200 }
-    ensures { Reads (λ x rest. SpellsDeclarator tokens.now (views.declarator x) rest × IsLow depth (declarator_reach (views.declarator x))) (StuckDeclarator depth tokens.now) result }
+    ensures { Reads (λ x rest. SpellsDeclarator tokens.old.now (views.declarator x) rest × IsLow depth (declarator_reach (views.declarator x))) (StuckDeclarator depth tokens.old.now) result tokens.new.now }
 {
-    let (stars, rest) = stars(tokens);
-    let (name, end, rest) = name(rest)?;
-    let so_far = from_first(tokens, end);
-    let (array, rest) = optional_array(so_far, rest)?;
-    let (bounds, rest) = optional_bounds(alloc, depth, array.span, rest)?;
-    let (initializer, rest) = optional_initializer(alloc, depth, bounds.span, rest)?;
-    let stars = star_count(stars)?;
-    let name = copied(alloc, name, end)?;
+    let whole: &[Token] = *tokens;
+    let stars = star_count(stars(tokens))?;
+    let name = identifier(alloc, tokens)?;
+    let so_far = from_first(whole, name.span);
+    let array = optional_array(so_far, tokens)?;
+    let bounds = optional_bounds(alloc, depth, array.span, tokens)?;
+    let initializer = optional_initializer(alloc, depth, bounds.span, tokens)?;
     let declarator = Declarator {
         stars,
         name,
@@ -198,48 +188,41 @@ fn declarator(
         initializer: initializer.form,
         span: initializer.span,
     };
-    Ok((declarator, rest))
+    Ok(declarator)
 }
 
 /// At least one variable, and all that stand here. The span is that of the last.
 pub fn declarators(
     alloc: Global,
     depth: u32,
-    tokens: &[Token],
-) -> Result<(Read<Vec<Declarator>>, &[Token]), Stuck<'_>>
+    tokens: &mut &[Token],
+) -> Result<Read<Vec<Declarator>>, Stuck>
     requires { depth ≤ 200 }
-    ensures { Reads (λ x rest. SpellsDeclarators tokens.now (map views.declarator x.form.items) x.span rest × IsLow depth (declarators_reach (map views.declarator x.form.items))) (StuckDeclarators depth tokens.now) result }
+    ensures { Reads (λ x rest. SpellsDeclarators tokens.old.now (map views.declarator x.form.items) x.span rest × IsLow depth (declarators_reach (map views.declarator x.form.items))) (StuckDeclarators depth tokens.old.now) result tokens.new.now }
 {
     let mut form = Vec::new(alloc);
-    let mut rest = tokens;
     'declarators: loop {
-        let (item, behind) = declarator(alloc, depth, rest)?;
+        let item = declarator(alloc, depth, tokens)?;
         let span = item.span;
         push(&mut form, item)?;
-        match comma(behind) {
-            Ok((_, behind)) => rest = behind,
-            Err(_) => return Ok((Read { form, span }, behind)),
-        }
+        let Ok(_) = comma(tokens) else {
+            return Ok(Read { form, span });
+        };
     }
 }
 
 /// A declaration with at most `depth` nodes around it.
-pub fn declaration(
-    alloc: Global,
-    depth: u32,
-    tokens: &[Token],
-) -> Result<(Declaration, &[Token]), Stuck<'_>>
+pub fn declaration(alloc: Global, depth: u32, tokens: &mut &[Token]) -> Result<Declaration, Stuck>
     requires low { depth ≤ 200 }
-    requires typed { next_is type_word tokens.now ≡ true }
-    ensures { Reads (λ x rest. SpellsDeclaration tokens.now (views.declaration x) rest × IsLow depth (around x.span.from (declared_reach (views.declaration x)))) (StuckDeclaration depth tokens.now) result }
+    requires typed { next_is type_word tokens.old.now ≡ true }
+    ensures { Reads (λ x rest. SpellsDeclaration tokens.old.now (views.declaration x) rest × IsLow depth (around x.span.from (declared_reach (views.declaration x)))) (StuckDeclaration depth tokens.old.now) result tokens.new.now }
 {
-    let (token, _) = first(tokens)?;
     if depth >= MAX_DEPTH {
-        let start = token.span.from;
+        let start = start_of(tokens);
         return Err(Stuck::TooDeep { start });
     }
-    let (base, rest) = type_form(alloc, depth + 1, tokens)?;
-    let (declarators, rest) = declarators(alloc, depth + 1, rest)?;
+    let base = type_form(alloc, depth + 1, tokens)?;
+    let declarators = declarators(alloc, depth + 1, tokens)?;
     let base = base.form;
     let span = join(base.span(), declarators.span);
     let declarators = declarators.form;
@@ -248,7 +231,7 @@ pub fn declaration(
         declarators,
         span,
     };
-    Ok((declaration, rest))
+    Ok(declaration)
 }
 
 /// Whether a token is the first of an assignment.
@@ -259,37 +242,27 @@ pub fn starts_assignment(kind: &TokenKind) -> bool
 }
 
 /// An assignment with at most `depth` nodes around it.
-pub fn assignment(
-    alloc: Global,
-    depth: u32,
-    tokens: &[Token],
-) -> Result<(Assignment, &[Token]), Stuck<'_>>
+pub fn assignment(alloc: Global, depth: u32, tokens: &mut &[Token]) -> Result<Assignment, Stuck>
     requires { depth ≤ 200 }
-    ensures { Reads (λ x rest. SpellsAssignment tokens.now (views.assignment x) rest × IsLow depth (assignment_reach (views.assignment x))) (StuckAssignment depth tokens.now) result }
+    ensures { Reads (λ x rest. SpellsAssignment tokens.old.now (views.assignment x) rest × IsLow depth (assignment_reach (views.assignment x))) (StuckAssignment depth tokens.old.now) result tokens.new.now }
 {
-    let (token, _) = first(tokens)?;
+    let Some((token, _)) = tokens.split_first() else {
+        return Err(Stuck::Unexpected);
+    };
     if !starts_assignment(&token.kind) {
-        return Err(Stuck::Unexpected { at: tokens });
+        return Err(Stuck::Unexpected);
     }
     if depth >= MAX_DEPTH {
         let start = token.span.from;
         return Err(Stuck::TooDeep { start });
     }
-    if let Ok((operator, start, rest)) = step_operator(tokens) {
-        let (read, rest) = unary(alloc, depth + 1, rest)?;
-        let side = StepSide::Before;
-        let target = read.expr;
+    if let Ok((operator, start)) = step_operator(tokens) {
+        let read = unary(alloc, depth + 1, tokens)?;
         let span = join(start, read.outer);
-        let step = Assignment::Step {
-            operator,
-            side,
-            target,
-            span,
-        };
-        return Ok((step, rest));
+        return Ok(step(operator, StepSide::Before, read.expr, span));
     }
-    let (target, rest) = unary(alloc, depth + 1, tokens)?;
-    assigned(alloc, depth, target, rest)
+    let target = unary(alloc, depth + 1, tokens)?;
+    assigned(alloc, depth, target, tokens)
 }
 
 /// The assignment to a target that is read.
@@ -297,34 +270,42 @@ pub fn assigned(
     alloc: Global,
     depth: u32,
     read: Operand,
-    tokens: &[Token],
-) -> Result<(Assignment, &[Token]), Stuck<'_>>
+    tokens: &mut &[Token],
+) -> Result<Assignment, Stuck>
     requires deep { depth < 200 }
     requires low { IsLow (suc depth) (expression_reach (expression read.expr.value)) }
-    ensures { Reads (λ x rest. SpellsAssigned (expression read.expr.value) read.outer tokens.now (views.assignment x) rest × IsLow depth (assignment_reach (views.assignment x))) (StuckAssigned depth tokens.now) result }
+    ensures { Reads (λ x rest. SpellsAssigned (expression read.expr.value) read.outer tokens.old.now (views.assignment x) rest × IsLow depth (assignment_reach (views.assignment x))) (StuckAssigned depth tokens.old.now) result tokens.new.now }
 {
-    if let Ok((operator, end, rest)) = step_operator(tokens) {
-        let side = StepSide::After;
-        let target = read.expr;
+    if let Ok((operator, end)) = step_operator(tokens) {
         let span = join(read.outer, end);
-        let step = Assignment::Step {
-            operator,
-            side,
-            target,
-            span,
-        };
-        return Ok((step, rest));
+        return Ok(step(operator, StepSide::After, read.expr, span));
     }
-    let (operator, _, rest) = store_operator(tokens)?;
-    let (stored, rest) = expression(alloc, depth + 1, rest)?;
+    let (operator, _) = store_operator(tokens)?;
+    let stored = expression(alloc, depth + 1, tokens)?;
     let span = join(read.outer, stored.outer);
-    let target = read.expr;
-    let value = stored.expr;
-    let store = Assignment::Store {
+    Ok(store(operator, read.expr, stored.expr, span))
+}
+
+/// A step, before or behind its target.
+fn step(operator: StepOperator, side: StepSide, target: Box<Expr>, span: Span) -> Assignment
+    ensures { views.assignment result ≡ views.Step operator side (expression target.value) span }
+{
+    Assignment::Step {
+        operator,
+        side,
+        target,
+        span,
+    }
+}
+
+/// A value that is stored.
+fn store(operator: StoreOperator, target: Box<Expr>, value: Box<Expr>, span: Span) -> Assignment
+    ensures { views.assignment result ≡ views.Store operator (expression target.value) (expression value.value) span }
+{
+    Assignment::Store {
         operator,
         target,
         value,
         span,
-    };
-    Ok((store, rest))
+    }
 }

@@ -1,6 +1,6 @@
 // Reading what stands at file level.
 
-ghost use Rattle.std.specs.Prelude.{◌≡◌, true, false, map, None, MatchOption};
+ghost use Rattle.std.specs.Prelude.{◌≡◌, false, map, None, MatchOption};
 ghost use Rattle.std.specs.Option.{option_map};
 ghost use Rattle.ckc_lexer.specs.declared.token.TokenKind.TheVariants as kinds;
 ghost use Rattle.ckc_tree.specs.Types.{type_tree, type_name};
@@ -12,22 +12,23 @@ ghost use Rattle.ckc_grammar.specs.Tokens as words;
 ghost use Rattle.ckc_grammar.specs.ItemGrammar.{SpellsTainted, SpellsKind, SpellsOptionalMark, SpellsMember, SpellsMembers, SpellsListed, SpellsParameters, SpellsResult, SpellsBody, SpellsRegion, SpellsItem, SpellsItems};
 ghost use Rattle.ckc_grammar.specs.TypeGrammar.{SpellsType};
 ghost use Rattle.ckc_grammar.specs.Failures.{IsLow};
-ghost use Rattle.ckc_parser.specs.Answers.{Reads, ReadsMark};
+ghost use Rattle.ckc_expr_parser.specs.Answers.{Reads, ReadsMark};
 ghost use Rattle.ckc_grammar.specs.StuckItems as marks;
 ghost use Rattle.ckc_grammar.specs.StuckItems.{IsLowMember, StuckMember, StuckMembers, StuckListed, StuckParameters, StuckBody, StuckItem};
-ghost use Rattle.ckc_parser.specs.StatementReadings.{ReadsWord};
+ghost use Rattle.ckc_expr_parser.specs.WordReadings.{ReadsWord};
 ghost use Rattle.ckc_parser.specs.ItemReadings.{IsScope, IsKindWord, SideAnswers, IsLed, IsBase, IsStructureHead, IsStructure, IsNamed, StuckNamed, StuckResult, IsHead};
 
 use crate::declarations::{Read, declarators, from_first, optional_bounds};
-use crate::memory::push;
 use crate::statements::statements;
-use crate::stuck::Stuck;
-use crate::terminal::{Terminal, expect};
-use crate::tokens::{
-    close_brace, close_paren, comma, copied, join, name, open_brace, open_paren, semicolon,
+use ckc_expr_parser::memory::push;
+use ckc_expr_parser::stuck::Stuck;
+use ckc_expr_parser::terminal::{Terminal, expect};
+use ckc_expr_parser::tokens::{
+    close_brace, close_paren, comma, copied, identifier, join, name, open_brace, open_paren,
+    semicolon,
 };
-use crate::types::{star_count, stars, type_form, type_name};
-use crate::words::mark;
+use ckc_expr_parser::types::{star_count, stars, type_form, type_name};
+use ckc_expr_parser::words::mark;
 use ckc_lexer::token::{CheckedScope, Token, TokenKind};
 use ckc_text::name::Name;
 use ckc_text::place::Span;
@@ -42,29 +43,32 @@ use std::alloc::Global;
 // ---- words
 
 /// The span of the word `void`.
-fn void_word(tokens: &[Token]) -> Result<(Span, &[Token]), Stuck<'_>>
-    ensures { ReadsMark kinds.Void marks.void_word tokens.now result }
+fn void_word(tokens: &mut &[Token]) -> Result<Span, Stuck>
+    ensures { ReadsMark kinds.Void marks.void_word tokens.old.now result tokens.new.now }
 {
     expect(Terminal::Void, tokens)
 }
 
 /// The span of the word `struct`.
-fn struct_word(tokens: &[Token]) -> Result<(Span, &[Token]), Stuck<'_>>
-    ensures { ReadsMark kinds.Struct marks.struct_word tokens.now result }
+fn struct_word(tokens: &mut &[Token]) -> Result<Span, Stuck>
+    ensures { ReadsMark kinds.Struct marks.struct_word tokens.old.now result tokens.new.now }
 {
     expect(Terminal::Struct, tokens)
 }
 
 /// What a directive says of all that stands behind it, with its span.
-fn region(tokens: &[Token]) -> Result<(Region, Span, &[Token]), Stuck<'_>>
-    ensures { ReadsWord IsScope marks.scope_word tokens.now result }
+fn region(tokens: &mut &[Token]) -> Result<(Region, Span), Stuck>
+    ensures { ReadsWord IsScope marks.scope_word tokens.old.now result tokens.new.now }
 {
-    match tokens {
-        [token, rest @ ..] => match &token.kind {
-            TokenKind::Scope(scope) => Ok((region_of(*scope), token.span, rest)),
-            _ => Err(Stuck::Unexpected { at: tokens }),
-        },
-        [] => Err(Stuck::Unexpected { at: tokens }),
+    let Some((token, rest)) = tokens.split_first() else {
+        return Err(Stuck::Unexpected);
+    };
+    match &token.kind {
+        TokenKind::Scope(scope) => {
+            *tokens = rest;
+            Ok((region_of(*scope), token.span))
+        }
+        _ => Err(Stuck::Unexpected),
     }
 }
 
@@ -79,53 +83,60 @@ fn region_of(scope: CheckedScope) -> Region
 }
 
 /// The word that says on which side a function runs, with its span.
-fn kind_word(tokens: &[Token]) -> Result<(FunctionKind, Span, &[Token]), Stuck<'_>>
-    ensures { ReadsWord IsKindWord words.kind_word tokens.now result }
+fn kind_word(tokens: &mut &[Token]) -> Result<(FunctionKind, Span), Stuck>
+    ensures { ReadsWord IsKindWord words.kind_word tokens.old.now result tokens.new.now }
 {
-    match tokens {
-        [token, rest @ ..] => match &token.kind {
-            TokenKind::Tainted => Ok((FunctionKind::Tainted, token.span, rest)),
-            TokenKind::Callback => Ok((FunctionKind::Callback, token.span, rest)),
-            _ => Err(Stuck::Unexpected { at: tokens }),
-        },
-        [] => Err(Stuck::Unexpected { at: tokens }),
+    let Some((token, rest)) = tokens.split_first() else {
+        return Err(Stuck::Unexpected);
+    };
+    match &token.kind {
+        TokenKind::Tainted => {
+            *tokens = rest;
+            Ok((FunctionKind::Tainted, token.span))
+        }
+        TokenKind::Callback => {
+            *tokens = rest;
+            Ok((FunctionKind::Callback, token.span))
+        }
+        _ => Err(Stuck::Unexpected),
     }
 }
 
 /// On which side a function runs, by the word that may stand before it.
-fn function_kind(tokens: &[Token]) -> (FunctionKind, &[Token])
-    ensures { SpellsKind tokens.now result.0 result.1.now }
+fn function_kind(tokens: &mut &[Token]) -> FunctionKind
+    ensures { SpellsKind tokens.old.now result tokens.new.now }
 {
     match kind_word(tokens) {
-        Ok((kind, _, rest)) => (kind, rest),
-        Err(_) => (FunctionKind::Trusted, tokens),
+        Ok((kind, _)) => kind,
+        Err(_) => FunctionKind::Trusted,
     }
 }
 
 /// What makes a function or its body a checked or an unchecked one, where it stands next.
-fn optional_mark(tokens: &[Token]) -> (Option<Mark>, &[Token])
-    ensures { SpellsOptionalMark tokens.now result.0 result.1.now }
+fn optional_mark(tokens: &mut &[Token]) -> Option<Mark>
+    ensures { SpellsOptionalMark tokens.old.now result tokens.new.now }
 {
     match mark(tokens) {
-        Ok((mark, _, rest)) => (Some(mark), rest),
-        Err(_) => (None, tokens),
+        Ok((mark, _)) => Some(mark),
+        Err(_) => None,
     }
 }
 
 // ---- items
 
 /// One item.
-pub fn item(alloc: Global, tokens: &[Token]) -> Result<(Item, &[Token]), Stuck<'_>>
-    ensures { Reads (λ x rest. SpellsItem tokens.now (views.item x) rest × IsLow 0 (item_reach (views.item x))) (StuckItem tokens.now) result }
+pub fn item(alloc: Global, tokens: &mut &[Token]) -> Result<Item, Stuck>
+    ensures { Reads (λ x rest. SpellsItem tokens.old.now (views.item x) rest × IsLow 0 (item_reach (views.item x))) (StuckItem tokens.old.now) result tokens.new.now }
 {
-    if let Ok((region, span, rest)) = region(tokens) {
-        return Ok((Item::Region { region, span }, rest));
+    let whole: &[Token] = *tokens;
+    if let Ok((region, span)) = region(tokens) {
+        return Ok(Item::Region { region, span });
     }
-    let (kind, rest) = function_kind(tokens);
-    let (mark, rest) = optional_mark(rest);
+    let kind = function_kind(tokens);
+    let mark = optional_mark(tokens);
     match side(kind, mark) {
-        Some(tainted) => unmarked(alloc, tokens, kind, tainted, rest),
-        None => alone(alloc, tokens, kind, mark, rest),
+        Some(tainted) => unmarked(alloc, whole, kind, tainted, tokens),
+        None => alone(alloc, whole, kind, mark, tokens),
     }
 }
 
@@ -144,65 +155,68 @@ fn side(kind: FunctionKind, mark: Option<Mark>) -> Option<bool>
 }
 
 /// A function, of which the words before its result are read.
-fn alone<'t>(
+fn alone(
     alloc: Global,
-    whole: &'t [Token],
+    whole: &[Token],
     kind: FunctionKind,
     mark: Option<Mark>,
-    tokens: &'t [Token],
-) -> Result<(Item, &'t [Token]), Stuck<'t>>
-    requires led { IsLed whole.now kind mark tokens.now }
+    tokens: &mut &[Token],
+) -> Result<Item, Stuck>
+    requires led { IsLed whole.now kind mark tokens.old.now }
     requires alone { SideAnswers kind mark None }
-    ensures { Reads (λ x rest. SpellsItem whole.now (views.item x) rest × IsLow 0 (item_reach (views.item x))) (StuckItem whole.now) result }
+    ensures { Reads (λ x rest. SpellsItem whole.now (views.item x) rest × IsLow 0 (item_reach (views.item x))) (StuckItem whole.now) result tokens.new.now }
 {
-    let (returned, rest) = returned(alloc, tokens)?;
-    let (named, rest) = named(rest)?;
-    function(alloc, whole, kind, mark, returned, named, rest)
+    let returned = returned(alloc, tokens)?;
+    let named = named(tokens)?;
+    function(alloc, whole, kind, mark, returned, named, tokens)
 }
 
 /// An item behind the word that may say that it is tainted, without a mark.
-fn unmarked<'t>(
+fn unmarked(
     alloc: Global,
-    whole: &'t [Token],
+    whole: &[Token],
     kind: FunctionKind,
     tainted: bool,
-    tokens: &'t [Token],
-) -> Result<(Item, &'t [Token]), Stuck<'t>>
-    requires led { IsLed whole.now kind None tokens.now }
-    requires tainted { SpellsTainted whole.now tainted tokens.now }
-    ensures { Reads (λ x rest. SpellsItem whole.now (views.item x) rest × IsLow 0 (item_reach (views.item x))) (StuckItem whole.now) result }
+    tokens: &mut &[Token],
+) -> Result<Item, Stuck>
+    requires led { IsLed whole.now kind None tokens.old.now }
+    requires tainted { SpellsTainted whole.now tainted tokens.old.now }
+    ensures { Reads (λ x rest. SpellsItem whole.now (views.item x) rest × IsLow 0 (item_reach (views.item x))) (StuckItem whole.now) result tokens.new.now }
 {
-    if let Ok((span, rest)) = void_word(tokens) {
+    if let Ok(span) = void_word(tokens) {
         let returned = ResultForm::Void { span };
-        let (named, rest) = named(rest)?;
-        return function(alloc, whole, kind, None, returned, named, rest);
+        let named = named(tokens)?;
+        return function(alloc, whole, kind, None, returned, named, tokens);
     }
     if let Some((tag, span, rest)) = structure_head(tokens) {
-        return structure(alloc, whole, tainted, tag, span, rest);
+        *tokens = rest;
+        return structure(alloc, whole, tainted, tag, span, tokens);
     }
-    let (base, rest) = type_form(alloc, 0, tokens)?;
-    match named(rest) {
-        Ok((named, behind)) => {
+    let base = type_form(alloc, 0, tokens)?;
+    let mut ahead: &[Token] = *tokens;
+    match named(&mut ahead) {
+        Ok(named) => {
+            *tokens = ahead;
             let returned = ResultForm::Value { base: base.form };
-            function(alloc, whole, kind, None, returned, named, behind)
+            function(alloc, whole, kind, None, returned, named, tokens)
         }
-        Err(_) => variables(alloc, whole, tainted, base.form, rest),
+        Err(_) => variables(alloc, whole, tainted, base.form, tokens),
     }
 }
 
 /// File-level variables behind their type.
-fn variables<'t>(
+fn variables(
     alloc: Global,
-    whole: &'t [Token],
+    whole: &[Token],
     tainted: bool,
     base: TypeForm,
-    tokens: &'t [Token],
-) -> Result<(Item, &'t [Token]), Stuck<'t>>
-    requires { IsBase whole.now tainted (type_tree base) tokens.now }
-    ensures { Reads (λ x rest. SpellsItem whole.now (views.item x) rest × IsLow 0 (item_reach (views.item x))) (StuckItem whole.now) result }
+    tokens: &mut &[Token],
+) -> Result<Item, Stuck>
+    requires { IsBase whole.now tainted (type_tree base) tokens.old.now }
+    ensures { Reads (λ x rest. SpellsItem whole.now (views.item x) rest × IsLow 0 (item_reach (views.item x))) (StuckItem whole.now) result tokens.new.now }
 {
-    let (read, rest) = declarators(alloc, 0, tokens)?;
-    let (end, rest) = semicolon(rest)?;
+    let read = declarators(alloc, 0, tokens)?;
+    let end = semicolon(tokens)?;
     let declarators = read.form;
     let span = from_first(whole, end);
     let global = Variables {
@@ -211,7 +225,7 @@ fn variables<'t>(
         declarators,
         span,
     };
-    Ok((Item::Global { global }, rest))
+    Ok(Item::Global { global })
 }
 
 // ---- structures
@@ -220,32 +234,33 @@ fn variables<'t>(
 fn structure_head(tokens: &[Token]) -> Option<(&Name, Span, &[Token])>
     ensures { MatchOption result (marks.is_structure tokens.now ≡ false) (λ found. IsStructureHead found.0.now found.1 tokens.now found.2.now) }
 {
-    let Ok((_, rest)) = struct_word(tokens) else {
+    let mut rest = tokens;
+    let Ok(_) = struct_word(&mut rest) else {
         return None;
     };
-    let Ok((tag, span, rest)) = name(rest) else {
+    let Ok((tag, span)) = name(&mut rest) else {
         return None;
     };
-    match open_brace(rest) {
-        Ok((_, rest)) => Some((tag, span, rest)),
+    match open_brace(&mut rest) {
+        Ok(_) => Some((tag, span, rest)),
         Err(_) => None,
     }
 }
 
 /// A struct behind its brace.
-fn structure<'t>(
+fn structure(
     alloc: Global,
-    whole: &'t [Token],
+    whole: &[Token],
     tainted: bool,
     tag: &Name,
     span: Span,
-    tokens: &'t [Token],
-) -> Result<(Item, &'t [Token]), Stuck<'t>>
-    requires { IsStructure whole.now tainted tag.now span tokens.now }
-    ensures { Reads (λ x rest. SpellsItem whole.now (views.item x) rest × IsLow 0 (item_reach (views.item x))) (StuckItem whole.now) result }
+    tokens: &mut &[Token],
+) -> Result<Item, Stuck>
+    requires { IsStructure whole.now tainted tag.now span tokens.old.now }
+    ensures { Reads (λ x rest. SpellsItem whole.now (views.item x) rest × IsLow 0 (item_reach (views.item x))) (StuckItem whole.now) result tokens.new.now }
 {
-    let (members, rest) = members(alloc, tokens)?;
-    let (end, rest) = semicolon(rest)?;
+    let members = members(alloc, tokens)?;
+    let end = semicolon(tokens)?;
     let tag = copied(alloc, tag, span)?;
     let span = from_first(whole, end);
     let structure = Structure {
@@ -254,42 +269,40 @@ fn structure<'t>(
         members,
         span,
     };
-    Ok((Item::Structure { structure }, rest))
+    Ok(Item::Structure { structure })
 }
 
 /// A type with stars and a name, and bounds where they are written. The span is that of all.
-fn member(alloc: Global, tokens: &[Token]) -> Result<(Member, &[Token]), Stuck<'_>>
-    ensures { Reads (λ x rest. SpellsMember tokens.now (type_name x.type_name) x.name (option_map bounds x.bounds) x.span rest × IsLowMember (type_name x.type_name) (option_map bounds x.bounds)) (StuckMember tokens.now) result }
+fn member(alloc: Global, tokens: &mut &[Token]) -> Result<Member, Stuck>
+    ensures { Reads (λ x rest. SpellsMember tokens.old.now (type_name x.type_name) x.name (option_map bounds x.bounds) x.span rest × IsLowMember (type_name x.type_name) (option_map bounds x.bounds)) (StuckMember tokens.old.now) result tokens.new.now }
 {
-    let (read, rest) = type_name(alloc, 0, tokens)?;
-    let (name, end, rest) = name(rest)?;
-    let so_far = from_first(tokens, end);
-    let (bounds, rest) = optional_bounds(alloc, 0, so_far, rest)?;
-    let name = copied(alloc, name, end)?;
+    let whole: &[Token] = *tokens;
+    let read = type_name(alloc, 0, tokens)?;
+    let name = identifier(alloc, tokens)?;
+    let so_far = from_first(whole, name.span);
+    let bounds = optional_bounds(alloc, 0, so_far, tokens)?;
     let member = Member {
         type_name: read.type_name,
         name,
         bounds: bounds.form,
         span: bounds.span,
     };
-    Ok((member, rest))
+    Ok(member)
 }
 
 /// At least one member, each with its semicolon, and the brace behind them.
-fn members(alloc: Global, tokens: &[Token]) -> Result<(Vec<Member>, &[Token]), Stuck<'_>>
-    ensures { Reads (λ x rest. SpellsMembers tokens.now (map views.member x.items) rest × IsLow 0 (members_reach (map views.member x.items))) (StuckMembers tokens.now) result }
+fn members(alloc: Global, tokens: &mut &[Token]) -> Result<Vec<Member>, Stuck>
+    ensures { Reads (λ x rest. SpellsMembers tokens.old.now (map views.member x.items) rest × IsLow 0 (members_reach (map views.member x.items))) (StuckMembers tokens.old.now) result tokens.new.now }
 {
     let mut members = Vec::new(alloc);
-    let mut rest = tokens;
     'members: loop {
-        let (mut item, behind) = member(alloc, rest)?;
-        let (end, behind) = semicolon(behind)?;
+        let mut item = member(alloc, tokens)?;
+        let end = semicolon(tokens)?;
         item.span = join(item.span, end);
         push(&mut members, item)?;
-        if let Ok((_, behind)) = close_brace(behind) {
-            return Ok((members, behind));
+        if let Ok(_) = close_brace(tokens) {
+            return Ok(members);
         }
-        rest = behind;
     }
 }
 
@@ -304,43 +317,43 @@ struct Callee<'t> {
 }
 
 /// Stars, a name and a parenthesis.
-fn named(tokens: &[Token]) -> Result<(Callee<'_>, &[Token]), Stuck<'_>>
-    ensures { Reads (λ x rest. IsNamed x.stars x.name.now x.span tokens.now rest) (StuckNamed tokens.now) result }
+fn named<'t>(tokens: &mut &'t [Token]) -> Result<Callee<'t>, Stuck>
+    ensures { Reads (λ x rest. IsNamed x.stars x.name.now x.span tokens.old.now rest) (StuckNamed tokens.old.now) result tokens.new.now }
 {
-    let (stars, rest) = stars(tokens);
-    let (name, span, rest) = name(rest)?;
-    let (_, rest) = open_paren(rest)?;
-    Ok((Callee { stars, name, span }, rest))
+    let stars = stars(tokens);
+    let (name, span) = name(tokens)?;
+    open_paren(tokens)?;
+    Ok(Callee { stars, name, span })
 }
 
 /// What a function returns, without stars.
-fn returned(alloc: Global, tokens: &[Token]) -> Result<(ResultForm, &[Token]), Stuck<'_>>
-    ensures { Reads (λ x rest. SpellsResult tokens.now (views.result_form x) rest × IsLow 0 (result_reach (views.result_form x))) (StuckResult tokens.now) result }
+fn returned(alloc: Global, tokens: &mut &[Token]) -> Result<ResultForm, Stuck>
+    ensures { Reads (λ x rest. SpellsResult tokens.old.now (views.result_form x) rest × IsLow 0 (result_reach (views.result_form x))) (StuckResult tokens.old.now) result tokens.new.now }
 {
-    if let Ok((span, rest)) = void_word(tokens) {
-        return Ok((ResultForm::Void { span }, rest));
+    if let Ok(span) = void_word(tokens) {
+        return Ok(ResultForm::Void { span });
     }
-    let (base, rest) = type_form(alloc, 0, tokens)?;
-    Ok((ResultForm::Value { base: base.form }, rest))
+    let base = type_form(alloc, 0, tokens)?;
+    Ok(ResultForm::Value { base: base.form })
 }
 
 /// A function behind the parenthesis that opens.
-fn function<'t>(
+fn function(
     alloc: Global,
-    whole: &'t [Token],
+    whole: &[Token],
     kind: FunctionKind,
     mark: Option<Mark>,
     returned: ResultForm,
-    named: Callee<'t>,
-    tokens: &'t [Token],
-) -> Result<(Item, &'t [Token]), Stuck<'t>>
-    requires { IsHead whole.now kind mark (views.result_form returned) named.stars named.name.now named.span tokens.now }
-    ensures { Reads (λ x rest. SpellsItem whole.now (views.item x) rest × IsLow 0 (item_reach (views.item x))) (StuckItem whole.now) result }
+    named: Callee<'_>,
+    tokens: &mut &[Token],
+) -> Result<Item, Stuck>
+    requires { IsHead whole.now kind mark (views.result_form returned) named.stars named.name.now named.span tokens.old.now }
+    ensures { Reads (λ x rest. SpellsItem whole.now (views.item x) rest × IsLow 0 (item_reach (views.item x))) (StuckItem whole.now) result tokens.new.now }
 {
-    let (parameters, rest) = parameters(alloc, tokens)?;
+    let parameters = parameters(alloc, tokens)?;
     let so_far = from_first(whole, parameters.span);
-    let (bounds, rest) = optional_bounds(alloc, 0, so_far, rest)?;
-    let (body, rest) = body(alloc, rest)?;
+    let bounds = optional_bounds(alloc, 0, so_far, tokens)?;
+    let body = body(alloc, tokens)?;
     let stars = star_count(named.stars)?;
     let name = copied(alloc, named.name, named.span)?;
     let function = Function {
@@ -354,27 +367,27 @@ fn function<'t>(
         body: body.form,
         span: from_first(whole, body.span),
     };
-    Ok((Item::Function { function }, rest))
+    Ok(Item::Function { function })
 }
 
 /// The parameters of a function, and the parenthesis behind them, whose span is given.
-fn parameters(alloc: Global, tokens: &[Token]) -> Result<(Read<Parameters>, &[Token]), Stuck<'_>>
-    ensures { Reads (λ x rest. SpellsParameters tokens.now (views.parameters x.form) x.span rest × IsLow 0 (parameters_reach (views.parameters x.form))) (StuckParameters tokens.now) result }
+fn parameters(alloc: Global, tokens: &mut &[Token]) -> Result<Read<Parameters>, Stuck>
+    ensures { Reads (λ x rest. SpellsParameters tokens.old.now (views.parameters x.form) x.span rest × IsLow 0 (parameters_reach (views.parameters x.form))) (StuckParameters tokens.old.now) result tokens.new.now }
 {
-    if let Ok((span, rest)) = close_paren(tokens) {
+    if let Ok(span) = close_paren(tokens) {
         let form = Parameters::Nothing;
-        return Ok((Read { form, span }, rest));
+        return Ok(Read { form, span });
     }
-    if let Ok((_, rest)) = void_word(tokens) {
-        let (span, rest) = close_paren(rest)?;
+    if let Ok(_) = void_word(tokens) {
+        let span = close_paren(tokens)?;
         let form = Parameters::Void;
-        return Ok((Read { form, span }, rest));
+        return Ok(Read { form, span });
     }
-    let (read, rest) = listed(alloc, tokens)?;
+    let read = listed(alloc, tokens)?;
     let span = read.span;
     let parameters = read.form;
     let form = Parameters::Listed { parameters };
-    Ok((Read { form, span }, rest))
+    Ok(Read { form, span })
 }
 
 /// A parameter, which reads as a member does.
@@ -390,39 +403,38 @@ fn parameter(member: Member) -> Parameter
 }
 
 /// At least one parameter, and the parenthesis behind them, whose span is given.
-fn listed(alloc: Global, tokens: &[Token]) -> Result<(Read<Vec<Parameter>>, &[Token]), Stuck<'_>>
-    ensures { Reads (λ x rest. SpellsListed tokens.now (map views.parameter x.form.items) x.span rest × IsLow 0 (members_reach (map views.parameter x.form.items))) (StuckListed tokens.now) result }
+fn listed(alloc: Global, tokens: &mut &[Token]) -> Result<Read<Vec<Parameter>>, Stuck>
+    ensures { Reads (λ x rest. SpellsListed tokens.old.now (map views.parameter x.form.items) x.span rest × IsLow 0 (members_reach (map views.parameter x.form.items))) (StuckListed tokens.old.now) result tokens.new.now }
 {
     let mut form = Vec::new(alloc);
-    let mut rest = tokens;
     'listed: loop {
-        let (item, behind) = member(alloc, rest)?;
+        let item = member(alloc, tokens)?;
         push(&mut form, parameter(item))?;
-        if let Ok((span, behind)) = close_paren(behind) {
-            return Ok((Read { form, span }, behind));
+        if let Ok(span) = close_paren(tokens) {
+            return Ok(Read { form, span });
         }
-        let (_, behind) = comma(behind)?;
-        rest = behind;
+        comma(tokens)?;
     }
 }
 
 /// What ends a function: a semicolon or a body, with its span.
-fn body(alloc: Global, tokens: &[Token]) -> Result<(Read<Option<Block>>, &[Token]), Stuck<'_>>
-    ensures { Reads (λ x rest. SpellsBody tokens.now (option_map views.body x.form) x.span rest × IsLow 0 (optional_body_reach (option_map views.body x.form))) (StuckBody tokens.now) result }
+fn body(alloc: Global, tokens: &mut &[Token]) -> Result<Read<Option<Block>>, Stuck>
+    ensures { Reads (λ x rest. SpellsBody tokens.old.now (option_map views.body x.form) x.span rest × IsLow 0 (optional_body_reach (option_map views.body x.form))) (StuckBody tokens.old.now) result tokens.new.now }
 {
-    if let Ok((span, rest)) = semicolon(tokens) {
+    if let Ok(span) = semicolon(tokens) {
         let form = None;
-        return Ok((Read { form, span }, rest));
+        return Ok(Read { form, span });
     }
-    let (mark, rest) = optional_mark(tokens);
-    let (_, rest) = open_brace(rest)?;
-    let (read, rest) = statements(alloc, 1, rest)?;
+    let whole: &[Token] = *tokens;
+    let mark = optional_mark(tokens);
+    open_brace(tokens)?;
+    let read = statements(alloc, 1, tokens)?;
     let statements = read.form;
-    let span = from_first(tokens, read.span);
+    let span = from_first(whole, read.span);
     let form = Some(Block {
         mark,
         statements,
         span,
     });
-    Ok((Read { form, span }, rest))
+    Ok(Read { form, span })
 }

@@ -9,12 +9,11 @@ ghost use Rattle.ckc_tree.specs.Heights.{items_reach};
 ghost use Rattle.ckc_grammar.specs.ItemGrammar.{SpellsItems};
 ghost use Rattle.ckc_grammar.specs.StuckItems.{StuckItems};
 ghost use Rattle.ckc_grammar.specs.Failures.{IsLow};
-ghost use Rattle.ckc_parser.specs.Answers.{failure};
+ghost use Rattle.ckc_expr_parser.specs.Answers.{failure};
 
 use crate::items::item;
-use crate::memory::push;
-use crate::stuck::Stuck;
-use crate::tokens::first;
+use ckc_expr_parser::memory::push;
+use ckc_expr_parser::stuck::Stuck;
 use ckc_lexer::token::Token;
 use ckc_text::code::Code;
 use ckc_text::fault::{Refused, SourceFault};
@@ -32,7 +31,8 @@ use std::alloc::Global;
 pub fn parse(alloc: Global, source_len: u32, tokens: &[Token]) -> Result<Program, Refused>
     ensures { ParseAnswers source_len tokens.now result }
 {
-    match items(alloc, tokens) {
+    let mut rest = tokens;
+    match items(alloc, &mut rest) {
         Ok(items) => {
             let span = Span {
                 from: 0,
@@ -40,33 +40,29 @@ pub fn parse(alloc: Global, source_len: u32, tokens: &[Token]) -> Result<Program
             };
             Ok(Program { items, span })
         }
-        Err(stuck) => Err(refused(source_len, stuck)),
+        Err(stuck) => Err(refused(source_len, stuck, rest)),
     }
 }
 
 /// All items.
-fn items(alloc: Global, tokens: &[Token]) -> Result<Vec<Item>, Stuck<'_>>
-    ensures { MatchResult result (λ found. SpellsItems tokens.now (map item found.items) × IsLow 0 (items_reach (map item found.items))) (λ e. StuckItems tokens.now (failure e)) }
+fn items(alloc: Global, tokens: &mut &[Token]) -> Result<Vec<Item>, Stuck>
+    ensures { MatchResult result (λ found. SpellsItems tokens.old.now (map item found.items) × IsLow 0 (items_reach (map item found.items))) (λ e. StuckItems tokens.old.now (failure e tokens.new.now)) }
 {
     let mut items = Vec::new(alloc);
-    let mut rest = tokens;
-    'items: loop {
-        let Ok(_) = first(rest) else {
-            return Ok(items);
-        };
-        let (item, behind) = item(alloc, rest)?;
+    'items: while let Some(_) = tokens.split_first() {
+        let item = item(alloc, tokens)?;
         push(&mut items, item)?;
-        rest = behind;
     }
+    Ok(items)
 }
 
-/// The refusal of a source of so many bytes.
-fn refused(source_len: u32, stuck: Stuck<'_>) -> Refused
-    ensures { (tokens : List TokenOf) → FaultIs source_len tokens (failure stuck.entry) → ParseAnswers source_len tokens (Err result) }
+/// The refusal of a source of so many bytes, where reading stopped before these tokens.
+fn refused(source_len: u32, stuck: Stuck, rest: &[Token]) -> Refused
+    ensures { (tokens : List TokenOf) → FaultIs source_len tokens (failure stuck rest.now) → ParseAnswers source_len tokens (Err result) }
 {
     match stuck {
-        Stuck::Unexpected { at } => {
-            let span = match at.split_first() {
+        Stuck::Unexpected => {
+            let span = match rest.split_first() {
                 Some((token, _)) => token.span,
                 None => point(source_len),
             };

@@ -1,6 +1,6 @@
 // Reading statements.
 
-ghost use Rattle.std.specs.Prelude.{◌≡◌, ℕ, ◌∷◌, ◌≤◌, ◌<◌, suc, true, false, map, None, Some, IfOk, MatchOption};
+ghost use Rattle.std.specs.Prelude.{◌≡◌, ℕ, ◌∷◌, ◌≤◌, ◌<◌, suc, true, false, map, None, Some};
 ghost use Rattle.std.specs.Option.{option_map};
 ghost use Rattle.ckc_lexer.specs.declared.token.TokenKind.TheVariants as kinds;
 ghost use Rattle.ckc_tree.specs.Expressions.{expression};
@@ -10,20 +10,20 @@ ghost use Rattle.ckc_tree.specs.Heights.{expression_reach, assignments_reach, fo
 ghost use Rattle.ckc_grammar.specs.Tokens.{token, join, next_is};
 ghost use Rattle.ckc_grammar.specs.StatementGrammar.{SpellsAssignments, SpellsForInitial, SpellsForStep, SpellsStatement, SpellsStatements};
 ghost use Rattle.ckc_grammar.specs.Failures.{IsLow};
-ghost use Rattle.ckc_parser.specs.Answers.{Reads};
+ghost use Rattle.ckc_expr_parser.specs.Answers.{Reads};
 ghost use Rattle.ckc_grammar.specs.StuckTypes.{type_word, name_token};
-ghost use Rattle.ckc_grammar.specs.StuckStatements.{plain_word, statement_word, assignment_word, is_call_alone, StuckAssignments, StuckForInitial, StuckForCondition, StuckForStep, StuckCondition, StuckStatement, StuckStatements};
-ghost use Rattle.ckc_parser.specs.StatementReadings.{SpellsCondition, SpellsEnd, IsCallEnd, IsForHead};
+ghost use Rattle.ckc_grammar.specs.StuckStatements.{plain_word, statement_word, assignment_word, StuckAssignments, StuckForInitial, StuckForCondition, StuckForStep, StuckCondition, StuckStatement, StuckStatements};
+ghost use Rattle.ckc_parser.specs.StatementReadings.{SpellsCondition, SpellsEnd, EndsCall, IsForHead, jump_word, jump};
 
 use crate::declarations::{Read, assigned, assignment, declaration, starts_assignment};
-use crate::expressions::{expression, unary};
-use crate::memory::{boxed, push};
-use crate::stuck::Stuck;
-use crate::tokens::{
-    MAX_DEPTH, close_brace, close_paren, first, join, name, open_brace, open_paren, semicolon,
+use ckc_expr_parser::expressions::{expression, unary};
+use ckc_expr_parser::memory::{boxed, push};
+use ckc_expr_parser::stuck::Stuck;
+use ckc_expr_parser::tokens::{
+    MAX_DEPTH, close_brace, close_paren, join, open_brace, open_paren, semicolon,
 };
-use crate::types::starts_type;
-use crate::words::{else_word, mark};
+use ckc_expr_parser::types::starts_type;
+use ckc_expr_parser::words::{else_word, mark};
 use ckc_lexer::token::{Token, TokenKind};
 use ckc_text::place::Span;
 use ckc_tree::expr::Expr;
@@ -59,17 +59,15 @@ fn starts_statement(kind: &TokenKind) -> bool
 
 /// A statement with at most `depth` nodes around it.
 #[cycle(statements)]
-pub fn statement(
-    alloc: Global,
-    depth: u32,
-    tokens: &[Token],
-) -> Result<(Box<Stmt>, &[Token]), Stuck<'_>>
+pub fn statement(alloc: Global, depth: u32, tokens: &mut &[Token]) -> Result<Box<Stmt>, Stuck>
     requires { depth ≤ 200 }
-    ensures { Reads (λ x rest. SpellsStatement tokens.now (views.statement x.value) rest × IsLow depth (statement_reach (views.statement x.value))) (StuckStatement depth tokens.now) result }
+    ensures { Reads (λ x rest. SpellsStatement tokens.old.now (views.statement x.value) rest × IsLow depth (statement_reach (views.statement x.value))) (StuckStatement depth tokens.old.now) result tokens.new.now }
 {
-    let (token, _) = first(tokens)?;
+    let Some((token, _)) = tokens.split_first() else {
+        return Err(Stuck::Unexpected);
+    };
     if !starts_statement(&token.kind) {
-        return Err(Stuck::Unexpected { at: tokens });
+        return Err(Stuck::Unexpected);
     }
     if depth >= MAX_DEPTH {
         let start = token.span.from;
@@ -86,66 +84,61 @@ pub fn statement(
 
 /// A statement that begins with none of a type, an expression or an assignment.
 #[cycle(statements)]
-fn plain(alloc: Global, depth: u32, tokens: &[Token]) -> Result<(Box<Stmt>, &[Token]), Stuck<'_>>
+fn plain(alloc: Global, depth: u32, tokens: &mut &[Token]) -> Result<Box<Stmt>, Stuck>
     requires deep { depth < 200 }
-    requires word { next_is plain_word tokens.now ≡ true }
-    ensures { Reads (λ x rest. SpellsStatement tokens.now (views.statement x.value) rest × IsLow depth (statement_reach (views.statement x.value))) (StuckStatement depth tokens.now) result }
+    requires word { next_is plain_word tokens.old.now ≡ true }
+    ensures { Reads (λ x rest. SpellsStatement tokens.old.now (views.statement x.value) rest × IsLow depth (statement_reach (views.statement x.value))) (StuckStatement depth tokens.old.now) result tokens.new.now }
 {
-    if let Ok((mark, start, rest)) = mark(tokens) {
-        let (_, rest) = open_brace(rest)?;
-        let (read, rest) = statements(alloc, depth + 1, rest)?;
-        let stmt = boxed(alloc, block(Some(mark), start, read))?;
-        return Ok((stmt, rest));
+    if let Ok((mark, start)) = mark(tokens) {
+        open_brace(tokens)?;
+        let read = statements(alloc, depth + 1, tokens)?;
+        return Ok(boxed(alloc, block(Some(mark), start, read))?);
     }
-    if let Ok((start, rest)) = open_brace(tokens) {
-        let (inner, rest) = statements(alloc, depth + 1, rest)?;
-        let unmarked = boxed(alloc, block(None, start, inner))?;
-        return Ok((unmarked, rest));
+    if let Ok(start) = open_brace(tokens) {
+        let inner = statements(alloc, depth + 1, tokens)?;
+        return Ok(boxed(alloc, block(None, start, inner))?);
     }
-    let (token, rest) = first(tokens)?;
+    let Some((token, rest)) = tokens.split_first() else {
+        return Err(Stuck::Unexpected);
+    };
     let start = token.span;
+    *tokens = rest;
     match &token.kind {
-        TokenKind::Bundled => bundle(alloc, depth, start, rest),
-        TokenKind::If => if_statement(alloc, depth, start, rest),
-        TokenKind::While => while_statement(alloc, depth, start, rest),
-        TokenKind::For => for_statement(alloc, depth, start, rest),
-        TokenKind::Return => return_statement(alloc, depth, start, rest),
-        TokenKind::Break => break_statement(alloc, start, rest),
-        TokenKind::Continue => continue_statement(alloc, start, rest),
-        TokenKind::Semicolon => {
-            let empty = boxed(alloc, Stmt::Empty { span: start })?;
-            Ok((empty, rest))
-        }
-        _ => Err(Stuck::Unexpected { at: tokens }),
+        TokenKind::Bundled => bundle(alloc, depth, start, tokens),
+        TokenKind::If => if_statement(alloc, depth, start, tokens),
+        TokenKind::While => while_statement(alloc, depth, start, tokens),
+        TokenKind::For => for_statement(alloc, depth, start, tokens),
+        TokenKind::Return => return_statement(alloc, depth, start, tokens),
+        TokenKind::Break => jump(alloc, true, start, tokens),
+        TokenKind::Continue => jump(alloc, false, start, tokens),
+        TokenKind::Semicolon => Ok(boxed(alloc, Stmt::Empty { span: start })?),
+        _ => Err(Stuck::Unexpected),
     }
 }
 
-/// What stands behind the word `break`.
-fn break_statement(
+/// What stands behind the word `break`, or `continue`.
+fn jump(
     alloc: Global,
+    is_break: bool,
     start: Span,
-    tokens: &[Token],
-) -> Result<(Box<Stmt>, &[Token]), Stuck<'_>>
-    ensures { (depth : ℕ) → depth < 200 → Reads (λ x rest. SpellsStatement (token kinds.Break start ∷ tokens.now) (views.statement x.value) rest × IsLow depth (statement_reach (views.statement x.value))) (StuckStatement depth (token kinds.Break start ∷ tokens.now)) result }
+    tokens: &mut &[Token],
+) -> Result<Box<Stmt>, Stuck>
+    ensures { (depth : ℕ) → depth < 200 → Reads (λ x rest. SpellsStatement (token (jump_word is_break) start ∷ tokens.old.now) (views.statement x.value) rest × IsLow depth (statement_reach (views.statement x.value))) (StuckStatement depth (token (jump_word is_break) start ∷ tokens.old.now)) result tokens.new.now }
 {
-    let (end, rest) = semicolon(tokens)?;
+    let end = semicolon(tokens)?;
     let span = join(start, end);
-    let stmt = boxed(alloc, Stmt::Break { span })?;
-    Ok((stmt, rest))
+    Ok(boxed(alloc, jumped(is_break, span))?)
 }
 
-/// What stands behind the word `continue`.
-fn continue_statement(
-    alloc: Global,
-    start: Span,
-    tokens: &[Token],
-) -> Result<(Box<Stmt>, &[Token]), Stuck<'_>>
-    ensures { (depth : ℕ) → depth < 200 → Reads (λ x rest. SpellsStatement (token kinds.Continue start ∷ tokens.now) (views.statement x.value) rest × IsLow depth (statement_reach (views.statement x.value))) (StuckStatement depth (token kinds.Continue start ∷ tokens.now)) result }
+/// A `break`, or a `continue`.
+fn jumped(is_break: bool, span: Span) -> Stmt
+    ensures { views.statement result ≡ jump is_break span }
 {
-    let (end, rest) = semicolon(tokens)?;
-    let span = join(start, end);
-    let stmt = boxed(alloc, Stmt::Continue { span })?;
-    Ok((stmt, rest))
+    if is_break {
+        Stmt::Break { span }
+    } else {
+        Stmt::Continue { span }
+    }
 }
 
 /// The statements of a block, and the brace behind them, whose span is given.
@@ -153,20 +146,18 @@ fn continue_statement(
 pub fn statements(
     alloc: Global,
     depth: u32,
-    tokens: &[Token],
-) -> Result<(Read<Vec<Stmt>>, &[Token]), Stuck<'_>>
+    tokens: &mut &[Token],
+) -> Result<Read<Vec<Stmt>>, Stuck>
     requires { depth ≤ 200 }
-    ensures { Reads (λ x rest. SpellsStatements tokens.now (statement_list x.form.items) x.span rest × IsLow depth (statements_reach (statement_list x.form.items))) (StuckStatements depth tokens.now) result }
+    ensures { Reads (λ x rest. SpellsStatements tokens.old.now (statement_list x.form.items) x.span rest × IsLow depth (statements_reach (statement_list x.form.items))) (StuckStatements depth tokens.old.now) result tokens.new.now }
 {
     let mut form = Vec::new(alloc);
-    let mut rest = tokens;
     'statements: loop {
-        if let Ok((span, behind)) = close_brace(rest) {
-            return Ok((Read { form, span }, behind));
+        if let Ok(span) = close_brace(tokens) {
+            return Ok(Read { form, span });
         }
-        let (item, behind) = statement(alloc, depth, rest)?;
+        let item = statement(alloc, depth, tokens)?;
         push(&mut form, Box::into_inner(item))?;
-        rest = behind;
     }
 }
 
@@ -187,88 +178,85 @@ fn block(mark: Option<Mark>, start: Span, read: Read<Vec<Stmt>>) -> Stmt
 fn assignments(
     alloc: Global,
     depth: u32,
-    tokens: &[Token],
-) -> Result<(Read<Vec<Assignment>>, &[Token]), Stuck<'_>>
+    tokens: &mut &[Token],
+) -> Result<Read<Vec<Assignment>>, Stuck>
     requires { depth ≤ 200 }
-    ensures { Reads (λ x rest. SpellsAssignments tokens.now (map views.assignment x.form.items) x.span rest × IsLow depth (assignments_reach (map views.assignment x.form.items))) (StuckAssignments depth tokens.now) result }
+    ensures { Reads (λ x rest. SpellsAssignments tokens.old.now (map views.assignment x.form.items) x.span rest × IsLow depth (assignments_reach (map views.assignment x.form.items))) (StuckAssignments depth tokens.old.now) result tokens.new.now }
 {
     let mut form = Vec::new(alloc);
-    let mut rest = tokens;
     'assignments: loop {
-        if let Ok((span, behind)) = close_brace(rest) {
-            return Ok((Read { form, span }, behind));
+        if let Ok(span) = close_brace(tokens) {
+            return Ok(Read { form, span });
         }
-        let (item, behind) = assignment(alloc, depth, rest)?;
-        let (_, behind) = semicolon(behind)?;
+        let item = assignment(alloc, depth, tokens)?;
+        semicolon(tokens)?;
         push(&mut form, item)?;
-        rest = behind;
     }
 }
 
 /// What stands behind the word of a bundle.
-fn bundle(
-    alloc: Global,
-    depth: u32,
-    start: Span,
-    tokens: &[Token],
-) -> Result<(Box<Stmt>, &[Token]), Stuck<'_>>
+fn bundle(alloc: Global, depth: u32, start: Span, tokens: &mut &[Token]) -> Result<Box<Stmt>, Stuck>
     requires { depth < 200 }
-    ensures { Reads (λ x rest. SpellsStatement (token kinds.Bundled start ∷ tokens.now) (views.statement x.value) rest × IsLow depth (statement_reach (views.statement x.value))) (StuckStatement depth (token kinds.Bundled start ∷ tokens.now)) result }
+    ensures { Reads (λ x rest. SpellsStatement (token kinds.Bundled start ∷ tokens.old.now) (views.statement x.value) rest × IsLow depth (statement_reach (views.statement x.value))) (StuckStatement depth (token kinds.Bundled start ∷ tokens.old.now)) result tokens.new.now }
 {
-    let (_, rest) = open_brace(tokens)?;
-    let (read, rest) = assignments(alloc, depth + 1, rest)?;
+    open_brace(tokens)?;
+    let read = assignments(alloc, depth + 1, tokens)?;
     let assignments = read.form;
     let span = join(start, read.span);
-    let stmt = boxed(alloc, Stmt::Bundle { assignments, span })?;
-    Ok((stmt, rest))
+    Ok(boxed(alloc, Stmt::Bundle { assignments, span })?)
 }
 
 /// A declaration and its semicolon.
-fn declared(alloc: Global, depth: u32, tokens: &[Token]) -> Result<(Box<Stmt>, &[Token]), Stuck<'_>>
+fn declared(alloc: Global, depth: u32, tokens: &mut &[Token]) -> Result<Box<Stmt>, Stuck>
     requires deep { depth < 200 }
-    requires typed { next_is type_word tokens.now ≡ true }
-    ensures { Reads (λ x rest. SpellsStatement tokens.now (views.statement x.value) rest × IsLow depth (statement_reach (views.statement x.value))) (StuckStatement depth tokens.now) result }
+    requires typed { next_is type_word tokens.old.now ≡ true }
+    ensures { Reads (λ x rest. SpellsStatement tokens.old.now (views.statement x.value) rest × IsLow depth (statement_reach (views.statement x.value))) (StuckStatement depth tokens.old.now) result tokens.new.now }
 {
-    let (declaration, rest) = declaration(alloc, depth, tokens)?;
-    let (end, rest) = semicolon(rest)?;
+    let declaration = declaration(alloc, depth, tokens)?;
+    let end = semicolon(tokens)?;
     let span = join(declaration.span, end);
-    let stmt = boxed(alloc, Stmt::Declare { declaration, span })?;
-    Ok((stmt, rest))
+    Ok(boxed(alloc, Stmt::Declare { declaration, span })?)
 }
 
 /// An assignment or a call, and its semicolon.
-fn stored_or_called(
-    alloc: Global,
-    depth: u32,
-    tokens: &[Token],
-) -> Result<(Box<Stmt>, &[Token]), Stuck<'_>>
+fn stored_or_called(alloc: Global, depth: u32, tokens: &mut &[Token]) -> Result<Box<Stmt>, Stuck>
     requires deep { depth < 200 }
-    requires word { next_is assignment_word tokens.now ≡ true }
-    ensures { Reads (λ x rest. SpellsStatement tokens.now (views.statement x.value) rest × IsLow depth (statement_reach (views.statement x.value))) (StuckStatement depth tokens.now) result }
+    requires word { next_is assignment_word tokens.old.now ≡ true }
+    ensures { Reads (λ x rest. SpellsStatement tokens.old.now (views.statement x.value) rest × IsLow depth (statement_reach (views.statement x.value))) (StuckStatement depth tokens.old.now) result tokens.new.now }
 {
-    match name(tokens) {
-        Ok(_) => named(alloc, depth, tokens),
-        Err(_) => stored(alloc, depth, tokens),
+    if next_is_name(tokens) {
+        named(alloc, depth, tokens)
+    } else {
+        stored(alloc, depth, tokens)
+    }
+}
+
+/// Whether the first token is a name.
+fn next_is_name(tokens: &[Token]) -> bool
+    ensures { result ≡ next_is name_token tokens.now }
+{
+    match tokens.split_first() {
+        Some((token, _)) => matches!(token.kind, TokenKind::Name(_)),
+        None => false,
     }
 }
 
 /// An assignment that begins with no name, and its semicolon.
-fn stored(alloc: Global, depth: u32, tokens: &[Token]) -> Result<(Box<Stmt>, &[Token]), Stuck<'_>>
+fn stored(alloc: Global, depth: u32, tokens: &mut &[Token]) -> Result<Box<Stmt>, Stuck>
     requires deep { depth < 200 }
-    requires word { next_is assignment_word tokens.now ≡ true }
-    requires unnamed { next_is name_token tokens.now ≡ false }
-    ensures { Reads (λ x rest. SpellsStatement tokens.now (views.statement x.value) rest × IsLow depth (statement_reach (views.statement x.value))) (StuckStatement depth tokens.now) result }
+    requires word { next_is assignment_word tokens.old.now ≡ true }
+    requires unnamed { next_is name_token tokens.old.now ≡ false }
+    ensures { Reads (λ x rest. SpellsStatement tokens.old.now (views.statement x.value) rest × IsLow depth (statement_reach (views.statement x.value))) (StuckStatement depth tokens.old.now) result tokens.new.now }
 {
-    let (assignment, rest) = assignment(alloc, depth, tokens)?;
-    let (end, rest) = semicolon(rest)?;
+    let assignment = assignment(alloc, depth, tokens)?;
+    let end = semicolon(tokens)?;
     let span = join(assignment.span(), end);
-    let stmt = boxed(alloc, Stmt::Assign { assignment, span })?;
-    Ok((stmt, rest))
+    Ok(boxed(alloc, Stmt::Assign { assignment, span })?)
 }
 
-/// The semicolon behind a call, and what stands behind it.
-fn call_end<'t>(target: &Expr, tokens: &'t [Token]) -> Option<(Span, &'t [Token])>
-    ensures { MatchOption result (is_call_alone (expression target.now) tokens.now ≡ false) (λ found. IsCallEnd (expression target.now) found.0 tokens.now found.1.now) }
+/// The semicolon behind a call. It is left where no call stands before it.
+fn call_end(target: &Expr, tokens: &mut &[Token]) -> Option<Span>
+    ensures { EndsCall (expression target.now) tokens.old.now result tokens.new.now }
 {
     if !matches!(target, Expr::Call { .. }) {
         return None;
@@ -281,38 +269,32 @@ fn call_end<'t>(target: &Expr, tokens: &'t [Token]) -> Option<(Span, &'t [Token]
 
 /// What begins with a name, and its semicolon: a call where nothing but arguments stands behind the name, and else an
 /// assignment.
-fn named(alloc: Global, depth: u32, tokens: &[Token]) -> Result<(Box<Stmt>, &[Token]), Stuck<'_>>
+fn named(alloc: Global, depth: u32, tokens: &mut &[Token]) -> Result<Box<Stmt>, Stuck>
     requires deep { depth < 200 }
-    requires named { next_is name_token tokens.now ≡ true }
-    ensures { Reads (λ x rest. SpellsStatement tokens.now (views.statement x.value) rest × IsLow depth (statement_reach (views.statement x.value))) (StuckStatement depth tokens.now) result }
+    requires named { next_is name_token tokens.old.now ≡ true }
+    ensures { Reads (λ x rest. SpellsStatement tokens.old.now (views.statement x.value) rest × IsLow depth (statement_reach (views.statement x.value))) (StuckStatement depth tokens.old.now) result tokens.new.now }
 {
-    let (target, rest) = unary(alloc, depth + 1, tokens)?;
-    if let Some((end, rest)) = call_end(&target.expr, rest) {
+    let target = unary(alloc, depth + 1, tokens)?;
+    if let Some(end) = call_end(&target.expr, tokens) {
         let span = join(target.outer, end);
         let call = target.expr;
-        let stmt = boxed(alloc, Stmt::Call { call, span })?;
-        return Ok((stmt, rest));
+        return Ok(boxed(alloc, Stmt::Call { call, span })?);
     }
-    let (assignment, rest) = assigned(alloc, depth, target, rest)?;
-    let (end, rest) = semicolon(rest)?;
+    let assignment = assigned(alloc, depth, target, tokens)?;
+    let end = semicolon(tokens)?;
     let span = join(assignment.span(), end);
-    let stmt = boxed(alloc, Stmt::Assign { assignment, span })?;
-    Ok((stmt, rest))
+    Ok(boxed(alloc, Stmt::Assign { assignment, span })?)
 }
 
 /// An expression in parentheses that belong to a statement.
-fn condition(
-    alloc: Global,
-    depth: u32,
-    tokens: &[Token],
-) -> Result<(Box<Expr>, &[Token]), Stuck<'_>>
+fn condition(alloc: Global, depth: u32, tokens: &mut &[Token]) -> Result<Box<Expr>, Stuck>
     requires { depth ≤ 200 }
-    ensures { Reads (λ x rest. SpellsCondition tokens.now (expression x.value) rest × IsLow depth (expression_reach (expression x.value))) (StuckCondition depth tokens.now) result }
+    ensures { Reads (λ x rest. SpellsCondition tokens.old.now (expression x.value) rest × IsLow depth (expression_reach (expression x.value))) (StuckCondition depth tokens.old.now) result tokens.new.now }
 {
-    let (_, rest) = open_paren(tokens)?;
-    let (read, rest) = expression(alloc, depth, rest)?;
-    let (_, rest) = close_paren(rest)?;
-    Ok((read.expr, rest))
+    open_paren(tokens)?;
+    let read = expression(alloc, depth, tokens)?;
+    close_paren(tokens)?;
+    Ok(read.expr)
 }
 
 /// What stands behind the word `if`.
@@ -321,27 +303,26 @@ fn if_statement(
     alloc: Global,
     depth: u32,
     start: Span,
-    tokens: &[Token],
-) -> Result<(Box<Stmt>, &[Token]), Stuck<'_>>
+    tokens: &mut &[Token],
+) -> Result<Box<Stmt>, Stuck>
     requires { depth < 200 }
-    ensures { Reads (λ x rest. SpellsStatement (token kinds.If start ∷ tokens.now) (views.statement x.value) rest × IsLow depth (statement_reach (views.statement x.value))) (StuckStatement depth (token kinds.If start ∷ tokens.now)) result }
+    ensures { Reads (λ x rest. SpellsStatement (token kinds.If start ∷ tokens.old.now) (views.statement x.value) rest × IsLow depth (statement_reach (views.statement x.value))) (StuckStatement depth (token kinds.If start ∷ tokens.old.now)) result tokens.new.now }
 {
-    let (condition, rest) = condition(alloc, depth + 1, tokens)?;
-    let (consequent, rest) = statement(alloc, depth + 1, rest)?;
-    if let Ok((_, behind)) = else_word(rest) {
-        let (alternative, behind) = statement(alloc, depth + 1, behind)?;
-        let stmt = boxed(alloc, if_else(start, condition, consequent, alternative))?;
-        return Ok((stmt, behind));
+    let condition = condition(alloc, depth + 1, tokens)?;
+    let consequent = statement(alloc, depth + 1, tokens)?;
+    if let Ok(_) = else_word(tokens) {
+        let alternative = statement(alloc, depth + 1, tokens)?;
+        let span = join(start, alternative.span());
+        return Ok(boxed(alloc, if_else(condition, consequent, alternative, span))?);
     }
-    let alone = boxed(alloc, if_alone(start, condition, consequent))?;
-    Ok((alone, rest))
+    let span = join(start, consequent.span());
+    Ok(boxed(alloc, if_alone(condition, consequent, span))?)
 }
 
 /// An `if` without `else`.
-fn if_alone(start: Span, condition: Box<Expr>, consequent: Box<Stmt>) -> Stmt
-    ensures { views.statement result ≡ views.If (expression condition.value) (views.statement consequent.value) (join start (views.statement_span (views.statement consequent.value))) }
+fn if_alone(condition: Box<Expr>, consequent: Box<Stmt>, span: Span) -> Stmt
+    ensures { views.statement result ≡ views.If (expression condition.value) (views.statement consequent.value) span }
 {
-    let span = join(start, consequent.span());
     Stmt::If {
         condition,
         consequent,
@@ -351,10 +332,9 @@ fn if_alone(start: Span, condition: Box<Expr>, consequent: Box<Stmt>) -> Stmt
 }
 
 /// An `if` with its `else`.
-fn if_else(start: Span, condition: Box<Expr>, consequent: Box<Stmt>, alternative: Box<Stmt>) -> Stmt
-    ensures { views.statement result ≡ views.IfElse (expression condition.value) (views.statement consequent.value) (views.statement alternative.value) (join start (views.statement_span (views.statement alternative.value))) }
+fn if_else(condition: Box<Expr>, consequent: Box<Stmt>, alternative: Box<Stmt>, span: Span) -> Stmt
+    ensures { views.statement result ≡ views.IfElse (expression condition.value) (views.statement consequent.value) (views.statement alternative.value) span }
 {
-    let span = join(start, alternative.span());
     Stmt::If {
         condition,
         consequent,
@@ -369,22 +349,21 @@ fn while_statement(
     alloc: Global,
     depth: u32,
     start: Span,
-    tokens: &[Token],
-) -> Result<(Box<Stmt>, &[Token]), Stuck<'_>>
+    tokens: &mut &[Token],
+) -> Result<Box<Stmt>, Stuck>
     requires { depth < 200 }
-    ensures { Reads (λ x rest. SpellsStatement (token kinds.While start ∷ tokens.now) (views.statement x.value) rest × IsLow depth (statement_reach (views.statement x.value))) (StuckStatement depth (token kinds.While start ∷ tokens.now)) result }
+    ensures { Reads (λ x rest. SpellsStatement (token kinds.While start ∷ tokens.old.now) (views.statement x.value) rest × IsLow depth (statement_reach (views.statement x.value))) (StuckStatement depth (token kinds.While start ∷ tokens.old.now)) result tokens.new.now }
 {
-    let (condition, rest) = condition(alloc, depth + 1, tokens)?;
-    let (body, rest) = statement(alloc, depth + 1, rest)?;
-    let stmt = boxed(alloc, while_loop(start, condition, body))?;
-    Ok((stmt, rest))
+    let condition = condition(alloc, depth + 1, tokens)?;
+    let body = statement(alloc, depth + 1, tokens)?;
+    let span = join(start, body.span());
+    Ok(boxed(alloc, while_loop(condition, body, span))?)
 }
 
 /// A `while` with its body.
-fn while_loop(start: Span, condition: Box<Expr>, body: Box<Stmt>) -> Stmt
-    ensures { views.statement result ≡ views.While (expression condition.value) (views.statement body.value) (join start (views.statement_span (views.statement body.value))) }
+fn while_loop(condition: Box<Expr>, body: Box<Stmt>, span: Span) -> Stmt
+    ensures { views.statement result ≡ views.While (expression condition.value) (views.statement body.value) span }
 {
-    let span = join(start, body.span());
     Stmt::While {
         condition,
         body,
@@ -393,25 +372,21 @@ fn while_loop(start: Span, condition: Box<Expr>, body: Box<Stmt>) -> Stmt
 }
 
 /// The first part of the head of a `for`, and its semicolon.
-fn for_initial(
-    alloc: Global,
-    depth: u32,
-    tokens: &[Token],
-) -> Result<(ForInitial, &[Token]), Stuck<'_>>
+fn for_initial(alloc: Global, depth: u32, tokens: &mut &[Token]) -> Result<ForInitial, Stuck>
     requires { depth ≤ 200 }
-    ensures { Reads (λ x rest. SpellsForInitial tokens.now (views.for_initial x) rest × IsLow depth (for_initial_reach (views.for_initial x))) (StuckForInitial depth tokens.now) result }
+    ensures { Reads (λ x rest. SpellsForInitial tokens.old.now (views.for_initial x) rest × IsLow depth (for_initial_reach (views.for_initial x))) (StuckForInitial depth tokens.old.now) result tokens.new.now }
 {
-    if let Ok((_, rest)) = semicolon(tokens) {
-        return Ok((ForInitial::Nothing, rest));
+    if let Ok(_) = semicolon(tokens) {
+        return Ok(ForInitial::Nothing);
     }
     if next_starts_type(tokens) {
-        let (declaration, rest) = declaration(alloc, depth, tokens)?;
-        let (_, rest) = semicolon(rest)?;
-        return Ok((ForInitial::Declare { declaration }, rest));
+        let declaration = declaration(alloc, depth, tokens)?;
+        semicolon(tokens)?;
+        return Ok(ForInitial::Declare { declaration });
     }
-    let (assignment, rest) = assignment(alloc, depth, tokens)?;
-    let (_, rest) = semicolon(rest)?;
-    Ok((ForInitial::Assign { assignment }, rest))
+    let assignment = assignment(alloc, depth, tokens)?;
+    semicolon(tokens)?;
+    Ok(ForInitial::Assign { assignment })
 }
 
 /// Whether the first token is that of a type.
@@ -428,36 +403,32 @@ fn next_starts_type(tokens: &[Token]) -> bool
 fn optional_value(
     alloc: Global,
     depth: u32,
-    tokens: &[Token],
-) -> Result<(Read<Option<Box<Expr>>>, &[Token]), Stuck<'_>>
+    tokens: &mut &[Token],
+) -> Result<Read<Option<Box<Expr>>>, Stuck>
     requires { depth ≤ 200 }
-    ensures { Reads (λ x rest. SpellsEnd tokens.now (option_map views.on_heap x.form) x.span rest × IsLow depth (optional_expression_reach (option_map views.on_heap x.form))) (StuckForCondition depth tokens.now) result }
+    ensures { Reads (λ x rest. SpellsEnd tokens.old.now (option_map views.on_heap x.form) x.span rest × IsLow depth (optional_expression_reach (option_map views.on_heap x.form))) (StuckForCondition depth tokens.old.now) result tokens.new.now }
 {
-    if let Ok((span, rest)) = semicolon(tokens) {
+    if let Ok(span) = semicolon(tokens) {
         let form = None;
-        return Ok((Read { form, span }, rest));
+        return Ok(Read { form, span });
     }
-    let (read, rest) = expression(alloc, depth, tokens)?;
-    let (span, rest) = semicolon(rest)?;
+    let read = expression(alloc, depth, tokens)?;
+    let span = semicolon(tokens)?;
     let form = Some(read.expr);
-    Ok((Read { form, span }, rest))
+    Ok(Read { form, span })
 }
 
 /// The last part of the head of a `for`, and its parenthesis.
-fn for_step(
-    alloc: Global,
-    depth: u32,
-    tokens: &[Token],
-) -> Result<(Option<Assignment>, &[Token]), Stuck<'_>>
+fn for_step(alloc: Global, depth: u32, tokens: &mut &[Token]) -> Result<Option<Assignment>, Stuck>
     requires { depth ≤ 200 }
-    ensures { Reads (λ x rest. SpellsForStep tokens.now (option_map views.assignment x) rest × IsLow depth (optional_assignment_reach (option_map views.assignment x))) (StuckForStep depth tokens.now) result }
+    ensures { Reads (λ x rest. SpellsForStep tokens.old.now (option_map views.assignment x) rest × IsLow depth (optional_assignment_reach (option_map views.assignment x))) (StuckForStep depth tokens.old.now) result tokens.new.now }
 {
-    if let Ok((_, rest)) = close_paren(tokens) {
-        return Ok((None, rest));
+    if let Ok(_) = close_paren(tokens) {
+        return Ok(None);
     }
-    let (assignment, rest) = assignment(alloc, depth, tokens)?;
-    let (_, rest) = close_paren(rest)?;
-    Ok((Some(assignment), rest))
+    let assignment = assignment(alloc, depth, tokens)?;
+    close_paren(tokens)?;
+    Ok(Some(assignment))
 }
 
 /// What stands in the parentheses of a `for`.
@@ -473,23 +444,22 @@ fn for_head(
     alloc: Global,
     depth: u32,
     start: Span,
-    tokens: &[Token],
-) -> Result<(Box<ForHead>, &[Token]), Stuck<'_>>
+    tokens: &mut &[Token],
+) -> Result<Box<ForHead>, Stuck>
     requires { depth < 200 }
-    ensures { Reads (λ x rest. IsForHead depth tokens.now (views.for_initial x.value.initial) (option_map views.on_heap x.value.condition) (option_map views.assignment x.value.step) rest) (StuckStatement depth (token kinds.For start ∷ tokens.now)) result }
+    ensures { Reads (λ x rest. IsForHead depth tokens.old.now (views.for_initial x.value.initial) (option_map views.on_heap x.value.condition) (option_map views.assignment x.value.step) rest) (StuckStatement depth (token kinds.For start ∷ tokens.old.now)) result tokens.new.now }
 {
-    let (_, rest) = open_paren(tokens)?;
-    let (initial, rest) = for_initial(alloc, depth + 1, rest)?;
-    let (read, rest) = optional_value(alloc, depth + 1, rest)?;
-    let (step, rest) = for_step(alloc, depth + 1, rest)?;
+    open_paren(tokens)?;
+    let initial = for_initial(alloc, depth + 1, tokens)?;
+    let read = optional_value(alloc, depth + 1, tokens)?;
+    let step = for_step(alloc, depth + 1, tokens)?;
     let condition = read.form;
     let head = ForHead {
         initial,
         condition,
         step,
     };
-    let head = boxed(alloc, head)?;
-    Ok((head, rest))
+    Ok(boxed(alloc, head)?)
 }
 
 /// What stands behind the word `for`.
@@ -498,23 +468,21 @@ fn for_statement(
     alloc: Global,
     depth: u32,
     start: Span,
-    tokens: &[Token],
-) -> Result<(Box<Stmt>, &[Token]), Stuck<'_>>
+    tokens: &mut &[Token],
+) -> Result<Box<Stmt>, Stuck>
     requires { depth < 200 }
-    ensures { Reads (λ x rest. SpellsStatement (token kinds.For start ∷ tokens.now) (views.statement x.value) rest × IsLow depth (statement_reach (views.statement x.value))) (StuckStatement depth (token kinds.For start ∷ tokens.now)) result }
+    ensures { Reads (λ x rest. SpellsStatement (token kinds.For start ∷ tokens.old.now) (views.statement x.value) rest × IsLow depth (statement_reach (views.statement x.value))) (StuckStatement depth (token kinds.For start ∷ tokens.old.now)) result tokens.new.now }
 {
-    let (head, rest) = for_head(alloc, depth, start, tokens)?;
-    let (body, rest) = statement(alloc, depth + 1, rest)?;
-    let stmt = boxed(alloc, for_loop(start, head, body))?;
-    Ok((stmt, rest))
+    let head = for_head(alloc, depth, start, tokens)?;
+    let body = statement(alloc, depth + 1, tokens)?;
+    let span = join(start, body.span());
+    Ok(boxed(alloc, for_loop(Box::into_inner(head), body, span))?)
 }
 
 /// A `for` with its body.
-fn for_loop(start: Span, head: Box<ForHead>, body: Box<Stmt>) -> Stmt
-    ensures { views.statement result ≡ views.For (views.for_initial head.value.initial) (option_map views.on_heap head.value.condition) (option_map views.assignment head.value.step) (views.statement body.value) (join start (views.statement_span (views.statement body.value))) }
+fn for_loop(head: ForHead, body: Box<Stmt>, span: Span) -> Stmt
+    ensures { views.statement result ≡ views.For (views.for_initial head.initial) (option_map views.on_heap head.condition) (option_map views.assignment head.step) (views.statement body.value) span }
 {
-    let span = join(start, body.span());
-    let head = Box::into_inner(head);
     Stmt::For {
         initial: head.initial,
         condition: head.condition,
@@ -529,14 +497,13 @@ fn return_statement(
     alloc: Global,
     depth: u32,
     start: Span,
-    tokens: &[Token],
-) -> Result<(Box<Stmt>, &[Token]), Stuck<'_>>
+    tokens: &mut &[Token],
+) -> Result<Box<Stmt>, Stuck>
     requires { depth < 200 }
-    ensures { Reads (λ x rest. SpellsStatement (token kinds.Return start ∷ tokens.now) (views.statement x.value) rest × IsLow depth (statement_reach (views.statement x.value))) (StuckStatement depth (token kinds.Return start ∷ tokens.now)) result }
+    ensures { Reads (λ x rest. SpellsStatement (token kinds.Return start ∷ tokens.old.now) (views.statement x.value) rest × IsLow depth (statement_reach (views.statement x.value))) (StuckStatement depth (token kinds.Return start ∷ tokens.old.now)) result tokens.new.now }
 {
-    let (read, rest) = optional_value(alloc, depth + 1, tokens)?;
+    let read = optional_value(alloc, depth + 1, tokens)?;
     let value = read.form;
     let span = join(start, read.span);
-    let stmt = boxed(alloc, Stmt::Return { value, span })?;
-    Ok((stmt, rest))
+    Ok(boxed(alloc, Stmt::Return { value, span })?)
 }

@@ -3,6 +3,8 @@ use Rattle.std.proofs.Common.{rules, ◌≡◌, ℕ, suc, ◌+◌, ◌-◌, ◌<
 use Rattle.std.proofs.lemmas.Grind.{flat_map-append}
 use Rattle.ckc_printer.specs.Pieces.{Sign, sign_text, around}
 use Rattle.ckc_printer.specs.TypePieces.{stars_pieces}
+use Rattle.ckc_printer.specs.declared.output.Output.{Output}
+use Rattle.ckc_printer.specs.Output.{Puts, Leaves}
 use Rattle.ckc_printer.specs.Spaced.{spaced, spaced_if, spaced_text}
 
 pub spaced_append : (xs ys : List Sign) → spaced_text (xs ++ ys) ≡ spaced_text xs ++ spaced_text ys
@@ -13,9 +15,24 @@ pub spaced_around : (wanted : Bool) (xs : List Sign) → spaced_text (around wan
 spaced_around false xs = search rules
 spaced_around true xs = rw (spaced_append xs _) refl
 
--- one more star
-pub one_more_star : (n k : ℕ) (old new whole : List ℕ) → k < n → new ≡ old ++ 42 ∷ 32 ∷ [] → old ++ spaced_text (stars_pieces (n - k)) ≡ whole → new ++ spaced_text (stars_pieces (n - (k + 1))) ≡ whole
-one_more_star n k old new whole low put so_far =
-    let rest = spaced_text (stars_pieces (n - (k + 1))) in
-    let one_more : n - k ≡ suc (n - (k + 1)) = omega (arith, low) in
-    ap (λ l. l ++ rest) put ∙ append_assoc old (42 ∷ 32 ∷ []) rest ∙ ap (λ m. old ++ spaced_text (stars_pieces m)) (sym one_more) ∙ so_far
+-- one text behind the other
+pub behind : {old mid new : Output} {text rest : List ℕ} → Puts old mid text → Puts mid new rest → Puts old new (text ++ rest)
+behind {old} {mid} {new} {text} {rest} first last = record {
+  put = λ h.
+      let here = last.put h in
+      let before = first.put here.0 in
+      (before.0, here.1 ∙ ap (λ l. l ++ rest) before.1 ∙ append_assoc old.bytes.items text rest);
+}
+
+-- what is put is the first of what is left
+pub leaves_less : {first old new : Output} {left text rest whole : List ℕ} → Leaves first old left whole → Puts old new text → left ≡ text ++ rest → Leaves first new rest whole
+leaves_less {first} {old} {new} {left} {text} {rest} {whole} so_far put same = record {
+  all = λ h.
+      let here = put.put h in
+      let before = so_far.all here.0 in
+      (before.0, ap (λ l. l ++ rest) here.1 ∙ append_assoc old.bytes.items text rest ∙ ap (λ l. old.bytes.items ++ l) (sym same) ∙ before.1);
+}
+
+-- the first star of those that are left
+pub star_first : (n k : ℕ) → k < n → spaced_text (stars_pieces (n - k)) ≡ 42 ∷ 32 ∷ spaced_text (stars_pieces (n - (k + 1)))
+star_first n k low = let one_more : n - k ≡ suc (n - (k + 1)) = omega (arith, low) in ap (λ m. spaced_text (stars_pieces m)) one_more

@@ -4,6 +4,7 @@ pub mod ExpressionPieces
 pub mod StatementPieces
 pub mod ItemPieces
 pub mod Spaced
+pub mod Output
 pub mod Examples
 pub mod Parts
 pub mod Slices

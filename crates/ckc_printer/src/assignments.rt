@@ -1,17 +1,18 @@
 // Printing of assignments.
 
-ghost use Rattle.std.specs.Prelude.{◌≡◌, ◌++◌, map, OnOk};
+ghost use Rattle.std.specs.Prelude.{◌≡◌, ◌++◌, map};
 ghost use Rattle.std.specs.List.{flat_map};
 ghost use Rattle.ckc_tree.specs.Expressions.{expression};
 ghost use Rattle.ckc_tree.specs.Statements.{assignment};
 ghost use Rattle.ckc_printer.specs.Pieces.{kind_text};
 ghost use Rattle.ckc_printer.specs.ExpressionPieces.{is_binary, target_pieces};
 ghost use Rattle.ckc_printer.specs.StatementPieces.{store_kind, step_kind, assignment_pieces, bundled_pieces};
+ghost use Rattle.ckc_printer.specs.Output.{Puts};
 ghost use Rattle.ckc_printer.specs.Spaced.{spaced_text};
 
 use crate::expressions::put_expr;
+use crate::output::Output;
 use crate::signs::{put, put_if};
-use ckc_text::fault::NoMemory;
 use ckc_tree::expr::Expr;
 use ckc_tree::stmt::{Assignment, StepOperator, StepSide, StoreOperator};
 
@@ -105,19 +106,19 @@ fn is_binary_expr(expr: &Expr) -> bool
 
 /// What is stored to.
 #[tactic(auto, using(crate::proofs::Texts::spaced_around))]
-fn put_target(out: &mut Vec<u8>, target: &Expr) -> Result<(), NoMemory>
-    ensures { OnOk result (out.new.items ≡ out.old.items ++ spaced_text (target_pieces (expression target.now))) }
+fn put_target(out: &mut Output, target: &Expr)
+    ensures { Puts out.old out.new (spaced_text (target_pieces (expression target.now))) }
 {
     let binary = is_binary_expr(target);
-    put_if(out, binary, b"(")?;
-    put_expr(out, target)?;
-    put_if(out, binary, b")")
+    put_if(out, binary, b"(");
+    put_expr(out, target);
+    put_if(out, binary, b")");
 }
 
 /// An assignment without the semicolon behind it.
 #[tactic(auto, using(crate::proofs::Texts::spaced_append))]
-pub fn put_assignment(out: &mut Vec<u8>, written: &Assignment) -> Result<(), NoMemory>
-    ensures { OnOk result (out.new.items ≡ out.old.items ++ spaced_text (assignment_pieces (assignment written.now))) }
+pub fn put_assignment(out: &mut Output, written: &Assignment)
+    ensures { Puts out.old out.new (spaced_text (assignment_pieces (assignment written.now))) }
 {
     match written {
         Assignment::Store {
@@ -126,9 +127,9 @@ pub fn put_assignment(out: &mut Vec<u8>, written: &Assignment) -> Result<(), NoM
             value,
             span: _,
         } => {
-            put_target(out, target)?;
-            put(out, store_text(*operator))?;
-            put_expr(out, value)
+            put_target(out, target);
+            put(out, store_text(*operator));
+            put_expr(out, value);
         }
         Assignment::Step {
             operator,
@@ -136,8 +137,8 @@ pub fn put_assignment(out: &mut Vec<u8>, written: &Assignment) -> Result<(), NoM
             target,
             span: _,
         } => {
-            put(out, step_text(*operator))?;
-            put_target(out, target)
+            put(out, step_text(*operator));
+            put_target(out, target);
         }
         Assignment::Step {
             operator,
@@ -145,20 +146,19 @@ pub fn put_assignment(out: &mut Vec<u8>, written: &Assignment) -> Result<(), NoM
             target,
             span: _,
         } => {
-            put_target(out, target)?;
-            put(out, step_text(*operator))
+            put_target(out, target);
+            put(out, step_text(*operator));
         }
     }
 }
 
 /// The assignments of a bundle, with a semicolon behind each.
 #[tactic(auto, using(crate::proofs::Texts::spaced_append))]
-pub fn bundled(out: &mut Vec<u8>, listed: &[Assignment]) -> Result<(), NoMemory>
-    ensures { OnOk result (out.new.items ≡ out.old.items ++ spaced_text (flat_map bundled_pieces (map assignment listed.now))) }
+pub fn bundled(out: &mut Output, listed: &[Assignment])
+    ensures { Puts out.old out.new (spaced_text (flat_map bundled_pieces (map assignment listed.now))) }
 {
     for written in listed {
-        put_assignment(out, written)?;
-        put(out, b";")?;
+        put_assignment(out, written);
+        put(out, b";");
     }
-    Ok(())
 }

@@ -1,33 +1,34 @@
 // Printing of declarations.
 
-ghost use Rattle.std.specs.Prelude.{◌≡◌, ◌++◌, map, OnOk};
+ghost use Rattle.std.specs.Prelude.{◌≡◌, map};
 ghost use Rattle.std.specs.Option.{option_map};
 ghost use Rattle.ckc_tree.specs.Expressions.{bounds};
 ghost use Rattle.ckc_tree.specs.Statements.{initializer, declarator, declaration};
 ghost use Rattle.ckc_printer.specs.Pieces.{kind_text, with_commas};
 ghost use Rattle.ckc_printer.specs.StatementPieces.{optional_bounds_pieces, array_kind, array_pieces, constant_pieces, initializer_pieces, declarator_pieces, declaration_pieces};
+ghost use Rattle.ckc_printer.specs.Output.{Puts};
 ghost use Rattle.ckc_printer.specs.Spaced.{spaced_text};
 
 use crate::expressions::{put_bounds, put_expr};
+use crate::output::Output;
 use crate::quoted::put_character;
 use crate::signs::{put, put_if, put_name, put_number};
 use crate::types::{stars, type_form};
-use ckc_text::fault::NoMemory;
 use ckc_tree::expr::BoundsText;
 use ckc_tree::stmt::{
     ArrayForm, ArrayKind, Constant, Declaration, Declarator, Initializer, SignedConstant,
 };
 
 /// Bounds and the colon before them, if some are written.
-pub fn optional_bounds(out: &mut Vec<u8>, written: &Option<BoundsText>) -> Result<(), NoMemory>
-    ensures { OnOk result (out.new.items ≡ out.old.items ++ spaced_text (optional_bounds_pieces (option_map bounds written.now))) }
+pub fn optional_bounds(out: &mut Output, written: &Option<BoundsText>)
+    ensures { Puts out.old out.new (spaced_text (optional_bounds_pieces (option_map bounds written.now))) }
 {
     match written {
         Some(text) => {
-            put(out, b":")?;
-            put_bounds(out, text)
+            put(out, b":");
+            put_bounds(out, text);
         }
-        None => Ok(()),
+        None => {}
     }
 }
 
@@ -43,26 +44,26 @@ fn array_text(kind: ArrayKind) -> &'static [u8]
 
 /// The array form of a variable, if it has one.
 #[tactic(auto, using(crate::proofs::Texts::spaced_append))]
-fn array(out: &mut Vec<u8>, form: &Option<ArrayForm>) -> Result<(), NoMemory>
-    ensures { OnOk result (out.new.items ≡ out.old.items ++ spaced_text (array_pieces form.now)) }
+fn array(out: &mut Output, form: &Option<ArrayForm>)
+    ensures { Puts out.old out.new (spaced_text (array_pieces form.now)) }
 {
     match form {
         Some(form) => {
-            put(out, array_text(form.kind))?;
-            put(out, b"[")?;
-            put_number(out, form.length)?;
-            put(out, b"]")
+            put(out, array_text(form.kind));
+            put(out, b"[");
+            put_number(out, form.length);
+            put(out, b"]");
         }
-        None => Ok(()),
+        None => {}
     }
 }
 
 /// A constant with its minus, if it has one.
 #[tactic(auto, using(crate::proofs::Texts::spaced_append))]
-fn constant(out: &mut Vec<u8>, signed: SignedConstant) -> Result<(), NoMemory>
-    ensures { OnOk result (out.new.items ≡ out.old.items ++ spaced_text (constant_pieces signed)) }
+fn constant(out: &mut Output, signed: SignedConstant)
+    ensures { Puts out.old out.new (spaced_text (constant_pieces signed)) }
 {
-    put_if(out, signed.negative, b"-")?;
+    put_if(out, signed.negative, b"-");
     match signed.constant {
         Constant::Number(value) => put_number(out, value),
         Constant::Character(value) => put_character(out, value),
@@ -70,25 +71,24 @@ fn constant(out: &mut Vec<u8>, signed: SignedConstant) -> Result<(), NoMemory>
 }
 
 /// Constants with commas between.
-fn constants(out: &mut Vec<u8>, listed: &[SignedConstant]) -> Result<(), NoMemory>
-    ensures { OnOk result (out.new.items ≡ out.old.items ++ spaced_text (with_commas constant_pieces listed.now)) }
+fn constants(out: &mut Output, listed: &[SignedConstant])
+    ensures { Puts out.old out.new (spaced_text (with_commas constant_pieces listed.now)) }
 {
     for (place, signed) in listed.iter().enumerate() {
-        put_if(out, place > 0, b",")?;
-        constant(out, *signed)?;
+        put_if(out, place > 0, b",");
+        constant(out, *signed);
     }
-    Ok(())
 }
 
 /// What a variable is initialised with, if something is.
 #[tactic(auto, using(crate::proofs::Texts::spaced_append))]
-fn optional_initializer(out: &mut Vec<u8>, written: &Option<Initializer>) -> Result<(), NoMemory>
-    ensures { OnOk result (out.new.items ≡ out.old.items ++ spaced_text (initializer_pieces (option_map initializer written.now))) }
+fn optional_initializer(out: &mut Output, written: &Option<Initializer>)
+    ensures { Puts out.old out.new (spaced_text (initializer_pieces (option_map initializer written.now))) }
 {
     match written {
         Some(Initializer::Value { value }) => {
-            put(out, b"=")?;
-            put_expr(out, value)
+            put(out, b"=");
+            put_expr(out, value);
         }
         Some(
             Initializer::List {
@@ -96,42 +96,41 @@ fn optional_initializer(out: &mut Vec<u8>, written: &Option<Initializer>) -> Res
                 span: _,
             },
         ) => {
-            put(out, b"= {")?;
-            constants(out, listed.as_slice())?;
-            put(out, b"}")
+            put(out, b"= {");
+            constants(out, listed.as_slice());
+            put(out, b"}");
         }
-        None => Ok(()),
+        None => {}
     }
 }
 
 /// One variable of a declaration.
 #[tactic(auto, using(crate::proofs::Texts::spaced_append))]
-fn put_declarator(out: &mut Vec<u8>, written: &Declarator) -> Result<(), NoMemory>
-    ensures { OnOk result (out.new.items ≡ out.old.items ++ spaced_text (declarator_pieces (declarator written.now))) }
+fn put_declarator(out: &mut Output, written: &Declarator)
+    ensures { Puts out.old out.new (spaced_text (declarator_pieces (declarator written.now))) }
 {
-    stars(out, written.stars)?;
-    put_name(out, &written.name)?;
-    array(out, &written.array)?;
-    optional_bounds(out, &written.bounds)?;
-    optional_initializer(out, &written.initializer)
+    stars(out, written.stars);
+    put_name(out, &written.name);
+    array(out, &written.array);
+    optional_bounds(out, &written.bounds);
+    optional_initializer(out, &written.initializer);
 }
 
 /// The variables of a declaration, with commas between.
-pub fn declarators(out: &mut Vec<u8>, listed: &[Declarator]) -> Result<(), NoMemory>
-    ensures { OnOk result (out.new.items ≡ out.old.items ++ spaced_text (with_commas declarator_pieces (map declarator listed.now))) }
+pub fn declarators(out: &mut Output, listed: &[Declarator])
+    ensures { Puts out.old out.new (spaced_text (with_commas declarator_pieces (map declarator listed.now))) }
 {
     for (place, written) in listed.iter().enumerate() {
-        put_if(out, place > 0, b",")?;
-        put_declarator(out, written)?;
+        put_if(out, place > 0, b",");
+        put_declarator(out, written);
     }
-    Ok(())
 }
 
 /// A declaration without the semicolon behind it.
 #[tactic(auto, using(crate::proofs::Texts::spaced_append))]
-pub fn put_declaration(out: &mut Vec<u8>, written: &Declaration) -> Result<(), NoMemory>
-    ensures { OnOk result (out.new.items ≡ out.old.items ++ spaced_text (declaration_pieces (declaration written.now))) }
+pub fn put_declaration(out: &mut Output, written: &Declaration)
+    ensures { Puts out.old out.new (spaced_text (declaration_pieces (declaration written.now))) }
 {
-    type_form(out, &written.base)?;
-    declarators(out, written.declarators.as_slice())
+    type_form(out, &written.base);
+    declarators(out, written.declarators.as_slice());
 }

@@ -6,6 +6,7 @@ mod declarations;
 mod expressions;
 mod items;
 pub mod laws;
+mod output;
 pub mod program;
 mod quoted;
 mod signs;

@@ -1,11 +1,12 @@
 // Printing of what stands between quotes.
 
-ghost use Rattle.std.specs.Prelude.{◌≡◌, ◌<◌, ◌++◌, OnOk};
+ghost use Rattle.std.specs.Prelude.{◌≡◌, ◌<◌};
 ghost use Rattle.std.specs.List.{flat_map};
 ghost use Rattle.ckc_printer.specs.Pieces.{hexadecimal_digit, is_plain, quoted_byte, string_text, character_text};
+ghost use Rattle.ckc_printer.specs.Output.{Puts};
 ghost use Rattle.ckc_printer.specs.Spaced.{spaced};
 
-use ckc_text::fault::NoMemory;
+use crate::output::Output;
 
 /// A hexadecimal digit, in lower case.
 fn hex_digit(value: u8) -> u8
@@ -23,45 +24,40 @@ fn is_plain_byte(byte: u8) -> bool
 }
 
 /// A byte between quotes.
-fn quoted(out: &mut Vec<u8>, byte: u8) -> Result<(), NoMemory>
-    ensures { OnOk result (out.new.items ≡ out.old.items ++ quoted_byte byte) }
+fn quoted(out: &mut Output, byte: u8)
+    ensures { Puts out.old out.new (quoted_byte byte) }
 {
     if is_plain_byte(byte) {
-        out.push(byte)?;
-        Ok(())
+        out.push(byte);
     } else {
         let escape = [92, 120, hex_digit(byte / 16), hex_digit(byte % 16)];
-        out.extend_from_slice(&escape)?;
-        Ok(())
+        out.extend(&escape);
     }
 }
 
 /// The bytes between the quotes of a string.
-fn content(out: &mut Vec<u8>, bytes: &[u8]) -> Result<(), NoMemory>
-    ensures { OnOk result (out.new.items ≡ out.old.items ++ flat_map quoted_byte bytes.now) }
+fn content(out: &mut Output, bytes: &[u8])
+    ensures { Puts out.old out.new (flat_map quoted_byte bytes.now) }
 {
     for byte in bytes {
-        quoted(out, *byte)?;
+        quoted(out, *byte);
     }
-    Ok(())
 }
 
 /// A string.
-pub fn put_string(out: &mut Vec<u8>, bytes: &[u8]) -> Result<(), NoMemory>
-    ensures { OnOk result (out.new.items ≡ out.old.items ++ spaced (string_text bytes.now)) }
+pub fn put_string(out: &mut Output, bytes: &[u8])
+    ensures { Puts out.old out.new (spaced (string_text bytes.now)) }
 {
-    out.push(b'"')?;
-    content(out, bytes)?;
-    out.extend_from_slice(b"\" ")?;
-    Ok(())
+    out.push(b'"');
+    content(out, bytes);
+    out.extend(b"\" ");
 }
 
 /// A character constant.
-pub fn put_character(out: &mut Vec<u8>, byte: u8) -> Result<(), NoMemory>
-    ensures { OnOk result (out.new.items ≡ out.old.items ++ spaced (character_text byte)) }
+pub fn put_character(out: &mut Output, byte: u8)
+    ensures { Puts out.old out.new (spaced (character_text byte)) }
 {
-    out.push(b'\'')?;
-    quoted(out, byte)?;
-    out.extend_from_slice(b"' ")?;
-    Ok(())
+    out.push(b'\'');
+    quoted(out, byte);
+    out.extend(b"' ");
 }

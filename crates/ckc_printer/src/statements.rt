@@ -1,129 +1,121 @@
 // Printing of statements.
 
-ghost use Rattle.std.specs.Prelude.{◌≡◌, ◌++◌, map, OnOk};
+ghost use Rattle.std.specs.Prelude.{◌∷◌, [], ◌++◌, map};
 ghost use Rattle.std.specs.Option.{option_map};
 ghost use Rattle.ckc_tree.specs.Expressions.{expression};
 ghost use Rattle.ckc_tree.specs.Statements.{assignment, for_initial, on_heap, statement};
 ghost use Rattle.ckc_tree.specs.Items.{statement_list};
-ghost use Rattle.ckc_lexer.specs.declared.token.TokenKind.TheVariants as kinds;
-ghost use Rattle.ckc_printer.specs.StatementPieces.{mark_pieces, initial_pieces, optional_expression_pieces, optional_assignment_pieces, for_head_pieces, tested_pieces, statement_pieces, statements_pieces};
+ghost use Rattle.ckc_printer.specs.ExpressionPieces.{expression_pieces};
+ghost use Rattle.ckc_printer.specs.StatementPieces.{mark_pieces, initial_pieces, optional_expression_pieces, optional_assignment_pieces, for_head_pieces, statement_pieces, statements_pieces};
 ghost use Rattle.ckc_printer.specs.Parts.{bundle_pieces, return_pieces, block_pieces};
-ghost use Rattle.ckc_printer.specs.Spaced.{spaced_text};
+ghost use Rattle.ckc_printer.specs.Output.{Puts};
+ghost use Rattle.ckc_printer.specs.Spaced.{spaced, spaced_text};
 
 use crate::assignments::{bundled, put_assignment};
 use crate::declarations::put_declaration;
 use crate::expressions::put_expr;
+use crate::output::Output;
 use crate::signs::put;
-use ckc_text::fault::NoMemory;
 use ckc_tree::expr::Expr;
 use ckc_tree::stmt::{Assignment, ForInitial, Mark, Stmt};
 
 /// The word before a block or a function, if one is written.
-pub fn optional_mark(out: &mut Vec<u8>, mark: Option<Mark>) -> Result<(), NoMemory>
-    ensures { OnOk result (out.new.items ≡ out.old.items ++ spaced_text (mark_pieces mark)) }
+pub fn optional_mark(out: &mut Output, mark: Option<Mark>)
+    ensures { Puts out.old out.new (spaced_text (mark_pieces mark)) }
 {
     match mark {
         Some(Mark::Checked) => put(out, b"_Checked"),
         Some(Mark::Unchecked) => put(out, b"_Unchecked"),
-        None => Ok(()),
+        None => {}
     }
 }
 
 /// What stands first in the head of a `for`.
-fn for_start(out: &mut Vec<u8>, initial: &ForInitial) -> Result<(), NoMemory>
-    ensures { OnOk result (out.new.items ≡ out.old.items ++ spaced_text (initial_pieces (for_initial initial.now))) }
+fn for_start(out: &mut Output, initial: &ForInitial)
+    ensures { Puts out.old out.new (spaced_text (initial_pieces (for_initial initial.now))) }
 {
     match initial {
-        ForInitial::Nothing => Ok(()),
+        ForInitial::Nothing => {}
         ForInitial::Declare { declaration } => put_declaration(out, declaration),
         ForInitial::Assign { assignment } => put_assignment(out, assignment),
     }
 }
 
 /// An expression, if one is written.
-fn optional_expr(out: &mut Vec<u8>, written: &Option<Box<Expr>>) -> Result<(), NoMemory>
-    ensures { OnOk result (out.new.items ≡ out.old.items ++ spaced_text (optional_expression_pieces (option_map on_heap written.now))) }
+fn optional_expr(out: &mut Output, written: &Option<Box<Expr>>)
+    ensures { Puts out.old out.new (spaced_text (optional_expression_pieces (option_map on_heap written.now))) }
 {
     match written {
         Some(expr) => put_expr(out, expr),
-        None => Ok(()),
+        None => {}
     }
 }
 
 /// An assignment, if one is written.
-fn optional_assignment(out: &mut Vec<u8>, written: &Option<Assignment>) -> Result<(), NoMemory>
-    ensures { OnOk result (out.new.items ≡ out.old.items ++ spaced_text (optional_assignment_pieces (option_map assignment written.now))) }
+fn optional_assignment(out: &mut Output, written: &Option<Assignment>)
+    ensures { Puts out.old out.new (spaced_text (optional_assignment_pieces (option_map assignment written.now))) }
 {
     match written {
         Some(assignment) => put_assignment(out, assignment),
-        None => Ok(()),
+        None => {}
     }
 }
 
 /// The head of a `for`, from its word to its parenthesis.
 #[tactic(auto, using(crate::proofs::Texts::spaced_append))]
 fn for_head(
-    out: &mut Vec<u8>,
+    out: &mut Output,
     initial: &ForInitial,
     condition: &Option<Box<Expr>>,
     step: &Option<Assignment>,
-) -> Result<(), NoMemory>
-    ensures { OnOk result (out.new.items ≡ out.old.items ++ spaced_text (for_head_pieces (for_initial initial.now) (option_map on_heap condition.now) (option_map assignment step.now))) }
+)
+    ensures { Puts out.old out.new (spaced_text (for_head_pieces (for_initial initial.now) (option_map on_heap condition.now) (option_map assignment step.now))) }
 {
-    put(out, b"for (")?;
-    for_start(out, initial)?;
-    put(out, b";")?;
-    optional_expr(out, condition)?;
-    put(out, b";")?;
-    optional_assignment(out, step)?;
-    put(out, b")")
+    put(out, b"for (");
+    for_start(out, initial);
+    put(out, b";");
+    optional_expr(out, condition);
+    put(out, b";");
+    optional_assignment(out, step);
+    put(out, b")");
 }
 
-/// The word `if` and a condition in parentheses.
+/// A word, and a condition in parentheses behind it.
 #[tactic(auto, using(crate::proofs::Texts::spaced_append))]
-fn if_head(out: &mut Vec<u8>, condition: &Expr) -> Result<(), NoMemory>
-    ensures { OnOk result (out.new.items ≡ out.old.items ++ spaced_text (tested_pieces kinds.If (expression condition.now))) }
+fn put_tested(out: &mut Output, word: &[u8], condition: &Expr)
+    ensures { Puts out.old out.new (spaced word.now ++ (spaced (40 ∷ []) ++ (spaced_text (expression_pieces (expression condition.now)) ++ spaced (41 ∷ [])))) }
 {
-    put(out, b"if (")?;
-    put_expr(out, condition)?;
-    put(out, b")")
-}
-
-/// The word `while` and a condition in parentheses.
-#[tactic(auto, using(crate::proofs::Texts::spaced_append))]
-fn while_head(out: &mut Vec<u8>, condition: &Expr) -> Result<(), NoMemory>
-    ensures { OnOk result (out.new.items ≡ out.old.items ++ spaced_text (tested_pieces kinds.While (expression condition.now))) }
-{
-    put(out, b"while (")?;
-    put_expr(out, condition)?;
-    put(out, b")")
+    put(out, word);
+    put(out, b"(");
+    put_expr(out, condition);
+    put(out, b")");
 }
 
 /// A bundle.
 #[tactic(auto, using(crate::proofs::Texts::spaced_append))]
-fn put_bundle(out: &mut Vec<u8>, assignments: &[Assignment]) -> Result<(), NoMemory>
-    ensures { OnOk result (out.new.items ≡ out.old.items ++ spaced_text (bundle_pieces (map assignment assignments.now))) }
+fn put_bundle(out: &mut Output, assignments: &[Assignment])
+    ensures { Puts out.old out.new (spaced_text (bundle_pieces (map assignment assignments.now))) }
 {
-    put(out, b"_Bundled {")?;
-    bundled(out, assignments)?;
-    put(out, b"}")
+    put(out, b"_Bundled {");
+    bundled(out, assignments);
+    put(out, b"}");
 }
 
 /// A `return`.
 #[tactic(auto, using(crate::proofs::Texts::spaced_append))]
-fn put_return(out: &mut Vec<u8>, value: &Option<Box<Expr>>) -> Result<(), NoMemory>
-    ensures { OnOk result (out.new.items ≡ out.old.items ++ spaced_text (return_pieces (option_map on_heap value.now))) }
+fn put_return(out: &mut Output, value: &Option<Box<Expr>>)
+    ensures { Puts out.old out.new (spaced_text (return_pieces (option_map on_heap value.now))) }
 {
-    put(out, b"return")?;
-    optional_expr(out, value)?;
+    put(out, b"return");
+    optional_expr(out, value);
     put(out, b";")
 }
 
 /// A statement.
 #[cycle(statements)]
 #[tactic(auto, using(crate::proofs::Texts::spaced_append))]
-fn put_stmt(out: &mut Vec<u8>, stmt: &Stmt) -> Result<(), NoMemory>
-    ensures { OnOk result (out.new.items ≡ out.old.items ++ spaced_text (statement_pieces (statement stmt.now))) }
+fn put_stmt(out: &mut Output, stmt: &Stmt)
+    ensures { Puts out.old out.new (spaced_text (statement_pieces (statement stmt.now))) }
 {
     match stmt {
         Stmt::Block {
@@ -139,18 +131,18 @@ fn put_stmt(out: &mut Vec<u8>, stmt: &Stmt) -> Result<(), NoMemory>
             declaration,
             span: _,
         } => {
-            put_declaration(out, declaration)?;
+            put_declaration(out, declaration);
             put(out, b";")
         }
         Stmt::Assign {
             assignment,
             span: _,
         } => {
-            put_assignment(out, assignment)?;
+            put_assignment(out, assignment);
             put(out, b";")
         }
         Stmt::Call { call, span: _ } => {
-            put_expr(out, call)?;
+            put_expr(out, call);
             put(out, b";")
         }
         Stmt::Empty { span: _ } => put(out, b";"),
@@ -160,14 +152,14 @@ fn put_stmt(out: &mut Vec<u8>, stmt: &Stmt) -> Result<(), NoMemory>
             alternative,
             span: _,
         } => {
-            if_head(out, condition)?;
-            put_stmt(out, consequent)?;
+            put_tested(out, b"if", condition);
+            put_stmt(out, consequent);
             match alternative {
                 Some(alternative) => {
-                    put(out, b"else")?;
-                    put_stmt(out, alternative)
+                    put(out, b"else");
+                    put_stmt(out, alternative);
                 }
-                None => Ok(()),
+                None => {}
             }
         }
         Stmt::While {
@@ -175,8 +167,8 @@ fn put_stmt(out: &mut Vec<u8>, stmt: &Stmt) -> Result<(), NoMemory>
             body,
             span: _,
         } => {
-            while_head(out, condition)?;
-            put_stmt(out, body)
+            put_tested(out, b"while", condition);
+            put_stmt(out, body);
         }
         Stmt::For {
             initial,
@@ -185,8 +177,8 @@ fn put_stmt(out: &mut Vec<u8>, stmt: &Stmt) -> Result<(), NoMemory>
             body,
             span: _,
         } => {
-            for_head(out, initial, condition, step)?;
-            put_stmt(out, body)
+            for_head(out, initial, condition, step);
+            put_stmt(out, body);
         }
         Stmt::Return { value, span: _ } => put_return(out, value),
         Stmt::Break { span: _ } => put(out, b"break ;"),
@@ -197,23 +189,22 @@ fn put_stmt(out: &mut Vec<u8>, stmt: &Stmt) -> Result<(), NoMemory>
 /// The statements of a block.
 #[cycle(statements)]
 #[tactic(auto, using(crate::proofs::Texts::spaced_append))]
-fn put_stmts(out: &mut Vec<u8>, stmts: &[Stmt]) -> Result<(), NoMemory>
-    ensures { OnOk result (out.new.items ≡ out.old.items ++ spaced_text (statements_pieces (statement_list stmts.now))) }
+fn put_stmts(out: &mut Output, stmts: &[Stmt])
+    ensures { Puts out.old out.new (spaced_text (statements_pieces (statement_list stmts.now))) }
 {
     for stmt in stmts {
-        put_stmt(out, stmt)?;
+        put_stmt(out, stmt);
     }
-    Ok(())
 }
 
 /// A block, with the word before it.
 #[cycle(statements)]
 #[tactic(auto, using(crate::proofs::Texts::spaced_append))]
-pub fn put_block(out: &mut Vec<u8>, mark: Option<Mark>, stmts: &[Stmt]) -> Result<(), NoMemory>
-    ensures { OnOk result (out.new.items ≡ out.old.items ++ spaced_text (block_pieces mark (statement_list stmts.now))) }
+pub fn put_block(out: &mut Output, mark: Option<Mark>, stmts: &[Stmt])
+    ensures { Puts out.old out.new (spaced_text (block_pieces mark (statement_list stmts.now))) }
 {
-    optional_mark(out, mark)?;
-    put(out, b"{")?;
-    put_stmts(out, stmts)?;
-    put(out, b"}")
+    optional_mark(out, mark);
+    put(out, b"{");
+    put_stmts(out, stmts);
+    put(out, b"}");
 }

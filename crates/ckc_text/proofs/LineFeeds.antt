@@ -130,8 +130,6 @@ line_feeds_at_other src i lt ne =
     ∙ ap (λ c. line_feeds_of (take i src) ++ cond c (i ∷ []) []) (ne_eqb (get_or src i 0) 10 ne)
     ∙ append-nil (line_feeds_of (take i src))
 
-pub ruleset line_feeds = (line_feeds_at_feed, line_feeds_at_other)
-
 -- where the line behind a text begins: after the last line feed
 abbrev start_after : List ℕ → ℕ
 start_after [] = 0

@@ -37,7 +37,6 @@ fn count_below(offsets: &[u32], at: u32) -> usize
 
 impl LineIndex {
     /// The line feeds of a source.
-    #[tactic(auto, using(crate::proofs::LineFeeds::line_feeds))]
     pub fn new(alloc: Global, src: &[u8]) -> Result<LineIndex, NoMemory>
         requires { length src.now ≤ 1048577 }
         ensures { IfOk result (λ index. index ≡ line_feeds_of src.now) }

@@ -11,7 +11,7 @@ pub struct Span {
 }
 
 /// A line and a column, both from 1. A column counts bytes.
-#[derive(Clone, Copy, Debug, PartialEq, Eq)]
+#[derive(Clone, Copy, PartialEq, Eq)]
 pub struct Place {
     pub line: u32,
     pub col: u32,

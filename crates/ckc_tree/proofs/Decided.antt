@@ -1,220 +1,272 @@
--- The tests of placement decide it.
-use Rattle.std.proofs.Common.{◌≡◌, ℕ, ◌≤◌, Bool, true, false, nat_le, ◌&&◌, List, [], ◌∷◌, ◌++◌, map, Option, Some, None, IsTrue, refl, ap, sym, ◌∙◌, subst, append_assoc, arith}
-use Rattle.std.specs.Option.{option_map}
+-- The walk through a tree decides whether its spans stand where they should.
+use Rattle.std.proofs.Common.{◌≡◌, ℕ, ◌≤◌, Bool, true, false, ◌&&◌, List, [], ◌∷◌, ◌++◌, map, Option, Some, None, IsTrue, refl, ap, sym, ◌∙◌, subst, arith}
 use Rattle.std.proofs.lemmas.Bool.{leb-true, le-leb}
 use Rattle.std.specs.List.{AllByRecursion}
 use Rattle.ckc_text.specs.declared.place.Span.{Span}
+use Rattle.ckc_tree.specs.declared.cursor.Cursor.{Cursor}
+use Rattle.ckc_tree.specs.declared.stmt.ArrayForm.{ArrayForm}
+use Rattle.ckc_tree.specs.declared.stmt.SignedConstant.{SignedConstant}
 use Rattle.ckc_tree.specs.Types.{TypeTree, IntType, CharType, StructType, PointerType, type_span}
 use Rattle.ckc_tree.specs.Expressions as e
 use Rattle.ckc_tree.specs.Expressions.{Expression, Expressions, Bounds, expression_span, bounds_span}
 use Rattle.ckc_tree.specs.Statements as s
 use Rattle.ckc_tree.specs.Statements.{Initializer, Declarator, Declaration, Assignment, assignment_span, ForInitial, Statement, Statements, statement_span}
 use Rattle.ckc_tree.specs.Items as i
-use Rattle.ckc_tree.specs.Items.{Member, ResultForm, Function, Body, Item, Tree}
+use Rattle.ckc_tree.specs.Items.{Member, ResultForm, Parameters, Function, Body, Item, Tree}
 use Rattle.ckc_tree.specs.Placement.{InOrder, Holds, optional, OptionalPlaced, TypePlaced, expressions_spans, ExpressionPlaced, ExpressionsPlaced, BoundsPlaced, array_span, initializer_span, InitializerPlaced, declarator_span, DeclaratorPlaced, DeclarationPlaced, AssignmentPlaced, initial_spans, InitialPlaced, statements_spans, StatementPlaced, StatementsPlaced, MemberPlaced, member_span, result_span, ResultPlaced, listed, body_span, BodyPlaced, item_span, ItemPlaced, IsPlaced}
-use Rattle.ckc_tree.specs.PlacementTests as tests
-use Rattle.ckc_tree.specs.PlacementTests.{in_order, holds, before, last_end, constant_span}
+use Rattle.ckc_tree.specs.Walks as walks
+use Rattle.ckc_tree.specs.Walks.{begun, reached, around, passed, each_walked, optional_walked, constant_walked, array_walked}
 
--- a test says whether a statement holds
-pub record Decides (test : Bool) (Fact : Type 0) : Type 0 where
-  pub yes : IsTrue test → Fact
-  pub no : Fact → IsTrue test
+-- where the last of the spans ends, of which the first may begin at this byte
+abbrev last_end : ℕ → List Span → ℕ
+last_end from [] = from
+last_end from (span ∷ spans) = last_end span.to spans
 
-both : {a b : Bool} {A B : Type 0} → Decides a A → Decides b B → Decides (a && b) (A × B)
-both {a = true} p q = record { yes = λ h. (p.yes refl, q.yes h); no = λ x. q.no x.1 }
-both {a = false} p q = record { yes = λ h. absurd cc; no = λ x. p.no x.0 }
+-- a walk ends behind these spans, and it is in order where they are and a statement holds
+record Decides (walk : Cursor → Cursor) (spans : List Span) (Fact : Type 0) : Type 0 where
+  end : (c : Cursor) → (walk c).at ≡ last_end c.at spans
+  yes : (c : Cursor) → (walk c).in_order ≡ true → (c.in_order ≡ true) × InOrder c.at spans (walk c).at × Fact
+  no : (c : Cursor) → c.in_order ≡ true → InOrder c.at spans (walk c).at → Fact → (walk c).in_order ≡ true
 
-restated : {test : Bool} {A B : Type 0} → Decides test A → (A → B) → (B → A) → Decides test B
-restated d there back = record { yes = λ h. there (d.yes h); no = λ x. d.no (back x) }
+two : (a b : Bool) → (a && b) ≡ true → (a ≡ true) × (b ≡ true)
+two true b h = (refl, h)
+two false b h = absurd cc
 
-all_three : {a b c : Bool} {A B C : Type 0} → Decides a A → Decides b B → Decides c C → Decides (a && (b && c)) (A × B × C)
-all_three p q r = restated (both p (both q r)) (λ x. (x.0, x.1.0, x.1.1)) (λ x. (x.0, (x.1, x.2)))
+all : (a b : Bool) → a ≡ true → b ≡ true → (a && b) ≡ true
+all a b p q = ap (λ x. x && b) p ∙ q
 
-all_four : {a b c d : Bool} {A B C D : Type 0} → Decides a A → Decides b B → Decides c C → Decides d D → Decides (a && (b && (c && d))) (A × B × C × D)
-all_four p q r s = restated (both p (all_three q r s)) (λ x. (x.0, x.1.0, x.1.1, x.1.2)) (λ x. (x.0, (x.1, x.2, x.3)))
+-- ---- spans in order
 
-le_decided : (a b : ℕ) → Decides (nat_le a b) (a ≤ b)
-le_decided a b = record { yes = leb-true a b; no = le-leb a b }
+sooner : (from next : ℕ) (spans : List Span) (to : ℕ) → from ≤ next → InOrder next spans to → InOrder from spans to
+sooner from next [] to le h = omega arith
+sooner from next (span ∷ spans) to le h = let first = h.0 in (omega arith, h.1, h.2)
 
-stands_decided : (from : ℕ) (span : Span) → Decides (tests.stands from span) ((from ≤ span.from) × (span.from ≤ span.to))
-stands_decided from span = both (le_decided from span.from) (le_decided span.from span.to)
+later : (from : ℕ) (spans : List Span) (to end : ℕ) → to ≤ end → InOrder from spans to → InOrder from spans end
+later from [] to end le h = omega arith
+later from (span ∷ spans) to end le h = (h.0, h.1, later span.to spans to end le h.2)
 
-in_order_decided : (from : ℕ) (spans : List Span) (to : ℕ) → Decides (in_order from spans to) (InOrder from spans to)
-in_order_decided from [] to = le_decided from to
-in_order_decided from (span ∷ spans) to =
-    restated (both (stands_decided from span) (in_order_decided span.to spans to)) (λ x. (x.0.0, x.0.1, x.1)) (λ x. ((x.0, x.1), x.2))
+-- what stands in order between two bytes
+between : (from : ℕ) (spans : List Span) (to : ℕ) → InOrder from spans to → from ≤ to
+between from [] to h = h
+between from (span ∷ spans) to h = let rest = between span.to spans to h.2 in let first = h.0 in let here = h.1 in omega arith
 
-holds_decided : (whole : Span) (parts : List Span) → Decides (holds whole parts) (Holds whole parts)
-holds_decided whole parts = in_order_decided whole.from parts whole.to
-
--- a part, what it holds, and the parts behind it
-one_more : {stands placed others : Bool} {A B C P Q : Type 0} → Decides stands (A × B) → Decides placed P → Decides others (C × Q) → Decides (stands && (placed && others)) ((A × B × C) × (P × Q))
-one_more s p q = restated (all_three s p q) (λ x. ((x.0.0, x.0.1, x.2.0), (x.1, x.2.1))) (λ x. ((x.0.0, x.0.1), x.1.0, (x.0.2, x.1.1)))
-
--- a type, and the parts behind it
-type_first : {stands placed others : Bool} {A B C P Q : Type 0} → Decides stands (A × B) → Decides placed P → Decides others (C × Q) → Decides (stands && (placed && others)) ((A × B × C) × P × Q)
-type_first s p q = restated (all_three s p q) (λ x. ((x.0.0, x.0.1, x.2.0), x.1, x.2.1)) (λ x. ((x.0.0, x.0.1), x.1, (x.0.2, x.2)))
-
--- a name, and the parts behind it
-name_first : {stands others : Bool} {A B C Q : Type 0} → Decides stands (A × B) → Decides others (C × Q) → Decides (stands && others) ((A × B × C) × Q)
-name_first s q = restated (both s q) (λ x. ((x.0.0, x.0.1, x.1.0), x.1.1)) (λ x. ((x.0.0, x.0.1), (x.0.2, x.1)))
-
--- the span of a part that may be left out, before others
-optional_first : {A : Type 0} (span_of : A → Span) (part : Option A) {spans others : List Span} → spans ≡ others → before (option_map span_of part) spans ≡ optional span_of part ++ others
-optional_first span_of None same = same
-optional_first span_of (Some part) same = ap (λ x. span_of part ∷ x) same
-
-optional_last : {A : Type 0} (span_of : A → Span) (part : Option A) → before (option_map span_of part) [] ≡ optional span_of part
-optional_last span_of None = refl
-optional_last span_of (Some part) = refl
-
-same_decided : (from : ℕ) {spans others : List Span} (to : ℕ) → spans ≡ others → Decides (in_order from spans to) (InOrder from others to)
-same_decided from {spans} to same = subst (λ x. Decides (in_order from spans to) (InOrder from x to)) same (in_order_decided from spans to)
-
-parts_decided : {A : Type 0} (span_of : A → Span) {placed : A → Bool} {Placed : A → Type 0} → ((part : A) → Decides (placed part) (Placed part)) → (from : ℕ) (parts : List A) (to : ℕ)
-    → Decides (tests.parts_placed span_of placed from parts to) (InOrder from (map span_of parts) to × AllByRecursion Placed parts)
-parts_decided span_of each from [] to = restated (le_decided from to) (λ x. (x, tt)) (λ x. x.0)
-parts_decided span_of each from (part ∷ parts) to = one_more (stands_decided from (span_of part)) (each part) (parts_decided span_of each (span_of part).to parts to)
-
-optional_decided : {A : Type 0} {placed : A → Bool} {Placed : A → Type 0} → ((part : A) → Decides (placed part) (Placed part)) → (part : Option A) → Decides (tests.optional_placed placed part) (OptionalPlaced Placed part)
-optional_decided each None = record { yes = λ h. tt; no = λ x. refl }
-optional_decided each (Some part) = each part
-
-type_decided : (t : TypeTree) → Decides (tests.type_placed t) (TypePlaced t)
-type_decided (IntType span) = holds_decided span []
-type_decided (CharType span) = holds_decided span []
-type_decided (StructType tag span) = holds_decided span (tag.span ∷ [])
-type_decided (PointerType word element stars span) = both (holds_decided span (type_span element ∷ [])) (type_decided element)
-
-mutual
-  expression_decided : (x : Expression) → Decides (tests.expression_placed x) (ExpressionPlaced x)
-  expression_decided (e.Number value span) = holds_decided span []
-  expression_decided (e.Character value span) = holds_decided span []
-  expression_decided (e.Text bytes span) = holds_decided span []
-  expression_decided (e.Name name) = holds_decided name.span []
-  expression_decided (e.Call callee arguments span) = name_first (stands_decided span.from callee.span) (expressions_decided callee.span.to arguments span.to)
-  expression_decided (e.SizeOf type span) = both (holds_decided span (type_span type.base ∷ [])) (type_decided type.base)
-  expression_decided (e.Cast word type operand span) = all_three (holds_decided span (type_span type.base ∷ expression_span operand ∷ [])) (type_decided type.base) (expression_decided operand)
-  expression_decided (e.BoundedCast word type operand bounds span) = all_four (holds_decided span (type_span type.base ∷ expression_span operand ∷ bounds_span bounds ∷ [])) (type_decided type.base) (expression_decided operand) (bounds_decided bounds)
-  expression_decided (e.Malloc word type size span) = all_three (holds_decided span (type_span type.base ∷ expression_span size ∷ [])) (type_decided type.base) (expression_decided size)
-  expression_decided (e.Calloc word type count size span) = all_four (holds_decided span (type_span type.base ∷ expression_span count ∷ expression_span size ∷ [])) (type_decided type.base) (expression_decided count) (expression_decided size)
-  expression_decided (e.Index base index span) = all_three (holds_decided span (expression_span base ∷ expression_span index ∷ [])) (expression_decided base) (expression_decided index)
-  expression_decided (e.Dot base member span) = both (holds_decided span (expression_span base ∷ member.span ∷ [])) (expression_decided base)
-  expression_decided (e.Arrow base member span) = both (holds_decided span (expression_span base ∷ member.span ∷ [])) (expression_decided base)
-  expression_decided (e.Unary operator operand span) = both (holds_decided span (expression_span operand ∷ [])) (expression_decided operand)
-  expression_decided (e.Binary operator left right span) = all_three (holds_decided span (expression_span left ∷ expression_span right ∷ [])) (expression_decided left) (expression_decided right)
-
-  expressions_decided : (from : ℕ) (xs : Expressions) (to : ℕ) → Decides (tests.expressions_placed from xs to) (InOrder from (expressions_spans xs) to × ExpressionsPlaced xs)
-  expressions_decided from e.NoMore to = restated (le_decided from to) (λ x. (x, tt)) (λ x. x.0)
-  expressions_decided from (e.Then first others) to = one_more (stands_decided from (expression_span first)) (expression_decided first) (expressions_decided (expression_span first).to others to)
-
-  bounds_decided : (b : Bounds) → Decides (tests.bounds_placed b) (BoundsPlaced b)
-  bounds_decided (e.Count count span) = both (holds_decided span (expression_span count ∷ [])) (expression_decided count)
-  bounds_decided (e.ByteCount count span) = both (holds_decided span (expression_span count ∷ [])) (expression_decided count)
-  bounds_decided (e.Unknown span) = holds_decided span []
-  bounds_decided (e.Range low high span) = all_three (holds_decided span (expression_span low ∷ expression_span high ∷ [])) (expression_decided low) (expression_decided high)
-
-initializer_decided : (x : Initializer) → Decides (tests.initializer_placed x) (InitializerPlaced x)
-initializer_decided (s.Value value) = expression_decided value
-initializer_decided (s.Constants constants span) = holds_decided span (map constant_span constants)
-
-declarator_decided : (d : Declarator) → Decides (tests.declarator_placed d) (DeclaratorPlaced d)
-declarator_decided d =
-    let array = optional array_span d.array in
-    let bounds = optional bounds_span d.bounds in
-    let initializer = optional initializer_span d.initializer in
-    let same = optional_first array_span d.array (optional_first bounds_span d.bounds (optional_last initializer_span d.initializer)) ∙ sym (append_assoc array bounds initializer) in
-    all_three
-    (same_decided d.span.from d.span.to (ap (λ x. d.name.span ∷ x) same))
-    (optional_decided bounds_decided d.bounds)
-    (optional_decided initializer_decided d.initializer)
-
-declaration_decided : (d : Declaration) → Decides (tests.declaration_placed d) (DeclarationPlaced d)
-declaration_decided d = type_first (stands_decided d.span.from (type_span d.base)) (type_decided d.base) (parts_decided declarator_span declarator_decided (type_span d.base).to d.declarators d.span.to)
-
-assignment_decided : (a : Assignment) → Decides (tests.assignment_placed a) (AssignmentPlaced a)
-assignment_decided (s.Store operator target value span) = all_three (holds_decided span (expression_span target ∷ expression_span value ∷ [])) (expression_decided target) (expression_decided value)
-assignment_decided (s.Step operator side target span) = both (holds_decided span (expression_span target ∷ [])) (expression_decided target)
-
-initial_decided : (x : ForInitial) → Decides (tests.initial_placed x) (InitialPlaced x)
-initial_decided s.Nothing = record { yes = λ h. tt; no = λ x. refl }
-initial_decided (s.Declares declaration) = declaration_decided declaration
-initial_decided (s.Assigns assignment) = assignment_decided assignment
-
-initial_first : (x : ForInitial) {spans others : List Span} → spans ≡ others → before (tests.initial_span x) spans ≡ initial_spans x ++ others
-initial_first s.Nothing same = same
-initial_first (s.Declares declaration) same = ap (λ x. declaration.span ∷ x) same
-initial_first (s.Assigns assignment) same = ap (λ x. assignment_span assignment ∷ x) same
-
-mutual
-  statement_decided : (x : Statement) → Decides (tests.statement_placed x) (StatementPlaced x)
-  statement_decided (s.Block mark statements span) = statements_decided span.from statements span.to
-  statement_decided (s.Bundle assignments span) = parts_decided assignment_span assignment_decided span.from assignments span.to
-  statement_decided (s.Declare declaration span) = both (holds_decided span (declaration.span ∷ [])) (declaration_decided declaration)
-  statement_decided (s.Assign assignment span) = both (holds_decided span (assignment_span assignment ∷ [])) (assignment_decided assignment)
-  statement_decided (s.CallAlone call span) = both (holds_decided span (expression_span call ∷ [])) (expression_decided call)
-  statement_decided (s.Empty span) = holds_decided span []
-  statement_decided (s.If condition consequent span) = all_three (holds_decided span (expression_span condition ∷ statement_span consequent ∷ [])) (expression_decided condition) (statement_decided consequent)
-  statement_decided (s.IfElse condition consequent alternative span) = all_four (holds_decided span (expression_span condition ∷ statement_span consequent ∷ statement_span alternative ∷ [])) (expression_decided condition) (statement_decided consequent) (statement_decided alternative)
-  statement_decided (s.While condition body span) = all_three (holds_decided span (expression_span condition ∷ statement_span body ∷ [])) (expression_decided condition) (statement_decided body)
-  statement_decided (s.For initial condition step body span) =
-      let first = initial_spans initial in
-      let second = optional expression_span condition in
-      let third = optional assignment_span step in
-      let last = statement_span body ∷ [] in
-      let same = initial_first initial (optional_first expression_span condition (optional_first assignment_span step {others = last} refl)) ∙ sym (append_assoc (first ++ second) third last ∙ append_assoc first second (third ++ last)) in
-      let spans = same_decided span.from span.to same in
-      let head = all_three (initial_decided initial) (optional_decided expression_decided condition) (optional_decided assignment_decided step) in
-      restated (all_three spans head (statement_decided body)) (λ x. (x.0, x.1.0, x.1.1, x.1.2, x.2)) (λ x. (x.0, (x.1, x.2, x.3), x.4))
-  statement_decided (s.Return value span) = both (same_decided span.from span.to (optional_last expression_span value)) (optional_decided expression_decided value)
-  statement_decided (s.Break span) = holds_decided span []
-  statement_decided (s.Continue span) = holds_decided span []
-
-  statements_decided : (from : ℕ) (xs : Statements) (to : ℕ) → Decides (tests.statements_placed from xs to) (InOrder from (statements_spans xs) to × StatementsPlaced xs)
-  statements_decided from s.NoMore to = restated (le_decided from to) (λ x. (x, tt)) (λ x. x.0)
-  statements_decided from (s.Then first others) to = one_more (stands_decided from (statement_span first)) (statement_decided first) (statements_decided (statement_span first).to others to)
-
-member_decided : (m : Member) → Decides (tests.member_placed m) (MemberPlaced m)
-member_decided m = all_three (same_decided m.span.from m.span.to (ap (λ x. type_span m.type.base ∷ m.name.span ∷ x) (optional_last bounds_span m.bounds))) (type_decided m.type.base) (optional_decided bounds_decided m.bounds)
-
-result_decided : (x : ResultForm) → Decides (tests.result_placed x) (ResultPlaced x)
-result_decided (i.Void span) = holds_decided span []
-result_decided (i.Value base) = type_decided base
-
-body_decided : (b : Body) → Decides (tests.body_placed b) (BodyPlaced b)
-body_decided b = statements_decided b.span.from b.statements b.span.to
-
--- spans, and spans behind the last of them
-joined : (from : ℕ) (spans others : List Span) (to : ℕ) → InOrder from spans (last_end from spans) → InOrder (last_end from spans) others to → InOrder from (spans ++ others) to
-joined from [] others to h k = k
-joined from (span ∷ spans) others to h k = (h.0, h.1, joined span.to spans others to h.2 k)
+joined : (from : ℕ) (spans : List Span) (next : ℕ) (others : List Span) (to : ℕ) → InOrder from spans next → InOrder next others to → InOrder from (spans ++ others) to
+joined from [] next others to h k = sooner from next others to h k
+joined from (span ∷ spans) next others to h k = (h.0, h.1, joined span.to spans next others to h.2 k)
 
 cut : (from : ℕ) (spans others : List Span) (to : ℕ) → InOrder from (spans ++ others) to → InOrder from spans (last_end from spans) × InOrder (last_end from spans) others to
 cut from [] others to h = (omega arith, h)
 cut from (span ∷ spans) others to h = let k = cut span.to spans others to h.2 in ((h.0, h.1, k.0), k.1)
 
-function_decided : (f : Function) → Decides (tests.function_placed f) (ItemPlaced (i.FunctionItem f))
-function_decided f =
-    let end = tests.parameters_end f in
-    let spans = map member_span (listed f.parameters) in
-    let bounds = optional bounds_span f.bounds in
-    let body = optional body_span f.body in
-    let others = bounds ++ body in
-    let same = append_assoc spans bounds body in
-    restated
-    (both (stands_decided f.span.from (result_span f.result))
-    (both (stands_decided (result_span f.result).to f.name.span)
-    (both (parts_decided member_span member_decided f.name.span.to (listed f.parameters) end)
-    (both (same_decided end f.span.to (optional_first bounds_span f.bounds (optional_last body_span f.body)))
-    (all_three (result_decided f.result) (optional_decided bounds_decided f.bounds) (optional_decided body_decided f.body))))))
-    (λ x. ((x.0.0, x.0.1, (x.1.0.0, x.1.0.1, subst (λ y. InOrder f.name.span.to y f.span.to) (sym same) (joined f.name.span.to spans others f.span.to x.1.1.0.0 x.1.1.1.0))), x.1.1.1.1.0, x.1.1.0.1, x.1.1.1.1.1, x.1.1.1.1.2))
-    (λ x. let k = cut f.name.span.to spans others f.span.to (subst (λ y. InOrder f.name.span.to y f.span.to) same x.0.2.2) in ((x.0.0, x.0.1), ((x.0.2.0, x.0.2.1), ((k.0, x.2), (k.1, (x.1, x.3, x.4))))))
+ended : (from : ℕ) (spans : List Span) (to : ℕ) → InOrder from spans to → InOrder from spans (last_end from spans) × (last_end from spans ≤ to)
+ended from [] to h = (omega arith, h)
+ended from (span ∷ spans) to h = let k = ended span.to spans to h.2 in ((h.0, h.1, k.0), k.1)
 
-item_decided : (x : Item) → Decides (tests.item_placed x) (ItemPlaced x)
-item_decided (i.RegionItem region span) = holds_decided span []
-item_decided (i.StructureItem structure) = name_first (stands_decided structure.span.from structure.tag.span) (parts_decided member_span member_decided structure.tag.span.to structure.members structure.span.to)
-item_decided (i.GlobalItem global) = type_first (stands_decided global.span.from (type_span global.base)) (type_decided global.base) (parts_decided declarator_span declarator_decided (type_span global.base).to global.declarators global.span.to)
+last_end_append : (from : ℕ) (spans others : List Span) → last_end from (spans ++ others) ≡ last_end (last_end from spans) others
+last_end_append from [] others = refl
+last_end_append from (span ∷ spans) others = last_end_append span.to spans others
+
+-- ---- walks
+
+nothing : Decides (λ c. c) [] (Unit {0})
+nothing = record { end = λ c. refl; yes = λ c h. (h, omega arith, tt); no = λ c h _ _. h }
+
+restated : {walk : Cursor → Cursor} {spans : List Span} {A B : Type 0} → Decides walk spans A → (A → B) → (B → A) → Decides walk spans B
+restated d there back = record { end = d.end; yes = λ c h. let x = d.yes c h in (x.0, x.1, there x.2); no = λ c h order fact. d.no c h order (back fact) }
+
+-- one walk behind the other
+both : {f g : Cursor → Cursor} {xs ys : List Span} {A B : Type 0} → Decides f xs A → Decides g ys B → Decides (λ c. g (f c)) (xs ++ ys) (A × B)
+both {f} {g} {xs} {ys} {A} {B} p q = record {
+  end = λ c. q.end (f c) ∙ ap (λ n. last_end n ys) (p.end c) ∙ sym (last_end_append c.at xs ys);
+  yes = λ c h. let y = q.yes (f c) h in let x = p.yes c y.0 in (x.0, joined c.at xs (f c).at ys (g (f c)).at x.1 y.1, (x.2, y.2));
+  no = λ c h order fact.
+      let k = cut c.at xs ys (g (f c)).at order in
+      let first = p.no c h (subst (λ n. InOrder c.at xs n) (sym (p.end c)) k.0) fact.0 in
+      q.no (f c) first (subst (λ n. InOrder n ys (g (f c)).at) (sym (p.end c)) k.1) fact.1;
+}
+
+-- the parts of a form, in its span
+inside : {parts : Cursor → Cursor} {spans : List Span} {A : Type 0} (span : Span) → Decides parts spans A → Decides (around span parts) (span ∷ []) (Holds span spans × A)
+inside {parts} {spans} {A} span p = record {
+  end = λ c. refl;
+  yes = λ c h.
+      let inner = parts (reached c span.from) in
+      let last = two inner.in_order _ h in
+      let x = p.yes (reached c span.from) last.0 in
+      let first = two c.in_order _ x.0 in
+      let held = later span.from spans inner.at span.to (leb-true inner.at span.to last.1) x.1 in
+      (first.0, (leb-true c.at span.from first.1, between span.from spans span.to held, omega arith), (held, x.2));
+  no = λ c h order fact.
+      let inner = parts (reached c span.from) in
+      let k = ended span.from spans span.to fact.0 in
+      let same = sym (p.end (reached c span.from)) in
+      let first = all c.in_order _ h (le-leb c.at span.from order.0) in
+      let passes = p.no (reached c span.from) first (subst (λ n. InOrder span.from spans n) same k.0) fact.1 in
+      all inner.in_order _ passes (le-leb inner.at span.to (subst (λ n. n ≤ span.to) same k.1));
+}
+
+-- a form without parts
+leaf : (span : Span) → Decides (λ c. passed c span) (span ∷ []) (Holds span [])
+leaf span = restated (inside span nothing) (λ x. x.0) (λ x. (x, tt))
+
+-- a span of which nothing else is said
+name : (span : Span) → Decides (λ c. passed c span) (span ∷ []) (Unit {0})
+name span =
+    let d = leaf span in
+    record { end = d.end; yes = λ c h. let x = d.yes c h in (x.0, x.1, tt); no = λ c h order _. d.no c h order order.1 }
+
+inside_two : {f g : Cursor → Cursor} {xs ys : List Span} {A B : Type 0} (span : Span) → Decides f xs A → Decides g ys B → Decides (around span (λ c. g (f c))) (span ∷ []) (Holds span (xs ++ ys) × A × B)
+inside_two span p q = restated (inside span (both p q)) (λ x. (x.0, x.1.0, x.1.1)) (λ x. (x.0, (x.1, x.2)))
+
+inside_three : {f g h : Cursor → Cursor} {xs ys zs : List Span} {A B C : Type 0} (span : Span) → Decides f xs A → Decides g ys B → Decides h zs C → Decides (around span (λ c. h (g (f c)))) (span ∷ []) (Holds span ((xs ++ ys) ++ zs) × A × B × C)
+inside_three span p q r = restated (inside span (both (both p q) r)) (λ x. (x.0, x.1.0.0, x.1.0.1, x.1.1)) (λ x. (x.0, ((x.1, x.2), x.3)))
+
+-- parts, and a name behind them
+before_name : {f : Cursor → Cursor} {xs : List Span} {A : Type 0} (span last : Span) → Decides f xs A → Decides (around span (λ c. passed (f c) last)) (span ∷ []) (Holds span (xs ++ last ∷ []) × A)
+before_name span last p = restated (inside span (both p (name last))) (λ x. (x.0, x.1.0)) (λ x. (x.0, (x.1, tt)))
+
+-- a name, and parts behind it
+behind_name : {f : Cursor → Cursor} {xs : List Span} {A : Type 0} (span first : Span) → Decides f xs A → Decides (around span (λ c. f (passed c first))) (span ∷ []) (Holds span (first ∷ xs) × A)
+behind_name span first p = restated (inside span (both (name first) p)) (λ x. (x.0, x.1.1)) (λ x. (x.0, (tt, x.1)))
+
+each_decided : {A : Type 0} (span_of : A → Span) {walk : A → Cursor → Cursor} {Placed : A → Type 0} → ((part : A) → Decides (walk part) (span_of part ∷ []) (Placed part)) → (parts : List A)
+    → Decides (each_walked walk parts) (map span_of parts) (AllByRecursion Placed parts)
+each_decided span_of each [] = nothing
+each_decided span_of each (part ∷ parts) = both (each part) (each_decided span_of each parts)
+
+optional_decided : {A : Type 0} (span_of : A → Span) {walk : A → Cursor → Cursor} {Placed : A → Type 0} → ((part : A) → Decides (walk part) (span_of part ∷ []) (Placed part)) → (part : Option A)
+    → Decides (optional_walked walk part) (optional span_of part) (OptionalPlaced Placed part)
+optional_decided span_of each None = nothing
+optional_decided span_of each (Some part) = each part
+
+-- ---- the forms
+
+type_decided : (t : TypeTree) → Decides (walks.type_walked t) (type_span t ∷ []) (TypePlaced t)
+type_decided (IntType span) = leaf span
+type_decided (CharType span) = leaf span
+type_decided (StructType tag span) = restated (inside span (name tag.span)) (λ x. x.0) (λ x. (x, tt))
+type_decided (PointerType word element stars span) = inside span (type_decided element)
+
+mutual
+  expression_decided : (x : Expression) → Decides (walks.expression_walked x) (expression_span x ∷ []) (ExpressionPlaced x)
+  expression_decided (e.Number value span) = leaf span
+  expression_decided (e.Character value span) = leaf span
+  expression_decided (e.Text bytes span) = leaf span
+  expression_decided (e.Name n) = leaf n.span
+  expression_decided (e.Call callee arguments span) = behind_name span callee.span (arguments_decided arguments)
+  expression_decided (e.SizeOf type span) = inside span (type_decided type.base)
+  expression_decided (e.Cast word type operand span) = inside_two span (type_decided type.base) (expression_decided operand)
+  expression_decided (e.BoundedCast word type operand bounds span) = inside_three span (type_decided type.base) (expression_decided operand) (bounds_decided bounds)
+  expression_decided (e.Malloc word type size span) = inside_two span (type_decided type.base) (expression_decided size)
+  expression_decided (e.Calloc word type count size span) = inside_three span (type_decided type.base) (expression_decided count) (expression_decided size)
+  expression_decided (e.Index base index span) = inside_two span (expression_decided base) (expression_decided index)
+  expression_decided (e.Dot base member span) = before_name span member.span (expression_decided base)
+  expression_decided (e.Arrow base member span) = before_name span member.span (expression_decided base)
+  expression_decided (e.Unary operator operand span) = inside span (expression_decided operand)
+  expression_decided (e.Binary operator left right span) = inside_two span (expression_decided left) (expression_decided right)
+
+  arguments_decided : (xs : Expressions) → Decides (walks.arguments_walked xs) (expressions_spans xs) (ExpressionsPlaced xs)
+  arguments_decided e.NoMore = nothing
+  arguments_decided (e.Then first others) = both (expression_decided first) (arguments_decided others)
+
+  bounds_decided : (b : Bounds) → Decides (walks.bounds_walked b) (bounds_span b ∷ []) (BoundsPlaced b)
+  bounds_decided (e.Count count span) = inside span (expression_decided count)
+  bounds_decided (e.ByteCount count span) = inside span (expression_decided count)
+  bounds_decided (e.Unknown span) = leaf span
+  bounds_decided (e.Range low high span) = inside_two span (expression_decided low) (expression_decided high)
+
+constants_decided : (constants : List SignedConstant) → Decides (each_walked constant_walked constants) (map (λ (constant : SignedConstant). constant.span) constants) (Unit {0})
+constants_decided [] = nothing
+constants_decided (constant ∷ constants) = restated (both (name constant.span) (constants_decided constants)) (λ x. tt) (λ x. (tt, tt))
+
+initializer_decided : (x : Initializer) → Decides (walks.initializer_walked x) (initializer_span x ∷ []) (InitializerPlaced x)
+initializer_decided (s.Value value) = expression_decided value
+initializer_decided (s.Constants constants span) = restated (inside span (constants_decided constants)) (λ x. x.0) (λ x. (x, tt))
+
+array_decided : (x : Option ArrayForm) → Decides (optional_walked array_walked x) (optional array_span x) (Unit {0})
+array_decided None = nothing
+array_decided (Some array) = name array.span
+
+declarator_decided : (d : Declarator) → Decides (walks.declarator_walked d) (d.span ∷ []) (DeclaratorPlaced d)
+declarator_decided d =
+    let bounds = optional_decided bounds_span bounds_decided d.bounds in
+    let initializer = optional_decided initializer_span initializer_decided d.initializer in
+    restated (inside d.span (both (both (both (name d.name.span) (array_decided d.array)) bounds) initializer)) (λ x. (x.0, x.1.0.1, x.1.1)) (λ x. (x.0, (((tt, tt), x.1), x.2)))
+
+declaration_decided : (d : Declaration) → Decides (walks.declaration_walked d) (d.span ∷ []) (DeclarationPlaced d)
+declaration_decided d = inside_two d.span (type_decided d.base) (each_decided declarator_span declarator_decided d.declarators)
+
+assignment_decided : (a : Assignment) → Decides (walks.assignment_walked a) (assignment_span a ∷ []) (AssignmentPlaced a)
+assignment_decided (s.Store operator target value span) = inside_two span (expression_decided target) (expression_decided value)
+assignment_decided (s.Step operator side target span) = inside span (expression_decided target)
+
+initial_decided : (x : ForInitial) → Decides (walks.initial_walked x) (initial_spans x) (InitialPlaced x)
+initial_decided s.Nothing = nothing
+initial_decided (s.Declares declaration) = declaration_decided declaration
+initial_decided (s.Assigns assignment) = assignment_decided assignment
+
+mutual
+  statement_decided : (x : Statement) → Decides (walks.statement_walked x) (statement_span x ∷ []) (StatementPlaced x)
+  statement_decided (s.Block mark statements span) = inside span (statements_decided statements)
+  statement_decided (s.Bundle assignments span) = inside span (each_decided assignment_span assignment_decided assignments)
+  statement_decided (s.Declare declaration span) = inside span (declaration_decided declaration)
+  statement_decided (s.Assign assignment span) = inside span (assignment_decided assignment)
+  statement_decided (s.CallAlone call span) = inside span (expression_decided call)
+  statement_decided (s.Empty span) = leaf span
+  statement_decided (s.If condition consequent span) = inside_two span (expression_decided condition) (statement_decided consequent)
+  statement_decided (s.IfElse condition consequent alternative span) = inside_three span (expression_decided condition) (statement_decided consequent) (statement_decided alternative)
+  statement_decided (s.While condition body span) = inside_two span (expression_decided condition) (statement_decided body)
+  statement_decided (s.For initial condition step body span) =
+      let test = optional_decided expression_span expression_decided condition in
+      let last = optional_decided assignment_span assignment_decided step in
+      restated (inside span (both (both (both (initial_decided initial) test) last) (statement_decided body))) (λ x. (x.0, x.1.0.0.0, x.1.0.0.1, x.1.0.1, x.1.1)) (λ x. (x.0, (((x.1, x.2), x.3), x.4)))
+  statement_decided (s.Return value span) = inside span (optional_decided expression_span expression_decided value)
+  statement_decided (s.Break span) = leaf span
+  statement_decided (s.Continue span) = leaf span
+
+  statements_decided : (xs : Statements) → Decides (walks.statements_walked xs) (statements_spans xs) (StatementsPlaced xs)
+  statements_decided s.NoMore = nothing
+  statements_decided (s.Then first others) = both (statement_decided first) (statements_decided others)
+
+member_decided : (m : Member) → Decides (walks.member_walked m) (m.span ∷ []) (MemberPlaced m)
+member_decided m = restated (inside m.span (both (both (type_decided m.type.base) (name m.name.span)) (optional_decided bounds_span bounds_decided m.bounds))) (λ x. (x.0, x.1.0.0, x.1.1)) (λ x. (x.0, ((x.1, tt), x.2)))
+
+members_decided : (members : List Member) → Decides (each_walked walks.member_walked members) (map member_span members) (AllByRecursion MemberPlaced members)
+members_decided = each_decided member_span member_decided
+
+parameters_decided : (x : Parameters) → Decides (walks.parameters_walked x) (map member_span (listed x)) (AllByRecursion MemberPlaced (listed x))
+parameters_decided i.Nothing = nothing
+parameters_decided i.VoidAlone = nothing
+parameters_decided (i.Listed parameters) = members_decided parameters
+
+result_decided : (x : ResultForm) → Decides (walks.result_walked x) (result_span x ∷ []) (ResultPlaced x)
+result_decided (i.Void span) = leaf span
+result_decided (i.Value base) = type_decided base
+
+body_decided : (b : Body) → Decides (walks.body_walked b) (b.span ∷ []) (BodyPlaced b)
+body_decided b = inside b.span (statements_decided b.statements)
+
+function_decided : (f : Function) → Decides (walks.function_walked f) (f.span ∷ []) (ItemPlaced (i.FunctionItem f))
+function_decided f =
+    let bounds = optional_decided bounds_span bounds_decided f.bounds in
+    let body = optional_decided body_span body_decided f.body in
+    restated (inside f.span (both (both (both (both (result_decided f.result) (name f.name.span)) (parameters_decided f.parameters)) bounds) body))
+    (λ x. (x.0, x.1.0.0.0.0, x.1.0.0.1, x.1.0.1, x.1.1)) (λ x. (x.0, ((((x.1, tt), x.2), x.3), x.4)))
+
+item_decided : (x : Item) → Decides (walks.item_walked x) (item_span x ∷ []) (ItemPlaced x)
+item_decided (i.RegionItem region span) = leaf span
+item_decided (i.StructureItem structure) = behind_name structure.span structure.tag.span (members_decided structure.members)
+item_decided (i.GlobalItem global) = inside_two global.span (type_decided global.base) (each_decided declarator_span declarator_decided global.declarators)
 item_decided (i.FunctionItem function) = function_decided function
 
-pub tree_decided : (length : ℕ) (tree : Tree) → Decides (tests.tree_placed length tree) (IsPlaced length tree)
-tree_decided length tree = restated (both (in_order_decided 0 (tree.span ∷ []) length) (parts_decided item_span item_decided tree.span.from tree.items tree.span.to)) (λ x. (x.0, x.1.0, x.1.1)) (λ x. (x.0, (x.1, x.2)))
+pub in_order_placed : (length : ℕ) (tree : Tree) → IsTrue (walks.is_placed length tree) → IsPlaced length tree
+in_order_placed length tree h =
+    let items = inside tree.span (each_decided item_span item_decided tree.items) in
+    let last = two _ _ h in
+    let x = items.yes begun last.0 in
+    ((x.1.0, x.1.1, leb-true tree.span.to length last.1), x.2.0, x.2.1)
+
+pub placed_in_order : (length : ℕ) (tree : Tree) → IsPlaced length tree → IsTrue (walks.is_placed length tree)
+placed_in_order length tree x =
+    let items = inside tree.span (each_decided item_span item_decided tree.items) in
+    all _ _ (items.no begun refl (x.0.0, x.0.1, omega arith) (x.1, x.2)) (le-leb tree.span.to length x.0.2)

@@ -1,5 +1,5 @@
 -- Trees that stand in a row of their own, as in a slice.
-use Rattle.std.proofs.Common.{◌≡◌, true, ◌&&◌, List, Vec, Global, Option, refl, ap, sym, ◌∙◌}
+use Rattle.std.proofs.Common.{◌≡◌, List, Vec, Global, Option, refl, ap, sym, ◌∙◌}
 use mathlib.Core.Former.{Count}
 use Rattle.ckc_text.specs.declared.place.Span.{Span}
 use Rattle.ckc_tree.specs.declared.identifier.Identifier.{Identifier}
@@ -13,7 +13,8 @@ use Rattle.ckc_tree.specs.Expressions.{expression, expressions}
 use Rattle.ckc_tree.specs.Statements as s
 use Rattle.ckc_tree.specs.Statements.{statement, statements}
 use Rattle.ckc_tree.specs.Items.{statement_list}
-use Rattle.ckc_tree.specs.PlacementTests.{stands, expression_list, expression_placed, expressions_placed, statement_placed, statements_placed}
+use Rattle.ckc_tree.specs.declared.cursor.Cursor.{Cursor}
+use Rattle.ckc_tree.specs.Walks.{expression_list, passed, arguments_walked, expression_parts, statements_walked, statement_parts}
 
 abbrev arguments_row : Expr → (n : Count) × Row_of-Expr n
 arguments_row (exprs.Call' callee shape row span) = (_, row)
@@ -23,16 +24,15 @@ arguments_of_row : (n : _) (row : Row_of-Expr n) → expressions row ≡ express
 arguments_of_row n end_of-Expr = refl
 arguments_of_row n (more_of-Expr first rest) = ap (e.Then (expression first)) (arguments_of_row _ rest)
 
--- a call whose name stands where it should is placed where its arguments are
-pub call_placed : (x : Expr) (callee : Identifier) (arguments : Vec Expr Global) (span : Span) (slice : List Expr)
-    → x ≡ exprs.Call callee arguments span → slice ≡ arguments.items → stands span.from callee.span ≡ true → expressions_placed callee.span.to (expression_list slice) span.to ≡ expression_placed (expression x)
-call_placed x callee arguments span slice is same first =
+-- the parts of a call, with its arguments in a slice
+pub call_walked : (x : Expr) (callee : Identifier) (arguments : Vec Expr Global) (span : Span) (slice : List Expr) (cursor : Cursor)
+    → x ≡ exprs.Call callee arguments span → slice ≡ arguments.items → arguments_walked (expression_list slice) (passed cursor callee.span) ≡ expression_parts (expression x) cursor
+call_walked x callee arguments span slice cursor is same =
     let row = arguments_row (exprs.Call callee arguments span) in
     let list = arguments_of_row row.0 row.1 ∙ ap expression_list (items_hidden-the_row-Expr-0 arguments) in
-    ap (λ l. expressions_placed callee.span.to (expression_list l) span.to) same
-    ∙ ap (λ l. expressions_placed callee.span.to l span.to) (sym list)
-    ∙ ap (λ b. b && expressions_placed callee.span.to (expressions row.1) span.to) (sym first)
-    ∙ ap (λ y. expression_placed (expression y)) (sym is)
+    ap (λ l. arguments_walked (expression_list l) (passed cursor callee.span)) same
+    ∙ ap (λ l. arguments_walked l (passed cursor callee.span)) (sym list)
+    ∙ ap (λ y. expression_parts (expression y) cursor) (sym is)
 
 abbrev statements_row : Stmt → (n : Count) × Row_of-Stmt n
 statements_row (stmts.Block' mark shape row span) = (_, row)
@@ -42,12 +42,12 @@ statements_of_row : (n : _) (row : Row_of-Stmt n) → statements row ≡ stateme
 statements_of_row n end_of-Stmt = refl
 statements_of_row n (more_of-Stmt first rest) = ap (s.Then (statement first)) (statements_of_row _ rest)
 
--- a block is placed where its statements are
-pub block_placed : (x : Stmt) (mark : Option Mark) (inner : Vec Stmt Global) (span : Span) (slice : List Stmt)
-    → x ≡ stmts.Block mark inner span → slice ≡ inner.items → statements_placed span.from (statement_list slice) span.to ≡ statement_placed (statement x)
-block_placed x mark inner span slice is same =
+-- the statements of a block in a slice
+pub block_walked : (x : Stmt) (mark : Option Mark) (inner : Vec Stmt Global) (span : Span) (slice : List Stmt) (cursor : Cursor)
+    → x ≡ stmts.Block mark inner span → slice ≡ inner.items → statements_walked (statement_list slice) cursor ≡ statement_parts (statement x) cursor
+block_walked x mark inner span slice cursor is same =
     let row = statements_row (stmts.Block mark inner span) in
     let list = statements_of_row row.0 row.1 ∙ ap statement_list (items_hidden-the_row-Stmt-0 inner) in
-    ap (λ l. statements_placed span.from (statement_list l) span.to) same
-    ∙ ap (λ l. statements_placed span.from l span.to) (sym list)
-    ∙ ap (λ y. statement_placed (statement y)) (sym is)
+    ap (λ l. statements_walked (statement_list l) cursor) same
+    ∙ ap (λ l. statements_walked l cursor) (sym list)
+    ∙ ap (λ y. statement_parts (statement y) cursor) (sym is)

@@ -5,5 +5,5 @@ pub mod Items
 pub mod Heights
 pub mod Bare
 pub mod Placement
-pub mod PlacementTests
+pub mod Walks
 pub mod Examples

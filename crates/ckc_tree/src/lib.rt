@@ -1,11 +1,11 @@
 // The syntax tree of a source.
 #![tactic(auto)]
 
+mod cursor;
 pub mod expr;
 pub mod identifier;
 pub mod item;
 pub mod laws;
 mod placement;
-mod span_order;
 pub mod stmt;
 pub mod type_form;

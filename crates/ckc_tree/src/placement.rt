@@ -1,255 +1,226 @@
-// Whether the spans of a tree stand where they should: those of the parts of a form in order, and in that of the form.
+// A walk over the spans of a tree: those of the parts of a form stand in order, and in that of the form.
 
 ghost use Rattle.std.specs.Prelude.{◌≡◌, map};
 ghost use Rattle.std.specs.Option.{option_map};
 ghost use Rattle.ckc_tree.specs.Types.{type_tree};
-ghost use Rattle.ckc_tree.specs.Expressions.{expression, expression_span, bounds as bounds_of, bounds_span};
-ghost use Rattle.ckc_tree.specs.Statements.{initializer as initializer_of, declarator as declarator_of, declaration as declaration_of, assignment as assignment_of, assignment_span, for_initial, on_heap, statement};
-ghost use Rattle.ckc_tree.specs.Items.{member as member_of, parameter as parameter_of, parameters as parameters_of, result_form, statement_list, body as body_of, function as function_of, item as item_of, tree};
-ghost use Rattle.ckc_tree.specs.Placement.{initializer_span, listed, member_span, body_span};
-ghost use Rattle.ckc_tree.specs.PlacementTests as tests;
+ghost use Rattle.ckc_tree.specs.Expressions.{expression as expression_of, bounds as bounds_of};
+ghost use Rattle.ckc_tree.specs.Statements.{initializer as initializer_of, declarator as declarator_of, declaration as declaration_of, assignment as assignment_of, for_initial, on_heap, statement as statement_of};
+ghost use Rattle.ckc_tree.specs.Items.{member as member_of, parameter as parameter_of, parameters as parameters_of, structure as structure_of, global as global_of, result_form, statement_list, body as body_of, function as function_of, item as item_of, tree};
+ghost use Rattle.ckc_tree.specs.Walks as walks;
 
+use crate::cursor::Cursor;
 use crate::expr::{BoundsText, Expr};
-use crate::item::{Block, Function, Item, Member, Parameter, Parameters, Program, ResultForm};
-use crate::span_order::{constants_in_order, in_order, present_in_order, stands};
-use crate::stmt::{Assignment, Declaration, Declarator, ForInitial, Initializer, Stmt};
+use crate::item::{
+    Block, Function, Global, Item, Member, Parameter, Parameters, Program, ResultForm, Structure,
+};
+use crate::stmt::{
+    ArrayForm, Assignment, Declaration, Declarator, ForInitial, Initializer, SignedConstant, Stmt,
+};
 use crate::type_form::{TypeForm, TypeName};
 use ckc_text::place::Span;
 
-pub fn type_is_placed(base: &TypeForm) -> bool
-    ensures { result ≡ tests.type_placed (type_tree base.now) }
+fn walk_type(cursor: &mut Cursor, base: &TypeForm)
+    ensures { cursor.new ≡ walks.type_walked (type_tree base.now) cursor.old }
 {
     match base {
-        TypeForm::Int { span } => span.from <= span.to,
-        TypeForm::Char { span } => span.from <= span.to,
-        TypeForm::Struct { tag, span } => in_order(span.from, &[tag.span], span.to),
+        TypeForm::Int { span } => cursor.pass(*span),
+        TypeForm::Char { span } => cursor.pass(*span),
+        TypeForm::Struct { tag, span } => {
+            cursor.reach(span.from);
+            cursor.pass(tag.span);
+            cursor.reach(span.to);
+        }
         TypeForm::Pointer { element, span, .. } => {
-            in_order(span.from, &[element.span()], span.to) && type_is_placed(element)
+            cursor.reach(span.from);
+            walk_type(cursor, element);
+            cursor.reach(span.to);
         }
     }
 }
 
 #[cycle(expressions)]
-pub fn expression_is_placed(expr: &Expr) -> bool
-    ensures { result ≡ tests.expression_placed (expression expr.now) }
+fn walk_expression(cursor: &mut Cursor, expr: &Expr)
+    ensures { cursor.new ≡ walks.expression_walked (expression_of expr.now) cursor.old }
+{
+    let span = expr.span();
+    cursor.reach(span.from);
+    walk_parts_of_expression(cursor, expr);
+    cursor.reach(span.to);
+}
+
+#[cycle(expressions)]
+fn walk_parts_of_expression(cursor: &mut Cursor, expr: &Expr)
+    ensures { cursor.new ≡ walks.expression_parts (expression_of expr.now) cursor.old }
 {
     match expr {
-        Expr::Number { span, .. } => span.from <= span.to,
-        Expr::Character { span, .. } => span.from <= span.to,
-        Expr::Text { span, .. } => span.from <= span.to,
-        Expr::Name { name } => name.span.from <= name.span.to,
+        Expr::Number { .. } => {}
+        Expr::Character { .. } => {}
+        Expr::Text { .. } => {}
+        Expr::Name { .. } => {}
         Expr::Call {
             callee,
             arguments,
-            span,
+            ..
         } => {
-            stands(span.from, callee.span)
-                && arguments_are_placed(callee.span.to, arguments.as_slice(), span.to)
+            cursor.pass(callee.span);
+            walk_arguments(cursor, arguments.as_slice());
         }
-        Expr::SizeOf { type_name, span } => {
-            in_order(span.from, &[type_name.base.span()], span.to)
-                && type_is_placed(&type_name.base)
-        }
+        Expr::SizeOf { type_name, .. } => walk_type(cursor, &type_name.base),
         Expr::Cast {
             type_name,
             operand,
             bounds,
-            span,
             ..
-        } => match bounds {
-            None => {
-                in_order(span.from, &[type_name.base.span(), operand.span()], span.to)
-                    && type_is_placed(&type_name.base)
-                    && expression_is_placed(operand)
+        } => {
+            walk_type(cursor, &type_name.base);
+            walk_expression(cursor, operand);
+            match bounds {
+                None => {}
+                Some(bounds) => walk_bounds(cursor, bounds),
             }
-            Some(bounds) => {
-                in_order(
-                    span.from,
-                    &[type_name.base.span(), operand.span(), bounds.span()],
-                    span.to,
-                ) && type_is_placed(&type_name.base)
-                    && expression_is_placed(operand)
-                    && bounds_are_placed(bounds)
-            }
-        },
+        }
         Expr::Malloc {
             type_name,
             size,
-            span,
             ..
         } => {
-            in_order(span.from, &[type_name.base.span(), size.span()], span.to)
-                && type_is_placed(&type_name.base)
-                && expression_is_placed(size)
+            walk_type(cursor, &type_name.base);
+            walk_expression(cursor, size);
         }
         Expr::Calloc {
             type_name,
             count,
             size,
-            span,
             ..
         } => {
-            in_order(
-                span.from,
-                &[type_name.base.span(), count.span(), size.span()],
-                span.to,
-            ) && type_is_placed(&type_name.base)
-                && expression_is_placed(count)
-                && expression_is_placed(size)
+            walk_type(cursor, &type_name.base);
+            walk_expression(cursor, count);
+            walk_expression(cursor, size);
         }
-        Expr::Index { base, index, span } => {
-            in_order(span.from, &[base.span(), index.span()], span.to)
-                && expression_is_placed(base)
-                && expression_is_placed(index)
+        Expr::Index { base, index, .. } => {
+            walk_expression(cursor, base);
+            walk_expression(cursor, index);
         }
-        Expr::Dot { base, member, span } => {
-            in_order(span.from, &[base.span(), member.span], span.to) && expression_is_placed(base)
+        Expr::Dot { base, member, .. } => {
+            walk_expression(cursor, base);
+            cursor.pass(member.span);
         }
-        Expr::Arrow { base, member, span } => {
-            in_order(span.from, &[base.span(), member.span], span.to) && expression_is_placed(base)
+        Expr::Arrow { base, member, .. } => {
+            walk_expression(cursor, base);
+            cursor.pass(member.span);
         }
-        Expr::Unary { operand, span, .. } => {
-            in_order(span.from, &[operand.span()], span.to) && expression_is_placed(operand)
-        }
-        Expr::Binary {
-            left,
-            right,
-            span,
-            ..
-        } => {
-            in_order(span.from, &[left.span(), right.span()], span.to)
-                && expression_is_placed(left)
-                && expression_is_placed(right)
+        Expr::Unary { operand, .. } => walk_expression(cursor, operand),
+        Expr::Binary { left, right, .. } => {
+            walk_expression(cursor, left);
+            walk_expression(cursor, right);
         }
     }
 }
 
 #[cycle(expressions)]
-fn arguments_are_placed(from: u32, arguments: &[Expr], to: u32) -> bool
-    ensures { result ≡ tests.expressions_placed from (tests.expression_list arguments.now) to }
+fn walk_arguments(cursor: &mut Cursor, arguments: &[Expr])
+    ensures { cursor.new ≡ walks.arguments_walked (walks.expression_list arguments.now) cursor.old }
 {
-    let mut at = from;
     for argument in arguments {
-        if !(stands(at, argument.span()) && expression_is_placed(argument)) {
-            return false;
-        }
-        at = argument.span().to;
+        walk_expression(cursor, argument);
     }
-    at <= to
 }
 
 #[cycle(expressions)]
-pub fn bounds_are_placed(bounds: &BoundsText) -> bool
-    ensures { result ≡ tests.bounds_placed (bounds_of bounds.now) }
+fn walk_bounds(cursor: &mut Cursor, bounds: &BoundsText)
+    ensures { cursor.new ≡ walks.bounds_walked (bounds_of bounds.now) cursor.old }
+{
+    let span = bounds.span();
+    cursor.reach(span.from);
+    walk_parts_of_bounds(cursor, bounds);
+    cursor.reach(span.to);
+}
+
+#[cycle(expressions)]
+fn walk_parts_of_bounds(cursor: &mut Cursor, bounds: &BoundsText)
+    ensures { cursor.new ≡ walks.bounds_parts (bounds_of bounds.now) cursor.old }
 {
     match bounds {
-        BoundsText::Count { count, span } => {
-            in_order(span.from, &[count.span()], span.to) && expression_is_placed(count)
-        }
-        BoundsText::ByteCount { count, span } => {
-            in_order(span.from, &[count.span()], span.to) && expression_is_placed(count)
-        }
-        BoundsText::Unknown { span } => span.from <= span.to,
-        BoundsText::Range { low, high, span } => {
-            in_order(span.from, &[low.span(), high.span()], span.to)
-                && expression_is_placed(low)
-                && expression_is_placed(high)
+        BoundsText::Count { count, .. } => walk_expression(cursor, count),
+        BoundsText::ByteCount { count, .. } => walk_expression(cursor, count),
+        BoundsText::Unknown { .. } => {}
+        BoundsText::Range { low, high, .. } => {
+            walk_expression(cursor, low);
+            walk_expression(cursor, high);
         }
     }
 }
 
-fn initializer_is_placed(initializer: &Initializer) -> bool
-    ensures { result ≡ tests.initializer_placed (initializer_of initializer.now) }
-{
-    match initializer {
-        Initializer::Value { value } => expression_is_placed(value),
-        Initializer::List { constants, span } => {
-            constants_in_order(span.from, constants.as_slice(), span.to)
-        }
-    }
-}
-
-fn optional_bounds_span(bounds: &Option<BoundsText>) -> Option<Span>
-    ensures { result ≡ option_map bounds_span (option_map bounds_of bounds.now) }
+fn walk_optional_bounds(cursor: &mut Cursor, bounds: &Option<BoundsText>)
+    ensures { cursor.new ≡ walks.optional_walked walks.bounds_walked (option_map bounds_of bounds.now) cursor.old }
 {
     match bounds {
-        None => None,
-        Some(bounds) => Some(bounds.span()),
+        None => {}
+        Some(bounds) => walk_bounds(cursor, bounds),
     }
 }
 
-fn optional_bounds_are_placed(bounds: &Option<BoundsText>) -> bool
-    ensures { result ≡ tests.optional_placed tests.bounds_placed (option_map bounds_of bounds.now) }
+fn walk_constants(cursor: &mut Cursor, constants: &[SignedConstant])
+    ensures { cursor.new ≡ walks.each_walked walks.constant_walked constants.now cursor.old }
 {
-    match bounds {
-        None => true,
-        Some(bounds) => bounds_are_placed(bounds),
+    for constant in constants {
+        cursor.pass(constant.span);
     }
 }
 
-fn optional_initializer_span(initializer: &Option<Initializer>) -> Option<Span>
-    ensures { result ≡ option_map initializer_span (option_map initializer_of initializer.now) }
+fn walk_optional_initializer(cursor: &mut Cursor, initializer: &Option<Initializer>)
+    ensures { cursor.new ≡ walks.optional_walked walks.initializer_walked (option_map initializer_of initializer.now) cursor.old }
 {
     match initializer {
-        None => None,
-        Some(initializer) => Some(initializer.span()),
+        None => {}
+        Some(Initializer::Value { value }) => walk_expression(cursor, value),
+        Some(Initializer::List { constants, span }) => {
+            cursor.reach(span.from);
+            walk_constants(cursor, constants.as_slice());
+            cursor.reach(span.to);
+        }
     }
 }
 
-fn optional_initializer_is_placed(initializer: &Option<Initializer>) -> bool
-    ensures { result ≡ tests.optional_placed tests.initializer_placed (option_map initializer_of initializer.now) }
+fn walk_optional_array(cursor: &mut Cursor, array: &Option<ArrayForm>)
+    ensures { cursor.new ≡ walks.optional_walked walks.array_walked array.now cursor.old }
 {
-    match initializer {
-        None => true,
-        Some(initializer) => initializer_is_placed(initializer),
+    match array {
+        None => {}
+        Some(array) => cursor.pass(array.span),
     }
 }
 
-fn declarator_is_placed(declarator: &Declarator) -> bool
-    ensures { result ≡ tests.declarator_placed (declarator_of declarator.now) }
+fn walk_declarator(cursor: &mut Cursor, declarator: &Declarator)
+    ensures { cursor.new ≡ walks.declarator_walked (declarator_of declarator.now) cursor.old }
 {
-    let array = match declarator.array {
-        None => None,
-        Some(array) => Some(array.span),
-    };
-    let bounds = optional_bounds_span(&declarator.bounds);
-    let initializer = optional_initializer_span(&declarator.initializer);
-    present_in_order(
-        declarator.span.from,
-        &[Some(declarator.name.span), array, bounds, initializer],
-        declarator.span.to,
-    ) && optional_bounds_are_placed(&declarator.bounds)
-        && optional_initializer_is_placed(&declarator.initializer)
+    cursor.reach(declarator.span.from);
+    cursor.pass(declarator.name.span);
+    walk_optional_array(cursor, &declarator.array);
+    walk_optional_bounds(cursor, &declarator.bounds);
+    walk_optional_initializer(cursor, &declarator.initializer);
+    cursor.reach(declarator.span.to);
 }
 
-fn declarators_are_placed(from: u32, declarators: &[Declarator], to: u32) -> bool
-    ensures { result ≡ tests.declarators_placed from (map declarator_of declarators.now) to }
+fn walk_declarators(cursor: &mut Cursor, declarators: &[Declarator])
+    ensures { cursor.new ≡ walks.each_walked walks.declarator_walked (map declarator_of declarators.now) cursor.old }
 {
-    let mut at = from;
     for declarator in declarators {
-        if !(stands(at, declarator.span) && declarator_is_placed(declarator)) {
-            return false;
-        }
-        at = declarator.span.to;
+        walk_declarator(cursor, declarator);
     }
-    at <= to
 }
 
-fn declaration_is_placed(declaration: &Declaration) -> bool
-    ensures { result ≡ tests.declaration_placed (declaration_of declaration.now) }
+fn walk_declaration(cursor: &mut Cursor, declaration: &Declaration)
+    ensures { cursor.new ≡ walks.declaration_walked (declaration_of declaration.now) cursor.old }
 {
-    let base = declaration.base.span();
-    stands(declaration.span.from, base)
-        && type_is_placed(&declaration.base)
-        && declarators_are_placed(
-            base.to,
-            declaration.declarators.as_slice(),
-            declaration.span.to,
-        )
+    cursor.reach(declaration.span.from);
+    walk_type(cursor, &declaration.base);
+    walk_declarators(cursor, declaration.declarators.as_slice());
+    cursor.reach(declaration.span.to);
 }
 
-fn assignment_is_placed(assignment: &Assignment) -> bool
-    ensures { result ≡ tests.assignment_placed (assignment_of assignment.now) }
+fn walk_assignment(cursor: &mut Cursor, assignment: &Assignment)
+    ensures { cursor.new ≡ walks.assignment_walked (assignment_of assignment.now) cursor.old }
 {
     match assignment {
         Assignment::Store {
@@ -258,373 +229,259 @@ fn assignment_is_placed(assignment: &Assignment) -> bool
             span,
             ..
         } => {
-            in_order(span.from, &[target.span(), value.span()], span.to)
-                && expression_is_placed(target)
-                && expression_is_placed(value)
+            cursor.reach(span.from);
+            walk_expression(cursor, target);
+            walk_expression(cursor, value);
+            cursor.reach(span.to);
         }
         Assignment::Step { target, span, .. } => {
-            in_order(span.from, &[target.span()], span.to) && expression_is_placed(target)
+            cursor.reach(span.from);
+            walk_expression(cursor, target);
+            cursor.reach(span.to);
         }
     }
 }
 
-fn assignments_are_placed(from: u32, assignments: &[Assignment], to: u32) -> bool
-    ensures { result ≡ tests.assignments_placed from (map assignment_of assignments.now) to }
+fn walk_assignments(cursor: &mut Cursor, assignments: &[Assignment])
+    ensures { cursor.new ≡ walks.each_walked walks.assignment_walked (map assignment_of assignments.now) cursor.old }
 {
-    let mut at = from;
     for assignment in assignments {
-        if !(stands(at, assignment.span()) && assignment_is_placed(assignment)) {
-            return false;
-        }
-        at = assignment.span().to;
+        walk_assignment(cursor, assignment);
     }
-    at <= to
 }
 
-fn initial_span(initial: &ForInitial) -> Option<Span>
-    ensures { result ≡ tests.initial_span (for_initial initial.now) }
+fn walk_initial(cursor: &mut Cursor, initial: &ForInitial)
+    ensures { cursor.new ≡ walks.initial_walked (for_initial initial.now) cursor.old }
 {
     match initial {
-        ForInitial::Nothing => None,
-        ForInitial::Declare { declaration } => Some(declaration.span),
-        ForInitial::Assign { assignment } => Some(assignment.span()),
+        ForInitial::Nothing => {}
+        ForInitial::Declare { declaration } => walk_declaration(cursor, declaration),
+        ForInitial::Assign { assignment } => walk_assignment(cursor, assignment),
     }
 }
 
-fn initial_is_placed(initial: &ForInitial) -> bool
-    ensures { result ≡ tests.initial_placed (for_initial initial.now) }
-{
-    match initial {
-        ForInitial::Nothing => true,
-        ForInitial::Declare { declaration } => declaration_is_placed(declaration),
-        ForInitial::Assign { assignment } => assignment_is_placed(assignment),
-    }
-}
-
-fn optional_expression_span(expr: &Option<Box<Expr>>) -> Option<Span>
-    ensures { result ≡ option_map expression_span (option_map on_heap expr.now) }
+fn walk_optional_expression(cursor: &mut Cursor, expr: &Option<Box<Expr>>)
+    ensures { cursor.new ≡ walks.optional_walked walks.expression_walked (option_map on_heap expr.now) cursor.old }
 {
     match expr {
-        None => None,
-        Some(expr) => Some(expr.span()),
+        None => {}
+        Some(expr) => walk_expression(cursor, expr),
     }
 }
 
-fn optional_expression_is_placed(expr: &Option<Box<Expr>>) -> bool
-    ensures { result ≡ tests.optional_placed tests.expression_placed (option_map on_heap expr.now) }
-{
-    match expr {
-        None => true,
-        Some(expr) => expression_is_placed(expr),
-    }
-}
-
-fn optional_assignment_span(assignment: &Option<Assignment>) -> Option<Span>
-    ensures { result ≡ option_map assignment_span (option_map assignment_of assignment.now) }
+fn walk_optional_assignment(cursor: &mut Cursor, assignment: &Option<Assignment>)
+    ensures { cursor.new ≡ walks.optional_walked walks.assignment_walked (option_map assignment_of assignment.now) cursor.old }
 {
     match assignment {
-        None => None,
-        Some(assignment) => Some(assignment.span()),
+        None => {}
+        Some(assignment) => walk_assignment(cursor, assignment),
     }
-}
-
-fn optional_assignment_is_placed(assignment: &Option<Assignment>) -> bool
-    ensures { result ≡ tests.optional_placed tests.assignment_placed (option_map assignment_of assignment.now) }
-{
-    match assignment {
-        None => true,
-        Some(assignment) => assignment_is_placed(assignment),
-    }
-}
-
-// Whether the parts in the head of a `for` are placed.
-fn head_is_placed(
-    initial: &ForInitial,
-    condition: &Option<Box<Expr>>,
-    step: &Option<Assignment>,
-) -> bool
-    ensures { result ≡ tests.head_placed (for_initial initial.now) (option_map on_heap condition.now) (option_map assignment_of step.now) }
-{
-    initial_is_placed(initial)
-        && optional_expression_is_placed(condition)
-        && optional_assignment_is_placed(step)
-}
-
-// Whether the parts of a `for` stand in order.
-fn loop_is_in_order(
-    span: Span,
-    initial: &ForInitial,
-    condition: &Option<Box<Expr>>,
-    step: &Option<Assignment>,
-    body: Span,
-) -> bool
-    ensures { result ≡ tests.holds span (tests.loop_spans (for_initial initial.now) (option_map on_heap condition.now) (option_map assignment_of step.now) body) }
-{
-    let initial = initial_span(initial);
-    let condition = optional_expression_span(condition);
-    let step = optional_assignment_span(step);
-    present_in_order(span.from, &[initial, condition, step, Some(body)], span.to)
 }
 
 #[cycle(statements)]
-fn statement_is_placed(stmt: &Stmt) -> bool
-    ensures { result ≡ tests.statement_placed (statement stmt.now) }
+fn walk_statement(cursor: &mut Cursor, stmt: &Stmt)
+    ensures { cursor.new ≡ walks.statement_walked (statement_of stmt.now) cursor.old }
+{
+    let span = stmt.span();
+    cursor.reach(span.from);
+    walk_parts_of_statement(cursor, stmt);
+    cursor.reach(span.to);
+}
+
+#[cycle(statements)]
+fn walk_parts_of_statement(cursor: &mut Cursor, stmt: &Stmt)
+    ensures { cursor.new ≡ walks.statement_parts (statement_of stmt.now) cursor.old }
 {
     match stmt {
-        Stmt::Block {
-            statements,
-            span,
-            ..
-        } => statements_are_placed(span.from, statements.as_slice(), span.to),
-        Stmt::Bundle { assignments, span } => {
-            assignments_are_placed(span.from, assignments.as_slice(), span.to)
-        }
-        Stmt::Declare { declaration, span } => {
-            in_order(span.from, &[declaration.span], span.to) && declaration_is_placed(declaration)
-        }
-        Stmt::Assign { assignment, span } => {
-            in_order(span.from, &[assignment.span()], span.to) && assignment_is_placed(assignment)
-        }
-        Stmt::Call { call, span } => {
-            in_order(span.from, &[call.span()], span.to) && expression_is_placed(call)
-        }
-        Stmt::Empty { span } => span.from <= span.to,
+        Stmt::Block { statements, .. } => walk_statements(cursor, statements.as_slice()),
+        Stmt::Bundle { assignments, .. } => walk_assignments(cursor, assignments.as_slice()),
+        Stmt::Declare { declaration, .. } => walk_declaration(cursor, declaration),
+        Stmt::Assign { assignment, .. } => walk_assignment(cursor, assignment),
+        Stmt::Call { call, .. } => walk_expression(cursor, call),
+        Stmt::Empty { .. } => {}
         Stmt::If {
             condition,
             consequent,
             alternative,
-            span,
-        } => match alternative {
-            None => {
-                in_order(span.from, &[condition.span(), consequent.span()], span.to)
-                    && expression_is_placed(condition)
-                    && statement_is_placed(consequent)
+            ..
+        } => {
+            walk_expression(cursor, condition);
+            walk_statement(cursor, consequent);
+            match alternative {
+                None => {}
+                Some(alternative) => walk_statement(cursor, alternative),
             }
-            Some(alternative) => {
-                in_order(
-                    span.from,
-                    &[condition.span(), consequent.span(), alternative.span()],
-                    span.to,
-                ) && expression_is_placed(condition)
-                    && statement_is_placed(consequent)
-                    && statement_is_placed(alternative)
-            }
-        },
+        }
         Stmt::While {
             condition,
             body,
-            span,
+            ..
         } => {
-            in_order(span.from, &[condition.span(), body.span()], span.to)
-                && expression_is_placed(condition)
-                && statement_is_placed(body)
+            walk_expression(cursor, condition);
+            walk_statement(cursor, body);
         }
         Stmt::For {
             initial,
             condition,
             step,
             body,
-            span,
+            ..
         } => {
-            loop_is_in_order(*span, initial, condition, step, body.span())
-                && head_is_placed(initial, condition, step)
-                && statement_is_placed(body)
+            walk_initial(cursor, initial);
+            walk_optional_expression(cursor, condition);
+            walk_optional_assignment(cursor, step);
+            walk_statement(cursor, body);
         }
-        Stmt::Return { value, span } => {
-            present_in_order(span.from, &[optional_expression_span(value)], span.to)
-                && optional_expression_is_placed(value)
-        }
-        Stmt::Break { span } => span.from <= span.to,
-        Stmt::Continue { span } => span.from <= span.to,
+        Stmt::Return { value, .. } => walk_optional_expression(cursor, value),
+        Stmt::Break { .. } => {}
+        Stmt::Continue { .. } => {}
     }
 }
 
 #[cycle(statements)]
-fn statements_are_placed(from: u32, statements: &[Stmt], to: u32) -> bool
-    ensures { result ≡ tests.statements_placed from (statement_list statements.now) to }
+fn walk_statements(cursor: &mut Cursor, statements: &[Stmt])
+    ensures { cursor.new ≡ walks.statements_walked (statement_list statements.now) cursor.old }
 {
-    let mut at = from;
     for stmt in statements {
-        if !(stands(at, stmt.span()) && statement_is_placed(stmt)) {
-            return false;
-        }
-        at = stmt.span().to;
+        walk_statement(cursor, stmt);
     }
-    at <= to
-}
-
-fn member_is_placed(member: &Member) -> bool
-    ensures { result ≡ tests.member_placed (member_of member.now) }
-{
-    declared_is_placed(
-        member.span,
-        &member.type_name,
-        member.name.span,
-        &member.bounds,
-    )
-}
-
-fn parameter_is_placed(parameter: &Parameter) -> bool
-    ensures { result ≡ tests.member_placed (parameter_of parameter.now) }
-{
-    declared_is_placed(
-        parameter.span,
-        &parameter.type_name,
-        parameter.name.span,
-        &parameter.bounds,
-    )
 }
 
 // What members and parameters have in common.
-fn declared_is_placed(
+fn walk_declared(
+    cursor: &mut Cursor,
     span: Span,
     type_name: &TypeName,
     name: Span,
     bounds: &Option<BoundsText>,
-) -> bool
-    ensures { result ≡ tests.declared_placed span (type_tree type_name.now.base) name (option_map bounds_of bounds.now) }
+)
+    ensures { cursor.new ≡ walks.declared_walked span (type_tree type_name.now.base) name (option_map bounds_of bounds.now) cursor.old }
 {
-    let base = type_name.base.span();
-    present_in_order(
-        span.from,
-        &[Some(base), Some(name), optional_bounds_span(bounds)],
-        span.to,
-    ) && type_is_placed(&type_name.base)
-        && optional_bounds_are_placed(bounds)
+    cursor.reach(span.from);
+    walk_type(cursor, &type_name.base);
+    cursor.pass(name);
+    walk_optional_bounds(cursor, bounds);
+    cursor.reach(span.to);
 }
 
-fn members_are_placed(from: u32, members: &[Member], to: u32) -> bool
-    ensures { result ≡ tests.members_placed from (map member_of members.now) to }
+fn walk_members(cursor: &mut Cursor, members: &[Member])
+    ensures { cursor.new ≡ walks.each_walked walks.member_walked (map member_of members.now) cursor.old }
 {
-    let mut at = from;
     for member in members {
-        if !(stands(at, member.span) && member_is_placed(member)) {
-            return false;
-        }
-        at = member.span.to;
-    }
-    at <= to
-}
-
-fn parameters_are_placed(from: u32, parameters: &[Parameter], to: u32) -> bool
-    ensures { result ≡ tests.members_placed from (map parameter_of parameters.now) to }
-{
-    let mut at = from;
-    for parameter in parameters {
-        if !(stands(at, parameter.span) && parameter_is_placed(parameter)) {
-            return false;
-        }
-        at = parameter.span.to;
-    }
-    at <= to
-}
-
-// Where the last of the parameters ends, of which the first may begin at this byte.
-fn end_of_parameters(from: u32, parameters: &[Parameter]) -> u32
-    ensures { result ≡ tests.last_end from (map member_span (map parameter_of parameters.now)) }
-{
-    let mut at = from;
-    for parameter in parameters {
-        at = parameter.span.to;
-    }
-    at
-}
-
-fn result_is_placed(form: &ResultForm) -> bool
-    ensures { result ≡ tests.result_placed (result_form form.now) }
-{
-    match form {
-        ResultForm::Void { span } => span.from <= span.to,
-        ResultForm::Value { base } => type_is_placed(base),
+        walk_declared(
+            cursor,
+            member.span,
+            &member.type_name,
+            member.name.span,
+            &member.bounds,
+        );
     }
 }
 
-fn listed_parameters(parameters: &Parameters) -> &[Parameter]
-    ensures { map parameter_of result.now ≡ listed (parameters_of parameters.now) }
+fn walk_parameters(cursor: &mut Cursor, parameters: &Parameters)
+    ensures { cursor.new ≡ walks.parameters_walked (parameters_of parameters.now) cursor.old }
 {
     match parameters {
-        Parameters::Nothing => &[],
-        Parameters::Void => &[],
-        Parameters::Listed { parameters } => parameters.as_slice(),
+        Parameters::Nothing => {}
+        Parameters::Void => {}
+        Parameters::Listed { parameters } => walk_listed(cursor, parameters.as_slice()),
     }
 }
 
-fn optional_body_span(body: &Option<Block>) -> Option<Span>
-    ensures { result ≡ option_map body_span (option_map body_of body.now) }
+fn walk_listed(cursor: &mut Cursor, parameters: &[Parameter])
+    ensures { cursor.new ≡ walks.each_walked walks.member_walked (map parameter_of parameters.now) cursor.old }
 {
-    match body {
-        None => None,
-        Some(body) => Some(body.span),
+    for parameter in parameters {
+        walk_declared(
+            cursor,
+            parameter.span,
+            &parameter.type_name,
+            parameter.name.span,
+            &parameter.bounds,
+        );
     }
 }
 
-fn optional_body_is_placed(body: &Option<Block>) -> bool
-    ensures { result ≡ tests.optional_placed tests.body_placed (option_map body_of body.now) }
+fn walk_result(cursor: &mut Cursor, form: &ResultForm)
+    ensures { cursor.new ≡ walks.result_walked (result_form form.now) cursor.old }
+{
+    match form {
+        ResultForm::Void { span } => cursor.pass(*span),
+        ResultForm::Value { base } => walk_type(cursor, base),
+    }
+}
+
+fn walk_optional_body(cursor: &mut Cursor, body: &Option<Block>)
+    ensures { cursor.new ≡ walks.optional_walked walks.body_walked (option_map body_of body.now) cursor.old }
 {
     match body {
-        None => true,
+        None => {}
         Some(body) => {
-            statements_are_placed(body.span.from, body.statements.as_slice(), body.span.to)
+            cursor.reach(body.span.from);
+            walk_statements(cursor, body.statements.as_slice());
+            cursor.reach(body.span.to);
         }
     }
 }
 
-fn function_is_placed(function: &Function) -> bool
-    ensures { result ≡ tests.function_placed (function_of function.now) }
+fn walk_function(cursor: &mut Cursor, function: &Function)
+    ensures { cursor.new ≡ walks.function_walked (function_of function.now) cursor.old }
 {
-    let returned = function.result.span();
-    let name = function.name.span;
-    let parameters = listed_parameters(&function.parameters);
-    let end = end_of_parameters(name.to, parameters);
-    let bounds = optional_bounds_span(&function.bounds);
-    let body = optional_body_span(&function.body);
-    stands(function.span.from, returned)
-        && stands(returned.to, name)
-        && parameters_are_placed(name.to, parameters, end)
-        && present_in_order(end, &[bounds, body], function.span.to)
-        && result_is_placed(&function.result)
-        && optional_bounds_are_placed(&function.bounds)
-        && optional_body_is_placed(&function.body)
+    cursor.reach(function.span.from);
+    walk_result(cursor, &function.result);
+    cursor.pass(function.name.span);
+    walk_parameters(cursor, &function.parameters);
+    walk_optional_bounds(cursor, &function.bounds);
+    walk_optional_body(cursor, &function.body);
+    cursor.reach(function.span.to);
 }
 
-fn item_is_placed(item: &Item) -> bool
-    ensures { result ≡ tests.item_placed (item_of item.now) }
+fn walk_structure(cursor: &mut Cursor, structure: &Structure)
+    ensures { cursor.new ≡ walks.structure_walked (structure_of structure.now) cursor.old }
+{
+    cursor.reach(structure.span.from);
+    cursor.pass(structure.tag.span);
+    walk_members(cursor, structure.members.as_slice());
+    cursor.reach(structure.span.to);
+}
+
+fn walk_global(cursor: &mut Cursor, global: &Global)
+    ensures { cursor.new ≡ walks.global_walked (global_of global.now) cursor.old }
+{
+    cursor.reach(global.span.from);
+    walk_type(cursor, &global.base);
+    walk_declarators(cursor, global.declarators.as_slice());
+    cursor.reach(global.span.to);
+}
+
+fn walk_item(cursor: &mut Cursor, item: &Item)
+    ensures { cursor.new ≡ walks.item_walked (item_of item.now) cursor.old }
 {
     match item {
-        Item::Region { span, .. } => span.from <= span.to,
-        Item::Structure { structure } => {
-            let tag = structure.tag.span;
-            stands(structure.span.from, tag)
-                && members_are_placed(tag.to, structure.members.as_slice(), structure.span.to)
-        }
-        Item::Global { global } => {
-            let base = global.base.span();
-            stands(global.span.from, base)
-                && type_is_placed(&global.base)
-                && declarators_are_placed(base.to, global.declarators.as_slice(), global.span.to)
-        }
-        Item::Function { function } => function_is_placed(function),
+        Item::Region { span, .. } => cursor.pass(*span),
+        Item::Structure { structure } => walk_structure(cursor, structure),
+        Item::Global { global } => walk_global(cursor, global),
+        Item::Function { function } => walk_function(cursor, function),
     }
 }
 
-fn items_are_placed(from: u32, items: &[Item], to: u32) -> bool
-    ensures { result ≡ tests.items_placed from (map item_of items.now) to }
+fn walk_items(cursor: &mut Cursor, items: &[Item])
+    ensures { cursor.new ≡ walks.each_walked walks.item_walked (map item_of items.now) cursor.old }
 {
-    let mut at = from;
     for item in items {
-        if !(stands(at, item.span()) && item_is_placed(item)) {
-            return false;
-        }
-        at = item.span().to;
+        walk_item(cursor, item);
     }
-    at <= to
 }
 
 /// Whether each span of a source of `len` bytes lies in that of the form around it, and those of the parts of a form
 /// stand in order.
 pub fn program_is_placed(program: &Program, len: u32) -> bool
-    ensures { result ≡ tests.tree_placed len (tree program.now) }
+    ensures { result ≡ walks.is_placed len (tree program.now) }
 {
-    in_order(0, &[program.span], len)
-        && items_are_placed(program.span.from, program.items.as_slice(), program.span.to)
+    let mut cursor = Cursor::start();
+    cursor.reach(program.span.from);
+    walk_items(&mut cursor, program.items.as_slice());
+    cursor.reach(program.span.to);
+    cursor.reach(len);
+    cursor.in_order
 }

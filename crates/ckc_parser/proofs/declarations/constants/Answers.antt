@@ -5,7 +5,7 @@ use Rattle.ckc_grammar.proofs.Paths.{shorter}
 use Rattle.ckc_grammar.proofs.StatementPaths.{signed_path}
 use Rattle.ckc_grammar.specs.StatementGrammar as g
 use Rattle.ckc_grammar.specs.StuckStatements as stuck
-use Rattle.ckc_parser.proofs.Readings.{err}
+use Rattle.ckc_expr_parser.proofs.Readings.{err}
 use Rattle.ckc_parser.proofs.declarations.constants.Goals as goal
 
 pub returns-in_err-item : goal.returns-in_err-item
@@ -17,15 +17,15 @@ returns-in_err-push c = rw (err _ _ c.from_residual-in_err-push.ensures.1) stuck
 pub returns-in-Ok : goal.returns-in-Ok
 returns-in-Ok c = ends c.in_ok-item.item c.in_ok-push.ensures c.constants.invariant (g.one (rw c.in-Ok.ensures at c.in_ok-item.ensures))
 
-pub returns-in_err-behind : goal.returns-in_err-behind
-returns-in_err-behind c =
-    rw (err _ _ c.from_residual-in_err-behind.ensures.1, c.in_err-behind.ensures.0)
-    (c.constants.invariant.fails _ (stuck.end c.in_ok-item.ensures (no_comma_or_brace _ c.in_err-behind.ensures.1 c.in_default.ensures.1)))
+pub returns-in_err-comma : goal.returns-in_err-comma
+returns-in_err-comma c =
+    rw (err _ _ c.from_residual-in_err-comma.ensures.1, c.in_err-comma.ensures.reason, c.in_err-comma.ensures.left, c.in_default.ensures.left)
+    (c.constants.invariant.fails _ (stuck.end c.in_ok-item.ensures (no_comma_or_brace _ (rw c.in_default.ensures.left at c.in_err-comma.ensures.other) c.in_default.ensures.other)))
 
 pub constants-smaller : goal.constants-smaller
-constants-smaller c = omega (arith, shorter (signed_path c.in_ok-item.ensures), ap length c.in_ok-behind.ensures)
+constants-smaller c = omega (arith, shorter (signed_path c.in_ok-item.ensures), ap length c.in_default.ensures.left, ap length c.in_ok-comma.ensures)
 
 pub constants-preserved : goal.constants-preserved
 constants-preserved c =
-    let item = rw c.in_ok-behind.ensures at c.in_ok-item.ensures in
+    let item = rw (← c.in_default.ensures.left, c.in_ok-comma.ensures) at c.in_ok-item.ensures in
     goes_on c.in_ok-item.item c.in_ok-push.ensures c.constants.invariant (λ more w end d. g.more item d) (λ f d. stuck.others item d)

@@ -5,7 +5,7 @@ use Rattle.ckc_grammar.proofs.Lists.{GoesOn}
 use Rattle.ckc_parser.proofs.declarations.constants.Given as goal
 
 abbrev pub invariant-constants : goal.invariant-constants
-invariant-constants l = GoesOn SpellsConstants StuckConstants l.tokens l.form.items l.rest
+invariant-constants l = GoesOn SpellsConstants StuckConstants l.fn.tokens.now l.form.items l.tokens.now
 
 abbrev pub decreases-constants : goal.decreases-constants
-decreases-constants l = length l.rest
+decreases-constants l = length l.tokens.now

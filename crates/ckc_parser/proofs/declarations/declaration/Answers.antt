@@ -1,26 +1,19 @@
-use Rattle.std.proofs.Common.{◌≡◌, ◌≤◌, ◌<◌, true, arith, ap, sym, ◌∙◌, add-one}
-use Rattle.ckc_grammar.specs.Tokens.{next_is}
-use Rattle.ckc_grammar.specs.StuckTypes.{type_word}
-use Rattle.ckc_parser.proofs.Readings.{next_none, low_around}
-use Rattle.ckc_parser.proofs.Ahead.{low_beside}
+use Rattle.std.proofs.Common.{◌<◌, arith, add-one}
+use Rattle.ckc_expr_parser.proofs.Readings.{low_around}
+use Rattle.ckc_parser.proofs.Assignments.{deep_declaration}
+use Rattle.ckc_expr_parser.proofs.ContextSteps.{low_beside}
 use Rattle.ckc_grammar.specs.StatementGrammar as g
 use Rattle.ckc_grammar.specs.StuckStatements as stuck
-use Rattle.ckc_parser.proofs.Readings.{err}
+use Rattle.ckc_expr_parser.proofs.Readings.{err}
 use Rattle.ckc_parser.proofs.declarations.declaration.Goals as goal
 
-pub returns-in_err-token : goal.returns-in_err-token
-returns-in_err-token c = rw (err _ _ c.from_residual.ensures.1, c.in_err-token.ensures.0) (stuck.no_type (next_none _ _ c.in_err-token.ensures.1))
-
 pub returns-then-depth-ge-MAX_DEPTH : goal.returns-then-depth-ge-MAX_DEPTH
-returns-then-depth-ge-MAX_DEPTH c =
-    let full : 200 ≤ c.args.depth = omega arith in
-    let typed : type_word c.in_ok-token.token.now.kind ≡ true = sym (ap (next_is type_word) c.in_ok-token.ensures) ∙ c.requires.typed in
-    rw c.in_ok-token.ensures (stuck.deep typed full)
+returns-then-depth-ge-MAX_DEPTH c = rw c.start_of-start.ensures (deep_declaration _ _ c.requires.typed c.if-depth-ge-MAX_DEPTH.true)
 
 pub returns-in_err-base : goal.returns-in_err-base
 returns-in_err-base c =
     let deep : c.args.depth < 200 = omega arith in
-    rw (err _ _ c.from_residual-in_err-base.ensures.1) (stuck.base deep c.requires.typed (rw add-one at c.in_err-base.ensures.reads))
+    rw (err _ _ c.from_residual.ensures.1) (stuck.base deep c.requires.typed (rw add-one at c.in_err-base.ensures.reads))
 
 pub returns-in_err-declarators : goal.returns-in_err-declarators
 returns-in_err-declarators c =

@@ -1,11 +1,11 @@
 use Rattle.std.proofs.Common.{arith}
 use Rattle.ckc_grammar.specs.StatementGrammar as g
 use Rattle.ckc_grammar.specs.StuckStatements as stuck
-use Rattle.ckc_parser.proofs.Readings.{err}
+use Rattle.ckc_expr_parser.proofs.Readings.{err}
 use Rattle.ckc_parser.proofs.declarations.optional_bounds.Goals as goal
 
 pub returns-in_default : goal.returns-in_default
-returns-in_default c = (g.absent c.in_default.ensures.1, omega arith)
+returns-in_default c = rw c.in_default.ensures.left (g.absent c.in_default.ensures.other, omega arith)
 
 pub returns-in_err-read : goal.returns-in_err-read
 returns-in_err-read c = rw (err _ _ c.from_residual.ensures.1, c.in-Ok.ensures) (stuck.bounds c.in_err-read.ensures.reads)

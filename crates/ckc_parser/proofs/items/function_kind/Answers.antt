@@ -6,4 +6,4 @@ pub returns-in-Ok : goal.returns-in-Ok
 returns-in-Ok c = is_kind c.in-Ok.ensures
 
 pub returns-in-Err : goal.returns-in-Err
-returns-in-Err c = g.trusted c.in-Err.ensures.1
+returns-in-Err c = rw c.in-Err.ensures.left (g.trusted c.in-Err.ensures.other)

@@ -8,7 +8,7 @@ returns-in-Ok c = (is_region c.in-Ok.ensures, omega arith)
 pub unmarked-requires : goal.unmarked-requires
 unmarked-requires c =
     let none = rw c.in-Some.ensures.0 at c.optional_mark-mark.ensures in
-    record { led = is_led c.in_default.ensures.1 c.function_kind-kind.ensures none; tainted = is_tainted c.function_kind-kind.ensures none c.in-Some.ensures.1 }
+    record { led = is_led c.in_default.ensures.other (rw c.in_default.ensures.left at c.function_kind-kind.ensures) none; tainted = is_tainted (rw c.in_default.ensures.left at c.function_kind-kind.ensures) none c.in-Some.ensures.1 }
 
 pub alone-requires : goal.alone-requires
-alone-requires c = record { led = is_led c.in_default.ensures.1 c.function_kind-kind.ensures c.optional_mark-mark.ensures; alone = c.in-None.ensures }
+alone-requires c = record { led = is_led c.in_default.ensures.other (rw c.in_default.ensures.left at c.function_kind-kind.ensures) c.optional_mark-mark.ensures; alone = c.in-None.ensures }

@@ -1,10 +1,10 @@
 use Rattle.std.proofs.Common.{length, ap, arith}
-use Rattle.ckc_parser.proofs.Ahead.{low_beside}
+use Rattle.ckc_expr_parser.proofs.ContextSteps.{low_beside}
 use Rattle.ckc_parser.proofs.FileLevel.{low_parameter, member_shorter, no_comma_or_paren}
 use Rattle.ckc_grammar.proofs.Lists.{goes_on, ends}
 use Rattle.ckc_grammar.specs.ItemGrammar as g
 use Rattle.ckc_grammar.specs.StuckItems as stuck
-use Rattle.ckc_parser.proofs.Readings.{err}
+use Rattle.ckc_expr_parser.proofs.Readings.{err}
 use Rattle.ckc_parser.proofs.items.listed.Goals as goal
 
 pub returns-in_err-item : goal.returns-in_err-item
@@ -18,17 +18,17 @@ returns-in-Ok c =
     let item = rw c.in-Ok.ensures at c.in_ok-item.ensures.0 in
     ends _ c.in_ok-push.ensures c.listed.invariant (rw c.parameter.ensures (g.one item), low_beside _ _ _ (low_parameter _ _ c.parameter.ensures c.in_ok-item.ensures.1) (omega arith))
 
-pub returns-in_err-behind : goal.returns-in_err-behind
-returns-in_err-behind c =
-    rw (err _ _ c.from_residual-in_err-behind.ensures.1, c.in_err-behind.ensures.0)
-    (c.listed.invariant.fails _ (stuck.end c.in_ok-item.ensures.0 c.in_ok-item.ensures.1 (no_comma_or_paren _ c.in_err-behind.ensures.1 c.in_default.ensures.1)))
+pub returns-in_err-comma : goal.returns-in_err-comma
+returns-in_err-comma c =
+    rw (err _ _ c.from_residual-in_err-comma.ensures.1, c.in_err-comma.ensures.reason, c.in_err-comma.ensures.left, c.in_default.ensures.left)
+    (c.listed.invariant.fails _ (stuck.end c.in_ok-item.ensures.0 c.in_ok-item.ensures.1 (no_comma_or_paren _ (rw c.in_default.ensures.left at c.in_err-comma.ensures.other) c.in_default.ensures.other)))
 
 pub listed-smaller : goal.listed-smaller
-listed-smaller c = omega (arith, member_shorter c.in_ok-item.ensures.0, ap length c.in_ok-behind.ensures)
+listed-smaller c = omega (arith, member_shorter c.in_ok-item.ensures.0, ap length c.in_default.ensures.left, ap length c.in_ok-comma.ensures)
 
 pub listed-preserved : goal.listed-preserved
 listed-preserved c =
-    let item = rw c.in_ok-behind.ensures at c.in_ok-item.ensures.0 in
+    let item = rw (← c.in_default.ensures.left, c.in_ok-comma.ensures) at c.in_ok-item.ensures.0 in
     goes_on _ c.in_ok-push.ensures c.listed.invariant
     (λ more w end d. (rw c.parameter.ensures (g.more item d.0), low_beside _ _ _ (low_parameter _ _ c.parameter.ensures c.in_ok-item.ensures.1) d.1))
     (λ f d. stuck.others item c.in_ok-item.ensures.1 d)

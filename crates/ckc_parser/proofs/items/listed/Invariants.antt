@@ -4,7 +4,7 @@ use Rattle.ckc_grammar.proofs.Lists.{GoesOn, AreParameters}
 use Rattle.ckc_parser.proofs.items.listed.Given as goal
 
 abbrev pub invariant-listed : goal.invariant-listed
-invariant-listed l = GoesOn AreParameters StuckListed l.tokens l.form.items l.rest
+invariant-listed l = GoesOn AreParameters StuckListed l.fn.tokens.now l.form.items l.tokens.now
 
 abbrev pub decreases-listed : goal.decreases-listed
-decreases-listed l = length l.rest
+decreases-listed l = length l.tokens.now

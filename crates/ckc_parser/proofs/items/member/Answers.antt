@@ -1,23 +1,23 @@
 use Rattle.ckc_grammar.specs.ItemGrammar as g
 use Rattle.ckc_grammar.specs.StuckItems as stuck
-use Rattle.ckc_parser.proofs.Readings.{err}
+use Rattle.ckc_grammar.specs.StuckItems.{StuckMember}
+use Rattle.ckc_expr_parser.proofs.Readings.{err, name_fails}
 use Rattle.ckc_parser.proofs.items.member.Goals as goal
 
 pub returns-in_err-read : goal.returns-in_err-read
 returns-in_err-read c = rw (err _ _ c.from_residual.ensures.1) (stuck.typed c.in_err-read.ensures.reads)
 
 pub returns-in_err-name : goal.returns-in_err-name
-returns-in_err-name c = rw (err _ _ c.from_residual-in_err-name.ensures.1, c.in_err-name.ensures.0) (stuck.name c.in_ok-read.ensures.reads.0 c.in_ok-read.ensures.reads.1 c.in_err-name.ensures.1)
+returns-in_err-name c =
+    rw (err _ _ c.from_residual-in_err-name.ensures.1)
+    (name_fails (StuckMember c.args.tokens.now.now) c.in_err-name.ensures (stuck.name c.in_ok-read.ensures.reads.0 c.in_ok-read.ensures.reads.1) stuck.no_room)
 
 pub returns-in_err-bounds : goal.returns-in_err-bounds
 returns-in_err-bounds c =
     let typed = rw c.in_ok-name.ensures at c.in_ok-read.ensures.reads.0 in
     rw (err _ _ c.from_residual-in_err-bounds.ensures.1) (stuck.bounds typed c.in_ok-read.ensures.reads.1 c.in_err-bounds.ensures)
 
-pub returns-in_err-name-2 : goal.returns-in_err-name-2
-returns-in_err-name-2 c = rw (err _ _ c.from_residual-in_err-name-2.ensures.1) stuck.no_room
-
 pub returns : goal.returns
 returns c =
     let typed = rw c.in_ok-name.ensures at c.in_ok-read.ensures.reads.0 in
-    rw c.in_ok-name-2.ensures (g.member typed (rw c.from_first-so_far.ensures at c.in_ok-bounds.ensures.0), (c.in_ok-read.ensures.reads.1, c.in_ok-bounds.ensures.1))
+    (g.member typed (rw c.from_first-so_far.ensures at c.in_ok-bounds.ensures.0), (c.in_ok-read.ensures.reads.1, c.in_ok-bounds.ensures.1))

@@ -4,7 +4,7 @@ use Rattle.ckc_grammar.proofs.Lists.{GoesOn, AreMembers}
 use Rattle.ckc_parser.proofs.items.members.Given as goal
 
 abbrev pub invariant-members : goal.invariant-members
-invariant-members l = GoesOn AreMembers StuckMembers l.tokens l.members.items l.rest
+invariant-members l = GoesOn AreMembers StuckMembers l.fn.tokens.now l.members.items l.tokens.now
 
 abbrev pub decreases-members : goal.decreases-members
-decreases-members l = length l.rest
+decreases-members l = length l.tokens.now

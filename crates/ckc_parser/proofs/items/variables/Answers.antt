@@ -1,7 +1,7 @@
-use Rattle.ckc_parser.proofs.Ahead.{low_beside}
+use Rattle.ckc_expr_parser.proofs.ContextSteps.{low_beside}
 use Rattle.ckc_grammar.specs.ItemGrammar as g
 use Rattle.ckc_grammar.specs.StuckItems as stuck
-use Rattle.ckc_parser.proofs.Readings.{err}
+use Rattle.ckc_expr_parser.proofs.Readings.{err}
 use Rattle.ckc_parser.proofs.items.variables.Goals as goal
 
 pub returns-in_err-read : goal.returns-in_err-read
@@ -12,7 +12,7 @@ returns-in_err-read c =
 pub returns-in_err-end : goal.returns-in_err-end
 returns-in_err-end c =
     let base = c.requires in
-    rw (err _ _ c.from_residual-in_err-end.ensures.1, c.in_err-end.ensures.0) (stuck.variables_end base.taint base.type base.low base.no_function c.in_ok-read.ensures.0 c.in_ok-read.ensures.1 c.in_err-end.ensures.1)
+    rw (err _ _ c.from_residual-in_err-end.ensures.1, c.in_err-end.ensures.reason, c.in_err-end.ensures.left) (stuck.variables_end base.taint base.type base.low base.no_function c.in_ok-read.ensures.0 c.in_ok-read.ensures.1 c.in_err-end.ensures.other)
 
 pub returns : goal.returns
 returns c =

@@ -1,18 +1,18 @@
 use Rattle.std.proofs.Common.{arith}
 use Rattle.ckc_grammar.specs.Parsing.{point}
-use Rattle.ckc_parser.proofs.Ahead.{low_beside}
+use Rattle.ckc_expr_parser.proofs.ContextSteps.{low_beside}
 use Rattle.ckc_parser.proofs.FileLevel.{stuck_first, item_shorter, none_left}
 use Rattle.ckc_grammar.proofs.Lists.{goes_on}
 use Rattle.ckc_grammar.specs.ItemGrammar as g
 use Rattle.ckc_grammar.specs.StuckItems as stuck
-use Rattle.ckc_parser.proofs.Readings.{err}
+use Rattle.ckc_expr_parser.proofs.Readings.{err}
 use Rattle.ckc_parser.proofs.parser.items.Goals as goal
 
-pub returns-in_default : goal.returns-in_default
-returns-in_default c = none_left (point 0) c.items.invariant c.in_default.ensures.1
+pub returns : goal.returns
+returns c = none_left _ (point 0) c.items.invariant c.in_default.ensures.cases
 
 pub returns-in_err-item : goal.returns-in_err-item
-returns-in_err-item c = rw (err _ _ c.from_residual.ensures.1) (c.items.invariant.fails _ (stuck_first c.in-Ok.ensures c.in_err-item.ensures))
+returns-in_err-item c = rw (err _ _ c.from_residual.ensures.1) (c.items.invariant.fails _ (stuck_first c.in-Some.ensures.cases.0 c.in_err-item.ensures))
 
 pub returns-in_err-push : goal.returns-in_err-push
 returns-in_err-push c = rw (err _ _ c.from_residual-in_err-push.ensures.1) stuck.no_room

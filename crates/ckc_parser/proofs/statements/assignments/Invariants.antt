@@ -4,7 +4,7 @@ use Rattle.ckc_grammar.proofs.Lists.{GoesOn, AreAssignments}
 use Rattle.ckc_parser.proofs.statements.assignments.Given as goal
 
 abbrev pub invariant-assignments : goal.invariant-assignments
-invariant-assignments l = GoesOn (AreAssignments l.fn.depth) (StuckAssignments l.fn.depth) l.tokens l.form.items l.rest
+invariant-assignments l = GoesOn (AreAssignments l.fn.depth) (StuckAssignments l.fn.depth) l.fn.tokens.now l.form.items l.tokens.now
 
 abbrev pub decreases-assignments : goal.decreases-assignments
-decreases-assignments l = length l.rest
+decreases-assignments l = length l.tokens.now

@@ -5,4 +5,4 @@ use Rattle.ckc_printer.proofs.declarations.declarators.Goals as goal
 
 pub loop-place-preserved : goal.loop-place-preserved
 loop-place-preserved c =
-    one_more_item declarator_pieces declarator c.args.listed.now c.loop-place.place c.index-listed-place.result c.loop-place.out.items c.put_if.new.out.items c.put_declarator.new.out.items _ c.loop-place-test.true c.index-listed-place.is c.in_ok-put_if.ensures c.in_ok-put_declarator.ensures c.loop-place.invariant
+    one_more_item declarator_pieces declarator c.args.listed.now c.loop-place.place c.index-listed-place.result c.loop-place-test.true c.index-listed-place.is c.put_if.ensures c.put_declarator.ensures c.loop-place.invariant

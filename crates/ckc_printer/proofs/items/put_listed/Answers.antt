@@ -5,4 +5,4 @@ use Rattle.ckc_printer.proofs.items.put_listed.Goals as goal
 
 pub loop-place-preserved : goal.loop-place-preserved
 loop-place-preserved c =
-    one_more_item member_pieces parameter c.args.listed.now c.loop-place.place c.index-listed-place.result c.loop-place.out.items c.put_if.new.out.items c.put_parameter.new.out.items _ c.loop-place-test.true c.index-listed-place.is c.in_ok-put_if.ensures c.in_ok-put_parameter.ensures c.loop-place.invariant
+    one_more_item member_pieces parameter c.args.listed.now c.loop-place.place c.index-listed-place.result c.loop-place-test.true c.index-listed-place.is c.put_if.ensures c.put_parameter.ensures c.loop-place.invariant

@@ -1,5 +1,6 @@
-use Rattle.std.proofs.Common.{◌≡◌, [], map, drop, ap, sym, ◌∙◌}
+use Rattle.std.proofs.Common.{◌≡◌, true, [], map, drop, ap, sym, ◌∙◌}
 use Rattle.std.proofs.lemmas.List.{drop_all}
+use Rattle.std.proofs.lemmas.Result.{IfOk-weaker}
 use Rattle.ckc_tree.specs.Items.{item}
 use Rattle.ckc_printer.specs.Pieces.{text_of}
 use Rattle.ckc_printer.specs.ItemPieces.{item_pieces}
@@ -11,7 +12,10 @@ use Rattle.ckc_printer.proofs.program.print.Goals as goal
 pub returns : goal.returns
 returns c =
     let items = c.as_slice-items.result.now in
-    let out = c.loop-written.out.items in
+    let out = c.loop-written.out in
     let none : drop c.loop-written.written-index items ≡ [] = drop_all c.loop-written.written-index items c.loop-written-test.false in
-    let all : out ≡ items_behind [] (map item items) = sym (ap (λ l. items_behind out (map item l)) none) ∙ c.loop-written.invariant in
-    c.in_ok-finish.ensures ∙ ap finished all ∙ items_text (map item items) ∙ ap (λ l. text_of (flat_map item_pieces (map item l))) c.as_slice-items.ensures.value
+    let all : out.is_whole ≡ true → out.bytes.items ≡ items_behind [] (map item items) = λ whole. sym (ap (λ l. items_behind out.bytes.items (map item l)) none) ∙ c.loop-written.invariant whole in
+    IfOk-weaker c.finish.result _ _
+    (λ text h. let ended = c.end_text.ensures.made h.0 in
+    h.1 ∙ ended.1 ∙ ap finished (all ended.0) ∙ items_text (map item items) ∙ ap (λ l. text_of (flat_map item_pieces (map item l))) c.as_slice-items.ensures.value)
+    c.finish.ensures

@@ -1,5 +1,5 @@
-use Rattle.ckc_printer.proofs.Texts.{one_more_star}
+use Rattle.ckc_printer.proofs.Texts.{leaves_less, star_first}
 use Rattle.ckc_printer.proofs.types.stars.Goals as goal
 
 pub loop-preserved : goal.loop-preserved
-loop-preserved c = one_more_star c.args.count c.loop.counter c.loop.out.items c.put.new.out.items _ c.loop-test.true c.in_ok-put.ensures c.loop.invariant
+loop-preserved c = leaves_less c.loop.invariant c.put.ensures (star_first c.args.count c.loop.counter c.loop-test.true)

@@ -17,3 +17,9 @@ returns-clause-further c =
     let src = c.args.src.now in
     let stands = rw (take_rest, c.is_first.ensures) at c.in_ok-piece.ensures in
     step_further src c.args.self.now c.advance.new.self c.advance.result (piece_steps src c.args.self.now c.advance.new.self c.advance.result c.in_ok-piece.piece c.in_ok-piece.len c.requires.within stands c.advance.ensures)
+
+pub returns-clause-step : goal.returns-clause-step
+returns-clause-step c =
+    let src = c.args.src.now in
+    let stands = rw (take_rest, c.is_first.ensures) at c.in_ok-piece.ensures in
+    piece_steps src c.args.self.now c.advance.new.self c.advance.result c.in_ok-piece.piece c.in_ok-piece.len c.requires.within stands c.advance.ensures

@@ -1,0 +1,290 @@
+-- What the end of a call says: of its Answer, of its status and of the counts.
+use Rattle.std.proofs.Common.{◌≡◌, ℕ, ◌≤◌, ◌⊎◌, inl, inr, ⊎_elim, ℤ, List, take, length, Option, Some, None, refl, sym, ap, ◌∙◌, subst, arith}
+use Rattle.std.specs.Prelude.{◌≢◌}
+use Rattle.std.proofs.lemmas.List.{take_all}
+use Rattle.ckc_text.specs.declared.code.Code.{Code}
+use Rattle.ckc_text.specs.declared.place.Place.{Place}
+use Rattle.ckc_text.specs.declared.fault.SourceFault.{SourceFault}
+use Rattle.ckc_io.specs.Files.{Files, Told}
+use Rattle.ckc_io.specs.Written.{grown}
+use Rattle.ckc_io.proofs.Fronts.{grown-nothing}
+use Rattle.act_words.specs.declared.ending.Ending.{Ending}
+use Rattle.act_words.specs.declared.ending.Ending.TheVariants.{Exit, Check, Stop}
+use Rattle.ckc_core.specs.Core.{Core}
+use Rattle.ckc_core.specs.States.{State}
+use Rattle.sandbox_actor.specs.ActLists.{ActList, RefusedLine}
+use Rattle.run_core.specs.Runs.{Counts}
+use Rattle.ccbox_call.specs.Requests.{Run, Options, settings_of, request_of}
+use Rattle.ccbox_call.specs.Texts.{usage_text, missing_text}
+use Rattle.ccbox_call.specs.Acceptance.{Accepts, IsRefused}
+use Rattle.ccbox_call.specs.Answers.{RunsTo, needed_line, text_of, status_of, status_with, ListAnswer, ran, CoreAnswer, acts_missing, acts, SourceAnswer, refused, accepted, FileAnswer, missing, source, Answer, IsFailure, WritesFront, GivesFront, GivesWhole, Exactly, AsksToRun, AsksFor, SourceIsRefused, RunEndsWith, RunExits, CheckFails, RunStops, LineIsRefused, FileIsMissing, PrintsRun, PrintedRun, IsComplete, IsQuiet, IsUntouched}
+use Rattle.ccbox_call.specs.Answers as answers
+use Rattle.ccbox_call.specs.Calls.{TextGiven, all, failed, LineGiven, given, unmade, StatusCounts, Gives, answered, output_failed, files_failed, no_memory, no_memory_behind, CallEnds, usage, asked}
+use Rattle.ccbox_call.proofs.OneAnswer.{one_answer}
+use Rattle.ccbox_call.proofs.Runs.{ends_over, view_over}
+
+-- ---- from what is asked for to its Answer
+
+-- the run of a source that is asked for has its Answer
+pub run_answer : (files : Files) (words : List (List ℕ)) (options : Options) (list : ActList) (c : Core) (ending : Ending) (s : State) → AsksFor files words options list c → RunsTo c (settings_of options) list ending s → Answer files words (text_of (settings_of options) (needed_line list s.world.events) s.world.events ending) (status_with (needed_line list s.world.events) ending)
+run_answer files words options list c ending s a runs =
+    answers.asked (Run a.asks.name options) a.asks.request (source a.src a.asks.there (accepted c a.accepted (acts list a.acts (ran ending s runs))))
+
+refused_answer : (files : Files) (words : List (List ℕ)) (options : Options) (src : List ℕ) (fault : SourceFault) → AsksToRun files words options src → IsRefused src fault → (text : List ℕ) × Answer files words text 1
+refused_answer files words options src fault a r = (_, answers.asked (Run a.name options) a.request (source src a.there (refused fault r)))
+
+missing_answer : (files : Files) (words : List (List ℕ)) → FileIsMissing files words → (text : List ℕ) × Answer files words text 3
+missing_answer files words (inl m) = (missing_text m.0, answers.asked (Run m.0 m.1) m.2 (missing m.3))
+missing_answer files words (inr m) =
+    let a = m.4 in
+    (missing_text m.0, answers.asked (Run a.name m.1) a.request (source m.2 a.there (accepted m.3 m.5 (acts_missing m.0 m.6 m.7))))
+
+-- ---- what an Answer says of its status
+
+-- the causes of the statuses that files and words have
+abbrev Cause : Files → List (List ℕ) → ℕ → Type 0
+Cause files words n =
+    ((n ≡ 1) × SourceIsRefused files words) ⊎ (((n ≡ 3) × FileIsMissing files words) ⊎ (((n ≡ 2) × (request_of words ≡ None))
+    ⊎ ((needed : Option RefusedLine) × (ending : Ending) × (n ≡ status_with needed ending) × RunEndsWith files words needed ending)))
+
+core_cause : (files : Files) (words : List (List ℕ)) (options : Options) (src : List ℕ) (c : Core) → AsksToRun files words options src → Accepts src c → {text : List ℕ} {n : ℕ} → CoreAnswer files options c text n → Cause files words n
+core_cause files words options src c asks is (acts_missing name e none) = inr (inl (refl, inr (name, options, src, c, asks, is, e, none)))
+core_cause files words options src c asks is (acts list there (ran ending s runs)) =
+    inr (inr (inr (needed_line list s.world.events, ending, refl, (options, list, c, s, record { src = src; asks = asks; accepted = is; acts = there }, runs, refl))))
+
+source_cause : (files : Files) (words : List (List ℕ)) (options : Options) (src : List ℕ) → AsksToRun files words options src → {text : List ℕ} {n : ℕ} → SourceAnswer files options src text n → Cause files words n
+source_cause files words options src asks (refused fault r) = inl (refl, (options, src, fault, asks, r))
+source_cause files words options src asks (accepted c is a) = core_cause files words options src c asks is a
+
+file_cause : (files : Files) (words : List (List ℕ)) (options : Options) (name : List ℕ) → request_of words ≡ Some (Run name options) → {text : List ℕ} {n : ℕ} → FileAnswer files options name text n → Cause files words n
+file_cause files words options name asks (missing none) = inr (inl (refl, inl (name, options, asks, none)))
+file_cause files words options name asks (source src there a) = source_cause files words options src (record { name = name; request = asks; there = there }) a
+
+cause : (files : Files) (words : List (List ℕ)) {text : List ℕ} {n : ℕ} → Answer files words text n → Cause files words n
+cause files words (answers.usage e) = inr (inr (inl (refl, e)))
+cause files words (answers.asked (Run name options) e a) = file_cause files words options name e a
+
+-- the status of a run tells which line it needed, and how it ended
+data StatusOf : ℕ → Option RefusedLine → Ending → Type 0 where
+  exit : (value : ℤ) → StatusOf 0 None (Exit value)
+  check : (code : Code) (place : Place) → StatusOf 6 None (Check code place)
+  stop : (code : Code) (act : Option ℕ) → StatusOf 7 None (Stop code act)
+  refusal : (needed : RefusedLine) (ending : Ending) → StatusOf 8 (Some needed) ending
+
+status_of_run : (needed : Option RefusedLine) (ending : Ending) → StatusOf (status_with needed ending) needed ending
+status_of_run None (Exit value) = exit value
+status_of_run None (Check code place) = check code place
+status_of_run None (Stop code act) = stop code act
+status_of_run (Some needed) ending = refusal needed ending
+
+exit_from : (files : Files) (words : List (List ℕ)) (n : ℕ) (needed : Option RefusedLine) (ending : Ending) → StatusOf n needed ending → n ≡ 0 → RunEndsWith files words needed ending → RunExits files words
+exit_from files words _ _ _ (exit value) e r = (value, r)
+exit_from files words _ _ _ (check code place) e r = absurd (omega arith)
+exit_from files words _ _ _ (stop code act) e r = absurd (omega arith)
+exit_from files words _ _ _ (refusal needed ending) e r = absurd (omega arith)
+
+check_from : (files : Files) (words : List (List ℕ)) (n : ℕ) (needed : Option RefusedLine) (ending : Ending) → StatusOf n needed ending → n ≡ 6 → RunEndsWith files words needed ending → CheckFails files words
+check_from files words _ _ _ (exit value) e r = absurd (omega arith)
+check_from files words _ _ _ (check code place) e r = (code, place, r)
+check_from files words _ _ _ (stop code act) e r = absurd (omega arith)
+check_from files words _ _ _ (refusal needed ending) e r = absurd (omega arith)
+
+stop_from : (files : Files) (words : List (List ℕ)) (n : ℕ) (needed : Option RefusedLine) (ending : Ending) → StatusOf n needed ending → n ≡ 7 → RunEndsWith files words needed ending → RunStops files words
+stop_from files words _ _ _ (exit value) e r = absurd (omega arith)
+stop_from files words _ _ _ (check code place) e r = absurd (omega arith)
+stop_from files words _ _ _ (stop code act) e r = (code, act, r)
+stop_from files words _ _ _ (refusal needed ending) e r = absurd (omega arith)
+
+line_from : (files : Files) (words : List (List ℕ)) (n : ℕ) (needed : Option RefusedLine) (ending : Ending) → StatusOf n needed ending → n ≡ 8 → RunEndsWith files words needed ending → LineIsRefused files words
+line_from files words _ _ _ (exit value) e r = absurd (omega arith)
+line_from files words _ _ _ (check code place) e r = absurd (omega arith)
+line_from files words _ _ _ (stop code act) e r = absurd (omega arith)
+line_from files words _ _ _ (refusal needed ending) e r = (needed, ending, r)
+
+-- a status that only runs have comes with a run
+of_run : (files : Files) (words : List (List ℕ)) (n : ℕ) (P : Type 0) → (n ≡ 1 → ⊥) → (n ≡ 2 → ⊥) → (n ≡ 3 → ⊥) → ((needed : Option RefusedLine) (ending : Ending) → StatusOf n needed ending → RunEndsWith files words needed ending → P) → (text : List ℕ) → Answer files words text n → P
+of_run files words n P one two three take_run text a = by (cause files words a)
+  where
+    by : Cause files words n → P
+    by (inl x) = absurd (one x.0)
+    by (inr (inl x)) = absurd (three x.0)
+    by (inr (inr (inl x))) = absurd (two x.0)
+    by (inr (inr (inr x))) = take_run x.0 x.1 (subst (λ m. StatusOf m x.0 x.1) (sym x.2) (status_of_run x.0 x.1)) x.3
+
+-- no run has the status 1 or 3
+no_run : (n : ℕ) (needed : Option RefusedLine) (ending : Ending) → StatusOf n needed ending → (n ≢ 1) × (n ≢ 3)
+no_run _ _ _ (exit value) = (λ e. omega arith, λ e. omega arith)
+no_run _ _ _ (check code place) = (λ e. omega arith, λ e. omega arith)
+no_run _ _ _ (stop code act) = (λ e. omega arith, λ e. omega arith)
+no_run _ _ _ (refusal needed ending) = (λ e. omega arith, λ e. omega arith)
+
+refused_from : (files : Files) (words : List (List ℕ)) (text : List ℕ) → Answer files words text 1 → SourceIsRefused files words
+refused_from files words text a = by (cause files words a)
+  where
+    by : Cause files words 1 → SourceIsRefused files words
+    by (inl x) = x.1
+    by (inr (inl x)) = absurd (omega (arith, x.0))
+    by (inr (inr (inl x))) = absurd (omega (arith, x.0))
+    by (inr (inr (inr x))) = absurd ((no_run (status_with x.0 x.1) x.0 x.1 (status_of_run x.0 x.1)).0 (sym x.2))
+
+missing_from : (files : Files) (words : List (List ℕ)) (text : List ℕ) → Answer files words text 3 → FileIsMissing files words
+missing_from files words text a = by (cause files words a)
+  where
+    by : Cause files words 3 → FileIsMissing files words
+    by (inl x) = absurd (omega (arith, x.0))
+    by (inr (inl x)) = x.1
+    by (inr (inr (inl x))) = absurd (omega (arith, x.0))
+    by (inr (inr (inr x))) = absurd ((no_run (status_with x.0 x.1) x.0 x.1 (status_of_run x.0 x.1)).1 (sym x.2))
+
+-- ---- the end of a call
+
+module _ (words : List (List ℕ)) (told : Option Files) (old new : Option (List ℕ)) (before after : Counts) where
+  -- what is given to a request is an Answer
+  abbrev IsTold : List ℕ → Options → List ℕ → ℕ → Type 0
+  IsTold name options text status = Told told (λ files. FileAnswer files options name text status)
+
+  module _ (files : Files) (tells : told ≡ Some files) where
+    -- how a call ends where the files are told
+    data Settled : ℕ → Type 0 where
+      whole_answer : (text : List ℕ) (status : ℕ) → Answer files words text status → new ≡ grown old text → Settled status
+      front_answer : (text : List ℕ) (status k result : ℕ) → Answer files words text status → k ≤ length text → new ≡ grown old (take k text) → IsFailure result → Settled result
+      nothing : (result : ℕ) → new ≡ old → IsFailure result → Settled result
+
+    settled_text : (text : List ℕ) (status result : ℕ) → Answer files words text status → TextGiven text status old new before.sink after.sink result → Settled result
+    settled_text text status _ a (all is same) = whole_answer text status a is
+    settled_text text status _ a (failed k le is rises) = front_answer text status k 5 a le is (inr (inl refl))
+
+    settled_line : (result : ℕ) → request_of words ≡ None → LineGiven usage_text 2 old new before.sink after.sink result → Settled result
+    settled_line result e (given x) = settled_text usage_text 2 result (answers.usage e) x
+    settled_line result e (unmade is same still) = nothing result same (inr (inr is))
+
+    settled_gives : (name : List ℕ) (options : Options) (result : ℕ) → request_of words ≡ Some (Run name options) → Gives (IsTold name options) old new before after result → Settled result
+    settled_gives name options _ e (answered text status is counts whole sink) = whole_answer text status (answers.asked (Run name options) e (is files tells)) whole
+    settled_gives name options _ e (output_failed text status k is more faults le front sink) = front_answer text status k 5 (answers.asked (Run name options) e (is files tells)) le front (inr (inl refl))
+    settled_gives name options _ e (files_failed same misses faults sink) = nothing 4 same (inl refl)
+    settled_gives name options _ e (no_memory same misses faults sink) = nothing 9 same (inr (inr refl))
+    settled_gives name options _ e (no_memory_behind text status k is le front misses faults sink) = front_answer text status k 9 (answers.asked (Run name options) e (is files tells)) le front (inr (inr refl))
+
+    settled : (result : ℕ) → CallEnds words told old new before after result → Settled result
+    settled result (usage e line misses faults) = settled_line result e line
+    settled result (asked (Run name options) e gives) = settled_gives name options result e gives
+
+    front_of : (result : ℕ) → Settled result → GivesFront files words old new
+    front_of _ (whole_answer text status b is) t n a =
+        let same = one_answer files words b a in
+        (length t, omega arith, is ∙ ap (grown old) (same.text ∙ sym (take_all (length t) t (omega arith))))
+    front_of _ (front_answer text status k result b le is fails) t n a =
+        let same = one_answer files words b a in
+        (k, omega (arith, ap length same.text), is ∙ ap (λ (x : List ℕ). grown old (take k x)) same.text)
+    front_of _ (nothing result is fails) t n a = (0, omega arith, is ∙ sym (grown-nothing old))
+
+    whole_of : (result : ℕ) → Settled result → GivesWhole files words old new result ⊎ IsFailure result
+    whole_of _ (whole_answer text status a is) = inl (record { text = text; answer = a; all = is })
+    whole_of _ (front_answer text status k result a le is fails) = inr fails
+    whole_of _ (nothing result is fails) = inr fails
+
+    -- whatever the Answer is, it was given whole, or something failed
+    is_given : (result : ℕ) → Settled result → {text : List ℕ} {n : ℕ} → Answer files words text n → ((result ≡ n) × (new ≡ grown old text)) ⊎ IsFailure result
+    is_given _ (whole_answer text status b is) a =
+        let same = one_answer files words b a in
+        inl (same.status, is ∙ ap (grown old) same.text)
+    is_given _ (front_answer text status k result b le is fails) a = inr fails
+    is_given _ (nothing result is fails) a = inr fails
+
+    pub front : (result : ℕ) → CallEnds words told old new before after result → GivesFront files words old new
+    front result h = front_of result (settled result h)
+
+    pub whole : (result : ℕ) → CallEnds words told old new before after result → GivesWhole files words old new result ⊎ IsFailure result
+    whole result h = whole_of result (settled result h)
+
+    pub printed_run : (result : ℕ) → CallEnds words told old new before after result → PrintedRun files words old new result
+    printed_run result h options list c a =
+        let e = ends_over files words options list c a in
+        record {
+          ending = e.0;
+          last = e.1;
+          runs = e.2;
+          view = view_over files words options list c e.0 e.1 a e.2;
+          printed = is_given result (settled result h) (run_answer files words options list c e.0 e.1 a e.2);
+        }
+
+    -- a failure is one of memory, where no device fails
+    memory_alone : (result : ℕ) → CallEnds words told old new before after result → IsQuiet before.faults after.faults → IsQuiet before.sink after.sink → IsFailure result → result ≡ 9
+    memory_alone result (usage e (given (all is same)) misses faults) files_quiet sink_quiet fails = absurd (omega arith)
+    memory_alone result (usage e (given (failed k le is rises)) misses faults) files_quiet sink_quiet fails = absurd (sink_quiet rises.rose)
+    memory_alone result (usage e (unmade is same still) misses faults) files_quiet sink_quiet fails = is
+    memory_alone result (asked (Run name options) e gives) files_quiet sink_quiet fails = by result gives fails
+      where
+        found : (status : ℕ) → StatusCounts status before after → IsFailure status → status ≡ 9
+        found status counts f = absurd (omega (arith, counts.1, f))
+
+        by : (n : ℕ) → Gives (IsTold name options) old new before after n → IsFailure n → n ≡ 9
+        by _ (answered text status is counts whole sink) f = found status counts f
+        by _ (output_failed text status k is more faults le front sink) f = absurd (sink_quiet sink.rose)
+        by _ (files_failed same misses faults sink) f = absurd (files_quiet faults.rose)
+        by _ (no_memory same misses faults sink) f = refl
+        by _ (no_memory_behind text status k is le front misses faults sink) f = refl
+
+    pub complete : (result : ℕ) → CallEnds words told old new before after result → IsQuiet before.faults after.faults → IsQuiet before.sink after.sink → IsComplete files words old new result
+    complete result h files_quiet sink_quiet options list c ending s a runs =
+        ⊎_elim inl (λ fails. inr (memory_alone result h files_quiet sink_quiet fails)) (is_given result (settled result h) (run_answer files words options list c ending s a runs))
+
+    -- a status that is no failure has its Answer
+    answer_of : (result n : ℕ) → CallEnds words told old new before after result → result ≡ n → (IsFailure n → ⊥) → (text : List ℕ) × Answer files words text n
+    answer_of result n h e safe = ⊎_elim (λ w. (w.text, subst (Answer files words w.text) e w.answer)) (λ f. absurd (safe (subst IsFailure e f))) (whole result h)
+
+    -- a status comes exactly with its cause
+    exactly : (n result : ℕ) (P : Type 0) → CallEnds words told old new before after result → (IsFailure n → ⊥) → ((text : List ℕ) → Answer files words text n → P) → (P → (text : List ℕ) × Answer files words text n) → Exactly n result P
+    exactly n result P h safe only always = record {
+      only = λ e. let a = answer_of result n h e safe in only a.0 a.1;
+      always = λ p. let a = always p in ⊎_elim (λ s. inl s.0) inr (is_given result (settled result h) a.1);
+    }
+
+    -- the Answer of a run with this line needed and this ending
+    run_ended : (needed : Option RefusedLine) (ending : Ending) (n : ℕ) → status_with needed ending ≡ n → RunEndsWith files words needed ending → (text : List ℕ) × Answer files words text n
+    run_ended needed ending n e r =
+        (_, subst (λ m. Answer files words (text_of (settings_of r.0) (needed_line r.1 r.3.world.events) r.3.world.events ending) m) (ap (λ x. status_with x ending) r.6 ∙ e) (run_answer files words r.0 r.1 r.2 ending r.3 r.4 r.5))
+
+    safe : (n : ℕ) → n ≢ 4 → n ≢ 5 → n ≢ 9 → IsFailure n → ⊥
+    safe n a b c (inl e) = a e
+    safe n a b c (inr (inl e)) = b e
+    safe n a b c (inr (inr e)) = c e
+
+    pub exits : (result : ℕ) → CallEnds words told old new before after result → Exactly 0 result (RunExits files words)
+    exits result h =
+        exactly 0 result (RunExits files words) h (safe 0 (omega arith) (omega arith) (omega arith))
+        (of_run files words 0 (RunExits files words) (omega arith) (omega arith) (omega arith) (λ needed ending status r. exit_from files words 0 needed ending status refl r))
+        (λ p. run_ended None (Exit p.0) 0 refl p.1)
+
+    pub checks : (result : ℕ) → CallEnds words told old new before after result → Exactly 6 result (CheckFails files words)
+    checks result h =
+        exactly 6 result (CheckFails files words) h (safe 6 (omega arith) (omega arith) (omega arith))
+        (of_run files words 6 (CheckFails files words) (omega arith) (omega arith) (omega arith) (λ needed ending status r. check_from files words 6 needed ending status refl r))
+        (λ p. run_ended None (Check p.0 p.1) 6 refl p.2)
+
+    pub stops : (result : ℕ) → CallEnds words told old new before after result → Exactly 7 result (RunStops files words)
+    stops result h =
+        exactly 7 result (RunStops files words) h (safe 7 (omega arith) (omega arith) (omega arith))
+        (of_run files words 7 (RunStops files words) (omega arith) (omega arith) (omega arith) (λ needed ending status r. stop_from files words 7 needed ending status refl r))
+        (λ p. run_ended None (Stop p.0 p.1) 7 refl p.2)
+
+    pub acts_refused : (result : ℕ) → CallEnds words told old new before after result → Exactly 8 result (LineIsRefused files words)
+    acts_refused result h =
+        exactly 8 result (LineIsRefused files words) h (safe 8 (omega arith) (omega arith) (omega arith))
+        (of_run files words 8 (LineIsRefused files words) (omega arith) (omega arith) (omega arith) (λ needed ending status r. line_from files words 8 needed ending status refl r))
+        (λ p. run_ended (Some p.0) p.1 8 refl p.2)
+
+    pub refuses : (result : ℕ) → CallEnds words told old new before after result → Exactly 1 result (SourceIsRefused files words)
+    refuses result h =
+        exactly 1 result (SourceIsRefused files words) h (safe 1 (omega arith) (omega arith) (omega arith))
+        (refused_from files words) (λ p. refused_answer files words p.0 p.1 p.2 p.3 p.4)
+
+    pub misses : (result : ℕ) → CallEnds words told old new before after result → Exactly 3 result (FileIsMissing files words)
+    misses result h =
+        exactly 3 result (FileIsMissing files words) h (safe 3 (omega arith) (omega arith) (omega arith))
+        (missing_from files words) (missing_answer files words)
+
+  -- words that spell no request touch no file
+  pub untouched : (result : ℕ) → CallEnds words told old new before after result → request_of words ≡ None → IsUntouched before.misses after.misses before.faults after.faults
+  untouched result (usage e line still quiet) none = record { misses_stay = still; faults_stay = quiet }
+  untouched result (asked (Run name options) e gives) none = absurd (cc)

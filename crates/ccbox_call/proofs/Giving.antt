@@ -1,0 +1,154 @@
+-- How the parts of a call give their answers.
+use Rattle.std.proofs.Common.{◌≡◌, ℕ, ◌+◌, ◌<◌, ◌≤◌, nat_lt, Bool, true, false, inl, inr, List, ◌++◌, length, take, Option, Some, refl, sym, ap, ◌∙◌, subst, arith, length-append}
+use Rattle.std.specs.Prelude.{All}
+use Rattle.std.proofs.lemmas.Bool.{ltb-true, ltb-false}
+use Rattle.std.proofs.lemmas.List.{take-append-le, take_all, length-take}
+use Rattle.std.proofs.Math.Seq.{take-append_seam, take-append-add}
+use Rattle.ckc_text.specs.declared.code.Code.{Code}
+use Rattle.ckc_text.specs.declared.code.Code.TheVariants.{E08}
+use Rattle.ckc_text.specs.declared.fault.SourceFault.{SourceFault}
+use Rattle.ckc_text.specs.Places.{place_at}
+use Rattle.ckc_lexer.specs.Tokens.{great, fault_at}
+use Rattle.ckc_io.specs.Counts.{Rises}
+use Rattle.ckc_io.specs.Files.{Files, Told}
+use Rattle.ckc_io.specs.Written.{grown}
+use Rattle.ckc_io.proofs.Fronts.{grown-grown}
+use Rattle.act_words.specs.declared.ending.Ending.{Ending}
+use Rattle.act_words.specs.declared.ending.Ending.TheVariants.{Exit, Check, Stop}
+use Rattle.act_words.specs.declared.settings.Settings.{Settings}
+use Rattle.act_words.specs.Acts.{IsAct}
+use Rattle.act_words.specs.Limits.{AreAllowed}
+use Rattle.ckc_core.specs.Core.{Core}
+use Rattle.sandbox_actor.specs.ActLists.{ActList}
+use Rattle.code_words.specs.declared.image.Image.{Image}
+use Rattle.lowering.specs.Correct.{KeepsMeaning}
+use Rattle.run_core.specs.Runs.{Outcome, Ends, LineRefused, FileMissing, Comes, WritesAll, WritesFront, Counts}
+use Rattle.ccbox_call.specs.Texts.{refused_text, act_refused_text}
+use Rattle.ccbox_call.specs.Requests.{Options, settings_of}
+use Rattle.ccbox_call.specs.Acceptance.{IsAcceptedCore, no_tokens}
+use Rattle.ccbox_call.specs.Answers.{acts_at, status_of, ListAnswer, CoreAnswer, acts, SourceAnswer, refused, accepted}
+use Rattle.ccbox_call.specs.Calls.{all, failed, LineGiven, given, unmade, IsFoundStatus, StatusCounts, Gives, answered, output_failed, files_failed, no_memory, no_memory_behind}
+use Rattle.ccbox_call.proofs.Fronts.{core_or_fault, one_refusal}
+use Rattle.ccbox_call.proofs.ListRuns.{FromList, Answers, whole, front, answers}
+
+-- an answer of one kind is an answer of another
+pub gives_as : {Is Is' : List ℕ → ℕ → Type 0} {old new : Option (List ℕ)} {before after : Counts} {result : ℕ} → ((text : List ℕ) (status : ℕ) → Is text status → Is' text status) → Gives Is old new before after result → Gives Is' old new before after result
+gives_as turn (answered text status is counts complete sink) = answered text status (turn text status is) counts complete sink
+gives_as turn (output_failed text status k is more faults le part sink) = output_failed text status k (turn text status is) more faults le part sink
+gives_as turn (files_failed same misses faults sink) = files_failed same misses faults sink
+gives_as turn (no_memory same misses faults sink) = no_memory same misses faults sink
+gives_as turn (no_memory_behind text status k is le part misses faults sink) = no_memory_behind text status k (turn text status is) le part misses faults sink
+
+-- counts that are the same
+pub same_counts : (m m' f f' k : ℕ) → m' ≡ m → f' ≡ f → ◌≡◌ {A = Counts} (record { misses = m'; faults = f'; sink = k }) (record { misses = m; faults = f; sink = k })
+same_counts m m' f f' k h i = rw (h, i) refl
+
+-- a part that touched no file before
+pub gives_from : {Is : List ℕ → ℕ → Type 0} {old new : Option (List ℕ)} {mid before after : Counts} {result : ℕ} → mid ≡ before → Gives Is old new mid after result → Gives Is old new before after result
+gives_from {Is} {old} {new} {mid} {before} {after} {result} same h = subst (λ b. Gives Is old new b after result) same h
+
+-- a line is an answer
+pub line_gives : {Is : List ℕ → ℕ → Type 0} {old new : Option (List ℕ)} {m m' f f' k k' result : ℕ} (text : List ℕ) (status : ℕ) → Is text status → StatusCounts status (record { misses = m; faults = f; sink = k }) (record { misses = m'; faults = f'; sink = k' }) → m ≤ m' → LineGiven text status old new k k' result → Gives Is old new (record { misses = m; faults = f; sink = k }) (record { misses = m'; faults = f'; sink = k' }) result
+line_gives text status is counts more (given (all complete same)) = answered text status is counts complete same
+line_gives text status is counts more (given (failed k le part rises)) = output_failed text status k is more counts.0 le part rises
+line_gives {Is} {old} {new} {m} {m'} {f} {f'} {k} {k'} text status is counts more (unmade nine same still) =
+    subst (Gives Is old new (record { misses = m; faults = f; sink = k }) (record { misses = m'; faults = f'; sink = k' })) (sym nine) (no_memory same more counts.0 still)
+
+-- ---- runs
+
+-- every ending has a status of its own
+found : (ending : Ending) → IsFoundStatus (status_of ending)
+found (Exit value) = inl refl
+found (Check code place) = inr (inr (inl refl))
+found (Stop code act) = inr (inr (inr (inl refl)))
+
+line_found : IsFoundStatus 8
+line_found = inr (inr (inr (inr refl)))
+
+unchanged : (ending : Ending) (before : Counts) → StatusCounts (status_of ending) before before
+unchanged ending before = (refl, inr (found ending, refl))
+
+module _ (c : Core) (image : Image) (settings : Settings) (list : ActList) (is : IsAcceptedCore c) (keeps : KeepsMeaning c image) (allowed : AreAllowed settings) (are : All IsAct list.acts) where
+  abbrev IsAnswer : List ℕ → ℕ → Type 0
+  IsAnswer = ListAnswer c settings list
+
+  answers_of : {files : Option Files} {last : ActList} {outcome : Outcome} {text : List ℕ} → Comes FromList files image settings list last outcome text → Answers c image settings list is keeps allowed are text outcome
+  answers_of comes = answers c image settings list is keeps allowed are comes
+
+  -- a run that ended
+  ended_gives : (text : List ℕ) (ending : Ending) (old new : Option (List ℕ)) (before : Counts) → Answers c image settings list is keeps allowed are text (Ends ending) → new ≡ grown old text → Gives IsAnswer old new before before (status_of ending)
+  ended_gives text _ old new before (whole ending a) written = answered text (status_of ending) a (unchanged ending before) written refl
+
+  pub run_gives : {files : Option Files} {last : ActList} {old new : Option (List ℕ)} {before after : Counts} (ending : Ending) (status : ℕ) → WritesAll FromList files image settings list last (Ends ending) old new → after ≡ before → status ≡ status_of ending → Gives IsAnswer old new before after status
+  run_gives {files} {last} {old} {new} {before} {after} ending status w same is_status =
+      subst (λ x. Gives IsAnswer old new before x status) (sym same)
+      (subst (Gives IsAnswer old new before before) (sym is_status) (ended_gives w.0 ending old new before (answers_of w.1) w.2))
+
+  -- a run that needs a refused line, and the line that says so
+  behind : (text more : List ℕ) (k : ℕ) (old mid new : Option (List ℕ)) → mid ≡ grown old text → new ≡ grown mid (take k more) → new ≡ grown old (take (length text + k) (text ++ more))
+  behind text more k old mid new first second =
+      second ∙ ap (λ o. grown o (take k more)) first ∙ grown-grown old text (take k more) ∙ ap (grown old) (sym (take-append-add text more k))
+
+  refused_gives : (text : List ℕ) (line : ℕ) (code : Code) (old mid new : Option (List ℕ)) (m f k k' result : ℕ) → Answers c image settings list is keeps allowed are text (LineRefused line code) → mid ≡ grown old text → LineGiven (act_refused_text line code) 8 mid new k k' result →
+      Gives IsAnswer old new (record { misses = m; faults = f; sink = k }) (record { misses = m; faults = f; sink = k' }) result
+  refused_gives text _ _ old mid new m f k k' _ (front line code a) first (given (all second same)) =
+      answered (text ++ act_refused_text line code) 8 a (refl, inr (line_found, refl)) (second ∙ ap (λ o. grown o (act_refused_text line code)) first ∙ grown-grown old text (act_refused_text line code)) same
+  refused_gives text _ _ old mid new m f k k' _ (front line code a) first (given (failed n le second rises)) =
+      output_failed (text ++ act_refused_text line code) 8 (length text + n) a (omega arith) refl (omega (arith, length-append text (act_refused_text line code), le)) (behind text (act_refused_text line code) n old mid new first second) rises
+  refused_gives text _ _ old mid new m f k k' result (front line code a) first (unmade nine same still) =
+      subst (Gives IsAnswer old new (record { misses = m; faults = f; sink = k }) (record { misses = m; faults = f; sink = k' })) (sym nine)
+      (no_memory_behind (text ++ act_refused_text line code) 8 (length text) a (omega (arith, length-append text (act_refused_text line code))) (same ∙ first ∙ ap (grown old) (sym (take-append_seam text (act_refused_text line code)))) (omega arith) refl still)
+
+  pub line_refused_gives : {files : Option Files} {last : ActList} {old mid new : Option (List ℕ)} (line : ℕ) (code : Code) (m m' f f' k j k' result : ℕ) → WritesAll FromList files image settings list last (LineRefused line code) old mid → ◌≡◌ {A = Counts} (record { misses = m'; faults = f'; sink = j }) (record { misses = m; faults = f; sink = k }) → LineGiven (act_refused_text line code) 8 mid new j k' result →
+      Gives IsAnswer old new (record { misses = m; faults = f; sink = k }) (record { misses = m'; faults = f'; sink = k' }) result
+  line_refused_gives {files} {last} {old} {mid} {new} line code m m' f f' k j k' result w same made =
+      let misses = ap (λ (x : Counts). x.misses) same in
+      let faults = ap (λ (x : Counts). x.faults) same in
+      let sink = ap (λ (x : Counts). x.sink) same in
+      rw (misses, faults) (refused_gives w.0 line code old mid new m f k k' result (answers_of w.1) w.2 (rw sink at made))
+
+  -- a file of acts was read before the run
+  not_missing : {text : List ℕ} → Answers c image settings list is keeps allowed are text FileMissing → ⊥
+  not_missing a = by FileMissing a refl
+    where
+      by : {text : List ℕ} (outcome : Outcome) → Answers c image settings list is keeps allowed are text outcome → outcome ≡ FileMissing → ⊥
+      by _ (whole ending a) e = cc
+      by _ (front line code a) e = cc
+
+  pub never_missing : {files : Option Files} {last : ActList} (old new : Option (List ℕ)) → WritesAll FromList files image settings list last FileMissing old new → ⊥
+  never_missing old new w = not_missing (answers_of w.1)
+
+  -- a front of a run's text
+  fronted : (text : List ℕ) (outcome : Outcome) (n : ℕ) (old new : Option (List ℕ)) (before after : Counts) → Answers c image settings list is keeps allowed are text outcome → n ≤ length text → new ≡ grown old (take n text) → before.misses ≤ after.misses → after.faults ≡ before.faults → Rises before.sink after.sink → Gives IsAnswer old new before after 5
+  fronted text _ n old new before after (whole ending a) le part misses faults rises = output_failed text (status_of ending) n a misses faults le part rises
+  fronted text _ n old new before after (front line code a) le part misses faults rises =
+      output_failed (text ++ act_refused_text line code) 8 n a misses faults (omega (arith, length-append text (act_refused_text line code), le)) (part ∙ ap (grown old) (sym (take-append-le n text (act_refused_text line code) le))) rises
+
+  pub output_gives : {files : Option Files} {last : ActList} {old new : Option (List ℕ)} {before after : Counts} → WritesFront FromList files image settings list last old new → before.misses ≤ after.misses → after.faults ≡ before.faults → Rises before.sink after.sink → Gives IsAnswer old new before after 5
+  output_gives {files} {last} {old} {new} {before} {after} w misses faults rises = fronted w.text w.outcome w.size old new before after (answers_of w.comes) w.fits w.front misses faults rises
+
+-- ---- from lists to files
+
+-- an answer of a list is one of a core, where the options ask for that list
+pub list_core : (told : Option Files) (options : Options) (c : Core) (settings : Settings) (list : ActList) → settings ≡ settings_of options → ((files : Files) → told ≡ Some files → acts_at files options.acts ≡ Some list) → (text : List ℕ) (status : ℕ) → ListAnswer c settings list text status → Told told (λ files. CoreAnswer files options c text status)
+list_core told options c settings list same there text status a = λ files is. acts list (there files is) (subst (λ s. ListAnswer c s list text status) same a)
+
+-- ---- a file is read up to one byte more than a source may have
+
+short_file : (file : List ℕ) → length file ≤ 1048576 → take 1048577 file ≡ file
+short_file file short = take_all 1048577 file (omega arith)
+
+-- a longer file is refused as what was read of it is
+long_file : (files : Files) (options : Options) (file : List ℕ) → 1048576 < length file → {text : List ℕ} {status : ℕ} → SourceAnswer files options (take 1048577 file) text status → SourceAnswer files options file text status
+long_file files options file long (refused fault r) =
+    let front = take 1048577 file in
+    let same : fault ≡ fault_at E08 0 = one_refusal r (no_tokens (great (omega (arith, length-take 1048577 file, long)))) in
+    subst (λ (f : SourceFault). SourceAnswer files options file (refused_text f.code (place_at front f.span.from)) 1) (sym same) (refused (fault_at E08 0) (no_tokens (great long)))
+long_file files options file long (accepted c a x) = absurd (core_or_fault a (no_tokens (great (omega (arith, length-take 1048577 file, long)))))
+
+pub whole_file : (files : Files) (options : Options) (file : List ℕ) {text : List ℕ} {status : ℕ} → SourceAnswer files options (take 1048577 file) text status → SourceAnswer files options file text status
+whole_file files options file {text} {status} a = by_test (nat_lt 1048576 (length file)) refl
+  where
+    by_test : (b : Bool) → nat_lt 1048576 (length file) ≡ b → SourceAnswer files options file text status
+    by_test true long = long_file files options file (ltb-true 1048576 (length file) long) a
+    by_test false short = subst (λ f. SourceAnswer files options f text status) (short_file file (ltb-false 1048576 (length file) short)) a

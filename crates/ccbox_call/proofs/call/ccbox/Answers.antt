@@ -1,0 +1,35 @@
+use Rattle.ccbox_call.proofs.Calls.{front, whole, printed_run, complete, exits, refuses, misses, checks, stops, acts_refused, untouched}
+use Rattle.ccbox_call.proofs.call.ccbox.Goals as goal
+
+pub returns-clause-front : goal.returns-clause-front
+returns-clause-front g c = λ files told. front _ _ _ _ _ _ files told _ c.status_of_call.ensures
+
+pub returns-clause-whole : goal.returns-clause-whole
+returns-clause-whole g c = λ files told. whole _ _ _ _ _ _ files told _ c.status_of_call.ensures
+
+pub returns-clause-printed_run : goal.returns-clause-printed_run
+returns-clause-printed_run g c = λ files told. printed_run _ _ _ _ _ _ files told _ c.status_of_call.ensures
+
+pub returns-clause-complete : goal.returns-clause-complete
+returns-clause-complete g c = λ files told. complete _ _ _ _ _ _ files told _ c.status_of_call.ensures
+
+pub returns-clause-exits : goal.returns-clause-exits
+returns-clause-exits g c = λ files told. exits _ _ _ _ _ _ files told _ c.status_of_call.ensures
+
+pub returns-clause-refused : goal.returns-clause-refused
+returns-clause-refused g c = λ files told. refuses _ _ _ _ _ _ files told _ c.status_of_call.ensures
+
+pub returns-clause-missing : goal.returns-clause-missing
+returns-clause-missing g c = λ files told. misses _ _ _ _ _ _ files told _ c.status_of_call.ensures
+
+pub returns-clause-checks : goal.returns-clause-checks
+returns-clause-checks g c = λ files told. checks _ _ _ _ _ _ files told _ c.status_of_call.ensures
+
+pub returns-clause-stops : goal.returns-clause-stops
+returns-clause-stops g c = λ files told. stops _ _ _ _ _ _ files told _ c.status_of_call.ensures
+
+pub returns-clause-acts_refused : goal.returns-clause-acts_refused
+returns-clause-acts_refused g c = λ files told. acts_refused _ _ _ _ _ _ files told _ c.status_of_call.ensures
+
+pub returns-clause-untouched : goal.returns-clause-untouched
+returns-clause-untouched g c = untouched _ _ _ _ _ _ _ c.status_of_call.ensures

@@ -1,0 +1,199 @@
+-- The Answer of the words over files: a text and a status. And what a call says of it.
+use Rattle.std.specs.Prelude.{◌≡◌, ℕ, ◌<◌, ◌≤◌, ◌⊎◌, List, ◌++◌, length, take, replicate, Option, Some, None, option_map}
+use Rattle.std.proofs.Common.{ℤ}
+use Rattle.ckc_io.specs.Files.{Files, file_at}
+use Rattle.ckc_io.specs.Written.{grown}
+use Rattle.ckc_io.specs.Counts.{Rose}
+use Rattle.ckc_text.specs.declared.fault.SourceFault.{SourceFault}
+use Rattle.ckc_text.specs.Places.{place_at}
+use Rattle.ckc_text.specs.declared.code.Code.{Code}
+use Rattle.ckc_text.specs.declared.place.Place.{Place}
+use Rattle.act_words.specs.declared.ending.Ending.{Ending}
+use Rattle.act_words.specs.declared.ending.Ending.TheVariants.{Exit, Check, Stop}
+use Rattle.act_words.specs.declared.settings.Settings.{Settings}
+use Rattle.act_words.specs.Outcome.{Ends}
+use Rattle.act_words.specs.World.{Event}
+use Rattle.act_words.specs.View.{ViewIsFold}
+use Rattle.ckc_core.specs.Core.{Core}
+use Rattle.ckc_core.specs.States.{State}
+use Rattle.ckc_core.specs.Meaning.{meaning}
+use Rattle.sandbox_actor.specs.Answers.{Moment}
+use Rattle.sandbox_actor.specs.ActLists.{ActList, RefusedLine, no_acts, acts_of_file}
+use Rattle.run_core.specs.Texts.{run_text, front_text}
+use Rattle.run_core.specs.Moments.{due_in, before_due}
+use Rattle.ccbox_call.specs.Requests.{Request, Run, Options, settings_of, request_of}
+use Rattle.ccbox_call.specs.Texts.{usage_text, missing_text, refused_text, act_refused_text}
+use Rattle.ccbox_call.specs.Acceptance.{Accepts, IsRefused}
+
+-- ---- runs
+
+-- the acts that an option asks for, where its file is there
+abbrev pub acts_at : Files → Option (List ℕ) → Option ActList
+acts_at files None = Some no_acts
+acts_at files (Some name) = option_map acts_of_file (file_at files name)
+
+-- the run of a core over acts ends so, in this state
+abbrev pub RunsTo : Core → Settings → ActList → Ending → State → Type 0
+RunsTo c settings list ending s = meaning c settings list.acts ≡ Ends ending s
+
+-- the line that a run needs and that is refused: an act was due behind the last, and there a line is refused
+abbrev pub needed_from : Option Moment → ActList → Option RefusedLine
+needed_from None list = None
+needed_from (Some moment) list = list.refused
+
+abbrev pub needed_line : ActList → List Event → Option RefusedLine
+needed_line list events = needed_from (due_in events) list
+
+-- the text of a run: up to its end, or up to the act that is refused
+abbrev pub text_of : Settings → Option RefusedLine → List Event → Ending → List ℕ
+text_of settings None events ending = run_text settings events ending
+text_of settings (Some refused) events ending = front_text settings (before_due events) ++ act_refused_text refused.line refused.code
+
+-- the status of a run that ended so
+abbrev pub status_of : Ending → ℕ
+status_of (Exit value) = 0
+status_of (Check code place) = 6
+status_of (Stop code act) = 7
+
+abbrev pub status_with : Option RefusedLine → Ending → ℕ
+status_with None ending = status_of ending
+status_with (Some refused) ending = 8
+
+-- ---- the Answer
+
+-- the text and the status of a core over a list of acts
+pub data ListAnswer (c : Core) (settings : Settings) (list : ActList) : List ℕ → ℕ → Type 0 where
+  ran : (ending : Ending) (s : State) → RunsTo c settings list ending s → ListAnswer c settings list (text_of settings (needed_line list s.world.events) s.world.events ending) (status_with (needed_line list s.world.events) ending)
+
+-- of a core
+pub data CoreAnswer (files : Files) (options : Options) (c : Core) : List ℕ → ℕ → Type 0 where
+  acts_missing : (name : List ℕ) → options.acts ≡ Some name → file_at files name ≡ None → CoreAnswer files options c (missing_text name) 3
+  acts : {text : List ℕ} {status : ℕ} (list : ActList) → acts_at files options.acts ≡ Some list → ListAnswer c (settings_of options) list text status → CoreAnswer files options c text status
+
+-- of a source
+pub data SourceAnswer (files : Files) (options : Options) (src : List ℕ) : List ℕ → ℕ → Type 0 where
+  refused : (fault : SourceFault) → IsRefused src fault → SourceAnswer files options src (refused_text fault.code (place_at src fault.span.from)) 1
+  accepted : {text : List ℕ} {status : ℕ} (c : Core) → Accepts src c → CoreAnswer files options c text status → SourceAnswer files options src text status
+
+-- of a file
+pub data FileAnswer (files : Files) (options : Options) (name : List ℕ) : List ℕ → ℕ → Type 0 where
+  missing : file_at files name ≡ None → FileAnswer files options name (missing_text name) 3
+  source : {text : List ℕ} {status : ℕ} (src : List ℕ) → file_at files name ≡ Some src → SourceAnswer files options src text status → FileAnswer files options name text status
+
+-- of a request
+abbrev pub RequestAnswer : Files → Request → List ℕ → ℕ → Type 0
+RequestAnswer files (Run name options) text status = FileAnswer files options name text status
+
+-- of the words
+pub data Answer (files : Files) (words : List (List ℕ)) : List ℕ → ℕ → Type 0 where
+  usage : request_of words ≡ None → Answer files words usage_text 2
+  asked : {text : List ℕ} {status : ℕ} (request : Request) → request_of words ≡ Some request → RequestAnswer files request text status → Answer files words text status
+
+-- ---- what a call gives
+
+-- a status of a failure: of the files, of the output, or of memory
+abbrev pub IsFailure : ℕ → Type 0
+IsFailure status = (status ≡ 4) ⊎ ((status ≡ 5) ⊎ (status ≡ 9))
+
+-- what was written is a front of the text
+abbrev pub WritesFront : List ℕ → Option (List ℕ) → Option (List ℕ) → Type 0
+WritesFront text old new = (k : ℕ) × (k ≤ length text) × (new ≡ grown old (take k text))
+
+-- whatever the Answer is, what was written is a front of its text
+abbrev pub GivesFront : Files → List (List ℕ) → Option (List ℕ) → Option (List ℕ) → Type 0
+GivesFront files words old new = (text : List ℕ) (status : ℕ) → Answer files words text status → WritesFront text old new
+
+-- the Answer was given whole
+pub record GivesWhole (files : Files) (words : List (List ℕ)) (old new : Option (List ℕ)) (status : ℕ) : Type 0 where
+  pub text : List ℕ
+  pub answer : Answer files words text status
+  pub all : new ≡ grown old text
+
+-- the status comes where this holds, and there alone, unless something fails
+pub record Exactly (n status : ℕ) (P : Type 0) : Type 0 where
+  pub only : status ≡ n → P
+  pub always : P → (status ≡ n) ⊎ IsFailure status
+
+-- ---- causes
+
+-- the words ask to run this source with these options
+pub record AsksToRun (files : Files) (words : List (List ℕ)) (options : Options) (src : List ℕ) : Type 0 where
+  pub name : List ℕ
+  pub request : request_of words ≡ Some (Run name options)
+  pub there : file_at files name ≡ Some src
+
+-- they ask to run a source with this core, over these acts
+pub record AsksFor (files : Files) (words : List (List ℕ)) (options : Options) (list : ActList) (c : Core) : Type 0 where
+  pub src : List ℕ
+  pub asks : AsksToRun files words options src
+  pub accepted : Accepts src c
+  pub acts : acts_at files options.acts ≡ Some list
+
+abbrev pub SourceIsRefused : Files → List (List ℕ) → Type 0
+SourceIsRefused files words = (options : Options) × (src : List ℕ) × (fault : SourceFault) × AsksToRun files words options src × IsRefused src fault
+
+-- the source is accepted, and its run ends so, or needs this refused line before
+abbrev pub RunEndsWith : Files → List (List ℕ) → Option RefusedLine → Ending → Type 0
+RunEndsWith files words needed ending =
+    (options : Options) × (list : ActList) × (c : Core) × (s : State) × AsksFor files words options list c × RunsTo c (settings_of options) list ending s × (needed_line list s.world.events ≡ needed)
+
+abbrev pub RunExits : Files → List (List ℕ) → Type 0
+RunExits files words = (value : ℤ) × RunEndsWith files words None (Exit value)
+
+abbrev pub CheckFails : Files → List (List ℕ) → Type 0
+CheckFails files words = (code : Code) × (place : Place) × RunEndsWith files words None (Check code place)
+
+abbrev pub RunStops : Files → List (List ℕ) → Type 0
+RunStops files words = (code : Code) × (act : Option ℕ) × RunEndsWith files words None (Stop code act)
+
+abbrev pub LineIsRefused : Files → List (List ℕ) → Type 0
+LineIsRefused files words = (refused : RefusedLine) × (ending : Ending) × RunEndsWith files words (Some refused) ending
+
+abbrev pub SourceIsMissing : Files → List (List ℕ) → Type 0
+SourceIsMissing files words = (name : List ℕ) × (options : Options) × (request_of words ≡ Some (Run name options)) × (file_at files name ≡ None)
+
+-- the source is accepted, and the file of acts isn't there
+abbrev pub ActsAreMissing : Files → List (List ℕ) → Type 0
+ActsAreMissing files words =
+    (name : List ℕ) × (options : Options) × (src : List ℕ) × (c : Core) × AsksToRun files words options src × Accepts src c × (options.acts ≡ Some name) × (file_at files name ≡ None)
+
+abbrev pub FileIsMissing : Files → List (List ℕ) → Type 0
+FileIsMissing files words = SourceIsMissing files words ⊎ ActsAreMissing files words
+
+-- a count of failures that is told by a status: the status comes only where the count rose, and where it went up
+-- the status is among these
+pub record Tells (status n old new : ℕ) (Among : Type 0) : Type 0 where
+  pub cause : status ≡ n → Rose old new
+  pub told : old < new → Among
+
+-- the run of an accepted source is never stuck; what the sandbox is shown is the fold of its starting memory, the acts that
+-- were taken and the releases; and the text of the run is printed, unless something fails
+pub record PrintsRun (options : Options) (list : ActList) (c : Core) (old new : Option (List ℕ)) (status : ℕ) : Type 0 where
+  pub ending : Ending
+  pub last : State
+  pub runs : RunsTo c (settings_of options) list ending last
+  pub view : ViewIsFold (replicate (settings_of options).sandbox 0) list.acts last.world
+  pub printed : ((status ≡ status_with (needed_line list last.world.events) ending) × (new ≡ grown old (text_of (settings_of options) (needed_line list last.world.events) last.world.events ending))) ⊎ IsFailure status
+
+abbrev pub PrintedRun : Files → List (List ℕ) → Option (List ℕ) → Option (List ℕ) → ℕ → Type 0
+PrintedRun files words old new status = (options : Options) (list : ActList) (c : Core) → AsksFor files words options list c → PrintsRun options list c old new status
+
+-- where no failure is counted, the run of an accepted source is printed whole, unless memory runs out
+abbrev pub IsComplete : Files → List (List ℕ) → Option (List ℕ) → Option (List ℕ) → ℕ → Type 0
+IsComplete files words old new status =
+    (options : Options) (list : ActList) (c : Core) (ending : Ending) (s : State) → AsksFor files words options list c → RunsTo c (settings_of options) list ending s →
+    ((status ≡ status_with (needed_line list s.world.events) ending) × (new ≡ grown old (text_of (settings_of options) (needed_line list s.world.events) s.world.events ending))) ⊎ (status ≡ 9)
+
+-- a count of failures didn't rise
+abbrev pub IsQuiet : ℕ → ℕ → Type 0
+IsQuiet old new = Rose old new → ⊥
+
+-- no miss and no fault of the files is counted
+pub record IsUntouched (misses misses' faults faults' : ℕ) : Type 0 where
+  pub misses_stay : misses' ≡ misses
+  pub faults_stay : faults' ≡ faults
+
+-- every status that a call ends with
+abbrev pub IsStatus : ℕ → Type 0
+IsStatus status =
+    (status ≡ 0) ⊎ ((status ≡ 1) ⊎ ((status ≡ 2) ⊎ ((status ≡ 3) ⊎ ((status ≡ 6) ⊎ ((status ≡ 7) ⊎ ((status ≡ 8) ⊎ IsFailure status))))))

@@ -1,0 +1,10 @@
+// The call: words, files and an output to a status.
+#![tactic(auto)]
+
+pub mod call;
+pub mod front;
+pub mod laws;
+mod output;
+mod request;
+mod run;
+mod texts;

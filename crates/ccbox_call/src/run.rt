@@ -1,0 +1,170 @@
+// Running the program of a file.
+
+ghost use Rattle.std.specs.Prelude.{◌≡◌, List, ℕ};
+ghost use Rattle.std.specs.List.{All};
+ghost use Rattle.act_words.specs.Acts.{IsAct};
+ghost use Rattle.act_words.specs.Limits.{AreAllowed};
+ghost use Rattle.ckc_text.specs.Places.{place_at};
+ghost use Rattle.ckc_io.specs.Files.{Told};
+ghost use Rattle.ckc_core.specs.Core.{core};
+ghost use Rattle.ccbox_call.specs.Acceptance.{IsAcceptedCore, IsRefused};
+ghost use Rattle.ccbox_call.specs.Answers.{ListAnswer, CoreAnswer, SourceAnswer, FileAnswer, status_of as status_of_ending};
+ghost use Rattle.ccbox_call.specs.Requested.{options as options_view};
+ghost use Rattle.ccbox_call.specs.Requests.{settings_of};
+ghost use Rattle.ccbox_call.specs.Calls.{Gives};
+
+use crate::front::front;
+use crate::output::{NO_MEMORY, OUTPUT_FAILED, give_line};
+use crate::request::Options;
+use crate::texts::{act_refused_line, missing_line, refused_line};
+use act_words::ending::Ending;
+use act_words::settings::Settings;
+use ckc_core::program::Core;
+use ckc_io::shelf::Shelf;
+use ckc_io::sink::Sink;
+use ckc_io::whole::{ReadFault, read_whole};
+use ckc_lexer::lexer::MAX_SOURCE;
+use ckc_text::fault::{Refused, SourceFault};
+use ckc_text::place::{Place, place_of};
+use lowering::emit::lower;
+use run_core::run::{RunFault, run};
+use sandbox_actor::actor::ActorFault;
+use sandbox_actor::list_actor::ListActor;
+use std::alloc::Global;
+
+/// The status where a file is missing.
+const FILE_MISSING: u8 = 3;
+
+/// The status where the files failed.
+const FILES_FAILED: u8 = 4;
+
+/// Runs the program of a file.
+pub fn run_file<F: Shelf, K: Sink>(
+    alloc: Global,
+    file: &str,
+    options: &Options,
+    shelf: &mut F,
+    sink: &mut K,
+) -> u8
+    requires { AreAllowed (settings_of (options_view options.now)) }
+    ensures { Gives (λ text status. Told (F.files shelf.old) (λ files. FileAnswer files (options_view options.now) file.now text status))
+        (K.written sink.old) (K.written sink.new)
+        (record { misses = F.misses shelf.old; faults = F.faults shelf.old; sink = K.faults sink.old })
+        (record { misses = F.misses shelf.new; faults = F.faults shelf.new; sink = K.faults sink.new }) result }
+{
+    match read_whole(alloc, shelf, file, MAX_SOURCE + 1) {
+        Ok(src) => run_source(alloc, src.as_slice(), options, shelf, sink),
+        Err(ReadFault::Missing) => give_line(sink, missing_line(alloc, file), FILE_MISSING),
+        Err(ReadFault::Failed) => FILES_FAILED,
+        Err(ReadFault::NoMemory) => NO_MEMORY,
+    }
+}
+
+// Runs a source.
+fn run_source<F: Shelf, K: Sink>(
+    alloc: Global,
+    src: &[u8],
+    options: &Options,
+    shelf: &mut F,
+    sink: &mut K,
+) -> u8
+    requires { AreAllowed (settings_of (options_view options.now)) }
+    ensures { Gives (λ text status. Told (F.files shelf.old) (λ files. SourceAnswer files (options_view options.now) src.now text status))
+        (K.written sink.old) (K.written sink.new)
+        (record { misses = F.misses shelf.old; faults = F.faults shelf.old; sink = K.faults sink.old })
+        (record { misses = F.misses shelf.new; faults = F.faults shelf.new; sink = K.faults sink.new }) result }
+{
+    match front(alloc, src) {
+        Ok(program) => run_program(alloc, &program, options, shelf, sink),
+        Err(Refused::Source(fault)) => {
+            let place = place_of_fault(src, &fault);
+            give_line(sink, refused_line(alloc, fault.code, place), 1)
+        }
+        Err(Refused::NoMemory) => NO_MEMORY,
+    }
+}
+
+// The place of a fault: where its span starts.
+fn place_of_fault(src: &[u8], fault: &SourceFault) -> Place
+    requires { IsRefused src.now fault.now }
+    ensures { result ≡ place_at src.now fault.now.span.from }
+{
+    // Behind the last byte every place is the same.
+    let at = (fault.span.from as usize).min(src.len());
+    place_of(src, at)
+}
+
+// Runs a program with the acts that the options ask for.
+fn run_program<F: Shelf, K: Sink>(
+    alloc: Global,
+    program: &Core,
+    options: &Options,
+    shelf: &mut F,
+    sink: &mut K,
+) -> u8
+    requires allowed { AreAllowed (settings_of (options_view options.now)) }
+    requires accepted { IsAcceptedCore (core program.now) }
+    ensures { Gives (λ text status. Told (F.files shelf.old) (λ files. CoreAnswer files (options_view options.now) (core program.now) text status))
+        (K.written sink.old) (K.written sink.new)
+        (record { misses = F.misses shelf.old; faults = F.faults shelf.old; sink = K.faults sink.old })
+        (record { misses = F.misses shelf.new; faults = F.faults shelf.new; sink = K.faults sink.new }) result }
+{
+    let settings = options.settings();
+    let Some(name) = options.acts else {
+        let mut actor = ListActor::empty(alloc);
+        return run_with(alloc, program, &settings, &mut actor, shelf, sink);
+    };
+    match ListActor::start(alloc, shelf, name) {
+        Ok(mut actor) => run_with(alloc, program, &settings, &mut actor, shelf, sink),
+        Err(ActorFault::Missing) => give_line(sink, missing_line(alloc, name), FILE_MISSING),
+        Err(ActorFault::Failed) => FILES_FAILED,
+        Err(ActorFault::NoMemory) => NO_MEMORY,
+        // No act is asked for yet.
+        Err(ActorFault::Ended) => NO_MEMORY,
+        Err(ActorFault::Line { line: _, code: _ }) => NO_MEMORY,
+    }
+}
+
+// Turns a program into code, and runs it with an actor.
+fn run_with<F: Shelf, K: Sink>(
+    alloc: Global,
+    program: &Core,
+    settings: &Settings,
+    actor: &mut ListActor,
+    shelf: &mut F,
+    sink: &mut K,
+) -> u8
+    requires allowed { AreAllowed settings.now }
+    requires accepted { IsAcceptedCore (core program.now) }
+    requires acts { All IsAct actor.old.acts }
+    ensures { Gives (ListAnswer (core program.now) settings.now actor.old)
+        (K.written sink.old) (K.written sink.new)
+        (record { misses = F.misses shelf.old; faults = F.faults shelf.old; sink = K.faults sink.old })
+        (record { misses = F.misses shelf.new; faults = F.faults shelf.new; sink = K.faults sink.new }) result }
+{
+    let Ok(image) = lower(alloc, program) else {
+        return NO_MEMORY;
+    };
+    match run(alloc, &image, settings, actor, shelf, sink) {
+        Ok(ending) => status_of(&ending),
+        Err(RunFault::Line { line, code }) => {
+            give_line(sink, act_refused_line(alloc, line, code), 8)
+        }
+        // An actor of a list has read its file.
+        Err(RunFault::Missing) => FILE_MISSING,
+        Err(RunFault::ShelfFailed) => FILES_FAILED,
+        Err(RunFault::SinkFailed) => OUTPUT_FAILED,
+        Err(RunFault::NoMemory) => NO_MEMORY,
+    }
+}
+
+// The status of a run that ended so.
+fn status_of(ending: &Ending) -> u8
+    ensures { result ≡ status_of_ending ending.now }
+{
+    match ending {
+        Ending::Exit { value: _ } => 0,
+        Ending::Check { code: _, place: _ } => 6,
+        Ending::Stop { code: _, act: _ } => 7,
+    }
+}

@@ -1,0 +1,130 @@
+// The actor of a file, over files in memory.
+
+use crate::acts::is_written;
+use crate::answers::Question;
+use crate::lines::is_number;
+use crate::rows::{expect, expect_rows};
+use act_words::act::Turn;
+use ckc_io::mem_shelf::MemShelf;
+use ckc_text::code::Code;
+use sandbox_actor::actor::{Actor, ActorFault, Now};
+use sandbox_actor::list_actor::ListActor;
+use std::alloc::Global;
+use std::test::Fail;
+
+// The files of a test: `acts`, with this text, of which the read of this number fails.
+fn shelf_of(alloc: Global, text: &[u8], read: u64) -> MemShelf {
+    let mut shelf = MemShelf::new(alloc);
+    let _ = shelf.add("acts", text);
+    let _ = shelf.fail_at(read);
+    shelf
+}
+
+// Whether no act came for this reason.
+fn is_reason(fault: &ActorFault, expected: &str) -> bool {
+    match fault {
+        ActorFault::Ended => expected == "end",
+        ActorFault::Line { line, code } => is_refused_line(*line, *code, expected),
+        _ => false,
+    }
+}
+
+fn is_refused_line(line: u64, code: Code, expected: &str) -> bool {
+    match expected.split_once(' ') {
+        Some((number, refusal)) => is_number(number, line) && code.number() == refusal,
+        None => false,
+    }
+}
+
+// Whether the actor gives this next.
+fn gives(
+    alloc: Global,
+    shelf: &mut MemShelf,
+    actor: &mut ListActor,
+    now: &Now,
+    expected: &str,
+) -> bool {
+    match actor.next(shelf, now) {
+        Ok(act) => is_written(alloc, &act, expected),
+        Err(fault) => is_reason(&fault, expected),
+    }
+}
+
+// Whether the actor gives the acts of these lines, and then no more for the reason of the last line.
+fn gives_lines(
+    alloc: Global,
+    shelf: &mut MemShelf,
+    actor: &mut ListActor,
+    turn: Turn,
+    expected: &str,
+) -> bool {
+    let now = Now { turn, last: None };
+    for line in expected.lines() {
+        if !gives(alloc, shelf, actor, &now, line) {
+            return false;
+        }
+    }
+    true
+}
+
+// Whether the actor of the files gives these lines.
+fn starts_and_gives(alloc: Global, mut shelf: MemShelf, turn: Turn, expected: &str) -> bool {
+    match ListActor::start(alloc, &mut shelf, "acts") {
+        Ok(mut actor) => gives_lines(alloc, &mut shelf, &mut actor, turn, expected),
+        Err(_) => false,
+    }
+}
+
+/// Whether a file gives the acts of these lines, and then no more for the reason of the last line.
+pub fn gives_all(alloc: Global, text: &[u8], expected: &str) -> bool {
+    starts_and_gives(alloc, shelf_of(alloc, text, 0), Turn::Trusted, expected)
+}
+
+const FILES: &str = "end@
+{\"act\":\"go\"}~{\"act\":\"stop\"}~end@{\"act\":\"go\"}~~{\"act\":\"stop\"}
+{\"act\":\"return\",\"value\":7}~end@ \t\r~{\"value\":7,\"act\":\"return\"}\r~~
+{\"act\":\"go\"}~3 A1@{\"act\":\"go\"}~ ~x~{\"act\":\"go\"}~
+2 A5@~{\"act\":\"read\",\"at\":0,\"len\":65}
+1 A1@\u{b}~
+end@`4096× `
+1 A4@`4097× `
+end@`1048576×~`
+1048577 A4@`1048577×~`
+1048577 A4@`1048600×~`";
+
+#[test]
+fn files_to_their_ends(rt: HostRuntime) -> Result<(), Fail> {
+    expect_rows(rt.alloc(), Question::Acts, FILES)
+}
+
+// Whether no actor starts over these files, since the file is missing.
+fn is_missing(alloc: Global, mut shelf: MemShelf) -> bool {
+    let started = ListActor::start(alloc, &mut shelf, "acts");
+    matches!(started, Err(ActorFault::Missing))
+}
+
+#[test]
+fn missing_file(rt: HostRuntime) -> Result<(), Fail> {
+    expect(is_missing(rt.alloc(), MemShelf::new(rt.alloc())))
+}
+
+const GO: &[u8] = b"{\"act\":\"go\"}\n";
+
+// Whether no actor starts where the read of this number fails.
+fn start_fails(alloc: Global, read: u64) -> bool {
+    let mut shelf = shelf_of(alloc, GO, read);
+    let started = ListActor::start(alloc, &mut shelf, "acts");
+    matches!(started, Err(ActorFault::Failed))
+}
+
+// Whether the acts of a file are read with no more than two reads.
+fn reads_twice(alloc: Global) -> bool {
+    let shelf = shelf_of(alloc, GO, 3);
+    starts_and_gives(alloc, shelf, Turn::Sandbox, "{\"act\":\"go\"}\nend")
+}
+
+#[test]
+fn reads_of_a_file(rt: HostRuntime) -> Result<(), Fail> {
+    let alloc = rt.alloc();
+    expect(start_fails(alloc, 1) && start_fails(alloc, 2) && reads_twice(alloc))
+}

@@ -1,0 +1,194 @@
+// Facts, and what they entail.
+
+ghost use Rattle.std.specs.Prelude.{◌≡◌, ◌≤◌, ◌<◌, Some};
+
+use crate::rows::expect;
+use bounds_exprs::term::Term;
+use std::alloc::Global;
+use std::test::Fail;
+use subsumption::fact::Answer;
+use subsumption::facts::Facts;
+
+// A variable plus a constant.
+#[derive(Clone, Copy)]
+struct X(u32, i64);
+
+// A step that changes a table of facts, or asks it whether the one is at most the other.
+#[derive(Clone, Copy)]
+enum Step {
+    Add(X, X),
+    Kill(u32),
+    Shift(u32, i64),
+    // The answer is yes with so many facts, yes, or no.
+    With(X, X, usize),
+    Yes(X, X),
+    No(X, X),
+}
+
+fn term(x: X) -> Term
+    ensures { result ≡ record { var = Some x.0; plus = x.1 } }
+{
+    let X(var, plus) = x;
+    let var = Some(var);
+    Term { var, plus }
+}
+
+// How many facts show that the one is at most the other: none where the answer is no.
+fn facts_for(facts: &Facts, a: X, b: X) -> Option<Option<usize>>
+    requires a_below { a.0 < facts.now.vars }
+    requires b_below { b.0 < facts.now.vars }
+{
+    match facts.entails(&term(a), &term(b)) {
+        Ok(Answer::Yes(path)) => Some(Some(path.facts.len())),
+        Ok(Answer::No(_)) => Some(None),
+        Err(_) => None,
+    }
+}
+
+// Whether a table takes a step, or answers so.
+fn takes(facts: &mut Facts, vars: u32, step: &Step) -> bool
+    requires { facts.old.vars ≡ vars }
+    ensures { facts.new.vars ≡ vars }
+{
+    match step {
+        Step::Add(a, b) if a.0 < vars && b.0 < vars => facts.add(term(*a), term(*b)).is_ok(),
+        Step::Kill(var) if *var < vars => facts.kill(*var).is_ok(),
+        Step::Shift(var, c) if *var < vars => facts.shift(*var, *c).is_ok(),
+        Step::With(a, b, count) if a.0 < vars && b.0 < vars => {
+            facts_for(facts, *a, *b) == Some(Some(*count))
+        }
+        Step::Yes(a, b) if a.0 < vars && b.0 < vars => {
+            matches!(facts_for(facts, *a, *b), Some(Some(_)))
+        }
+        Step::No(a, b) if a.0 < vars && b.0 < vars => facts_for(facts, *a, *b) == Some(None),
+        _ => false,
+    }
+}
+
+// Whether a table takes steps, one after another.
+fn takes_all(facts: &mut Facts, vars: u32, steps: &[Step]) -> bool
+    requires { facts.old.vars ≡ vars }
+    ensures { facts.new.vars ≡ vars }
+{
+    for step in steps {
+        if !takes(facts, vars, step) {
+            return false;
+        }
+    }
+    true
+}
+
+// Whether a new table takes steps.
+fn holds(alloc: Global, vars: u32, steps: &[Step]) -> bool
+    requires { vars ≤ 4096 }
+{
+    match Facts::new(alloc, vars) {
+        Ok(mut facts) => takes_all(&mut facts, vars, steps),
+        Err(_) => false,
+    }
+}
+
+// `x0 + 1 <= x1` and `x1 + 2 <= x2`.
+const CHAIN: &[Step] = &[Step::Add(X(0, 1), X(1, 0)), Step::Add(X(1, 2), X(2, 0))];
+
+const FOLLOWED: &[Step] = &[
+    Step::Add(X(0, 1), X(1, 0)),
+    Step::Add(X(1, 2), X(2, 0)),
+    Step::With(X(0, 3), X(2, 0), 2),
+    Step::No(X(0, 4), X(2, 0)),
+    Step::Kill(1),
+    Step::With(X(0, 3), X(2, 0), 1),
+    Step::No(X(0, 4), X(2, 0)),
+    Step::No(X(0, 1), X(1, 0)),
+];
+
+const SHIFTED: &[Step] = &[
+    Step::Add(X(0, 0), X(1, 0)),
+    Step::Shift(0, 1),
+    Step::With(X(0, -1), X(1, 0), 1),
+    Step::No(X(0, 0), X(1, 0)),
+    // A contradiction, from which all follows.
+    Step::Add(X(0, 1), X(0, 0)),
+    Step::Yes(X(2, 5), X(1, 0)),
+];
+
+// Sums of the greatest constants.
+const FAR: &[Step] = &[
+    Step::Add(X(0, i64::MAX), X(1, 0)),
+    Step::Add(X(1, i64::MAX), X(2, 0)),
+    Step::Add(X(2, i64::MAX), X(3, 0)),
+    Step::With(X(0, i64::MAX), X(3, -i64::MAX), 3),
+    Step::No(X(3, -i64::MAX), X(0, i64::MAX)),
+    Step::Kill(1),
+    Step::Kill(2),
+    Step::With(X(0, i64::MAX), X(3, -i64::MAX), 1),
+];
+
+#[test]
+fn follows_shifts_and_contradicts(rt: HostRuntime) -> Result<(), Fail> {
+    let alloc = rt.alloc();
+    expect(holds(alloc, 3, FOLLOWED) && holds(alloc, 3, SHIFTED) && holds(alloc, 4, FAR))
+}
+
+const OTHER: &[Step] = &[Step::Kill(0), Step::Add(X(0, 2), X(2, 0))];
+
+const JOINED: &[Step] = &[
+    Step::Yes(X(0, 2), X(2, 0)),
+    Step::No(X(0, 3), X(2, 0)),
+    Step::Yes(X(1, 2), X(2, 0)),
+    Step::No(X(0, 1), X(1, 0)),
+];
+
+// Whether a table joined with its copy, which went on by itself, keeps what both entail.
+fn joins_copy(facts: &mut Facts) -> bool
+    requires { facts.old.vars ≡ 3 }
+{
+    let Ok(mut other) = facts.copy() else {
+        return false;
+    };
+    takes_all(&mut other, 3, OTHER) && facts.join(&other).is_ok() && takes_all(facts, 3, JOINED)
+}
+
+// Whether the chain, joined with its copy, keeps what both entail.
+fn chain_joins_copy(alloc: Global) -> bool {
+    match Facts::new(alloc, 3) {
+        Ok(mut facts) => takes_all(&mut facts, 3, CHAIN) && joins_copy(&mut facts),
+        Err(_) => false,
+    }
+}
+
+#[test]
+fn joins_and_copies(rt: HostRuntime) -> Result<(), Fail> {
+    expect(chain_joins_copy(rt.alloc()))
+}
+
+const LONG: &[Step] = &[
+    Step::With(X(0, 256), X(256, 0), 256),
+    Step::No(X(0, 257), X(256, 0)),
+];
+
+// Whether each of 257 variables is taken to be at least one below the next.
+fn takes_chain(facts: &mut Facts) -> bool
+    requires { facts.old.vars ≡ 257 }
+    ensures { facts.new.vars ≡ 257 }
+{
+    for var in 0..256u32 {
+        if !takes(facts, 257, &Step::Add(X(var, 1), X(var + 1, 0))) {
+            return false;
+        }
+    }
+    true
+}
+
+// Whether a long chain is followed.
+fn follows_chain(alloc: Global) -> bool {
+    match Facts::new(alloc, 257) {
+        Ok(mut facts) => takes_chain(&mut facts) && takes_all(&mut facts, 257, LONG),
+        Err(_) => false,
+    }
+}
+
+#[test]
+fn follows_a_long_chain(rt: HostRuntime) -> Result<(), Fail> {
+    expect(follows_chain(rt.alloc()))
+}

@@ -1,0 +1,178 @@
+// Structs that are declared and given members, and where their cells lie.
+
+use crate::rows::expect;
+use ckc_text::code::Code;
+use ckc_text::fault::{NoMemory, Refused, SourceFault};
+use ckc_text::name::Name;
+use ckc_text::place::Span;
+use pointer_modes::ctype::{CType, Kind, Member, Mode};
+use pointer_modes::structs::Structs;
+use std::alloc::Global;
+use std::test::Fail;
+
+const DECLARED: Span = Span { from: 7, to: 8 };
+
+// A pointer to a type.
+fn pointer(alloc: Global, mode: Mode, kind: Kind, target: CType) -> Result<CType, NoMemory> {
+    let target = Box::new(alloc, target)?;
+    Ok(CType::Pointer(mode, kind, target))
+}
+
+// The type that a letter stands for: an int, a char, the struct of number 0, and else a pointer to that.
+fn type_of(alloc: Global, letter: u8) -> Result<CType, NoMemory> {
+    match letter {
+        b'i' => Ok(CType::Int),
+        b'c' => Ok(CType::Char),
+        b's' => Ok(CType::Struct(0)),
+        b't' => pointer(alloc, Mode::Tainted, Kind::Array, CType::Char),
+        _ => pointer(alloc, Mode::Checked, Kind::One, CType::Struct(0)),
+    }
+}
+
+// A member with this name and type, of one letter each, whose span is its position.
+fn member(alloc: Global, name: u8, letter: u8, at: u32) -> Result<Member, NoMemory> {
+    let name = Name::copied(alloc, &[name])?;
+    let ctype = type_of(alloc, letter)?;
+    let span = Span { from: at, to: at };
+    Ok(Member { name, ctype, span })
+}
+
+// Puts a member at the end of members.
+fn add_member(alloc: Global, members: &mut Vec<Member>, name: u8, letter: u8) {
+    let at = u32::try_from(members.len()).unwrap_or(u32::MAX);
+    if let Ok(member) = member(alloc, name, letter, at) {
+        let _ = members.push(member);
+    }
+}
+
+// Members of these names and types.
+fn members_of(alloc: Global, names: &[u8], types: &[u8]) -> Vec<Member> {
+    let mut members = Vec::new(alloc);
+    for (name, letter) in names.iter().zip(types) {
+        add_member(alloc, &mut members, *name, *letter);
+    }
+    members
+}
+
+// Whether a type has this size and cells at these offsets.
+fn lies_so(structs: &Structs, t: &CType, size: u32, offsets: &[u32]) -> bool {
+    let mut same = structs.size_of(t) == size && structs.cells_of(t) as usize == offsets.len();
+    for i in 0..structs.cells_of(t) {
+        let offset = structs.offset_of_cell(t, i);
+        same = same && offsets.get(i as usize).copied() == Some(offset);
+    }
+    same
+}
+
+// Whether a struct is tainted, has as many members as there are offsets and lies so, and no other one is tainted.
+fn is_laid_out(structs: &Structs, size: u32, offsets: &[u32]) -> bool {
+    structs.members(0).len() == offsets.len()
+        && structs.is_tainted(0)
+        && !structs.is_tainted(1)
+        && lies_so(structs, &CType::Struct(0), size, offsets)
+}
+
+// Whether a struct of these members is laid out so.
+fn lays_out(alloc: Global, types: &[u8], size: u32, offsets: &[u32]) -> bool {
+    let mut structs = Structs::new(alloc);
+    let Ok(number) = structs.declare(true, DECLARED) else {
+        return false;
+    };
+    let _ = structs.add(number, members_of(alloc, b"abcde", types));
+    is_laid_out(&structs, size, offsets)
+}
+
+#[test]
+fn lays_out_structs(rt: HostRuntime) -> Result<(), Fail> {
+    let alloc = rt.alloc();
+    expect(
+        lays_out(alloc, b"c", 1, &[0])
+            && lays_out(alloc, b"ci", 8, &[0, 4])
+            && lays_out(alloc, b"ic", 8, &[0, 4])
+            && lays_out(alloc, b"ccc", 3, &[0, 1, 2])
+            && lays_out(alloc, b"cpcct", 16, &[0, 4, 8, 9, 12]),
+    )
+}
+
+// Whether the type of a letter has this size, and one cell.
+fn is_scalar(alloc: Global, letter: u8, size: u32) -> bool {
+    match type_of(alloc, letter) {
+        Ok(t) => lies_so(&Structs::new(alloc), &t, size, &[0]),
+        Err(_) => false,
+    }
+}
+
+#[test]
+fn lays_out_scalars(rt: HostRuntime) -> Result<(), Fail> {
+    let alloc = rt.alloc();
+    expect(
+        is_scalar(alloc, b'i', 4)
+            && is_scalar(alloc, b'c', 1)
+            && is_scalar(alloc, b'p', 4)
+            && is_scalar(alloc, b't', 4),
+    )
+}
+
+// Whether a struct of these members is refused so. It has none then.
+fn refuses(alloc: Global, names: &[u8], types: &[u8], code: Code, at: u32) -> bool {
+    let mut structs = Structs::new(alloc);
+    let Ok(number) = structs.declare(false, DECLARED) else {
+        return false;
+    };
+    let added = structs.add(number, members_of(alloc, names, types));
+    structs.members(number).is_empty() && is_refused(&added, code, Span { from: at, to: at })
+}
+
+fn is_refused<T>(answer: &Result<T, Refused>, code: Code, span: Span) -> bool {
+    match answer {
+        Err(Refused::Source(fault)) => *fault == SourceFault { code, span },
+        _ => false,
+    }
+}
+
+const LETTERS: &[u8; 65] = b"abcdefghijklmnopqrstuvwxyzABCDEFGHIJKLMNOPQRSTUVWXYZ0123456789_+-";
+
+#[test]
+fn refuses_members(rt: HostRuntime) -> Result<(), Fail> {
+    let alloc = rt.alloc();
+    expect(
+        refuses(alloc, b"aba", b"iii", Code::E11, 2)
+            && refuses(alloc, b"abb", b"ssi", Code::E11, 2)
+            && refuses(alloc, b"abc", b"iss", Code::E27, 1)
+            && refuses(alloc, &[b'a'; 65], &[b's'; 65], Code::E08, 64)
+            && refuses(alloc, LETTERS, &[b'i'; 65], Code::E08, 64),
+    )
+}
+
+// Whether a struct of 64 members is taken.
+fn takes_64(alloc: Global) -> bool {
+    let mut structs = Structs::new(alloc);
+    let Ok(number) = structs.declare(true, DECLARED) else {
+        return false;
+    };
+    let _ = structs.add(number, members_of(alloc, LETTERS, &[b'i'; 64]));
+    structs.size_of(&CType::Struct(0)) == 256
+}
+
+#[test]
+fn takes_64_members(rt: HostRuntime) -> Result<(), Fail> {
+    expect(takes_64(rt.alloc()))
+}
+
+// Declares structs, and tells whether they have the numbers from 0 on.
+fn declares(structs: &mut Structs, count: u32) -> bool {
+    for k in 0..count {
+        if !matches!(structs.declare(false, DECLARED), Ok(number) if number == k) {
+            return false;
+        }
+    }
+    true
+}
+
+#[test]
+fn declares_4096_structs(rt: HostRuntime) -> Result<(), Fail> {
+    let mut structs = Structs::new(rt.alloc());
+    let declared = declares(&mut structs, 4096);
+    let refused = structs.declare(false, DECLARED);
+    expect(declared && is_refused(&refused, Code::E08, DECLARED))
+}

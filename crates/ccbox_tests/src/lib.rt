@@ -1,0 +1,41 @@
+// Tests of the call, and of the layers below it.
+#![tactic(auto)]
+
+#[cfg(test)]
+mod actors;
+#[cfg(test)]
+mod acts;
+#[cfg(test)]
+mod answers;
+#[cfg(test)]
+mod bounds;
+#[cfg(test)]
+mod calls;
+#[cfg(test)]
+mod facts;
+#[cfg(test)]
+mod files;
+#[cfg(test)]
+mod layers;
+#[cfg(test)]
+mod layouts;
+#[cfg(test)]
+mod limits;
+#[cfg(test)]
+mod lines;
+#[cfg(test)]
+mod memories;
+#[cfg(test)]
+mod printing;
+#[cfg(test)]
+mod rows;
+#[cfg(test)]
+mod runs;
+#[cfg(test)]
+mod shapes;
+#[cfg(test)]
+mod sources;
+#[cfg(test)]
+mod tokens;
+#[cfg(test)]
+mod trees;

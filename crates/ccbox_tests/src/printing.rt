@@ -1,0 +1,43 @@
+// What trees are printed as.
+
+use crate::sources::is_printed;
+use std::test::Fail;
+
+// A source, and what it is printed as.
+struct Row(&'static str, &'static str);
+
+const ROWS: &[Row] = &[
+    Row("", "\n"),
+    Row(
+        "int g = 1; int main(void) { ptr<int> p = &g; *p = 41; return g + 1; }\n",
+        "int g = 1 ; int main ( void ) { ptr < int > p = & g ; * p = 41 ; return g + 1 ; }\n",
+    ),
+    Row("int x=a>>b>c;", "int x = ( a >> b ) > c ;\n"),
+    Row(
+        "int x=((a+b))*-c[d-(e)];",
+        "int x = ( a + b ) * ( - c [ d - e ] ) ;\n",
+    ),
+    Row(
+        "#pragma CHECKED_SCOPE ON\nint x;\n#pragma CHECKED_SCOPE off\n",
+        "#pragma CHECKED_SCOPE on\nint x ;\n#pragma CHECKED_SCOPE off\n",
+    ),
+    Row("_Array_ptr<_Ptr<int>>p;", "array_ptr < ptr < int > > p ;\n"),
+    Row(
+        "nt_array_ptr<char> s=\"a\\n\\\"'z\";char c='\\\\';",
+        "nt_array_ptr < char > s = \"a\\x0a\\x22\\x27z\" ; char c = '\\x5c' ;\n",
+    ),
+    Row(
+        "#define N -4\nint f(){(a+b)=N;(*p)+=0x10;if(a)if(b);else;}",
+        "int f ( ) { ( a + b ) = - 4 ; * p += 16 ; if ( a ) if ( b ) ; else ; }\n",
+    ),
+];
+
+#[test]
+fn texts(rt: HostRuntime) -> Result<(), Fail> {
+    for Row(src, want) in ROWS {
+        if !is_printed(rt.alloc(), src.as_bytes(), want.as_bytes()) {
+            return Err(Fail::new(*src));
+        }
+    }
+    Ok(())
+}

@@ -1,0 +1,81 @@
+// The operators and spans of an expression.
+
+use crate::answers::is_refusal;
+use crate::lines::{add, add_number};
+use crate::sources::tree_of;
+use ckc_text::place::Span;
+use ckc_tree::expr::Expr;
+use ckc_tree::item::{Item, Program};
+use ckc_tree::stmt::Initializer;
+use std::alloc::Global;
+
+// What stands before the operands of a form.
+fn add_span(line: &mut String, span: Span) {
+    add_number(line, "[", span.from);
+    add_number(line, "-", span.to);
+    add(line, " ");
+}
+
+// The operators and spans of an expression. A name goes by its first byte.
+fn add_shape(line: &mut String, expr: &Expr) {
+    match expr {
+        Expr::Number { .. } => add(line, "7"),
+        Expr::Name { name } => add_number(line, "n", name.span.from),
+        Expr::Unary { operand, span, .. } => {
+            add_span(line, *span);
+            add_shape(line, operand);
+            add(line, "]");
+        }
+        Expr::Binary {
+            left,
+            right,
+            span,
+            ..
+        } => {
+            add_span(line, *span);
+            add_shape(line, left);
+            add(line, " ");
+            add_shape(line, right);
+            add(line, "]");
+        }
+        Expr::Index { base, index, span } => {
+            add_span(line, *span);
+            add_shape(line, base);
+            add(line, " at ");
+            add_shape(line, index);
+            add(line, "]");
+        }
+        _ => add(line, "?"),
+    }
+}
+
+// What the first variable of a program is initialised with, if it is the only item.
+fn initial(program: &Program) -> Option<&Expr> {
+    let [Item::Global { global }] = program.items.as_slice() else {
+        return None;
+    };
+    let [declarator] = global.declarators.as_slice() else {
+        return None;
+    };
+    match &declarator.initializer {
+        Some(Initializer::Value { value }) => Some(value),
+        _ => None,
+    }
+}
+
+// The shape of what the first variable of a program is initialised with.
+fn shape_of(alloc: Global, program: &Program) -> String {
+    let mut line = String::new(alloc);
+    if let Some(value) = initial(program) {
+        add_shape(&mut line, value);
+    }
+    line
+}
+
+/// Whether what the first variable of a text is initialised with has this shape, or the text this fault.
+pub fn has_shape(alloc: Global, text: &[u8], expected: &str) -> bool {
+    match tree_of(alloc, text) {
+        Ok(program) => shape_of(alloc, &program).as_str() == expected,
+        Err(refused) => is_refusal(&refused, expected),
+    }
+}

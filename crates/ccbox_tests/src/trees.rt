@@ -1,0 +1,85 @@
+// Small sources, with the place of their refusal or the shape of their tree.
+
+use crate::answers::Question;
+use crate::rows::expect_rows;
+use std::test::Fail;
+
+// Whether they have a tree; the last ones have up to 200 levels, or too many.
+const ANSWERS: &str = "ok@
+E06 0@; int x;
+E06 0@return
+E06 4@int int x;
+ok@int main(void) { return 0; }
+E06 26@int main(void) { return 0;
+E06 27@int main(void) { return 0; 
+E06 11@struct s { };
+ok@_Tainted int f(int x); _Callback _Checked void *g() : count(1) _Unchecked { }
+E06 23@_Tainted _Checked int x;
+E06 6@void x;
+E06 10@int f(void, int x);
+ok@ptr<ptr<int>> p;
+ok@ptr<ptr<int> > p;
+E06 12@int x = a > > b;
+ok@int x = a >> b;
+E06 11@int x = a >>= b;
+E06 11@int f() { x; }
+E06 29@int f() { g(x); g(x) = 3; (g)(x); }
+E06 16@int f() { (g(x)); }
+E06 35@int f() { x++; --*p; (*p) += 1; ++ ++ x; }
+ok@int f() { for (int i = 0; i < 3; i++) ; for (;;) break; for (x = 1; ; ) { } }
+E06 28@int f() { for (int i = 0, i < 3;;) ; }
+ok@int f() { _Bundled { x = 1; p->q = y; } _Checked { } if (a) if (b) ; else ; else ; }
+E06 40@int f() { if (a) if (b) ; else ; else ; else ; }
+ok@int f() { p = _Dynamic_bounds_cast<array_ptr<int>>(q, bounds(unknown)); }
+ok@int f() { p = _Dynamic_bounds_cast<array_ptr<int>>(q, bounds(unknown, x)); }
+E06 62@int f() { p = _Dynamic_bounds_cast<array_ptr<int>>(q, bounds(a)); }
+E06 61@int f() { p = malloc<int>(3 * sizeof(int)); p = calloc<int>(3); }
+E06 8@int x : number(3);
+E06 8@int x = --y;
+E06 16@int f() { return
+ok@#pragma CHECKED_SCOPE on~int x, *y = 0, z _Checked[3] = {1, -2}; struct s { int n; array_ptr<int> p : count(n); }; struct s v;
+ok@int x = `199×- `y;
+E07 408@int x = `200×- `y;
+E07 408@int x = `201×- `y;
+E06 408@int x = `200×- `;
+E06 409@int x = `200×- `(;
+ok@int x = `90000×(`7`90000×)`;
+E06 180009@int x = `90000×(`7`90000×)`
+ok@int x = `3×(`y + 7`3×) + 7`;
+ok@int x = `199×a + `b;
+E07 8@int x = `200×a + `b;
+E07 8@int x = `200×a + `;
+E07 8@int x = `94998×a + `a;
+ok@int f() `200×{``200×}`
+E07 208@int f() `201×{``201×}`
+E07 207@int f() `199×{`x = 7;`199×}`
+ok@int f() `198×{`x = 7;`198×}`
+E07 208@int f() `200×{`x = 7;`200×}`
+E07 212@int f() `198×{`(x) = y + 7;`198×}`
+ok@int f() `199×{`;`199×}`
+E07 208@int f() `199×{`(x) = 7;`199×}`
+ok@`199×ptr<`int`199×>` x;
+E07 800@`200×ptr<`int`200×>` x;
+ok@int x = `199×y[`7`199×]`;
+E07 406@int x = `200×y[`7`200×]`;";
+
+#[test]
+fn answers(rt: HostRuntime) -> Result<(), Fail> {
+    expect_rows(rt.alloc(), Question::Tree, ANSWERS)
+}
+
+const SHAPES: &str = "[6-11 [6-9 n6 n8] n10]@int x=a-b-c;
+[6-11 [6-9 n6 n8] n10]@int x=a*b+c;
+[6-11 n6 [8-11 n8 n10]]@int x=a+b*c;
+[6-13 [7-10 n7 n9] n12]@int x=(a+b)*c;
+n8@int x=((a));
+[6-13 [7-13 n8 at 7]]@int x=-(a)[7];
+[6-12 [6-10 n6 n9] n11]@int x=a>>b<c;
+[6-20 [6-14 [6-11 [6-8 n7] [9-11 n10]] n13] [16-20 n16 n19]]@int x=-a*!b==c||d&&e;
+[6-13 n7 n11]@int x=(a)+(b);
+[6-9 n6 n8]@int x=a&b;";
+
+#[test]
+fn shapes(rt: HostRuntime) -> Result<(), Fail> {
+    expect_rows(rt.alloc(), Question::Shape, SHAPES)
+}

@@ -1,0 +1,10 @@
+pub mod Readings
+pub mod Contexts
+pub mod Waiting
+pub mod ContextSteps
+pub mod Selecting
+pub mod Arguments
+pub mod BoundsForms
+pub mod TypedParts
+pub mod SingleWords
+mod Terminals

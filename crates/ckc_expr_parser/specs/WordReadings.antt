@@ -1,0 +1,34 @@
+-- Inside: what the functions that read single words answer, in the code's types.
+use Rattle.std.specs.Prelude.{◌≡◌, ℕ, Bool, true, false, List, ◌∷◌, Result, Ok, Err}
+use Rattle.ckc_text.specs.declared.place.Span.{Span}
+use Rattle.ckc_lexer.specs.declared.token.Token.{Token}
+use Rattle.ckc_lexer.specs.declared.token.TokenKind.{TokenKind}
+use Rattle.ckc_lexer.specs.declared.token.TokenKind.TheVariants as kinds
+use Rattle.ckc_expr_parser.specs.declared.stuck.Stuck.{Stuck}
+use Rattle.ckc_grammar.specs.Tokens.{token}
+use Rattle.ckc_expr_parser.specs.Answers.{Stops}
+
+abbrev pub minus : TokenKind → Bool
+minus kinds.Minus = true
+minus _ = false
+
+abbrev pub store_word : TokenKind → Bool
+store_word kinds.Equal = true
+store_word kinds.PlusEqual = true
+store_word kinds.MinusEqual = true
+store_word _ = false
+
+pub data IsNumber : TokenKind → ℕ → Type 0 where
+  number : {n : ℕ} → IsNumber (kinds.Number n) n
+
+-- a word that says one thing, with its span, and the tokens behind it
+pub record WordAt {W : Type 0} (Says : TokenKind → W → Type 0) (word : W) (span : Span) (ts rest : List Token) : Type 0 where
+  pub kind : TokenKind
+  pub says : Says kind word
+  pub at : ts ≡ token kind span ∷ rest
+
+-- what a function that reads such a word answers: what it says and its span before the tokens that are left, or that another
+-- token stands there
+abbrev pub ReadsWord : {W : Type 0} → (TokenKind → W → Type 0) → (TokenKind → Bool) → List Token → Result (W × Span) Stuck → List Token → Type 0
+ReadsWord Says is ts (Ok found) rest = WordAt Says found.0 found.1 ts rest
+ReadsWord Says is ts (Err e) rest = Stops is ts e rest

@@ -1,0 +1,7 @@
+use Rattle.std.proofs.Common.{◌≡◌, ◌+◌, drop}
+use Rattle.ckc_lexer.specs.Pieces.{word_len}
+use Rattle.ckc_lexer.proofs.directive.word_len.Given as goal
+
+-- the bytes so far and those that are left to count are all
+abbrev pub invariant-loop-len : goal.invariant-loop-len
+invariant-loop-len l = l.len + word_len (drop l.len l.text) ≡ word_len l.text
