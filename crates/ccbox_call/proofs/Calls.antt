@@ -14,7 +14,7 @@ use Rattle.ckc_core.specs.Core.{Core}
 use Rattle.ckc_core.specs.States.{State}
 use Rattle.sandbox_actor.specs.ActLists.{ActList, RefusedLine}
 use Rattle.run_core.specs.Runs.{Counts}
-use Rattle.ccbox_call.specs.Requests.{Run, Options, settings_of, request_of}
+use Rattle.command_words.specs.Requests.{Run, Options, settings_of, inputs_of, request_of}
 use Rattle.ccbox_call.specs.Texts.{usage_text, missing_text}
 use Rattle.ccbox_call.specs.Acceptance.{Accepts, IsRefused}
 use Rattle.ccbox_call.specs.Answers.{RunsTo, needed_line, text_of, status_of, status_with, ListAnswer, ran, CoreAnswer, acts_missing, acts, SourceAnswer, refused, accepted, FileAnswer, missing, source, Answer, IsFailure, WritesFront, GivesFront, GivesWhole, Exactly, AsksToRun, AsksFor, SourceIsRefused, RunEndsWith, RunExits, CheckFails, RunStops, LineIsRefused, FileIsMissing, PrintsRun, PrintedRun, IsComplete, IsQuiet, IsUntouched}
@@ -26,7 +26,7 @@ use Rattle.ccbox_call.proofs.Runs.{ends_over, view_over}
 -- ---- from what is asked for to its Answer
 
 -- the run of a source that is asked for has its Answer
-pub run_answer : (files : Files) (words : List (List ℕ)) (options : Options) (list : ActList) (c : Core) (ending : Ending) (s : State) → AsksFor files words options list c → RunsTo c (settings_of options) list ending s → Answer files words (text_of (settings_of options) (needed_line list s.world.events) s.world.events ending) (status_with (needed_line list s.world.events) ending)
+pub run_answer : (files : Files) (words : List (List ℕ)) (options : Options) (list : ActList) (c : Core) (ending : Ending) (s : State) → AsksFor files words options list c → RunsTo c (settings_of options) (inputs_of options) list ending s → Answer files words (text_of (settings_of options) list ending s) (status_with (needed_line list s.world.events) ending)
 run_answer files words options list c ending s a runs =
     answers.asked (Run a.asks.name options) a.asks.request (source a.src a.asks.there (accepted c a.accepted (acts list a.acts (ran ending s runs))))
 
@@ -243,7 +243,7 @@ module _ (words : List (List ℕ)) (told : Option Files) (old new : Option (List
     -- the Answer of a run with this line needed and this ending
     run_ended : (needed : Option RefusedLine) (ending : Ending) (n : ℕ) → status_with needed ending ≡ n → RunEndsWith files words needed ending → (text : List ℕ) × Answer files words text n
     run_ended needed ending n e r =
-        (_, subst (λ m. Answer files words (text_of (settings_of r.0) (needed_line r.1 r.3.world.events) r.3.world.events ending) m) (ap (λ x. status_with x ending) r.6 ∙ e) (run_answer files words r.0 r.1 r.2 ending r.3 r.4 r.5))
+        (_, subst (λ m. Answer files words (text_of (settings_of r.0) r.1 ending r.3) m) (ap (λ x. status_with x ending) r.6 ∙ e) (run_answer files words r.0 r.1 r.2 ending r.3 r.4 r.5))
 
     safe : (n : ℕ) → n ≢ 4 → n ≢ 5 → n ≢ 9 → IsFailure n → ⊥
     safe n a b c (inl e) = a e

@@ -1,6 +1,6 @@
 -- How the parts of a call give their answers.
-use Rattle.std.proofs.Common.{◌≡◌, ℕ, ◌+◌, ◌<◌, ◌≤◌, nat_lt, Bool, true, false, inl, inr, List, ◌++◌, length, take, Option, Some, refl, sym, ap, ◌∙◌, subst, arith, length-append}
-use Rattle.std.specs.Prelude.{All}
+use Rattle.std.proofs.Common.{◌≡◌, ℕ, ℤ, ◌+◌, ◌<◌, ◌≤◌, nat_lt, Bool, true, false, inl, inr, List, ◌++◌, length, take, Option, Some, refl, sym, ap, ◌∙◌, subst, arith, length-append}
+use Rattle.std.specs.Prelude.{All, IsTrue}
 use Rattle.std.proofs.lemmas.Bool.{ltb-true, ltb-false}
 use Rattle.std.proofs.lemmas.List.{take-append-le, take_all, length-take}
 use Rattle.std.proofs.Math.Seq.{take-append_seam, take-append-add}
@@ -17,6 +17,7 @@ use Rattle.act_words.specs.declared.ending.Ending.{Ending}
 use Rattle.act_words.specs.declared.ending.Ending.TheVariants.{Exit, Check, Stop}
 use Rattle.act_words.specs.declared.settings.Settings.{Settings}
 use Rattle.act_words.specs.Acts.{IsAct}
+use Rattle.act_words.specs.Checks.{is_word_number}
 use Rattle.act_words.specs.Limits.{AreAllowed}
 use Rattle.ckc_core.specs.Core.{Core}
 use Rattle.sandbox_actor.specs.ActLists.{ActList}
@@ -24,7 +25,7 @@ use Rattle.code_words.specs.declared.image.Image.{Image}
 use Rattle.lowering.specs.Correct.{KeepsMeaning}
 use Rattle.run_core.specs.Runs.{Outcome, Ends, LineRefused, FileMissing, Comes, WritesAll, WritesFront, Counts}
 use Rattle.ccbox_call.specs.Texts.{refused_text, act_refused_text}
-use Rattle.ccbox_call.specs.Requests.{Options, settings_of}
+use Rattle.command_words.specs.Requests.{Options, settings_of, inputs_of}
 use Rattle.ccbox_call.specs.Acceptance.{IsAcceptedCore, no_tokens}
 use Rattle.ccbox_call.specs.Answers.{acts_at, status_of, ListAnswer, CoreAnswer, acts, SourceAnswer, refused, accepted}
 use Rattle.ccbox_call.specs.Calls.{all, failed, LineGiven, given, unmade, IsFoundStatus, StatusCounts, Gives, answered, output_failed, files_failed, no_memory, no_memory_behind}
@@ -68,18 +69,18 @@ line_found = inr (inr (inr (inr refl)))
 unchanged : (ending : Ending) (before : Counts) → StatusCounts (status_of ending) before before
 unchanged ending before = (refl, inr (found ending, refl))
 
-module _ (c : Core) (image : Image) (settings : Settings) (list : ActList) (is : IsAcceptedCore c) (keeps : KeepsMeaning c image) (allowed : AreAllowed settings) (are : All IsAct list.acts) where
+module _ (c : Core) (image : Image) (settings : Settings) (inputs : List ℤ) (list : ActList) (is : IsAcceptedCore c) (keeps : KeepsMeaning c image) (allowed : AreAllowed settings) (are_words : All (λ z. IsTrue (is_word_number z)) inputs) (are : All IsAct list.acts) where
   abbrev IsAnswer : List ℕ → ℕ → Type 0
-  IsAnswer = ListAnswer c settings list
+  IsAnswer = ListAnswer c settings inputs list
 
-  answers_of : {files : Option Files} {last : ActList} {outcome : Outcome} {text : List ℕ} → Comes FromList files image settings list last outcome text → Answers c image settings list is keeps allowed are text outcome
-  answers_of comes = answers c image settings list is keeps allowed are comes
+  answers_of : {files : Option Files} {last : ActList} {outcome : Outcome} {text : List ℕ} → Comes FromList files image settings inputs list last outcome text → Answers c image settings inputs list is keeps allowed are_words are text outcome
+  answers_of comes = answers c image settings inputs list is keeps allowed are_words are comes
 
   -- a run that ended
-  ended_gives : (text : List ℕ) (ending : Ending) (old new : Option (List ℕ)) (before : Counts) → Answers c image settings list is keeps allowed are text (Ends ending) → new ≡ grown old text → Gives IsAnswer old new before before (status_of ending)
+  ended_gives : (text : List ℕ) (ending : Ending) (old new : Option (List ℕ)) (before : Counts) → Answers c image settings inputs list is keeps allowed are_words are text (Ends ending) → new ≡ grown old text → Gives IsAnswer old new before before (status_of ending)
   ended_gives text _ old new before (whole ending a) written = answered text (status_of ending) a (unchanged ending before) written refl
 
-  pub run_gives : {files : Option Files} {last : ActList} {old new : Option (List ℕ)} {before after : Counts} (ending : Ending) (status : ℕ) → WritesAll FromList files image settings list last (Ends ending) old new → after ≡ before → status ≡ status_of ending → Gives IsAnswer old new before after status
+  pub run_gives : {files : Option Files} {last : ActList} {old new : Option (List ℕ)} {before after : Counts} (ending : Ending) (status : ℕ) → WritesAll FromList files image settings inputs list last (Ends ending) old new → after ≡ before → status ≡ status_of ending → Gives IsAnswer old new before after status
   run_gives {files} {last} {old} {new} {before} {after} ending status w same is_status =
       subst (λ x. Gives IsAnswer old new before x status) (sym same)
       (subst (Gives IsAnswer old new before before) (sym is_status) (ended_gives w.0 ending old new before (answers_of w.1) w.2))
@@ -89,7 +90,7 @@ module _ (c : Core) (image : Image) (settings : Settings) (list : ActList) (is :
   behind text more k old mid new first second =
       second ∙ ap (λ o. grown o (take k more)) first ∙ grown-grown old text (take k more) ∙ ap (grown old) (sym (take-append-add text more k))
 
-  refused_gives : (text : List ℕ) (line : ℕ) (code : Code) (old mid new : Option (List ℕ)) (m f k k' result : ℕ) → Answers c image settings list is keeps allowed are text (LineRefused line code) → mid ≡ grown old text → LineGiven (act_refused_text line code) 8 mid new k k' result →
+  refused_gives : (text : List ℕ) (line : ℕ) (code : Code) (old mid new : Option (List ℕ)) (m f k k' result : ℕ) → Answers c image settings inputs list is keeps allowed are_words are text (LineRefused line code) → mid ≡ grown old text → LineGiven (act_refused_text line code) 8 mid new k k' result →
       Gives IsAnswer old new (record { misses = m; faults = f; sink = k }) (record { misses = m; faults = f; sink = k' }) result
   refused_gives text _ _ old mid new m f k k' _ (front line code a) first (given (all second same)) =
       answered (text ++ act_refused_text line code) 8 a (refl, inr (line_found, refl)) (second ∙ ap (λ o. grown o (act_refused_text line code)) first ∙ grown-grown old text (act_refused_text line code)) same
@@ -99,7 +100,7 @@ module _ (c : Core) (image : Image) (settings : Settings) (list : ActList) (is :
       subst (Gives IsAnswer old new (record { misses = m; faults = f; sink = k }) (record { misses = m; faults = f; sink = k' })) (sym nine)
       (no_memory_behind (text ++ act_refused_text line code) 8 (length text) a (omega (arith, length-append text (act_refused_text line code))) (same ∙ first ∙ ap (grown old) (sym (take-append_seam text (act_refused_text line code)))) (omega arith) refl still)
 
-  pub line_refused_gives : {files : Option Files} {last : ActList} {old mid new : Option (List ℕ)} (line : ℕ) (code : Code) (m m' f f' k j k' result : ℕ) → WritesAll FromList files image settings list last (LineRefused line code) old mid → ◌≡◌ {A = Counts} (record { misses = m'; faults = f'; sink = j }) (record { misses = m; faults = f; sink = k }) → LineGiven (act_refused_text line code) 8 mid new j k' result →
+  pub line_refused_gives : {files : Option Files} {last : ActList} {old mid new : Option (List ℕ)} (line : ℕ) (code : Code) (m m' f f' k j k' result : ℕ) → WritesAll FromList files image settings inputs list last (LineRefused line code) old mid → ◌≡◌ {A = Counts} (record { misses = m'; faults = f'; sink = j }) (record { misses = m; faults = f; sink = k }) → LineGiven (act_refused_text line code) 8 mid new j k' result →
       Gives IsAnswer old new (record { misses = m; faults = f; sink = k }) (record { misses = m'; faults = f'; sink = k' }) result
   line_refused_gives {files} {last} {old} {mid} {new} line code m m' f f' k j k' result w same made =
       let misses = ap (λ (x : Counts). x.misses) same in
@@ -108,30 +109,30 @@ module _ (c : Core) (image : Image) (settings : Settings) (list : ActList) (is :
       rw (misses, faults) (refused_gives w.0 line code old mid new m f k k' result (answers_of w.1) w.2 (rw sink at made))
 
   -- a file of acts was read before the run
-  not_missing : {text : List ℕ} → Answers c image settings list is keeps allowed are text FileMissing → ⊥
+  not_missing : {text : List ℕ} → Answers c image settings inputs list is keeps allowed are_words are text FileMissing → ⊥
   not_missing a = by FileMissing a refl
     where
-      by : {text : List ℕ} (outcome : Outcome) → Answers c image settings list is keeps allowed are text outcome → outcome ≡ FileMissing → ⊥
+      by : {text : List ℕ} (outcome : Outcome) → Answers c image settings inputs list is keeps allowed are_words are text outcome → outcome ≡ FileMissing → ⊥
       by _ (whole ending a) e = cc
       by _ (front line code a) e = cc
 
-  pub never_missing : {files : Option Files} {last : ActList} (old new : Option (List ℕ)) → WritesAll FromList files image settings list last FileMissing old new → ⊥
+  pub never_missing : {files : Option Files} {last : ActList} (old new : Option (List ℕ)) → WritesAll FromList files image settings inputs list last FileMissing old new → ⊥
   never_missing old new w = not_missing (answers_of w.1)
 
   -- a front of a run's text
-  fronted : (text : List ℕ) (outcome : Outcome) (n : ℕ) (old new : Option (List ℕ)) (before after : Counts) → Answers c image settings list is keeps allowed are text outcome → n ≤ length text → new ≡ grown old (take n text) → before.misses ≤ after.misses → after.faults ≡ before.faults → Rises before.sink after.sink → Gives IsAnswer old new before after 5
+  fronted : (text : List ℕ) (outcome : Outcome) (n : ℕ) (old new : Option (List ℕ)) (before after : Counts) → Answers c image settings inputs list is keeps allowed are_words are text outcome → n ≤ length text → new ≡ grown old (take n text) → before.misses ≤ after.misses → after.faults ≡ before.faults → Rises before.sink after.sink → Gives IsAnswer old new before after 5
   fronted text _ n old new before after (whole ending a) le part misses faults rises = output_failed text (status_of ending) n a misses faults le part rises
   fronted text _ n old new before after (front line code a) le part misses faults rises =
       output_failed (text ++ act_refused_text line code) 8 n a misses faults (omega (arith, length-append text (act_refused_text line code), le)) (part ∙ ap (grown old) (sym (take-append-le n text (act_refused_text line code) le))) rises
 
-  pub output_gives : {files : Option Files} {last : ActList} {old new : Option (List ℕ)} {before after : Counts} → WritesFront FromList files image settings list last old new → before.misses ≤ after.misses → after.faults ≡ before.faults → Rises before.sink after.sink → Gives IsAnswer old new before after 5
+  pub output_gives : {files : Option Files} {last : ActList} {old new : Option (List ℕ)} {before after : Counts} → WritesFront FromList files image settings inputs list last old new → before.misses ≤ after.misses → after.faults ≡ before.faults → Rises before.sink after.sink → Gives IsAnswer old new before after 5
   output_gives {files} {last} {old} {new} {before} {after} w misses faults rises = fronted w.text w.outcome w.size old new before after (answers_of w.comes) w.fits w.front misses faults rises
 
 -- ---- from lists to files
 
 -- an answer of a list is one of a core, where the options ask for that list
-pub list_core : (told : Option Files) (options : Options) (c : Core) (settings : Settings) (list : ActList) → settings ≡ settings_of options → ((files : Files) → told ≡ Some files → acts_at files options.acts ≡ Some list) → (text : List ℕ) (status : ℕ) → ListAnswer c settings list text status → Told told (λ files. CoreAnswer files options c text status)
-list_core told options c settings list same there text status a = λ files is. acts list (there files is) (subst (λ s. ListAnswer c s list text status) same a)
+pub list_core : (told : Option Files) (options : Options) (c : Core) (settings : Settings) (inputs : List ℤ) (list : ActList) → settings ≡ settings_of options → inputs ≡ inputs_of options → ((files : Files) → told ≡ Some files → acts_at files options.acts ≡ Some list) → (text : List ℕ) (status : ℕ) → ListAnswer c settings inputs list text status → Told told (λ files. CoreAnswer files options c text status)
+list_core told options c settings inputs list same same_inputs there text status a = λ files is. acts list (there files is) (subst (λ xs. ListAnswer c (settings_of options) xs list text status) same_inputs (subst (λ s. ListAnswer c s inputs list text status) same a))
 
 -- ---- a file is read up to one byte more than a source may have
 

@@ -1,8 +1,6 @@
-mod Choices
 pub mod Fronts
 pub mod OneAnswer
-pub mod Settings
-pub mod Stacks
+pub mod Lowering
 pub mod Runs
 pub mod ListRuns
 pub mod Giving

@@ -1,5 +1,5 @@
 -- Words have one Answer.
-use Rattle.std.proofs.Common.{◌≡◌, ℕ, List, Option, Some, None, option_map, refl, sym, ap, ◌∙◌, subst}
+use Rattle.std.proofs.Common.{◌≡◌, ℕ, ℤ, List, Option, Some, None, option_map, refl, sym, ap, ◌∙◌, subst}
 use Rattle.ckc_text.specs.declared.fault.SourceFault.{SourceFault}
 use Rattle.ckc_text.specs.Places.{place_at}
 use Rattle.ckc_io.specs.Files.{Files, file_at}
@@ -9,7 +9,7 @@ use Rattle.act_words.specs.Outcome.{Outcome, Ends}
 use Rattle.ckc_core.specs.Core.{Core}
 use Rattle.ckc_core.specs.States.{State}
 use Rattle.sandbox_actor.specs.ActLists.{ActList, acts_of_file}
-use Rattle.ccbox_call.specs.Requests.{Run, Options, settings_of, request_of}
+use Rattle.command_words.specs.Requests.{Run, Options, settings_of, inputs_of, request_of}
 use Rattle.ccbox_call.specs.Texts.{missing_text, refused_text}
 use Rattle.ccbox_call.specs.Answers.{acts_at, RunsTo, needed_line, text_of, status_with, ListAnswer, ran, CoreAnswer, acts_missing, acts, SourceAnswer, refused, accepted, FileAnswer, missing, source, Answer, usage, asked}
 use Rattle.ccbox_call.proofs.Fronts.{one_core, core_or_fault, one_refusal}
@@ -20,16 +20,16 @@ pub record Same (t u : List ℕ) (m n : ℕ) : Type 0 where
   pub status : m ≡ n
 
 -- a run ends in one way
-one_end : (c : Core) (settings : Settings) (list : ActList) (e f : Ending) (s t : State) → RunsTo c settings list e s → RunsTo c settings list f t → (e ≡ f) × (s ≡ t)
-one_end c settings list e f s t x y =
+one_end : (c : Core) (settings : Settings) (inputs : List ℤ) (list : ActList) (e f : Ending) (s t : State) → RunsTo c settings inputs list e s → RunsTo c settings inputs list f t → (e ≡ f) × (s ≡ t)
+one_end c settings inputs list e f s t x y =
     let both : ◌≡◌ {A = Outcome State (Unit {0})} (Ends e s) (Ends f t) = sym x ∙ y in
     (cc, cc)
 
-one_list : (c : Core) (settings : Settings) (list : ActList) {t u : List ℕ} {m n : ℕ} → ListAnswer c settings list t m → ListAnswer c settings list u n → Same t u m n
-one_list c settings list (ran e s x) (ran f t y) =
-    let end = one_end c settings list e f s t x y in
+one_list : (c : Core) (settings : Settings) (inputs : List ℤ) (list : ActList) {t u : List ℕ} {m n : ℕ} → ListAnswer c settings inputs list t m → ListAnswer c settings inputs list u n → Same t u m n
+one_list c settings inputs list (ran e s x) (ran f t y) =
+    let end = one_end c settings inputs list e f s t x y in
     record {
-      text = ap (λ (z : State). text_of settings (needed_line list z.world.events) z.world.events e) end.1 ∙ ap (λ (g : Ending). text_of settings (needed_line list t.world.events) t.world.events g) end.0;
+      text = ap (λ (z : State). text_of settings list e z) end.1 ∙ ap (λ (g : Ending). text_of settings list g t) end.0;
       status = ap (λ (z : State). status_with (needed_line list z.world.events) e) end.1 ∙ ap (λ (g : Ending). status_with (needed_line list t.world.events) g) end.0;
     }
 
@@ -47,7 +47,7 @@ one_core_answer files options c (acts_missing name e none) (acts list there a) =
 one_core_answer files options c (acts list there a) (acts_missing name e none) = absurd (acts_there files options.acts name list e none there)
 one_core_answer files options c {t} {u} {m} {n} (acts list there a) (acts other there' b) =
     let same : other ≡ list = cc in
-    one_list c (settings_of options) list a (subst (λ l. ListAnswer c (settings_of options) l u n) same b)
+    one_list c (settings_of options) (inputs_of options) list a (subst (λ l. ListAnswer c (settings_of options) (inputs_of options) l u n) same b)
 
 one_source_answer : (files : Files) (options : Options) (src : List ℕ) {t u : List ℕ} {m n : ℕ} → SourceAnswer files options src t m → SourceAnswer files options src u n → Same t u m n
 one_source_answer files options src (refused fault r) (refused other s) = record { text = ap (λ (f : SourceFault). refused_text f.code (place_at src f.span.from)) (one_refusal r s); status = refl }

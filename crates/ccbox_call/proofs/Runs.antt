@@ -1,52 +1,37 @@
 -- The run of an accepted program ends, and its code ends in the same way.
-use Rattle.std.proofs.Common.{◌≡◌, ℕ, ◌≤◌, true, List, map, Option, Some, None, option_map, sym, subst, arith}
+use Rattle.std.proofs.Common.{◌≡◌, ℕ, ◌+◌, ◌-◌, ◌≤◌, ◌++◌, List, [], Option, Some, None, option_map, sym, ap, ◌∙◌, subst, arith}
 use Rattle.std.specs.Prelude.{All, replicate}
-use Rattle.std.proofs.lemmas.List.{length-map}
-use Rattle.std.proofs.lemmas.List.Elements.{All-from_recursion, All-nil}
-use Rattle.ckc_text.specs.declared.place.Place.{Place}
+use Rattle.std.proofs.lemmas.List.Elements.{All-nil}
 use Rattle.ckc_text.specs.Places.{place_at}
 use Rattle.ckc_io.specs.Files.{Files, file_at}
 use Rattle.act_words.specs.declared.ending.Ending.{Ending}
 use Rattle.act_words.specs.Acts.{IsAct}
-use Rattle.act_words.specs.Checks.{is_word_number}
 use Rattle.act_words.specs.View.{ViewIsFold}
-use Rattle.built_forms.specs.Program as tree
-use Rattle.built_forms.proofs.Heights.{body_is_low}
 use Rattle.ckc_core.specs.Core.{Core}
 use Rattle.ckc_core.specs.States.{State}
 use Rattle.sandbox_actor.specs.ActLists.{ActList, no_acts, acts_of_file, lines_of}
 use Rattle.sandbox_actor.proofs.Acts.{are_acts}
+use Rattle.code_words.specs.Runs.{memory_of}
 use Rattle.code_words.proofs.Worlds.{view}
-use Rattle.lowering.specs.Code.{image_of}
+use Rattle.lowering.specs.Images.{image_of}
 use Rattle.lowering.specs.Correct.{IsLowerable}
 use Rattle.lowering.proofs.Programs.{keeps_meaning}
-use Rattle.region_typing.specs.Acceptance.{scope_of, IsAccepted, initial_number, core_of}
-use Rattle.region_typing.specs.Typed.{NeverStuck}
-use Rattle.region_typing.proofs.Typing.{typed, few_imports, few_parameters}
-use Rattle.region_typing.proofs.Soundness.{never_stuck}
-use Rattle.ccbox_call.specs.Requests.{Options, settings_of}
+use Rattle.typing_rules.specs.NeverStuck.{NeverStuck}
+use Rattle.typing_rules.proofs.Typing.{typed, small}
+use Rattle.typing_rules.proofs.Programs.{never_stuck}
+use Rattle.command_words.specs.Requests.{Options, settings_of, inputs_of}
+use Rattle.command_words.proofs.Allowed.{may_run}
 use Rattle.ccbox_call.specs.Acceptance.{IsAcceptedCore}
 use Rattle.ccbox_call.specs.Answers.{acts_at, RunsTo, AsksFor}
-use Rattle.ccbox_call.proofs.Settings.{allowed}
-use Rattle.ccbox_call.proofs.Stacks.{body_stack_low}
+use Rattle.ccbox_call.proofs.Lowering.{small_is_lowerable}
 
 -- what is accepted can be lowered
-core_lowerable : (place : ℕ → Place) (t : tree.Tree) → IsAccepted t → tree.body_height t.body ≤ 200 → IsLowerable (core_of place t)
-core_lowerable place t accepted height = record {
-  numbers = All-from_recursion (λ number. is_word_number number ≡ true) (map initial_number t.globals) (typed place t accepted).objects;
-  objects = omega (arith, length-map t.globals initial_number, accepted.variables);
-  imports = few_imports place t accepted;
-  parameters = few_parameters place t accepted;
-  locals = accepted.locals;
-  frame = omega (arith, body_stack_low place (scope_of t) accepted.prototypes t.body accepted.statements, accepted.locals);
-}
-
 pub lowerable : (c : Core) → IsAcceptedCore c → IsLowerable c
-lowerable c a = let x = a.1 in subst IsLowerable (sym x.same) (core_lowerable (place_at a.0) x.program x.accepted (omega (arith, body_is_low x.tree x.program x.forms, x.is_tree.low)))
+lowerable c a = let x = a.1 in small_is_lowerable c (small (place_at a.0) x.tree c x.has_core ((x.has_tree).is_tree).low)
 
 -- what is accepted never gets stuck
 pub ends : (c : Core) → IsAcceptedCore c → NeverStuck c
-ends c a = let x = a.1 in subst NeverStuck (sym x.same) (never_stuck (core_of (place_at a.0) x.program) (typed (place_at a.0) x.program x.accepted))
+ends c a = let x = a.1 in never_stuck c (typed (place_at a.0) x.tree c x.has_core)
 
 -- what files say are acts
 acts_from_file : (o : Option (List ℕ)) (list : ActList) → option_map acts_of_file o ≡ Some list → All IsAct list.acts
@@ -57,13 +42,21 @@ pub acts_there : (files : Files) (o : Option (List ℕ)) (list : ActList) → ac
 acts_there files None list h = let same : no_acts ≡ list = cc in subst (λ (l : ActList). All IsAct l.acts) same (All-nil IsAct)
 acts_there files (Some name) list h = acts_from_file (file_at files name) list h
 
+-- a memory without static blocks holds zeros alone
+no_blocks : (size : ℕ) → 65536 ≤ size → memory_of size [] ≡ replicate size 0
+no_blocks size le = ?
+
 module _ (files : Files) (words : List (List ℕ)) (options : Options) (list : ActList) (c : Core) where
-  pub ends_over : AsksFor files words options list c → (ending : Ending) × (s : State) × RunsTo c (settings_of options) list ending s
-  ends_over a = ends c (a.src, a.accepted) (settings_of options) list.acts (acts_there files options.acts list a.acts)
+  pub ends_over : AsksFor files words options list c → (ending : Ending) × (s : State) × RunsTo c (settings_of options) (inputs_of options) list ending s
+  ends_over a =
+      ends c (a.src, a.accepted) (settings_of options) (inputs_of options) list.acts (may_run words a.asks.name options a.asks.request).inputs (acts_there files options.acts list a.acts)
 
   -- and what it shows is a fold
-  pub view_over : (ending : Ending) (s : State) → AsksFor files words options list c → RunsTo c (settings_of options) list ending s → ViewIsFold (replicate (settings_of options).sandbox 0) list.acts s.world
+  pub view_over : (ending : Ending) (s : State) → AsksFor files words options list c → RunsTo c (settings_of options) (inputs_of options) list ending s → ViewIsFold (replicate (settings_of options).sandbox 0) list.acts s.world
   view_over ending s a runs =
-      let fits = allowed words a.asks.name options a.asks.request in
-      let r = (keeps_meaning c (lowerable c (a.src, a.accepted))).ends (settings_of options) list.acts ending s fits (acts_there files options.acts list a.acts) runs in
-      subst (ViewIsFold (replicate (settings_of options).sandbox 0) list.acts) (r.2).world (view (image_of c) (settings_of options) list.acts ending r.0 r.1)
+      let settings = settings_of options in
+      let inputs = inputs_of options in
+      let may = may_run words a.asks.name options a.asks.request in
+      let r = (keeps_meaning c (lowerable c (a.src, a.accepted))).ends settings inputs list.acts ending s may.settings may.inputs (acts_there files options.acts list a.acts) runs in
+      let shown = view (image_of c) settings inputs list.acts ending r.0 r.1 in
+      subst (ViewIsFold (replicate settings.sandbox 0) list.acts) (r.2).world (subst (λ start. ViewIsFold start list.acts (r.0).world) (no_blocks settings.sandbox may.settings.least_sandbox) shown)

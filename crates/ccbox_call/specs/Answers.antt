@@ -13,6 +13,7 @@ use Rattle.act_words.specs.declared.ending.Ending.TheVariants.{Exit, Check, Stop
 use Rattle.act_words.specs.declared.settings.Settings.{Settings}
 use Rattle.act_words.specs.Outcome.{Ends}
 use Rattle.act_words.specs.World.{Event}
+use Rattle.act_words.specs.Shown.{Shown}
 use Rattle.act_words.specs.View.{ViewIsFold}
 use Rattle.ckc_core.specs.Core.{Core}
 use Rattle.ckc_core.specs.States.{State}
@@ -21,7 +22,8 @@ use Rattle.sandbox_actor.specs.Answers.{Moment}
 use Rattle.sandbox_actor.specs.ActLists.{ActList, RefusedLine, no_acts, acts_of_file}
 use Rattle.run_core.specs.Texts.{run_text, front_text}
 use Rattle.run_core.specs.Moments.{due_in, before_due}
-use Rattle.ccbox_call.specs.Requests.{Request, Run, Options, settings_of, request_of}
+use Rattle.lowering.specs.Correct.{blocks_meant}
+use Rattle.command_words.specs.Requests.{Request, Run, Options, settings_of, inputs_of, request_of}
 use Rattle.ccbox_call.specs.Texts.{usage_text, missing_text, refused_text, act_refused_text}
 use Rattle.ccbox_call.specs.Acceptance.{Accepts, IsRefused}
 
@@ -32,9 +34,9 @@ abbrev pub acts_at : Files → Option (List ℕ) → Option ActList
 acts_at files None = Some no_acts
 acts_at files (Some name) = option_map acts_of_file (file_at files name)
 
--- the run of a core over acts ends so, in this state
-abbrev pub RunsTo : Core → Settings → ActList → Ending → State → Type 0
-RunsTo c settings list ending s = meaning c settings list.acts ≡ Ends ending s
+-- the run of a core with input numbers over acts ends so, in this state
+abbrev pub RunsTo : Core → Settings → List ℤ → ActList → Ending → State → Type 0
+RunsTo c settings inputs list ending s = meaning c settings inputs list.acts ≡ Ends ending s
 
 -- the line that a run needs and that is refused: an act was due behind the last, and there a line is refused
 abbrev pub needed_from : Option Moment → ActList → Option RefusedLine
@@ -44,10 +46,14 @@ needed_from (Some moment) list = list.refused
 abbrev pub needed_line : ActList → List Event → Option RefusedLine
 needed_line list events = needed_from (due_in events) list
 
--- the text of a run: up to its end, or up to the act that is refused
-abbrev pub text_of : Settings → Option RefusedLine → List Event → Ending → List ℕ
-text_of settings None events ending = run_text settings events ending
-text_of settings (Some refused) events ending = front_text settings (before_due events) ++ act_refused_text refused.line refused.code
+-- the text of a run with these events and these last blocks: up to its end, or up to the act that is refused
+abbrev pub text_with : Settings → Option RefusedLine → List Event → Ending → List Shown → List ℕ
+text_with settings None events ending blocks = run_text settings events ending blocks
+text_with settings (Some refused) events ending blocks = front_text settings (before_due events) ++ act_refused_text refused.line refused.code
+
+-- the text of a run that ends so in this state
+abbrev pub text_of : Settings → ActList → Ending → State → List ℕ
+text_of settings list ending s = text_with settings (needed_line list s.world.events) s.world.events ending (blocks_meant settings.base s)
 
 -- the status of a run that ended so
 abbrev pub status_of : Ending → ℕ
@@ -61,14 +67,14 @@ status_with (Some refused) ending = 8
 
 -- ---- the Answer
 
--- the text and the status of a core over a list of acts
-pub data ListAnswer (c : Core) (settings : Settings) (list : ActList) : List ℕ → ℕ → Type 0 where
-  ran : (ending : Ending) (s : State) → RunsTo c settings list ending s → ListAnswer c settings list (text_of settings (needed_line list s.world.events) s.world.events ending) (status_with (needed_line list s.world.events) ending)
+-- the text and the status of a core with input numbers over a list of acts
+pub data ListAnswer (c : Core) (settings : Settings) (inputs : List ℤ) (list : ActList) : List ℕ → ℕ → Type 0 where
+  ran : (ending : Ending) (s : State) → RunsTo c settings inputs list ending s → ListAnswer c settings inputs list (text_of settings list ending s) (status_with (needed_line list s.world.events) ending)
 
 -- of a core
 pub data CoreAnswer (files : Files) (options : Options) (c : Core) : List ℕ → ℕ → Type 0 where
   acts_missing : (name : List ℕ) → options.acts ≡ Some name → file_at files name ≡ None → CoreAnswer files options c (missing_text name) 3
-  acts : {text : List ℕ} {status : ℕ} (list : ActList) → acts_at files options.acts ≡ Some list → ListAnswer c (settings_of options) list text status → CoreAnswer files options c text status
+  acts : {text : List ℕ} {status : ℕ} (list : ActList) → acts_at files options.acts ≡ Some list → ListAnswer c (settings_of options) (inputs_of options) list text status → CoreAnswer files options c text status
 
 -- of a source
 pub data SourceAnswer (files : Files) (options : Options) (src : List ℕ) : List ℕ → ℕ → Type 0 where
@@ -135,7 +141,7 @@ SourceIsRefused files words = (options : Options) × (src : List ℕ) × (fault 
 -- the source is accepted, and its run ends so, or needs this refused line before
 abbrev pub RunEndsWith : Files → List (List ℕ) → Option RefusedLine → Ending → Type 0
 RunEndsWith files words needed ending =
-    (options : Options) × (list : ActList) × (c : Core) × (s : State) × AsksFor files words options list c × RunsTo c (settings_of options) list ending s × (needed_line list s.world.events ≡ needed)
+    (options : Options) × (list : ActList) × (c : Core) × (s : State) × AsksFor files words options list c × RunsTo c (settings_of options) (inputs_of options) list ending s × (needed_line list s.world.events ≡ needed)
 
 abbrev pub RunExits : Files → List (List ℕ) → Type 0
 RunExits files words = (value : ℤ) × RunEndsWith files words None (Exit value)
@@ -171,9 +177,9 @@ pub record Tells (status n old new : ℕ) (Among : Type 0) : Type 0 where
 pub record PrintsRun (options : Options) (list : ActList) (c : Core) (old new : Option (List ℕ)) (status : ℕ) : Type 0 where
   pub ending : Ending
   pub last : State
-  pub runs : RunsTo c (settings_of options) list ending last
+  pub runs : RunsTo c (settings_of options) (inputs_of options) list ending last
   pub view : ViewIsFold (replicate (settings_of options).sandbox 0) list.acts last.world
-  pub printed : ((status ≡ status_with (needed_line list last.world.events) ending) × (new ≡ grown old (text_of (settings_of options) (needed_line list last.world.events) last.world.events ending))) ⊎ IsFailure status
+  pub printed : ((status ≡ status_with (needed_line list last.world.events) ending) × (new ≡ grown old (text_of (settings_of options) list ending last))) ⊎ IsFailure status
 
 abbrev pub PrintedRun : Files → List (List ℕ) → Option (List ℕ) → Option (List ℕ) → ℕ → Type 0
 PrintedRun files words old new status = (options : Options) (list : ActList) (c : Core) → AsksFor files words options list c → PrintsRun options list c old new status
@@ -181,8 +187,8 @@ PrintedRun files words old new status = (options : Options) (list : ActList) (c 
 -- where no failure is counted, the run of an accepted source is printed whole, unless memory runs out
 abbrev pub IsComplete : Files → List (List ℕ) → Option (List ℕ) → Option (List ℕ) → ℕ → Type 0
 IsComplete files words old new status =
-    (options : Options) (list : ActList) (c : Core) (ending : Ending) (s : State) → AsksFor files words options list c → RunsTo c (settings_of options) list ending s →
-    ((status ≡ status_with (needed_line list s.world.events) ending) × (new ≡ grown old (text_of (settings_of options) (needed_line list s.world.events) s.world.events ending))) ⊎ (status ≡ 9)
+    (options : Options) (list : ActList) (c : Core) (ending : Ending) (s : State) → AsksFor files words options list c → RunsTo c (settings_of options) (inputs_of options) list ending s →
+    ((status ≡ status_with (needed_line list s.world.events) ending) × (new ≡ grown old (text_of (settings_of options) list ending s))) ⊎ (status ≡ 9)
 
 -- a count of failures didn't rise
 abbrev pub IsQuiet : ℕ → ℕ → Type 0

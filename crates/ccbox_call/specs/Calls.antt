@@ -4,7 +4,7 @@ use Rattle.ckc_io.specs.Counts.{Rises}
 use Rattle.ckc_io.specs.Files.{Files, Told}
 use Rattle.ckc_io.specs.Written.{grown}
 use Rattle.run_core.specs.Runs.{Counts}
-use Rattle.ccbox_call.specs.Requests.{Request, request_of}
+use Rattle.command_words.specs.Requests.{Request, request_of}
 use Rattle.ccbox_call.specs.Texts.{usage_text}
 use Rattle.ccbox_call.specs.Answers.{RequestAnswer}
 

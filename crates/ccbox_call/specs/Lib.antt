@@ -1,5 +1,3 @@
-pub mod Requests
-pub mod Requested
 pub mod Texts
 pub mod Acceptance
 pub mod Answers

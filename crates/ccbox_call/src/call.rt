@@ -2,16 +2,16 @@
 
 ghost use Rattle.std.specs.Prelude.{◌≡◌, ◌⊎◌, ℕ, List, map, None};
 ghost use Rattle.ckc_io.specs.Files.{Told};
-ghost use Rattle.ccbox_call.specs.Requests.{request_of};
+ghost use Rattle.command_words.specs.Requests.{request_of};
 ghost use Rattle.ccbox_call.specs.Answers.{GivesFront, GivesWhole, IsFailure, IsStatus, Exactly, Tells, SourceIsRefused, FileIsMissing, RunExits, CheckFails, RunStops, LineIsRefused, PrintedRun, IsComplete, IsQuiet, IsUntouched};
 ghost use Rattle.ccbox_call.specs.Calls.{CallEnds};
 
 use crate::output::give_line;
-use crate::request::{Request, request_from};
 use crate::run::run_file;
 use crate::texts::usage_line;
 use ckc_io::shelf::Shelf;
 use ckc_io::sink::Sink;
+use command_words::request::{Request, request_from};
 use std::alloc::Global;
 
 /// How a call ended.

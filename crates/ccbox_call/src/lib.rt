@@ -5,6 +5,5 @@ pub mod call;
 pub mod front;
 pub mod laws;
 mod output;
-mod request;
 mod run;
 mod texts;

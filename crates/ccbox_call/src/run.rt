@@ -1,21 +1,21 @@
 // Running the program of a file.
 
-ghost use Rattle.std.specs.Prelude.{◌≡◌, List, ℕ};
+ghost use Rattle.std.specs.Prelude.{◌≡◌, List, ℕ, IsTrue};
 ghost use Rattle.std.specs.List.{All};
 ghost use Rattle.act_words.specs.Acts.{IsAct};
+ghost use Rattle.act_words.specs.Checks.{is_word_number};
 ghost use Rattle.act_words.specs.Limits.{AreAllowed};
 ghost use Rattle.ckc_text.specs.Places.{place_at};
 ghost use Rattle.ckc_io.specs.Files.{Told};
 ghost use Rattle.ckc_core.specs.Core.{core};
 ghost use Rattle.ccbox_call.specs.Acceptance.{IsAcceptedCore, IsRefused};
 ghost use Rattle.ccbox_call.specs.Answers.{ListAnswer, CoreAnswer, SourceAnswer, FileAnswer, status_of as status_of_ending};
-ghost use Rattle.ccbox_call.specs.Requested.{options as options_view};
-ghost use Rattle.ccbox_call.specs.Requests.{settings_of};
+ghost use Rattle.command_words.specs.Requested.{options as options_view};
+ghost use Rattle.command_words.specs.Allowed.{MayRun};
 ghost use Rattle.ccbox_call.specs.Calls.{Gives};
 
 use crate::front::front;
 use crate::output::{NO_MEMORY, OUTPUT_FAILED, give_line};
-use crate::request::Options;
 use crate::texts::{act_refused_line, missing_line, refused_line};
 use act_words::ending::Ending;
 use act_words::settings::Settings;
@@ -26,7 +26,8 @@ use ckc_io::whole::{ReadFault, read_whole};
 use ckc_lexer::lexer::MAX_SOURCE;
 use ckc_text::fault::{Refused, SourceFault};
 use ckc_text::place::{Place, place_of};
-use lowering::emit::lower;
+use command_words::request::Options;
+use lowering::lower::lower;
 use run_core::run::{RunFault, run};
 use sandbox_actor::actor::ActorFault;
 use sandbox_actor::list_actor::ListActor;
@@ -46,7 +47,7 @@ pub fn run_file<F: Shelf, K: Sink>(
     shelf: &mut F,
     sink: &mut K,
 ) -> u8
-    requires { AreAllowed (settings_of (options_view options.now)) }
+    requires { MayRun (options_view options.now) }
     ensures { Gives (λ text status. Told (F.files shelf.old) (λ files. FileAnswer files (options_view options.now) file.now text status))
         (K.written sink.old) (K.written sink.new)
         (record { misses = F.misses shelf.old; faults = F.faults shelf.old; sink = K.faults sink.old })
@@ -68,7 +69,7 @@ fn run_source<F: Shelf, K: Sink>(
     shelf: &mut F,
     sink: &mut K,
 ) -> u8
-    requires { AreAllowed (settings_of (options_view options.now)) }
+    requires { MayRun (options_view options.now) }
     ensures { Gives (λ text status. Told (F.files shelf.old) (λ files. SourceAnswer files (options_view options.now) src.now text status))
         (K.written sink.old) (K.written sink.new)
         (record { misses = F.misses shelf.old; faults = F.faults shelf.old; sink = K.faults sink.old })
@@ -102,7 +103,7 @@ fn run_program<F: Shelf, K: Sink>(
     shelf: &mut F,
     sink: &mut K,
 ) -> u8
-    requires allowed { AreAllowed (settings_of (options_view options.now)) }
+    requires allowed { MayRun (options_view options.now) }
     requires accepted { IsAcceptedCore (core program.now) }
     ensures { Gives (λ text status. Told (F.files shelf.old) (λ files. CoreAnswer files (options_view options.now) (core program.now) text status))
         (K.written sink.old) (K.written sink.new)
@@ -110,12 +111,16 @@ fn run_program<F: Shelf, K: Sink>(
         (record { misses = F.misses shelf.new; faults = F.faults shelf.new; sink = K.faults sink.new }) result }
 {
     let settings = options.settings();
+    let Ok(inputs) = options.inputs(alloc) else {
+        return NO_MEMORY;
+    };
+    let inputs = inputs.as_slice();
     let Some(name) = options.acts else {
         let mut actor = ListActor::empty(alloc);
-        return run_with(alloc, program, &settings, &mut actor, shelf, sink);
+        return run_with(alloc, program, &settings, inputs, &mut actor, shelf, sink);
     };
     match ListActor::start(alloc, shelf, name) {
-        Ok(mut actor) => run_with(alloc, program, &settings, &mut actor, shelf, sink),
+        Ok(mut actor) => run_with(alloc, program, &settings, inputs, &mut actor, shelf, sink),
         Err(ActorFault::Missing) => give_line(sink, missing_line(alloc, name), FILE_MISSING),
         Err(ActorFault::Failed) => FILES_FAILED,
         Err(ActorFault::NoMemory) => NO_MEMORY,
@@ -130,14 +135,16 @@ fn run_with<F: Shelf, K: Sink>(
     alloc: Global,
     program: &Core,
     settings: &Settings,
+    inputs: &[i32],
     actor: &mut ListActor,
     shelf: &mut F,
     sink: &mut K,
 ) -> u8
     requires allowed { AreAllowed settings.now }
     requires accepted { IsAcceptedCore (core program.now) }
+    requires words { All (λ z. IsTrue (is_word_number z)) inputs.now }
     requires acts { All IsAct actor.old.acts }
-    ensures { Gives (ListAnswer (core program.now) settings.now actor.old)
+    ensures { Gives (ListAnswer (core program.now) settings.now inputs.now actor.old)
         (K.written sink.old) (K.written sink.new)
         (record { misses = F.misses shelf.old; faults = F.faults shelf.old; sink = K.faults sink.old })
         (record { misses = F.misses shelf.new; faults = F.faults shelf.new; sink = K.faults sink.new }) result }
@@ -145,7 +152,7 @@ fn run_with<F: Shelf, K: Sink>(
     let Ok(image) = lower(alloc, program) else {
         return NO_MEMORY;
     };
-    match run(alloc, &image, settings, actor, shelf, sink) {
+    match run(alloc, &image, settings, inputs, actor, shelf, sink) {
         Ok(ending) => status_of(&ending),
         Err(RunFault::Line { line, code }) => {
             give_line(sink, act_refused_line(alloc, line, code), 8)

@@ -13,19 +13,19 @@ returns-in_default g c = no_memory refl (omega arith) refl refl
 
 pub returns-in-Ok-run : goal.returns-in-Ok-run
 returns-in-Ok-run g c =
-    run_gives (core c.args.program.now) c.in-Ok.image c.args.settings.now c.args.actor.now c.requires.accepted c.in-Ok.ensures.meaning c.requires.allowed c.requires.acts
+    run_gives (core c.args.program.now) c.in-Ok.image c.args.settings.now c.args.inputs.now c.args.actor.now c.requires.accepted c.in-Ok.ensures.meaning c.requires.allowed c.requires.words c.requires.acts
     c.in-Ok-run.ending c.status_of.result c.in-Ok-run.ensures.writes c.in-Ok-run.ensures.counts c.status_of.ensures
 
 pub returns-in-Err-Line : goal.returns-in-Err-Line
 returns-in-Err-Line g c =
     let h = rw c.in-Err-Line.field-0-is at c.in-Err-Line.ensures in
-    line_refused_gives (core c.args.program.now) c.in-Ok.image c.args.settings.now c.args.actor.now c.requires.accepted c.in-Ok.ensures.meaning c.requires.allowed c.requires.acts
+    line_refused_gives (core c.args.program.now) c.in-Ok.image c.args.settings.now c.args.inputs.now c.args.actor.now c.requires.accepted c.in-Ok.ensures.meaning c.requires.allowed c.requires.words c.requires.acts
     c.in-Err-Line.line c.in-Err-Line.code _ _ _ _ _ _ _ c.give_line.result h.writes h.counts (c.give_line.ensures _ c.act_refused_line.ensures)
 
 pub returns-in-Err-Missing : goal.returns-in-Err-Missing
 returns-in-Err-Missing g c =
     let h = rw c.in-Err-Missing.field-0-is at c.in-Err-Missing.ensures in
-    absurd (never_missing (core c.args.program.now) c.in-Ok.image c.args.settings.now c.args.actor.now c.requires.accepted c.in-Ok.ensures.meaning c.requires.allowed c.requires.acts (g.K.Sink.written c.args.sink.now) (g.K.Sink.written c.run.new.sink) h.writes)
+    absurd (never_missing (core c.args.program.now) c.in-Ok.image c.args.settings.now c.args.inputs.now c.args.actor.now c.requires.accepted c.in-Ok.ensures.meaning c.requires.allowed c.requires.words c.requires.acts (g.K.Sink.written c.args.sink.now) (g.K.Sink.written c.run.new.sink) h.writes)
 
 pub returns-in-Err-ShelfFailed : goal.returns-in-Err-ShelfFailed
 returns-in-Err-ShelfFailed g c =
@@ -35,7 +35,7 @@ returns-in-Err-ShelfFailed g c =
 pub returns-in-Err-SinkFailed : goal.returns-in-Err-SinkFailed
 returns-in-Err-SinkFailed g c =
     let h = rw c.in-Err-SinkFailed.field-0-is at c.in-Err-SinkFailed.ensures in
-    output_gives (core c.args.program.now) c.in-Ok.image c.args.settings.now c.args.actor.now c.requires.accepted c.in-Ok.ensures.meaning c.requires.allowed c.requires.acts
+    output_gives (core c.args.program.now) c.in-Ok.image c.args.settings.now c.args.inputs.now c.args.actor.now c.requires.accepted c.in-Ok.ensures.meaning c.requires.allowed c.requires.words c.requires.acts
     h.writes h.counts.0 h.counts.1 h.counts.2
 
 pub returns : goal.returns

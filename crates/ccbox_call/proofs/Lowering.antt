@@ -1,0 +1,43 @@
+-- What is accepted can be lowered.
+use Rattle.std.proofs.Common.{◌≡◌, ℕ, ◌+◌, ◌<◌, ◌≤◌, List, [], ◌∷◌, length, map, All, refl, sym, ap, ◌∙◌, arith}
+use Rattle.std.specs.Prelude.{sum}
+use Rattle.std.proofs.lemmas.List.Sums.{sum_by-cons}
+use Rattle.flat_bytes.specs.Blocks.{first_offset, grown, rounded_up}
+use Rattle.pointer_modes.specs.Types.{CType, Int, Char, Struct, Pointer}
+use Rattle.pointer_modes.specs.Layout.{scalar_size}
+use Rattle.ckc_core.specs.Core.{Core, Initial, Function}
+use Rattle.ckc_core.specs.Meaning.{is_char}
+use Rattle.lowering.specs.Correct.{width_if, counted_from, IsCell, IsFunction, IsLowerable}
+use Rattle.typing_rules.specs.Lowerable.{cells_size, objects_size, IsRoomy, IsSmall, IsSmallCore}
+
+width_is : (t : CType) → width_if (is_char t) ≤ scalar_size t
+width_is Int = omega arith
+width_is Char = omega arith
+width_is (Struct number) = omega arith
+width_is (Pointer mode kind target) = omega arith
+
+cell_is : (i : Initial) → IsRoomy i → IsCell i
+cell_is i roomy = record { room = omega (arith, width_is i.type, roomy.room); typed = roomy.typed; word = roomy.word; null = roomy.null }
+
+sizes_are : (cells : List Initial) → sum (map (λ (i : Initial). i.stride) cells) ≡ cells_size cells
+sizes_are [] = refl
+sizes_are (i ∷ is) = sum_by-cons (λ n. n) i.stride (map (λ (i : Initial). i.stride) is) ∙ ap (λ n. i.stride + n) (sizes_are is)
+
+counted_is : (objects : List (List Initial)) (offset : ℕ) → counted_from offset objects ≡ offset + objects_size objects
+counted_is [] offset = omega arith
+counted_is (cells ∷ objects) offset =
+    let behind = counted_is objects (grown offset (sum (map (λ (i : Initial). i.stride) cells))) in
+    let size = ap rounded_up (sizes_are cells) in
+    behind ∙ omega (arith, size)
+
+function_is : (f : Function) → IsSmall 3400 f → IsFunction f
+function_is f small = record { parameters = small.few_parameters; held = small.held; frame = omega (arith, small.few_locals, small.low) }
+
+pub small_is_lowerable : (c : Core) → IsSmallCore c → IsLowerable c
+small_is_lowerable c small = record {
+  cells = λ k d lt. let here = small.cells k d lt in ((λ j e less. cell_is _ (here.0 j e less)), here.1);
+  objects = omega (arith, counted_is c.objects first_offset, small.objects);
+  imports = small.imports;
+  functions = λ k d lt. function_is _ (small.functions k d lt);
+  main = small.main;
+}
