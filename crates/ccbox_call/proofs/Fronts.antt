@@ -50,16 +50,16 @@ module _ {src : List ℕ} {t u : Tree} (a : HasTree src t) (b : HasTree src u) w
   moved P h = subst P (same_trees b a) h
 
   built_or_not : is_built t ≡ true → is_built u ≡ false → ⊥
-  built_or_not yes no = let wrong : true ≡ false = sym yes ∙ moved (λ x. is_built x ≡ false) no in cc
+  built_or_not has none = let wrong : true ≡ false = sym has ∙ moved (λ x. is_built x ≡ false) none in cc
 
   named_or_not : {fault : SourceFault} → naming_fault t ≡ None → naming_fault u ≡ Some fault → ⊥
-  named_or_not {fault} yes no = let wrong : ◌≡◌ {A = Option SourceFault} None (Some fault) = sym yes ∙ moved (λ x. naming_fault x ≡ Some fault) no in cc
+  named_or_not {fault} has none = let wrong : ◌≡◌ {A = Option SourceFault} None (Some fault) = sym has ∙ moved (λ x. naming_fault x ≡ Some fault) none in cc
 
   same_names : {fault other : SourceFault} → naming_fault t ≡ Some fault → naming_fault u ≡ Some other → fault ≡ other
   same_names {fault} {other} f g = let same : ◌≡◌ {A = Option SourceFault} (Some fault) (Some other) = sym f ∙ moved (λ x. naming_fault x ≡ Some other) g in cc
 
   passes_or_breaks : {c : Core} {fault : SourceFault} → checked (place_at src) t ≡ Passes c → checked (place_at src) u ≡ Breaks fault → ⊥
-  passes_or_breaks {c} {fault} yes no = let wrong : ◌≡◌ {A = Verdict Core} (Passes c) (Breaks fault) = sym yes ∙ moved (λ x. checked (place_at src) x ≡ Breaks fault) no in cc
+  passes_or_breaks {c} {fault} has none = let wrong : ◌≡◌ {A = Verdict Core} (Passes c) (Breaks fault) = sym has ∙ moved (λ x. checked (place_at src) x ≡ Breaks fault) none in cc
 
   same_breaks : {fault other : SourceFault} → checked (place_at src) t ≡ Breaks fault → checked (place_at src) u ≡ Breaks other → fault ≡ other
   same_breaks {fault} {other} f g = let same : ◌≡◌ {A = Verdict Core} (Breaks fault) (Breaks other) = sym f ∙ moved (λ x. checked (place_at src) x ≡ Breaks other) g in cc
