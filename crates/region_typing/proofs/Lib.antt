@@ -6,12 +6,3 @@ pub mod Locals
 pub mod Loops
 pub mod Sequences
 pub mod Steps
-pub mod ItemSteps
-pub mod Placing
-pub mod Outside
-pub mod Bodies
-pub mod Constants
-pub mod JudgedVariables
-pub mod StructParts
-pub mod CoreLists
-pub mod Checks

@@ -1,5 +1,1 @@
 pub mod Walks
-pub mod Initials
-pub mod Items
-pub mod Signatures
-pub mod CoreParts

@@ -44,12 +44,7 @@ pub fn choice(
 }
 
 /// A loop with what follows each turn.
-pub fn repeated(
-    alloc: Global,
-    condition: Expr,
-    body: Stmt,
-    step: Stmt,
-) -> Result<Stmt, NoMemory>
+pub fn repeated(alloc: Global, condition: Expr, body: Stmt, step: Stmt) -> Result<Stmt, NoMemory>
     ensures { IfOk result (λ s. statement s ≡ Loop (expression condition) (statement body) (statement step)) }
 {
     let body = Box::new(alloc, body)?;

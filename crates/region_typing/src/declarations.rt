@@ -169,5 +169,13 @@ pub fn declaration(
     ensures { Walks statement (declaration_of (place_at sites.now) (scope_of scope.old) (declaration_tree d.now)) scope.old result scope.new }
 {
     let t = base_type(alloc, scope, &d.base)?;
-    declarators(alloc, sites, scope, &d.base, &t, d.span, d.declarators.as_slice())
+    declarators(
+        alloc,
+        sites,
+        scope,
+        &d.base,
+        &t,
+        d.span,
+        d.declarators.as_slice(),
+    )
 }

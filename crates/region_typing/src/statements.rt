@@ -24,9 +24,8 @@ use ckc_core::program::{Expr, Stmt};
 use ckc_text::code::Code;
 use ckc_text::fault::Refused;
 use ckc_text::place::Span;
-use ckc_tree::expr;
-use ckc_tree::stmt;
 use ckc_tree::stmt::{Assignment, ForInitial, Mark};
+use ckc_tree::{expr, stmt};
 use expression_typing::assignments::{assignment, condition};
 use expression_typing::calls::{Called, converted};
 use expression_typing::expressions::{call_typed, typed};
@@ -78,8 +77,12 @@ fn first_part(
 {
     match written {
         ForInitial::Nothing => Ok(Stmt::Nothing),
-        ForInitial::Declare { declaration: written } => declaration(alloc, sites, scope, written),
-        ForInitial::Assign { assignment: written } => assignment(alloc, sites, scope, written),
+        ForInitial::Declare {
+            declaration: written,
+        } => declaration(alloc, sites, scope, written),
+        ForInitial::Assign {
+            assignment: written,
+        } => assignment(alloc, sites, scope, written),
     }
 }
 
@@ -94,7 +97,12 @@ fn alone(call: Called) -> Stmt
 }
 
 // A statement that is a call.
-fn call_alone(alloc: Global, sites: &Sites, scope: &Scope, call: &expr::Expr) -> Result<Stmt, Refused>
+fn call_alone(
+    alloc: Global,
+    sites: &Sites,
+    scope: &Scope,
+    call: &expr::Expr,
+) -> Result<Stmt, Refused>
     ensures { Answers statement_of (call_statement (place_at sites.now) (scope_of scope.now) (expression_tree call.now)) result }
 {
     let call = call_typed(alloc, sites, scope, call)?;
@@ -120,7 +128,12 @@ fn return_value(alloc: Global, t: &CType, value: Typed, span: Span) -> Result<St
 }
 
 // A return of a value, where the function has a result.
-fn returned(alloc: Global, result_type: &Option<CType>, value: Typed, span: Span) -> Result<Stmt, Refused>
+fn returned(
+    alloc: Global,
+    result_type: &Option<CType>,
+    value: Typed,
+    span: Span,
+) -> Result<Stmt, Refused>
     ensures { Answers statement_of (returned_as (option_map ctype_of result_type.now) (typed_view value) span) result }
 {
     match result_type {

@@ -92,10 +92,10 @@ module _ (Tells : Event → Doing → Type 0) (acts : List Act) (inputs : List �
       ⊎_elim
       (λ falls. inl (omega (arith, same, before, behind, falls, at_most new gives.2)))
       (λ stays.
-          let still : s.control ≡ control_of new.doing new.frame = ap (λ (t : State). t.control) gives.0 in
-          let quiet : IsRun (control_of new.doing new.frame) → ⊥ = subst (λ c. IsRun c → ⊥) (sym stays.1 ∙ still) waits in
-          let after : moves_left new ≡ 2 * number new = waits_left new gives.2 quiet in
-          inr (omega (arith, same, before, behind, after, stays.0), waits_again new gives.2 quiet, stays.2))
+      let still : s.control ≡ control_of new.doing new.frame = ap (λ (t : State). t.control) gives.0 in
+      let quiet : IsRun (control_of new.doing new.frame) → ⊥ = subst (λ c. IsRun c → ⊥) (sym stays.1 ∙ still) waits in
+      let after : moves_left new ≡ 2 * number new = waits_left new gives.2 quiet in
+      inr (omega (arith, same, before, behind, after, stays.0), waits_again new gives.2 quiet, stays.2))
       soon
   sooner paced act first (Over ending s) going waits control same some soon gives =
       let before : moves_left old ≡ 2 * number old = waits_left old going (subst (λ c. IsRun c → ⊥) control waits) in
@@ -119,8 +119,11 @@ step_sooner old new event paced going runs steps = by (is_input (next_op_of old)
     by : (b : Bool) → StepsIf b old event new → moves_left new < moves_left old
     by true h = needs_sooner old new going runs h.1
     by false h =
-        omega (arith, runs_left old going runs,
-        fewer TellsStep [] [] [] old new event paced (state_of old [] [] []) _ refl (some_run old.image old.settings paced old.frame (state_of old [] [] []) at_run) (runs-falls old.image old.settings paced old.frame (state_of old [] [] []) at_run) (h [] [] []))
+        omega (
+          arith,
+          runs_left old going runs,
+          fewer TellsStep [] [] [] old new event paced (state_of old [] [] []) _ refl (some_run old.image old.settings paced old.frame (state_of old [] [] []) at_run) (runs-falls old.image old.settings paced old.frame (state_of old [] [] []) at_run) (h [] [] []),
+        )
 
 pub give_sooner : (old new : Machine) (given : ℤ) (event : Event) → IsTrue (is_paced old.image) → old.over ≡ None → old.doing ≡ NeedsNumber → TakesNumber old given event new → moves_left new < moves_left old
 give_sooner old new given event paced going needs takes =
@@ -128,8 +131,11 @@ give_sooner old new given event paced going needs takes =
     let at_run : control_of old.doing old.frame ≡ Runs old.frame = rw needs refl in
     let same : code.moves_left old.image old.settings first ≡ number old = same_number old [] (given ∷ []) [] in
     let some : 0 < number old = subst (λ n. 0 < n) same (some_run old.image old.settings paced old.frame first at_run) in
-    omega (arith, needs_left old going needs,
-    fewer TellsStep [] [] [] old new event paced first _ same some (runs-falls old.image old.settings paced old.frame first at_run) (takes [] [] []))
+    omega (
+      arith,
+      needs_left old going needs,
+      fewer TellsStep [] [] [] old new event paced first _ same some (runs-falls old.image old.settings paced old.frame first at_run) (takes [] [] []),
+    )
 
 unended : (m : Machine) → waiting_of m ≡ waiting.Act → m.over ≡ None
 unended m = by m.over
@@ -186,13 +192,19 @@ end_sooner old new event paced waits takes = by old.doing refl
     by NeedsNumber e = absurd (not_given old e waits)
     by (Touching touch) e =
         let at : control_of old.doing old.frame ≡ Touches old.frame touch = rw e refl in
-        omega (arith, before (subst (λ c. IsRun c → ⊥) (sym at) (λ h. h)),
-        fewer TellsAct [] [] _ old new event paced first _ refl (some_touch old.image old.settings paced old.frame touch first at) (touches-falls old.image old.settings paced old.frame touch first at refl) (takes [] []))
+        omega (
+          arith,
+          before (subst (λ c. IsRun c → ⊥) (sym at) (λ h. h)),
+          fewer TellsAct [] [] _ old new event paced first _ refl (some_touch old.image old.settings paced old.frame touch first at) (touches-falls old.image old.settings paced old.frame touch first at refl) (takes [] []),
+        )
     by (Suspended import place) e =
         let at : control_of old.doing old.frame ≡ Away = rw e refl in
         let calls : callers_in old.doing old.frame old.callers ≡ Waits old.frame import place ∷ old.callers = rw e refl in
-        omega (arith, before (subst (λ c. IsRun c → ⊥) (sym at) (λ h. h)),
-        fewer TellsAct [] [] _ old new event paced first _ refl (some_wait old.image old.settings paced old.frame import place old.callers first calls) (away-falls old.image old.settings paced first at refl) (takes [] []))
+        omega (
+          arith,
+          before (subst (λ c. IsRun c → ⊥) (sym at) (λ h. h)),
+          fewer TellsAct [] [] _ old new event paced first _ refl (some_wait old.image old.settings paced old.frame import place old.callers first calls) (away-falls old.image old.settings paced first at refl) (takes [] []),
+        )
 
 -- what a step promises, where it does what the next instruction says, or where none stands there
 pub record Stepped (old : Machine) (event : Event) (new : Machine) : Type 0 where

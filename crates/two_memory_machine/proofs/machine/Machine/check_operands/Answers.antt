@@ -4,7 +4,6 @@ use Rattle.std.proofs.lemmas.Int.{to_z-of_z}
 use mir.Syntax.{w64}
 use Rattle.two_memory_machine.proofs.machine.Machine.check_operands.Goals as goal
 
-
 pub returns-in-In : goal.returns-in-In
 returns-in-In c =
     let low : FitsSigned w64 c.in-In.low = search rules in
