@@ -1,6 +1,7 @@
 -- The run of an accepted program ends, and its code ends in the same way.
 use Rattle.std.proofs.Common.{◌≡◌, ℕ, ◌+◌, ◌-◌, ◌≤◌, ◌++◌, List, [], Option, Some, None, option_map, sym, ap, ◌∙◌, subst, arith}
 use Rattle.std.specs.Prelude.{All, replicate}
+use Rattle.std.proofs.lemmas.List.{replicate-append-replicate}
 use Rattle.std.proofs.lemmas.List.Elements.{All-nil}
 use Rattle.ckc_text.specs.Places.{place_at}
 use Rattle.ckc_io.specs.Files.{Files, file_at}
@@ -44,7 +45,9 @@ acts_there files (Some name) list h = acts_from_file (file_at files name) list h
 
 -- a memory without static blocks holds zeros alone
 no_blocks : (size : ℕ) → 65536 ≤ size → memory_of size [] ≡ replicate size 0
-no_blocks size le = ?
+no_blocks size le =
+    let whole : 16 + (size - 16) ≡ size = omega arith in
+    replicate-append-replicate 16 (size - 16) 0 ∙ ap (λ n. replicate n 0) whole
 
 module _ (files : Files) (words : List (List ℕ)) (options : Options) (list : ActList) (c : Core) where
   pub ends_over : AsksFor files words options list c → (ending : Ending) × (s : State) × RunsTo c (settings_of options) (inputs_of options) list ending s
@@ -57,6 +60,6 @@ module _ (files : Files) (words : List (List ℕ)) (options : Options) (list : A
       let settings = settings_of options in
       let inputs = inputs_of options in
       let may = may_run words a.asks.name options a.asks.request in
-      let r = (keeps_meaning c (lowerable c (a.src, a.accepted))).ends settings inputs list.acts ending s may.settings may.inputs (acts_there files options.acts list a.acts) runs in
+      let r = keeps_meaning c (lowerable c (a.src, a.accepted)) settings inputs list.acts ending s may.settings may.inputs (acts_there files options.acts list a.acts) runs in
       let shown = view (image_of c) settings inputs list.acts ending r.0 r.1 in
       subst (ViewIsFold (replicate settings.sandbox 0) list.acts) (r.2).world (subst (λ start. ViewIsFold start list.acts (r.0).world) (no_blocks settings.sandbox may.settings.least_sandbox) shown)
