@@ -203,42 +203,34 @@ const FIRST_RUN: Call = Call {
     put: 0,
 };
 
-// A program with these many variables that exits with the last one's value, its number.
-fn with_variables(alloc: Global, count: u32) -> String {
-    let mut source = String::new(alloc);
+// Puts a program with these many variables, which exits with the last one's value, its number, behind a text.
+fn add_variables(source: &mut String, count: u32) {
     for i in 0..count {
-        add_number(&mut source, "int v", i);
-        add_number(&mut source, " = ", i);
-        add(&mut source, ";\n");
+        add_number(source, "int v", i);
+        add_number(source, " = ", i);
+        add(source, ";\n");
     }
-    add_number(
-        &mut source,
-        "int main(void) { return v",
-        count.saturating_sub(1),
-    );
-    add(&mut source, "; }");
-    source
+    add_number(source, "int main(void) { return v", count.saturating_sub(1));
+    add(source, "; }");
 }
 
 // Whether the run of a program with these many variables answers so.
-fn counts(alloc: Global, count: u32, text: &[u8], status: u8) -> bool {
-    let source = with_variables(alloc, count);
-    let call = Call {
-        source: source.as_str(),
-        text,
-        status,
-        ..FIRST_RUN
-    };
-    answers(alloc, &call)
+fn counts(alloc: Global, count: u32, text: &str, status: &str) -> bool {
+    let mut row = String::new(alloc);
+    add(&mut row, "run a.c@");
+    add(&mut row, text);
+    add(&mut row, "@@");
+    add_variables(&mut row, count);
+    call_answers(alloc, row.as_str(), status)
 }
 
 #[test]
 fn many_variables(rt: HostRuntime) -> Result<(), Fail> {
     let alloc = rt.alloc();
     expect(
-        counts(alloc, 300, b"[exit 299]\n", 0)
-            && counts(alloc, 1024, b"[exit 1023]\n", 0)
-            && counts(alloc, 1025, b"[refused E09 1:1 not built yet]\n", 1),
+        counts(alloc, 300, "[exit 299]\n", "0")
+            && counts(alloc, 1024, "[exit 1023]\n", "0")
+            && counts(alloc, 1025, "[refused E09 1:1 not built yet]\n", "1"),
     )
 }
 
