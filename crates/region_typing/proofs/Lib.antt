@@ -1,8 +1,9 @@
-pub mod Walking
-pub mod Testing
-pub mod Rows
-pub mod Verdicts
-pub mod Locals
-pub mod Loops
-pub mod Sequences
-pub mod Steps
+pub mod ItemSteps
+pub mod Placing
+pub mod Outside
+pub mod Bodies
+pub mod Constants
+pub mod JudgedVariables
+pub mod StructParts
+pub mod CoreLists
+pub mod Checks

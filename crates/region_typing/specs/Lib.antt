@@ -1,1 +1,4 @@
-pub mod Walks
+pub mod Initials
+pub mod Items
+pub mod Signatures
+pub mod CoreParts

@@ -1,6 +1,12 @@
-// The rules of declarations and statements, and what these become.
+// Whether a program keeps the rules of names, types and regions, and what it becomes.
 #![tactic(auto)]
 
-mod core_forms;
-mod declarations;
-pub mod statements;
+pub mod checker;
+mod cores;
+mod functions;
+mod globals;
+mod initials;
+mod items;
+mod signatures;
+mod structures;
+mod walk;

@@ -1,0 +1,175 @@
+-- Functions with their bodies.
+use Rattle.std.proofs.Common.{◌≡◌, ℕ, ◌+◌, ◌<◌, ◌≤◌, drop, get_or, Bool, true, false, not, ◌&&◌, ◌||◌, nat_lt, List, [], ◌∷◌, ◌++◌, length, map, is_some, Option, Some, None, Result, Ok, Err, refl, ap, sym, ◌∙◌, subst}
+use Rattle.std.specs.Option.{option_map}
+use Rattle.std.specs.Result.{IsErrAnd}
+use Rattle.std.proofs.lemmas.Result.{err_from_is_err_and}
+use Rattle.std.proofs.lemmas.List.{length-map, length-append, map-append}
+use Rattle.ckc_text.specs.declared.place.Span.{Span}
+use Rattle.ckc_text.specs.declared.code.Code.{Code}
+use Rattle.ckc_text.specs.declared.code.Code.TheVariants.{E08, E10, E13, E15}
+use Rattle.ckc_text.specs.declared.fault.Refused.{Refused}
+use Rattle.ckc_text.specs.declared.fault.Refused.TheVariants.{Source, NoMemory}
+use Rattle.ckc_text.specs.declared.fault.SourceFault.{SourceFault}
+use Rattle.ckc_tree.specs.Items as i
+use Rattle.ckc_tree.specs.Items.{Item}
+use Rattle.ckc_tree.specs.Statements.{Statements}
+use Rattle.pointer_modes.specs.declared.ctype.CType as code_type
+use Rattle.pointer_modes.specs.Types.{CType, ctype}
+use Rattle.ckc_core.specs.declared.program.Function as code_function
+use Rattle.ckc_core.specs.declared.program.Stmt.{Stmt}
+use Rattle.ckc_core.specs.Core as core
+use Rattle.typing_rules.specs.Verdicts.{Verdict, Passes, Breaks, passing, needs, picked}
+use Rattle.typing_rules.specs.Scopes.{Scope, Signature, Variable, Visible, function_named}
+use Rattle.typing_rules.specs.Expressions.{Places}
+use Rattle.typing_rules.specs.Statements.{statements, is_unchecked, with_local}
+use Rattle.typing_rules.specs.Items.{Walk, with_parameters, inside, core_function, function_body, listed, parameter_types, result_type, signature_of, agrees, all_scalar, scalar_result, with_function, is_trusted, is_defined, in_checked_region, function_rules, function}
+use Rattle.expression_typing.specs.declared.scope as code
+use Rattle.expression_typing.specs.declared.signature.Signature as code_signature
+use Rattle.expression_typing.specs.Views.{scope, signature, variable}
+use Rattle.expression_typing.specs.Answering.{Answers, answers_so}
+use Rattle.expression_typing.specs.Locals.{Grows}
+use Rattle.statement_typing.specs.Walks.{Walks}
+use Rattle.region_typing.specs.Items.{Outside, body_core, kept_rules}
+use Rattle.region_typing.specs.Signatures.{declared_function}
+use Rattle.statement_typing.proofs.Verdicts.{same_behind, in_parts}
+use Rattle.statement_typing.proofs.Steps.{parts_at, no_parts}
+
+-- ---- a function is left
+
+-- parameters are added to the locals alone
+pub record Added (g h : Scope) : Type 0 where
+  pub types : List CType
+  pub names : List Visible
+  pub same : h ≡ record g { locals = types; visible = names }
+
+parameters_added : (ps : List Variable) (g : Scope) → Added g (with_parameters ps g)
+parameters_added [] g = record { types = g.locals; names = g.visible; same = refl }
+parameters_added (p ∷ ps) g = let rest = parameters_added ps (with_local p.name p.type g) in record { types = rest.types; names = rest.names; same = rest.same }
+
+-- what was known before a function is known behind it
+pub left_function : (f : Signature) (ps : List Variable) (old entered walked new : code.Scope.Scope) → Outside (scope old) → scope entered ≡ inside f ps (scope old) → Grows entered walked
+    → scope new ≡ record (scope walked) { locals = []; visible = []; result = None; in_loop = false } → scope new ≡ scope old
+left_function f ps old entered walked new outside inside_is grows known =
+    let added = parameters_added ps (record (scope old) { locals = []; visible = []; result = f.result; in_loop = false }) in
+    known
+    ∙ ap (λ (g : Scope). record g { locals = []; visible = []; result = None; in_loop = false }) (grows.file ∙ ap (λ (g : Scope). record g { locals = grows.types; visible = grows.names; in_loop = grows.loop }) (inside_is ∙ added.same))
+    ∙ sym outside
+
+-- the core of a function whose statements break no rule
+pub body_built : (at : Places) (f : Signature) (ps : List Variable) (body : Statements) (xs : core.Statements) (b : core.Function) (old entered walked new : code.Scope.Scope) → scope entered ≡ inside f ps (scope old) → scope new ≡ scope old
+    → statements at (scope entered) body ≡ Passes (xs, scope walked) → b ≡ core_function f ps xs (scope walked) → body_core at (scope old) f ps body ≡ Passes (b, scope new)
+body_built at f ps body xs b old entered walked new inside_is same passes b_is =
+    ap (λ g. passing (statements at g body) (λ x. Passes (core_function f ps x.0 x.1, scope old))) (sym inside_is) ∙ rw (passes, same, b_is) refl
+
+-- a body behind which its function is left
+pub function_body_parts : (at : Places) (w : Walk) (f : Signature) (ps : List Variable) (b : i.Body) → function_body at w f ps (Some b) ≡ passing (body_core at w.scope f ps b.statements) (λ x. needs (not (is_unchecked b.mark || w.scope.is_off)) E15 b.span (Passes (record w { bodies = w.bodies ++ x.0 ∷ [] })))
+function_body_parts at w f ps b = sym (in_parts (statements at (inside f ps w.scope) b.statements) (λ x. Passes (core_function f ps x.0 x.1, w.scope)) (λ x. needs (not (is_unchecked b.mark || w.scope.is_off)) E15 b.span (Passes (record w { bodies = w.bodies ++ x.0 ∷ [] }))))
+
+-- ---- a declaration, its body, and its rules
+
+declared_on : {B : Type 0} (v : Verdict (Option CType)) (w : Verdict (List Variable)) (of : Option CType → List Variable → Signature) (next : Signature × List Variable → Verdict B)
+    → passing v (λ r. passing w (λ ps. next (of r ps, ps))) ≡ passing (passing v (λ r. passing w (λ ps. Passes (of r ps, ps)))) next
+declared_on (Breaks fault) w of next = refl
+declared_on (Passes r) (Breaks fault) of next = refl
+declared_on (Passes r) (Passes ps) of next = refl
+
+rules_parts : (fits body marked on : Bool) (span : Span) (w : Walk) → needs fits E13 span (needs body E10 span (needs marked E15 span (needs on E15 span (Passes w)))) ≡ passing (needs fits E13 span (needs body E10 span (needs marked E15 span (needs on E15 span (Passes tt))))) (λ (x : Unit {0}). Passes w)
+rules_parts false body marked on span w = refl
+rules_parts true false marked on span w = refl
+rules_parts true true false on span w = refl
+rules_parts true true true false span w = refl
+rules_parts true true true true span w = refl
+
+-- a function by its declaration, its body and its rules
+pub function_parts : (at : Places) (all : List Item) (w : Walk) (d : i.Function)
+    → function at all w d
+    ≡ needs (is_some (function_named w.scope.functions d.name.name) || nat_lt (length w.scope.functions) 4096) E08 d.span
+    (passing (declared_function w.scope d) (λ x. passing (function_body at (record w { scope = with_function (function_named w.scope.functions d.name.name) x.0 w.scope }) x.0 x.1 d.body)
+    (λ v. passing (kept_rules all d (agrees (function_named w.scope.functions d.name.name) x.0 && (all_scalar x.0.parameters && scalar_result x.0.result)) v.scope) (λ u. Passes v))))
+function_parts at all w d =
+    let known = function_named w.scope.functions d.name.name in
+    let behind = λ (x : Signature × List Variable). passing (function_body at (record w { scope = with_function known x.0 w.scope }) x.0 x.1 d.body) (λ v. function_rules all d x.0 known v) in
+    let judged = λ (x : Signature × List Variable). passing (function_body at (record w { scope = with_function known x.0 w.scope }) x.0 x.1 d.body) (λ v. passing (kept_rules all d (agrees known x.0 && (all_scalar x.0.parameters && scalar_result x.0.result)) v.scope) (λ u. Passes v)) in
+    ap (λ v. needs (is_some known || nat_lt (length w.scope.functions) 4096) E08 d.span v)
+    (declared_on (result_type w.scope d.result d.stars) (parameter_types w.scope (listed d.parameters) []) (λ r ps. signature_of d r ps) behind
+    ∙ same_behind (declared_function w.scope d) behind judged
+    (λ x. same_behind (function_body at (record w { scope = with_function known x.0 w.scope }) x.0 x.1 d.body) (λ v. function_rules all d x.0 known v) (λ v. passing (kept_rules all d (agrees known x.0 && (all_scalar x.0.parameters && scalar_result x.0.result)) v.scope) (λ u. Passes v))
+    (λ v. rules_parts (agrees known x.0 && (all_scalar x.0.parameters && scalar_result x.0.result)) (picked (is_trusted d.kind) (is_defined all d.name.name) true) (not (is_unchecked d.mark)) (not v.scope.is_off) d.span v)))
+
+named_so : (v : Verdict (Option CType)) (w : Verdict (List Variable)) (of : Option CType → List Variable → Signature) (name : List ℕ) (x : Signature × List Variable) → ((r : Option CType) (ps : List Variable) → (of r ps).name ≡ name) → passing v (λ r. passing w (λ ps. Passes (of r ps, ps))) ≡ Passes x → x.0.name ≡ name
+named_so (Breaks fault) w of name x named is = absurd (cc)
+named_so (Passes r) (Breaks fault) of name x named is = absurd (cc)
+named_so (Passes r) (Passes ps) of name x named is = let same : (of r ps, ps) ≡ x = cc in ap (λ (y : Signature × List Variable). y.0.name) (sym same) ∙ named r ps
+
+-- a declared function has the name that is written
+pub declared_name : (g : Scope) (d : i.Function) (x : Signature × List Variable) → declared_function g d ≡ Passes x → x.0.name ≡ d.name.name
+declared_name g d x is = named_so (result_type g d.result d.stars) (parameter_types g (listed d.parameters) []) (λ r ps. signature_of d r ps) d.name.name x (λ r ps. refl) is
+
+-- a body in which a rule is broken
+broken_body : (at : Places) (f : Signature) (ps : List Variable) (body : Statements) (g : Scope) (h : Scope) (fault : SourceFault) → h ≡ inside f ps g → statements at h body ≡ Breaks fault → body_core at g f ps body ≡ Breaks fault
+broken_body at f ps body g h fault is breaks = ap (λ k. passing (statements at k body) (λ x. Passes (core_function f ps x.0 x.1, g))) (sym is) ∙ rw breaks refl
+
+body_refused_so : {C D : Type 0} (view : C → core.Statements) (view' : D → core.Function × Scope) (at : Places) (f : Signature) (ps : List Variable) (body : Statements) (old entered mid : code.Scope.Scope) (e : Refused) → scope entered ≡ inside f ps (scope old) → Walks view (statements at (scope entered) body) entered (Err e) mid → Answers view' (body_core at (scope old) f ps body) (Err e)
+body_refused_so view view' at f ps body old entered mid (Source fault) is first = record { so = broken_body at f ps body (scope old) (scope entered) fault is first.so }
+body_refused_so view view' at f ps body old entered mid NoMemory is first = record { so = tt }
+
+pub body_refused : {C D : Type 0} {view : C → core.Statements} {view' : D → core.Function × Scope} {mid : code.Scope.Scope} {e : Refused} (at : Places) (f : Signature) (ps : List Variable) (body : Statements) (old entered : code.Scope.Scope) (r : Result D Refused) → scope entered ≡ inside f ps (scope old) → IsErrAnd r (λ y. y ≡ e) → Walks view (statements at (scope entered) body) entered (Err e) mid → Answers view' (body_core at (scope old) f ps body) r
+body_refused {view = view} {view' = view'} {mid = mid} {e = e} at f ps body old entered r is err first =
+    let p = err_from_is_err_and r err in
+    rw (p.1, p.2) (body_refused_so view view' at f ps body old entered mid e is first)
+
+-- the core of a function, as it is put together
+pub core_built : (f : code_signature.Signature) (ps : List code.Variable.Variable) (n : ℕ) → n ≡ length ps → (locals : List code_type.CType) (g : Scope) → map ctype locals ≡ g.locals → (xs : List Stmt) (c : code_function.Function) → core.function c ≡ record { name = f.name; parameters = n; locals = map ctype locals; result = option_map ctype f.result; body = core.statements_of xs }
+    → core.function c ≡ core_function (signature f) (map variable ps) (core.statements_of xs) g
+core_built f ps n count locals g are xs c is =
+    is ∙ ap (λ ts. record { name = f.name; parameters = n; locals = ts; result = option_map ctype f.result; body = core.statements_of xs }) are
+    ∙ ap (λ k. record { name = f.name; parameters = k; locals = g.locals; result = option_map ctype f.result; body = core.statements_of xs }) (count ∙ sym (length-map ps variable))
+
+-- ---- parameters as locals
+
+pub parameter_added : (ps : List code.Variable.Variable) (k : ℕ) (p : code.Variable.Variable) (g h : Scope) → k < length ps → p ≡ get_or ps k p → h ≡ with_local p.name (ctype p.ctype) g → with_parameters (map variable (drop k ps)) g ≡ with_parameters (map variable (drop (k + 1) ps)) h
+parameter_added ps k p g h less is known = ap (λ qs. with_parameters qs g) (parts_at variable ps k p less is) ∙ ap (λ j. with_parameters (map variable (drop (k + 1) ps)) j) (sym known)
+
+pub parameters_all : (ps : List code.Variable.Variable) (k : ℕ) (g : Scope) → length ps ≤ k → with_parameters (map variable (drop k ps)) g ≡ g
+parameters_all ps k g end = ap (λ qs. with_parameters qs g) (no_parts variable ps k end)
+
+pub local_counted : (p : Variable) (a b : code.Scope.Scope) (k : ℕ) → scope b ≡ with_local p.name p.type (scope a) → length a.locals.items ≡ k → length b.locals.items ≡ k + 1
+local_counted p a b k known count =
+    sym (length-map b.locals.items ctype) ∙ ap (λ (g : Scope). length g.locals) known ∙ length-append (map ctype a.locals.items) (p.type ∷ []) ∙ ap (λ n. n + 1) (length-map a.locals.items ctype ∙ count)
+
+-- ---- a body more
+
+scope_of_core : (v : Verdict (core.Statements × Scope)) (f : Signature) (ps : List Variable) (g : Scope) (b : core.Function) (h : Scope) → passing v (λ x. Passes (core_function f ps x.0 x.1, g)) ≡ Passes (b, h) → h ≡ g
+scope_of_core (Passes x) f ps g b h is = let same : (core_function f ps x.0 x.1, g) ≡ (b, h) = cc in sym (ap (λ (p : core.Function × Scope). p.1) same)
+scope_of_core (Breaks fault) f ps g b h is = absurd (cc)
+
+pub scope_kept : (at : Places) (g : Scope) (f : Signature) (ps : List Variable) (body : Statements) (b : core.Function) (h : Scope) → body_core at g f ps body ≡ Passes (b, h) → h ≡ g
+scope_kept at g f ps body b h is = scope_of_core (statements at (inside f ps g) body) f ps g b h is
+
+pub bodies_more : (w : Walk) (g : Scope) (bs new : List code_function.Function) (b : code_function.Function) → g ≡ w.scope → new ≡ bs ++ b ∷ [] → ◌≡◌ {A = Verdict Walk} (Passes (record w { bodies = map core.function bs ++ core.function b ∷ [] })) (Passes (record w { scope = g; bodies = map core.function new }))
+bodies_more w g bs new b same are =
+    ap (λ ys. Passes (record w { bodies = ys })) (sym (ap (map core.function) are ∙ map-append core.function bs (b ∷ []))) ∙ ap (λ h. Passes (record w { scope = h; bodies = map core.function new })) (sym same)
+
+-- ---- a function, step by step
+
+kept_last_so : {B : Type 0} (new : B) (v : Verdict (Unit {0})) (r : Result (Unit {0}) Refused) → Answers {C = Unit {0}} (λ x. x) v r → answers_so {C = Unit {0}} (λ u. new) (passing v (λ u. Passes new)) r
+kept_last_so new v (Ok u) first = rw first.so refl
+kept_last_so new v (Err (Source fault)) first = rw first.so refl
+kept_last_so new v (Err NoMemory) first = tt
+
+pub kept_last : {B : Type 0} (new : B) (v : Verdict (Unit {0})) (r : Result (Unit {0}) Refused) → Answers {C = Unit {0}} (λ x. x) v r → Answers {C = Unit {0}} (λ u. new) (passing v (λ u. Passes new)) r
+kept_last new v r first = record { so = kept_last_so new v r first }
+
+-- behind a declaration
+pub function_walk : {new : Walk} {r : Result (Unit {0}) Refused} (at : Places) (all : List Item) (w : Walk) (d : i.Function) (x : Signature × List Variable) (mid : Scope) → declared_function w.scope d ≡ Passes x → mid ≡ with_function (function_named w.scope.functions x.0.name) x.0 w.scope
+    → Answers {C = Unit {0}} (λ u. new) (passing (function_body at (record w { scope = mid }) x.0 x.1 d.body) (λ v. passing (kept_rules all d (agrees (function_named w.scope.functions x.0.name) x.0 && (all_scalar x.0.parameters && scalar_result x.0.result)) v.scope) (λ u. Passes v))) r
+    → Answers {C = Unit {0}} (λ u. new) (passing (declared_function w.scope d) (λ y. passing (function_body at (record w { scope = with_function (function_named w.scope.functions d.name.name) y.0 w.scope }) y.0 y.1 d.body) (λ v. passing (kept_rules all d (agrees (function_named w.scope.functions d.name.name) y.0 && (all_scalar y.0.parameters && scalar_result y.0.result)) v.scope) (λ u. Passes v)))) r
+function_walk {new = new} {r = r} at all w d x mid first known rest =
+    let named = declared_name w.scope d x first in
+    rw first
+    (subst (λ name. Answers {C = Unit {0}} (λ u. new) (passing (function_body at (record w { scope = with_function (function_named w.scope.functions name) x.0 w.scope }) x.0 x.1 d.body) (λ v. passing (kept_rules all d (agrees (function_named w.scope.functions name) x.0 && (all_scalar x.0.parameters && scalar_result x.0.result)) v.scope) (λ u. Passes v))) r) named
+    (subst (λ (g : Scope). Answers {C = Unit {0}} (λ u. new) (passing (function_body at (record w { scope = g }) x.0 x.1 d.body) (λ v. passing (kept_rules all d (agrees (function_named w.scope.functions x.0.name) x.0 && (all_scalar x.0.parameters && scalar_result x.0.result)) v.scope) (λ u. Passes v))) r) known rest))
+
+pub room_left : (o : Option Signature) (b : Bool) → (is_some o || b) ≡ true → o ≡ None → b ≡ true
+room_left None b some none = some
+room_left (Some f) b some none = absurd (cc)

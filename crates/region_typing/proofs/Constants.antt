@@ -1,0 +1,162 @@
+-- Constants, and the cells that they are in.
+use Rattle.std.proofs.Common.{◌≡◌, ℕ, zero, suc, ◌+◌, ◌-◌, ◌<◌, ◌≤◌, Bool, true, false, nat_lt, List, [], ◌∷◌, ◌++◌, length, map, drop, get_or, slice_index, add-one, append_assoc, Option, Some, None, refl, ap, sym, ◌∙◌, arith, rules}
+use Rattle.std.proofs.lemmas.List.{append-nil, map-append}
+use Rattle.std.proofs.lemmas.Bool.{ltb-true}
+use Rattle.std.proofs.lemmas.Bool.Decides.{nat_tests}
+use Rattle.std.proofs.Common.{ℤ}
+use Rattle.ckc_text.specs.declared.place.Span.{Span}
+use Rattle.ckc_text.specs.declared.code.Code.TheVariants.{E04}
+use Rattle.ckc_tree.specs.declared.expr.UnaryOperator.TheVariants as unary
+use Rattle.ckc_tree.specs.Expressions as e
+use Rattle.ckc_tree.specs.Expressions.{Expression}
+use Rattle.pointer_modes.specs.declared.ctype.Member as code_member
+use Rattle.pointer_modes.proofs.Cells.{length_of_cells}
+use Rattle.pointer_modes.specs.Types.{CType, Int, Char, Struct, Pointer, Member, Structure, ctype, member}
+use Rattle.pointer_modes.specs.Layout.{Cell, cells_of, size_of}
+use Rattle.ckc_core.specs.declared.program.Initial as code_initial
+use Rattle.ckc_core.specs.Core as core
+use Rattle.ckc_core.specs.Core.{initial}
+use Rattle.typing_rules.specs.Verdicts.{Verdict, Passes, Breaks, passing, needs, picked}
+use Rattle.typing_rules.specs.Scopes.{Scope}
+use Rattle.typing_rules.specs.Types.{is_scalar}
+use Rattle.typing_rules.specs.Expressions.{Places, Typed, typed, constant}
+use Rattle.typing_rules.specs.Items as rules
+use Rattle.typing_rules.specs.Items.{unsigned_constant, strides_from, strides_of, cells_with, numbered_cells, object_cells}
+use Rattle.region_typing.specs.Initials.{IsSmall, IsStructOf, judged_as, judged_cells, stride_at}
+use Rattle.statement_typing.proofs.Steps.{parts_at, no_parts}
+
+-- ---- constants have at most 31 bits
+
+constant_small : (value n : ℕ) (zero : Bool) (span : Span) (t : Typed) → constant value zero span ≡ Passes t → Some value ≡ Some n → n < 2147483648
+constant_small value n zero span t passes is = by (nat_lt value 2147483648) refl
+  where
+    by : (b : Bool) → nat_lt value 2147483648 ≡ b → n < 2147483648
+    by true test = let same : value ≡ n = cc in rw (← same) (ltb-true value 2147483648 test)
+    by false test = let broken = rw test at passes in absurd (cc)
+
+unsigned_small : (at : Places) (g : Scope) (a : Expression) (t : Typed) (n : ℕ) → typed at g a ≡ Passes t → unsigned_constant a ≡ Some n → n < 2147483648
+unsigned_small at g (e.Number value span) t n passes is = constant_small value n _ span t passes is
+unsigned_small at g (e.Character value span) t n passes is = constant_small value n _ span t passes is
+unsigned_small at g (e.Text bytes span) t n passes is = absurd (cc)
+unsigned_small at g (e.Name name) t n passes is = absurd (cc)
+unsigned_small at g (e.Call callee arguments span) t n passes is = absurd (cc)
+unsigned_small at g (e.SizeOf type span) t n passes is = absurd (cc)
+unsigned_small at g (e.Cast word type operand span) t n passes is = absurd (cc)
+unsigned_small at g (e.BoundedCast word type operand bounds span) t n passes is = absurd (cc)
+unsigned_small at g (e.Malloc word type size span) t n passes is = absurd (cc)
+unsigned_small at g (e.Calloc word type count size span) t n passes is = absurd (cc)
+unsigned_small at g (e.Index base index span) t n passes is = absurd (cc)
+unsigned_small at g (e.Dot base member span) t n passes is = absurd (cc)
+unsigned_small at g (e.Arrow base member span) t n passes is = absurd (cc)
+unsigned_small at g (e.Unary operator operand span) t n passes is = absurd (cc)
+unsigned_small at g (e.Binary operator left right span) t n passes is = absurd (cc)
+
+operand_small : (at : Places) (g : Scope) (operand : Expression) (next : Typed → Verdict Typed) (t : Typed) (n : ℕ) → passing (typed at g operand) next ≡ Passes t → unsigned_constant operand ≡ Some n → n < 2147483648
+operand_small at g operand next t n passes is = by (typed at g operand) refl
+  where
+    by : (v : Verdict Typed) → typed at g operand ≡ v → n < 2147483648
+    by (Passes u) operand_is = unsigned_small at g operand u n operand_is is
+    by (Breaks fault) operand_is = let broken = rw operand_is at passes in absurd (cc)
+
+pub typed_small : (at : Places) (g : Scope) (a : Expression) (t : Typed) → typed at g a ≡ Passes t → IsSmall a
+typed_small at g (e.Unary unary.Negate operand span) t passes n is = operand_small at g operand _ t n passes is
+typed_small at g (e.Unary unary.Deref operand span) t passes n is = absurd (cc)
+typed_small at g (e.Unary unary.AddressOf operand span) t passes n is = absurd (cc)
+typed_small at g (e.Unary unary.Not operand span) t passes n is = absurd (cc)
+typed_small at g (e.Unary unary.Complement operand span) t passes n is = absurd (cc)
+typed_small at g (e.Number value span) t passes n is = unsigned_small at g (e.Number value span) t n passes is
+typed_small at g (e.Character value span) t passes n is = unsigned_small at g (e.Character value span) t n passes is
+typed_small at g (e.Text bytes span) t passes n is = absurd (cc)
+typed_small at g (e.Name name) t passes n is = absurd (cc)
+typed_small at g (e.Call callee arguments span) t passes n is = absurd (cc)
+typed_small at g (e.SizeOf type span) t passes n is = absurd (cc)
+typed_small at g (e.Cast word type operand span) t passes n is = absurd (cc)
+typed_small at g (e.BoundedCast word type operand bounds span) t passes n is = absurd (cc)
+typed_small at g (e.Malloc word type size span) t passes n is = absurd (cc)
+typed_small at g (e.Calloc word type count size span) t passes n is = absurd (cc)
+typed_small at g (e.Index base index span) t passes n is = absurd (cc)
+typed_small at g (e.Dot base member span) t passes n is = absurd (cc)
+typed_small at g (e.Arrow base member span) t passes n is = absurd (cc)
+typed_small at g (e.Binary operator left right span) t passes n is = absurd (cc)
+
+-- ---- cells by what is judged
+
+written_cells_judged : (structs : List Structure) (t : CType) (value : Expression) (u : Typed) (span : Span) → object_cells structs t (rules.Written value u) span ≡ judged_cells structs t (judged_as (rules.Written value u)) span
+written_cells_judged structs Int value u span = refl
+written_cells_judged structs Char value u span = refl
+written_cells_judged structs (Struct number) value u span = refl
+written_cells_judged structs (Pointer mode kind target) value u span = refl
+
+pub cells_judged : (structs : List Structure) (t : CType) (w : rules.Walked) (span : Span) → object_cells structs t w span ≡ judged_cells structs t (judged_as w) span
+cells_judged structs t rules.Missing span = refl
+cells_judged structs t (rules.Written value u) span = written_cells_judged structs t value u span
+cells_judged structs t rules.Constants span = refl
+
+-- ---- cells one by one
+
+-- the only cell of a scalar
+pub scalar_cells : (structs : List Structure) (t : CType) (number : ℤ) → is_scalar t ≡ true → cells_with structs t number ≡ record { type = t; stride = size_of structs t; number = number } ∷ []
+scalar_cells structs Int number scalar = refl
+scalar_cells structs Char number scalar = refl
+scalar_cells structs (Struct n) number scalar = absurd (cc)
+scalar_cells structs (Pointer mode kind target) number scalar = refl
+
+abbrev offsets : List Cell → List ℕ
+offsets cells = map (λ (c : Cell). c.offset) cells
+
+abbrev next_from : List Cell → ℕ → ℕ → ℕ
+next_from cells end k = picked (nat_lt (suc k) (length cells)) (slice_index (offsets cells) (suc k)) end
+
+one_later : (a b : ℕ) → nat_lt (suc a) (suc b) ≡ nat_lt a b
+one_later a b = grind (arith, nat_tests)
+
+strides_at : (cells : List Cell) (end k : ℕ) → k < length cells → drop k (strides_from cells end) ≡ (next_from cells end k - slice_index (offsets cells) k) ∷ drop (suc k) (strides_from cells end)
+strides_at [] end k less = absurd (omega arith)
+strides_at (c ∷ []) end zero less = refl
+strides_at (c ∷ []) end (suc k) less = absurd (omega arith)
+strides_at (c ∷ d ∷ cells) end zero less = let test : nat_lt 1 (suc (suc (length cells))) ≡ true = grind (arith, nat_tests) in rw test refl
+strides_at (c ∷ d ∷ cells) end (suc k) less =
+    strides_at (d ∷ cells) end k (omega arith)
+    ∙ ap (λ b. (picked b (slice_index (offsets (d ∷ cells)) (suc k)) end - slice_index (offsets (d ∷ cells)) k) ∷ drop (suc k) (strides_from (d ∷ cells) end)) (sym (one_later (suc k) (length (d ∷ cells))))
+
+-- the bytes of the cells from one on
+pub strides_left : (structs : List Structure) (t : CType) (k : ℕ) → k < length (cells_of structs t) → drop k (strides_of structs t) ≡ stride_at structs t k ∷ drop (k + 1) (strides_of structs t)
+strides_left structs t k less = rw add-one (strides_at (cells_of structs t) (size_of structs t) k less)
+
+types_shown : (ms : List code_member.Member) → map (λ (m : Member). m.ctype) (map member ms) ≡ map (λ (m : code_member.Member). ctype m.ctype) ms
+types_shown [] = refl
+types_shown (m ∷ ms) = ap (λ ts. ctype m.ctype ∷ ts) (types_shown ms)
+
+-- the cells of a struct
+pub struct_cells : (structs : List Structure) (t : CType) (ms : List code_member.Member) (number : ℤ) → IsStructOf structs t (map member ms) → cells_with structs t number ≡ numbered_cells number (map (λ (m : code_member.Member). ctype m.ctype) ms) (strides_of structs t)
+struct_cells structs (Struct n) ms number are = ap (λ ws. numbered_cells number (map (λ (m : Member). m.ctype) ws) (strides_of structs (Struct n))) (sym are) ∙ ap (λ ts. numbered_cells number ts (strides_of structs (Struct n))) (types_shown ms)
+struct_cells structs Int ms number are = absurd are
+struct_cells structs Char ms number are = absurd are
+struct_cells structs (Pointer mode kind target) ms number are = absurd are
+
+pub as_many_cells : (structs : List Structure) (t : CType) (ms : List code_member.Member) → IsStructOf structs t (map member ms) → length (cells_of structs t) ≡ length ms
+as_many_cells structs (Struct n) ms are = length_of_cells structs (Struct n) n ms refl are
+as_many_cells structs Int ms are = absurd are
+as_many_cells structs Char ms are = absurd are
+as_many_cells structs (Pointer mode kind target) ms are = absurd are
+
+-- a cell more
+pub cell_more : (structs : List Structure) (t : CType) (ms : List code_member.Member) (number : ℤ) (k : ℕ) (m : code_member.Member) (all : List core.Initial) (built new : List code_initial.Initial) (cell : code_initial.Initial) → new ≡ built ++ cell ∷ [] → k < length ms → m ≡ get_or ms k m → IsStructOf structs t (map member ms)
+    → initial cell ≡ record { type = ctype m.ctype; stride = stride_at structs t k; number = number }
+    → all ≡ map initial built ++ numbered_cells number (map (λ (m : code_member.Member). ctype m.ctype) (drop k ms)) (drop k (strides_of structs t))
+    → all ≡ map initial new ++ numbered_cells number (map (λ (m : code_member.Member). ctype m.ctype) (drop (k + 1) ms)) (drop (k + 1) (strides_of structs t))
+cell_more structs t ms number k m all built new cell are less is struct cell_is so_far =
+    let types = λ (m : code_member.Member). ctype m.ctype in
+    let long : k < length (cells_of structs t) = omega (arith, as_many_cells structs t ms struct) in
+    let rest = numbered_cells number (map types (drop (k + 1) ms)) (drop (k + 1) (strides_of structs t)) in
+    so_far
+    ∙ ap (λ ts. map initial built ++ numbered_cells number ts (drop k (strides_of structs t))) (parts_at types ms k m less is)
+    ∙ ap (λ ss. map initial built ++ numbered_cells number (types m ∷ map types (drop (k + 1) ms)) ss) (strides_left structs t k long)
+    ∙ ap (λ c. map initial built ++ c ∷ rest) (sym cell_is)
+    ∙ sym (append_assoc (map initial built) (initial cell ∷ []) rest)
+    ∙ ap (λ cells. cells ++ rest) (sym (ap (map initial) are ∙ map-append initial built (cell ∷ [])))
+
+pub cells_done : (structs : List Structure) (t : CType) (ms : List code_member.Member) (number : ℤ) (k : ℕ) (all : List core.Initial) (built : List code_initial.Initial) → length ms ≤ k
+    → all ≡ map initial built ++ numbered_cells number (map (λ (m : code_member.Member). ctype m.ctype) (drop k ms)) (drop k (strides_of structs t)) → all ≡ map initial built
+cells_done structs t ms number k all built end so_far =
+    so_far ∙ ap (λ ts. map initial built ++ numbered_cells number ts (drop k (strides_of structs t))) (no_parts (λ (m : code_member.Member). ctype m.ctype) ms k end) ∙ append-nil (map initial built)

@@ -1,0 +1,85 @@
+-- The walks over items, by their steps.
+use Rattle.std.proofs.Common.{◌≡◌, ℕ, ◌+◌, ◌<◌, ◌≤◌, Bool, true, false, List, [], ◌∷◌, ◌++◌, not, nat_lt, length, map, drop, get_or, refl, ap, ◌∙◌, sym}
+use Rattle.std.proofs.lemmas.List.{map-append}
+use Rattle.ckc_text.specs.declared.fault.SourceFault.{SourceFault}
+use Rattle.ckc_text.specs.declared.place.Span.{Span}
+use Rattle.ckc_text.specs.declared.code.Code.{Code}
+use Rattle.ckc_text.specs.declared.code.Code.TheVariants.{E08, E27}
+use Rattle.ckc_tree.specs.Types.{TypeTree, type_span}
+use Rattle.ckc_tree.specs.declared.item.Item as code_item
+use Rattle.ckc_tree.specs.Items as i
+use Rattle.ckc_tree.specs.Statements.{Declarator}
+use Rattle.pointer_modes.specs.Types as types
+use Rattle.pointer_modes.specs.Types.{CType}
+use Rattle.typing_rules.specs.Verdicts.{Verdict, Passes, Breaks, passing, needs}
+use Rattle.typing_rules.specs.Scopes.{Scope, Variable}
+use Rattle.typing_rules.specs.Types.{type_named}
+use Rattle.typing_rules.specs.Expressions.{Places}
+use Rattle.typing_rules.specs.Items.{Walk, is_struct, member_types, parameter_types, scalar_members, item, items, defines, is_defined}
+use Rattle.statement_typing.proofs.Steps.{parts_at, no_parts}
+use Rattle.region_typing.specs.declared.globals.WalkedVariable as code_variable
+use Rattle.region_typing.specs.Items.{one_member, one_parameter, one_variable, judged_variable, judged_variables, JudgedVariable}
+
+needs_on : {A B C : Type 0} (b : Bool) (code : Code) (span : Span) (v : Verdict A) (f : A → B) (next : B → Verdict C) → needs b code span (passing v (λ t. next (f t))) ≡ passing (needs b code span (passing v (λ t. Passes (f t)))) next
+needs_on true code span (Passes t) f next = refl
+needs_on true code span (Breaks fault) f next = refl
+needs_on false code span v f next = refl
+
+pub member_by_step : (g : Scope) (m : i.Member) (ms : List i.Member) (done : List types.Member) → member_types g (m ∷ ms) done ≡ passing (one_member g m done) (λ d. member_types g ms d)
+member_by_step g m ms done = needs_on (nat_lt (length done) 64) E08 (type_span m.type.base) (type_named g m.type) (λ t. done ++ record { name = m.name.name; ctype = t; span = m.span } ∷ []) (λ d. member_types g ms d)
+
+pub parameter_by_step : (g : Scope) (p : i.Member) (ps : List i.Member) (done : List Variable) → parameter_types g (p ∷ ps) done ≡ passing (one_parameter g p done) (λ d. parameter_types g ps d)
+parameter_by_step g p ps done = needs_on (nat_lt (length done) 16) E08 (type_span p.type.base) (type_named g p.type) (λ t. done ++ record { name = p.name.name; type = t } ∷ []) (λ d. parameter_types g ps d)
+
+-- no member is a struct
+abbrev pub scalar_member : types.Member → Unit {0} → Verdict (Unit {0})
+scalar_member m x = needs (not (is_struct m.ctype)) E27 m.span (Passes tt)
+
+abbrev pub all_scalar_members : List types.Member → Unit {0} → Verdict (Unit {0})
+all_scalar_members ms x = scalar_members ms (Passes tt)
+
+pub scalar_by_step : (m : types.Member) (ms : List types.Member) (x : Unit {0}) → all_scalar_members (m ∷ ms) x ≡ passing (scalar_member m x) (λ y. all_scalar_members ms y)
+scalar_by_step m ms x = by (not (is_struct m.ctype))
+  where
+    by : (b : Bool) → needs b E27 m.span (scalar_members ms (Passes tt)) ≡ passing (needs b E27 m.span (Passes tt)) (λ y. all_scalar_members ms y)
+    by true = refl
+    by false = refl
+
+-- a variable more
+abbrev pub variable_step : Places → TypeTree → CType → Span → Declarator → Walk × List JudgedVariable → Verdict (Walk × List JudgedVariable)
+variable_step at base type span d x = passing (one_variable at x.0 base type span d) (λ y. Passes (y.0, x.1 ++ y.1 ∷ []))
+
+pub variable_by_step : (at : Places) (base : TypeTree) (type : CType) (span : Span) (d : Declarator) (ds : List Declarator) (x : Walk × List JudgedVariable) → judged_variables at base type span (d ∷ ds) x ≡ passing (variable_step at base type span d x) (λ y. judged_variables at base type span ds y)
+variable_by_step at base type span d ds x = by (one_variable at x.0 base type span d)
+  where
+    by : (v : Verdict (Walk × JudgedVariable)) → passing v (λ y. judged_variables at base type span ds (y.0, x.1 ++ y.1 ∷ [])) ≡ passing (passing v (λ y. Passes (y.0, x.1 ++ y.1 ∷ []))) (λ y. judged_variables at base type span ds y)
+    by (Passes y) = refl
+    by (Breaks fault) = refl
+
+pub variable_passes : (at : Places) (base : TypeTree) (type : CType) (span : Span) (d : Declarator) (w v : Walk) (walked new : List code_variable.WalkedVariable) (x : code_variable.WalkedVariable) → new ≡ walked ++ x ∷ [] → one_variable at w base type span d ≡ Passes (v, judged_variable x)
+    → variable_step at base type span d (w, map judged_variable walked) ≡ Passes (v, map judged_variable new)
+variable_passes at base type span d w v walked new x are passes = rw passes (ap (λ vs. Passes (v, vs)) (sym (ap (map judged_variable) are ∙ map-append judged_variable walked (x ∷ []))))
+
+pub variable_breaks : (at : Places) (base : TypeTree) (type : CType) (span : Span) (d : Declarator) (w : Walk) (walked : List JudgedVariable) (fault : SourceFault) → one_variable at w base type span d ≡ Breaks fault → variable_step at base type span d (w, walked) ≡ Breaks fault
+variable_breaks at base type span d w walked fault breaks = rw breaks refl
+
+-- one item more
+abbrev pub item_step : Places → List i.Item → i.Item → Walk → Verdict Walk
+item_step at all x w = item at all w x
+
+abbrev pub items_from : Places → List i.Item → List i.Item → Walk → Verdict Walk
+items_from at all xs w = items at all w xs
+
+pub item_by_step : (at : Places) (all : List i.Item) (x : i.Item) (xs : List i.Item) (w : Walk) → items_from at all (x ∷ xs) w ≡ passing (item_step at all x w) (λ v. items_from at all xs v)
+item_by_step at all x xs w = refl
+
+-- ---- whether a function has a body
+
+pub defined_here : (xs : List code_item.Item) (k : ℕ) (x : code_item.Item) (name : List ℕ) → k < length xs → x ≡ get_or xs k x → defines name (i.item x) ≡ true → is_defined (map i.item (drop k xs)) name ≡ true
+defined_here xs k x name less is here = ap (λ ys. is_defined ys name) (parts_at i.item xs k x less is) ∙ rw here refl
+
+pub defined_later : (xs : List code_item.Item) (k : ℕ) (x : code_item.Item) (name : List ℕ) → k < length xs → x ≡ get_or xs k x → defines name (i.item x) ≡ false → is_defined (map i.item (drop k xs)) name ≡ is_defined (map i.item (drop (k + 1) xs)) name
+defined_later xs k x name less is not_here = ap (λ ys. is_defined ys name) (parts_at i.item xs k x less is) ∙ rw not_here refl
+
+pub defined_nowhere : (xs : List code_item.Item) (k : ℕ) (name : List ℕ) → length xs ≤ k → is_defined (map i.item (drop k xs)) name ≡ false
+defined_nowhere xs k name end = ap (λ ys. is_defined ys name) (no_parts i.item xs k end)

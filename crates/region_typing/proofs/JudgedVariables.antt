@@ -1,0 +1,94 @@
+-- File-level variables, by what is judged of their initialisers.
+use Rattle.std.proofs.Common.{◌≡◌, ◌+◌, Bool, true, false, nat_lt, nat_le, List, [], ◌∷◌, ◌++◌, length, map, Result, refl, ap, sym, ◌∙◌, subst}
+use Rattle.std.proofs.lemmas.List.{map-append}
+use Rattle.ckc_text.specs.declared.place.Span.{Span}
+use Rattle.ckc_text.specs.declared.code.Code.TheVariants.{E08, E10}
+use Rattle.ckc_text.specs.declared.fault.Refused.{Refused}
+use Rattle.ckc_tree.specs.Types.{TypeTree}
+use Rattle.ckc_tree.specs.Items as i
+use Rattle.ckc_tree.specs.Statements.{Declarator}
+use Rattle.pointer_modes.specs.Types.{CType}
+use Rattle.ckc_core.specs.Core as core
+use Rattle.typing_rules.specs.Verdicts.{Verdict, Passes, Breaks, passing, needs}
+use Rattle.typing_rules.specs.Types.{base_type, without_stars}
+use Rattle.typing_rules.specs.Expressions.{Places}
+use Rattle.typing_rules.specs.Items as rules
+use Rattle.typing_rules.specs.Items.{Walk, WalkedVariable, with_variable, block_bytes, initializer, variables, object_cells, with_objects, global, in_checked_region}
+use Rattle.expression_typing.specs.Answering.{Answers}
+use Rattle.region_typing.specs.Initials.{Judged, judged_as, judged_cells}
+use Rattle.region_typing.specs.Items.{JudgedVariable, variable_type, with_one, one_variable, judged_variables, judged_initializer, one_object, judged_objects}
+use Rattle.statement_typing.proofs.Verdicts.{same_behind, in_parts}
+use Rattle.region_typing.proofs.Constants.{cells_judged}
+
+abbrev as_judged : WalkedVariable → JudgedVariable
+as_judged v = record { type = v.type; initial = judged_as v.initial }
+
+one_by_one : (v : Verdict (List core.Initial)) (span : Span) (w : Walk) (next : Walk → Verdict Walk)
+    → passing v (λ cells. needs (nat_lt 0 (length cells)) E10 span (next (record w { objects = w.objects ++ cells ∷ [] })))
+    ≡ passing (passing v (λ cells. needs (nat_lt 0 (length cells)) E10 span (Passes (record w { objects = w.objects ++ cells ∷ [] })))) next
+one_by_one (Breaks fault) span w next = refl
+one_by_one (Passes cells) span w next = by (nat_lt 0 (length cells))
+  where
+    by : (b : Bool) → needs b E10 span (next (record w { objects = w.objects ++ cells ∷ [] })) ≡ passing (needs b E10 span (Passes (record w { objects = w.objects ++ cells ∷ [] }))) next
+    by true = refl
+    by false = refl
+
+objects_judged : (w : Walk) (span : Span) (vs : List WalkedVariable) → with_objects w span vs ≡ judged_objects span (map as_judged vs) w
+objects_judged w span [] = refl
+objects_judged w span (v ∷ vs) =
+    ap (λ cells_are. passing cells_are (λ cells. needs (nat_lt 0 (length cells)) E10 span (with_objects (record w { objects = w.objects ++ cells ∷ [] }) span vs))) (cells_judged w.scope.structs v.type v.initial span)
+    ∙ one_by_one (judged_cells w.scope.structs v.type (judged_as v.initial) span) span w (λ x. with_objects x span vs)
+    ∙ same_behind (one_object span (as_judged v) w) (λ x. with_objects x span vs) (λ x. judged_objects span (map as_judged vs) x) (λ x. objects_judged x span vs)
+
+-- the rules of a variable's type, and then those of its initialiser
+one_typed : {B : Type 0} (few : Bool) (v : Verdict CType) (room : CType → Bool) (span : Span) (next : CType → Verdict B)
+    → needs few E08 span (passing v (λ t. needs (room t) E08 span (next t))) ≡ passing (needs few E08 span (passing v (λ t. needs (room t) E08 span (Passes t)))) next
+one_typed false v room span next = refl
+one_typed true (Breaks fault) room span next = refl
+one_typed true (Passes t) room span next = by (room t)
+  where
+    by : (b : Bool) → needs b E08 span (next t) ≡ passing (needs b E08 span (Passes t)) next
+    by true = refl
+    by false = refl
+
+in_turn : {A B C D : Type 0} (v : Verdict A) (f : A → Verdict B) (g : A → B → C) (next : C → Verdict D) → passing (passing v (λ a. passing (f a) (λ b. Passes (g a b)))) next ≡ passing v (λ a. passing (f a) (λ b. next (g a b)))
+in_turn (Breaks fault) f g next = refl
+in_turn (Passes a) f g next = by (f a)
+  where
+    by : (w : _) → passing (passing w (λ b. Passes (g a b))) next ≡ passing w (λ b. next (g a b))
+    by (Passes b) = refl
+    by (Breaks fault) = refl
+
+judged_next : {B : Type 0} (v : Verdict rules.Walked) (next : rules.Walked → Verdict B) (next' : _ → Verdict B) → ((x : rules.Walked) → next x ≡ next' (judged_as x)) → passing v next ≡ passing (passing v (λ x. Passes (judged_as x))) next'
+judged_next (Passes x) next next' same = same x
+judged_next (Breaks fault) next next' same = refl
+
+variables_judged : {B : Type 0} (at : Places) (w : Walk) (base : TypeTree) (t : CType) (span : Span) (ds : List Declarator) (done : List WalkedVariable) (next : Walk × List WalkedVariable → Verdict B) (next' : Walk × List JudgedVariable → Verdict B)
+    → ((x : Walk × List WalkedVariable) → next x ≡ next' (x.0, map as_judged x.1)) → passing (variables at w base t span ds done) next ≡ passing (judged_variables at base t span ds (w, map as_judged done)) next'
+variables_judged at w base t span [] done next next' same = same (w, done)
+variables_judged at w base t span (d ∷ ds) done next next' same =
+    let begun = λ (u : CType) (x : rules.Walked). variables at (with_one d.name.name u w) base t span ds (done ++ record { type = u; initial = x } ∷ []) in
+    let of_type = λ (u : CType). passing (initializer at (with_variable d.name.name u w.scope) d.initializer) (begun u) in
+    let behind = λ (y : Walk × JudgedVariable). passing (judged_variables at base t span ds (y.0, map as_judged done ++ y.1 ∷ [])) next' in
+    let judged = λ (u : CType) (j : Judged). (with_one d.name.name u w, record { type = u; initial = j }) in
+    ap (λ all. passing all next) (one_typed (nat_lt (length w.scope.variables) 4096) (without_stars base d.stars t) (λ u. nat_le (w.taken + block_bytes w.scope u) 32768) span of_type)
+    ∙ in_parts (variable_type w base t span d) of_type next
+    ∙ same_behind (variable_type w base t span d) _ (λ u. passing (judged_initializer at (with_one d.name.name u w).scope d.initializer) (λ j. behind (judged u j)))
+    (λ u. in_parts (initializer at (with_variable d.name.name u w.scope) d.initializer) (begun u) next
+    ∙ judged_next (initializer at (with_variable d.name.name u w.scope) d.initializer) _ (λ j. behind (judged u j))
+    (λ x. variables_judged at (with_one d.name.name u w) base t span ds (done ++ record { type = u; initial = x } ∷ []) next next' same
+    ∙ ap (λ vs. passing (judged_variables at base t span ds (with_one d.name.name u w, vs)) next') (map-append as_judged done (record { type = u; initial = x } ∷ []))))
+    ∙ sym (in_turn (variable_type w base t span d) (λ u. judged_initializer at (with_one d.name.name u w).scope d.initializer) judged behind)
+    ∙ sym (in_parts (one_variable at w base t span d) (λ y. judged_variables at base t span ds (y.0, map as_judged done ++ y.1 ∷ [])) next')
+
+-- a declaration of variables, by what is judged
+pub global_judged : (at : Places) (w : Walk) (d : i.Global) → global at w d ≡ passing (base_type w.scope d.base) (λ t. passing (judged_variables at d.base t d.span d.declarators (w, [])) (λ x. passing (judged_objects d.span x.1 x.0) (λ v. in_checked_region v.scope d.span v)))
+global_judged at w d =
+    same_behind (base_type w.scope d.base) _ _ (λ t. variables_judged at w d.base t d.span d.declarators [] _ (λ x. passing (judged_objects d.span x.1 x.0) (λ v. in_checked_region v.scope d.span v))
+    (λ x. ap (λ objects. passing objects (λ v. in_checked_region v.scope d.span v)) (objects_judged x.0 d.span x.1)))
+
+-- a variable more, behind its type
+pub one_more_variable : {D : Type 0} {view : D → Walk × JudgedVariable} {r : Result D Refused} (at : Places) (base : TypeTree) (type : CType) (span : Span) (d : Declarator) (t : CType) (old new : Walk) → new ≡ with_one d.name.name t old → variable_type old base type span d ≡ Passes t
+    → Answers view (passing (judged_initializer at new.scope d.initializer) (λ j. Passes (new, record { type = t; initial = j }))) r → Answers view (one_variable at old base type span d) r
+one_more_variable {view = view} {r = r} at base type span d t old new is first rest =
+    rw first (subst (λ (v : Walk). Answers view (passing (judged_initializer at v.scope d.initializer) (λ j. Passes (v, record { type = t; initial = j }))) r) is rest)

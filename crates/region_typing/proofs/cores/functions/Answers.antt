@@ -1,0 +1,24 @@
+use Rattle.std.proofs.Common.{◌≡◌, [], map, length, refl, sym, ap, ◌∙◌}
+use Rattle.std.proofs.lemmas.List.{append-nil, length-map}
+use Rattle.ckc_core.specs.Core.{function}
+use Rattle.expression_typing.specs.Views.{signature}
+use Rattle.region_typing.proofs.Placing.{body_popped}
+use Rattle.region_typing.proofs.cores.functions.Goals as goal
+
+pub loop-body-init : goal.loop-body-init
+loop-body-init c =
+    record {
+      so_far = ([], sym (append-nil (map function c.args.bodies.items)), c.in_ok-built.ensures);
+      all = sym (length-map c.in_ok-built.built.items function) ∙ ap length c.in_ok-built.ensures;
+    }
+
+pub loop-body-preserved : goal.loop-body-preserved
+loop-body-preserved c =
+    let before = c.loop-body.invariant.so_far in
+    record {
+      so_far = (_, body_popped (map function c.args.bodies.items) c.loop-body.bodies.items c.pop.new.self.items c.in-Some.body before.0 c.in-Some.ensures.items before.1, c.place.ensures.placed before.0 before.2);
+      all = c.place.ensures.all ∙ c.loop-body.invariant.all;
+    }
+
+pub returns : goal.returns
+returns c = ?

@@ -1,0 +1,12 @@
+use Rattle.std.proofs.Common.{◌≡◌, [], ◌++◌, List, length, map, length}
+use Rattle.ckc_core.specs.Core.{function, Function}
+use Rattle.typing_rules.specs.Cores.{trusted_functions}
+use Rattle.expression_typing.specs.Views.{signature}
+use Rattle.region_typing.proofs.cores.functions.Given as goal
+
+-- those that were put in their places stand behind those that are left
+abbrev pub invariant-loop-body : goal.invariant-loop-body
+invariant-loop-body l = record {
+  so_far : (placed : List Function) × (map function l.initial.bodies.items ≡ map function l.bodies.items ++ placed) × (map function l.built.items ≡ trusted_functions placed (map signature l.scope.functions.items));
+  all : length l.built.items ≡ length (trusted_functions [] (map signature l.scope.functions.items));
+}

@@ -1,0 +1,23 @@
+use Rattle.std.proofs.Common.{◌<◌, length, map, ap, sym, ◌∙◌, arith}
+use Rattle.std.proofs.lemmas.List.{length-map}
+use Rattle.pointer_modes.specs.Types.{ctype}
+use Rattle.typing_rules.specs.Items.{with_parameters}
+use Rattle.expression_typing.specs.Views.{scope, variable}
+use Rattle.region_typing.proofs.Bodies.{parameter_added, parameters_all, local_counted}
+use Rattle.region_typing.proofs.functions.add_parameters.Goals as goal
+
+pub loop-p-preserved : goal.loop-p-preserved
+loop-p-preserved c =
+    let known = rw (c.as_bytes.ensures, c.in_ok-ctype.ensures) at c.in_ok-add_local.ensures.known in
+    record {
+      so_far = c.loop-p.invariant.so_far ∙ parameter_added c.args.parameters.now c.loop-p.p-index c.p-item.result (scope c.loop-p.scope) (scope c.add_local.new.self) (omega (arith, c.loop-p-test.true)) c.p-item.is known;
+      few = local_counted (variable c.p-item.result) c.loop-p.scope c.add_local.new.self c.loop-p.p-index known c.loop-p.invariant.few;
+    }
+
+pub add_local-requires : goal.add_local-requires
+add_local-requires c =
+    let less : c.loop-p.p-index < length c.args.parameters.now = omega (arith, c.loop-p-test.true) in
+    rw c.loop-p.invariant.few (omega (arith, c.requires.few))
+
+pub returns : goal.returns
+returns c = sym (c.loop-p.invariant.so_far ∙ parameters_all c.args.parameters.now c.loop-p.p-index (scope c.loop-p.scope) (omega (arith, c.loop-p-test.false)))

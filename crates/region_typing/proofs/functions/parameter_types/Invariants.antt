@@ -1,0 +1,12 @@
+use Rattle.std.proofs.Common.{◌≡◌, ◌≤◌, [], length, map, drop}
+use Rattle.ckc_tree.specs.Items as trees
+use Rattle.typing_rules.specs.Items.{listed, parameter_types}
+use Rattle.expression_typing.specs.Views.{scope, variable}
+use Rattle.region_typing.proofs.functions.parameter_types.Given as goal
+
+-- the parameters so far with those that are left make all of them
+abbrev pub invariant-loop-parameter : goal.invariant-loop-parameter
+invariant-loop-parameter l = record {
+  so_far : parameter_types (scope l.scope) (listed (trees.parameters l.written)) [] ≡ parameter_types (scope l.scope) (map trees.parameter (drop l.parameter-index l.parameter-items)) (map variable l.parameters.items);
+  few : length l.parameters.items ≤ 16;
+}

@@ -1,0 +1,56 @@
+use Rattle.std.proofs.Common.{◌≡◌, true, refl, nat_lt, length, map, ap, sym, ◌∙◌}
+use Rattle.std.proofs.lemmas.Bool.{ltb-true}
+use Rattle.std.proofs.lemmas.List.{length-map}
+use Rattle.ckc_text.specs.Places.{place_at}
+use Rattle.ckc_text.specs.declared.code.Code.TheVariants.{E08}
+use Rattle.ckc_tree.specs.Items as trees
+use Rattle.typing_rules.specs.Scopes.{function_named}
+use Rattle.expression_typing.specs.Views.{scope, signature}
+use Rattle.expression_typing.proofs.Going.{goes_on, refused}
+use Rattle.region_typing.specs.Items.{walk}
+use Rattle.region_typing.specs.Signatures.{declared}
+use Rattle.region_typing.proofs.Bodies.{function_parts, function_walk, kept_last, room_left, declared_name}
+use Rattle.region_typing.proofs.Outside.{known_outside}
+use Rattle.statement_typing.proofs.Testing.{holds, fails, tested}
+use Rattle.region_typing.proofs.items.function.Goals as goal
+
+pub returns-in_err-needs : goal.returns-in_err-needs
+returns-in_err-needs c =
+    let room = rw c.as_bytes.ensures at c.has_room.ensures in
+    rw (function_parts (place_at c.args.sites.now) (map trees.item c.args.items.now) (walk c.args.walk.now) (trees.function c.args.d.now)) (fails _ _ _ _ _ c.from_residual.result room c.from_residual.ensures.1 c.in_err-needs.ensures)
+
+pub returns-in_err-known : goal.returns-in_err-known
+returns-in_err-known c =
+    let room = rw c.as_bytes.ensures at c.has_room.ensures in
+    rw (function_parts (place_at c.args.sites.now) (map trees.item c.args.items.now) (walk c.args.walk.now) (trees.function c.args.d.now)) (holds _ _ _ _ _ room c.in_ok-needs.ensures
+    (refused _ c.from_residual-in_err-known.result c.from_residual-in_err-known.ensures.1 c.in_err-known.ensures))
+
+pub declare-requires : goal.declare-requires
+declare-requires c none =
+    let g = scope c.args.walk.now.scope in
+    let room = rw c.as_bytes.ensures at c.has_room.ensures in
+    let named = declared_name g (trees.function c.args.d.now) (declared c.in_ok-known.known) c.in_ok-known.ensures.so in
+    let few = room_left (function_named g.functions c.args.d.now.name.name) (nat_lt (length g.functions) 4096) (sym room ∙ tested _ E08 c.args.d.now.span c.in_ok-needs.ensures) (sym (ap (function_named g.functions) named) ∙ none) in
+    rw (← length-map c.args.walk.now.scope.functions.items signature) (ltb-true (length g.functions) 4096 few)
+
+pub function_body-requires-clause-outside : goal.function_body-requires-clause-outside
+function_body-requires-clause-outside c =
+    let g = scope c.args.walk.now.scope in
+    rw c.in_ok-declare.ensures (known_outside (function_named g.functions c.in_ok-known.known.signature.name) (signature c.in_ok-known.known.signature) g c.requires)
+
+pub returns-in_err-function_body : goal.returns-in_err-function_body
+returns-in_err-function_body c =
+    let room = rw c.as_bytes.ensures at c.has_room.ensures in
+    let broken = rw c.as_slice-parameters.ensures.value at c.in_err-function_body.ensures in
+    rw (function_parts (place_at c.args.sites.now) (map trees.item c.args.items.now) (walk c.args.walk.now) (trees.function c.args.d.now)) (holds _ _ _ _ _ room c.in_ok-needs.ensures
+    (function_walk (place_at c.args.sites.now) (map trees.item c.args.items.now) (walk c.args.walk.now) (trees.function c.args.d.now) (declared c.in_ok-known.known) (scope c.declare.new.scope) c.in_ok-known.ensures.so c.in_ok-declare.ensures
+    (refused _ c.from_residual-in_err-function_body.result c.from_residual-in_err-function_body.ensures.1 broken)))
+
+pub returns : goal.returns
+returns c =
+    let room = rw c.as_bytes.ensures at c.has_room.ensures in
+    let passes = rw c.as_slice-parameters.ensures.value at c.in_ok-function_body.ensures in
+    let judged = rw c.fits-suits.ensures at c.keep_rules.ensures in
+    rw (function_parts (place_at c.args.sites.now) (map trees.item c.args.items.now) (walk c.args.walk.now) (trees.function c.args.d.now)) (holds _ _ _ _ _ room c.in_ok-needs.ensures
+    (function_walk (place_at c.args.sites.now) (map trees.item c.args.items.now) (walk c.args.walk.now) (trees.function c.args.d.now) (declared c.in_ok-known.known) (scope c.declare.new.scope) c.in_ok-known.ensures.so c.in_ok-declare.ensures
+    (goes_on _ passes (kept_last _ _ c.keep_rules.result judged))))

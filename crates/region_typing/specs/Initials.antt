@@ -1,0 +1,69 @@
+-- Inside: what a file-level variable is initialised with, as the code holds it.
+use Rattle.std.specs.Prelude.{◌≡◌, ℕ, ◌<◌, ◌+◌, ◌-◌, Bool, true, false, List, [], ◌∷◌, length, map, slice_index, nat_lt, Option, Some, None, pos}
+use Rattle.std.proofs.Common.{ℤ}
+use Rattle.ckc_text.specs.declared.place.Span.{Span}
+use Rattle.ckc_text.specs.declared.code.Code.TheVariants.{E13}
+use Rattle.pointer_modes.specs.Types.{CType, Int, Char, Struct, Pointer, Member, Structure, members_of}
+use Rattle.pointer_modes.specs.Layout.{cells_of, size_of}
+use Rattle.ckc_tree.specs.declared.expr.UnaryOperator.TheVariants as unary
+use Rattle.ckc_tree.specs.Expressions as e
+use Rattle.ckc_tree.specs.Expressions.{Expression}
+use Rattle.ckc_core.specs.Core as core
+use Rattle.ckc_core.specs.Meaning.{low_byte}
+use Rattle.typing_rules.specs.Verdicts.{Verdict, Passes, needs, breaks, picked}
+use Rattle.typing_rules.specs.Items as rules
+use Rattle.typing_rules.specs.Items.{cells_with, is_zero, unsigned_constant, initial_number, number_or_break}
+use Rattle.region_typing.specs.declared.initials.Judged as code
+use Rattle.region_typing.specs.declared.initials.Judged.TheVariants as forms
+
+-- what a variable is initialised with: a value, which may be the constant 0, and its number where it is a constant
+pub data Judged : Type 0 where
+  Missing : Judged
+  Constant : (zero : Bool) (number : Option ℤ) → Judged
+  Constants : Judged
+
+abbrev pub judged : code.Judged → Judged
+judged forms.Missing = Missing
+judged (forms.Constant zero number) = Constant zero number
+judged forms.List = Constants
+
+-- what is judged of an initialiser whose children were walked
+abbrev pub judged_as : rules.Walked → Judged
+judged_as rules.Missing = Missing
+judged_as (rules.Written value t) = Constant (is_zero t) (initial_number value t)
+judged_as rules.Constants = Constants
+
+abbrev pub constant_cells : List Structure → CType → Bool → Option ℤ → Span → Verdict (List core.Initial)
+constant_cells structs Int zero number span = number_or_break number span (cells_with structs Int)
+constant_cells structs Char zero number span = number_or_break number span (λ n. cells_with structs Char (low_byte n))
+constant_cells structs (Struct struct) zero number span = breaks E13 span
+constant_cells structs (Pointer mode kind target) zero number span = needs zero E13 span (Passes (cells_with structs (Pointer mode kind target) (pos 0)))
+
+abbrev pub judged_cells : List Structure → CType → Judged → Span → Verdict (List core.Initial)
+judged_cells structs type Missing span = Passes (cells_with structs type (pos 0))
+judged_cells structs type (Constant zero number) span = constant_cells structs type zero number span
+judged_cells structs type Constants span = breaks E13 span
+
+-- the number under a sign, or without one
+abbrev magnitude : Expression → Option ℕ
+magnitude (e.Unary unary.Negate operand span) = unsigned_constant operand
+magnitude a = unsigned_constant a
+
+-- a constant has at most 31 bits
+abbrev pub IsSmall : Expression → Type 0
+IsSmall a = (n : ℕ) → magnitude a ≡ Some n → n < 2147483648
+
+-- a struct with these members
+abbrev pub IsStructOf : List Structure → CType → List Member → Type 0
+IsStructOf structs (Struct number) members = members ≡ members_of structs number
+IsStructOf structs Int members = ⊥
+IsStructOf structs Char members = ⊥
+IsStructOf structs (Pointer mode kind target) members = ⊥
+
+-- the place of the cell behind one, or the end
+abbrev pub next_place : List Structure → CType → ℕ → ℕ
+next_place structs t k = picked (nat_lt (k + 1) (length (cells_of structs t))) (slice_index (map (λ c. c.offset) (cells_of structs t)) (k + 1)) (size_of structs t)
+
+-- the bytes from a cell to the next one, or to the end
+abbrev pub stride_at : List Structure → CType → ℕ → ℕ
+stride_at structs t k = next_place structs t k - slice_index (map (λ c. c.offset) (cells_of structs t)) k

@@ -1,0 +1,92 @@
+-- Inside: what is known behind an item, as the code holds it, and steps of the walks over items.
+use Rattle.std.specs.Prelude.{◌≡◌, ℕ, ◌+◌, Bool, true, false, not, List, [], ◌∷◌, ◌++◌, length, map, nat_lt, nat_le, Option, Some, None}
+use Rattle.ckc_text.specs.declared.place.Span.{Span}
+use Rattle.ckc_text.specs.declared.code.Code.TheVariants.{E08, E10, E13, E15}
+use Rattle.ckc_tree.specs.Types.{TypeTree, type_span}
+use Rattle.ckc_tree.specs.Items as i
+use Rattle.ckc_tree.specs.Statements.{Initializer, Declarator, Statements}
+use Rattle.pointer_modes.specs.Types as types
+use Rattle.pointer_modes.specs.Types.{CType, ctype}
+use Rattle.ckc_core.specs.Core as core
+use Rattle.ckc_core.specs.Core.{object, function}
+use Rattle.typing_rules.specs.Verdicts.{Verdict, Passes, passing, needs, picked}
+use Rattle.typing_rules.specs.Scopes.{Scope, Signature, Variable}
+use Rattle.typing_rules.specs.Types.{type_named, without_stars}
+use Rattle.typing_rules.specs.Expressions.{Places}
+use Rattle.typing_rules.specs.Statements.{statements, is_unchecked}
+use Rattle.typing_rules.specs.Items.{Walk, with_variable, block_bytes, initializer, inside, core_function, is_trusted, is_defined, in_checked_region}
+use Rattle.expression_typing.specs.Views.{scope}
+use Rattle.region_typing.specs.declared.walk as code
+use Rattle.region_typing.specs.declared.globals.WalkedVariable as code_variable
+use Rattle.region_typing.specs.Initials.{Judged, judged, judged_as, judged_cells}
+
+abbrev pub walk : code.Walk.Walk → Walk
+walk w = record { scope = scope w.scope; objects = map object w.objects.items; taken = w.taken; bodies = map function w.bodies.items }
+
+-- no function is walked
+abbrev pub Outside : Scope → Type 0
+Outside g = g ≡ record g { locals = []; visible = []; result = None; in_loop = false }
+
+-- a member more (E08)
+abbrev pub one_member : Scope → i.Member → List types.Member → Verdict (List types.Member)
+one_member g m done =
+    needs (nat_lt (length done) 64) E08 (type_span m.type.base)
+    (passing (type_named g m.type) (λ t. Passes (done ++ record { name = m.name.name; ctype = t; span = m.span } ∷ [])))
+
+-- a parameter more (E08)
+abbrev pub one_parameter : Scope → i.Member → List Variable → Verdict (List Variable)
+one_parameter g p done =
+    needs (nat_lt (length done) 16) E08 (type_span p.type.base)
+    (passing (type_named g p.type) (λ t. Passes (done ++ record { name = p.name.name; type = t } ∷ [])))
+
+-- a walked variable with what it is initialised with
+pub record JudgedVariable : Type 0 where
+  pub type : CType
+  pub initial : Judged
+
+abbrev pub judged_variable : code_variable.WalkedVariable → JudgedVariable
+judged_variable v = record { type = ctype v.ctype; initial = judged v.initial }
+
+-- the type of a variable that there is room for (E08)
+abbrev pub variable_type : Walk → TypeTree → CType → Span → Declarator → Verdict CType
+variable_type w base type span d =
+    needs (nat_lt (length w.scope.variables) 4096) E08 span
+    (passing (without_stars base d.stars type) (λ t. needs (nat_le (w.taken + block_bytes w.scope t) 32768) E08 span (Passes t)))
+
+-- a variable more
+abbrev pub with_one : List ℕ → CType → Walk → Walk
+with_one name t w = record w { scope = with_variable name t w.scope; taken = w.taken + block_bytes w.scope t }
+
+-- what a variable is initialised with, where it is known
+abbrev pub judged_initializer : Places → Scope → Option Initializer → Verdict Judged
+judged_initializer at g written = passing (initializer at g written) (λ x. Passes (judged_as x))
+
+-- one variable of a declaration
+abbrev pub one_variable : Places → Walk → TypeTree → CType → Span → Declarator → Verdict (Walk × JudgedVariable)
+one_variable at w base type span d =
+    passing (variable_type w base type span d) (λ t. passing (judged_initializer at (with_one d.name.name t w).scope d.initializer) (λ initial.
+    Passes (with_one d.name.name t w, record { type = t; initial = initial })))
+
+-- the variables of a declaration
+abbrev pub judged_variables : Places → TypeTree → CType → Span → List Declarator → Walk × List JudgedVariable → Verdict (Walk × List JudgedVariable)
+judged_variables at base type span [] x = Passes x
+judged_variables at base type span (d ∷ ds) x = passing (one_variable at x.0 base type span d) (λ y. judged_variables at base type span ds (y.0, x.1 ++ y.1 ∷ []))
+
+-- the cells of a variable more
+abbrev pub one_object : Span → JudgedVariable → Walk → Verdict Walk
+one_object span v w = passing (judged_cells w.scope.structs v.type v.initial span) (λ cells. needs (nat_lt 0 (length cells)) E10 span (Passes (record w { objects = w.objects ++ cells ∷ [] })))
+
+abbrev pub judged_objects : Span → List JudgedVariable → Walk → Verdict Walk
+judged_objects span [] w = Passes w
+judged_objects span (v ∷ vs) w = passing (one_object span v w) (λ x. judged_objects span vs x)
+
+-- the core of a function with a body, whose locals are gone behind it
+abbrev pub body_core : Places → Scope → Signature → List Variable → Statements → Verdict (core.Function × Scope)
+body_core at g f parameters body = passing (statements at (inside f parameters g) body) (λ x. Passes (core_function f parameters x.0 x.1, g))
+
+-- what is asked of a function whose body was walked (E13, E10, E15)
+abbrev pub kept_rules : List i.Item → i.Function → Bool → Scope → Verdict (Unit {0})
+kept_rules all d fits g =
+    needs fits E13 d.span
+    (needs (picked (is_trusted d.kind) (is_defined all d.name.name) true) E10 d.span
+    (needs (not (is_unchecked d.mark)) E15 d.span (in_checked_region g d.span tt)))

@@ -1,0 +1,15 @@
+-- Inside: declarations of functions, as the code holds them.
+use Rattle.std.specs.Prelude.{List, [], map}
+use Rattle.ckc_tree.specs.Items as i
+use Rattle.typing_rules.specs.Verdicts.{Verdict, Passes, passing}
+use Rattle.typing_rules.specs.Scopes.{Scope, Signature, Variable}
+use Rattle.typing_rules.specs.Items.{listed, parameter_types, result_type, signature_of}
+use Rattle.expression_typing.specs.Views.{signature, variable}
+use Rattle.region_typing.specs.declared.signatures.Prototype as code
+
+abbrev pub declared : code.Prototype → Signature × List Variable
+declared d = (signature d.signature, map variable d.parameters.items)
+
+-- the signature of a function, and its parameters
+abbrev pub declared_function : Scope → i.Function → Verdict (Signature × List Variable)
+declared_function g d = passing (result_type g d.result d.stars) (λ result. passing (parameter_types g (listed d.parameters) []) (λ parameters. Passes (signature_of d result parameters, parameters)))

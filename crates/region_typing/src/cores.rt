@@ -1,0 +1,157 @@
+// The core of a program that breaks no rule.
+
+ghost use Rattle.std.specs.Prelude.{◌≡◌, ◌<◌, ◌∷◌, ◌++◌, [], slice_set, map, length, IfOk};
+ghost use Rattle.pointer_modes.specs.Types.{ctype as ctype_of};
+ghost use Rattle.ckc_core.specs.Core.{function as function_of, import_of, core as core_view};
+ghost use Rattle.typing_rules.specs.Cores.{without_body as without_body_of, trusted_functions, tainted_functions, core_of as core_of_walk};
+ghost use Rattle.expression_typing.specs.Views.{signature};
+ghost use Rattle.region_typing.specs.Items.{walk as walk_of};
+ghost use Rattle.region_typing.specs.CoreParts.{import_as, trusted_place as trusted_place_of};
+
+use crate::functions::copied_result;
+use crate::signatures::copied_types;
+use crate::walk::Walk;
+use ckc_core::program::{Core, Function, Import};
+use ckc_text::fault::NoMemory;
+use ckc_text::name::Name;
+use expression_typing::calls::{is_import, side_number};
+use expression_typing::scope::Scope;
+use expression_typing::signature::Signature;
+use std::alloc::Global;
+
+// A function without a body.
+fn without_body(alloc: Global, f: &Signature) -> Result<Function, NoMemory>
+    ensures { IfOk result (λ c. function_of c ≡ without_body_of (signature f.now)) }
+{
+    Ok(Function {
+        name: Name::copied(alloc, f.name.as_bytes())?,
+        parameters: f.parameters.len() as u32,
+        locals: copied_types(alloc, f.parameters.as_slice())?,
+        result: copied_result(alloc, &f.result)?,
+        body: Vec::new(alloc),
+    })
+}
+
+// A function more without its body, where it is trusted.
+fn push_trusted(alloc: Global, f: &Signature, built: &mut Vec<Function>) -> Result<(), NoMemory>
+    ensures { IfOk result (λ _. map function_of built.new.items ≡ map function_of built.old.items ++ trusted_functions [] (signature f.now ∷ [])) }
+{
+    if is_import(f) {
+        return Ok(());
+    }
+    let next = without_body(alloc, f)?;
+    built.push(next)?;
+    Ok(())
+}
+
+// Trusted functions, without their bodies.
+fn without_bodies(alloc: Global, functions: &[Signature]) -> Result<Vec<Function>, NoMemory>
+    ensures { IfOk result (λ v. map function_of v.items ≡ trusted_functions [] (map signature functions.now)) }
+{
+    let mut built = Vec::new(alloc);
+    for f in functions {
+        push_trusted(alloc, f, &mut built)?;
+    }
+    Ok(built)
+}
+
+fn import(alloc: Global, f: &Signature) -> Result<Import, NoMemory>
+    ensures { IfOk result (λ i. import_of i ≡ import_as (signature f.now)) }
+{
+    Ok(Import {
+        name: Name::copied(alloc, f.name.as_bytes())?,
+        parameters: f.parameters.len() as u32,
+        result: copied_result(alloc, &f.result)?,
+    })
+}
+
+// A function more, where it is tainted.
+fn push_import(alloc: Global, f: &Signature, built: &mut Vec<Import>) -> Result<(), NoMemory>
+    ensures { IfOk result (λ _. map import_of built.new.items ≡ map import_of built.old.items ++ tainted_functions (signature f.now ∷ [])) }
+{
+    if !is_import(f) {
+        return Ok(());
+    }
+    let next = import(alloc, f)?;
+    built.push(next)?;
+    Ok(())
+}
+
+// Tainted functions.
+fn imports(alloc: Global, functions: &[Signature]) -> Result<Vec<Import>, NoMemory>
+    ensures { IfOk result (λ v. map import_of v.items ≡ tainted_functions (map signature functions.now)) }
+{
+    let mut built = Vec::new(alloc);
+    for f in functions {
+        push_import(alloc, f, &mut built)?;
+    }
+    Ok(built)
+}
+
+// The place of a trusted function among those of its side.
+fn trusted_place(scope: &Scope, name: &[u8]) -> Option<usize>
+    ensures { result ≡ trusted_place_of (map signature scope.now.functions.items) name.now }
+{
+    let f = scope.function(name)?;
+    if is_import(f) {
+        None
+    } else {
+        Some(side_number(scope.functions.as_slice(), false, name) as usize)
+    }
+}
+
+// Puts a function in the place of another.
+fn put(built: &mut Vec<Function>, number: usize, f: Function)
+    requires { number < length built.old.items }
+    ensures { built.new.items ≡ slice_set built.old.items number f }
+{
+    built[number] = f;
+}
+
+// Puts a body in the place of its function.
+fn place(built: &mut Vec<Function>, scope: &Scope, body: Function)
+    requires { length built.old.items ≡ length (trusted_functions [] (map signature scope.now.functions.items)) }
+    ensures all { length built.new.items ≡ length built.old.items }
+    ensures placed { (bodies : _) → map function_of built.old.items ≡ trusted_functions bodies (map signature scope.now.functions.items) → map function_of built.new.items ≡ trusted_functions (function_of body ∷ bodies) (map signature scope.now.functions.items) }
+{
+    match trusted_place(scope, body.name.as_bytes()) {
+        Some(number) => put(built, number, body),
+        None => drop(body),
+    }
+}
+
+// Trusted functions with their bodies.
+fn functions(
+    alloc: Global,
+    scope: &Scope,
+    mut bodies: Vec<Function>,
+) -> Result<Vec<Function>, NoMemory>
+    ensures { IfOk result (λ v. map function_of v.items ≡ trusted_functions (map function_of bodies.items) (map signature scope.now.functions.items)) }
+{
+    let mut built = without_bodies(alloc, scope.functions.as_slice())?;
+    while let Some(body) = bodies.pop() {
+        place(&mut built, scope, body);
+    }
+    Ok(built)
+}
+
+/// The core of what was walked.
+pub fn core_of(alloc: Global, walk: Walk) -> Result<Core, NoMemory>
+    ensures { IfOk result (λ c. core_view c ≡ core_of_walk (walk_of walk)) }
+{
+    let Walk {
+        scope,
+        objects,
+        taken: _,
+        bodies,
+    } = walk;
+    let imports = imports(alloc, scope.functions.as_slice())?;
+    let main = side_number(scope.functions.as_slice(), false, b"main".as_slice());
+    let functions = functions(alloc, &scope, bodies)?;
+    Ok(Core {
+        objects,
+        imports,
+        functions,
+        main,
+    })
+}

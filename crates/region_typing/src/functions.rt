@@ -1,0 +1,216 @@
+// Functions.
+
+ghost use Rattle.std.specs.Prelude.{◌≡◌, ◌≤◌, [], Some, length, map, IfOk};
+ghost use Rattle.std.specs.Option.{option_map};
+ghost use Rattle.ckc_text.specs.Places.{place_at};
+ghost use Rattle.ckc_tree.specs.Items.{parameter as parameter_tree, parameters as parameters_tree, result_form as result_tree, body as body_tree, statement_list};
+ghost use Rattle.pointer_modes.specs.Types.{ctype as ctype_of};
+ghost use Rattle.ckc_core.specs.Core.{function as function_of, statements_of};
+ghost use Rattle.typing_rules.specs.Items.{listed as listed_of, parameter_types as parameter_types_of, result_type as result_type_of, with_parameters, inside, function_body as function_body_of};
+ghost use Rattle.expression_typing.specs.Answering.{Answers};
+ghost use Rattle.expression_typing.specs.Views.{scope as scope_of, signature, variable as variable_of};
+ghost use Rattle.region_typing.specs.Items.{walk as walk_of, Outside, one_parameter, body_core};
+
+use crate::walk::Walk;
+use ckc_core::program::{Function, Stmt};
+use ckc_text::code::Code;
+use ckc_text::fault::{NoMemory, Refused};
+use ckc_text::name::Name;
+use ckc_tree::item::{Block, Parameter, Parameters, ResultForm};
+use ckc_tree::stmt;
+use expression_typing::refusals::needs;
+use expression_typing::scope::{Scope, Variable};
+use expression_typing::signature::Signature;
+use expression_typing::sites::Sites;
+use expression_typing::types::{base_type, copied, type_named, without_stars};
+use pointer_modes::ctype::CType;
+use statement_typing::statements::{is_checked, statements};
+use std::alloc::Global;
+
+/// How many parameters a function may have.
+const MOST_PARAMETERS: usize = 16;
+
+// What stands between the parentheses.
+fn listed(parameters: &Parameters) -> &[Parameter]
+    ensures { map parameter_tree result.now ≡ listed_of (parameters_tree parameters.now) }
+{
+    match parameters {
+        Parameters::Nothing | Parameters::Void => &[],
+        Parameters::Listed { parameters } => parameters.as_slice(),
+    }
+}
+
+// A parameter more.
+fn push_parameter(
+    alloc: Global,
+    scope: &Scope,
+    written: &Parameter,
+    parameters: &mut Vec<Variable>,
+) -> Result<(), Refused>
+    ensures types { Answers (λ _. map variable_of parameters.new.items) (one_parameter (scope_of scope.now) (parameter_tree written.now) (map variable_of parameters.old.items)) result }
+    ensures few { IfOk result (λ _. length parameters.new.items ≤ 16) }
+{
+    needs(
+        parameters.len() < MOST_PARAMETERS,
+        Code::E08,
+        written.type_name.base.span(),
+    )?;
+    let ctype = type_named(alloc, scope, &written.type_name)?;
+    let name = Name::copied(alloc, written.name.name.as_bytes())?;
+    parameters.push(Variable { name, ctype })?;
+    Ok(())
+}
+
+/// Parameters with their types.
+pub fn parameter_types(
+    alloc: Global,
+    scope: &Scope,
+    written: &Parameters,
+) -> Result<Vec<Variable>, Refused>
+    ensures types { Answers (λ v. map variable_of v.items) (parameter_types_of (scope_of scope.now) (listed_of (parameters_tree written.now)) []) result }
+    ensures few { IfOk result (λ v. length v.items ≤ 16) }
+{
+    let mut parameters = Vec::new(alloc);
+    for parameter in listed(written) {
+        push_parameter(alloc, scope, parameter, &mut parameters)?;
+    }
+    Ok(parameters)
+}
+
+/// What a function returns.
+pub fn result_type(
+    alloc: Global,
+    scope: &Scope,
+    written: &ResultForm,
+    stars: u32,
+) -> Result<Option<CType>, Refused>
+    ensures { Answers (λ t. option_map ctype_of t) (result_type_of (scope_of scope.now) (result_tree written.now) stars) result }
+{
+    match written {
+        ResultForm::Void { span } => {
+            needs(stars == 0, Code::E15, *span)?;
+            Ok(None)
+        }
+        ResultForm::Value { base } => {
+            let t = base_type(alloc, scope, base)?;
+            Ok(Some(without_stars(base, stars, t)?))
+        }
+    }
+}
+
+/// A copy of what a function returns.
+pub fn copied_result(alloc: Global, t: &Option<CType>) -> Result<Option<CType>, NoMemory>
+    ensures { IfOk result (λ copy. option_map ctype_of copy ≡ option_map ctype_of t.now) }
+{
+    match t {
+        None => Ok(None),
+        Some(t) => Ok(Some(copied(alloc, t)?)),
+    }
+}
+
+// Parameters as the first locals.
+fn add_parameters(alloc: Global, scope: &mut Scope, parameters: &[Variable]) -> Result<(), NoMemory>
+    requires none { scope.old.locals.items ≡ [] }
+    requires few { length parameters.now ≤ 16 }
+    ensures { IfOk result (λ _. scope_of scope.new ≡ with_parameters (map variable_of parameters.now) (scope_of scope.old)) }
+{
+    for p in parameters {
+        let ctype = copied(alloc, &p.ctype)?;
+        scope.add_local(alloc, p.name.as_bytes(), ctype)?;
+    }
+    Ok(())
+}
+
+// Enters a function with its parameters.
+fn enter(
+    alloc: Global,
+    scope: &mut Scope,
+    f: &Signature,
+    parameters: &[Variable],
+) -> Result<(), NoMemory>
+    requires few { length parameters.now ≤ 16 }
+    ensures { IfOk result (λ _. scope_of scope.new ≡ inside (signature f.now) (map variable_of parameters.now) (scope_of scope.old)) }
+{
+    let result = copied_result(alloc, &f.result)?;
+    scope.enter(alloc, result);
+    add_parameters(alloc, scope, parameters)
+}
+
+// A function with its statements.
+fn core_function(
+    alloc: Global,
+    f: &Signature,
+    parameters: usize,
+    locals: Vec<CType>,
+    body: Vec<Stmt>,
+) -> Result<Function, NoMemory>
+    requires { parameters ≤ 16 }
+    ensures { IfOk result (λ c. function_of c ≡ record { name = f.now.name; parameters = parameters; locals = map ctype_of locals.items; result = option_map ctype_of f.now.result; body = statements_of body.items }) }
+{
+    Ok(Function {
+        name: Name::copied(alloc, f.name.as_bytes())?,
+        parameters: parameters as u32,
+        locals,
+        result: copied_result(alloc, &f.result)?,
+        body,
+    })
+}
+
+// The core of a function with a body, whose locals are gone behind it.
+fn body_of(
+    alloc: Global,
+    sites: &Sites,
+    scope: &mut Scope,
+    f: &Signature,
+    parameters: &[Variable],
+    body: &[stmt::Stmt],
+) -> Result<Function, Refused>
+    requires few { length parameters.now ≤ 16 }
+    requires outside { Outside (scope_of scope.old) }
+    ensures { Answers (λ c. (function_of c, scope_of scope.new)) (body_core (place_at sites.now) (scope_of scope.old) (signature f.now) (map variable_of parameters.now) (statement_list body.now)) result }
+{
+    enter(alloc, scope, f, parameters)?;
+    let built = statements(alloc, sites, scope, body)?;
+    let locals = scope.exit(alloc);
+    Ok(core_function(alloc, f, parameters.len(), locals, built)?)
+}
+
+// The body of a function.
+fn with_body(
+    alloc: Global,
+    sites: &Sites,
+    walk: &mut Walk,
+    f: &Signature,
+    parameters: &[Variable],
+    body: &Block,
+) -> Result<(), Refused>
+    requires few { length parameters.now ≤ 16 }
+    requires outside { Outside (scope_of walk.old.scope) }
+    ensures { Answers (λ _. walk_of walk.new) (function_body_of (place_at sites.now) (walk_of walk.old) (signature f.now) (map variable_of parameters.now) (Some (body_tree body.now))) result }
+{
+    let checked = is_checked(&walk.scope, body.mark);
+    let written = body.statements.as_slice();
+    let built = body_of(alloc, sites, &mut walk.scope, f, parameters, written)?;
+    needs(checked, Code::E15, body.span)?;
+    walk.bodies.push(built)?;
+    Ok(())
+}
+
+/// The body of a function, if it has one.
+pub fn function_body(
+    alloc: Global,
+    sites: &Sites,
+    walk: &mut Walk,
+    f: &Signature,
+    parameters: &[Variable],
+    body: &Option<Block>,
+) -> Result<(), Refused>
+    requires few { length parameters.now ≤ 16 }
+    requires outside { Outside (scope_of walk.old.scope) }
+    ensures { Answers (λ _. walk_of walk.new) (function_body_of (place_at sites.now) (walk_of walk.old) (signature f.now) (map variable_of parameters.now) (option_map body_tree body.now)) result }
+{
+    match body {
+        None => Ok(()),
+        Some(body) => with_body(alloc, sites, walk, f, parameters, body),
+    }
+}

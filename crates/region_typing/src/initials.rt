@@ -1,0 +1,226 @@
+// The cells of file-level variables before the run.
+
+ghost use Rattle.std.specs.Prelude.{◌≡◌, ◌<◌, ◌≤◌, true, pos, length, map, IfOk};
+ghost use Rattle.ckc_tree.specs.Expressions.{expression as expression_tree};
+ghost use Rattle.pointer_modes.specs.Types.{ctype as ctype_of, member as member_of};
+ghost use Rattle.pointer_modes.specs.Layout.{cells_of as cells_in};
+ghost use Rattle.ckc_core.specs.Core.{initial as initial_of};
+ghost use Rattle.ckc_core.specs.Meaning.{low_byte as low_byte_of};
+ghost use Rattle.typing_rules.specs.Types.{is_scalar};
+ghost use Rattle.typing_rules.specs.Items.{Written, negative as negative_of, unsigned_constant as unsigned_of, signed_constant as signed_of, cells_with as cells_as, is_zero as zero_typed};
+ghost use Rattle.expression_typing.specs.Answering.{Answers};
+ghost use Rattle.expression_typing.specs.Typed.{typed as typed_view};
+ghost use Rattle.region_typing.specs.Initials.{IsSmall, IsStructOf, judged_as, judged_cells, constant_cells as constant_cells_as, judged as judged_of, stride_at};
+
+use ckc_core::program::Initial;
+use ckc_text::code::Code;
+use ckc_text::fault::{NoMemory, Refused};
+use ckc_text::place::Span;
+use ckc_tree::expr::{Expr, UnaryOperator};
+use expression_typing::refusals::{needs, refusal};
+use expression_typing::typed::Typed;
+use expression_typing::types::copied;
+use pointer_modes::ctype::{CType, Member};
+use pointer_modes::structs::Structs;
+use std::alloc::Global;
+
+/// What a variable is initialised with.
+#[derive(Drop, Clone, Copy)]
+pub enum Judged {
+    Missing,
+    /// The constant 0 or not, and the number where the value is a constant.
+    Constant { zero: bool, number: Option<i32> },
+    List,
+}
+
+// A constant without a sign.
+fn unsigned_constant(e: &Expr) -> Option<u32>
+    ensures { result ≡ unsigned_of (expression_tree e.now) }
+{
+    match e {
+        Expr::Number { value, .. } => Some(*value),
+        Expr::Character { value, .. } => Some(u32::from(*value)),
+        _ => None,
+    }
+}
+
+// A number below 2^31.
+fn positive(n: u32) -> i32
+    requires { n < 2147483648 }
+    ensures { result ≡ pos n }
+{
+    n as i32
+}
+
+// The same with a minus before it.
+fn negative(n: u32) -> i32
+    requires { n < 2147483648 }
+    ensures { result ≡ negative_of n }
+{
+    -(n as i32)
+}
+
+// A number with or without a minus.
+fn signed_constant(e: &Expr) -> Option<i32>
+    requires { IsSmall (expression_tree e.now) }
+    ensures { result ≡ signed_of (expression_tree e.now) }
+{
+    match e {
+        Expr::Number { value, .. } => Some(positive(*value)),
+        Expr::Character { value, .. } => Some(positive(u32::from(*value))),
+        Expr::Unary {
+            operator: UnaryOperator::Negate,
+            operand,
+            ..
+        } => Some(negative(unsigned_constant(operand)?)),
+        _ => None,
+    }
+}
+
+// Whether a value is the constant 0.
+fn is_zero(t: &Typed) -> bool
+    ensures { result ≡ zero_typed (typed_view t.now) }
+{
+    match t {
+        Typed::Value { zero, .. } => *zero,
+        Typed::Local { .. } | Typed::Cell { .. } | Typed::Struct { .. } => false,
+    }
+}
+
+/// What is judged of a value.
+pub fn judged_value(e: &Expr, t: &Typed) -> Judged
+    requires { IsSmall (expression_tree e.now) }
+    ensures { judged_of result ≡ judged_as (Written (expression_tree e.now) (typed_view t.now)) }
+{
+    let zero = is_zero(t);
+    let number = if zero { Some(0) } else { signed_constant(e) };
+    Judged::Constant { zero, number }
+}
+
+// The bytes from a cell of a type to the next one, or to the end.
+fn stride(structs: &Structs, t: &CType, cells: u32, i: u32) -> u32
+    requires all { cells ≡ length (cells_in structs.now (ctype_of t.now)) }
+    requires within { i < cells }
+    ensures { result ≡ stride_at structs.now (ctype_of t.now) i }
+{
+    let end = if i + 1 < cells {
+        structs.offset_of_cell(t, i + 1)
+    } else {
+        structs.size_of(t)
+    };
+    end.saturating_sub(structs.offset_of_cell(t, i))
+}
+
+// The only cell of a scalar.
+fn scalar_cell(
+    alloc: Global,
+    structs: &Structs,
+    t: &CType,
+    number: i32,
+) -> Result<Vec<Initial>, NoMemory>
+    requires { is_scalar (ctype_of t.now) ≡ true }
+    ensures { IfOk result (λ v. map initial_of v.items ≡ cells_as structs.now (ctype_of t.now) number) }
+{
+    let mut cells = Vec::new(alloc);
+    cells.push(Initial {
+        ctype: copied(alloc, t)?,
+        stride: structs.size_of(t),
+        number,
+    })?;
+    Ok(cells)
+}
+
+// A cell for each member of a struct.
+fn member_cells(
+    alloc: Global,
+    structs: &Structs,
+    t: &CType,
+    members: &[Member],
+    number: i32,
+) -> Result<Vec<Initial>, NoMemory>
+    requires are { IsStructOf structs.now (ctype_of t.now) (map member_of members.now) }
+    requires few { length members.now ≤ 64 }
+    ensures { IfOk result (λ v. map initial_of v.items ≡ cells_as structs.now (ctype_of t.now) number) }
+{
+    let mut cells = Vec::new(alloc);
+    for member in members {
+        let ctype = copied(alloc, &member.ctype)?;
+        let stride = stride(structs, t, members.len() as u32, cells.len() as u32);
+        cells.push(Initial {
+            ctype,
+            stride,
+            number,
+        })?;
+    }
+    Ok(cells)
+}
+
+// The cells of a variable, each with this number.
+fn cells_with(
+    alloc: Global,
+    structs: &Structs,
+    t: &CType,
+    number: i32,
+) -> Result<Vec<Initial>, NoMemory>
+    ensures { IfOk result (λ v. map initial_of v.items ≡ cells_as structs.now (ctype_of t.now) number) }
+{
+    match t {
+        CType::Int | CType::Char | CType::Pointer(..) => scalar_cell(alloc, structs, t, number),
+        CType::Struct(struct_number) => {
+            let members = structs.members(*struct_number);
+            member_cells(alloc, structs, t, members, number)
+        }
+    }
+}
+
+// The cells of a variable that is initialised with a value.
+fn constant_cells(
+    alloc: Global,
+    structs: &Structs,
+    t: &CType,
+    zero: bool,
+    number: Option<i32>,
+    span: Span,
+) -> Result<Vec<Initial>, Refused>
+    ensures { Answers (λ v. map initial_of v.items) (constant_cells_as structs.now (ctype_of t.now) zero number span) result }
+{
+    match t {
+        CType::Int => match number {
+            None => Err(refusal(Code::E13, span)),
+            Some(n) => Ok(cells_with(alloc, structs, t, n)?),
+        },
+        CType::Char => match number {
+            None => Err(refusal(Code::E13, span)),
+            Some(n) => Ok(cells_with(alloc, structs, t, low_byte(n))?),
+        },
+        CType::Struct(_) => Err(refusal(Code::E13, span)),
+        CType::Pointer(..) => {
+            needs(zero, Code::E13, span)?;
+            Ok(cells_with(alloc, structs, t, 0)?)
+        }
+    }
+}
+
+/// The cells of a variable by what it is initialised with.
+pub fn cells_of(
+    alloc: Global,
+    structs: &Structs,
+    t: &CType,
+    initial: Judged,
+    span: Span,
+) -> Result<Vec<Initial>, Refused>
+    ensures { Answers (λ v. map initial_of v.items) (judged_cells structs.now (ctype_of t.now) (judged_of initial) span) result }
+{
+    match initial {
+        Judged::Missing => Ok(cells_with(alloc, structs, t, 0)?),
+        Judged::Constant { zero, number } => constant_cells(alloc, structs, t, zero, number, span),
+        Judged::List => Err(refusal(Code::E13, span)),
+    }
+}
+
+// A number modulo 256.
+fn low_byte(number: i32) -> i32
+    ensures { result ≡ low_byte_of number }
+{
+    number & 255
+}

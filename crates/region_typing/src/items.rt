@@ -1,0 +1,162 @@
+// What stands at file level.
+
+ghost use Rattle.std.specs.Prelude.{◌≡◌, ◌&&◌, ◌||◌, nat_lt, true, is_some, length, map};
+ghost use Rattle.ckc_text.specs.Places.{place_at};
+ghost use Rattle.ckc_tree.specs.Items.{function as function_tree, item as item_tree};
+ghost use Rattle.typing_rules.specs.Verdicts.{picked};
+ghost use Rattle.typing_rules.specs.Scopes.{function_named};
+ghost use Rattle.typing_rules.specs.Items.{is_trusted as trusted_kind, is_defined as defined_in, defines as defines_of, is_off as is_off_of, agrees as agrees_of, all_scalar, scalar_result, function as function_of, item as item_of, items as items_of};
+ghost use Rattle.expression_typing.specs.Answering.{Answers};
+ghost use Rattle.expression_typing.specs.Views.{scope as scope_of, signature};
+ghost use Rattle.region_typing.specs.Items.{walk as walk_of, Outside, kept_rules};
+
+use crate::functions::function_body;
+use crate::globals::global;
+use crate::signatures::{agrees, declare, declared, is_scalar_signature};
+use crate::structures::structure;
+use crate::walk::Walk;
+use ckc_text::code::Code;
+use ckc_text::fault::Refused;
+use ckc_tree::item::{Function, FunctionKind, Item, Region};
+use expression_typing::refusals::needs;
+use expression_typing::scope::Scope;
+use expression_typing::signature::Signature;
+use expression_typing::sites::Sites;
+use statement_typing::statements::is_unchecked;
+use std::alloc::Global;
+
+/// How many functions a program may declare.
+const MOST_FUNCTIONS: usize = 4096;
+
+fn is_trusted(kind: FunctionKind) -> bool
+    ensures { result ≡ trusted_kind kind }
+{
+    match kind {
+        FunctionKind::Trusted => true,
+        FunctionKind::Tainted | FunctionKind::Callback => false,
+    }
+}
+
+// Whether an item is the body of the function of a name.
+fn defines(name: &[u8], item: &Item) -> bool
+    ensures { result ≡ defines_of name.now (item_tree item.now) }
+{
+    match item {
+        Item::Function { function } => name == function.name.name.as_bytes()
+            && function.body.is_some(),
+        Item::Region { .. } | Item::Structure { .. } | Item::Global { .. } => false,
+    }
+}
+
+// Whether a function of a name has a body.
+fn is_defined(items: &[Item], name: &[u8]) -> bool
+    ensures { result ≡ defined_in (map item_tree items.now) name.now }
+{
+    for item in items {
+        if defines(name, item) {
+            return true;
+        }
+    }
+    false
+}
+
+// Whether a function has a body where it needs one.
+fn has_body(items: &[Item], d: &Function) -> bool
+    ensures { result ≡ picked (trusted_kind d.now.kind) (defined_in (map item_tree items.now) d.now.name.name) true }
+{
+    if is_trusted(d.kind) {
+        is_defined(items, d.name.name.as_bytes())
+    } else {
+        true
+    }
+}
+
+// Whether a declaration agrees with the first one of its name, and its types are scalars.
+fn fits(scope: &Scope, f: &Signature) -> bool
+    ensures { result ≡ (agrees_of (function_named (scope_of scope.now).functions f.now.name) (signature f.now) && (all_scalar (signature f.now).parameters && scalar_result (signature f.now).result)) }
+{
+    agrees(scope, f) && is_scalar_signature(f)
+}
+
+// The rules of a function whose body was walked.
+fn keep_rules(items: &[Item], scope: &Scope, d: &Function, fits: bool) -> Result<(), Refused>
+    ensures { Answers (λ x. x) (kept_rules (map item_tree items.now) (function_tree d.now) fits (scope_of scope.now)) result }
+{
+    needs(fits, Code::E13, d.span)?;
+    needs(has_body(items, d), Code::E10, d.span)?;
+    needs(!is_unchecked(d.mark), Code::E15, d.span)?;
+    needs(!scope.is_off, Code::E15, d.span)
+}
+
+// Whether a function is known, or there is room for one more.
+fn has_room(scope: &Scope, name: &[u8]) -> bool
+    ensures { result ≡ (is_some (function_named (scope_of scope.now).functions name.now) || nat_lt (length (scope_of scope.now).functions) 4096) }
+{
+    scope.function(name).is_some() || scope.functions.len() < MOST_FUNCTIONS
+}
+
+// A function.
+fn function(
+    alloc: Global,
+    sites: &Sites,
+    items: &[Item],
+    walk: &mut Walk,
+    d: &Function,
+) -> Result<(), Refused>
+    requires { Outside (scope_of walk.old.scope) }
+    ensures { Answers (λ _. walk_of walk.new) (function_of (place_at sites.now) (map item_tree items.now) (walk_of walk.old) (function_tree d.now)) result }
+{
+    needs(
+        has_room(&walk.scope, d.name.name.as_bytes()),
+        Code::E08,
+        d.span,
+    )?;
+    let known = declared(alloc, &walk.scope, d)?;
+    let suits = fits(&walk.scope, &known.signature);
+    declare(alloc, &mut walk.scope, &known.signature)?;
+    let parameters = known.parameters.as_slice();
+    function_body(alloc, sites, walk, &known.signature, parameters, &d.body)?;
+    keep_rules(items, &walk.scope, d, suits)
+}
+
+fn is_off(region: Region) -> bool
+    ensures { result ≡ is_off_of region }
+{
+    match region {
+        Region::On => false,
+        Region::Off => true,
+    }
+}
+
+// One item of a source.
+fn item(
+    alloc: Global,
+    sites: &Sites,
+    items: &[Item],
+    walk: &mut Walk,
+    written: &Item,
+) -> Result<(), Refused>
+    requires { Outside (scope_of walk.old.scope) }
+    ensures { Answers (λ _. walk_of walk.new) (item_of (place_at sites.now) (map item_tree items.now) (walk_of walk.old) (item_tree written.now)) result }
+{
+    match written {
+        Item::Region { region, .. } => {
+            walk.scope.is_off = is_off(*region);
+            Ok(())
+        }
+        Item::Structure { structure: d } => structure(alloc, walk, d),
+        Item::Global { global: d } => global(alloc, sites, walk, d),
+        Item::Function { function: d } => function(alloc, sites, items, walk, d),
+    }
+}
+
+/// The items of a source, in their order.
+pub fn items(alloc: Global, sites: &Sites, walk: &mut Walk, written: &[Item]) -> Result<(), Refused>
+    requires { Outside (scope_of walk.old.scope) }
+    ensures { Answers (λ _. walk_of walk.new) (items_of (place_at sites.now) (map item_tree written.now) (walk_of walk.old) (map item_tree written.now)) result }
+{
+    for listed in written {
+        item(alloc, sites, written, walk, listed)?;
+    }
+    Ok(())
+}

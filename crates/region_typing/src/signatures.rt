@@ -1,0 +1,168 @@
+// Declarations of functions, and whether they agree.
+
+ghost use Rattle.std.specs.Prelude.{◌≡◌, ◌<◌, ◌≤◌, ◌&&◌, None, length, map, IfOk};
+ghost use Rattle.std.specs.Option.{option_map};
+ghost use Rattle.ckc_tree.specs.Items.{function as function_tree};
+ghost use Rattle.pointer_modes.specs.Types.{ctype as ctype_of};
+ghost use Rattle.typing_rules.specs.Scopes.{function_named};
+ghost use Rattle.typing_rules.specs.Items.{same_types as same_types_of, same_result as same_result_of, same_kind as same_kind_of, agrees as agrees_of, all_scalar as all_scalar_of, scalar_result as scalar_result_of, with_function};
+ghost use Rattle.expression_typing.specs.Answering.{Answers};
+ghost use Rattle.expression_typing.specs.Views.{scope as scope_of, signature, variable as variable_of};
+ghost use Rattle.region_typing.specs.Signatures.{declared as declared_view, declared_function};
+
+use crate::functions::{copied_result, parameter_types, result_type};
+use ckc_text::fault::{NoMemory, Refused};
+use ckc_text::name::Name;
+use ckc_tree::item::{Function, FunctionKind};
+use expression_typing::scope::{Scope, Variable};
+use expression_typing::signature::Signature;
+use expression_typing::types::{copied, is_scalar, same_type};
+use pointer_modes::ctype::CType;
+use std::alloc::Global;
+
+/// A declaration of a function: its signature, and its parameters with their names.
+#[derive(Drop)]
+pub struct Prototype {
+    pub signature: Signature,
+    pub parameters: Vec<Variable>,
+    ghost few: { length parameters.items ≤ 16 },
+}
+
+fn same_types(a: &[CType], b: &[CType]) -> bool
+    ensures { result ≡ same_types_of (map ctype_of a.now) (map ctype_of b.now) }
+{
+    match a {
+        [] => b.is_empty(),
+        [t, ts @ ..] => match b {
+            [] => false,
+            [u, us @ ..] => same_type(t, u) && same_types(ts, us),
+        },
+    }
+}
+
+fn same_result(a: &Option<CType>, b: &Option<CType>) -> bool
+    ensures { result ≡ same_result_of (option_map ctype_of a.now) (option_map ctype_of b.now) }
+{
+    match a {
+        None => b.is_none(),
+        Some(t) => match b {
+            None => false,
+            Some(u) => same_type(t, u),
+        },
+    }
+}
+
+fn same_kind(a: FunctionKind, b: FunctionKind) -> bool
+    ensures { result ≡ same_kind_of a b }
+{
+    match (a, b) {
+        (FunctionKind::Trusted, FunctionKind::Trusted) => true,
+        (FunctionKind::Tainted, FunctionKind::Tainted) => true,
+        (FunctionKind::Callback, FunctionKind::Callback) => true,
+        _ => false,
+    }
+}
+
+/// Whether a declaration agrees with the first one of its name, if there is one.
+pub fn agrees(scope: &Scope, f: &Signature) -> bool
+    ensures { result ≡ agrees_of (function_named (scope_of scope.now).functions f.now.name) (signature f.now) }
+{
+    match scope.function(f.name.as_bytes()) {
+        None => true,
+        Some(known) => {
+            same_kind(known.kind, f.kind)
+                && (same_types(known.parameters.as_slice(), f.parameters.as_slice())
+                    && same_result(&known.result, &f.result))
+        }
+    }
+}
+
+fn all_scalar(types: &[CType]) -> bool
+    ensures { result ≡ all_scalar_of (map ctype_of types.now) }
+{
+    match types {
+        [] => true,
+        [t, ts @ ..] => is_scalar(t) && all_scalar(ts),
+    }
+}
+
+fn scalar_result(t: &Option<CType>) -> bool
+    ensures { result ≡ scalar_result_of (option_map ctype_of t.now) }
+{
+    match t {
+        None => true,
+        Some(t) => is_scalar(t),
+    }
+}
+
+/// Whether the parameters and the result of a function are scalars.
+pub fn is_scalar_signature(f: &Signature) -> bool
+    ensures { result ≡ (all_scalar_of (signature f.now).parameters && scalar_result_of (signature f.now).result) }
+{
+    all_scalar(f.parameters.as_slice()) && scalar_result(&f.result)
+}
+
+/// A copy of types.
+pub fn copied_types(alloc: Global, types: &[CType]) -> Result<Vec<CType>, NoMemory>
+    ensures { IfOk result (λ v. map ctype_of v.items ≡ map ctype_of types.now) }
+{
+    let mut copies = Vec::new(alloc);
+    for t in types {
+        copies.push(copied(alloc, t)?)?;
+    }
+    Ok(copies)
+}
+
+// The types of parameters.
+fn types_of(alloc: Global, parameters: &[Variable]) -> Result<Vec<CType>, NoMemory>
+    ensures { IfOk result (λ v. map ctype_of v.items ≡ map (λ p. p.type) (map variable_of parameters.now)) }
+{
+    let mut types = Vec::new(alloc);
+    for p in parameters {
+        types.push(copied(alloc, &p.ctype)?)?;
+    }
+    Ok(types)
+}
+
+/// A declaration of a function.
+pub fn declared(alloc: Global, scope: &Scope, d: &Function) -> Result<Prototype, Refused>
+    ensures { Answers declared_view (declared_function (scope_of scope.now) (function_tree d.now)) result }
+{
+    let result = result_type(alloc, scope, &d.result, d.stars)?;
+    let parameters = parameter_types(alloc, scope, &d.parameters)?;
+    let signature = Signature {
+        name: Name::copied(alloc, d.name.name.as_bytes())?,
+        kind: d.kind,
+        parameters: types_of(alloc, parameters.as_slice())?,
+        result,
+    };
+    Ok(Prototype {
+        signature,
+        parameters,
+    })
+}
+
+fn copied_signature(alloc: Global, f: &Signature) -> Result<Signature, NoMemory>
+    ensures { IfOk result (λ copy. signature copy ≡ signature f.now) }
+{
+    Ok(Signature {
+        name: Name::copied(alloc, f.name.as_bytes())?,
+        kind: f.kind,
+        parameters: copied_types(alloc, f.parameters.as_slice())?,
+        result: copied_result(alloc, &f.result)?,
+    })
+}
+
+/// Makes a function known, where its name wasn't declared before.
+pub fn declare(alloc: Global, scope: &mut Scope, f: &Signature) -> Result<(), NoMemory>
+    requires { function_named (scope_of scope.old).functions f.now.name ≡ None → length scope.old.functions.items < 4096 }
+    ensures { IfOk result (λ _. scope_of scope.new ≡ with_function (function_named (scope_of scope.old).functions f.now.name) (signature f.now) (scope_of scope.old)) }
+{
+    match scope.function(f.name.as_bytes()) {
+        Some(_) => Ok(()),
+        None => {
+            let copy = copied_signature(alloc, f)?;
+            scope.add_function(copy)
+        }
+    }
+}

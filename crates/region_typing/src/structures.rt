@@ -1,0 +1,96 @@
+// Declarations of structs.
+
+ghost use Rattle.std.specs.Prelude.{◌≡◌, ◌≤◌, [], length, map, IfOk};
+ghost use Rattle.ckc_tree.specs.Items.{member as member_tree, structure as structure_tree};
+ghost use Rattle.pointer_modes.specs.Types.{ctype as ctype_of, member as member_of};
+ghost use Rattle.typing_rules.specs.Verdicts.{Passes};
+ghost use Rattle.typing_rules.specs.Items.{is_struct as struct_type, member_types as member_types_of, scalar_members, structure as structure_of};
+ghost use Rattle.expression_typing.specs.Answering.{Answers};
+ghost use Rattle.expression_typing.specs.Views.{scope as scope_of};
+ghost use Rattle.region_typing.specs.Items.{walk as walk_of, one_member};
+
+use crate::walk::Walk;
+use ckc_text::code::Code;
+use ckc_text::fault::Refused;
+use ckc_text::name::Name;
+use ckc_tree::item;
+use ckc_tree::item::Structure;
+use expression_typing::refusals::needs;
+use expression_typing::scope::Scope;
+use expression_typing::types::type_named;
+use pointer_modes::ctype::{CType, Member};
+use std::alloc::Global;
+
+/// How many members a struct may have.
+const MOST_MEMBERS: usize = 64;
+
+fn is_struct(t: &CType) -> bool
+    ensures { result ≡ struct_type (ctype_of t.now) }
+{
+    matches!(t, CType::Struct(_))
+}
+
+// A member more.
+fn push_member(
+    alloc: Global,
+    scope: &Scope,
+    written: &item::Member,
+    members: &mut Vec<Member>,
+) -> Result<(), Refused>
+    ensures types { Answers (λ _. map member_of members.new.items) (one_member (scope_of scope.now) (member_tree written.now) (map member_of members.old.items)) result }
+    ensures few { IfOk result (λ _. length members.new.items ≤ 64) }
+{
+    needs(
+        members.len() < MOST_MEMBERS,
+        Code::E08,
+        written.type_name.base.span(),
+    )?;
+    let ctype = type_named(alloc, scope, &written.type_name)?;
+    let name = Name::copied(alloc, written.name.name.as_bytes())?;
+    members.push(Member {
+        name,
+        ctype,
+        span: written.span,
+    })?;
+    Ok(())
+}
+
+// Members with their types.
+fn member_types(
+    alloc: Global,
+    scope: &Scope,
+    written: &[item::Member],
+) -> Result<Vec<Member>, Refused>
+    ensures types { Answers (λ v. map member_of v.items) (member_types_of (scope_of scope.now) (map member_tree written.now) []) result }
+    ensures few { IfOk result (λ v. length v.items ≤ 64) }
+{
+    let mut members = Vec::new(alloc);
+    for member in written {
+        push_member(alloc, scope, member, &mut members)?;
+    }
+    Ok(members)
+}
+
+// No member is a struct.
+fn are_scalar(members: &[Member]) -> Result<(), Refused>
+    ensures { Answers (λ x. x) (scalar_members (map member_of members.now) (Passes tt)) result }
+{
+    for member in members {
+        needs(!is_struct(&member.ctype), Code::E27, member.span)?;
+    }
+    Ok(())
+}
+
+/// A struct.
+pub fn structure(alloc: Global, walk: &mut Walk, d: &Structure) -> Result<(), Refused>
+    ensures { Answers (λ _. walk_of walk.new) (structure_of (walk_of walk.old) (structure_tree d.now)) result }
+{
+    let checked = !walk.scope.is_off;
+    let number = walk
+        .scope
+        .add_struct(alloc, d.tag.name.as_bytes(), d.tainted, d.span)?;
+    let members = member_types(alloc, &walk.scope, d.members.as_slice())?;
+    are_scalar(members.as_slice())?;
+    walk.scope.give_members(number, members);
+    needs(checked, Code::E15, d.span)
+}

@@ -1,0 +1,83 @@
+-- Statements that have statements, by their parts.
+use Rattle.std.proofs.Common.{◌≡◌, ℕ, Bool, true, false, Option, length, map, reverse, take, Result, Ok, refl, ap, sym, ◌∙◌}
+use Rattle.ckc_text.specs.declared.fault.Refused.{Refused}
+use Rattle.ckc_text.specs.declared.code.Code.TheVariants.{E30}
+use Rattle.ckc_text.specs.declared.place.Span.{Span}
+use Rattle.ckc_tree.specs.Expressions.{Expression}
+use Rattle.ckc_tree.specs.Statements as s
+use Rattle.ckc_tree.specs.Statements.{Statement, Assignment, ForInitial}
+use Rattle.ckc_core.specs.declared.program.Stmt.{Stmt}
+use Rattle.ckc_core.specs.Core as core
+use Rattle.ckc_core.specs.Core.{statement as core_statement}
+use Rattle.typing_rules.specs.Verdicts.{Verdict, Passes, passing, needs}
+use Rattle.typing_rules.specs.Scopes.{Scope}
+use Rattle.typing_rules.specs.Expressions.{Places, call_typed}
+use Rattle.typing_rules.specs.Statements.{both, alone, behind_block, in_loop, condition, optional_condition, optional_step, first_part, statement}
+use Rattle.expression_typing.specs.declared.scope as code
+use Rattle.expression_typing.specs.Views.{scope, visible}
+use Rattle.statement_typing.specs.Walks.{Walks, nested, turns, while_loop, for_loop, call_statement, needs_loop}
+use Rattle.statement_typing.proofs.Walking.{left, left_walk, grown, other_loop}
+use Rattle.statement_typing.proofs.Verdicts.{same_behind, in_parts}
+
+-- behind a statement whose locals are gone
+nested_on : {B : Type 0} (at : Places) (g h : Scope) (s : Statement) (next : core.Statement × Scope → Verdict B) → passing (passing (statement at h s) (λ x. Passes (x.0, behind_block g x.1))) next ≡ passing (statement at h s) (λ x. next (x.0, behind_block g x.1))
+nested_on at g h s next = in_parts (statement at h s) (λ x. Passes (x.0, behind_block g x.1)) next
+
+pub if_parts : (at : Places) (g : Scope) (test : Expression) (consequent : Statement) (span : Span) → statement at g (s.If test consequent span) ≡ passing (condition at g test) (λ c. passing (nested at g g.in_loop consequent) (λ x. Passes (core.If c x.0 core.Nothing, x.1)))
+if_parts at g test consequent span = same_behind (condition at g test) _ _ (λ c. sym (nested_on at g g consequent (λ x. Passes (core.If c x.0 core.Nothing, x.1))))
+
+pub if_else_parts : (at : Places) (g : Scope) (test : Expression) (consequent alternative : Statement) (span : Span) → statement at g (s.IfElse test consequent alternative span) ≡ passing (condition at g test) (λ c. passing (nested at g g.in_loop consequent) (λ x. passing (nested at x.1 g.in_loop alternative) (λ y. Passes (core.If c x.0 y.0, y.1))))
+if_else_parts at g test consequent alternative span =
+    same_behind (condition at g test) _ _ (λ c. same_behind (statement at g consequent) _ _ (λ x. sym (nested_on at (behind_block g x.1) (behind_block g x.1) alternative (λ y. Passes (core.If c x.0 y.0, y.1))))
+    ∙ sym (nested_on at g g consequent (λ x. passing (nested at x.1 g.in_loop alternative) (λ y. Passes (core.If c x.0 y.0, y.1)))))
+
+pub while_parts : (at : Places) (g : Scope) (test : Expression) (body : Statement) (span : Span) → statement at g (s.While test body span) ≡ while_loop at g test body
+while_parts at g test body span = same_behind (condition at g test) _ _ (λ c. sym (nested_on at g (in_loop g) body (λ x. Passes (core.Loop c x.0 core.Nothing, x.1))))
+
+turned : (at : Places) (g outside : Scope) (first : core.Statement) (test : Option Expression) (step : Option Assignment) (body : Statement)
+    → passing {B = core.Statement × Scope} (turns at g body test step) (λ t. Passes (both first t.0, behind_block outside t.1))
+    ≡ passing {B = core.Statement × Scope} (optional_condition at g test) (λ c. passing {B = core.Statement × Scope} (statement at (in_loop g) body) (λ x. passing {B = core.Statement × Scope} (optional_step at (behind_block g x.1) step) (λ y. Passes (both first (core.Loop c x.0 y), behind_block outside x.1))))
+turned at g outside first test step body =
+    in_parts (optional_condition at g test) _ (λ t. Passes (both first t.0, behind_block outside t.1))
+    ∙ same_behind (optional_condition at g test) _ _ (λ c. in_parts (nested at g true body) _ (λ t. Passes (both first t.0, behind_block outside t.1))
+    ∙ nested_on at g (in_loop g) body (λ x. passing {B = core.Statement × Scope} (passing {B = core.Statement × Scope} (optional_step at x.1 step) (λ y. Passes (core.Loop c x.0 y, x.1))) (λ t. Passes (both first t.0, behind_block outside t.1)))
+    ∙ same_behind (statement at (in_loop g) body) _ _ (λ x. in_parts (optional_step at (behind_block g x.1) step) (λ y. Passes (core.Loop c x.0 y, behind_block g x.1)) (λ t. Passes (both first t.0, behind_block outside t.1))))
+
+pub for_parts : (at : Places) (g : Scope) (initial : ForInitial) (test : Option Expression) (step : Option Assignment) (body : Statement) (span : Span) → statement at g (s.For initial test step body span) ≡ for_loop at g initial test step body
+for_parts at g initial test step body span = same_behind (first_part at g initial) _ _ (λ first. sym (turned at first.1 g first.0 test step body))
+
+-- ---- walks by these parts
+
+pub if_walk : {old new : code.Scope.Scope} {r : Result Stmt Refused} (at : Places) (x : Statement) (test : Expression) (consequent : Statement) (span : Span) → x ≡ s.If test consequent span
+    → Walks core_statement (passing (condition at (scope old) test) (λ c. passing (nested at (scope old) (scope old).in_loop consequent) (λ y. Passes (core.If c y.0 core.Nothing, y.1)))) old r new → Walks core_statement (statement at (scope old) x) old r new
+if_walk {old = old} at x test consequent span is walk = rw (is, if_parts at (scope old) test consequent span) walk
+
+pub if_else_walk : {old new : code.Scope.Scope} {r : Result Stmt Refused} (at : Places) (x : Statement) (test : Expression) (consequent alternative : Statement) (span : Span) → x ≡ s.IfElse test consequent alternative span
+    → Walks core_statement (passing (condition at (scope old) test) (λ c. passing (nested at (scope old) (scope old).in_loop consequent) (λ y. passing (nested at y.1 (scope old).in_loop alternative) (λ z. Passes (core.If c y.0 z.0, z.1))))) old r new → Walks core_statement (statement at (scope old) x) old r new
+if_else_walk {old = old} at x test consequent alternative span is walk = rw (is, if_else_parts at (scope old) test consequent alternative span) walk
+
+pub while_walk : {old new : code.Scope.Scope} {r : Result Stmt Refused} (at : Places) (x : Statement) (test : Expression) (body : Statement) (span : Span) → x ≡ s.While test body span → Walks core_statement (while_loop at (scope old) test body) old r new → Walks core_statement (statement at (scope old) x) old r new
+while_walk {old = old} at x test body span is walk = rw (is, while_parts at (scope old) test body span) walk
+
+pub for_walk : {old new : code.Scope.Scope} {r : Result Stmt Refused} (at : Places) (x : Statement) (initial : ForInitial) (test : Option Expression) (step : Option Assignment) (body : Statement) (span : Span) → x ≡ s.For initial test step body span → Walks core_statement (for_loop at (scope old) initial test step body) old r new → Walks core_statement (statement at (scope old) x) old r new
+for_walk {old = old} at x initial test step body span is walk = rw (is, for_parts at (scope old) initial test step body span) walk
+
+-- behind a nested statement its locals are gone
+pub nested_walk : {before : code.Scope.Scope} (at : Places) (loop : Bool) (n : ℕ) (around : Bool) (s : Statement) (x : Stmt) (old mid new : code.Scope.Scope) → Walks core_statement (statement at (scope before) s) before (Ok x) mid → scope before ≡ record (scope old) { in_loop = loop } → before.visible.items ≡ old.visible.items
+    → n ≡ length old.visible.items → around ≡ old.in_loop → scope new ≡ record (scope mid) { visible = reverse (map visible (take n mid.visible.items)); in_loop = around } → new.visible.items ≡ take n mid.visible.items
+    → Walks core_statement (nested at (scope old) loop s) old (Ok x) new
+nested_walk {before = before} at loop n around s x old mid new walk inside_is same all around_is known seen =
+    left_walk core_statement (λ y. y) (statement at (record (scope old) { in_loop = loop }) s) (core_statement x) x old mid new (ap (λ g. statement at g s) (sym inside_is) ∙ walk.so.0)
+    (left n around old mid new (grown (other_loop loop old before inside_is same) walk.so.1) all around_is known seen) refl
+
+-- ---- statements that leave known what was known
+
+pub call_parts : (at : Places) (g : Scope) (call : Expression) (span : Span) → statement at g (s.CallAlone call span) ≡ passing {B = core.Statement × Scope} (call_statement at g call) (λ x. Passes (x, g))
+call_parts at g call span = sym (in_parts (call_typed at g call) (λ c. Passes (alone c)) (λ x. Passes (x, g)))
+
+pub loop_parts : (g : Scope) (x : core.Statement) (span : Span) → needs {A = core.Statement × Scope} g.in_loop E30 span (Passes (x, g)) ≡ passing {B = core.Statement × Scope} (needs_loop g x span) (λ y. Passes (y, g))
+loop_parts g x span = by g.in_loop
+  where
+    by : (b : Bool) → needs {A = core.Statement × Scope} b E30 span (Passes (x, g)) ≡ passing {B = core.Statement × Scope} (needs {A = core.Statement} b E30 span (Passes x)) (λ y. Passes (y, g))
+    by true = refl
+    by false = refl

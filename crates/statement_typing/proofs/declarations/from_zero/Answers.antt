@@ -1,0 +1,16 @@
+use Rattle.std.proofs.Common.{sym, ap}
+use Rattle.typing_rules.specs.Verdicts.{Passes}
+use Rattle.expression_typing.proofs.Going.{goes_on, refused}
+use Rattle.statement_typing.proofs.Testing.{holds, fails}
+use Rattle.statement_typing.proofs.declarations.from_zero.Goals as goal
+
+pub returns-in_err-initial : goal.returns-in_err-initial
+returns-in_err-initial c = refused _ c.from_residual.result c.from_residual.ensures.1 c.in_err-initial.ensures
+
+pub returns-in_err-needs : goal.returns-in_err-needs
+returns-in_err-needs c = goes_on _ c.in_ok-initial.ensures (fails _ _ _ _ _ c.from_residual-in_err-needs.result c.is_scalar.ensures c.from_residual-in_err-needs.ensures.1 c.in_err-needs.ensures)
+
+pub returns : goal.returns
+returns c =
+    let built = rw c.zero_value-value.ensures at c.in_ok-both.ensures in
+    goes_on _ c.in_ok-initial.ensures (holds _ _ _ _ _ c.is_scalar.ensures c.in_ok-needs.ensures (record { so = ap Passes (sym built) }))

@@ -1,0 +1,14 @@
+use Rattle.std.proofs.Common.{refl}
+use Rattle.pointer_modes.specs.Types.{ctype}
+use Rattle.ckc_core.specs.Core as core
+use Rattle.typing_rules.specs.Verdicts.{Passes}
+use Rattle.expression_typing.specs.Typed.{typed}
+use Rattle.expression_typing.proofs.Going.{goes_on, refused}
+use Rattle.expression_typing.proofs.Continuing.{converted_then}
+use Rattle.statement_typing.proofs.statements.return_value.Goals as goal
+
+pub returns-in_err-value : goal.returns-in_err-value
+returns-in_err-value c = rw (converted_then (typed c.args.value) (ctype c.args.t.now) c.args.span (λ v. Passes (core.Return v))) (refused _ c.from_residual.result c.from_residual.ensures.1 c.in_err-value.ensures)
+
+pub returns : goal.returns
+returns c = rw (converted_then (typed c.args.value) (ctype c.args.t.now) c.args.span (λ v. Passes (core.Return v))) (goes_on _ c.in_ok-value.ensures (record { so = refl }))
