@@ -1,14 +1,11 @@
 // Act lines both ways, and the lines of what is seen and released.
 
-use crate::answers::Question;
-use crate::rows::{expect, expect_rows};
 use act_recorder::lines::{release_line, seen_line};
 use act_words::act::{Act, Release, Seen};
 use act_words::reading::{ActFault, read_act};
 use act_words::writing::write_act;
 use ckc_text::fault::NoMemory;
 use std::alloc::Global;
-use std::test::Fail;
 
 // Whether a line was made, with a line feed behind it.
 fn is_line(made: &Result<Vec<u8>, NoMemory>, expected: &str) -> bool {
@@ -40,7 +37,7 @@ pub fn is_answered(alloc: Global, line: &[u8], expected: &str) -> bool {
     }
 }
 
-const ACTS: &str = r#"=@{"act":"go"}
+pub const ACTS: &str = r#"=@{"act":"go"}
 =@{"act":"read","at":0,"len":1}
 =@{"act":"read","at":4294967295,"len":64}
 =@{"act":"write","at":16,"hex":"0a1f"}
@@ -51,7 +48,7 @@ const ACTS: &str = r#"=@{"act":"go"}
 {"act":"read","at":16,"len":4}@{"at":16,"len":1.5,"act":"go","act":"read","len":4}
 {"act":"write","at":16,"hex":"0a1f"}@{"hex":"0A1f","at":16,"act":"write"}"#;
 
-const REFUSED: &str = r#"A1@
+pub const REFUSED: &str = r#"A1@
 A1@{"act":"go"
 A1@{"act":"return","value":01}
 A1@{"act":"return","value":1e400}
@@ -80,7 +77,7 @@ A5@{"act":"read","at":0,"len":0}
 A5@{"act":"read","at":0,"len":65}
 A5@{"act":"write","at":0,"hex":""}"#;
 
-const LIMITS: &str = r#"{"act":"go"}@{"act":"go"}`4084× `
+pub const LIMITS: &str = r#"{"act":"go"}@{"act":"go"}`4084× `
 A4@{"act":"go"}`4085× `
 =@{"act":"write","at":0,"hex":"`64×0f`"}
 A5@{"act":"write","at":0,"hex":"`65×0f`"}
@@ -89,40 +86,18 @@ A5@{"act":"call","args":[0`16×,4294967295`],"fun":9}
 A2@`127×[``127×]`
 A1@[`127×[``128×]`"#;
 
-#[test]
-fn lines_of_acts(rt: HostRuntime) -> Result<(), Fail> {
-    expect_rows(rt.alloc(), Question::Act, ACTS)
-}
-
-#[test]
-fn refused_lines(rt: HostRuntime) -> Result<(), Fail> {
-    expect_rows(rt.alloc(), Question::Act, REFUSED)
-}
-
-#[test]
-fn limits_of_lines(rt: HostRuntime) -> Result<(), Fail> {
-    expect_rows(rt.alloc(), Question::Act, LIMITS)
-}
-
 const SPACED: &[u8] = b" { \"len\" : 4, \"act\" : \"read\", \"at\" : 16 }\t\r";
 
 const NO_TEXT: &[u8] = b"{\"act\":\"g\xffo\"}";
 
-#[test]
-fn lines_that_are_no_rows(rt: HostRuntime) -> Result<(), Fail> {
-    let alloc = rt.alloc();
-    expect(
-        is_answered(alloc, SPACED, r#"{"act":"read","at":16,"len":4}"#)
-            && is_answered(alloc, NO_TEXT, "A1"),
-    )
+pub fn answers_odd_lines(alloc: Global) -> bool {
+    is_answered(alloc, SPACED, r#"{"act":"read","at":16,"len":4}"#)
+        && is_answered(alloc, NO_TEXT, "A1")
 }
 
-#[test]
-fn lines_of_what_is_seen_and_released(rt: HostRuntime) -> Result<(), Fail> {
-    let seen = seen_line(rt.alloc(), &Seen::Replied { value: 7 });
-    let released = release_line(rt.alloc(), &Release::Looked);
-    expect(
-        is_line(&seen, r#"{"seen":"replied","value":7}"#)
-            && is_line(&released, r#"{"release":"looked"}"#),
-    )
+pub fn writes_what_is_seen_and_released(alloc: Global) -> bool {
+    let seen = seen_line(alloc, &Seen::Replied { value: 7 });
+    let released = release_line(alloc, &Release::Looked);
+    is_line(&seen, r#"{"seen":"replied","value":7}"#)
+        && is_line(&released, r#"{"release":"looked"}"#)
 }

@@ -1,14 +1,12 @@
 // The call over files and an output in memory.
 
-use crate::answers::Question;
 use crate::lines::{add, add_number};
-use crate::rows::{expect, expect_rows, field};
+use crate::rows::field;
 use ccbox_call::call::ccbox;
 use ckc_io::mem_shelf::MemShelf;
 use ckc_io::mem_sink::MemSink;
 use ckc_io::shelf::{Shelf, ShelfFault};
 use std::alloc::Global;
-use std::test::Fail;
 
 /// A call, and what it answers.
 #[derive(Clone, Copy)]
@@ -102,7 +100,7 @@ pub fn call_answers(alloc: Global, row: &str, status: &str) -> bool {
     answers(alloc, &call)
 }
 
-const RUNS: &str =
+pub const RUNS: &str =
     "0@run a.c@[exit 42]~@@int g = 1; int main(void) { ptr<int> p = &g; *p = 41; return g + 1; }~
 6@run a.c@[check C1 1:41 null]~@@int main(void) { ptr<int> p = 0; return *p; }~
 6@run a.c@[check C1 1:34 null]~@@int main(void) { ptr<int> p = 0; *p = 1; return 0; }
@@ -116,7 +114,7 @@ const RUNS: &str =
 0@run a.c@[exit 3]~@@int x; int main(void) { (x) = 3; return (x); }
 6@run a.c@[check C6 1:50 overflow]~@@int g = 2147483647; int main(void) { return 0 + (g + 1); }";
 
-const REFUSALS: &str = "1@run a.c@[refused E09 1:1 not built yet]~@@
+pub const REFUSALS: &str = "1@run a.c@[refused E09 1:1 not built yet]~@@
 1@run a.c@[refused E09 1:1 not built yet]~@@int main(void) { while (1) { } }~
 1@run a.c@[refused E09 1:1 not built yet]~@@int a; int a; int main(void) { return 0; }
 1@run a.c@[refused E09 1:1 not built yet]~@@int a; int main(void) { ptr<int> a = 0; return 0; }
@@ -141,7 +139,7 @@ const REFUSALS: &str = "1@run a.c@[refused E09 1:1 not built yet]~@@
 1@run a.c@[refused E06 1:27 syntax]~@@int main(void) { return 0;
 1@run a.c@[refused E06 1:27 syntax]~@@int main(void) { return 0 }";
 
-const WORDS: &str =
+pub const WORDS: &str =
     "3@run nofile@[missing nofile]~@@int g = 1; int main(void) { ptr<int> p = &g; *p = 41; return g + 1; }~
 3@run @[missing ]~@@int g = 1; int main(void) { ptr<int> p = &g; *p = 41; return g + 1; }~
 2@@[usage] ccbox check|split|run|record|big|exec~@@int g = 1; int main(void) { ptr<int> p = &g; *p = 41; return g + 1; }~
@@ -165,32 +163,12 @@ const WORDS: &str =
 
 // The body, the statement, the differences and the last numbers stand one inside the other. A source has up to
 // 1048576 bytes.
-const LIMITS: &str = "0@run a.c@[exit -1]~@@int main(void) { return `196×0 - (`0 - 1`196×)`; }
+pub const LIMITS: &str = "0@run a.c@[exit -1]~@@int main(void) { return `196×0 - (`0 - 1`196×)`; }
 1@run a.c@[refused E07 1:1010 nesting too deep]~@@int main(void) { return `197×0 - (`0 - 1`197×)`; }
 0@run a.c@[exit 7]~@@int main(void) { return 7; }`4068× `
 0@run a.c@[exit 7]~@@int main(void) { return 7; }`4069× `
 0@run a.c@[exit 7]~@@int main(void) { return 7; }`1048548× `
 1@run a.c@[refused E08 1:1 limit]~@@int main(void) { return 7; }`1048549× `";
-
-#[test]
-fn answers_of_runs(rt: HostRuntime) -> Result<(), Fail> {
-    expect_rows(rt.alloc(), Question::Call, RUNS)
-}
-
-#[test]
-fn refused_sources(rt: HostRuntime) -> Result<(), Fail> {
-    expect_rows(rt.alloc(), Question::Call, REFUSALS)
-}
-
-#[test]
-fn words_of_calls(rt: HostRuntime) -> Result<(), Fail> {
-    expect_rows(rt.alloc(), Question::Call, WORDS)
-}
-
-#[test]
-fn limits_of_sources(rt: HostRuntime) -> Result<(), Fail> {
-    expect_rows(rt.alloc(), Question::Call, LIMITS)
-}
 
 // The run of the program that stands in the README.
 const FIRST_RUN: Call = Call {
@@ -224,14 +202,10 @@ fn counts(alloc: Global, count: u32, text: &str, status: &str) -> bool {
     call_answers(alloc, row.as_str(), status)
 }
 
-#[test]
-fn many_variables(rt: HostRuntime) -> Result<(), Fail> {
-    let alloc = rt.alloc();
-    expect(
-        counts(alloc, 300, "[exit 299]\n", "0")
-            && counts(alloc, 1024, "[exit 1023]\n", "0")
-            && counts(alloc, 1025, "[refused E09 1:1 not built yet]\n", "1"),
-    )
+pub fn takes_many_variables(alloc: Global) -> bool {
+    counts(alloc, 300, "[exit 299]\n", "0")
+        && counts(alloc, 1024, "[exit 1023]\n", "0")
+        && counts(alloc, 1025, "[refused E09 1:1 not built yet]\n", "1")
 }
 
 /// Whether a call prints nothing where one of its first reads fails.
@@ -266,13 +240,11 @@ pub fn puts_fail(alloc: Global, call: &Call) -> bool {
     true
 }
 
-#[test]
-fn failing_files(rt: HostRuntime) -> Result<(), Fail> {
-    expect(reads_fail(rt.alloc(), &FIRST_RUN, 2) && puts_fail(rt.alloc(), &FIRST_RUN))
+pub fn answers_failing_files(alloc: Global) -> bool {
+    reads_fail(alloc, &FIRST_RUN, 2) && puts_fail(alloc, &FIRST_RUN)
 }
 
-#[test]
-fn one_byte_a_read(rt: HostRuntime) -> Result<(), Fail> {
-    let inner = files(rt.alloc(), &FIRST_RUN);
-    expect(answers_over(rt.alloc(), &FIRST_RUN, &mut OneByteShelf { inner }))
+pub fn reads_byte_by_byte(alloc: Global) -> bool {
+    let inner = files(alloc, &FIRST_RUN);
+    answers_over(alloc, &FIRST_RUN, &mut OneByteShelf { inner })
 }

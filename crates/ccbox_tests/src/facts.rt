@@ -2,10 +2,8 @@
 
 ghost use Rattle.std.specs.Prelude.{◌≡◌, ◌≤◌, ◌<◌, Some};
 
-use crate::rows::expect;
 use bounds_exprs::term::Term;
 use std::alloc::Global;
-use std::test::Fail;
 use subsumption::fact::Answer;
 use subsumption::facts::Facts;
 
@@ -124,10 +122,8 @@ const FAR: &[Step] = &[
     Step::With(X(0, i64::MAX), X(3, -i64::MAX), 1),
 ];
 
-#[test]
-fn follows_shifts_and_contradicts(rt: HostRuntime) -> Result<(), Fail> {
-    let alloc = rt.alloc();
-    expect(holds(alloc, 3, FOLLOWED) && holds(alloc, 3, SHIFTED) && holds(alloc, 4, FAR))
+pub fn follows_shifts_and_contradicts(alloc: Global) -> bool {
+    holds(alloc, 3, FOLLOWED) && holds(alloc, 3, SHIFTED) && holds(alloc, 4, FAR)
 }
 
 const OTHER: &[Step] = &[Step::Kill(0), Step::Add(X(0, 2), X(2, 0))];
@@ -157,9 +153,8 @@ fn chain_joins_copy(alloc: Global) -> bool {
     }
 }
 
-#[test]
-fn joins_and_copies(rt: HostRuntime) -> Result<(), Fail> {
-    expect(chain_joins_copy(rt.alloc()))
+pub fn joins_and_copies(alloc: Global) -> bool {
+    chain_joins_copy(alloc)
 }
 
 const LONG: &[Step] = &[
@@ -188,7 +183,6 @@ fn follows_chain(alloc: Global) -> bool {
     }
 }
 
-#[test]
-fn follows_a_long_chain(rt: HostRuntime) -> Result<(), Fail> {
-    expect(follows_chain(rt.alloc()))
+pub fn follows_a_long_chain(alloc: Global) -> bool {
+    follows_chain(alloc)
 }

@@ -1,12 +1,10 @@
 // Files and the output of the operating system.
 
 use crate::lines::add_number;
-use crate::rows::expect;
 use ckc_io::file_shelf::FileShelf;
 use ckc_io::out_sink::OutSink;
 use ckc_io::shelf::{Shelf, ShelfFault};
 use ckc_io::sink::Sink;
-use std::test::Fail;
 use std::{fs, process};
 
 // Whether the bytes from the eighth on are the last two, of a file with ten.
@@ -22,24 +20,20 @@ fn fault(rt: &HostRuntime, name: &str, from: u64) -> Option<ShelfFault> {
     FileShelf::new(rt).read_at(name, from, &mut into).err()
 }
 
-#[test]
-fn reads_a_file_of_the_system(rt: HostRuntime) -> Result<(), Fail> {
+pub fn reads_a_file_of_the_system(rt: &HostRuntime) -> bool {
     let mut path = String::new(rt.alloc());
     add_number(&mut path, "/tmp/file_shelf_", process::id(rt.process()));
-    let written = fs::write(&rt, path.as_str(), "0123456789").is_ok();
-    let read = reads(&rt, path.as_str());
-    let removed = fs::remove_file(&rt, path.as_str()).is_ok();
-    expect(
-        written
-            && read
-            && removed
-            && matches!(fault(&rt, path.as_str(), 8), Some(ShelfFault::Missing))
-            && matches!(fault(&rt, "/", 0), Some(ShelfFault::Failed)),
-    )
+    let written = fs::write(rt, path.as_str(), "0123456789").is_ok();
+    let read = reads(rt, path.as_str());
+    let removed = fs::remove_file(rt, path.as_str()).is_ok();
+    written
+        && read
+        && removed
+        && matches!(fault(rt, path.as_str(), 8), Some(ShelfFault::Missing))
+        && matches!(fault(rt, "/", 0), Some(ShelfFault::Failed))
 }
 
-#[test]
-fn takes_a_piece(rt: HostRuntime) -> Result<(), Fail> {
-    let mut sink = OutSink::new(&rt);
-    expect(matches!(sink.put(b""), Ok(0)) && matches!(sink.put(b"a"), Ok(1)))
+pub fn takes_a_piece(rt: &HostRuntime) -> bool {
+    let mut sink = OutSink::new(rt);
+    matches!(sink.put(b""), Ok(0)) && matches!(sink.put(b"a"), Ok(1))
 }

@@ -5,7 +5,6 @@ ghost use Rattle.code_words.specs.Fitting.{Fits};
 ghost use Rattle.ccbox_call.specs.Requests.{no_options, settings_of};
 
 use crate::lines::{add, add_number};
-use crate::rows::expect;
 use crate::sources::tree_of;
 use act_words::settings::Settings;
 use built_forms::forms::built;
@@ -23,7 +22,6 @@ use code_words::image::Image;
 use code_words::lists::Listed;
 use lowering::emit::lower;
 use std::alloc::Global;
-use std::test::Fail;
 use two_memory_machine::machine::{Machine, Waiting};
 
 // A store through a pointer stands in the second line.
@@ -34,9 +32,8 @@ fn is_code(code: Code, number: &str, text: &str) -> bool {
     code.number() == number && code.text() == text
 }
 
-#[test]
-fn numbers_and_texts() -> Result<(), Fail> {
-    expect(is_code(Code::E17, "E17", "bounds not proved") && is_code(Code::C2, "C2", "bounds"))
+pub fn has_numbers_and_texts() -> bool {
+    is_code(Code::E17, "E17", "bounds not proved") && is_code(Code::C2, "C2", "bounds")
 }
 
 // Whether the place of a byte is found in both ways.
@@ -57,12 +54,11 @@ fn has_places(src: &[u8; 5], index: &LineIndex) -> bool {
         && is_at(src, index, 4, 3, 1)
 }
 
-#[test]
-fn places_of_a_text(rt: HostRuntime) -> Result<(), Fail> {
+pub fn finds_places(alloc: Global) -> bool {
     let src = b"ab\n\nc";
-    match LineIndex::new(rt.alloc(), src) {
-        Ok(index) => expect(has_places(src, &index)),
-        Err(_) => expect(false),
+    match LineIndex::new(alloc, src) {
+        Ok(index) => has_places(src, &index),
+        Err(_) => false,
     }
 }
 
@@ -77,14 +73,13 @@ fn spans_of(alloc: Global, tokens: &[Token]) -> String {
     spans
 }
 
-#[test]
-fn spans_of_tokens(rt: HostRuntime) -> Result<(), Fail> {
-    match lex(rt.alloc(), b"int main(void) { return 0; }") {
+pub fn spans_tokens(alloc: Global) -> bool {
+    match lex(alloc, b"int main(void) { return 0; }") {
         Ok(tokens) => {
-            let spans = spans_of(rt.alloc(), tokens.as_slice());
-            expect(spans.as_str() == "0-3 4-8 8-9 9-13 13-14 15-16 17-23 24-25 25-26 27-28 ")
+            let spans = spans_of(alloc, tokens.as_slice());
+            spans.as_str() == "0-3 4-8 8-9 9-13 13-14 15-16 17-23 24-25 25-26 27-28 "
         }
-        Err(_) => expect(false),
+        Err(_) => false,
     }
 }
 
@@ -113,11 +108,10 @@ fn is_tree(alloc: Global, tree: &Tree) -> bool {
     }
 }
 
-#[test]
-fn a_tree(rt: HostRuntime) -> Result<(), Fail> {
-    match tree_of(rt.alloc(), SOURCE) {
-        Ok(tree) => expect(is_tree(rt.alloc(), &tree)),
-        Err(_) => expect(false),
+pub fn builds_a_tree(alloc: Global) -> bool {
+    match tree_of(alloc, SOURCE) {
+        Ok(tree) => is_tree(alloc, &tree),
+        Err(_) => false,
     }
 }
 
@@ -145,11 +139,10 @@ fn is_core(program: &Core) -> bool {
         && are_core(program.main.body.as_slice())
 }
 
-#[test]
-fn a_core(rt: HostRuntime) -> Result<(), Fail> {
-    match front(rt.alloc(), SOURCE) {
-        Ok(program) => expect(is_core(&program)),
-        Err(_) => expect(false),
+pub fn builds_a_core(alloc: Global) -> bool {
+    match front(alloc, SOURCE) {
+        Ok(program) => is_core(&program),
+        Err(_) => false,
     }
 }
 
@@ -210,11 +203,10 @@ fn image_runs_so(alloc: Global, image: &Image) -> bool
     }
 }
 
-#[test]
-fn code_and_its_run(rt: HostRuntime) -> Result<(), Fail> {
-    match code(rt.alloc()) {
-        Some(image) => expect(image_runs_so(rt.alloc(), &image)),
-        None => expect(false),
+pub fn runs_code(alloc: Global) -> bool {
+    match code(alloc) {
+        Some(image) => image_runs_so(alloc, &image),
+        None => false,
     }
 }
 
@@ -225,10 +217,9 @@ fn is_given_back(numbers: Vec<u8>) -> bool {
     same && list.into_vec().as_slice() == [3, 1, 2].as_slice()
 }
 
-#[test]
-fn a_list_gives_its_vector_back(rt: HostRuntime) -> Result<(), Fail> {
-    match vec![in rt.alloc(); 3u8, 1, 2] {
-        Ok(numbers) => expect(is_given_back(numbers)),
-        Err(_) => expect(false),
+pub fn gives_a_vector_back(alloc: Global) -> bool {
+    match vec![in alloc; 3u8, 1, 2] {
+        Ok(numbers) => is_given_back(numbers),
+        Err(_) => false,
     }
 }

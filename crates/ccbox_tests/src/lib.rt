@@ -38,4 +38,6 @@ mod sources;
 #[cfg(test)]
 mod tokens;
 #[cfg(test)]
+mod topics;
+#[cfg(test)]
 mod trees;

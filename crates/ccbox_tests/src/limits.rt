@@ -1,10 +1,6 @@
 // How many tokens texts have, up to the limits of a source.
 
-use crate::answers::Question;
-use crate::rows::expect_rows;
-use std::test::Fail;
-
-const COUNTS: &str = "0@
+pub const COUNTS: &str = "0@
 0@ \t\r~
 1@returns
 16@a<b>c=d+e-f*g&h;
@@ -30,8 +26,3 @@ E08 200012@#define N -1~`199999×;`N
 E08 0@`1048577× `
 E08 0@@`1048576× `
 E03 0@/*`1048574× `";
-
-#[test]
-fn counts_of_tokens(rt: HostRuntime) -> Result<(), Fail> {
-    expect_rows(rt.alloc(), Question::Count, COUNTS)
-}

@@ -2,10 +2,8 @@
 
 ghost use Rattle.std.specs.Prelude.{◌≡◌, ◌<◌, ◌≤◌, ◌%◌};
 
-use crate::rows::expect;
 use flat_bytes::words::{fits, get1, get4, put1, put4};
 use std::alloc::Global;
-use std::test::Fail;
 use trusted_memory::memory::Trusted;
 
 // Whether words at both ends are read so.
@@ -31,34 +29,28 @@ fn has_after4(bytes: &mut [u8; 6], at: u32, v: u32, expected: &[u8; 6]) -> bool
     bytes.as_slice() == expected.as_slice()
 }
 
-#[test]
-fn reads_and_writes_words_at_both_ends() -> Result<(), Fail> {
+pub fn reads_and_writes_words_at_both_ends() -> bool {
     let mut bytes = [1u8, 2, 3, 4, 5, 6];
-    expect(
-        reads(&bytes)
-            && has_after4(&mut bytes, 2, 0xfffefdfc, &[1, 2, 0xfc, 0xfd, 0xfe, 0xff])
-            && has_after1(&mut bytes, 5, 0x1234, &[1, 2, 0xfc, 0xfd, 0xfe, 0x34])
-            && has_after1(
-                &mut bytes,
-                0,
-                0xffffffff,
-                &[0xff, 2, 0xfc, 0xfd, 0xfe, 0x34],
-            )
-            && has_after4(&mut bytes, 0, 7, &[7, 0, 0, 0, 0xfe, 0x34]),
-    )
+    reads(&bytes)
+        && has_after4(&mut bytes, 2, 0xfffefdfc, &[1, 2, 0xfc, 0xfd, 0xfe, 0xff])
+        && has_after1(&mut bytes, 5, 0x1234, &[1, 2, 0xfc, 0xfd, 0xfe, 0x34])
+        && has_after1(
+            &mut bytes,
+            0,
+            0xffffffff,
+            &[0xff, 2, 0xfc, 0xfd, 0xfe, 0x34],
+        )
+        && has_after4(&mut bytes, 0, 7, &[7, 0, 0, 0, 0xfe, 0x34])
 }
 
-#[test]
-fn fits_by_whole_numbers() -> Result<(), Fail> {
-    expect(
-        fits(0, 4, 4)
-            && !fits(1, 4, 4)
-            && fits(4, 0, 4)
-            && !fits(5, 0, 4)
-            && !fits(u32::MAX, 1, u32::MAX)
-            && fits(u32::MAX - 1, 1, u32::MAX)
-            && !fits(u32::MAX, u32::MAX, 0),
-    )
+pub fn fits_by_whole_numbers() -> bool {
+    fits(0, 4, 4)
+        && !fits(1, 4, 4)
+        && fits(4, 0, 4)
+        && !fits(5, 0, 4)
+        && !fits(u32::MAX, 1, u32::MAX)
+        && fits(u32::MAX - 1, 1, u32::MAX)
+        && !fits(u32::MAX, u32::MAX, 0)
 }
 
 // How many bytes a block is asked for, and its address.
@@ -99,10 +91,8 @@ fn makes_from(alloc: Global, base: u32, blocks: &[Block]) -> bool
     }
 }
 
-#[test]
-fn makes_blocks_while_there_is_room(rt: HostRuntime) -> Result<(), Fail> {
-    let alloc = rt.alloc();
-    expect(makes_from(alloc, 1048576, BLOCKS) && makes_from(alloc, 16, WHOLE_BLOCKS))
+pub fn makes_blocks_while_there_is_room(alloc: Global) -> bool {
+    makes_from(alloc, 1048576, BLOCKS) && makes_from(alloc, 16, WHOLE_BLOCKS)
 }
 
 // Stores a word and reads it again, where its bytes are in the memory.
@@ -148,10 +138,9 @@ fn holds(memory: &mut Trusted) -> bool {
     stores(memory, STORED) && memory.in_range(65536, 65536) && !memory.in_range(65536, 65537)
 }
 
-#[test]
-fn stores_at_both_ends(rt: HostRuntime) -> Result<(), Fail> {
-    match Trusted::start(rt.alloc(), 65536, 65536) {
-        Ok(mut memory) => expect(holds(&mut memory)),
-        Err(_) => expect(false),
+pub fn stores_at_both_ends(alloc: Global) -> bool {
+    match Trusted::start(alloc, 65536, 65536) {
+        Ok(mut memory) => holds(&mut memory),
+        Err(_) => false,
     }
 }

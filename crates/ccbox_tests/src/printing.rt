@@ -1,7 +1,7 @@
 // What trees are printed as.
 
 use crate::sources::is_printed;
-use std::test::Fail;
+use std::alloc::Global;
 
 // A source, and what it is printed as.
 struct Row(&'static str, &'static str);
@@ -32,12 +32,11 @@ const ROWS: &[Row] = &[
     ),
 ];
 
-#[test]
-fn texts(rt: HostRuntime) -> Result<(), Fail> {
+pub fn prints_texts(alloc: Global) -> bool {
     for Row(src, want) in ROWS {
-        if !is_printed(rt.alloc(), src.as_bytes(), want.as_bytes()) {
-            return Err(Fail::new(*src));
+        if !is_printed(alloc, src.as_bytes(), want.as_bytes()) {
+            return false;
         }
     }
-    Ok(())
+    true
 }

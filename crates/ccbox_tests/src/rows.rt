@@ -51,8 +51,19 @@ fn has_answer(alloc: Global, question: Question, row: &str) -> bool {
     is_answer(alloc, question, case, expected)
 }
 
-/// Fails with the first row of a table that is wrong.
-pub fn expect_rows(alloc: Global, question: Question, table: &str) -> Result<(), Fail> {
+/// A question, and rows of cases.
+pub struct Table(pub Question, pub &'static str);
+
+/// Fails with the first row that is wrong.
+pub fn expect_tables(alloc: Global, tables: &[Table]) -> Result<(), Fail> {
+    for table in tables {
+        expect_rows(alloc, table.0, table.1)?;
+    }
+    Ok(())
+}
+
+// Fails with the first row of a table that is wrong.
+fn expect_rows(alloc: Global, question: Question, table: &str) -> Result<(), Fail> {
     for row in table.lines() {
         if !is_right(alloc, question, row) {
             return Err(Fail::new(row));

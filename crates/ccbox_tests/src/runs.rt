@@ -1,12 +1,10 @@
 // Runs in which the sandbox acts.
 
-use crate::answers::Question;
 use crate::calls::{Call, puts_fail, reads_fail};
-use crate::rows::{expect, expect_rows};
-use std::test::Fail;
+use std::alloc::Global;
 
 // The turns and the lines of the acts. Members may come in any order, and twice.
-const TURNS: &str =
+pub const TURNS: &str =
     r#"7@run a.c --acts f --sandbox 65536@[stop S3 sandbox ended]~@@_Tainted int t(void);~int main(void) { return t(); }~
 7@run a.c --acts f --sandbox 65536@[stop S3 sandbox ended]~@{"act":"go"}~@_Tainted int t(void);~int main(void) { return t(); }~
 7@run a.c --acts f --sandbox 65536@[stop S5 act 1 protocol]~@{"act":"return","value":1}@_Tainted int t(void);~int main(void) { return t(); }~
@@ -26,11 +24,11 @@ const TURNS: &str =
 8@run a.c --acts f --sandbox 65536@[act line 1 A4 line length]~@{"act":"go"}`4085× `~@_Tainted int t(void);~int main(void) { return t(); }~"#;
 
 // Blank lines, carriage returns and tabs, and acts that are left over.
-const BLANKS: &str =
+pub const BLANKS: &str =
     "0@run a.c --acts f --sandbox 65536@[exit 9]~@~ \t\r~{\"act\":\"go\"}\r~~{\"act\":\"return\",\"value\":9}~{\"act\":\"stop\"}~{@_Tainted int t(void);~int main(void) { return t(); }~";
 
 // What was shown before a refused line stands before it.
-const VIEWS: &str =
+pub const VIEWS: &str =
     r#"0@run a.c --view --acts=f --releases@{"args":[1],"fun":0,"release":"passed"}~{"args":[1],"fun":0,"seen":"called"}~[exit 10]~@{"act":"go"}~{"act":"return","value":9}~@_Tainted int t(int x);~int main(void) { return t(1) + 1; }~
 0@run a.c --acts=f --releases@{"args":[1],"fun":0,"release":"passed"}~[exit 10]~@{"act":"go"}~{"act":"return","value":9}~@_Tainted int t(int x);~int main(void) { return t(1) + 1; }~
 0@run a.c --acts=f@[exit 10]~@{"act":"go"}~{"act":"return","value":9}~@_Tainted int t(int x);~int main(void) { return t(1) + 1; }~
@@ -39,14 +37,14 @@ const VIEWS: &str =
 
 // A refused source is named before a missing file. Without acts the sandbox does nothing, and a program that doesn't
 // call it needs none.
-const MISSING: &str =
+pub const MISSING: &str =
     "3@run a.c --acts g@[missing g]~@@_Tainted int t(void);~int main(void) { return t(); }~
 1@run a.c --acts g@[refused E06 1:4 syntax]~@@int
 7@run a.c@[stop S3 sandbox ended]~@@_Tainted int t(void);~int main(void) { return t(); }~
 0@run a.c --acts f@[exit 7]~@?@int main(void) { return 7; }
 8@run a.c --acts=f@[act line 1 A1 not JSON]~@?@_Tainted int t(void);~int main(void) { return t(); }~";
 
-const CALLS: &str =
+pub const CALLS: &str =
     r#"0@run a.c --acts=f --releases@{"args":[4294967294],"fun":0,"release":"passed"}~{"args":[1],"fun":0,"release":"passed"}~{"args":[5,7],"fun":1,"release":"passed"}~{"args":[7],"fun":0,"release":"passed"}~[exit 99]~@{"act":"go"}~{"act":"return","value":10}~{"act":"go"}~{"act":"return","value":5}~{"act":"go"}~{"act":"return","value":100}~{"act":"go"}~{"act":"return","value":4294967295}~@int g = 2; _Tainted int t(int x); _Tainted int u(int x, int y); int main(void) { ptr<int> p = &g; *p = t(0 - *p) - 3; return u(t(1), g) + t(g); }
 7@run a.c --releases@{"args":[0,1,2,3,4,5,6,7,8,9,10,11,12,13,14,15],"fun":0,"release":"passed"}~[stop S3 sandbox ended]~@@_Tainted int t(int p0, int p1, int p2, int p3, int p4, int p5, int p6, int p7, int p8, int p9, int p10, int p11, int p12, int p13, int p14, int p15);~int main(void) { return t(0, 1, 2, 3, 4, 5, 6, 7, 8, 9, 10, 11, 12, 13, 14, 15); }~
 1@run a.c --releases@[refused E09 1:1 not built yet]~@@_Tainted int t(int p0, int p1, int p2, int p3, int p4, int p5, int p6, int p7, int p8, int p9, int p10, int p11, int p12, int p13, int p14, int p15, int p16);~int main(void) { return t(0, 1, 2, 3, 4, 5, 6, 7, 8, 9, 10, 11, 12, 13, 14, 15, 16); }~
@@ -67,31 +65,6 @@ const CALLS: &str =
 1@run a.c --acts=f --releases@[refused E06 1:22 syntax]~@@_Tainted int t(void) int main(void) { return 0; }
 1@run a.c --acts=f --releases@[refused E06 1:52 syntax]~@@_Tainted int t(int x); int main(void) { return t(1,); }"#;
 
-#[test]
-fn turns(rt: HostRuntime) -> Result<(), Fail> {
-    expect_rows(rt.alloc(), Question::Call, TURNS)
-}
-
-#[test]
-fn blank_lines(rt: HostRuntime) -> Result<(), Fail> {
-    expect_rows(rt.alloc(), Question::Call, BLANKS)
-}
-
-#[test]
-fn views_and_releases(rt: HostRuntime) -> Result<(), Fail> {
-    expect_rows(rt.alloc(), Question::Call, VIEWS)
-}
-
-#[test]
-fn missing_acts(rt: HostRuntime) -> Result<(), Fail> {
-    expect_rows(rt.alloc(), Question::Call, MISSING)
-}
-
-#[test]
-fn calls_and_prototypes(rt: HostRuntime) -> Result<(), Fail> {
-    expect_rows(rt.alloc(), Question::Call, CALLS)
-}
-
 // A run that needs an act, and has none.
 const CALL: Call = Call {
     words: "run a.c --acts=f",
@@ -103,8 +76,7 @@ const CALL: Call = Call {
     put: 0,
 };
 
-#[test]
-fn failing_act_files(rt: HostRuntime) -> Result<(), Fail> {
+pub fn answers_failing_act_files(alloc: Global) -> bool {
     // Two reads of the source, and two of the acts.
-    expect(reads_fail(rt.alloc(), &CALL, 4) && puts_fail(rt.alloc(), &CALL))
+    reads_fail(alloc, &CALL, 4) && puts_fail(alloc, &CALL)
 }

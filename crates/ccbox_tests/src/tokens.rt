@@ -2,11 +2,9 @@
 
 use crate::answers::is_refusal;
 use crate::lines::{add, add_number};
-use crate::rows::expect;
 use ckc_lexer::lexer::lex;
 use ckc_lexer::token::{CheckedScope, Token, TokenKind};
 use std::alloc::Global;
-use std::test::Fail;
 
 // A text, with the line of its tokens, or its fault.
 struct Row(&'static str, &'static str);
@@ -281,27 +279,22 @@ fn is_right(alloc: Global, src: &[u8], want: &str) -> bool {
     }
 }
 
-#[test]
-fn lines_of_tokens(rt: HostRuntime) -> Result<(), Fail> {
+pub fn lexes_lines(alloc: Global) -> bool {
     for Row(src, want) in ROWS {
-        if !is_right(rt.alloc(), src.as_bytes(), want) {
-            return Err(Fail::new(*want));
+        if !is_right(alloc, src.as_bytes(), want) {
+            return false;
         }
     }
-    Ok(())
+    true
 }
 
 // Bytes that are no text stand in comments and behind `#include` alone.
-#[test]
-fn bytes_that_are_no_text(rt: HostRuntime) -> Result<(), Fail> {
-    let alloc = rt.alloc();
-    expect(
-        is_right(alloc, b"/* \xc3 */ a", "name:a")
-            && is_right(alloc, b"\x80", "E01 0")
-            && is_right(alloc, b"a '\x80' b", "E01 2")
-            && is_right(alloc, b"#define N 4\xc3", "E01 0")
-            && is_right(alloc, b"a\xff", "E01 1")
-            && is_right(alloc, b"#include \xc3\na", "name:a")
-            && is_right(alloc, b"#define N 4 // \xc3\nN", "number:4"),
-    )
+pub fn lexes_odd_bytes(alloc: Global) -> bool {
+    is_right(alloc, b"/* \xc3 */ a", "name:a")
+        && is_right(alloc, b"\x80", "E01 0")
+        && is_right(alloc, b"a '\x80' b", "E01 2")
+        && is_right(alloc, b"#define N 4\xc3", "E01 0")
+        && is_right(alloc, b"a\xff", "E01 1")
+        && is_right(alloc, b"#include \xc3\na", "name:a")
+        && is_right(alloc, b"#define N 4 // \xc3\nN", "number:4")
 }

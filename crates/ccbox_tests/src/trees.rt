@@ -1,11 +1,7 @@
 // Small sources, with the place of their refusal or the shape of their tree.
 
-use crate::answers::Question;
-use crate::rows::expect_rows;
-use std::test::Fail;
-
 // Whether they have a tree; the last ones have up to 200 levels, or too many.
-const ANSWERS: &str = "ok@
+pub const ANSWERS: &str = "ok@
 E06 0@; int x;
 E06 0@return
 E06 4@int int x;
@@ -63,12 +59,7 @@ E07 800@`200×ptr<`int`200×>` x;
 ok@int x = `199×y[`7`199×]`;
 E07 406@int x = `200×y[`7`200×]`;";
 
-#[test]
-fn answers(rt: HostRuntime) -> Result<(), Fail> {
-    expect_rows(rt.alloc(), Question::Tree, ANSWERS)
-}
-
-const SHAPES: &str = "[6-11 [6-9 n6 n8] n10]@int x=a-b-c;
+pub const SHAPES: &str = "[6-11 [6-9 n6 n8] n10]@int x=a-b-c;
 [6-11 [6-9 n6 n8] n10]@int x=a*b+c;
 [6-11 n6 [8-11 n8 n10]]@int x=a+b*c;
 [6-13 [7-10 n7 n9] n12]@int x=(a+b)*c;
@@ -78,8 +69,3 @@ n8@int x=((a));
 [6-20 [6-14 [6-11 [6-8 n7] [9-11 n10]] n13] [16-20 n16 n19]]@int x=-a*!b==c||d&&e;
 [6-13 n7 n11]@int x=(a)+(b);
 [6-9 n6 n8]@int x=a&b;";
-
-#[test]
-fn shapes(rt: HostRuntime) -> Result<(), Fail> {
-    expect_rows(rt.alloc(), Question::Shape, SHAPES)
-}

@@ -16,10 +16,10 @@ use Rattle.ckc_grammar.specs.Tokens.{token}
 use Rattle.ckc_grammar.specs.ExpressionGrammar as g
 use Rattle.ckc_grammar.specs.ExpressionGrammar.{SpellsBinary, SpellsMoreArguments, SpellsArguments}
 use Rattle.std.proofs.Common.{Result, Ok, Err}
-use Rattle.ckc_expr_parser.specs.declared.stuck.Stuck.{Stuck}
+use Rattle.ckc_cursor.specs.declared.stuck.Stuck.{Stuck}
 use Rattle.ckc_expr_parser.specs.declared.primary.ReadArguments.{ReadArguments}
 use Rattle.ckc_grammar.specs.Failures.{Failure, IsLow}
-use Rattle.ckc_expr_parser.specs.Answers.{Reads}
+use Rattle.ckc_cursor.specs.Answers.{Reads}
 use Rattle.ckc_grammar.specs.StuckExpressions as s
 use Rattle.ckc_grammar.specs.StuckExpressions.{StuckMoreArguments, StuckArguments}
 use Rattle.ckc_expr_parser.specs.Readings.{before, listed, IsMore, IsArguments}

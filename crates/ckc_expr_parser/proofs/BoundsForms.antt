@@ -8,7 +8,7 @@ use Rattle.ckc_lexer.specs.declared.token.TokenKind.{TokenKind}
 use Rattle.ckc_lexer.specs.declared.token.TokenKind.TheVariants as kinds
 use Rattle.ckc_tree.specs.Expressions.{Expression}
 use Rattle.ckc_tree.specs.Heights.{expression_reach}
-use Rattle.ckc_expr_parser.specs.declared.terminal.Terminal.TheVariants as terminals
+use Rattle.ckc_cursor.specs.declared.terminal.Terminal.TheVariants as terminals
 use Rattle.ckc_expr_parser.specs.declared.bounds.BoundsForm.{BoundsForm}
 use Rattle.ckc_expr_parser.specs.declared.bounds.BoundsForm.TheVariants as forms
 use Rattle.ckc_grammar.specs.Tokens.{token, join, next_is, comma}

@@ -10,7 +10,7 @@ use Rattle.ckc_tree.specs.declared.expr.UnaryOperator.{UnaryOperator}
 use Rattle.ckc_tree.specs.declared.expr.BinaryOperator.{BinaryOperator}
 use Rattle.ckc_tree.specs.Expressions.{Expression, expression}
 use Rattle.ckc_tree.specs.Heights.{Reach, expression_reach, ◌beside◌}
-use Rattle.ckc_expr_parser.specs.declared.stuck.Stuck.{Stuck}
+use Rattle.ckc_cursor.specs.declared.stuck.Stuck.{Stuck}
 use Rattle.ckc_expr_parser.specs.declared.operand.Operand.{Operand}
 use Rattle.ckc_expr_parser.specs.declared.expressions.Around.{Around}
 use Rattle.ckc_expr_parser.specs.declared.expressions.Pending.{Pending}
@@ -19,13 +19,14 @@ use Rattle.ckc_grammar.specs.Tokens as words
 use Rattle.ckc_grammar.specs.Tokens.{token, join, IsUnaryOperator, operator_at, level, next_is}
 use Rattle.ckc_grammar.specs.ExpressionGrammar.{SpellsBinary, SpellsPrimary, SpellsSelectors}
 use Rattle.ckc_grammar.specs.Failures.{Failure, unexpected, too_deep, IsLow}
-use Rattle.ckc_expr_parser.specs.Answers.{Reads}
+use Rattle.ckc_cursor.specs.Answers.{Reads}
 use Rattle.ckc_grammar.specs.StuckExpressions as s
 use Rattle.ckc_grammar.specs.StuckExpressions.{primary_word, unary_word, close_paren, StuckBinary, StuckUnary, StuckSelectors}
-use Rattle.ckc_expr_parser.specs.Readings.{unary_operator_of, IsBinary, IsUnary, FailsPrimary, no_primary, in_primary}
+use Rattle.ckc_expr_parser.specs.Readings.{IsBinary, IsUnary, FailsPrimary, no_primary, in_primary}
+use Rattle.ckc_cursor.specs.WordReadings.{unary_operator_of}
 use Rattle.ckc_expr_parser.specs.Contexts.{Frame, frame, InParens, OperandOf, RightOf, waiting, limit, depth_in, Fits, looseness, looser_at, takes_before, paren_start, Selects, Closes, Base, Fails, Completes, Needs, GoesIn, IsAround, NeedsOperand, HasOperand, HasTight, HasWhole}
 use Rattle.ckc_expr_parser.specs.ContextAnswers.{prefix_word, Applies, IsSmall, IsUnwrapped}
-use Rattle.ckc_expr_parser.proofs.Readings.{low_around}
+use Rattle.ckc_cursor.proofs.Readings.{low_around}
 use Rattle.ckc_grammar.proofs.Paths.{beside_height}
 use Rattle.ckc_grammar.proofs.ExpressionPaths.{Marks, mark, shift, marks_at}
 use Rattle.ckc_expr_parser.proofs.Contexts.{level_positive, limit_ten, depth_low, unary_spelled, unary_stuck, needs_primary, needs_fails, needs_right, right_too_deep, finished}

@@ -18,7 +18,7 @@ use Rattle.ckc_grammar.specs.Failures.{Failure, too_deep, IsLow}
 use Rattle.ckc_grammar.specs.StuckExpressions as s
 use Rattle.ckc_grammar.specs.StuckExpressions.{StuckBinary, StuckTail, StuckUnary, StuckPrimary, StuckSelectors, unary_word, close_paren}
 use Rattle.ckc_expr_parser.specs.Contexts.{Frame, InParens, OperandOf, RightOf, limit, depth_in, Fits, looseness, looser_at, Climbs, there, up, StuckClimb, stuck_here, stuck_above, Selects, Base, Fails, Completes, Needs, GoesIn}
-use Rattle.ckc_expr_parser.proofs.Readings.{low_around}
+use Rattle.ckc_cursor.proofs.Readings.{low_around}
 
 -- ---- levels
 

@@ -1,4 +1,3 @@
-pub mod Readings
 pub mod Contexts
 pub mod Waiting
 pub mod ContextSteps
@@ -6,5 +5,3 @@ pub mod Selecting
 pub mod Arguments
 pub mod BoundsForms
 pub mod TypedParts
-pub mod SingleWords
-mod Terminals

@@ -6,8 +6,8 @@ use Rattle.ckc_lexer.specs.declared.token.TokenKind.TheVariants as kinds
 use Rattle.ckc_tree.specs.Expressions.{Expression, Index, Dot, Arrow, expression}
 use Rattle.ckc_tree.specs.Heights.{Reach, ◌beside◌, expression_reach}
 use Rattle.ckc_expr_parser.specs.declared.operand.Operand.{Operand}
-use Rattle.ckc_expr_parser.specs.declared.stuck.Stuck.{Stuck}
-use Rattle.ckc_expr_parser.specs.declared.terminal.Terminal.TheVariants as terminals
+use Rattle.ckc_cursor.specs.declared.stuck.Stuck.{Stuck}
+use Rattle.ckc_cursor.specs.declared.terminal.Terminal.TheVariants as terminals
 use Rattle.ckc_expr_parser.specs.declared.expressions.Selector.{Selector}
 use Rattle.ckc_expr_parser.specs.declared.expressions.Selector.TheVariants as selectors
 use Rattle.ckc_grammar.specs.Tokens.{token, join, identifier, next_is, selector}
@@ -15,13 +15,13 @@ use Rattle.ckc_grammar.specs.ExpressionGrammar as g
 use Rattle.ckc_grammar.specs.ExpressionGrammar.{SpellsBinary, SpellsPrimary}
 use Rattle.ckc_grammar.specs.Failures.{Failure, unexpected, IsLow}
 use Rattle.ckc_grammar.specs.StuckTypes.{name_token}
-use Rattle.ckc_expr_parser.specs.Answers.{Reads}
+use Rattle.ckc_cursor.specs.Answers.{Reads}
 use Rattle.ckc_grammar.specs.StuckExpressions as s
 use Rattle.ckc_grammar.specs.StuckExpressions.{StuckSelectors, StuckPrimary}
 use Rattle.ckc_expr_parser.specs.Readings.{member_word, member_of, Builds, SelectsOne, IsPrimary, FailsPrimary, in_primary}
 use Rattle.ckc_expr_parser.specs.Selectors.{selector_kind}
 use Rattle.ckc_expr_parser.specs.Endings.{StuckEnded, within, unended}
-use Rattle.ckc_expr_parser.proofs.Readings.{low_around}
+use Rattle.ckc_cursor.proofs.Readings.{low_around}
 use Rattle.ckc_grammar.proofs.Paths.{beside_height}
 
 pub height_is : (x : Operand) → x.reach.height ≡ (expression_reach (expression x.expr.value)).height

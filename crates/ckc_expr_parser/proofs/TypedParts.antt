@@ -7,7 +7,7 @@ use Rattle.ckc_lexer.specs.declared.token.TokenKind.TheVariants as kinds
 use Rattle.ckc_tree.specs.declared.expr.CastWord.{CastWord}
 use Rattle.ckc_tree.specs.declared.expr.MallocWord.{MallocWord}
 use Rattle.ckc_tree.specs.declared.expr.CallocWord.{CallocWord}
-use Rattle.ckc_expr_parser.specs.declared.terminal.Terminal.TheVariants as terminals
+use Rattle.ckc_cursor.specs.declared.terminal.Terminal.TheVariants as terminals
 use Rattle.ckc_expr_parser.specs.declared.primary.Typed.{Typed}
 use Rattle.ckc_grammar.specs.Tokens.{token, next_is, IsCastWord, IsMallocWord, IsCallocWord}
 use Rattle.ckc_grammar.specs.Failures.{Failure}

@@ -10,9 +10,9 @@ use Rattle.ckc_expr_parser.specs.declared.expressions.Around.{Around}
 use Rattle.ckc_expr_parser.specs.declared.expressions.Pending.{Pending}
 use Rattle.ckc_expr_parser.specs.declared.expressions.Pending.TheVariants as forms
 use Rattle.ckc_expr_parser.specs.declared.operand.Operand.{Operand}
-use Rattle.ckc_expr_parser.specs.declared.stuck.Stuck.{Stuck}
+use Rattle.ckc_cursor.specs.declared.stuck.Stuck.{Stuck}
 use Rattle.ckc_grammar.specs.Tokens.{join, operator_at, level, next_is}
-use Rattle.ckc_expr_parser.specs.Answers.{failure}
+use Rattle.ckc_cursor.specs.Answers.{failure}
 use Rattle.ckc_expr_parser.specs.Contexts.{Frame, InParens, OperandOf, RightOf, waiting, looser_at, Base, Fails, NeedsOperand, HasWhole}
 
 -- an operator or a parenthesis before an operand

@@ -4,13 +4,13 @@ use Rattle.ckc_text.specs.declared.place.Span.{Span}
 use Rattle.ckc_lexer.specs.declared.token.Token.{Token}
 use Rattle.ckc_tree.specs.Expressions.{Expression, expression}
 use Rattle.ckc_tree.specs.Heights.{expression_reach}
-use Rattle.ckc_expr_parser.specs.declared.terminal.Terminal.{Terminal}
+use Rattle.ckc_cursor.specs.declared.terminal.Terminal.{Terminal}
 use Rattle.ckc_expr_parser.specs.declared.expressions.Ended.{Ended}
 use Rattle.ckc_grammar.specs.Tokens.{token, next_is}
 use Rattle.ckc_grammar.specs.ExpressionGrammar.{SpellsBinary}
 use Rattle.ckc_grammar.specs.Failures.{Failure, unexpected, IsLow}
 use Rattle.ckc_grammar.specs.StuckExpressions.{StuckBinary}
-use Rattle.ckc_expr_parser.specs.Terminals.{kind_of, is_terminal}
+use Rattle.ckc_cursor.specs.Terminals.{kind_of, is_terminal}
 
 abbrev pub IsEnded : Terminal → ℕ → List Token → Ended → List Token → Type 0
 IsEnded mark d ts found rest = SpellsBinary 10 ts (expression found.operand.expr.value) found.operand.outer (token (kind_of mark) found.end ∷ rest) × IsLow d (expression_reach (expression found.operand.expr.value))

@@ -5,10 +5,10 @@ use Rattle.ckc_lexer.specs.declared.token.Token.{Token}
 use Rattle.ckc_lexer.specs.declared.token.TokenKind.TheVariants as kinds
 use Rattle.ckc_expr_parser.specs.declared.bounds.BoundsForm.{BoundsForm}
 use Rattle.ckc_expr_parser.specs.declared.bounds.BoundsForm.TheVariants as forms
-use Rattle.ckc_expr_parser.specs.declared.stuck.Stuck.{Stuck}
+use Rattle.ckc_cursor.specs.declared.stuck.Stuck.{Stuck}
 use Rattle.ckc_grammar.specs.Tokens.{token}
 use Rattle.ckc_grammar.specs.StuckExpressions.{bounds_word}
-use Rattle.ckc_expr_parser.specs.Answers.{Stops}
+use Rattle.ckc_cursor.specs.Answers.{Stops}
 
 -- the word of bounds that say this
 abbrev pub form_word : BoundsForm → List ℕ

@@ -1,11 +1,8 @@
-pub mod Answers
 pub mod Reaches
 pub mod Readings
 pub mod Forms
 pub mod Contexts
 pub mod ContextAnswers
-pub mod WordReadings
-pub mod Terminals
 pub mod Selectors
 pub mod Endings
 pub mod Parts

@@ -18,9 +18,9 @@ use Rattle.ckc_tree.specs.Heights.{type_reach, expression_reach, expressions_rea
 use Rattle.ckc_expr_parser.specs.declared.operand.Operand.{Operand}
 use Rattle.ckc_grammar.specs.TypeGrammar.{SpellsType, SpellsTypeName, SpellsAngled}
 use Rattle.ckc_grammar.specs.ExpressionGrammar.{SpellsBinary, SpellsUnary, SpellsSelectors, SpellsPrimary, SpellsArguments, SpellsMoreArguments, SpellsBounds}
-use Rattle.ckc_expr_parser.specs.declared.stuck.Stuck.{Stuck}
+use Rattle.ckc_cursor.specs.declared.stuck.Stuck.{Stuck}
 use Rattle.ckc_grammar.specs.Failures.{Failure, unexpected, too_deep, IsLow}
-use Rattle.ckc_expr_parser.specs.Answers.{failure, OrNoMemory}
+use Rattle.ckc_cursor.specs.Answers.{failure, OrNoMemory}
 use Rattle.ckc_grammar.specs.StuckExpressions.{primary_word, unknown_word, is_unknown, goes_on, StuckSelectors, StuckPrimary}
 use Rattle.ckc_grammar.specs.Tokens.{token, next_is}
 
@@ -31,25 +31,6 @@ IsBuilt e o operand = (expression operand.expr.value ≡ e) × (operand.outer �
 -- what building an expression answers
 abbrev pub Builds : Expression → Span → Result Operand Stuck → Type 0
 Builds e o result = OrNoMemory (IsBuilt e o) result
-
--- the operator that a token is before an operand
-abbrev pub unary_operator_of : TokenKind → Option UnaryOperator
-unary_operator_of kinds.Star = Some unary.Deref
-unary_operator_of kinds.Ampersand = Some unary.AddressOf
-unary_operator_of kinds.Minus = Some unary.Negate
-unary_operator_of kinds.Not = Some unary.Not
-unary_operator_of kinds.Tilde = Some unary.Complement
-unary_operator_of _ = None
-
--- what a pointer word says
-abbrev pub pointer_word_of : TokenKind → Option PointerWord
-pointer_word_of kinds.Ptr = Some (record { mode = modes.Checked; kind = counts.One })
-pointer_word_of kinds.ArrayPtr = Some (record { mode = modes.Checked; kind = counts.Array })
-pointer_word_of kinds.NtArrayPtr = Some (record { mode = modes.Checked; kind = counts.NullTerminated })
-pointer_word_of kinds.TPtr = Some (record { mode = modes.Tainted; kind = counts.One })
-pointer_word_of kinds.TArrayPtr = Some (record { mode = modes.Tainted; kind = counts.Array })
-pointer_word_of kinds.TNtArrayPtr = Some (record { mode = modes.Tainted; kind = counts.NullTerminated })
-pointer_word_of _ = None
 
 -- the tokens spell this form before the rest, and with so many nodes around it no node of it is deeper than 200
 abbrev pub IsType : ℕ → List Token → TypeTree → List Token → Type 0

@@ -11,12 +11,12 @@ ghost use Rattle.ckc_expr_parser.specs.Readings.{listed, member_of, Builds};
 
 use crate::bounds::ReadBounds;
 use crate::expressions::Ended;
-use crate::memory::boxed;
 use crate::operand::{Operand, Reach};
 use crate::primary::{ReadArguments, Typed};
-use crate::stuck::Stuck;
-use crate::tokens::join;
 use crate::types::ReadTypeName;
+use ckc_cursor::memory::boxed;
+use ckc_cursor::stuck::Stuck;
+use ckc_cursor::tokens::join;
 use ckc_text::place::Span;
 use ckc_tree::expr::{
     BinaryOperator, BoundsText, CallocWord, CastWord, Expr, MallocWord, UnaryOperator,

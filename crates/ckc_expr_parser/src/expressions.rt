@@ -10,7 +10,7 @@ ghost use Rattle.ckc_tree.specs.Heights.{expression_reach};
 ghost use Rattle.ckc_grammar.specs.Tokens as words;
 ghost use Rattle.ckc_grammar.specs.StuckExpressions.{unary_word, StuckBinary, StuckExpression, StuckUnary, StuckSelectors};
 ghost use Rattle.ckc_grammar.specs.Failures.{IsLow};
-ghost use Rattle.ckc_expr_parser.specs.Answers.{Reads, OrNoMemory, TakesTokens, MayTakeTokens};
+ghost use Rattle.ckc_cursor.specs.Answers.{Reads, OrNoMemory, TakesTokens, MayTakeTokens};
 ghost use Rattle.ckc_expr_parser.specs.Contexts.{frame, waiting, limit, looser_at, takes_before, Base, IsAround, NeedsOperand, HasOperand, HasTight, paren_start};
 ghost use Rattle.ckc_expr_parser.specs.Readings.{member_word, IsBinary, IsUnary, IsSelected, SelectsOne};
 ghost use Rattle.ckc_expr_parser.specs.Selectors.{selector_kind, IsSelector, SelectsBy};
@@ -18,12 +18,12 @@ ghost use Rattle.ckc_expr_parser.specs.ContextAnswers.{IsPrefix, IsShorter, IsPr
 ghost use Rattle.ckc_expr_parser.specs.Endings.{IsEnded, StuckEnded};
 
 use crate::build::{binary_with, index_with, member_with, unary_with};
-use crate::memory::push;
 use crate::operand::Operand;
 use crate::primary::{primary, starts_primary};
-use crate::stuck::Stuck;
-use crate::terminal::{Terminal, expect};
-use crate::tokens::{
+use ckc_cursor::memory::push;
+use ckc_cursor::stuck::Stuck;
+use ckc_cursor::terminal::{Terminal, expect};
+use ckc_cursor::tokens::{
     MAX_DEPTH, binary_operator, close_paren, identifier, join, level, open_paren, unary_operator,
 };
 use ckc_lexer::token::{Token, TokenKind};

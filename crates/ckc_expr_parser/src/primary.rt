@@ -10,7 +10,7 @@ ghost use Rattle.ckc_tree.specs.Heights.{◌beside◌, type_reach, expression_re
 ghost use Rattle.ckc_grammar.specs.Tokens.{token, IsCastWord, IsMallocWord, IsCallocWord};
 ghost use Rattle.ckc_grammar.specs.StuckExpressions.{primary_word, StuckPrimary, StuckArguments, StuckMoreArguments};
 ghost use Rattle.ckc_grammar.specs.Failures.{IsLow};
-ghost use Rattle.ckc_expr_parser.specs.Answers.{Reads, Opens, TakesTokens, MayTakeTokens};
+ghost use Rattle.ckc_cursor.specs.Answers.{Reads, Opens, TakesTokens, MayTakeTokens};
 ghost use Rattle.ckc_expr_parser.specs.Reaches.{reach_of};
 ghost use Rattle.ckc_expr_parser.specs.Readings.{listed, Builds, IsPrimary, IsArguments, IsMore, FailsPrimary};
 ghost use Rattle.ckc_expr_parser.specs.Parts.{IsTyped, StuckTyped, IsLastBounds, StuckLastBounds};
@@ -20,12 +20,12 @@ use crate::build::{
     bounded_cast_with, call_with, calloc_with, cast_with, leaf, malloc_with, size_of_with,
 };
 use crate::expressions::{expression, expression_before};
-use crate::memory::push;
 use crate::operand::{Operand, Reach};
-use crate::stuck::Stuck;
-use crate::terminal::Terminal;
-use crate::tokens::{MAX_DEPTH, close_paren, comma, copied, join, open_paren};
 use crate::types::{ReadTypeName, angled, type_name};
+use ckc_cursor::memory::push;
+use ckc_cursor::stuck::Stuck;
+use ckc_cursor::terminal::Terminal;
+use ckc_cursor::tokens::{MAX_DEPTH, close_paren, comma, copied, join, open_paren};
 use ckc_lexer::text::Text;
 use ckc_lexer::token::{Token, TokenKind};
 use ckc_text::fault::NoMemory;

@@ -25,7 +25,7 @@ use Rattle.ckc_grammar.specs.StuckExpressions.{close_paren, comma_or_paren}
 use Rattle.ckc_grammar.specs.StuckStatements.{open_brace, semicolon}
 use Rattle.ckc_grammar.specs.StuckItems as stuck
 use Rattle.ckc_grammar.specs.StuckItems.{scope_word, struct_word, body_word, is_name_before, is_structure, is_function, IsAlone, IsLowMember, StuckBody, StuckItem, StuckItems}
-use Rattle.ckc_expr_parser.specs.WordReadings.{WordAt}
+use Rattle.ckc_cursor.specs.WordReadings.{WordAt}
 use Rattle.ckc_parser.specs.ItemReadings as r
 use Rattle.ckc_parser.specs.ItemReadings.{IsScope, IsKindWord, IsSide, IsLed, IsStructureHead, StuckNamed, StuckResult}
 use Rattle.ckc_expr_parser.proofs.ContextSteps.{low_beside}

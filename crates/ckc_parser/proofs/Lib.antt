@@ -1,4 +1,1 @@
-mod Ahead
-mod Assignments
-mod Blocks
 mod FileLevel

@@ -1,2 +1,1 @@
-pub mod StatementReadings
 pub mod ItemReadings

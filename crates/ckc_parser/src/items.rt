@@ -12,24 +12,24 @@ ghost use Rattle.ckc_grammar.specs.Tokens as words;
 ghost use Rattle.ckc_grammar.specs.ItemGrammar.{SpellsTainted, SpellsKind, SpellsOptionalMark, SpellsMember, SpellsMembers, SpellsListed, SpellsParameters, SpellsResult, SpellsBody, SpellsRegion, SpellsItem, SpellsItems};
 ghost use Rattle.ckc_grammar.specs.TypeGrammar.{SpellsType};
 ghost use Rattle.ckc_grammar.specs.Failures.{IsLow};
-ghost use Rattle.ckc_expr_parser.specs.Answers.{Reads, ReadsMark};
+ghost use Rattle.ckc_cursor.specs.Answers.{Reads, ReadsMark};
 ghost use Rattle.ckc_grammar.specs.StuckItems as marks;
 ghost use Rattle.ckc_grammar.specs.StuckItems.{IsLowMember, StuckMember, StuckMembers, StuckListed, StuckParameters, StuckBody, StuckItem};
-ghost use Rattle.ckc_expr_parser.specs.WordReadings.{ReadsWord};
+ghost use Rattle.ckc_cursor.specs.WordReadings.{ReadsWord};
 ghost use Rattle.ckc_parser.specs.ItemReadings.{IsScope, IsKindWord, SideAnswers, IsLed, IsBase, IsStructureHead, IsStructure, IsNamed, StuckNamed, StuckResult, IsHead};
 
-use crate::declarations::{Read, declarators, from_first, optional_bounds};
-use crate::statements::statements;
-use ckc_expr_parser::memory::push;
-use ckc_expr_parser::stuck::Stuck;
-use ckc_expr_parser::terminal::{Terminal, expect};
-use ckc_expr_parser::tokens::{
+use ckc_cursor::memory::push;
+use ckc_cursor::stuck::Stuck;
+use ckc_cursor::terminal::{Terminal, expect};
+use ckc_cursor::tokens::{
     close_brace, close_paren, comma, copied, identifier, join, name, open_brace, open_paren,
     semicolon,
 };
+use ckc_cursor::words::mark;
 use ckc_expr_parser::types::{star_count, stars, type_form, type_name};
-use ckc_expr_parser::words::mark;
 use ckc_lexer::token::{CheckedScope, Token, TokenKind};
+use ckc_stmt_parser::declarations::{Read, declarators, from_first, optional_bounds};
+use ckc_stmt_parser::statements::statements;
 use ckc_text::name::Name;
 use ckc_text::place::Span;
 use ckc_tree::item::{

@@ -9,11 +9,11 @@ ghost use Rattle.ckc_tree.specs.Heights.{items_reach};
 ghost use Rattle.ckc_grammar.specs.ItemGrammar.{SpellsItems};
 ghost use Rattle.ckc_grammar.specs.StuckItems.{StuckItems};
 ghost use Rattle.ckc_grammar.specs.Failures.{IsLow};
-ghost use Rattle.ckc_expr_parser.specs.Answers.{failure};
+ghost use Rattle.ckc_cursor.specs.Answers.{failure};
 
 use crate::items::item;
-use ckc_expr_parser::memory::push;
-use ckc_expr_parser::stuck::Stuck;
+use ckc_cursor::memory::push;
+use ckc_cursor::stuck::Stuck;
 use ckc_lexer::token::Token;
 use ckc_text::code::Code;
 use ckc_text::fault::{Refused, SourceFault};

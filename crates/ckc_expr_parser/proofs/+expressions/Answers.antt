@@ -9,7 +9,7 @@ use Rattle.ckc_expr_parser.specs.Contexts.{Base, waiting, paren_start}
 use Rattle.ckc_expr_parser.specs.Endings.{within, unended}
 use Rattle.ckc_expr_parser.specs.Parts as parts
 use Rattle.ckc_expr_parser.specs.Parts.{no_type, no_operand, no_comma, no_bounds}
-use Rattle.ckc_expr_parser.proofs.Readings.{err, begins, takes, may_take, takes_more, low_around}
+use Rattle.ckc_cursor.proofs.Readings.{err, begins, takes, may_take, takes_more, low_around}
 use Rattle.ckc_expr_parser.proofs.Selecting.{primary_built, primary_reads, selects_built, height_is, start_is, room, selector_is, index_stuck, index_selects, selects_none, selects_more}
 use Rattle.ckc_expr_parser.proofs.Arguments.{follows_none, follows_more, low_pushed, all_read, first_read}
 use Rattle.ckc_expr_parser.proofs.BoundsForms.{word_of_bounds, count_stuck, count_read, no_comma_or_paren, low_stuck, high_stuck, unknown_refused}

@@ -1,7 +1,7 @@
 use Rattle.std.proofs.Common.{refl, ap, ◌∙◌}
 use Rattle.ckc_grammar.specs.Tokens.{next_is}
 use Rattle.ckc_grammar.specs.StuckExpressions.{bounds_word}
-use Rattle.ckc_expr_parser.proofs.Readings.{err}
+use Rattle.ckc_cursor.proofs.Readings.{err}
 use Rattle.ckc_expr_parser.proofs.BoundsForms.{no_bounds_word}
 use Rattle.ckc_expr_parser.proofs.bounds.bounds_word.Goals as goal
 

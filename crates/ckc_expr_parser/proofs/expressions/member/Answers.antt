@@ -4,7 +4,7 @@ use Rattle.ckc_grammar.specs.Tokens.{token}
 use Rattle.ckc_grammar.specs.StuckExpressions as s
 use Rattle.ckc_grammar.specs.StuckExpressions.{StuckSelectors}
 use Rattle.ckc_expr_parser.specs.Readings.{member_word}
-use Rattle.ckc_expr_parser.proofs.Readings.{err, takes, name_fails}
+use Rattle.ckc_cursor.proofs.Readings.{err, takes, name_fails}
 use Rattle.ckc_expr_parser.proofs.Selecting.{room, member_stuck, member_selects, selects_built}
 use Rattle.ckc_expr_parser.proofs.expressions.member.Goals as goal
 

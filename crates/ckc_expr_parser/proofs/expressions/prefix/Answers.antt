@@ -1,7 +1,7 @@
 use Rattle.std.proofs.Common.{◌≤◌, ◌<◌, suc, arith, ◌∙◌, add-one, ap, sym}
 use Rattle.ckc_grammar.specs.StuckExpressions as s
 use Rattle.ckc_expr_parser.specs.ContextAnswers.{prefix_word}
-use Rattle.ckc_expr_parser.proofs.Readings.{err, next_none}
+use Rattle.ckc_cursor.proofs.Readings.{err, next_none}
 use Rattle.ckc_expr_parser.proofs.Waiting.{waiting_last}
 use Rattle.ckc_expr_parser.proofs.Contexts.{needs_fails, needs_parens, needs_operand}
 use Rattle.ckc_expr_parser.proofs.ContextSteps.{needs_in, unary_operator_is, no_prefix_word}

@@ -3,7 +3,7 @@ use Rattle.ckc_tree.specs.Heights.{Reach, expression_reach}
 use Rattle.ckc_tree.specs.Expressions.{expression}
 use Rattle.ckc_grammar.specs.Failures.{IsLow}
 use Rattle.ckc_grammar.specs.StuckExpressions as s
-use Rattle.ckc_expr_parser.proofs.Readings.{err}
+use Rattle.ckc_cursor.proofs.Readings.{err}
 use Rattle.ckc_expr_parser.proofs.Waiting.{waiting_last}
 use Rattle.ckc_expr_parser.proofs.ContextSteps.{needs_in, right_waits, right_deep}
 use Rattle.ckc_expr_parser.proofs.expressions.wait_for_right.Goals as goal

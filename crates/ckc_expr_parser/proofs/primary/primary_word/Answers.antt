@@ -1,7 +1,7 @@
 use Rattle.std.proofs.Common.{sym}
 use Rattle.ckc_grammar.specs.StuckExpressions as s
 use Rattle.ckc_expr_parser.specs.Readings.{no_primary, in_primary}
-use Rattle.ckc_expr_parser.proofs.Readings.{next, next_none}
+use Rattle.ckc_cursor.proofs.Readings.{next, next_none}
 use Rattle.ckc_expr_parser.proofs.primary.primary_word.Goals as goal
 
 pub returns-in_default : goal.returns-in_default

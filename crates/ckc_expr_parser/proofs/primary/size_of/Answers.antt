@@ -1,7 +1,7 @@
 use Rattle.std.proofs.Common.{length, ap, arith, add-one}
 use Rattle.ckc_grammar.specs.ExpressionGrammar as g
 use Rattle.ckc_grammar.specs.StuckExpressions as s
-use Rattle.ckc_expr_parser.proofs.Readings.{err, takes, low_around}
+use Rattle.ckc_cursor.proofs.Readings.{err, takes, low_around}
 use Rattle.ckc_expr_parser.proofs.Selecting.{primary_built}
 use Rattle.ckc_expr_parser.proofs.primary.size_of.Goals as goal
 

@@ -1,7 +1,7 @@
 use Rattle.std.proofs.Common.{sym, arith, add-one}
 use Rattle.ckc_grammar.specs.TypeGrammar as grammar
 use Rattle.ckc_grammar.specs.StuckTypes as stuck
-use Rattle.ckc_expr_parser.proofs.Readings.{err, begins, low_around, pointer_word_is}
+use Rattle.ckc_cursor.proofs.Readings.{err, begins, low_around, pointer_word_is}
 use Rattle.ckc_expr_parser.proofs.types.+types.Goals as goal
 
 pub pointer_type-returns-in_err-less-clause-reads : goal.pointer_type-returns-in_err-less-clause-reads

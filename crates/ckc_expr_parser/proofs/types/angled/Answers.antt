@@ -1,6 +1,6 @@
 use Rattle.ckc_grammar.specs.TypeGrammar as grammar
 use Rattle.ckc_grammar.specs.StuckTypes as stuck
-use Rattle.ckc_expr_parser.proofs.Readings.{err}
+use Rattle.ckc_cursor.proofs.Readings.{err}
 use Rattle.ckc_expr_parser.proofs.types.angled.Goals as goal
 
 pub returns-in_err-less-clause-reads : goal.returns-in_err-less-clause-reads

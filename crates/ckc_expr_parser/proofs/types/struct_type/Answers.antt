@@ -4,7 +4,7 @@ use Rattle.ckc_grammar.specs.Tokens.{token}
 use Rattle.ckc_grammar.specs.TypeGrammar as grammar
 use Rattle.ckc_grammar.specs.StuckTypes as stuck
 use Rattle.ckc_grammar.specs.StuckTypes.{StuckType}
-use Rattle.ckc_expr_parser.proofs.Readings.{err, name_fails}
+use Rattle.ckc_cursor.proofs.Readings.{err, name_fails}
 use Rattle.ckc_expr_parser.proofs.types.struct_type.Goals as goal
 
 pub returns-in_err-tag-clause-reads : goal.returns-in_err-tag-clause-reads

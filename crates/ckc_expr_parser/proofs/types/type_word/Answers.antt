@@ -1,6 +1,6 @@
 use Rattle.std.proofs.Common.{sym}
 use Rattle.ckc_grammar.specs.StuckTypes as stuck
-use Rattle.ckc_expr_parser.proofs.Readings.{next, next_none}
+use Rattle.ckc_cursor.proofs.Readings.{next, next_none}
 use Rattle.ckc_expr_parser.proofs.types.type_word.Goals as goal
 
 pub returns-in_default : goal.returns-in_default

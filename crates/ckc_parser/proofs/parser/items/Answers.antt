@@ -5,7 +5,7 @@ use Rattle.ckc_parser.proofs.FileLevel.{stuck_first, item_shorter, none_left}
 use Rattle.ckc_grammar.proofs.Lists.{goes_on}
 use Rattle.ckc_grammar.specs.ItemGrammar as g
 use Rattle.ckc_grammar.specs.StuckItems as stuck
-use Rattle.ckc_expr_parser.proofs.Readings.{err}
+use Rattle.ckc_cursor.proofs.Readings.{err}
 use Rattle.ckc_parser.proofs.parser.items.Goals as goal
 
 pub returns : goal.returns

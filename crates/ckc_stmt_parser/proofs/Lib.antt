@@ -1,0 +1,3 @@
+mod Ahead
+mod Assignments
+mod Blocks
