@@ -1,0 +1,4 @@
+int main(void) {
+  while (1) { }
+  return 0;
+}
