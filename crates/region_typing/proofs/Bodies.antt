@@ -139,7 +139,7 @@ local_counted p a b k known count =
 
 -- ---- a body more
 
-scope_of_core : (v : Verdict (core.Statements × Scope)) (f : Signature) (ps : List Variable) (g : Scope) (b : core.Function) (h : Scope) → passing v (λ x. Passes (core_function f ps x.0 x.1, g)) ≡ Passes (b, h) → h ≡ g
+scope_of_core : (v : Verdict (core.Statements × Scope)) (f : Signature) (ps : List Variable) (g : Scope) (b : core.Function) (h : Scope) → passing {B = core.Function × Scope} v (λ x. Passes (core_function f ps x.0 x.1, g)) ≡ Passes (b, h) → h ≡ g
 scope_of_core (Passes x) f ps g b h is = let same : (core_function f ps x.0 x.1, g) ≡ (b, h) = cc in sym (ap (λ (p : core.Function × Scope). p.1) same)
 scope_of_core (Breaks fault) f ps g b h is = absurd (cc)
 

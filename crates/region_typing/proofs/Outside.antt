@@ -56,9 +56,13 @@ global_outside at w d o =
     (λ x h. passing_promises OutsideBehind OutsideBehind (with_objects x.0 d.span x.1) _ (objects_outside x.0 d.span x.1 h)
     (λ v h'. needs_promises OutsideBehind (not v.scope.is_off) E15 d.span _ (λ _. h'))))
 
-pub known_outside : (known : Option Signature) (f : Signature) (g : Scope) → Outside g → Outside (with_function known f g)
+known_outside : (known : Option Signature) (f : Signature) (g : Scope) → Outside g → Outside (with_function known f g)
 known_outside None f g o = ap (with_function None f) o
 known_outside (Some before) f g o = o
+
+-- no function is walked behind a declaration
+pub declared_outside : (known : Option Signature) (f : Signature) (g h : Scope) → h ≡ with_function known f g → Outside g → Outside h
+declared_outside known f g h is o = rw is (known_outside known f g o)
 
 body_outside : (at : Places) (w : Walk) (f : Signature) (ps : List Variable) (body : Option i.Body) → Outside w.scope → Promises OutsideBehind (function_body at w f ps body)
 body_outside at w f ps None o = o

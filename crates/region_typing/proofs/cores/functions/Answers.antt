@@ -8,9 +8,10 @@ use Rattle.region_typing.proofs.cores.functions.Goals as goal
 
 pub loop-body-init : goal.loop-body-init
 loop-body-init c =
+    let bare = rw c.as_slice.ensures.value at c.in_ok-built.ensures in
     record {
-      so_far = ([], sym (append-nil (map function c.args.bodies.items)), c.in_ok-built.ensures);
-      all = sym (length-map c.in_ok-built.built.items function) ∙ ap length c.in_ok-built.ensures;
+      so_far = ([], sym (append-nil (map function c.args.bodies.items)), bare);
+      all = sym (length-map c.in_ok-built.built.items function) ∙ ap length bare;
     }
 
 pub loop-body-preserved : goal.loop-body-preserved
