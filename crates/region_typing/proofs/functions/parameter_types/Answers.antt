@@ -1,4 +1,4 @@
-use Rattle.std.proofs.Common.{◌≡◌, ◌<◌, [], length, map, ap, sym, ◌∙◌, arith}
+use Rattle.std.proofs.Common.{◌<◌, [], length, map, arith}
 use Rattle.ckc_tree.specs.Items as trees
 use Rattle.typing_rules.specs.Items.{listed, parameter_types}
 use Rattle.expression_typing.specs.Views.{scope, variable}

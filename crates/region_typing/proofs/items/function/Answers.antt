@@ -1,4 +1,4 @@
-use Rattle.std.proofs.Common.{◌≡◌, true, refl, nat_lt, length, map, ap, sym, ◌∙◌}
+use Rattle.std.proofs.Common.{nat_lt, length, map, ap, sym, ◌∙◌}
 use Rattle.std.proofs.lemmas.Bool.{ltb-true}
 use Rattle.std.proofs.lemmas.List.{length-map}
 use Rattle.ckc_text.specs.Places.{place_at}
