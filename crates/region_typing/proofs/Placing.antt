@@ -12,15 +12,6 @@ use Rattle.expression_typing.specs.Names.{Distinct, are_distinct}
 use Rattle.expression_typing.proofs.FileLevel.{turned, distinct}
 use Rattle.region_typing.specs.CoreParts.{trusted_place}
 
--- how many there are doesn't depend on their bodies
-pub as_many : (bodies : List core.Function) (fs : List Signature) → length (trusted_functions bodies fs) ≡ length (trusted_functions [] fs)
-as_many bodies [] = refl
-as_many bodies (f ∷ fs) = by (is_import f) (as_many bodies fs)
-  where
-    by : (b : Bool) → length (trusted_functions bodies fs) ≡ length (trusted_functions [] fs) → length (picked b (trusted_functions bodies fs) (body_of bodies f ∷ trusted_functions bodies fs)) ≡ length (picked b (trusted_functions [] fs) (body_of [] f ∷ trusted_functions [] fs))
-    by true rest = rest
-    by false rest = ap suc rest
-
 -- the name of no function
 unnamed : (b : core.Function) (bodies : List core.Function) (fs : List Signature) → function_named fs b.name ≡ None → trusted_functions (b ∷ bodies) fs ≡ trusted_functions bodies fs
 unnamed b bodies [] none = refl
