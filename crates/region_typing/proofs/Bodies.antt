@@ -5,7 +5,6 @@ use Rattle.std.specs.Result.{IsErrAnd}
 use Rattle.std.proofs.lemmas.Result.{err_from_is_err_and}
 use Rattle.std.proofs.lemmas.List.{length-map, length-append, map-append}
 use Rattle.ckc_text.specs.declared.place.Span.{Span}
-use Rattle.ckc_text.specs.declared.code.Code.{Code}
 use Rattle.ckc_text.specs.declared.code.Code.TheVariants.{E08, E10, E13, E15}
 use Rattle.ckc_text.specs.declared.fault.Refused.{Refused}
 use Rattle.ckc_text.specs.declared.fault.Refused.TheVariants.{Source, NoMemory}
@@ -22,7 +21,7 @@ use Rattle.typing_rules.specs.Verdicts.{Verdict, Passes, Breaks, passing, needs,
 use Rattle.typing_rules.specs.Scopes.{Scope, Signature, Variable, Visible, function_named}
 use Rattle.typing_rules.specs.Expressions.{Places}
 use Rattle.typing_rules.specs.Statements.{statements, is_unchecked, with_local}
-use Rattle.typing_rules.specs.Items.{Walk, with_parameters, inside, core_function, function_body, listed, parameter_types, result_type, signature_of, agrees, all_scalar, scalar_result, with_function, is_trusted, is_defined, in_checked_region, function_rules, function}
+use Rattle.typing_rules.specs.Items.{Walk, with_parameters, inside, core_function, function_body, listed, parameter_types, result_type, signature_of, agrees, all_scalar, scalar_result, with_function, is_trusted, is_defined, function_rules, function}
 use Rattle.expression_typing.specs.declared.scope as code
 use Rattle.expression_typing.specs.declared.signature.Signature as code_signature
 use Rattle.expression_typing.specs.Views.{scope, signature, variable}
@@ -139,7 +138,7 @@ local_counted p a b k known count =
 
 -- ---- a body more
 
-scope_of_core : (v : Verdict (core.Statements × Scope)) (f : Signature) (ps : List Variable) (g : Scope) (b : core.Function) (h : Scope) → passing v (λ x. Passes (core_function f ps x.0 x.1, g)) ≡ Passes (b, h) → h ≡ g
+scope_of_core : (v : Verdict (core.Statements × Scope)) (f : Signature) (ps : List Variable) (g : Scope) (b : core.Function) (h : Scope) → passing {B = core.Function × Scope} v (λ x. Passes (core_function f ps x.0 x.1, g)) ≡ Passes (b, h) → h ≡ g
 scope_of_core (Passes x) f ps g b h is = let same : (core_function f ps x.0 x.1, g) ≡ (b, h) = cc in sym (ap (λ (p : core.Function × Scope). p.1) same)
 scope_of_core (Breaks fault) f ps g b h is = absurd (cc)
 

@@ -5,5 +5,6 @@ pub mod Bodies
 pub mod Constants
 pub mod JudgedVariables
 pub mod StructParts
+pub mod Lists
 pub mod CoreLists
 pub mod Checks

@@ -1,5 +1,5 @@
 -- Behind an item no function is walked, where none was before it.
-use Rattle.std.proofs.Common.{◌≡◌, Bool, true, not, ◌&&◌, ◌||◌, nat_lt, nat_le, ◌+◌, List, [], ◌∷◌, ◌++◌, length, is_some, Option, Some, None, refl, ap}
+use Rattle.std.proofs.Common.{◌≡◌, true, not, ◌&&◌, ◌||◌, nat_lt, nat_le, ◌+◌, List, [], ◌∷◌, ◌++◌, length, is_some, Option, Some, None, ap}
 use Rattle.ckc_text.specs.declared.place.Span.{Span}
 use Rattle.ckc_text.specs.declared.code.Code.TheVariants.{E08, E10, E13, E15, E27}
 use Rattle.ckc_tree.specs.Types.{TypeTree}
@@ -9,7 +9,7 @@ use Rattle.ckc_tree.specs.Statements.{Declarator}
 use Rattle.pointer_modes.specs.Types as types
 use Rattle.pointer_modes.specs.Types.{CType}
 use Rattle.ckc_core.specs.Core as core
-use Rattle.typing_rules.specs.Verdicts.{Verdict, Passes, Breaks, passing, picked}
+use Rattle.typing_rules.specs.Verdicts.{Verdict, Passes, picked}
 use Rattle.typing_rules.specs.Scopes.{Scope, Signature, Variable, function_named}
 use Rattle.typing_rules.specs.Types.{base_type, without_stars}
 use Rattle.typing_rules.specs.Expressions.{Places}
@@ -56,9 +56,13 @@ global_outside at w d o =
     (λ x h. passing_promises OutsideBehind OutsideBehind (with_objects x.0 d.span x.1) _ (objects_outside x.0 d.span x.1 h)
     (λ v h'. needs_promises OutsideBehind (not v.scope.is_off) E15 d.span _ (λ _. h'))))
 
-pub known_outside : (known : Option Signature) (f : Signature) (g : Scope) → Outside g → Outside (with_function known f g)
+known_outside : (known : Option Signature) (f : Signature) (g : Scope) → Outside g → Outside (with_function known f g)
 known_outside None f g o = ap (with_function None f) o
 known_outside (Some before) f g o = o
+
+-- no function is walked behind a declaration
+pub declared_outside : (known : Option Signature) (f : Signature) (g h : Scope) → h ≡ with_function known f g → Outside g → Outside h
+declared_outside known f g h is o = rw is (known_outside known f g o)
 
 body_outside : (at : Places) (w : Walk) (f : Signature) (ps : List Variable) (body : Option i.Body) → Outside w.scope → Promises OutsideBehind (function_body at w f ps body)
 body_outside at w f ps None o = o

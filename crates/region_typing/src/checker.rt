@@ -1,6 +1,6 @@
 // Whether a program keeps the rules, and what it becomes.
 
-ghost use Rattle.std.specs.Prelude.{◌≡◌, ◌≤◌, length};
+ghost use Rattle.std.specs.Prelude.{◌≤◌, length};
 ghost use Rattle.ckc_text.specs.Places.{place_at};
 ghost use Rattle.ckc_tree.specs.Items.{tree};
 ghost use Rattle.ckc_core.specs.Core.{core as core_view};

@@ -1,7 +1,6 @@
 // The core of a program that breaks no rule.
 
 ghost use Rattle.std.specs.Prelude.{◌≡◌, ◌<◌, ◌∷◌, ◌++◌, [], slice_set, map, length, IfOk};
-ghost use Rattle.pointer_modes.specs.Types.{ctype as ctype_of};
 ghost use Rattle.ckc_core.specs.Core.{function as function_of, import_of, core as core_view};
 ghost use Rattle.typing_rules.specs.Cores.{without_body as without_body_of, trusted_functions, tainted_functions, core_of as core_of_walk};
 ghost use Rattle.expression_typing.specs.Views.{signature};

@@ -7,6 +7,8 @@ mod functions;
 mod globals;
 mod initials;
 mod items;
+mod prototype;
 mod signatures;
+mod start;
 mod structures;
 mod walk;

@@ -1,6 +1,6 @@
 // Declarations of functions, and whether they agree.
 
-ghost use Rattle.std.specs.Prelude.{◌≡◌, ◌<◌, ◌≤◌, ◌&&◌, None, length, map, IfOk};
+ghost use Rattle.std.specs.Prelude.{◌≡◌, ◌<◌, ◌&&◌, None, length, map, IfOk};
 ghost use Rattle.std.specs.Option.{option_map};
 ghost use Rattle.ckc_tree.specs.Items.{function as function_tree};
 ghost use Rattle.pointer_modes.specs.Types.{ctype as ctype_of};
@@ -11,6 +11,7 @@ ghost use Rattle.expression_typing.specs.Views.{scope as scope_of, signature, va
 ghost use Rattle.region_typing.specs.Signatures.{declared as declared_view, declared_function};
 
 use crate::functions::{copied_result, parameter_types, result_type};
+use crate::prototype::Prototype;
 use ckc_text::fault::{NoMemory, Refused};
 use ckc_text::name::Name;
 use ckc_tree::item::{Function, FunctionKind};
@@ -19,14 +20,6 @@ use expression_typing::signature::Signature;
 use expression_typing::types::{copied, is_scalar, same_type};
 use pointer_modes::ctype::CType;
 use std::alloc::Global;
-
-/// A declaration of a function: its signature, and its parameters with their names.
-#[derive(Drop)]
-pub struct Prototype {
-    pub signature: Signature,
-    pub parameters: Vec<Variable>,
-    ghost few: { length parameters.items ≤ 16 },
-}
 
 fn same_types(a: &[CType], b: &[CType]) -> bool
     ensures { result ≡ same_types_of (map ctype_of a.now) (map ctype_of b.now) }

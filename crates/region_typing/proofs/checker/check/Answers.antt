@@ -1,4 +1,4 @@
-use Rattle.std.proofs.Common.{◌≡◌, ap, sym, map, ◌∙◌}
+use Rattle.std.proofs.Common.{Ok, ap, sym}
 use Rattle.ckc_text.specs.Places.{place_at}
 use Rattle.ckc_tree.specs.Items as trees
 use Rattle.ckc_core.specs.Core.{core}
@@ -19,4 +19,4 @@ returns-in_err-items c =
 pub returns : goal.returns
 returns c =
     let passes = rw (c.new-walk.ensures, c.as_slice.ensures.value, c.program.ensures, c.in_ok-sites.ensures) at c.in_ok-items.ensures in
-    as_check core (place_at c.args.src.now) (trees.tree c.args.source.now.program) _ (goes_on _ passes (record { so = ap Passes (sym c.in_ok-core_of.ensures) }))
+    as_check core (place_at c.args.src.now) (trees.tree c.args.source.now.program) (Ok c.in_ok-core_of.field-0) (goes_on _ passes (record { so = ap Passes (sym c.in_ok-core_of.ensures) }))

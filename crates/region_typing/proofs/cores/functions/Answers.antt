@@ -1,15 +1,17 @@
-use Rattle.std.proofs.Common.{◌≡◌, [], map, length, refl, sym, ap, ◌∙◌}
-use Rattle.std.proofs.lemmas.List.{append-nil, length-map}
+use Rattle.std.proofs.Common.{[], ◌++◌, map, length, sym, ap, ◌∙◌}
+use Rattle.std.proofs.lemmas.List.{append-nil, length-map, nil_from_length}
 use Rattle.ckc_core.specs.Core.{function}
+use Rattle.typing_rules.specs.Cores.{trusted_functions}
 use Rattle.expression_typing.specs.Views.{signature}
 use Rattle.region_typing.proofs.Placing.{body_popped}
 use Rattle.region_typing.proofs.cores.functions.Goals as goal
 
 pub loop-body-init : goal.loop-body-init
 loop-body-init c =
+    let bare = rw c.as_slice.ensures.value at c.in_ok-built.ensures in
     record {
-      so_far = ([], sym (append-nil (map function c.args.bodies.items)), c.in_ok-built.ensures);
-      all = sym (length-map c.in_ok-built.built.items function) ∙ ap length c.in_ok-built.ensures;
+      so_far = ([], sym (append-nil (map function c.args.bodies.items)), bare);
+      all = sym (length-map c.in_ok-built.built.items function) ∙ ap length bare;
     }
 
 pub loop-body-preserved : goal.loop-body-preserved
@@ -21,4 +23,7 @@ loop-body-preserved c =
     }
 
 pub returns : goal.returns
-returns c = ?
+returns c =
+    let before = c.loop-body.invariant.so_far in
+    let none = nil_from_length c.loop-body.bodies.items (sym c.loop-body.bodies.ok.0 ∙ c.in_default.ensures.cases.0) in
+    before.2 ∙ ap (λ bs. trusted_functions bs (map signature c.args.scope.now.functions.items)) (sym (before.1 ∙ ap (λ xs. map function xs ++ before.0) none))

@@ -1,4 +1,4 @@
-use Rattle.std.proofs.Common.{◌≡◌, [], ◌++◌, List, length, map, length}
+use Rattle.std.proofs.Common.{◌≡◌, [], ◌++◌, List, length, map}
 use Rattle.ckc_core.specs.Core.{function, Function}
 use Rattle.typing_rules.specs.Cores.{trusted_functions}
 use Rattle.expression_typing.specs.Views.{signature}
@@ -10,3 +10,6 @@ invariant-loop-body l = record {
   so_far : (placed : List Function) × (map function l.initial.bodies.items ≡ map function l.bodies.items ++ placed) × (map function l.built.items ≡ trusted_functions placed (map signature l.scope.functions.items));
   all : length l.built.items ≡ length (trusted_functions [] (map signature l.scope.functions.items));
 }
+
+abbrev pub decreases-loop-body : goal.decreases-loop-body
+decreases-loop-body l = length l.bodies.items

@@ -1,7 +1,5 @@
-use Rattle.std.proofs.Common.{◌≡◌, ◌<◌, Some, None, length, map, sym, ap, ◌∙◌, arith}
+use Rattle.std.proofs.Common.{◌≡◌, Some, None, length, map, sym, ap, ◌∙◌}
 use Rattle.std.proofs.lemmas.List.{length-set}
-use Rattle.ckc_core.specs.Core.{function}
-use Rattle.typing_rules.specs.Cores.{trusted_functions}
 use Rattle.expression_typing.specs.Views.{signature}
 use Rattle.region_typing.specs.CoreParts.{trusted_place}
 use Rattle.region_typing.proofs.Placing.{body_put, body_left, place_within}

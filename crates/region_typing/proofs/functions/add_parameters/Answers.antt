@@ -1,7 +1,4 @@
-use Rattle.std.proofs.Common.{◌<◌, length, map, ap, sym, ◌∙◌, arith}
-use Rattle.std.proofs.lemmas.List.{length-map}
-use Rattle.pointer_modes.specs.Types.{ctype}
-use Rattle.typing_rules.specs.Items.{with_parameters}
+use Rattle.std.proofs.Common.{◌<◌, length, sym, ◌∙◌, arith}
 use Rattle.expression_typing.specs.Views.{scope, variable}
 use Rattle.region_typing.proofs.Bodies.{parameter_added, parameters_all, local_counted}
 use Rattle.region_typing.proofs.functions.add_parameters.Goals as goal

@@ -1,4 +1,4 @@
-use Rattle.std.proofs.Common.{◌≡◌, ◌≤◌, length, map, drop}
+use Rattle.std.proofs.Common.{◌≡◌, length, map, drop}
 use Rattle.typing_rules.specs.Items.{with_parameters}
 use Rattle.expression_typing.specs.Views.{scope, variable}
 use Rattle.region_typing.proofs.functions.add_parameters.Given as goal

@@ -1,9 +1,7 @@
-use Rattle.std.proofs.Common.{map, length, sym, ap, ◌∙◌}
-use Rattle.std.proofs.lemmas.List.{length-map}
+use Rattle.std.proofs.Common.{map, length, refl}
 use Rattle.ckc_text.specs.Places.{place_at}
 use Rattle.ckc_tree.specs.Items.{statement_list}
 use Rattle.ckc_core.specs.Core.{function, statements_of}
-use Rattle.typing_rules.specs.Statements.{statements}
 use Rattle.expression_typing.specs.Views.{scope, signature, variable}
 use Rattle.region_typing.proofs.Bodies.{left_function, body_built, body_refused, core_built}
 use Rattle.region_typing.proofs.functions.body_of.Goals as goal
@@ -15,4 +13,4 @@ returns-in_err-built c =
 pub returns : goal.returns
 returns c =
     let same = left_function (signature c.args.f.now) (map variable c.args.parameters.now) c.args.scope.now c.enter.new.scope c.statements.new.scope c.exit-locals.new.self c.requires.outside c.in_ok-enter.ensures c.in_ok-built.ensures.so.1 c.exit-locals.ensures.known in
-    record { so = body_built (place_at c.args.sites.now) (signature c.args.f.now) (map variable c.args.parameters.now) (statement_list c.args.body.now) (statements_of c.in_ok-built.built.items) (function c.in_ok-core_function.field-0) c.args.scope.now c.enter.new.scope c.statements.new.scope c.exit-locals.new.self c.in_ok-enter.ensures same c.in_ok-built.ensures.so.0 (core_built c.args.f.now c.args.parameters.now c.len.result c.len.ensures c.exit-locals.result.items (scope c.statements.new.scope) c.exit-locals.ensures.locals c.in_ok-built.built.items c.in_ok-core_function.field-0 c.in_ok-core_function.ensures) }
+    record { so = body_built (place_at c.args.sites.now) (signature c.args.f.now) (map variable c.args.parameters.now) (statement_list c.args.body.now) (statements_of c.in_ok-built.built.items) (function c.in_ok-core_function.field-0) c.args.scope.now c.enter.new.scope c.statements.new.scope c.exit-locals.new.self c.in_ok-enter.ensures same c.in_ok-built.ensures.so.0 (core_built c.args.f.now c.args.parameters.now (length c.args.parameters.now) refl c.exit-locals.result.items (scope c.statements.new.scope) c.exit-locals.ensures.locals c.in_ok-built.built.items c.in_ok-core_function.field-0 c.in_ok-core_function.ensures) }

@@ -1,4 +1,4 @@
-use Rattle.std.proofs.Common.{◌≡◌, true, refl, nat_lt, length, map, ap, sym, ◌∙◌}
+use Rattle.std.proofs.Common.{nat_lt, length, map, ap, sym, ◌∙◌}
 use Rattle.std.proofs.lemmas.Bool.{ltb-true}
 use Rattle.std.proofs.lemmas.List.{length-map}
 use Rattle.ckc_text.specs.Places.{place_at}
@@ -10,7 +10,7 @@ use Rattle.expression_typing.proofs.Going.{goes_on, refused}
 use Rattle.region_typing.specs.Items.{walk}
 use Rattle.region_typing.specs.Signatures.{declared}
 use Rattle.region_typing.proofs.Bodies.{function_parts, function_walk, kept_last, room_left, declared_name}
-use Rattle.region_typing.proofs.Outside.{known_outside}
+use Rattle.region_typing.proofs.Outside.{declared_outside}
 use Rattle.statement_typing.proofs.Testing.{holds, fails, tested}
 use Rattle.region_typing.proofs.items.function.Goals as goal
 
@@ -36,7 +36,7 @@ declare-requires c none =
 pub function_body-requires-clause-outside : goal.function_body-requires-clause-outside
 function_body-requires-clause-outside c =
     let g = scope c.args.walk.now.scope in
-    rw c.in_ok-declare.ensures (known_outside (function_named g.functions c.in_ok-known.known.signature.name) (signature c.in_ok-known.known.signature) g c.requires)
+    declared_outside (function_named g.functions c.in_ok-known.known.signature.name) (signature c.in_ok-known.known.signature) g (scope c.declare.new.scope) c.in_ok-declare.ensures c.requires
 
 pub returns-in_err-function_body : goal.returns-in_err-function_body
 returns-in_err-function_body c =

@@ -1,5 +1,4 @@
-use Rattle.std.proofs.Common.{map, sym, ap, ◌∙◌, arith}
-use Rattle.ckc_tree.specs.Items as trees
+use Rattle.std.proofs.Common.{sym, ◌∙◌, arith}
 use Rattle.region_typing.proofs.ItemSteps.{defined_here, defined_later, defined_nowhere}
 use Rattle.region_typing.proofs.items.is_defined.Goals as goal
 

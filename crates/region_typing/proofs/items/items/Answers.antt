@@ -1,8 +1,7 @@
-use Rattle.std.proofs.Common.{◌<◌, length, map, refl, arith}
+use Rattle.std.proofs.Common.{◌<◌, length, map, arith}
 use Rattle.ckc_text.specs.Places.{place_at}
 use Rattle.ckc_tree.specs.Items as trees
-use Rattle.typing_rules.specs.Items.{item, items}
-use Rattle.expression_typing.specs.Views.{scope}
+use Rattle.typing_rules.specs.Items.{items}
 use Rattle.expression_typing.proofs.Going.{refused_by}
 use Rattle.region_typing.specs.Items.{walk}
 use Rattle.statement_typing.proofs.Steps.{part_more, part_breaks, parts_done}

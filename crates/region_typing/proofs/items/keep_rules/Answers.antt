@@ -1,4 +1,4 @@
-use Rattle.std.proofs.Common.{refl, ap, sym, not}
+use Rattle.std.proofs.Common.{refl, ap, not}
 use Rattle.statement_typing.proofs.Testing.{holds, fails, last}
 use Rattle.region_typing.proofs.items.keep_rules.Goals as goal
 
