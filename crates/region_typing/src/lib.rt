@@ -8,5 +8,6 @@ mod globals;
 mod initials;
 mod items;
 mod signatures;
+mod start;
 mod structures;
 mod walk;
