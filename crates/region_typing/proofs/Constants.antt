@@ -27,8 +27,8 @@ use Rattle.statement_typing.proofs.Steps.{parts_at, no_parts}
 
 -- ---- constants have at most 31 bits
 
-constant_small : (value n : ℕ) (zero : Bool) (span : Span) (t : Typed) → constant value zero span ≡ Passes t → Some value ≡ Some n → n < 2147483648
-constant_small value n zero span t passes is = by (nat_lt value 2147483648) refl
+constant_small : (value n : ℕ) (null : Bool) (span : Span) (t : Typed) → constant value null span ≡ Passes t → Some value ≡ Some n → n < 2147483648
+constant_small value n null span t passes is = by (nat_lt value 2147483648) refl
   where
     by : (b : Bool) → nat_lt value 2147483648 ≡ b → n < 2147483648
     by true test = let same : value ≡ n = cc in rw (← same) (ltb-true value 2147483648 test)

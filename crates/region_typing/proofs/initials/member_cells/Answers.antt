@@ -1,4 +1,4 @@
-use Rattle.std.proofs.Common.{◌<◌, ◌+◌, [], ◌∷◌, length, refl, ap, sym, ◌∙◌, w32, to_z, of_z, arith}
+use Rattle.std.proofs.Common.{◌≡◌, ◌<◌, ◌+◌, [], ◌∷◌, length, refl, ap, sym, ◌∙◌, w32, to_z, of_z, arith}
 use Rattle.std.proofs.lemmas.Int.{to_z-of_z}
 use Rattle.std.proofs.lemmas.List.{length-append}
 use Rattle.pointer_modes.specs.Types.{ctype}
@@ -20,8 +20,9 @@ loop-member-preserved c =
     let s = c.args.structs.now in
     let t = ctype c.args.t.now in
     let number = to_z w32 (of_z w32 c.args.number) in
+    let count : c.len.result ≡ c.loop-member.member-index = omega (arith, c.loop-member.cells.ok.0) in
     record {
-      so_far = cell_more s t c.args.members.now number c.loop-member.member-index c.member-item.result (cells_with s t number) c.loop-member.cells.items c.push.new.self.items _ c.in_ok-push.ensures.items (omega (arith, c.loop-member-test.true)) c.member-item.is c.requires.are ? c.loop-member.invariant.so_far;
+      so_far = cell_more s t c.args.members.now number c.loop-member.member-index c.member-item.result (cells_with s t number) c.loop-member.cells.items c.push.new.self.items _ c.in_ok-push.ensures.items (omega (arith, c.loop-member-test.true)) c.member-item.is c.requires.are (rw (c.in_ok-ctype.ensures, c.stride-stride.ensures, count) refl) c.loop-member.invariant.so_far;
       count = ap length c.in_ok-push.ensures.items ∙ length-append c.loop-member.cells.items _ ∙ ap (λ n. n + 1) c.loop-member.invariant.count;
     }
 
