@@ -70,7 +70,7 @@ variables_judged at w base t span (d ∷ ds) done next next' same =
     let begun = λ (u : CType) (x : rules.Walked). variables at (with_one d.name.name u w) base t span ds (done ++ record { type = u; initial = x } ∷ []) in
     let of_type = λ (u : CType). passing (initializer at (with_variable d.name.name u w.scope) d.initializer) (begun u) in
     let behind = λ (y : Walk × JudgedVariable). passing (judged_variables at base t span ds (y.0, map as_judged done ++ y.1 ∷ [])) next' in
-    let judged = λ (u : CType) (j : Judged). (with_one d.name.name u w, record { type = u; initial = j }) in
+    let judged : CType → Judged → Walk × JudgedVariable = λ u j. (with_one d.name.name u w, record { type = u; initial = j }) in
     ap (λ all. passing all next) (one_typed (nat_lt (length w.scope.variables) 4096) (without_stars base d.stars t) (λ u. nat_le (w.taken + block_bytes w.scope u) 32768) span of_type)
     ∙ in_parts (variable_type w base t span d) of_type next
     ∙ same_behind (variable_type w base t span d) _ (λ u. passing (judged_initializer at (with_one d.name.name u w).scope d.initializer) (λ j. behind (judged u j)))
