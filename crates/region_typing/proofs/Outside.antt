@@ -1,5 +1,5 @@
 -- Behind an item no function is walked, where none was before it.
-use Rattle.std.proofs.Common.{◌≡◌, Bool, true, not, ◌&&◌, ◌||◌, nat_lt, nat_le, ◌+◌, List, [], ◌∷◌, ◌++◌, length, is_some, Option, Some, None, refl, ap}
+use Rattle.std.proofs.Common.{◌≡◌, true, not, ◌&&◌, ◌||◌, nat_lt, nat_le, ◌+◌, List, [], ◌∷◌, ◌++◌, length, is_some, Option, Some, None, ap}
 use Rattle.ckc_text.specs.declared.place.Span.{Span}
 use Rattle.ckc_text.specs.declared.code.Code.TheVariants.{E08, E10, E13, E15, E27}
 use Rattle.ckc_tree.specs.Types.{TypeTree}
@@ -9,7 +9,7 @@ use Rattle.ckc_tree.specs.Statements.{Declarator}
 use Rattle.pointer_modes.specs.Types as types
 use Rattle.pointer_modes.specs.Types.{CType}
 use Rattle.ckc_core.specs.Core as core
-use Rattle.typing_rules.specs.Verdicts.{Verdict, Passes, Breaks, passing, picked}
+use Rattle.typing_rules.specs.Verdicts.{Verdict, Passes, picked}
 use Rattle.typing_rules.specs.Scopes.{Scope, Signature, Variable, function_named}
 use Rattle.typing_rules.specs.Types.{base_type, without_stars}
 use Rattle.typing_rules.specs.Expressions.{Places}

@@ -1,5 +1,5 @@
 -- The places of bodies among trusted functions.
-use Rattle.std.proofs.Common.{◌≡◌, ℕ, zero, suc, ◌+◌, ◌<◌, Bool, true, false, not, bytes_eq, List, [], ◌∷◌, ◌++◌, length, map, set, Option, Some, None, refl, ap, sym, ◌∙◌, append_assoc, arith, true≢false}
+use Rattle.std.proofs.Common.{◌≡◌, ℕ, suc, ◌<◌, Bool, true, false, bytes_eq, List, [], ◌∷◌, ◌++◌, length, map, set, Option, Some, None, refl, ap, sym, ◌∙◌, append_assoc, arith, true≢false}
 use Rattle.std.proofs.lemmas.List.{map-append, map-set}
 use Rattle.std.proofs.lemmas.Slice.Eq.{bytes_eq-Decides}
 use Rattle.ckc_core.specs.declared.program.Function as code_core
@@ -7,7 +7,7 @@ use Rattle.ckc_core.specs.Core as core
 use Rattle.typing_rules.specs.Verdicts.{picked}
 use Rattle.typing_rules.specs.Scopes.{Signature, function_named}
 use Rattle.typing_rules.specs.Expressions.{is_import, side_number, counted, same_side}
-use Rattle.typing_rules.specs.Cores.{body_of, without_body, trusted_functions}
+use Rattle.typing_rules.specs.Cores.{body_of, trusted_functions}
 use Rattle.expression_typing.specs.Names.{Distinct, are_distinct}
 use Rattle.expression_typing.proofs.FileLevel.{turned, distinct}
 use Rattle.region_typing.specs.CoreParts.{trusted_place}
