@@ -1,13 +1,9 @@
 -- Constants, and the cells that they are in.
-use Rattle.std.proofs.Common.{◌≡◌, ℕ, zero, suc, ◌+◌, ◌-◌, ◌<◌, ◌≤◌, Bool, true, false, nat_lt, List, [], ◌∷◌, ◌++◌, length, map, drop, get_or, slice_index, add-one, append_assoc, Option, Some, None, refl, ap, sym, ◌∙◌, arith, rules}
+use Rattle.std.proofs.Common.{◌≡◌, ℕ, zero, suc, ◌+◌, ◌-◌, ◌<◌, ◌≤◌, true, nat_lt, List, [], ◌∷◌, ◌++◌, length, map, drop, get_or, slice_index, add-one, append_assoc, refl, ap, sym, ◌∙◌, arith, rules}
 use Rattle.std.proofs.lemmas.List.{append-nil, map-append}
-use Rattle.std.proofs.lemmas.Bool.{ltb-true}
 use Rattle.std.proofs.lemmas.Bool.Decides.{nat_tests}
 use Rattle.std.proofs.Common.{ℤ}
 use Rattle.ckc_text.specs.declared.place.Span.{Span}
-use Rattle.ckc_text.specs.declared.code.Code.TheVariants.{E04}
-use Rattle.ckc_tree.specs.declared.expr.UnaryOperator.TheVariants as unary
-use Rattle.ckc_tree.specs.Expressions as e
 use Rattle.ckc_tree.specs.Expressions.{Expression}
 use Rattle.pointer_modes.specs.declared.ctype.Member as code_member
 use Rattle.pointer_modes.proofs.Cells.{length_of_cells}
@@ -16,68 +12,13 @@ use Rattle.pointer_modes.specs.Layout.{Cell, cells_of, size_of}
 use Rattle.ckc_core.specs.declared.program.Initial as code_initial
 use Rattle.ckc_core.specs.Core as core
 use Rattle.ckc_core.specs.Core.{initial}
-use Rattle.typing_rules.specs.Verdicts.{Verdict, Passes, Breaks, passing, needs, picked}
-use Rattle.typing_rules.specs.Scopes.{Scope}
+use Rattle.typing_rules.specs.Verdicts.{picked}
 use Rattle.typing_rules.specs.Types.{is_scalar}
-use Rattle.typing_rules.specs.Expressions.{Places, Typed, typed, constant}
+use Rattle.typing_rules.specs.Expressions.{Typed}
 use Rattle.typing_rules.specs.Items as rules
-use Rattle.typing_rules.specs.Items.{unsigned_constant, strides_from, strides_of, cells_with, numbered_cells, object_cells}
-use Rattle.region_typing.specs.Initials.{IsSmall, IsStructOf, judged_as, judged_cells, stride_at}
+use Rattle.typing_rules.specs.Items.{strides_from, strides_of, cells_with, numbered_cells, object_cells}
+use Rattle.region_typing.specs.Initials.{IsStructOf, judged_as, judged_cells, stride_at}
 use Rattle.statement_typing.proofs.Steps.{parts_at, no_parts}
-
--- ---- constants have at most 31 bits
-
-constant_small : (value n : ℕ) (zero : Bool) (span : Span) (t : Typed) → constant value zero span ≡ Passes t → Some value ≡ Some n → n < 2147483648
-constant_small value n zero span t passes is = by (nat_lt value 2147483648) refl
-  where
-    by : (b : Bool) → nat_lt value 2147483648 ≡ b → n < 2147483648
-    by true test = let same : value ≡ n = cc in rw (← same) (ltb-true value 2147483648 test)
-    by false test = let broken = rw test at passes in absurd (cc)
-
-unsigned_small : (at : Places) (g : Scope) (a : Expression) (t : Typed) (n : ℕ) → typed at g a ≡ Passes t → unsigned_constant a ≡ Some n → n < 2147483648
-unsigned_small at g (e.Number value span) t n passes is = constant_small value n _ span t passes is
-unsigned_small at g (e.Character value span) t n passes is = constant_small value n _ span t passes is
-unsigned_small at g (e.Text bytes span) t n passes is = absurd (cc)
-unsigned_small at g (e.Name name) t n passes is = absurd (cc)
-unsigned_small at g (e.Call callee arguments span) t n passes is = absurd (cc)
-unsigned_small at g (e.SizeOf type span) t n passes is = absurd (cc)
-unsigned_small at g (e.Cast word type operand span) t n passes is = absurd (cc)
-unsigned_small at g (e.BoundedCast word type operand bounds span) t n passes is = absurd (cc)
-unsigned_small at g (e.Malloc word type size span) t n passes is = absurd (cc)
-unsigned_small at g (e.Calloc word type count size span) t n passes is = absurd (cc)
-unsigned_small at g (e.Index base index span) t n passes is = absurd (cc)
-unsigned_small at g (e.Dot base member span) t n passes is = absurd (cc)
-unsigned_small at g (e.Arrow base member span) t n passes is = absurd (cc)
-unsigned_small at g (e.Unary operator operand span) t n passes is = absurd (cc)
-unsigned_small at g (e.Binary operator left right span) t n passes is = absurd (cc)
-
-operand_small : (at : Places) (g : Scope) (operand : Expression) (next : Typed → Verdict Typed) (t : Typed) (n : ℕ) → passing (typed at g operand) next ≡ Passes t → unsigned_constant operand ≡ Some n → n < 2147483648
-operand_small at g operand next t n passes is = by (typed at g operand) refl
-  where
-    by : (v : Verdict Typed) → typed at g operand ≡ v → n < 2147483648
-    by (Passes u) operand_is = unsigned_small at g operand u n operand_is is
-    by (Breaks fault) operand_is = let broken = rw operand_is at passes in absurd (cc)
-
-pub typed_small : (at : Places) (g : Scope) (a : Expression) (t : Typed) → typed at g a ≡ Passes t → IsSmall a
-typed_small at g (e.Unary unary.Negate operand span) t passes n is = operand_small at g operand _ t n passes is
-typed_small at g (e.Unary unary.Deref operand span) t passes n is = absurd (cc)
-typed_small at g (e.Unary unary.AddressOf operand span) t passes n is = absurd (cc)
-typed_small at g (e.Unary unary.Not operand span) t passes n is = absurd (cc)
-typed_small at g (e.Unary unary.Complement operand span) t passes n is = absurd (cc)
-typed_small at g (e.Number value span) t passes n is = unsigned_small at g (e.Number value span) t n passes is
-typed_small at g (e.Character value span) t passes n is = unsigned_small at g (e.Character value span) t n passes is
-typed_small at g (e.Text bytes span) t passes n is = absurd (cc)
-typed_small at g (e.Name name) t passes n is = absurd (cc)
-typed_small at g (e.Call callee arguments span) t passes n is = absurd (cc)
-typed_small at g (e.SizeOf type span) t passes n is = absurd (cc)
-typed_small at g (e.Cast word type operand span) t passes n is = absurd (cc)
-typed_small at g (e.BoundedCast word type operand bounds span) t passes n is = absurd (cc)
-typed_small at g (e.Malloc word type size span) t passes n is = absurd (cc)
-typed_small at g (e.Calloc word type count size span) t passes n is = absurd (cc)
-typed_small at g (e.Index base index span) t passes n is = absurd (cc)
-typed_small at g (e.Dot base member span) t passes n is = absurd (cc)
-typed_small at g (e.Arrow base member span) t passes n is = absurd (cc)
-typed_small at g (e.Binary operator left right span) t passes n is = absurd (cc)
 
 -- ---- cells by what is judged
 

@@ -13,7 +13,7 @@ use Rattle.typing_rules.specs.Verdicts.{Verdict, Passes, Breaks, passing, needs}
 use Rattle.typing_rules.specs.Types.{base_type, without_stars}
 use Rattle.typing_rules.specs.Expressions.{Places}
 use Rattle.typing_rules.specs.Items as rules
-use Rattle.typing_rules.specs.Items.{Walk, WalkedVariable, with_variable, block_bytes, initializer, variables, object_cells, with_objects, global, in_checked_region}
+use Rattle.typing_rules.specs.Items.{Walk, WalkedVariable, with_variable, block_bytes, initializer, variables, with_objects, global, in_checked_region}
 use Rattle.expression_typing.specs.Answering.{Answers}
 use Rattle.region_typing.specs.Initials.{Judged, judged_as, judged_cells}
 use Rattle.region_typing.specs.Items.{JudgedVariable, variable_type, with_one, one_variable, judged_variables, judged_initializer, one_object, judged_objects}
@@ -70,7 +70,7 @@ variables_judged at w base t span (d ∷ ds) done next next' same =
     let begun = λ (u : CType) (x : rules.Walked). variables at (with_one d.name.name u w) base t span ds (done ++ record { type = u; initial = x } ∷ []) in
     let of_type = λ (u : CType). passing (initializer at (with_variable d.name.name u w.scope) d.initializer) (begun u) in
     let behind = λ (y : Walk × JudgedVariable). passing (judged_variables at base t span ds (y.0, map as_judged done ++ y.1 ∷ [])) next' in
-    let judged = λ (u : CType) (j : Judged). (with_one d.name.name u w, record { type = u; initial = j }) in
+    let judged : CType → Judged → Walk × JudgedVariable = λ u j. (with_one d.name.name u w, record { type = u; initial = j }) in
     ap (λ all. passing all next) (one_typed (nat_lt (length w.scope.variables) 4096) (without_stars base d.stars t) (λ u. nat_le (w.taken + block_bytes w.scope u) 32768) span of_type)
     ∙ in_parts (variable_type w base t span d) of_type next
     ∙ same_behind (variable_type w base t span d) _ (λ u. passing (judged_initializer at (with_one d.name.name u w).scope d.initializer) (λ j. behind (judged u j)))

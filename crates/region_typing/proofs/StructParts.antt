@@ -1,14 +1,14 @@
 -- Structs, by their steps.
-use Rattle.std.proofs.Common.{◌≡◌, ℕ, ◌+◌, ◌<◌, arith, Bool, true, false, not, ◌&&◌, ◌||◌, nat_lt, List, [], ◌∷◌, ◌++◌, length, map, Result, Ok, refl, ap, sym, ◌∙◌}
+use Rattle.std.proofs.Common.{◌≡◌, ℕ, ◌+◌, ◌<◌, arith, Bool, true, false, not, ◌&&◌, nat_lt, List, [], ◌∷◌, ◌++◌, length, refl, ap, sym, ◌∙◌}
 use Rattle.std.specs.List.{list_all}
 use Rattle.std.proofs.lemmas.List.{length-append}
 use Rattle.ckc_text.specs.declared.place.Span.{Span}
-use Rattle.ckc_text.specs.declared.code.Code.TheVariants.{E08, E15, E27}
+use Rattle.ckc_text.specs.declared.code.Code.TheVariants.{E08, E27}
 use Rattle.ckc_tree.specs.Items as i
 use Rattle.pointer_modes.specs.Types as types
 use Rattle.pointer_modes.specs.Types.{CType, Int, Char, Struct, Pointer, Structure}
 use Rattle.pointer_modes.specs.Declaring.{with_members}
-use Rattle.typing_rules.specs.Verdicts.{Verdict, Passes, Breaks, passing, needs}
+use Rattle.typing_rules.specs.Verdicts.{Verdict, Passes, passing, needs}
 use Rattle.typing_rules.specs.Scopes.{Scope}
 use Rattle.typing_rules.specs.Types.{is_scalar}
 use Rattle.typing_rules.specs.Items.{Walk, is_struct, member_types, scalar_members, with_struct, in_checked_region, structure}
@@ -24,11 +24,11 @@ scalars_first (m ∷ ms) next = by (not (is_struct m.ctype)) (scalars_first ms n
     by false rest = refl
 
 -- a struct by its number, its members, and their types
-pub structure_parts : (w : Walk) (d : i.Structure) → structure w d ≡ passing (struct_added d.tag.name d.tainted d.span w.scope) (λ p. passing (member_types p.1 d.members []) (λ ms. passing (scalar_members {A = Unit {0}} ms (Passes tt)) (λ u. in_checked_region w.scope d.span (record w { scope = with_struct d.tag.name d.tainted ms w.scope }))))
+pub structure_parts : (w : Walk) (d : i.Structure) → structure w d ≡ passing {A = ℕ × Scope} (struct_added d.tag.name d.tainted d.span w.scope) (λ p. passing (member_types p.1 d.members []) (λ ms. passing (scalar_members {A = Unit {0}} ms (Passes tt)) (λ u. in_checked_region w.scope d.span (record w { scope = with_struct d.tag.name d.tainted ms w.scope }))))
 structure_parts w d = by (nat_lt (length w.scope.structs) 4096)
   where
     by : (b : Bool) → needs b E08 d.span (passing (member_types (with_struct d.tag.name d.tainted [] w.scope) d.members []) (λ ms. scalar_members ms (in_checked_region w.scope d.span (record w { scope = with_struct d.tag.name d.tainted ms w.scope }))))
-        ≡ passing (needs b E08 d.span (Passes (length w.scope.structs, with_struct d.tag.name d.tainted [] w.scope))) (λ p. passing (member_types p.1 d.members []) (λ ms. passing (scalar_members {A = Unit {0}} ms (Passes tt)) (λ u. in_checked_region w.scope d.span (record w { scope = with_struct d.tag.name d.tainted ms w.scope }))))
+        ≡ passing {A = ℕ × Scope} (needs b E08 d.span (Passes (length w.scope.structs, with_struct d.tag.name d.tainted [] w.scope))) (λ p. passing (member_types p.1 d.members []) (λ ms. passing (scalar_members {A = Unit {0}} ms (Passes tt)) (λ u. in_checked_region w.scope d.span (record w { scope = with_struct d.tag.name d.tainted ms w.scope }))))
     by true = same_behind (member_types (with_struct d.tag.name d.tainted [] w.scope) d.members []) _ _ (λ ms. scalars_first ms (in_checked_region w.scope d.span (record w { scope = with_struct d.tag.name d.tainted ms w.scope })))
     by false = refl
 
@@ -57,7 +57,7 @@ pub record IsAdded (tag : List ℕ) (tainted : Bool) (g : Scope) (n : ℕ) (h : 
   pub number : n ≡ length g.structs
   pub known : h ≡ with_struct tag tainted [] g
 
-added_so : (b : Bool) (tag : List ℕ) (tainted : Bool) (span : Span) (g : Scope) (n : ℕ) (h : Scope) → needs b E08 span (Passes (length g.structs, with_struct tag tainted [] g)) ≡ Passes (n, h) → IsAdded tag tainted g n h
+added_so : (b : Bool) (tag : List ℕ) (tainted : Bool) (span : Span) (g : Scope) (n : ℕ) (h : Scope) → needs {A = ℕ × Scope} b E08 span (Passes (length g.structs, with_struct tag tainted [] g)) ≡ Passes (n, h) → IsAdded tag tainted g n h
 added_so true tag tainted span g n h is =
     let same : (length g.structs, with_struct tag tainted [] g) ≡ (n, h) = cc in
     record { number = sym (ap (λ (p : ℕ × Scope). p.0) same); known = sym (ap (λ (p : ℕ × Scope). p.1) same) }

@@ -1,4 +1,4 @@
-use Rattle.std.proofs.Common.{◌≡◌, ap, sym, refl, ◌∙◌, map}
+use Rattle.std.proofs.Common.{ap, refl, map}
 use Rattle.pointer_modes.specs.Types.{member}
 use Rattle.ckc_tree.specs.Items as trees
 use Rattle.typing_rules.specs.Verdicts.{Passes}
