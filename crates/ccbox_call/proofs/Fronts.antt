@@ -1,11 +1,11 @@
 -- Each part of the front end is exact, so the whole is.
-use Rattle.std.proofs.Common.{◌≡◌, ℕ, true, false, List, length, Option, Some, None, Result, Ok, Err, refl, sym, ap, ◌∙◌, subst}
+use Rattle.std.proofs.Common.{◌≡◌, ℕ, ◌≤◌, true, false, List, length, Option, Some, None, Result, Ok, Err, refl, sym, ap, ◌∙◌, subst}
 use Rattle.ckc_text.specs.declared.fault.SourceFault.{SourceFault}
 use Rattle.ckc_text.specs.declared.fault.Refused.{Refused}
 use Rattle.ckc_text.specs.declared.fault.Refused.TheVariants.{Source, NoMemory}
 use Rattle.ckc_text.specs.Refusals as refusals
 use Rattle.ckc_text.specs.Places.{place_at}
-use Rattle.ckc_lexer.specs.Tokens.{AreTokens, HasFault, LexAnswers}
+use Rattle.ckc_lexer.specs.Tokens.{cut, AreTokens, HasFault, LexAnswers}
 use Rattle.ckc_lexer.specs.declared.token.Token.{Token}
 use Rattle.ckc_lexer.proofs.Cuts.{same_answer}
 use Rattle.ckc_tree.specs.Items.{Tree}
@@ -109,6 +109,10 @@ one_refusal (breaks t has built named f) (not_built u has' none) = absurd (built
 one_refusal (breaks t has built named f) (misnamed u has' built' g) = absurd (named_or_not has has' named g)
 one_refusal (breaks t has built named f) (breaks u has' built' named' g) = same_breaks has has' f g
 
+-- a source with tokens isn't too long
+pub tokens_short : {src : List ℕ} {tokens : List Token} → AreTokens src tokens → length src ≤ 1048576
+tokens_short (cut short c) = short
+
 -- ---- what the parts answer is what the front end does
 
 -- bytes that have no tokens
@@ -120,6 +124,10 @@ lex_refuses src NoMemory h = tt
 pub parse_refuses : (src : List ℕ) (tokens : List Token) → AreTokens src tokens → (e : Refused) → ParseAnswers (length src) tokens (Err e) → FrontAnswers src (Err e)
 parse_refuses src tokens read (Source fault) h = no_tree tokens read h
 parse_refuses src tokens read NoMemory h = tt
+
+-- tokens that spell a tree
+pub has_tree : {src : List ℕ} {tokens items : List Token} {t : Tree} → AreTokens src items → tokens ≡ items → IsTree (length src) tokens t → HasTree src t
+has_tree {src} {tokens} {items} {t} read same is = record { tokens = items; are_tokens = read; is_tree = subst (λ ts. IsTree (length src) ts t) same is }
 
 module _ (src : List ℕ) (t : Tree) (has : HasTree src t) where
   -- a tree with a form that isn't built
@@ -133,7 +141,10 @@ module _ (src : List ℕ) (t : Tree) (has : HasTree src t) where
     names_refuse view NoMemory h = tt
 
     -- a program that keeps all rules, or breaks one
-    pub check_answers : naming_fault t ≡ None → (r : Result code.Core.Core Refused) → CheckAnswers core (place_at src) t r → FrontAnswers src r
-    check_answers named (Ok c) h = record { tree = t; has_tree = has; forms = built; has_core = record { forms = built; names = named; rules = h } }
-    check_answers named (Err (Source fault)) h = breaks t has built named h
-    check_answers named (Err NoMemory) h = tt
+    pub check_answers : {N : Type 0} (view : N → NamedTree) (named : N) → Names view t (Ok named) → (r : Result code.Core.Core Refused) → CheckAnswers core (place_at src) (view named).tree r → FrontAnswers src r
+    check_answers view named names r h = by r (subst (λ u. CheckAnswers core (place_at src) u r) (ap (λ (n : NamedTree). n.tree) names.1) h)
+      where
+        by : (r : Result code.Core.Core Refused) → CheckAnswers core (place_at src) t r → FrontAnswers src r
+        by (Ok c) kept = record { tree = t; has_tree = has; forms = built; has_core = record { forms = built; names = names.0; rules = kept } }
+        by (Err (Source fault)) broken = breaks t has built names.0 broken
+        by (Err NoMemory) nothing = tt

@@ -1,5 +1,5 @@
 -- The run of an accepted program ends, and its code ends in the same way.
-use Rattle.std.proofs.Common.{◌≡◌, ℕ, ◌+◌, ◌-◌, ◌≤◌, ◌++◌, List, [], Option, Some, None, option_map, sym, ap, ◌∙◌, subst, arith}
+use Rattle.std.proofs.Common.{◌≡◌, ℕ, ◌+◌, ◌-◌, ◌≤◌, List, [], Option, Some, None, option_map, ap, ◌∙◌, subst, arith}
 use Rattle.std.specs.Prelude.{All, replicate}
 use Rattle.std.proofs.lemmas.List.{replicate-append-replicate}
 use Rattle.std.proofs.lemmas.List.Elements.{All-nil}
@@ -20,11 +20,16 @@ use Rattle.lowering.proofs.Programs.{keeps_meaning}
 use Rattle.typing_rules.specs.NeverStuck.{NeverStuck}
 use Rattle.typing_rules.proofs.Typing.{typed, small}
 use Rattle.typing_rules.proofs.Programs.{never_stuck}
-use Rattle.command_words.specs.Requests.{Options, settings_of, inputs_of}
-use Rattle.command_words.proofs.Allowed.{may_run}
+use Rattle.command_words.specs.Requests.{Run, Options, settings_of, inputs_of, request_of}
+use Rattle.command_words.proofs.Allowed.{settings_allowed, inputs_are_words}
 use Rattle.ccbox_call.specs.Acceptance.{IsAcceptedCore}
 use Rattle.ccbox_call.specs.Answers.{acts_at, RunsTo, AsksFor}
+use Rattle.ccbox_call.specs.Calls.{MayRun}
 use Rattle.ccbox_call.proofs.Lowering.{small_is_lowerable}
+
+-- what words ask for may be run with
+pub may_run : (words : List (List ℕ)) (name : List ℕ) (options : Options) → request_of words ≡ Some (Run name options) → MayRun options
+may_run words name options asked = record { settings = settings_allowed words name options asked; inputs = inputs_are_words words name options asked }
 
 -- what is accepted can be lowered
 pub lowerable : (c : Core) → IsAcceptedCore c → IsLowerable c

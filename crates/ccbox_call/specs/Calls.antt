@@ -1,12 +1,19 @@
 -- How a call of the program ends, part by part: what it wrote, its status, and the counts of failures.
-use Rattle.std.specs.Prelude.{◌≡◌, ℕ, ◌≤◌, ◌⊎◌, List, length, take, Option, Some, None}
+use Rattle.std.specs.Prelude.{◌≡◌, ℕ, ◌≤◌, ◌⊎◌, All, IsTrue, List, length, take, Option, Some, None}
+use Rattle.act_words.specs.Checks.{is_word_number}
+use Rattle.act_words.specs.Limits.{AreAllowed}
 use Rattle.ckc_io.specs.Counts.{Rises}
 use Rattle.ckc_io.specs.Files.{Files, Told}
 use Rattle.ckc_io.specs.Written.{grown}
 use Rattle.run_core.specs.Runs.{Counts}
-use Rattle.command_words.specs.Requests.{Request, request_of}
+use Rattle.command_words.specs.Requests.{Request, Options, settings_of, inputs_of, request_of}
 use Rattle.ccbox_call.specs.Texts.{usage_text}
 use Rattle.ccbox_call.specs.Answers.{RequestAnswer}
+
+-- the options may be run with: their settings are allowed, and their input numbers have 32 bits
+pub record MayRun (options : Options) : Type 0 where
+  pub settings : AreAllowed (settings_of options)
+  pub inputs : All (λ z. IsTrue (is_word_number z)) (inputs_of options)
 
 -- a text was written, and the status is that of its answer; or the output failed behind a front of it
 pub data TextGiven (text : List ℕ) (status : ℕ) (old new : Option (List ℕ)) (faults faults' : ℕ) : ℕ → Type 0 where

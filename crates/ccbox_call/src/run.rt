@@ -11,8 +11,7 @@ ghost use Rattle.ckc_core.specs.Core.{core};
 ghost use Rattle.ccbox_call.specs.Acceptance.{IsAcceptedCore, IsRefused};
 ghost use Rattle.ccbox_call.specs.Answers.{ListAnswer, CoreAnswer, SourceAnswer, FileAnswer, status_of as status_of_ending};
 ghost use Rattle.command_words.specs.Requested.{options as options_view};
-ghost use Rattle.command_words.specs.Allowed.{MayRun};
-ghost use Rattle.ccbox_call.specs.Calls.{Gives};
+ghost use Rattle.ccbox_call.specs.Calls.{MayRun, Gives};
 
 use crate::front::front;
 use crate::output::{NO_MEMORY, OUTPUT_FAILED, give_line};

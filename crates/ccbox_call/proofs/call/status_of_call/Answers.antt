@@ -1,6 +1,6 @@
 use Rattle.std.proofs.Common.{sym, map}
 use Rattle.ccbox_call.specs.Calls.{asked}
-use Rattle.command_words.proofs.Allowed.{may_run}
+use Rattle.ccbox_call.proofs.Runs.{may_run}
 use Rattle.ccbox_call.proofs.call.status_of_call.Goals as goal
 
 pub run_file-requires : goal.run_file-requires

@@ -1,11 +1,13 @@
-use Rattle.std.proofs.Common.{length, Err, refl, sym, subst}
+use Rattle.std.proofs.Common.{length, Err, sym, ◌∙◌, subst}
 use Rattle.std.proofs.lemmas.Result.{err_from_is_err_and}
 use Rattle.ckc_tree.specs.Items.{tree}
-use Rattle.ckc_grammar.specs.Parsing.{ParseAnswers, IsTree}
+use Rattle.ckc_grammar.specs.Parsing.{ParseAnswers}
 use Rattle.ckc_names.specs.Named.{named_tree}
-use Rattle.ccbox_call.specs.Acceptance.{HasTree}
-use Rattle.ccbox_call.proofs.Fronts.{lex_refuses, parse_refuses, forms_refuse, names_refuse, check_answers}
+use Rattle.ccbox_call.proofs.Fronts.{tokens_short, lex_refuses, parse_refuses, has_tree, forms_refuse, names_refuse, check_answers}
 use Rattle.ccbox_call.proofs.front.front.Goals as goal
+
+pub check-requires : goal.check-requires
+check-requires c = tokens_short c.in_ok-tokens.ensures
 
 pub returns-in_err-tokens : goal.returns-in_err-tokens
 returns-in_err-tokens c =
@@ -19,3 +21,17 @@ returns-in_err-tree c =
     rw (p.1, p.2)
     (parse_refuses src c.in_ok-tokens.tokens.items c.in_ok-tokens.ensures c.in_err-tree.field-0.0
     (subst (λ ts. ParseAnswers (length src) ts (Err c.in_err-tree.field-0.0)) c.as_slice.ensures.value c.in_err-tree.ensures))
+
+pub returns-then-not-is_built : goal.returns-then-not-is_built
+returns-then-not-is_built c =
+    forms_refuse c.args.src.now (tree c.in_ok-tree.tree) (has_tree c.in_ok-tokens.ensures c.as_slice.ensures.value c.in_ok-tree.ensures) c.not_built.result c.not_built.ensures (sym c.is_built.ensures ∙ c.if-not-is_built.true)
+
+pub returns-in_err-source : goal.returns-in_err-source
+returns-in_err-source c =
+    let p = err_from_is_err_and c.from_residual-in_err-source.result c.from_residual-in_err-source.ensures.1 in
+    rw (p.1, p.2)
+    (names_refuse c.args.src.now (tree c.in_ok-tree.tree) (has_tree c.in_ok-tokens.ensures c.as_slice.ensures.value c.in_ok-tree.ensures) (sym c.is_built.ensures ∙ c.if-not-is_built.false) named_tree c.in_err-source.field-0.0 c.in_err-source.ensures)
+
+pub returns : goal.returns
+returns c =
+    check_answers c.args.src.now (tree c.in_ok-tree.tree) (has_tree c.in_ok-tokens.ensures c.as_slice.ensures.value c.in_ok-tree.ensures) (sym c.is_built.ensures ∙ c.if-not-is_built.false) named_tree c.in_ok-source.source c.in_ok-source.ensures c.check.result c.check.ensures

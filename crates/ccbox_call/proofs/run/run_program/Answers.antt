@@ -8,20 +8,25 @@ use Rattle.ccbox_call.proofs.Giving.{gives_as, gives_from, same_counts, line_giv
 use Rattle.ccbox_call.proofs.run.run_program.Goals as goal
 
 pub returns-in_default : goal.returns-in_default
-returns-in_default g c =
-    let o = options_view c.args.options.now in
-    gives_as (list_core (g.F.Shelf.files c.args.shelf.now) o (core c.args.program.now) c.settings-settings.result c.empty-actor.result c.settings-settings.ensures
-    (λ files told. ap (acts_at files) (ap (option_map (λ (n : Bor (List ℕ)). n.now)) c.in_default.is) ∙ ap Some (sym c.empty-actor.ensures))) c.run_with.ensures
+returns-in_default g c = no_memory refl (omega arith) refl refl
 
-pub returns-in-Ok : goal.returns-in-Ok
-returns-in-Ok g c =
+pub returns-in_default-acts : goal.returns-in_default-acts
+returns-in_default-acts g c =
     let o = options_view c.args.options.now in
-    let counts = c.in-Ok.ensures.counts in
+    gives_as (list_core (g.F.Shelf.files c.args.shelf.now) o (core c.args.program.now) c.settings-settings.result c.as_slice-inputs.result.now c.empty-actor.result c.settings-settings.ensures
+    (c.as_slice-inputs.ensures.value ∙ c.in-Ok.ensures)
+    (λ files told. ap (acts_at files) (ap (option_map (λ (n : Bor (List ℕ)). n.now)) c.in_default-acts.is) ∙ ap Some (sym c.empty-actor.ensures))) c.run_with.ensures
+
+pub returns-in-Ok-start : goal.returns-in-Ok-start
+returns-in-Ok-start g c =
+    let o = options_view c.args.options.now in
+    let counts = c.in-Ok-start.ensures.counts in
     gives_from (same_counts _ _ _ _ _ counts.0 counts.1)
-    (gives_as (list_core (g.F.Shelf.files c.args.shelf.now) o (core c.args.program.now) c.settings-settings.result c.in-Ok.actor c.settings-settings.ensures
+    (gives_as (list_core (g.F.Shelf.files c.args.shelf.now) o (core c.args.program.now) c.settings-settings.result c.as_slice-inputs.result.now c.in-Ok-start.actor c.settings-settings.ensures
+    (c.as_slice-inputs.ensures.value ∙ c.in-Ok.ensures)
     (λ files told.
-    let read = c.in-Ok.ensures.content files told in
-    ap (acts_at files) (ap (option_map (λ (n : Bor (List ℕ)). n.now)) c.in-Some.is) ∙ ap (option_map acts_of_file) read.1 ∙ ap Some (sym read.2))) c.run_with-in-Ok.ensures)
+    let read = c.in-Ok-start.ensures.content files told in
+    ap (acts_at files) (ap (option_map (λ (n : Bor (List ℕ)). n.now)) c.in-Some.is) ∙ ap (option_map acts_of_file) read.1 ∙ ap Some (sym read.2))) c.run_with-in-Ok-start.ensures)
 
 pub returns-in-Err-Missing : goal.returns-in-Err-Missing
 returns-in-Err-Missing g c =
