@@ -1,16 +1,13 @@
 // The actor of a file, over files in memory.
 
 use crate::acts::is_written;
-use crate::answers::Question;
 use crate::lines::is_number;
-use crate::rows::{expect, expect_rows};
 use act_words::act::Turn;
 use ckc_io::mem_shelf::MemShelf;
 use ckc_text::code::Code;
 use sandbox_actor::actor::{Actor, ActorFault, Now};
 use sandbox_actor::list_actor::ListActor;
 use std::alloc::Global;
-use std::test::Fail;
 
 // The files of a test: `acts`, with this text, of which the read of this number fails.
 fn shelf_of(alloc: Global, text: &[u8], read: u64) -> MemShelf {
@@ -80,32 +77,10 @@ pub fn gives_all(alloc: Global, text: &[u8], expected: &str) -> bool {
     starts_and_gives(alloc, shelf_of(alloc, text, 0), Turn::Trusted, expected)
 }
 
-const FILES: &str = "end@
-{\"act\":\"go\"}~{\"act\":\"stop\"}~end@{\"act\":\"go\"}~~{\"act\":\"stop\"}
-{\"act\":\"return\",\"value\":7}~end@ \t\r~{\"value\":7,\"act\":\"return\"}\r~~
-{\"act\":\"go\"}~3 A1@{\"act\":\"go\"}~ ~x~{\"act\":\"go\"}~
-2 A5@~{\"act\":\"read\",\"at\":0,\"len\":65}
-1 A1@\u{b}~
-end@`4096× `
-1 A4@`4097× `
-end@`1048576×~`
-1048577 A4@`1048577×~`
-1048577 A4@`1048600×~`";
-
-#[test]
-fn files_to_their_ends(rt: HostRuntime) -> Result<(), Fail> {
-    expect_rows(rt.alloc(), Question::Acts, FILES)
-}
-
 // Whether no actor starts over these files, since the file is missing.
 fn is_missing(alloc: Global, mut shelf: MemShelf) -> bool {
     let started = ListActor::start(alloc, &mut shelf, "acts");
     matches!(started, Err(ActorFault::Missing))
-}
-
-#[test]
-fn missing_file(rt: HostRuntime) -> Result<(), Fail> {
-    expect(is_missing(rt.alloc(), MemShelf::new(rt.alloc())))
 }
 
 const GO: &[u8] = b"{\"act\":\"go\"}\n";
@@ -123,8 +98,10 @@ fn reads_twice(alloc: Global) -> bool {
     starts_and_gives(alloc, shelf, Turn::Sandbox, "{\"act\":\"go\"}\nend")
 }
 
-#[test]
-fn reads_of_a_file(rt: HostRuntime) -> Result<(), Fail> {
-    let alloc = rt.alloc();
-    expect(start_fails(alloc, 1) && start_fails(alloc, 2) && reads_twice(alloc))
+/// Whether an actor starts where its file is there and can be read, which takes two reads.
+pub fn starts_so(alloc: Global) -> bool {
+    is_missing(alloc, MemShelf::new(alloc))
+        && start_fails(alloc, 1)
+        && start_fails(alloc, 2)
+        && reads_twice(alloc)
 }

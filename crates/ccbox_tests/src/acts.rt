@@ -1,7 +1,8 @@
 // Act lines both ways, and the lines of what is seen and released.
 
-use crate::answers::Question;
-use crate::rows::{expect, expect_rows};
+use crate::actors::starts_so;
+use crate::questions::Question;
+use crate::rows::{Table, expect, expect_tables};
 use act_recorder::lines::{release_line, seen_line};
 use act_words::act::{Act, Release, Seen};
 use act_words::reading::{ActFault, read_act};
@@ -32,7 +33,7 @@ pub fn is_written(alloc: Global, act: &Act, expected: &str) -> bool {
 }
 
 /// Whether the act of a line is written as this line, or the line is refused with this number.
-pub fn is_answered(alloc: Global, line: &[u8], expected: &str) -> bool {
+pub fn is_act(alloc: Global, line: &[u8], expected: &str) -> bool {
     match read_act(alloc, line) {
         Ok(act) => is_written(alloc, &act, expected),
         Err(ActFault::Bad(code)) => code.number() == expected,
@@ -89,40 +90,49 @@ A5@{"act":"call","args":[0`16×,4294967295`],"fun":9}
 A2@`127×[``127×]`
 A1@[`127×[``128×]`"#;
 
-#[test]
-fn lines_of_acts(rt: HostRuntime) -> Result<(), Fail> {
-    expect_rows(rt.alloc(), Question::Act, ACTS)
-}
-
-#[test]
-fn refused_lines(rt: HostRuntime) -> Result<(), Fail> {
-    expect_rows(rt.alloc(), Question::Act, REFUSED)
-}
-
-#[test]
-fn limits_of_lines(rt: HostRuntime) -> Result<(), Fail> {
-    expect_rows(rt.alloc(), Question::Act, LIMITS)
-}
-
 const SPACED: &[u8] = b" { \"len\" : 4, \"act\" : \"read\", \"at\" : 16 }\t\r";
 
 const NO_TEXT: &[u8] = b"{\"act\":\"g\xffo\"}";
 
-#[test]
-fn lines_that_are_no_rows(rt: HostRuntime) -> Result<(), Fail> {
-    let alloc = rt.alloc();
-    expect(
-        is_answered(alloc, SPACED, r#"{"act":"read","at":16,"len":4}"#)
-            && is_answered(alloc, NO_TEXT, "A1"),
-    )
+// Whether lines that are no rows are taken so.
+fn takes_spaces(alloc: Global) -> bool {
+    is_act(alloc, SPACED, r#"{"act":"read","at":16,"len":4}"#) && is_act(alloc, NO_TEXT, "A1")
 }
 
+// Whether what is seen and released is written so.
+fn writes_lines(alloc: Global) -> bool {
+    let seen = seen_line(alloc, &Seen::Replied { value: 7 });
+    let released = release_line(alloc, &Release::Looked);
+    is_line(&seen, r#"{"seen":"replied","value":7}"#)
+        && is_line(&released, r#"{"release":"looked"}"#)
+}
+
+// What files give, line by line, and why they give no more.
+const FILES: &str = r#"end@
+{"act":"go"}¶{"act":"stop"}¶end@{"act":"go"}¶¶{"act":"stop"}
+{"act":"go"}¶3 A1@{"act":"go"}¶ ¶x¶{"act":"go"}¶
+2 A5@¶{"act":"read","at":0,"len":65}
+end@`4096× `
+1 A4@`4097× `
+end@`1048576×¶`
+1048577 A4@`1048577×¶`
+1048577 A4@`1048600×¶`"#;
+
+const SPACED_FILES: &str =
+    "{\"act\":\"return\",\"value\":7}¶end@ \t\r¶{\"value\":7,\"act\":\"return\"}\r¶¶
+1 A1@\u{b}¶";
+
+const TABLES: &[Table] = &[
+    Table(Question::Act, ACTS),
+    Table(Question::Act, REFUSED),
+    Table(Question::Act, LIMITS),
+    Table(Question::ActFile, FILES),
+    Table(Question::ActFile, SPACED_FILES),
+];
+
 #[test]
-fn lines_of_what_is_seen_and_released(rt: HostRuntime) -> Result<(), Fail> {
-    let seen = seen_line(rt.alloc(), &Seen::Replied { value: 7 });
-    let released = release_line(rt.alloc(), &Release::Looked);
-    expect(
-        is_line(&seen, r#"{"seen":"replied","value":7}"#)
-            && is_line(&released, r#"{"release":"looked"}"#),
-    )
+fn acts(rt: HostRuntime) -> Result<(), Fail> {
+    let alloc = rt.alloc();
+    expect(takes_spaces(alloc) && writes_lines(alloc) && starts_so(alloc))?;
+    expect_tables(alloc, TABLES)
 }

@@ -1,6 +1,5 @@
 // Normal bounds of what is written.
 
-use crate::rows::expect;
 use bounds_exprs::form::{BoundsForm, BoundsHow, SumForm};
 use bounds_exprs::normalize::normal;
 use bounds_exprs::term::{Bounds, Term};
@@ -8,7 +7,6 @@ use ckc_text::code::Code;
 use ckc_text::fault::SourceFault;
 use ckc_text::place::Span;
 use std::alloc::{AllocError, Global};
-use std::test::Fail;
 
 const SPAN: Span = Span { from: 3, to: 9 };
 
@@ -42,18 +40,16 @@ fn has_no_normal(alloc: Global) -> bool {
     }
 }
 
-#[test]
-fn counts_elements(rt: HostRuntime) -> Result<(), Fail> {
+/// Whether elements and bytes are counted.
+pub fn counts_elements(alloc: Global) -> bool {
     let two = Bounds {
         base: None,
         lo: ZERO,
         hi: TWO,
     };
-    expect(
-        is_normal(BoundsHow::ByteCount(SumForm::Number(10)), &Ok(Some(two)))
-            && has_no_normal(rt.alloc())
-            && is_normal(BoundsHow::Unknown, &Ok(None)),
-    )
+    is_normal(BoundsHow::ByteCount(SumForm::Number(10)), &Ok(Some(two)))
+        && has_no_normal(alloc)
+        && is_normal(BoundsHow::Unknown, &Ok(None))
 }
 
 // The greatest constant, behind a variable and alone.
@@ -67,12 +63,10 @@ const MOST: Term = Term {
     plus: 1_099_511_627_776,
 };
 
-#[test]
-fn limits_constants() -> Result<(), Fail> {
-    expect(
-        LIMIT.subst(1, ONE) == None
-            && LIMIT.subst(1, ZERO) == Some(MOST)
-            && LIMIT.shift(1, 1) == None
-            && LIMIT.shift(2, 1) == Some(LIMIT),
-    )
+/// Whether a constant has a limit.
+pub fn limits_constants() -> bool {
+    LIMIT.subst(1, ONE) == None
+        && LIMIT.subst(1, ZERO) == Some(MOST)
+        && LIMIT.shift(1, 1) == None
+        && LIMIT.shift(2, 1) == Some(LIMIT)
 }

@@ -2,6 +2,7 @@
 
 ghost use Rattle.std.specs.Prelude.{◌≡◌, ◌≤◌, ◌<◌, Some};
 
+use crate::bounds::{counts_elements, limits_constants};
 use crate::rows::expect;
 use bounds_exprs::term::Term;
 use std::alloc::Global;
@@ -124,10 +125,9 @@ const FAR: &[Step] = &[
     Step::With(X(0, i64::MAX), X(3, -i64::MAX), 1),
 ];
 
-#[test]
-fn follows_shifts_and_contradicts(rt: HostRuntime) -> Result<(), Fail> {
-    let alloc = rt.alloc();
-    expect(holds(alloc, 3, FOLLOWED) && holds(alloc, 3, SHIFTED) && holds(alloc, 4, FAR))
+// Whether facts are followed and shifted, and contradict each other.
+fn entails_so(alloc: Global) -> bool {
+    holds(alloc, 3, FOLLOWED) && holds(alloc, 3, SHIFTED) && holds(alloc, 4, FAR)
 }
 
 const OTHER: &[Step] = &[Step::Kill(0), Step::Add(X(0, 2), X(2, 0))];
@@ -157,11 +157,6 @@ fn chain_joins_copy(alloc: Global) -> bool {
     }
 }
 
-#[test]
-fn joins_and_copies(rt: HostRuntime) -> Result<(), Fail> {
-    expect(chain_joins_copy(rt.alloc()))
-}
-
 const LONG: &[Step] = &[
     Step::With(X(0, 256), X(256, 0), 256),
     Step::No(X(0, 257), X(256, 0)),
@@ -189,6 +184,8 @@ fn follows_chain(alloc: Global) -> bool {
 }
 
 #[test]
-fn follows_a_long_chain(rt: HostRuntime) -> Result<(), Fail> {
-    expect(follows_chain(rt.alloc()))
+fn facts(rt: HostRuntime) -> Result<(), Fail> {
+    let alloc = rt.alloc();
+    expect(entails_so(alloc) && chain_joins_copy(alloc) && follows_chain(alloc))?;
+    expect(counts_elements(alloc) && limits_constants())
 }

@@ -1,6 +1,5 @@
 // Structs that are declared and given members, and where their cells lie.
 
-use crate::rows::expect;
 use ckc_text::code::Code;
 use ckc_text::fault::{NoMemory, Refused, SourceFault};
 use ckc_text::name::Name;
@@ -8,7 +7,6 @@ use ckc_text::place::Span;
 use pointer_modes::ctype::{CType, Kind, Member, Mode};
 use pointer_modes::structs::Structs;
 use std::alloc::Global;
-use std::test::Fail;
 
 const DECLARED: Span = Span { from: 7, to: 8 };
 
@@ -82,16 +80,13 @@ fn lays_out(alloc: Global, types: &[u8], size: u32, offsets: &[u32]) -> bool {
     is_laid_out(&structs, size, offsets)
 }
 
-#[test]
-fn lays_out_structs(rt: HostRuntime) -> Result<(), Fail> {
-    let alloc = rt.alloc();
-    expect(
-        lays_out(alloc, b"c", 1, &[0])
-            && lays_out(alloc, b"ci", 8, &[0, 4])
-            && lays_out(alloc, b"ic", 8, &[0, 4])
-            && lays_out(alloc, b"ccc", 3, &[0, 1, 2])
-            && lays_out(alloc, b"cpcct", 16, &[0, 4, 8, 9, 12]),
-    )
+// Whether structs are laid out.
+fn lays_out_structs(alloc: Global) -> bool {
+    lays_out(alloc, b"c", 1, &[0])
+        && lays_out(alloc, b"ci", 8, &[0, 4])
+        && lays_out(alloc, b"ic", 8, &[0, 4])
+        && lays_out(alloc, b"ccc", 3, &[0, 1, 2])
+        && lays_out(alloc, b"cpcct", 16, &[0, 4, 8, 9, 12])
 }
 
 // Whether the type of a letter has this size, and one cell.
@@ -102,15 +97,17 @@ fn is_scalar(alloc: Global, letter: u8, size: u32) -> bool {
     }
 }
 
-#[test]
-fn lays_out_scalars(rt: HostRuntime) -> Result<(), Fail> {
-    let alloc = rt.alloc();
-    expect(
-        is_scalar(alloc, b'i', 4)
-            && is_scalar(alloc, b'c', 1)
-            && is_scalar(alloc, b'p', 4)
-            && is_scalar(alloc, b't', 4),
-    )
+// Whether numbers and pointers are laid out.
+fn lays_out_scalars(alloc: Global) -> bool {
+    is_scalar(alloc, b'i', 4)
+        && is_scalar(alloc, b'c', 1)
+        && is_scalar(alloc, b'p', 4)
+        && is_scalar(alloc, b't', 4)
+}
+
+/// Whether types are laid out.
+pub fn lays_out_all(alloc: Global) -> bool {
+    lays_out_structs(alloc) && lays_out_scalars(alloc)
 }
 
 // Whether a struct of these members is refused so. It has none then.
@@ -132,16 +129,13 @@ fn is_refused<T>(answer: &Result<T, Refused>, code: Code, span: Span) -> bool {
 
 const LETTERS: &[u8; 65] = b"abcdefghijklmnopqrstuvwxyzABCDEFGHIJKLMNOPQRSTUVWXYZ0123456789_+-";
 
-#[test]
-fn refuses_members(rt: HostRuntime) -> Result<(), Fail> {
-    let alloc = rt.alloc();
-    expect(
-        refuses(alloc, b"aba", b"iii", Code::E11, 2)
-            && refuses(alloc, b"abb", b"ssi", Code::E11, 2)
-            && refuses(alloc, b"abc", b"iss", Code::E27, 1)
-            && refuses(alloc, &[b'a'; 65], &[b's'; 65], Code::E08, 64)
-            && refuses(alloc, LETTERS, &[b'i'; 65], Code::E08, 64),
-    )
+/// Whether members are refused.
+pub fn refuses_all(alloc: Global) -> bool {
+    refuses(alloc, b"aba", b"iii", Code::E11, 2)
+        && refuses(alloc, b"abb", b"ssi", Code::E11, 2)
+        && refuses(alloc, b"abc", b"iss", Code::E27, 1)
+        && refuses(alloc, &[b'a'; 65], &[b's'; 65], Code::E08, 64)
+        && refuses(alloc, LETTERS, &[b'i'; 65], Code::E08, 64)
 }
 
 // Whether a struct of 64 members is taken.
@@ -154,11 +148,6 @@ fn takes_64(alloc: Global) -> bool {
     structs.size_of(&CType::Struct(0)) == 256
 }
 
-#[test]
-fn takes_64_members(rt: HostRuntime) -> Result<(), Fail> {
-    expect(takes_64(rt.alloc()))
-}
-
 // Declares structs, and tells whether they have the numbers from 0 on.
 fn declares(structs: &mut Structs, count: u32) -> bool {
     for k in 0..count {
@@ -169,10 +158,15 @@ fn declares(structs: &mut Structs, count: u32) -> bool {
     true
 }
 
-#[test]
-fn declares_4096_structs(rt: HostRuntime) -> Result<(), Fail> {
-    let mut structs = Structs::new(rt.alloc());
+// Whether 4,096 structs are declared, and no more.
+fn declares_4096(alloc: Global) -> bool {
+    let mut structs = Structs::new(alloc);
     let declared = declares(&mut structs, 4096);
     let refused = structs.declare(false, DECLARED);
-    expect(declared && is_refused(&refused, Code::E08, DECLARED))
+    declared && is_refused(&refused, Code::E08, DECLARED)
+}
+
+/// Whether as many structs and members are taken as there may be.
+pub fn declares_all(alloc: Global) -> bool {
+    takes_64(alloc) && declares_4096(alloc)
 }

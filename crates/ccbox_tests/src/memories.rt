@@ -2,7 +2,9 @@
 
 ghost use Rattle.std.specs.Prelude.{◌≡◌, ◌<◌, ◌≤◌, ◌%◌};
 
+use crate::layouts::{declares_all, lays_out_all, refuses_all};
 use crate::rows::expect;
+use code_words::lists::Listed;
 use flat_bytes::words::{fits, get1, get4, put1, put4};
 use std::alloc::Global;
 use std::test::Fail;
@@ -31,34 +33,30 @@ fn has_after4(bytes: &mut [u8; 6], at: u32, v: u32, expected: &[u8; 6]) -> bool
     bytes.as_slice() == expected.as_slice()
 }
 
-#[test]
-fn reads_and_writes_words_at_both_ends() -> Result<(), Fail> {
+// Whether words are read and written at both ends.
+fn has_words() -> bool {
     let mut bytes = [1u8, 2, 3, 4, 5, 6];
-    expect(
-        reads(&bytes)
-            && has_after4(&mut bytes, 2, 0xfffefdfc, &[1, 2, 0xfc, 0xfd, 0xfe, 0xff])
-            && has_after1(&mut bytes, 5, 0x1234, &[1, 2, 0xfc, 0xfd, 0xfe, 0x34])
-            && has_after1(
-                &mut bytes,
-                0,
-                0xffffffff,
-                &[0xff, 2, 0xfc, 0xfd, 0xfe, 0x34],
-            )
-            && has_after4(&mut bytes, 0, 7, &[7, 0, 0, 0, 0xfe, 0x34]),
-    )
+    reads(&bytes)
+        && has_after4(&mut bytes, 2, 0xfffefdfc, &[1, 2, 0xfc, 0xfd, 0xfe, 0xff])
+        && has_after1(&mut bytes, 5, 0x1234, &[1, 2, 0xfc, 0xfd, 0xfe, 0x34])
+        && has_after1(
+            &mut bytes,
+            0,
+            0xffffffff,
+            &[0xff, 2, 0xfc, 0xfd, 0xfe, 0x34],
+        )
+        && has_after4(&mut bytes, 0, 7, &[7, 0, 0, 0, 0xfe, 0x34])
 }
 
-#[test]
-fn fits_by_whole_numbers() -> Result<(), Fail> {
-    expect(
-        fits(0, 4, 4)
-            && !fits(1, 4, 4)
-            && fits(4, 0, 4)
-            && !fits(5, 0, 4)
-            && !fits(u32::MAX, 1, u32::MAX)
-            && fits(u32::MAX - 1, 1, u32::MAX)
-            && !fits(u32::MAX, u32::MAX, 0),
-    )
+// Whether a range fits by whole numbers.
+fn fits_so() -> bool {
+    fits(0, 4, 4)
+        && !fits(1, 4, 4)
+        && fits(4, 0, 4)
+        && !fits(5, 0, 4)
+        && !fits(u32::MAX, 1, u32::MAX)
+        && fits(u32::MAX - 1, 1, u32::MAX)
+        && !fits(u32::MAX, u32::MAX, 0)
 }
 
 // How many bytes a block is asked for, and its address.
@@ -99,10 +97,9 @@ fn makes_from(alloc: Global, base: u32, blocks: &[Block]) -> bool
     }
 }
 
-#[test]
-fn makes_blocks_while_there_is_room(rt: HostRuntime) -> Result<(), Fail> {
-    let alloc = rt.alloc();
-    expect(makes_from(alloc, 1048576, BLOCKS) && makes_from(alloc, 16, WHOLE_BLOCKS))
+// Whether blocks are made while there is room.
+fn makes_blocks(alloc: Global) -> bool {
+    makes_from(alloc, 1048576, BLOCKS) && makes_from(alloc, 16, WHOLE_BLOCKS)
 }
 
 // Stores a word and reads it again, where its bytes are in the memory.
@@ -148,10 +145,33 @@ fn holds(memory: &mut Trusted) -> bool {
     stores(memory, STORED) && memory.in_range(65536, 65536) && !memory.in_range(65536, 65537)
 }
 
-#[test]
-fn stores_at_both_ends(rt: HostRuntime) -> Result<(), Fail> {
-    match Trusted::start(rt.alloc(), 65536, 65536) {
-        Ok(mut memory) => expect(holds(&mut memory)),
-        Err(_) => expect(false),
+// Whether words are stored at both ends of a memory.
+fn stores_at_both_ends(alloc: Global) -> bool {
+    match Trusted::start(alloc, 65536, 65536) {
+        Ok(mut memory) => holds(&mut memory),
+        Err(_) => false,
     }
+}
+
+// Whether a vector is listed as it is, and given back.
+fn is_given_back(numbers: Vec<u8>) -> bool {
+    let list = Listed::from_vec(numbers);
+    let same = list.as_slice() == [3, 1, 2].as_slice();
+    same && list.into_vec().as_slice() == [3, 1, 2].as_slice()
+}
+
+// Whether a list gives its vector back.
+fn lists_vector(alloc: Global) -> bool {
+    match vec![in alloc; 3u8, 1, 2] {
+        Ok(numbers) => is_given_back(numbers),
+        Err(_) => false,
+    }
+}
+
+#[test]
+fn memories_and_layouts(rt: HostRuntime) -> Result<(), Fail> {
+    let alloc = rt.alloc();
+    expect(has_words() && fits_so() && lists_vector(alloc))?;
+    expect(makes_blocks(alloc) && stores_at_both_ends(alloc))?;
+    expect(lays_out_all(alloc) && refuses_all(alloc) && declares_all(alloc))
 }

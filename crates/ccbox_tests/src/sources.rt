@@ -99,12 +99,10 @@ fn are_fronts_answered(alloc: Global, src: &[u8]) -> bool {
     true
 }
 
-#[test]
-fn printed_and_read_back(rt: HostRuntime) -> Result<(), Fail> {
+/// Fails with the first whole program that isn't printed and read back, or of which a front has no answer.
+pub fn expect_read_back(alloc: Global) -> Result<(), Fail> {
     for src in SOURCES {
-        if !is_same(rt.alloc(), src.as_bytes())
-            || !are_fronts_answered(rt.alloc(), src.as_bytes())
-        {
+        if !is_same(alloc, src.as_bytes()) || !are_fronts_answered(alloc, src.as_bytes()) {
             return Err(Fail::new(*src));
         }
     }

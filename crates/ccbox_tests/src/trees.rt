@@ -1,11 +1,11 @@
 // Small sources, with the place of their refusal or the shape of their tree.
 
-use crate::answers::Question;
-use crate::rows::expect_rows;
+use crate::questions::Question;
+use crate::rows::{Table, expect_tables};
 use std::test::Fail;
 
 // Whether they have a tree; the last ones have up to 200 levels, or too many.
-const ANSWERS: &str = "ok@
+const TREES: &str = "ok@
 E06 0@; int x;
 E06 0@return
 E06 4@int int x;
@@ -37,7 +37,7 @@ E06 61@int f() { p = malloc<int>(3 * sizeof(int)); p = calloc<int>(3); }
 E06 8@int x : number(3);
 E06 8@int x = --y;
 E06 16@int f() { return
-ok@#pragma CHECKED_SCOPE on~int x, *y = 0, z _Checked[3] = {1, -2}; struct s { int n; array_ptr<int> p : count(n); }; struct s v;
+ok@#pragma CHECKED_SCOPE on¶int x, *y = 0, z _Checked[3] = {1, -2}; struct s { int n; array_ptr<int> p : count(n); }; struct s v;
 ok@int x = `199×- `y;
 E07 408@int x = `200×- `y;
 E07 408@int x = `201×- `y;
@@ -63,11 +63,6 @@ E07 800@`200×ptr<`int`200×>` x;
 ok@int x = `199×y[`7`199×]`;
 E07 406@int x = `200×y[`7`200×]`;";
 
-#[test]
-fn answers(rt: HostRuntime) -> Result<(), Fail> {
-    expect_rows(rt.alloc(), Question::Tree, ANSWERS)
-}
-
 const SHAPES: &str = "[6-11 [6-9 n6 n8] n10]@int x=a-b-c;
 [6-11 [6-9 n6 n8] n10]@int x=a*b+c;
 [6-11 n6 [8-11 n8 n10]]@int x=a+b*c;
@@ -79,7 +74,9 @@ n8@int x=((a));
 [6-13 n7 n11]@int x=(a)+(b);
 [6-9 n6 n8]@int x=a&b;";
 
+const TABLES: &[Table] = &[Table(Question::Tree, TREES), Table(Question::Shape, SHAPES)];
+
 #[test]
-fn shapes(rt: HostRuntime) -> Result<(), Fail> {
-    expect_rows(rt.alloc(), Question::Shape, SHAPES)
+fn parsing(rt: HostRuntime) -> Result<(), Fail> {
+    expect_tables(rt.alloc(), TABLES)
 }
