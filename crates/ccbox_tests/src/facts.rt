@@ -184,7 +184,7 @@ fn follows_chain(alloc: Global) -> bool {
 }
 
 #[test]
-fn facts(rt: HostRuntime) -> Result<(), Fail> {
+fn entailment(rt: HostRuntime) -> Result<(), Fail> {
     let alloc = rt.alloc();
     expect(entails_so(alloc) && chain_joins_copy(alloc) && follows_chain(alloc))?;
     expect(counts_elements(alloc) && limits_constants())

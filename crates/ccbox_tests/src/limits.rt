@@ -24,10 +24,8 @@ const DECLARATIONS: &str =
 [exit 3]@struct s { `64×int m#; `}; `120×struct s v#; ``4×int w# = #; `int main(void) { return v119.m63 + w3; }
 [refused E08 1:2319 limit]@struct s { `64×int m#; `}; `120×struct s v#; ``5×int w# = #; `int main(void) { return 0; }
 [refused E08 1:6639 limit]@struct s { `64×int m#; `}; int `1023×a#, `b; struct s v; int main(void) { return 0; }
-[exit 4094]@`4095×int f#(void) { return #; } `int main(void) { return f4094(); }
-[exit 4094]@`4095×int f#(void); `int main(void) { return f4094(); } `4095×int f#(void) { return #; } `
-[refused E08 1:132949 limit]@`4096×int f#(void) { return #; } `int main(void) { return f4094(); }
-[refused E08 1:109483 limit]@`4096×_Tainted int t#(int n); `int main(void) { return 0; }
+[exit 4094]@int f0(void); `4095×int f#(void) { return #; } `int main(void) { return f4094(); }
+[refused E08 1:132949 limit]@`4096×int f#(void) { return #; } `_Tainted int t(int n); int main(void) { return 0; }
 [exit 16]@int f(int a`15×, int p#`) { return a + p14; } int main(void) { return f(2`15×, #`); }
 [refused E08 1:139 limit]@int f(int a`16×, int p#`) { return a; } int main(void) { return 0; }
 [refused E08 1:139 limit]@int f(int a`16×, int p#`); int main(void) { return 0; }
