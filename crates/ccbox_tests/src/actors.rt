@@ -77,26 +77,10 @@ pub fn gives_all(alloc: Global, text: &[u8], expected: &str) -> bool {
     starts_and_gives(alloc, shelf_of(alloc, text, 0), Turn::Trusted, expected)
 }
 
-pub const FILES: &str = "end@
-{\"act\":\"go\"}~{\"act\":\"stop\"}~end@{\"act\":\"go\"}~~{\"act\":\"stop\"}
-{\"act\":\"return\",\"value\":7}~end@ \t\r~{\"value\":7,\"act\":\"return\"}\r~~
-{\"act\":\"go\"}~3 A1@{\"act\":\"go\"}~ ~x~{\"act\":\"go\"}~
-2 A5@~{\"act\":\"read\",\"at\":0,\"len\":65}
-1 A1@\u{b}~
-end@`4096× `
-1 A4@`4097× `
-end@`1048576×~`
-1048577 A4@`1048577×~`
-1048577 A4@`1048600×~`";
-
 // Whether no actor starts over these files, since the file is missing.
 fn is_missing(alloc: Global, mut shelf: MemShelf) -> bool {
     let started = ListActor::start(alloc, &mut shelf, "acts");
     matches!(started, Err(ActorFault::Missing))
-}
-
-pub fn tells_a_missing_file(alloc: Global) -> bool {
-    is_missing(alloc, MemShelf::new(alloc))
 }
 
 const GO: &[u8] = b"{\"act\":\"go\"}\n";
@@ -114,6 +98,10 @@ fn reads_twice(alloc: Global) -> bool {
     starts_and_gives(alloc, shelf, Turn::Sandbox, "{\"act\":\"go\"}\nend")
 }
 
-pub fn reads_a_file_anew(alloc: Global) -> bool {
-    start_fails(alloc, 1) && start_fails(alloc, 2) && reads_twice(alloc)
+/// Whether an actor starts where its file is there and can be read, which takes two reads.
+pub fn starts_so(alloc: Global) -> bool {
+    is_missing(alloc, MemShelf::new(alloc))
+        && start_fails(alloc, 1)
+        && start_fails(alloc, 2)
+        && reads_twice(alloc)
 }

@@ -40,6 +40,7 @@ fn has_no_normal(alloc: Global) -> bool {
     }
 }
 
+/// Whether elements and bytes are counted.
 pub fn counts_elements(alloc: Global) -> bool {
     let two = Bounds {
         base: None,
@@ -62,6 +63,7 @@ const MOST: Term = Term {
     plus: 1_099_511_627_776,
 };
 
+/// Whether a constant has a limit.
 pub fn limits_constants() -> bool {
     LIMIT.subst(1, ONE) == None
         && LIMIT.subst(1, ZERO) == Some(MOST)

@@ -2,8 +2,11 @@
 
 ghost use Rattle.std.specs.Prelude.{◌≡◌, ◌≤◌, ◌<◌, Some};
 
+use crate::bounds::{counts_elements, limits_constants};
+use crate::rows::expect;
 use bounds_exprs::term::Term;
 use std::alloc::Global;
+use std::test::Fail;
 use subsumption::fact::Answer;
 use subsumption::facts::Facts;
 
@@ -122,7 +125,8 @@ const FAR: &[Step] = &[
     Step::With(X(0, i64::MAX), X(3, -i64::MAX), 1),
 ];
 
-pub fn follows_shifts_and_contradicts(alloc: Global) -> bool {
+// Whether facts are followed and shifted, and contradict each other.
+fn entails_so(alloc: Global) -> bool {
     holds(alloc, 3, FOLLOWED) && holds(alloc, 3, SHIFTED) && holds(alloc, 4, FAR)
 }
 
@@ -153,10 +157,6 @@ fn chain_joins_copy(alloc: Global) -> bool {
     }
 }
 
-pub fn joins_and_copies(alloc: Global) -> bool {
-    chain_joins_copy(alloc)
-}
-
 const LONG: &[Step] = &[
     Step::With(X(0, 256), X(256, 0), 256),
     Step::No(X(0, 257), X(256, 0)),
@@ -183,6 +183,9 @@ fn follows_chain(alloc: Global) -> bool {
     }
 }
 
-pub fn follows_a_long_chain(alloc: Global) -> bool {
-    follows_chain(alloc)
+#[test]
+fn entailment(rt: HostRuntime) -> Result<(), Fail> {
+    let alloc = rt.alloc();
+    expect(entails_so(alloc) && chain_joins_copy(alloc) && follows_chain(alloc))?;
+    expect(counts_elements(alloc) && limits_constants())
 }

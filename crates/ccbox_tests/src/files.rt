@@ -1,10 +1,15 @@
-// Files and the output of the operating system.
+// Files and the output of the operating system, and calls whose files or outputs fail.
 
+use crate::calls::{Call, answers, answers_over, files};
 use crate::lines::add_number;
+use crate::rows::expect;
 use ckc_io::file_shelf::FileShelf;
+use ckc_io::mem_shelf::MemShelf;
 use ckc_io::out_sink::OutSink;
 use ckc_io::shelf::{Shelf, ShelfFault};
 use ckc_io::sink::Sink;
+use std::alloc::Global;
+use std::test::Fail;
 use std::{fs, process};
 
 // Whether the bytes from the eighth on are the last two, of a file with ten.
@@ -20,7 +25,8 @@ fn fault(rt: &HostRuntime, name: &str, from: u64) -> Option<ShelfFault> {
     FileShelf::new(rt).read_at(name, from, &mut into).err()
 }
 
-pub fn reads_a_file_of_the_system(rt: &HostRuntime) -> bool {
+// Whether a file of the system is read while it is there.
+fn reads_file_of_system(rt: &HostRuntime) -> bool {
     let mut path = String::new(rt.alloc());
     add_number(&mut path, "/tmp/file_shelf_", process::id(rt.process()));
     let written = fs::write(rt, path.as_str(), "0123456789").is_ok();
@@ -33,7 +39,118 @@ pub fn reads_a_file_of_the_system(rt: &HostRuntime) -> bool {
         && matches!(fault(rt, "/", 0), Some(ShelfFault::Failed))
 }
 
-pub fn takes_a_piece(rt: &HostRuntime) -> bool {
+// Whether the output of the system takes a piece.
+fn takes_piece(rt: &HostRuntime) -> bool {
     let mut sink = OutSink::new(rt);
     matches!(sink.put(b""), Ok(0)) && matches!(sink.put(b"a"), Ok(1))
+}
+
+// A shelf that gives one byte a call, and tells nothing of its files.
+#[derive(Drop)]
+struct OneByteShelf {
+    inner: MemShelf,
+}
+
+impl Shelf for OneByteShelf {
+    ghost use Rattle.std.specs.Prelude.{None};
+
+    ghost files = { λ _. None };
+
+    ghost misses = { λ s. s.inner.misses };
+
+    ghost faults = { λ s. s.inner.faults };
+
+    fn read_at(&mut self, name: &str, from: u64, into: &mut [u8]) -> Result<usize, ShelfFault> {
+        let most = into.len().min(1);
+        self.inner.read_at(name, from, &mut into[..most])
+    }
+}
+
+// Whether a call answers so over a shelf that gives one byte a call.
+fn answers_by_bytes(alloc: Global, call: &Call) -> bool {
+    let mut shelf = OneByteShelf {
+        inner: files(alloc, call),
+    };
+    answers_over(alloc, call, &mut shelf)
+}
+
+// Whether a call prints nothing where one of its first reads fails.
+fn reads_fail(alloc: Global, call: &Call, reads: u64) -> bool {
+    for read in 1..=reads {
+        let failing = Call {
+            text: b"",
+            status: 4,
+            read,
+            ..*call
+        };
+        if !answers(alloc, &failing) {
+            return false;
+        }
+    }
+    true
+}
+
+// Whether a call prints a front of its text where one of its puts fails.
+fn puts_fail(alloc: Global, call: &Call) -> bool {
+    for before in 0..call.text.len() {
+        let failing = Call {
+            text: &call.text[..before],
+            status: 5,
+            put: before as u64 + 1,
+            ..*call
+        };
+        if !answers(alloc, &failing) {
+            return false;
+        }
+    }
+    true
+}
+
+// A call that reads its source alone.
+const SOURCE_ALONE: Call = Call {
+    words: "run a.c --sandbox 65536 --trusted 65536",
+    source: "int g = 1; int main(void) { ptr<int> p = &g; *p = 41; return g + 1; }\n",
+    acts: "",
+    text: b"[exit 42]\n",
+    status: 0,
+    read: 0,
+    put: 0,
+};
+
+// A call that needs an act, and has none.
+const WITH_ACTS: Call = Call {
+    words: "run a.c --acts=f --sandbox 65536 --trusted 65536",
+    source: "_Tainted int t(void);\nint main(void) { return t(); }\n",
+    acts: "?",
+    text: b"[act line 1 A1 not JSON]\n",
+    status: 8,
+    read: 0,
+    put: 0,
+};
+
+// A call whose program writes before it ends.
+const WITH_OUTPUT: Call = Call {
+    words: "run a.c --dump --sandbox 65536 --trusted 65536",
+    source: "int g = 7; int main(void) { print_int(g); return 0; }\n",
+    acts: "",
+    text: b"7\n[exit 0]\n[block 65552 4 07000000]\n",
+    status: 0,
+    read: 0,
+    put: 0,
+};
+
+// Whether calls fail as their files and outputs do. A file takes two reads.
+fn fails_so(alloc: Global) -> bool {
+    reads_fail(alloc, &SOURCE_ALONE, 2)
+        && puts_fail(alloc, &SOURCE_ALONE)
+        && reads_fail(alloc, &WITH_ACTS, 4)
+        && puts_fail(alloc, &WITH_ACTS)
+        && puts_fail(alloc, &WITH_OUTPUT)
+        && answers_by_bytes(alloc, &SOURCE_ALONE)
+        && answers_by_bytes(alloc, &WITH_OUTPUT)
+}
+
+#[test]
+fn files_and_outputs(rt: HostRuntime) -> Result<(), Fail> {
+    expect(reads_file_of_system(&rt) && takes_piece(&rt) && fails_so(rt.alloc()))
 }

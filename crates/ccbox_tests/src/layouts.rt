@@ -80,7 +80,8 @@ fn lays_out(alloc: Global, types: &[u8], size: u32, offsets: &[u32]) -> bool {
     is_laid_out(&structs, size, offsets)
 }
 
-pub fn lays_out_structs(alloc: Global) -> bool {
+// Whether structs are laid out.
+fn lays_out_structs(alloc: Global) -> bool {
     lays_out(alloc, b"c", 1, &[0])
         && lays_out(alloc, b"ci", 8, &[0, 4])
         && lays_out(alloc, b"ic", 8, &[0, 4])
@@ -96,11 +97,17 @@ fn is_scalar(alloc: Global, letter: u8, size: u32) -> bool {
     }
 }
 
-pub fn lays_out_scalars(alloc: Global) -> bool {
+// Whether numbers and pointers are laid out.
+fn lays_out_scalars(alloc: Global) -> bool {
     is_scalar(alloc, b'i', 4)
         && is_scalar(alloc, b'c', 1)
         && is_scalar(alloc, b'p', 4)
         && is_scalar(alloc, b't', 4)
+}
+
+/// Whether types are laid out.
+pub fn lays_out_all(alloc: Global) -> bool {
+    lays_out_structs(alloc) && lays_out_scalars(alloc)
 }
 
 // Whether a struct of these members is refused so. It has none then.
@@ -122,7 +129,8 @@ fn is_refused<T>(answer: &Result<T, Refused>, code: Code, span: Span) -> bool {
 
 const LETTERS: &[u8; 65] = b"abcdefghijklmnopqrstuvwxyzABCDEFGHIJKLMNOPQRSTUVWXYZ0123456789_+-";
 
-pub fn refuses_members(alloc: Global) -> bool {
+/// Whether members are refused.
+pub fn refuses_all(alloc: Global) -> bool {
     refuses(alloc, b"aba", b"iii", Code::E11, 2)
         && refuses(alloc, b"abb", b"ssi", Code::E11, 2)
         && refuses(alloc, b"abc", b"iss", Code::E27, 1)
@@ -140,10 +148,6 @@ fn takes_64(alloc: Global) -> bool {
     structs.size_of(&CType::Struct(0)) == 256
 }
 
-pub fn takes_64_members(alloc: Global) -> bool {
-    takes_64(alloc)
-}
-
 // Declares structs, and tells whether they have the numbers from 0 on.
 fn declares(structs: &mut Structs, count: u32) -> bool {
     for k in 0..count {
@@ -154,9 +158,15 @@ fn declares(structs: &mut Structs, count: u32) -> bool {
     true
 }
 
-pub fn declares_4096_structs(alloc: Global) -> bool {
+// Whether 4,096 structs are declared, and no more.
+fn declares_4096(alloc: Global) -> bool {
     let mut structs = Structs::new(alloc);
     let declared = declares(&mut structs, 4096);
     let refused = structs.declare(false, DECLARED);
     declared && is_refused(&refused, Code::E08, DECLARED)
+}
+
+/// Whether as many structs and members are taken as there may be.
+pub fn declares_all(alloc: Global) -> bool {
+    takes_64(alloc) && declares_4096(alloc)
 }

@@ -6,17 +6,15 @@ mod actors;
 #[cfg(test)]
 mod acts;
 #[cfg(test)]
-mod answers;
-#[cfg(test)]
 mod bounds;
 #[cfg(test)]
 mod calls;
 #[cfg(test)]
+mod cores;
+#[cfg(test)]
 mod facts;
 #[cfg(test)]
 mod files;
-#[cfg(test)]
-mod layers;
 #[cfg(test)]
 mod layouts;
 #[cfg(test)]
@@ -26,9 +24,17 @@ mod lines;
 #[cfg(test)]
 mod memories;
 #[cfg(test)]
+mod options;
+#[cfg(test)]
+mod places;
+#[cfg(test)]
 mod printing;
 #[cfg(test)]
+mod questions;
+#[cfg(test)]
 mod rows;
+#[cfg(test)]
+mod rules;
 #[cfg(test)]
 mod runs;
 #[cfg(test)]
@@ -38,6 +44,6 @@ mod sources;
 #[cfg(test)]
 mod tokens;
 #[cfg(test)]
-mod topics;
-#[cfg(test)]
 mod trees;
+#[cfg(test)]
+mod turns;

@@ -2,8 +2,12 @@
 
 ghost use Rattle.std.specs.Prelude.{◌≡◌, ◌<◌, ◌≤◌, ◌%◌};
 
+use crate::layouts::{declares_all, lays_out_all, refuses_all};
+use crate::rows::expect;
+use code_words::lists::Listed;
 use flat_bytes::words::{fits, get1, get4, put1, put4};
 use std::alloc::Global;
+use std::test::Fail;
 use trusted_memory::memory::Trusted;
 
 // Whether words at both ends are read so.
@@ -29,7 +33,8 @@ fn has_after4(bytes: &mut [u8; 6], at: u32, v: u32, expected: &[u8; 6]) -> bool
     bytes.as_slice() == expected.as_slice()
 }
 
-pub fn reads_and_writes_words_at_both_ends() -> bool {
+// Whether words are read and written at both ends.
+fn has_words() -> bool {
     let mut bytes = [1u8, 2, 3, 4, 5, 6];
     reads(&bytes)
         && has_after4(&mut bytes, 2, 0xfffefdfc, &[1, 2, 0xfc, 0xfd, 0xfe, 0xff])
@@ -43,7 +48,8 @@ pub fn reads_and_writes_words_at_both_ends() -> bool {
         && has_after4(&mut bytes, 0, 7, &[7, 0, 0, 0, 0xfe, 0x34])
 }
 
-pub fn fits_by_whole_numbers() -> bool {
+// Whether a range fits by whole numbers.
+fn fits_so() -> bool {
     fits(0, 4, 4)
         && !fits(1, 4, 4)
         && fits(4, 0, 4)
@@ -91,7 +97,8 @@ fn makes_from(alloc: Global, base: u32, blocks: &[Block]) -> bool
     }
 }
 
-pub fn makes_blocks_while_there_is_room(alloc: Global) -> bool {
+// Whether blocks are made while there is room.
+fn makes_blocks(alloc: Global) -> bool {
     makes_from(alloc, 1048576, BLOCKS) && makes_from(alloc, 16, WHOLE_BLOCKS)
 }
 
@@ -138,9 +145,33 @@ fn holds(memory: &mut Trusted) -> bool {
     stores(memory, STORED) && memory.in_range(65536, 65536) && !memory.in_range(65536, 65537)
 }
 
-pub fn stores_at_both_ends(alloc: Global) -> bool {
+// Whether words are stored at both ends of a memory.
+fn stores_at_both_ends(alloc: Global) -> bool {
     match Trusted::start(alloc, 65536, 65536) {
         Ok(mut memory) => holds(&mut memory),
         Err(_) => false,
     }
+}
+
+// Whether a vector is listed as it is, and given back.
+fn is_given_back(numbers: Vec<u8>) -> bool {
+    let list = Listed::from_vec(numbers);
+    let same = list.as_slice() == [3, 1, 2].as_slice();
+    same && list.into_vec().as_slice() == [3, 1, 2].as_slice()
+}
+
+// Whether a list gives its vector back.
+fn lists_vector(alloc: Global) -> bool {
+    match vec![in alloc; 3u8, 1, 2] {
+        Ok(numbers) => is_given_back(numbers),
+        Err(_) => false,
+    }
+}
+
+#[test]
+fn memories_and_layouts(rt: HostRuntime) -> Result<(), Fail> {
+    let alloc = rt.alloc();
+    expect(has_words() && fits_so() && lists_vector(alloc))?;
+    expect(makes_blocks(alloc) && stores_at_both_ends(alloc))?;
+    expect(lays_out_all(alloc) && refuses_all(alloc) && declares_all(alloc))
 }

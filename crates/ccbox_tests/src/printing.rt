@@ -1,7 +1,8 @@
 // What trees are printed as.
 
-use crate::sources::is_printed;
+use crate::sources::{expect_read_back, is_printed};
 use std::alloc::Global;
+use std::test::Fail;
 
 // A source, and what it is printed as.
 struct Row(&'static str, &'static str);
@@ -32,11 +33,18 @@ const ROWS: &[Row] = &[
     ),
 ];
 
-pub fn prints_texts(alloc: Global) -> bool {
+// Fails with the first row that is printed otherwise.
+fn expect_printed(alloc: Global) -> Result<(), Fail> {
     for Row(src, want) in ROWS {
         if !is_printed(alloc, src.as_bytes(), want.as_bytes()) {
-            return false;
+            return Err(Fail::new(*src));
         }
     }
-    true
+    Ok(())
+}
+
+#[test]
+fn printing(rt: HostRuntime) -> Result<(), Fail> {
+    expect_printed(rt.alloc())?;
+    expect_read_back(rt.alloc())
 }

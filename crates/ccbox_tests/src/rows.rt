@@ -1,13 +1,17 @@
 // Tables of rows, and how a test ends.
 
-use crate::answers::{Question, is_answer};
-use crate::lines::add;
+use crate::lines::{add, add_number};
+use crate::questions::{Question, is_answer};
 use std::alloc::{AllocError, Global};
 use std::test::Fail;
 
-// A row of a table is a case, with fields between `@`s. A `~` stands for a line feed, and a count, a `×` and a piece
-// between two backticks for so many of the piece. No case has one of these characters in a field but the last. The first
-// field is the answer, where `=` stands for the field behind it.
+// A row of a table is an answer and a case, which may have more fields, with an `@` between two of them. A `¶` stands
+// for a line feed, and a count, a `×` and a piece between two backticks for so many of the piece; each `#` of the piece
+// stands for its number, from 0 on. No field but the last has one of these characters. Where the answer is `=` it is the
+// case.
+
+/// What is asked, and the rows that answer it.
+pub struct Table(pub Question, pub &'static str);
 
 /// What stands before the first `@`, and behind it.
 pub fn field(row: &str) -> (&str, &str) {
@@ -23,8 +27,27 @@ fn add_part(text: &mut String, alloc: Global, part: &str) {
 }
 
 fn add_pieces(text: &mut String, alloc: Global, piece: &str, times: &str) {
-    if let Ok(pieces) = piece.repeat(alloc, times.parse::<usize>().unwrap_or(0)) {
+    let times = times.parse::<u32>().unwrap_or(0);
+    if piece.split_once('#').is_some() {
+        add_numbered(text, piece, times);
+    } else if let Ok(pieces) = piece.repeat(alloc, times as usize) {
         add(text, pieces.as_str());
+    }
+}
+
+fn add_numbered(text: &mut String, piece: &str, times: u32) {
+    for number in 0..times {
+        add_piece(text, piece, number);
+    }
+}
+
+// Puts a piece with this number in place of each `#` at the end of a text.
+fn add_piece(text: &mut String, piece: &str, number: u32) {
+    let mut parts = piece.split('#');
+    add(text, parts.next().unwrap_or(""));
+    for part in parts {
+        add_number(text, "", number);
+        add(text, part);
     }
 }
 
@@ -34,7 +57,7 @@ fn written_out(alloc: Global, row: &str) -> Result<String, AllocError> {
     for part in row.split('`') {
         add_part(&mut text, alloc, part);
     }
-    text.replace(alloc, '~', "\n")
+    text.replace(alloc, '¶', "\n")
 }
 
 // Whether a row is right.
@@ -51,23 +74,20 @@ fn has_answer(alloc: Global, question: Question, row: &str) -> bool {
     is_answer(alloc, question, case, expected)
 }
 
-/// A question, and rows of cases.
-pub struct Table(pub Question, pub &'static str);
-
-/// Fails with the first row that is wrong.
-pub fn expect_tables(alloc: Global, tables: &[Table]) -> Result<(), Fail> {
-    for table in tables {
-        expect_rows(alloc, table.0, table.1)?;
+// Fails with the first row that is wrong.
+fn expect_rows(alloc: Global, question: Question, rows: &str) -> Result<(), Fail> {
+    for row in rows.lines() {
+        if !is_right(alloc, question, row) {
+            return Err(Fail::new(row));
+        }
     }
     Ok(())
 }
 
-// Fails with the first row of a table that is wrong.
-fn expect_rows(alloc: Global, question: Question, table: &str) -> Result<(), Fail> {
-    for row in table.lines() {
-        if !is_right(alloc, question, row) {
-            return Err(Fail::new(row));
-        }
+/// Fails with the first row of the tables that is wrong.
+pub fn expect_tables(alloc: Global, tables: &[Table]) -> Result<(), Fail> {
+    for Table(question, rows) in tables {
+        expect_rows(alloc, *question, rows)?;
     }
     Ok(())
 }

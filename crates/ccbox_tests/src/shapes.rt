@@ -1,7 +1,7 @@
 // The operators and spans of an expression.
 
-use crate::answers::is_refusal;
 use crate::lines::{add, add_number};
+use crate::questions::is_refusal;
 use crate::sources::tree_of;
 use ckc_text::place::Span;
 use ckc_tree::expr::Expr;

@@ -6,6 +6,7 @@ use ckc_printer::program::print;
 use ckc_text::fault::Refused;
 use ckc_tree::item::Program;
 use std::alloc::Global;
+use std::test::Fail;
 
 const SOURCES: &[&str] = &[
     "int g = 1; int main(void) { ptr<int> p = &g; *p = 41; return g + 1; }\n",
@@ -98,11 +99,12 @@ fn are_fronts_answered(alloc: Global, src: &[u8]) -> bool {
     true
 }
 
-pub fn reads_prints_back(alloc: Global) -> bool {
+/// Fails with the first whole program that isn't printed and read back, or of which a front has no answer.
+pub fn expect_read_back(alloc: Global) -> Result<(), Fail> {
     for src in SOURCES {
         if !is_same(alloc, src.as_bytes()) || !are_fronts_answered(alloc, src.as_bytes()) {
-            return false;
+            return Err(Fail::new(*src));
         }
     }
-    true
+    Ok(())
 }

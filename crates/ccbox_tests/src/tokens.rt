@@ -1,10 +1,13 @@
 // The tokens of many texts, and the faults of others.
 
-use crate::answers::is_refusal;
 use crate::lines::{add, add_number};
+use crate::places::has_places;
+use crate::questions::{Question, is_refusal};
+use crate::rows::{Table, expect, expect_tables};
 use ckc_lexer::lexer::lex;
 use ckc_lexer::token::{CheckedScope, Token, TokenKind};
 use std::alloc::Global;
+use std::test::Fail;
 
 // A text, with the line of its tokens, or its fault.
 struct Row(&'static str, &'static str);
@@ -279,17 +282,18 @@ fn is_right(alloc: Global, src: &[u8], want: &str) -> bool {
     }
 }
 
-pub fn lexes_lines(alloc: Global) -> bool {
+// Fails with the first line of tokens that is wrong.
+fn expect_lines(alloc: Global) -> Result<(), Fail> {
     for Row(src, want) in ROWS {
         if !is_right(alloc, src.as_bytes(), want) {
-            return false;
+            return Err(Fail::new(*want));
         }
     }
-    true
+    Ok(())
 }
 
-// Bytes that are no text stand in comments and behind `#include` alone.
-pub fn lexes_odd_bytes(alloc: Global) -> bool {
+// Whether bytes that are no text stand in comments and behind `#include` alone.
+fn takes_bytes(alloc: Global) -> bool {
     is_right(alloc, b"/* \xc3 */ a", "name:a")
         && is_right(alloc, b"\x80", "E01 0")
         && is_right(alloc, b"a '\x80' b", "E01 2")
@@ -297,4 +301,64 @@ pub fn lexes_odd_bytes(alloc: Global) -> bool {
         && is_right(alloc, b"a\xff", "E01 1")
         && is_right(alloc, b"#include \xc3\na", "name:a")
         && is_right(alloc, b"#define N 4 // \xc3\nN", "number:4")
+}
+
+// The bytes that the tokens of a text stand on.
+fn spans_of(alloc: Global, tokens: &[Token]) -> String {
+    let mut spans = String::new(alloc);
+    for token in tokens {
+        add_number(&mut spans, "", token.span.from);
+        add_number(&mut spans, "-", token.span.to);
+        add(&mut spans, " ");
+    }
+    spans
+}
+
+// Whether the tokens of a function stand on its bytes.
+fn has_spans(alloc: Global) -> bool {
+    match lex(alloc, b"int main(void) { return 0; }") {
+        Ok(tokens) => {
+            let spans = spans_of(alloc, tokens.as_slice());
+            spans.as_str() == "0-3 4-8 8-9 9-13 13-14 15-16 17-23 24-25 25-26 27-28 "
+        }
+        Err(_) => false,
+    }
+}
+
+// How many tokens texts have, up to the limits of a source.
+const COUNTS: &str = "0@
+0@ \t\r¶
+1@returns
+16@a<b>c=d+e-f*g&h;
+9@ptr<int> p = &x;
+2@_Ptr9 2147483647
+E04 0@2147483648
+E04 0@99999999999999999999999
+E02 0@007
+E02 0@12ab
+7@_Tainted t(a, b)
+1@while
+1@_Checked
+3@a / b
+1@a // b
+4@a >>= b
+2@#define N -4¶N
+E01 1@a\u{b}b
+200000@`200000×;`
+E08 200000@`200001×;`
+200000@#define N -1¶`199998×;`N
+E08 200012@#define N -1¶`199999×;`N
+0@`1048576× `
+E08 0@`1048577× `
+E08 0@@`1048576× `
+E03 0@/*`1048574× `";
+
+const TABLES: &[Table] = &[Table(Question::Count, COUNTS)];
+
+#[test]
+fn lexing(rt: HostRuntime) -> Result<(), Fail> {
+    let alloc = rt.alloc();
+    expect_lines(alloc)?;
+    expect(takes_bytes(alloc) && has_spans(alloc) && has_places(alloc))?;
+    expect_tables(alloc, TABLES)
 }

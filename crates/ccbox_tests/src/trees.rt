@@ -1,7 +1,11 @@
 // Small sources, with the place of their refusal or the shape of their tree.
 
+use crate::questions::Question;
+use crate::rows::{Table, expect_tables};
+use std::test::Fail;
+
 // Whether they have a tree; the last ones have up to 200 levels, or too many.
-pub const ANSWERS: &str = "ok@
+const TREES: &str = "ok@
 E06 0@; int x;
 E06 0@return
 E06 4@int int x;
@@ -33,7 +37,7 @@ E06 61@int f() { p = malloc<int>(3 * sizeof(int)); p = calloc<int>(3); }
 E06 8@int x : number(3);
 E06 8@int x = --y;
 E06 16@int f() { return
-ok@#pragma CHECKED_SCOPE on~int x, *y = 0, z _Checked[3] = {1, -2}; struct s { int n; array_ptr<int> p : count(n); }; struct s v;
+ok@#pragma CHECKED_SCOPE on¶int x, *y = 0, z _Checked[3] = {1, -2}; struct s { int n; array_ptr<int> p : count(n); }; struct s v;
 ok@int x = `199×- `y;
 E07 408@int x = `200×- `y;
 E07 408@int x = `201×- `y;
@@ -59,7 +63,7 @@ E07 800@`200×ptr<`int`200×>` x;
 ok@int x = `199×y[`7`199×]`;
 E07 406@int x = `200×y[`7`200×]`;";
 
-pub const SHAPES: &str = "[6-11 [6-9 n6 n8] n10]@int x=a-b-c;
+const SHAPES: &str = "[6-11 [6-9 n6 n8] n10]@int x=a-b-c;
 [6-11 [6-9 n6 n8] n10]@int x=a*b+c;
 [6-11 n6 [8-11 n8 n10]]@int x=a+b*c;
 [6-13 [7-10 n7 n9] n12]@int x=(a+b)*c;
@@ -69,3 +73,10 @@ n8@int x=((a));
 [6-20 [6-14 [6-11 [6-8 n7] [9-11 n10]] n13] [16-20 n16 n19]]@int x=-a*!b==c||d&&e;
 [6-13 n7 n11]@int x=(a)+(b);
 [6-9 n6 n8]@int x=a&b;";
+
+const TABLES: &[Table] = &[Table(Question::Tree, TREES), Table(Question::Shape, SHAPES)];
+
+#[test]
+fn parsing(rt: HostRuntime) -> Result<(), Fail> {
+    expect_tables(rt.alloc(), TABLES)
+}

@@ -1,8 +1,8 @@
 // What is asked about the case of a row.
 
 use crate::actors::gives_all;
-use crate::acts::is_answered;
-use crate::calls::call_answers;
+use crate::acts::is_act;
+use crate::calls::{call_prints, run_prints, statements_print, value_prints};
 use crate::lines::is_number;
 use crate::shapes::has_shape;
 use crate::sources::tree_of;
@@ -22,20 +22,32 @@ pub enum Question {
     /// The line that the act of this line is written as.
     Act,
     /// The lines of the acts that a file gives, and why no more come.
-    Acts,
-    /// The status of a call; the case has the words, the text, the acts and the source.
+    ActFile,
+    /// What the run of a source prints.
+    Run,
+    /// What its run prints, and the last bytes of its file-level variables.
+    Dump,
+    /// What the run of a program prints that returns this value.
+    Value,
+    /// What the run of a program prints that has these statements.
+    Statements,
+    /// What a call prints; the case has the words, the acts and the source.
     Call,
 }
 
-/// Whether a case has this answer.
+/// Whether a case has this answer. What is printed stands without its last line feed.
 pub fn is_answer(alloc: Global, question: Question, case: &str, expected: &str) -> bool {
     match question {
         Question::Count => has_count(alloc, case.as_bytes(), expected),
         Question::Tree => has_tree(alloc, case.as_bytes(), expected),
         Question::Shape => has_shape(alloc, case.as_bytes(), expected),
-        Question::Act => is_answered(alloc, case.as_bytes(), expected),
-        Question::Acts => gives_all(alloc, case.as_bytes(), expected),
-        Question::Call => call_answers(alloc, case, expected),
+        Question::Act => is_act(alloc, case.as_bytes(), expected),
+        Question::ActFile => gives_all(alloc, case.as_bytes(), expected),
+        Question::Run => run_prints(alloc, case, expected, false),
+        Question::Dump => run_prints(alloc, case, expected, true),
+        Question::Value => value_prints(alloc, case, expected),
+        Question::Statements => statements_print(alloc, case, expected),
+        Question::Call => call_prints(alloc, case, expected),
     }
 }
 

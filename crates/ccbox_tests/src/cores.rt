@@ -1,0 +1,73 @@
+// The core of a source.
+
+use ccbox_call::front::front;
+use ckc_core::program::{CellPlace, Core, Expr, Object, Site, Stmt};
+use ckc_text::code::Code;
+use ckc_text::place::Place;
+use std::alloc::Global;
+
+// A store through a pointer stands in the second line.
+const SOURCE: &[u8] = b"int x = 5; int main(void) { ptr<int> p = &x;\n *p = 7; return x; }";
+
+// Whether these are the statements of the source.
+fn are_statements(body: &[Stmt]) -> bool {
+    matches!(
+        body,
+        [
+            Stmt::Block(_),
+            Stmt::Store {
+                cell: CellPlace::Through {
+                    site: Site {
+                        place: Place { line: 2, col: 2 }
+                    },
+                    ..
+                },
+                value: Expr::Number(7),
+                ..
+            },
+            Stmt::Return(Expr::Load { .. })
+        ]
+    )
+}
+
+// Whether this is the variable of the source.
+fn is_variable(object: &Object) -> bool {
+    match object.cells.as_slice() {
+        [cell] => cell.stride == 4 && cell.number == 5,
+        _ => false,
+    }
+}
+
+// Whether a core has the variable of the source, and nothing else beside its function.
+fn has_variable(core: &Core) -> bool {
+    match core.objects.as_slice() {
+        [object] => core.imports.is_empty() && core.main == 0 && is_variable(object),
+        _ => false,
+    }
+}
+
+// Whether a core has the function of the source.
+fn has_function(core: &Core) -> bool {
+    match core.functions.as_slice() {
+        [main] => main.parameters == 0 && main.locals.len() == 1 && are_statements(&main.body),
+        _ => false,
+    }
+}
+
+/// Whether the source has its core.
+pub fn has_core(alloc: Global) -> bool {
+    match front(alloc, SOURCE) {
+        Ok(core) => has_variable(&core) && has_function(&core),
+        Err(_) => false,
+    }
+}
+
+// Whether a code has this number and text.
+fn is_code(code: Code, number: &str, text: &str) -> bool {
+    code.number() == number && code.text() == text
+}
+
+/// Whether codes that no answer has yet have their numbers and texts.
+pub fn has_codes() -> bool {
+    is_code(Code::E17, "E17", "bounds not proved") && is_code(Code::C2, "C2", "bounds")
+}
