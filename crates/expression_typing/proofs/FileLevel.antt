@@ -1,7 +1,6 @@
 -- What becomes known at file level.
 use Rattle.std.proofs.Common.{◌≡◌, ℕ, zero, suc, ◌<◌, Bool, true, false, not, ◌&&◌, is_some, bytes_eq, List, [], ◌∷◌, ◌++◌, length, map, Option, Some, None, refl, ap, sym, ◌∙◌, true≢false}
 use Rattle.std.specs.List.{list_all}
-use Rattle.std.specs.Prelude.{if◌then◌else◌}
 use Rattle.std.proofs.lemmas.List.{map-append}
 use Rattle.std.proofs.lemmas.Slice.Eq.{bytes_eq-Decides}
 use Rattle.pointer_modes.specs.Types.{Member, Structure}
@@ -93,8 +92,7 @@ found_distinct (f ∷ fs) apart = rw apart.0 (found_distinct fs apart.1)
 are_distinct_more : (fs : List Signature) (f : Signature) → are_distinct fs ≡ true → function_named fs f.name ≡ None → are_distinct (fs ++ f ∷ []) ≡ true
 are_distinct_more fs f apart none = found_distinct (fs ++ f ∷ []) (distinct_more fs f (distinct fs apart) none)
 
--- a function that is pushed, where there is memory
-pub pushed_distinct : (b : Bool) (old new : List code.Signature) (f : code.Signature) → new ≡ (if b then old ++ f ∷ [] else old) → are_distinct (map signature old) ≡ true → function_named (map signature old) f.name ≡ None → are_distinct (map signature new) ≡ true
-pushed_distinct true old new f is apart none =
+-- a function that is pushed
+pub pushed_distinct : (old new : List code.Signature) (f : code.Signature) → new ≡ old ++ f ∷ [] → are_distinct (map signature old) ≡ true → function_named (map signature old) f.name ≡ None → are_distinct (map signature new) ≡ true
+pushed_distinct old new f is apart none =
     rw (ap (map signature) is ∙ map-append signature old (f ∷ [])) (are_distinct_more (map signature old) (signature f) apart none)
-pushed_distinct false old new f is apart none = rw (ap (map signature) is) apart

@@ -4,7 +4,7 @@ pub mod Searches
 pub mod MemberCells
 pub mod Arguments
 pub mod Continuing
-pub mod Sides
 pub mod CoreRows
 pub mod Conversions
 pub mod FileLevel
+pub mod Tables

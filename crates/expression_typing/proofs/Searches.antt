@@ -14,7 +14,8 @@ use Rattle.typing_rules.specs.Expressions.{member_from}
 use Rattle.expression_typing.specs.declared.scope as code
 use Rattle.expression_typing.specs.declared.signature.Signature as code_signature
 use Rattle.expression_typing.specs.Views.{variable, visible, signature}
-use Rattle.expression_typing.specs.Searches.{place_of, object_at, member_at, function_at}
+use Rattle.expression_typing.specs.Tables.{place_of}
+use Rattle.expression_typing.specs.Searches.{object_at, member_at, function_at}
 
 place_from : {X : Type 0} (p : X → Bool) (n : ℕ) (xs : List X) → position_from p n xs ≡ option_map (λ k. n + k) (place_of p xs)
 place_from p n [] = refl

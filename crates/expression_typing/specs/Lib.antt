@@ -1,6 +1,7 @@
 pub mod Answering
 pub mod Names
 pub mod Signatures
+pub mod Tables
 pub mod Views
 pub mod Typed
 pub mod Operands

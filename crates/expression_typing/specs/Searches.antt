@@ -1,5 +1,5 @@
 -- Inside: searches in lists, by the place that they find.
-use Rattle.std.specs.Prelude.{ℕ, suc, ◌+◌, Bool, cond, List, [], ◌∷◌, slice_get, Option, Some, None}
+use Rattle.std.specs.Prelude.{ℕ, ◌+◌, List, slice_get, Option, Some, None}
 use Rattle.std.specs.Option.{option_map}
 use Rattle.pointer_modes.specs.declared.ctype.Member as code_member
 use Rattle.pointer_modes.specs.Types.{CType, ctype}
@@ -7,11 +7,6 @@ use Rattle.typing_rules.specs.Scopes.{Named, Object, local_if, Signature}
 use Rattle.expression_typing.specs.declared.scope as code
 use Rattle.expression_typing.specs.declared.signature.Signature as code_signature
 use Rattle.expression_typing.specs.Views.{signature}
-
--- the place of the first that passes a test
-abbrev pub place_of : {X : Type 0} → (X → Bool) → List X → Option ℕ
-place_of p [] = None
-place_of p (x ∷ xs) = cond (p x) (Some 0) (option_map suc (place_of p xs))
 
 -- what stands at a place that is found, where the first has a number
 abbrev pub object_at : ℕ → List code.Variable.Variable → Option ℕ → Option Named

@@ -5,7 +5,7 @@ ghost use Rattle.std.specs.Option.{option_map};
 ghost use Rattle.pointer_modes.specs.Types.{ctype as ctype_of};
 ghost use Rattle.ckc_core.specs.Core.{expression, arguments_of, statement, Print, PutByte};
 ghost use Rattle.typing_rules.specs.Verdicts.{Passes};
-ghost use Rattle.typing_rules.specs.Expressions.{converted as converted_to, in_type as value_in_type, as_pointer, with_result as with_result_of, arguments_as as arguments_in, predefined_call as predefined_in, writes, call_of as call_in, is_import as is_import_of, side_number as side_number_of, same_side, counted as counted_if, declared_call as declared_in, called as called_in};
+ghost use Rattle.typing_rules.specs.Expressions.{converted as converted_to, in_type as value_in_type, as_pointer, with_result as with_result_of, arguments_as as arguments_in, predefined_call as predefined_in, writes, call_of as call_in, is_import as is_import_of, declared_call as declared_in, called as called_in};
 ghost use Rattle.typing_rules.specs.Scopes.{function_named};
 ghost use Rattle.expression_typing.specs.Views.{scope as scope_of, signature};
 ghost use Rattle.expression_typing.specs.Answering.{Answers};
@@ -215,35 +215,6 @@ pub fn is_import(f: &Signature) -> bool
     }
 }
 
-// One more, where a function is of a side.
-fn counted(side: bool, f: &Signature, number: u32) -> u32
-    requires { number < 4096 }
-    ensures counted { result ≡ counted_if (same_side side (is_import_of (signature f.now))) number }
-    ensures few { result ≤ number + 1 }
-{
-    let import = is_import(f);
-    if side && import || !side && !import {
-        number + 1
-    } else {
-        number
-    }
-}
-
-/// How many functions of a side stand before the one of a name.
-pub fn side_number(functions: &[Signature], side: bool, name: &[u8]) -> u32
-    requires { length functions.now ≤ 4096 }
-    ensures { result ≡ side_number_of side (map signature functions.now) name.now 0 }
-{
-    let mut number = 0;
-    for f in functions {
-        if name == f.name.as_bytes() {
-            return number;
-        }
-        number = counted(side, f, number);
-    }
-    number
-}
-
 // A call of a declared function.
 fn declared(
     alloc: Global,
@@ -260,7 +231,7 @@ fn declared(
     }
     let values = arguments_as(alloc, arguments, f.parameters.as_slice())?;
     let import = is_import(f);
-    let number = side_number(scope.functions.as_slice(), import, f.name.as_bytes());
+    let number = scope.side_number(import, f.name.as_bytes());
     Ok(call_of(alloc, import, number, &f.result, site, values)?)
 }
 

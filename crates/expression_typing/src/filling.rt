@@ -7,11 +7,14 @@ ghost use Rattle.pointer_modes.specs.Types.{ctype as ctype_of, member as member_
 ghost use Rattle.pointer_modes.specs.Declaring.{with_members};
 ghost use Rattle.typing_rules.specs.Types.{is_scalar};
 ghost use Rattle.typing_rules.specs.Scopes.{function_named};
+ghost use Rattle.typing_rules.specs.Expressions.{counted, is_import as is_import_of};
 ghost use Rattle.typing_rules.specs.Items.{nothing_known, with_variable, with_function};
 ghost use Rattle.expression_typing.specs.Answering.{Answers};
 ghost use Rattle.expression_typing.specs.Views.{scope as scope_of, signature};
 ghost use Rattle.expression_typing.specs.Filling.{struct_added};
 
+use crate::calls::is_import;
+use crate::name_table::NameTable;
 use crate::scope::{Scope, Variable};
 use crate::signature::Signature;
 use ckc_text::fault::{NoMemory, Refused};
@@ -21,6 +24,14 @@ use pointer_modes::ctype::{CType, Member};
 use pointer_modes::structs::Structs;
 use std::alloc::Global;
 use std::mem;
+
+// One more, where a function is tainted.
+fn with_tainted(f: &Signature, number: u32) -> u32
+    requires { number ≤ 4096 }
+    ensures { result ≡ counted (is_import_of (signature f.now)) number }
+{
+    if is_import(f) { number + 1 } else { number }
+}
 
 impl Scope {
     /// Nothing known, which takes no memory.
@@ -37,6 +48,10 @@ impl Scope {
             result: None,
             in_loop: false,
             is_off: false,
+            tag_places: NameTable::new(alloc),
+            function_places: NameTable::new(alloc),
+            variable_places: NameTable::new(alloc),
+            tainted_counts: Vec::new(alloc),
         }
     }
 
@@ -50,9 +65,11 @@ impl Scope {
     ) -> Result<u32, Refused>
         ensures { Answers (λ number. (number, scope_of self.new)) (struct_added tag.now tainted span (scope_of self.old)) result }
     {
-        let tag = Name::copied(alloc, tag)?;
+        let name = Name::copied(alloc, tag)?;
+        self.tags.reserve(1)?;
         let number = self.structs.declare(tainted, span)?;
-        self.tags.push(tag)?;
+        self.tag_places.note(alloc, tag, self.tags.len())?;
+        self.tags.push_reserved(name);
         Ok(number)
     }
 
@@ -71,18 +88,27 @@ impl Scope {
         requires { length self.old.variables.items < 4096 }
         ensures { OnOk result (scope_of self.new ≡ with_variable name.now (ctype_of ctype) (scope_of self.old)) }
     {
-        let name = Name::copied(alloc, name)?;
-        self.variables.push(Variable { name, ctype })?;
+        let copy = Name::copied(alloc, name)?;
+        self.variables.reserve(1)?;
+        self.variable_places
+            .note(alloc, name, self.variables.len())?;
+        self.variables.push_reserved(Variable { name: copy, ctype });
         Ok(())
     }
 
     /// A function more.
-    pub fn add_function(&mut self, f: Signature) -> Result<(), NoMemory>
+    pub fn add_function(&mut self, alloc: Global, f: Signature) -> Result<(), NoMemory>
         requires few { length self.old.functions.items < 4096 }
         requires new { function_named (scope_of self.old).functions f.name ≡ None }
         ensures { OnOk result (scope_of self.new ≡ with_function None (signature f) (scope_of self.old)) }
     {
-        self.functions.push(f)?;
+        let place = self.functions.len();
+        let tainted = with_tainted(&f, self.tainted_before(place));
+        self.functions.reserve(1)?;
+        self.tainted_counts.reserve(1)?;
+        self.function_places.note(alloc, f.name.as_bytes(), place)?;
+        self.tainted_counts.push_reserved(tainted);
+        self.functions.push_reserved(f);
         Ok(())
     }
 

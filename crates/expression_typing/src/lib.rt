@@ -8,6 +8,7 @@ mod filling;
 mod locals;
 mod lookups;
 mod members;
+pub mod name_table;
 mod operands;
 mod operators;
 mod places;

@@ -1,4 +1,4 @@
-use Rattle.std.proofs.Common.{sym, ap, ◌∙◌, bytes_eq}
+use Rattle.std.proofs.Common.{refl, sym, ap, ◌∙◌, bytes_eq}
 use Rattle.expression_typing.specs.Searches.{function_at}
 use Rattle.expression_typing.proofs.Searches.{function_found, function_there, none_at, read_at}
 use Rattle.expression_typing.proofs.scope.Scope.function.Goals as goal
@@ -7,11 +7,11 @@ pub returns-in_err-place : goal.returns-in_err-place
 returns-in_err-place c =
     let name = c.args.name.now in
     let fs = c.args.self.now.functions.items in
-    rw c.from_residual.ensures (sym (function_found name fs ∙ ap (function_at fs) (none_at (λ w. bytes_eq name w.name) fs c.as_slice.result.now (sym c.function_place.ensures ∙ c.in_err-place.was) c.as_slice.ensures.value)))
+    rw c.from_residual.ensures (sym (function_found name fs ∙ ap (function_at fs) (none_at (λ w. bytes_eq name w.name) fs fs (sym c.function_place.ensures ∙ c.in_err-place.was) refl)))
 
 pub returns : goal.returns
 returns c =
     let name = c.args.name.now in
     let fs = c.args.self.now.functions.items in
-    let read = read_at (λ w. bytes_eq name w.name) fs c.as_slice.result.now c.in_ok-place.place c.index.result.now (sym c.function_place.ensures ∙ c.in_ok-place.was) c.as_slice.ensures.value c.index.ensures in
+    let read = read_at (λ w. bytes_eq name w.name) fs fs c.in_ok-place.place c.index.result.now (sym c.function_place.ensures ∙ c.in_ok-place.was) refl c.index.ensures in
     function_there name fs c.in_ok-place.place c.index.result.now read.0 read.1

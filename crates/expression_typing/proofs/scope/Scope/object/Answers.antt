@@ -1,4 +1,4 @@
-use Rattle.std.proofs.Common.{sym, ap, ◌∙◌, bytes_eq}
+use Rattle.std.proofs.Common.{refl, sym, ap, ◌∙◌, bytes_eq}
 use Rattle.expression_typing.specs.Searches.{object_at}
 use Rattle.expression_typing.proofs.Searches.{object_found, object_there, none_at, read_at}
 use Rattle.expression_typing.proofs.scope.Scope.object.Goals as goal
@@ -7,11 +7,11 @@ pub returns-in_err-number : goal.returns-in_err-number
 returns-in_err-number c =
     let name = c.args.name.now in
     let vs = c.args.self.now.variables.items in
-    rw c.from_residual.ensures (sym (object_found name 0 vs ∙ ap (object_at 0 vs) (none_at (λ w. bytes_eq name w.name) vs c.as_slice.result.now (sym c.variable_place.ensures ∙ c.in_err-number.was) c.as_slice.ensures.value)))
+    rw c.from_residual.ensures (sym (object_found name 0 vs ∙ ap (object_at 0 vs) (none_at (λ w. bytes_eq name w.name) vs vs (sym c.variable_place.ensures ∙ c.in_err-number.was) refl)))
 
 pub returns : goal.returns
 returns c =
     let name = c.args.name.now in
     let vs = c.args.self.now.variables.items in
-    let read = read_at (λ w. bytes_eq name w.name) vs c.as_slice.result.now c.in_ok-number.number c.index.result.now (sym c.variable_place.ensures ∙ c.in_ok-number.was) c.as_slice.ensures.value c.index.ensures in
+    let read = read_at (λ w. bytes_eq name w.name) vs vs c.in_ok-number.number c.index.result.now (sym c.variable_place.ensures ∙ c.in_ok-number.was) refl c.index.ensures in
     object_there name vs c.in_ok-number.number c.index.result.now read.0 read.1
