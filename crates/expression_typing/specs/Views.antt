@@ -2,7 +2,7 @@
 use Rattle.std.specs.Prelude.{map, reverse}
 use Rattle.std.specs.Option.{option_map}
 use Rattle.pointer_modes.specs.Types.{ctype}
-use Rattle.typing_rules.specs.Scopes.{Signature, Variable, Visible, Scope}
+use Rattle.typing_rules.specs.Scopes.{Variable, Visible, Scope}
 use Rattle.expression_typing.specs.declared.scope as code
 pub use Rattle.expression_typing.specs.Signatures.{signature}
 

@@ -1,4 +1,4 @@
-use Rattle.std.proofs.Common.{sym, ap, ◌∙◌}
+use Rattle.std.proofs.Common.{ap, ◌∙◌}
 use Rattle.expression_typing.specs.Tables.{place_in}
 use Rattle.expression_typing.proofs.Tables.{place_by_key}
 use Rattle.expression_typing.proofs.name_table.NameTable.get.Goals as goal

@@ -1,5 +1,4 @@
-use Rattle.std.proofs.Common.{[], ◌∷◌, ◌++◌, true, map, refl, sym, ap, ◌∙◌}
-use Rattle.std.proofs.lemmas.List.{length-map}
+use Rattle.std.proofs.Common.{[], ◌∷◌, ◌++◌, true, map, sym, ap, ◌∙◌}
 use Rattle.typing_rules.specs.Expressions.{counted, is_import}
 use Rattle.expression_typing.specs.Views.{signature}
 use Rattle.expression_typing.specs.Tables.{side_before}

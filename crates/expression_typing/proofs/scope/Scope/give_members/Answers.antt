@@ -1,4 +1,4 @@
-use Rattle.std.proofs.Common.{map, sym, arith}
+use Rattle.std.proofs.Common.{map}
 use Rattle.pointer_modes.specs.Types.{member}
 use Rattle.expression_typing.proofs.FileLevel.{scalar_given, length_given}
 use Rattle.expression_typing.proofs.scope.Scope.give_members.Goals as goal
