@@ -6,7 +6,6 @@ use Rattle.ckc_text.specs.declared.place.Span.{Span}
 use Rattle.ckc_text.specs.declared.code.Code.{Code}
 use Rattle.ckc_text.specs.declared.code.Code.TheVariants.{E08, E27}
 use Rattle.ckc_tree.specs.Types.{TypeTree, type_span}
-use Rattle.ckc_tree.specs.declared.item.Item as code_item
 use Rattle.ckc_tree.specs.Items as i
 use Rattle.ckc_tree.specs.Statements.{Declarator}
 use Rattle.pointer_modes.specs.Types as types
@@ -15,8 +14,7 @@ use Rattle.typing_rules.specs.Verdicts.{Verdict, Passes, Breaks, passing, needs}
 use Rattle.typing_rules.specs.Scopes.{Scope, Variable}
 use Rattle.typing_rules.specs.Types.{type_named}
 use Rattle.typing_rules.specs.Expressions.{Places}
-use Rattle.typing_rules.specs.Items.{Walk, is_struct, member_types, parameter_types, scalar_members, item, items, defines, is_defined}
-use Rattle.statement_typing.proofs.Steps.{parts_at, no_parts}
+use Rattle.typing_rules.specs.Items.{Walk, is_struct, member_types, parameter_types, scalar_members, item, items}
 use Rattle.region_typing.specs.declared.globals.WalkedVariable as code_variable
 use Rattle.region_typing.specs.Items.{one_member, one_parameter, one_variable, judged_variable, judged_variables, JudgedVariable}
 
@@ -72,14 +70,3 @@ items_from at all xs w = items at all w xs
 
 pub item_by_step : (at : Places) (all : List i.Item) (x : i.Item) (xs : List i.Item) (w : Walk) → items_from at all (x ∷ xs) w ≡ passing (item_step at all x w) (λ v. items_from at all xs v)
 item_by_step at all x xs w = refl
-
--- ---- whether a function has a body
-
-pub defined_here : (xs : List code_item.Item) (k : ℕ) (x : code_item.Item) (name : List ℕ) → k < length xs → x ≡ get_or xs k x → defines name (i.item x) ≡ true → is_defined (map i.item (drop k xs)) name ≡ true
-defined_here xs k x name less is here = ap (λ ys. is_defined ys name) (parts_at i.item xs k x less is) ∙ rw here refl
-
-pub defined_later : (xs : List code_item.Item) (k : ℕ) (x : code_item.Item) (name : List ℕ) → k < length xs → x ≡ get_or xs k x → defines name (i.item x) ≡ false → is_defined (map i.item (drop k xs)) name ≡ is_defined (map i.item (drop (k + 1) xs)) name
-defined_later xs k x name less is not_here = ap (λ ys. is_defined ys name) (parts_at i.item xs k x less is) ∙ rw not_here refl
-
-pub defined_nowhere : (xs : List code_item.Item) (k : ℕ) (name : List ℕ) → length xs ≤ k → is_defined (map i.item (drop k xs)) name ≡ false
-defined_nowhere xs k name end = ap (λ ys. is_defined ys name) (no_parts i.item xs k end)

@@ -8,3 +8,4 @@ pub mod StructParts
 pub mod Lists
 pub mod CoreLists
 pub mod Checks
+pub mod DefinedNames

@@ -13,7 +13,7 @@ use crate::walk::Walk;
 use ckc_core::program::{Core, Function, Import};
 use ckc_text::fault::NoMemory;
 use ckc_text::name::Name;
-use expression_typing::calls::{is_import, side_number};
+use expression_typing::calls::is_import;
 use expression_typing::scope::Scope;
 use expression_typing::signature::Signature;
 use std::alloc::Global;
@@ -95,7 +95,7 @@ fn trusted_place(scope: &Scope, name: &[u8]) -> Option<usize>
     if is_import(f) {
         None
     } else {
-        Some(side_number(scope.functions.as_slice(), false, name) as usize)
+        Some(scope.side_number(false, name) as usize)
     }
 }
 
@@ -145,7 +145,7 @@ pub fn core_of(alloc: Global, walk: Walk) -> Result<Core, NoMemory>
         bodies,
     } = walk;
     let imports = imports(alloc, scope.functions.as_slice())?;
-    let main = side_number(scope.functions.as_slice(), false, b"main".as_slice());
+    let main = scope.side_number(false, b"main".as_slice());
     let functions = functions(alloc, &scope, bodies)?;
     Ok(Core {
         objects,

@@ -5,11 +5,12 @@ ghost use Rattle.ckc_text.specs.Places.{place_at};
 ghost use Rattle.ckc_tree.specs.Items.{function as function_tree, item as item_tree};
 ghost use Rattle.typing_rules.specs.Verdicts.{picked};
 ghost use Rattle.typing_rules.specs.Scopes.{function_named};
-ghost use Rattle.typing_rules.specs.Items.{is_trusted as trusted_kind, is_defined as defined_in, defines as defines_of, is_off as is_off_of, agrees as agrees_of, all_scalar, scalar_result, function as function_of, item as item_of, items as items_of};
+ghost use Rattle.typing_rules.specs.Items.{is_trusted as trusted_kind, is_defined as defined_in, is_off as is_off_of, agrees as agrees_of, all_scalar, scalar_result, function as function_of, item as item_of, items as items_of};
 ghost use Rattle.expression_typing.specs.Answering.{Answers};
 ghost use Rattle.expression_typing.specs.Views.{scope as scope_of, signature};
 ghost use Rattle.region_typing.specs.Items.{walk as walk_of, Outside, kept_rules};
 
+use crate::definitions::Listing;
 use crate::functions::function_body;
 use crate::globals::global;
 use crate::signatures::{agrees, declare, declared, is_scalar_signature};
@@ -37,35 +38,12 @@ fn is_trusted(kind: FunctionKind) -> bool
     }
 }
 
-// Whether an item is the body of the function of a name.
-fn defines(name: &[u8], item: &Item) -> bool
-    ensures { result ≡ defines_of name.now (item_tree item.now) }
-{
-    match item {
-        Item::Function { function } => name == function.name.name.as_bytes()
-            && function.body.is_some(),
-        Item::Region { .. } | Item::Structure { .. } | Item::Global { .. } => false,
-    }
-}
-
-// Whether a function of a name has a body.
-fn is_defined(items: &[Item], name: &[u8]) -> bool
-    ensures { result ≡ defined_in (map item_tree items.now) name.now }
-{
-    for item in items {
-        if defines(name, item) {
-            return true;
-        }
-    }
-    false
-}
-
 // Whether a function has a body where it needs one.
-fn has_body(items: &[Item], d: &Function) -> bool
-    ensures { result ≡ picked (trusted_kind d.now.kind) (defined_in (map item_tree items.now) d.now.name.name) true }
+fn has_body(listing: &Listing, d: &Function) -> bool
+    ensures { result ≡ picked (trusted_kind d.now.kind) (defined_in (map item_tree listing.now.items.now) d.now.name.name) true }
 {
     if is_trusted(d.kind) {
-        is_defined(items, d.name.name.as_bytes())
+        listing.is_defined(d.name.name.as_bytes())
     } else {
         true
     }
@@ -79,11 +57,11 @@ fn fits(scope: &Scope, f: &Signature) -> bool
 }
 
 // The rules of a function whose body was walked.
-fn keep_rules(items: &[Item], scope: &Scope, d: &Function, fits: bool) -> Result<(), Refused>
-    ensures { Answers (λ x. x) (kept_rules (map item_tree items.now) (function_tree d.now) fits (scope_of scope.now)) result }
+fn keep_rules(listing: &Listing, scope: &Scope, d: &Function, fits: bool) -> Result<(), Refused>
+    ensures { Answers (λ x. x) (kept_rules (map item_tree listing.now.items.now) (function_tree d.now) fits (scope_of scope.now)) result }
 {
     needs(fits, Code::E13, d.span)?;
-    needs(has_body(items, d), Code::E10, d.span)?;
+    needs(has_body(listing, d), Code::E10, d.span)?;
     needs(!is_unchecked(d.mark), Code::E15, d.span)?;
     needs(!scope.is_off, Code::E15, d.span)
 }
@@ -99,12 +77,12 @@ fn has_room(scope: &Scope, name: &[u8]) -> bool
 fn function(
     alloc: Global,
     sites: &Sites,
-    items: &[Item],
+    listing: &Listing,
     walk: &mut Walk,
     d: &Function,
 ) -> Result<(), Refused>
     requires { Outside (scope_of walk.old.scope) }
-    ensures { Answers (λ _. walk_of walk.new) (function_of (place_at sites.now) (map item_tree items.now) (walk_of walk.old) (function_tree d.now)) result }
+    ensures { Answers (λ _. walk_of walk.new) (function_of (place_at sites.now) (map item_tree listing.now.items.now) (walk_of walk.old) (function_tree d.now)) result }
 {
     needs(
         has_room(&walk.scope, d.name.name.as_bytes()),
@@ -116,7 +94,7 @@ fn function(
     declare(alloc, &mut walk.scope, &known.signature)?;
     let parameters = known.parameters.as_slice();
     function_body(alloc, sites, walk, &known.signature, parameters, &d.body)?;
-    keep_rules(items, &walk.scope, d, suits)
+    keep_rules(listing, &walk.scope, d, suits)
 }
 
 fn is_off(region: Region) -> bool
@@ -132,12 +110,12 @@ fn is_off(region: Region) -> bool
 fn item(
     alloc: Global,
     sites: &Sites,
-    items: &[Item],
+    listing: &Listing,
     walk: &mut Walk,
     written: &Item,
 ) -> Result<(), Refused>
     requires { Outside (scope_of walk.old.scope) }
-    ensures { Answers (λ _. walk_of walk.new) (item_of (place_at sites.now) (map item_tree items.now) (walk_of walk.old) (item_tree written.now)) result }
+    ensures { Answers (λ _. walk_of walk.new) (item_of (place_at sites.now) (map item_tree listing.now.items.now) (walk_of walk.old) (item_tree written.now)) result }
 {
     match written {
         Item::Region { region, .. } => {
@@ -146,8 +124,25 @@ fn item(
         }
         Item::Structure { structure: d } => structure(alloc, walk, d),
         Item::Global { global: d } => global(alloc, sites, walk, d),
-        Item::Function { function: d } => function(alloc, sites, items, walk, d),
+        Item::Function { function: d } => function(alloc, sites, listing, walk, d),
     }
+}
+
+// Each item of a source, in their order.
+fn each_item(
+    alloc: Global,
+    sites: &Sites,
+    listing: &Listing,
+    walk: &mut Walk,
+) -> Result<(), Refused>
+    requires { Outside (scope_of walk.old.scope) }
+    ensures { Answers (λ _. walk_of walk.new) (items_of (place_at sites.now) (map item_tree listing.now.items.now) (walk_of walk.old) (map item_tree listing.now.items.now)) result }
+{
+    let written = listing.items;
+    for listed in written {
+        item(alloc, sites, listing, walk, listed)?;
+    }
+    Ok(())
 }
 
 /// The items of a source, in their order.
@@ -155,8 +150,6 @@ pub fn items(alloc: Global, sites: &Sites, walk: &mut Walk, written: &[Item]) ->
     requires { Outside (scope_of walk.old.scope) }
     ensures { Answers (λ _. walk_of walk.new) (items_of (place_at sites.now) (map item_tree written.now) (walk_of walk.old) (map item_tree written.now)) result }
 {
-    for listed in written {
-        item(alloc, sites, written, walk, listed)?;
-    }
-    Ok(())
+    let listing = Listing::new(alloc, written)?;
+    each_item(alloc, sites, &listing, walk)
 }

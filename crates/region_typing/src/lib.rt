@@ -3,6 +3,7 @@
 
 pub mod checker;
 mod cores;
+mod definitions;
 mod functions;
 mod globals;
 mod initials;

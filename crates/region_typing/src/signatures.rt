@@ -155,7 +155,7 @@ pub fn declare(alloc: Global, scope: &mut Scope, f: &Signature) -> Result<(), No
         Some(_) => Ok(()),
         None => {
             let copy = copied_signature(alloc, f)?;
-            scope.add_function(copy)
+            scope.add_function(alloc, copy)
         }
     }
 }

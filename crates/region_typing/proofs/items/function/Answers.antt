@@ -17,12 +17,12 @@ use Rattle.region_typing.proofs.items.function.Goals as goal
 pub returns-in_err-needs : goal.returns-in_err-needs
 returns-in_err-needs c =
     let room = rw c.as_bytes.ensures at c.has_room.ensures in
-    rw (function_parts (place_at c.args.sites.now) (map trees.item c.args.items.now) (walk c.args.walk.now) (trees.function c.args.d.now)) (fails _ _ _ _ _ c.from_residual.result room c.from_residual.ensures.1 c.in_err-needs.ensures)
+    rw (function_parts (place_at c.args.sites.now) (map trees.item c.args.listing.now.items.now) (walk c.args.walk.now) (trees.function c.args.d.now)) (fails _ _ _ _ _ c.from_residual.result room c.from_residual.ensures.1 c.in_err-needs.ensures)
 
 pub returns-in_err-known : goal.returns-in_err-known
 returns-in_err-known c =
     let room = rw c.as_bytes.ensures at c.has_room.ensures in
-    rw (function_parts (place_at c.args.sites.now) (map trees.item c.args.items.now) (walk c.args.walk.now) (trees.function c.args.d.now)) (holds _ _ _ _ _ room c.in_ok-needs.ensures
+    rw (function_parts (place_at c.args.sites.now) (map trees.item c.args.listing.now.items.now) (walk c.args.walk.now) (trees.function c.args.d.now)) (holds _ _ _ _ _ room c.in_ok-needs.ensures
     (refused _ c.from_residual-in_err-known.result c.from_residual-in_err-known.ensures.1 c.in_err-known.ensures))
 
 pub declare-requires : goal.declare-requires
@@ -42,8 +42,8 @@ pub returns-in_err-function_body : goal.returns-in_err-function_body
 returns-in_err-function_body c =
     let room = rw c.as_bytes.ensures at c.has_room.ensures in
     let broken = rw c.as_slice-parameters.ensures.value at c.in_err-function_body.ensures in
-    rw (function_parts (place_at c.args.sites.now) (map trees.item c.args.items.now) (walk c.args.walk.now) (trees.function c.args.d.now)) (holds _ _ _ _ _ room c.in_ok-needs.ensures
-    (function_walk (place_at c.args.sites.now) (map trees.item c.args.items.now) (walk c.args.walk.now) (trees.function c.args.d.now) (declared c.in_ok-known.known) (scope c.declare.new.scope) c.in_ok-known.ensures.so c.in_ok-declare.ensures
+    rw (function_parts (place_at c.args.sites.now) (map trees.item c.args.listing.now.items.now) (walk c.args.walk.now) (trees.function c.args.d.now)) (holds _ _ _ _ _ room c.in_ok-needs.ensures
+    (function_walk (place_at c.args.sites.now) (map trees.item c.args.listing.now.items.now) (walk c.args.walk.now) (trees.function c.args.d.now) (declared c.in_ok-known.known) (scope c.declare.new.scope) c.in_ok-known.ensures.so c.in_ok-declare.ensures
     (refused _ c.from_residual-in_err-function_body.result c.from_residual-in_err-function_body.ensures.1 broken)))
 
 pub returns : goal.returns
@@ -51,6 +51,6 @@ returns c =
     let room = rw c.as_bytes.ensures at c.has_room.ensures in
     let passes = rw c.as_slice-parameters.ensures.value at c.in_ok-function_body.ensures in
     let judged = rw c.fits-suits.ensures at c.keep_rules.ensures in
-    rw (function_parts (place_at c.args.sites.now) (map trees.item c.args.items.now) (walk c.args.walk.now) (trees.function c.args.d.now)) (holds _ _ _ _ _ room c.in_ok-needs.ensures
-    (function_walk (place_at c.args.sites.now) (map trees.item c.args.items.now) (walk c.args.walk.now) (trees.function c.args.d.now) (declared c.in_ok-known.known) (scope c.declare.new.scope) c.in_ok-known.ensures.so c.in_ok-declare.ensures
+    rw (function_parts (place_at c.args.sites.now) (map trees.item c.args.listing.now.items.now) (walk c.args.walk.now) (trees.function c.args.d.now)) (holds _ _ _ _ _ room c.in_ok-needs.ensures
+    (function_walk (place_at c.args.sites.now) (map trees.item c.args.listing.now.items.now) (walk c.args.walk.now) (trees.function c.args.d.now) (declared c.in_ok-known.known) (scope c.declare.new.scope) c.in_ok-known.ensures.so c.in_ok-declare.ensures
     (goes_on _ passes (kept_last _ _ c.keep_rules.result judged))))

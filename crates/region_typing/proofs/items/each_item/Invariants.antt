@@ -4,7 +4,7 @@ use Rattle.ckc_tree.specs.Items as trees
 use Rattle.typing_rules.specs.Items.{items}
 use Rattle.expression_typing.specs.Views.{scope}
 use Rattle.region_typing.specs.Items.{walk, Outside}
-use Rattle.region_typing.proofs.items.items.Given as goal
+use Rattle.region_typing.proofs.items.each_item.Given as goal
 
 -- the items so far with those that are left make all of them
 abbrev pub invariant-loop-listed : goal.invariant-loop-listed

@@ -1,0 +1,60 @@
+// The functions that have bodies.
+
+ghost use Rattle.std.specs.Prelude.{◌≡◌, ◌++◌, ◌∷◌, [], map, IfOk, OnOk};
+ghost use Rattle.ckc_tree.specs.Items.{item as item_tree};
+ghost use Rattle.typing_rules.specs.Items.{is_defined as defined_in};
+ghost use Rattle.region_typing.specs.Definitions.{Knows};
+
+use ckc_text::fault::NoMemory;
+use ckc_tree::item::Item;
+use expression_typing::name_table::NameTable;
+use std::alloc::Global;
+
+/// The items of a source, with the names of the functions that have bodies among them.
+#[derive(Drop)]
+pub struct Listing<'a> {
+    pub items: &'a [Item],
+    defined: NameTable,
+    ghost known: { Knows defined (map item_tree items.now) },
+}
+
+// Notes the name of the function whose body an item is.
+fn note_definition(alloc: Global, item: &Item, defined: &mut NameTable) -> Result<(), NoMemory>
+    ensures { OnOk result ((items : _) → Knows defined.old items → Knows defined.new (items ++ item_tree item.now ∷ [])) }
+{
+    match item {
+        Item::Function { function } => match &function.body {
+            Some(_) => defined.note(alloc, function.name.name.as_bytes(), 0),
+            None => Ok(()),
+        },
+        Item::Region { .. } | Item::Structure { .. } | Item::Global { .. } => Ok(()),
+    }
+}
+
+// The names of the functions that have bodies.
+fn defined_names(alloc: Global, items: &[Item]) -> Result<NameTable, NoMemory>
+    ensures { IfOk result (λ table. Knows table (map item_tree items.now)) }
+{
+    let mut defined = NameTable::new(alloc);
+    for item in items {
+        note_definition(alloc, item, &mut defined)?;
+    }
+    Ok(defined)
+}
+
+impl<'a> Listing<'a> {
+    /// The items of a source.
+    pub fn new(alloc: Global, items: &'a [Item]) -> Result<Listing<'a>, NoMemory>
+        ensures { IfOk result (λ listing. listing.items.now ≡ items.now) }
+    {
+        let defined = defined_names(alloc, items)?;
+        Ok(Listing { items, defined })
+    }
+
+    /// Whether a function of a name has a body.
+    pub fn is_defined(&self, name: &[u8]) -> bool
+        ensures { result ≡ defined_in (map item_tree self.now.items.now) name.now }
+    {
+        self.defined.get(name).is_some()
+    }
+}
