@@ -250,7 +250,7 @@ impl<'a> Machine<'a> {
     }
 
     // What an instruction tells.
-    fn event(&self, outcome: Outcome) -> Event
+    pub(crate) fn event(&self, outcome: Outcome) -> Event
         ensures { result ≡ event_of outcome self.now.over }
     {
         match (outcome, self.over) {
