@@ -1,6 +1,6 @@
 -- Steps that tell nothing lead to a machine that runs on.
 use Rattle.std.proofs.Common.{◌≡◌, ◌≤◌, Bool, true, false, Option, Some, None, [], refl, sym, ap, ◌∙◌, subst}
-use Rattle.std.specs.Prelude.{IsTrue}
+use Rattle.std.specs.Prelude.{IsTrue, slice_get}
 use Rattle.code_words.specs.Paced.{is_paced}
 use Rattle.code_words.specs.Table.{Step, Goes, Over, wild}
 use Rattle.code_words.specs.declared.op.Op.{Op}
@@ -11,6 +11,8 @@ use Rattle.two_memory_machine.specs.declared.outcome.Outcome.{Outcome}
 use Rattle.two_memory_machine.specs.Machines.{Machine, Running, Gives, TellsStep, Steps, StepsIf, is_input, next_op_of, waiting_of}
 use Rattle.two_memory_machine.specs.Families.{family}
 use Rattle.two_memory_machine.specs.Steps.{Acts, GoesBy, event_of}
+use Rattle.two_memory_machine.specs.Insides.{machine, IsConsistent}
+use Rattle.two_memory_machine.specs.declared.machine.Machine.TheInside.{Inside}
 use Rattle.two_memory_machine.specs.Running.{StepsOn, IsStep}
 use Rattle.two_memory_machine.proofs.Moving.{performs_told, event_told}
 use Rattle.two_memory_machine.proofs.Ends.{Stepped, stepped, stepped_wild}
@@ -26,6 +28,13 @@ runs_again old new steps = by (is_input (next_op_of old)) steps
     by : (input : Bool) → StepsIf input old Ran new → waiting_of new ≡ waiting.Runs
     by true h = absurd (let no : Ran ≡ Input = h.0 in cc)
     by false h = next _ (h [] [] [])
+
+here : (i : Inside) → IsConsistent i → slice_get i.image.now.trusted.funs i.calls.frame.function ≡ Some i.calls.fun
+here i h = ap (λ funs. slice_get funs i.calls.frame.function) (sym h.funs) ∙ h.there
+
+-- the instruction that the innermost call would do next is the machine's
+pub next_is : (i : Inside) → IsConsistent i → next_op_of (machine i) ≡ slice_get i.calls.fun.ops i.calls.frame.next
+next_is i h = rw (here i h) refl
 
 is_step : (old new : Machine) (event : Event) → Stepped old event new → IsStep old event new
 is_step old new event all = record { steps = all.steps; over = all.over; sooner = all.sooner }

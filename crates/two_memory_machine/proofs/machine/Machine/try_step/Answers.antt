@@ -1,18 +1,10 @@
-use Rattle.std.proofs.Common.{◌≡◌, Some, None, refl, sym, ap, ◌∙◌}
-use Rattle.std.specs.Prelude.{slice_get, IsTrue}
+use Rattle.std.proofs.Common.{◌≡◌, Some, None, sym, ◌∙◌}
+use Rattle.std.specs.Prelude.{IsTrue}
 use Rattle.code_words.specs.Paced.{is_paced}
 use Rattle.two_memory_machine.specs.Machines.{next_op_of}
-use Rattle.two_memory_machine.specs.Insides.{machine, IsConsistent}
-use Rattle.two_memory_machine.specs.declared.machine.Machine.TheInside.{Inside}
 use Rattle.two_memory_machine.proofs.Moving.{other_family}
-use Rattle.two_memory_machine.proofs.Tries.{tried, tried_wild}
+use Rattle.two_memory_machine.proofs.Tries.{next_is, tried, tried_wild}
 use Rattle.two_memory_machine.proofs.machine.Machine.try_step.Goals as goal
-
-here : (i : Inside) → IsConsistent i → slice_get i.image.now.trusted.funs i.calls.frame.function ≡ Some i.calls.fun
-here i h = ap (λ funs. slice_get funs i.calls.frame.function) (sym h.funs) ∙ h.there
-
-next_is : (i : Inside) → IsConsistent i → next_op_of (machine i) ≡ slice_get i.calls.fun.ops i.calls.frame.next
-next_is i h = rw (here i h) refl
 
 pub returns-in_default : goal.returns-in_default
 returns-in_default c =
