@@ -1,4 +1,6 @@
 use Rattle.std.proofs.Common.{arith}
+use Rattle.two_memory_machine.specs.declared.event.Event.TheVariants.{Ran}
+use Rattle.two_memory_machine.specs.Machines.{Steps}
 use Rattle.two_memory_machine.specs.Running.{StepsOn}
 use Rattle.two_memory_machine.proofs.Tries.{runs_again}
 use Rattle.two_memory_machine.proofs.machine.Machine.run_on.Goals as goal
@@ -10,8 +12,9 @@ pub steps-preserved : goal.steps-preserved
 steps-preserved c =
     let at = c.steps.invariant in
     let now = c.in-Some-Ran.ensures in
-    let again = runs_again c.steps.self c.try_step.new.self now.steps in
-    record { waits = again; leads = λ event new rest. at.leads event new (StepsOn.more now.steps again rest); moves = omega (arith, at.moves, now.sooner) }
+    let ran : Steps c.steps.self Ran c.try_step.new.self = rw c.in-Some-Ran.field-0-is at now.steps in
+    let again = runs_again c.steps.self c.try_step.new.self ran in
+    record { waits = again; leads = λ event new rest. at.leads event new (StepsOn.more ran again rest); moves = omega (arith, at.moves, now.sooner) }
 
 pub returns-in-Some : goal.returns-in-Some
 returns-in-Some c =
