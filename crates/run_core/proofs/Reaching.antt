@@ -3,7 +3,7 @@ use Rattle.std.proofs.Common.{◌≡◌, ℕ, ℤ, pos, Bool, true, false, zero,
 use Rattle.act_words.specs.declared.ending.Ending.{Ending}
 use Rattle.act_words.specs.declared.settings.Settings.{Settings}
 use Rattle.act_words.specs.Acts.{Act}
-use Rattle.act_words.specs.World.{Event, NoAct}
+use Rattle.act_words.specs.World.{Event}
 use Rattle.code_words.specs.declared.image.Image.{Image}
 use Rattle.code_words.specs.Table.{State, Step, Goes, Over}
 use Rattle.code_words.specs.Moves.{move}
@@ -11,7 +11,7 @@ use Rattle.code_words.specs.Runs.{Run, Unfinished, Finished, exec, go_on}
 use Rattle.two_memory_machine.specs.declared.event.Event.{Event as MachineEvent}
 use Rattle.two_memory_machine.specs.declared.event.Event.TheVariants as told_by
 use Rattle.two_memory_machine.specs.declared.event.Waiting.TheVariants as waiting
-use Rattle.two_memory_machine.specs.Machines.{Machine, Doing, Running, NeedsNumber, Touching, Suspended, Gives, TellsStep, Steps as MachineSteps, StepsIf, TakesNumber, TakesNoNumber, IsOfSame, state_of, turn_of, waiting_of, waiting_for, told_behind, ending_given, is_input, next_op_of}
+use Rattle.two_memory_machine.specs.Machines.{Machine, Doing, Running, NeedsNumber, Touching, Suspended, Gives, TellsStep, Steps as MachineSteps, StepsIf, TakesNumber, TakesNoNumber, IsOfSame, state_of, waiting_of, waiting_for, told_behind, is_input, next_op_of}
 use Rattle.two_memory_machine.specs.Running.{StepsOn}
 use Rattle.run_core.specs.Progress.{IsAt, Reaches, Leads, TakesInput, told}
 

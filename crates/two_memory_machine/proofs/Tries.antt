@@ -4,7 +4,6 @@ use Rattle.std.specs.Prelude.{IsTrue, slice_get}
 use Rattle.code_words.specs.Paced.{is_paced}
 use Rattle.code_words.specs.Table.{Step, Goes, Over, wild}
 use Rattle.code_words.specs.declared.op.Op.{Op}
-use Rattle.two_memory_machine.specs.declared.event.Event.{Event}
 use Rattle.two_memory_machine.specs.declared.event.Event.TheVariants.{Ran, Input, Ended}
 use Rattle.two_memory_machine.specs.declared.event.Waiting.TheVariants as waiting
 use Rattle.two_memory_machine.specs.declared.outcome.Outcome.{Outcome}
