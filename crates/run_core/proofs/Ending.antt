@@ -1,5 +1,5 @@
 -- What was written, and what was counted, at the end of a run.
-use Rattle.std.proofs.Common.{◌≡◌, ℕ, ℤ, List, ◌++◌, Option, Result, Ok, Err, refl, sym, ap, subst, append_assoc, arith}
+use Rattle.std.proofs.Common.{◌≡◌, ℕ, ℤ, List, ◌++◌, Option, Result, Ok, Err, refl, subst, append_assoc, arith}
 use Rattle.ckc_io.specs.Files.{Files}
 use Rattle.act_words.specs.declared.ending.Ending.{Ending}
 use Rattle.act_words.specs.declared.settings.Settings.{Settings}

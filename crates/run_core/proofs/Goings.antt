@@ -9,14 +9,14 @@ use Rattle.act_words.specs.World.{World, Event, Released, Showed, NoAct}
 use Rattle.sandbox_actor.specs.Answers.{Moment}
 use Rattle.code_words.specs.declared.image.Func.{Func}
 use Rattle.code_words.specs.declared.image.Image.{Image}
-use Rattle.code_words.specs.Table.{Frame, Touch, Loads, Stores, Passes, Replies, State, Step, Goes, Over, push_result}
+use Rattle.code_words.specs.Table.{Frame, Loads, Stores, Passes, Replies, State, push_result}
 use Rattle.code_words.specs.Moves.{move}
 use Rattle.code_words.specs.Dumps.{blocks_held}
 use Rattle.code_words.specs.Runs.{Run, Unfinished, Finished, CodeRun, exec, go_on, started, events_of}
 use Rattle.two_memory_machine.specs.declared.event.Event.{Event as MachineEvent}
 use Rattle.two_memory_machine.specs.declared.event.Event.TheVariants as told_by
 use Rattle.two_memory_machine.specs.declared.event.Waiting.TheVariants as waiting
-use Rattle.two_memory_machine.specs.Machines.{Machine, Doing, Running, NeedsNumber, Touching, Suspended, IsStart, IsOfSame, TakesAct, TakesEnd, TellsAct, state_of, turn_of, waiting_of, waiting_for, told_behind}
+use Rattle.two_memory_machine.specs.Machines.{Machine, Doing, Running, NeedsNumber, Touching, Suspended, IsStart, TakesAct, TakesEnd, TellsAct, state_of, turn_of, waiting_of, told_behind}
 use Rattle.run_core.specs.Moments.{due_from, due_in, before_due, IsDue}
 use Rattle.run_core.specs.Runs.{EndsBefore}
 use Rattle.run_core.specs.Progress.{last_of, IsAt, Reaches, Leads, Going, RunsOut, told, blocks_of}

@@ -1,8 +1,7 @@
 -- An act lowers the actor's measure while the turn goes on, and at its end fewer moves are left.
-use Rattle.std.proofs.Common.{◌≡◌, ℕ, ◌<◌, ◌≤◌, ◌⊎◌, Bool, true, false, Option, Some, None, ⊎_elim, arith}
+use Rattle.std.proofs.Common.{ℕ, ◌<◌, ◌≤◌, ⊎_elim, arith}
 use Rattle.act_words.specs.declared.act.Turn.{Turn}
 use Rattle.act_words.specs.declared.act.Turn.TheVariants as turns
-use Rattle.act_words.specs.declared.ending.Ending.{Ending}
 use Rattle.act_words.specs.Acts.{Act, Go, Read, Write, Call, Return, Stop}
 use Rattle.code_words.specs.Left.{LeavesTurn}
 use Rattle.sandbox_actor.specs.Answers.{Lowers}

@@ -1,5 +1,5 @@
 -- How far what is played has come behind each move, and what it comes to.
-use Rattle.std.proofs.Common.{◌≡◌, ℕ, ℤ, Bool, true, false, Option, Some, None, option_map, Err, List, [], ◌∷◌, ◌++◌, refl, sym, ap, ◌∙◌, subst, append-nil}
+use Rattle.std.proofs.Common.{◌≡◌, ℕ, ℤ, Bool, true, false, Option, Some, None, option_map, Err, List, [], ◌∷◌, ◌++◌, refl, sym, ap, ◌∙◌, append-nil}
 use Rattle.std.proofs.lemmas.List.Concat.{flat_map-append}
 use Rattle.ckc_io.specs.Files.{Files}
 use Rattle.act_words.specs.declared.ending.Ending.{Ending}
@@ -9,8 +9,7 @@ use Rattle.act_words.specs.World.{Event, NoAct}
 use Rattle.sandbox_actor.specs.Answers.{Gives}
 use Rattle.code_words.specs.declared.image.Image.{Image}
 use Rattle.two_memory_machine.specs.declared.event.Event.{Event as MachineEvent}
-use Rattle.two_memory_machine.specs.declared.event.Waiting.TheVariants as waiting
-use Rattle.two_memory_machine.specs.Machines.{Machine, IsStart, turn_of, waiting_of}
+use Rattle.two_memory_machine.specs.Machines.{Machine, IsStart, turn_of}
 use Rattle.run_core.specs.declared.run.RunFault.{RunFault}
 use Rattle.run_core.specs.declared.run.RunFault.TheVariants as faults
 use Rattle.run_core.specs.declared.play.Play.{Play}

@@ -3,7 +3,7 @@ use Rattle.std.proofs.Common.{◌≡◌, ℕ, ℤ, pos, Bool, true, false, zero,
 use Rattle.act_words.specs.declared.ending.Ending.{Ending}
 use Rattle.act_words.specs.declared.settings.Settings.{Settings}
 use Rattle.act_words.specs.Acts.{Act}
-use Rattle.act_words.specs.World.{Event, NoAct}
+use Rattle.act_words.specs.World.{Event}
 use Rattle.code_words.specs.declared.image.Image.{Image}
 use Rattle.code_words.specs.Table.{State, Step, Goes, Over}
 use Rattle.code_words.specs.Moves.{move}
@@ -11,7 +11,8 @@ use Rattle.code_words.specs.Runs.{Run, Unfinished, Finished, exec, go_on}
 use Rattle.two_memory_machine.specs.declared.event.Event.{Event as MachineEvent}
 use Rattle.two_memory_machine.specs.declared.event.Event.TheVariants as told_by
 use Rattle.two_memory_machine.specs.declared.event.Waiting.TheVariants as waiting
-use Rattle.two_memory_machine.specs.Machines.{Machine, Doing, Running, NeedsNumber, Touching, Suspended, Gives, TellsStep, Steps as MachineSteps, StepsIf, TakesNumber, TakesNoNumber, IsOfSame, state_of, turn_of, waiting_of, waiting_for, told_behind, ending_given, is_input, next_op_of}
+use Rattle.two_memory_machine.specs.Machines.{Machine, Doing, Running, NeedsNumber, Touching, Suspended, Gives, TellsStep, Steps as MachineSteps, StepsIf, TakesNumber, TakesNoNumber, IsOfSame, state_of, waiting_of, waiting_for, told_behind, is_input, next_op_of}
+use Rattle.two_memory_machine.specs.Running.{StepsOn}
 use Rattle.run_core.specs.Progress.{IsAt, Reaches, Leads, TakesInput, told}
 
 -- what an event tells stands behind the events
@@ -58,7 +59,7 @@ gives_same Tells acts inputs events (Over ending t) old new event gives = gives.
 
 -- ---- what a machine waits for
 
-pub runs_of : (m : Machine) → waiting_of m ≡ waiting.Runs → (m.over ≡ None) × (m.doing ≡ Running)
+runs_of : (m : Machine) → waiting_of m ≡ waiting.Runs → (m.over ≡ None) × (m.doing ≡ Running)
 runs_of m = by m.over m.doing
   where
     by : (over : Option Ending) (doing : Doing) → waiting_for over doing ≡ waiting.Runs → (over ≡ None) × (doing ≡ Running)
@@ -84,11 +85,8 @@ unended m = by m.over
 
 -- ---- steps and numbers
 
-pub leads_none : (m : Machine) (inputs : List ℤ) → Leads m inputs told_by.Ran m inputs
-leads_none m inputs = record { same = (refl, refl); goes = λ s acts events r. r }
-
--- steps that tell nothing, and one more
-pub leads_on : (first mid last : Machine) (inputs : List ℤ) (event : MachineEvent) → Leads first inputs told_by.Ran mid inputs → Leads mid inputs event last inputs → Leads first inputs event last inputs
+-- from one machine to the next, and on
+leads_on : (first mid last : Machine) (inputs : List ℤ) (event : MachineEvent) → Leads first inputs told_by.Ran mid inputs → Leads mid inputs event last inputs → Leads first inputs event last inputs
 leads_on first mid last inputs event a b =
     record {
       same = (b.same.0 ∙ a.same.0, b.same.1 ∙ a.same.1);
@@ -110,7 +108,7 @@ leads_needs old inputs going runs =
     by (Unfinished u) acts events here = rw runs at here
     by (Finished ending t) acts events here = rw runs at here
 
-pub step_leads : (old new : Machine) (event : MachineEvent) (inputs : List ℤ) → old.over ≡ None → old.doing ≡ Running → MachineSteps old event new → Leads old inputs event new inputs
+step_leads : (old new : Machine) (event : MachineEvent) (inputs : List ℤ) → old.over ≡ None → old.doing ≡ Running → MachineSteps old event new → Leads old inputs event new inputs
 step_leads old new event inputs going runs steps = by (is_input (next_op_of old)) steps
   where
     by : (input : Bool) → StepsIf input old event new → Leads old inputs event new inputs
@@ -134,17 +132,9 @@ give_leads old new event (next ∷ left) number after going taken takes none =
       goes = λ s acts events r. reached TellsStep s old new event acts acts (number ∷ left) left events events going (takes acts left events) r;
     })
 
--- a step that tells nothing leaves an instruction next
-pub runs_again : (old new : Machine) (event : MachineEvent) → event ≡ told_by.Ran → new.over ≡ ending_given event → MachineSteps old event new → waiting_of new ≡ waiting.Runs
-runs_again old new event ran over steps = by (is_input (next_op_of old)) steps
-  where
-    going : new.over ≡ None
-    going = over ∙ ap ending_given ran
-
-    next : (step : Step) → Gives TellsStep [] [] [] step old event new → waiting_of new ≡ waiting.Runs
-    next (Goes t) gives = let runs : new.doing ≡ Running = subst (λ e. TellsStep e new.doing) ran gives.1 in rw (going, runs) refl
-    next (Over ending t) gives = absurd (let no : told_by.Ran ≡ told_by.Ended ending = sym ran ∙ gives.0 in cc)
-
-    by : (input : Bool) → StepsIf input old event new → waiting_of new ≡ waiting.Runs
-    by true h = absurd (let no : told_by.Ran ≡ told_by.Input = sym ran ∙ h.0 in cc)
-    by false h = next _ (h [] [] [])
+-- steps that tell nothing, and one more
+pub steps_lead : (old new : Machine) (event : MachineEvent) (inputs : List ℤ) → waiting_of old ≡ waiting.Runs → StepsOn old event new → Leads old inputs event new inputs
+steps_lead old new event inputs waits (StepsOn.last steps) = let runs = runs_of old waits in step_leads old new event inputs runs.0 runs.1 steps
+steps_lead old new event inputs waits (StepsOn.more {mid = mid} steps again rest) =
+    let runs = runs_of old waits in
+    leads_on old mid new inputs event (step_leads old mid told_by.Ran inputs runs.0 runs.1 steps) (steps_lead mid new event inputs again rest)

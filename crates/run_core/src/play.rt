@@ -11,7 +11,7 @@ ghost use Rattle.code_words.specs.Left.{LeavesTurn};
 ghost use Rattle.two_memory_machine.specs.Machines.{IsStart, waiting_of, turn_of, moves_left, ending_given};
 ghost use Rattle.two_memory_machine.specs.declared.event.Event.TheVariants as EventOf;
 ghost use Rattle.run_core.specs.Texts.{event_text, ending_text, dump_text};
-ghost use Rattle.run_core.specs.Progress.{Played, AskAnswers, AskLowers, PlayGoes, PlayEnds, PlayCounts, IsAsked, Leads, Steps, TakesInput, Takes, TakesNone, Tells, NearsBy, Nears, FallsUnless, IsOnward, ending_in, moment_in, blocks_of};
+ghost use Rattle.run_core.specs.Progress.{Played, AskAnswers, AskLowers, PlayGoes, PlayEnds, PlayCounts, IsAsked, Steps, TakesInput, Takes, TakesNone, Tells, NearsBy, Nears, FallsUnless, IsOnward, ending_in, moment_in, blocks_of};
 
 use crate::dump::add_blocks;
 use crate::run::RunFault;
@@ -77,21 +77,6 @@ fn leaves_turn(act: &Act, turn: Turn) -> bool
         },
         Act::Read { at: _, len: _ } | Act::Write { at: _, bytes: _ } => true,
         Act::Call { fun: _, args: _ } | Act::Return { value: _ } | Act::Stop => false,
-    }
-}
-
-// Makes steps up to one that has to be told.
-fn run_on(machine: &mut Machine) -> Event
-    requires { waiting_of machine.old ≡ Waiting.Runs }
-    ensures leads { (inputs : List ℤ) → Leads machine.old inputs result machine.new inputs }
-    ensures over { machine.new.over ≡ ending_given result }
-    ensures sooner { moves_left machine.new < moves_left machine.old }
-{
-    'steps: loop {
-        match machine.step() {
-            Event::Ran => {}
-            event => return event,
-        }
     }
 }
 
@@ -191,7 +176,7 @@ impl<'a> Play<'a> {
         ensures sooner { IfOk result (λ ending. FallsUnless ending self.old.machine self.new.machine) }
         ensures settings { self.new.settings ≡ self.old.settings }
     {
-        let event = run_on(&mut self.machine);
+        let event = self.machine.run_on();
         self.tell(alloc, &event)?;
         Ok(ending_of(&event))
     }

@@ -7,5 +7,6 @@ mod Refusals
 mod Statics
 mod Moving
 mod Ends
+mod Tries
 mod Faults
 mod TextCounts

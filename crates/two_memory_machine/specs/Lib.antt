@@ -5,6 +5,7 @@ pub mod Machines
 pub mod Insides
 pub mod Families
 pub mod Steps
+pub mod Running
 pub mod Texts
 pub mod Faults
 pub mod Examples

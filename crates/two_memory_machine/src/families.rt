@@ -124,6 +124,7 @@ impl<'a> Machine<'a> {
     }
 
     // Makes the step of a check.
+    #[inline(never)]
     fn check_operands(&mut self, op: &Op) -> Outcome
         requires ready { IsReady self.old }
         requires family { 6 ≤ family op.now }

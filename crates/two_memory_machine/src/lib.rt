@@ -14,6 +14,7 @@ mod memory;
 mod operations;
 mod outcome;
 mod output;
+mod running;
 mod texts;
 mod touches;
 mod transfers;

@@ -11,7 +11,7 @@ ghost use Rattle.code_words.specs.Table.{Over, wild, pop, pop_2, on_with, push, 
 ghost use Rattle.two_memory_machine.specs.Machines.{IsStart, waiting_of, turn_of, Steps, TakesAct, TakesEnd, TakesNumber, TakesNoNumber, ending_given, moves_left, Sooner, block_of};
 ghost use Rattle.two_memory_machine.specs.Steps.{GoesBy, IsIn, Acts, IsReady, StopsBy, event_of, two_topmost, four_topmost, five_topmost, seven_topmost, top_words_of, checked_of};
 
-use crate::acts::{SANDBOX_ENDED, WILD};
+use crate::acts::SANDBOX_ENDED;
 use crate::calls::CallWords;
 use crate::event::{Event, Waiting};
 use crate::memory;
@@ -170,17 +170,9 @@ impl<'a> Machine<'a> {
         ensures over { self.new.over ≡ ending_given result }
         ensures sooner { moves_left self.new < moves_left self.old }
     {
-        let Some(op) = self.calls.op() else {
-            return self.end_move(WILD);
-        };
-        match op {
-            Op::NextInput => self.next_input(),
-            Op::Print => self.print(),
-            Op::PutByte => self.put_byte(),
-            _ => {
-                let outcome = self.perform(op);
-                self.event(outcome)
-            }
+        match self.try_step() {
+            Some(outcome) => self.event(outcome),
+            None => self.told_step(),
         }
     }
 
@@ -250,7 +242,7 @@ impl<'a> Machine<'a> {
     }
 
     // What an instruction tells.
-    fn event(&self, outcome: Outcome) -> Event
+    pub(crate) fn event(&self, outcome: Outcome) -> Event
         ensures { result ≡ event_of outcome self.now.over }
     {
         match (outcome, self.over) {
@@ -489,6 +481,7 @@ impl<'a> Machine<'a> {
     }
 
     // Ends the run, since no line of the table has a result.
+    #[cold]
     pub(crate) fn end_wild(&mut self) -> Outcome
         ensures ends { StopsBy self.old (Ending.Stop Code.S6 None) result self.new }
         ensures line { GoesBy wild self.old result self.new }
@@ -500,6 +493,7 @@ impl<'a> Machine<'a> {
     }
 
     // Ends the run.
+    #[cold]
     pub(crate) fn end(&mut self, ending: Ending) -> Outcome
         ensures ends { StopsBy self.old ending result self.new }
         ensures line { GoesBy (Over ending) self.old result self.new }

@@ -66,6 +66,7 @@ impl<'a> Machine<'a> {
 
     // Pops an offset, and a load of so many bytes from it on waits for its acts.
     #[tactic(auto, using(std::proofs::lemmas::Bool::Decides::nat_tests))]
+    #[inline(never)]
     fn touch_load(&mut self, len: u32) -> Outcome
         requires ready { IsReady self.old }
         requires width { (len ≡ 1) ⊎ (len ≡ 4) }
@@ -88,6 +89,7 @@ impl<'a> Machine<'a> {
 
     // Pops two words, and a store of bytes waits for its acts.
     #[tactic(auto, using(std::proofs::lemmas::Bool::Decides::nat_tests))]
+    #[inline(never)]
     fn touch_store(&mut self, at: u32, bytes: Octets) -> Outcome
         requires ready { IsReady self.old }
         requires there { 2 ≤ length self.old.frame.stack }

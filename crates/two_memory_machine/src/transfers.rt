@@ -16,6 +16,7 @@ use code_words::op::Op;
 
 impl<'a> Machine<'a> {
     // Calls a function of the same side with the words that it pops (S2).
+    #[inline(never)]
     pub(crate) fn call(&mut self, k: u32) -> Outcome
         requires { IsReady self.old }
         ensures { Acts (Op.Call k) self.old result self.new }
@@ -41,6 +42,7 @@ impl<'a> Machine<'a> {
     }
 
     // A call of a tainted function with the words that it pops waits for its touch (S2).
+    #[inline(never)]
     pub(crate) fn call_tainted(&mut self, import: u32, place: Place) -> Outcome
         requires { IsReady self.old }
         ensures { Acts (Op.TaintedCall import place) self.old result self.new }
@@ -89,6 +91,7 @@ impl<'a> Machine<'a> {
     }
 
     // Pops words, and goes back to what called the innermost function, with what this one returns.
+    #[inline(never)]
     fn leave(&mut self, popped: usize, value: Option<u32>) -> Outcome
         requires ready { IsReady self.old }
         requires there { popped ≤ length self.old.frame.stack }
