@@ -9,11 +9,15 @@ ghost use Rattle.ckc_tree.specs.Statements.{initializer as initializer_tree, dec
 ghost use Rattle.pointer_modes.specs.Types.{ctype as ctype_of};
 ghost use Rattle.ckc_core.specs.Core.{expression, statement};
 ghost use Rattle.typing_rules.specs.Statements.{zero_value as zero_of, initialised as initialised_as, declarator as declarator_of, declarators as declarators_of, declaration as declaration_of};
-ghost use Rattle.expression_typing.specs.Answering.{Answers};
-ghost use Rattle.expression_typing.specs.Views.{scope as scope_of};
+ghost use Rattle.checker_scope.specs.Answering.{Answers};
+ghost use Rattle.checker_scope.specs.Views.{scope as scope_of};
 ghost use Rattle.statement_typing.specs.Walks.{Walks, initial_value as initial_value_as, from_zero as from_zero_as, declared_local};
 
 use crate::core_forms::both;
+use checker_scope::refusals::{needs, refusal};
+use checker_scope::scope::Scope;
+use checker_scope::sites::Sites;
+use checker_scope::types::{base_type, copied, is_scalar, without_stars};
 use ckc_core::program;
 use ckc_core::program::Stmt;
 use ckc_text::code::Code;
@@ -22,14 +26,10 @@ use ckc_text::place::Span;
 use ckc_tree::expr::Expr;
 use ckc_tree::stmt::{Declaration, Declarator, Initializer};
 use ckc_tree::type_form::TypeForm;
-use expression_typing::calls::converted;
 use expression_typing::expressions::typed;
-use expression_typing::refusals::{needs, refusal};
-use expression_typing::scope::Scope;
-use expression_typing::sites::Sites;
-use expression_typing::types::{base_type, copied, is_scalar, without_stars};
 use pointer_modes::ctype::CType;
 use std::alloc::Global;
+use value_typing::conversions::converted;
 
 /// How many locals a function may have.
 const MOST_LOCALS: usize = 256;

@@ -10,9 +10,9 @@ ghost use Rattle.ckc_core.specs.Core.{expression, statement as statement_of, sta
 ghost use Rattle.typing_rules.specs.Verdicts.{Passes};
 ghost use Rattle.typing_rules.specs.Expressions.{converted as converted_as};
 ghost use Rattle.typing_rules.specs.Statements.{optional_condition as optional_condition_of, optional_step as optional_step_of, first_part as first_part_of, return as return_of, returned as returned_as, returned_nothing as nothing_as, alone as alone_of, is_unchecked as unchecked_mark, statement as statement_in, statements as statements_in};
-ghost use Rattle.expression_typing.specs.Answering.{Answers};
-ghost use Rattle.expression_typing.specs.Views.{scope as scope_of};
-ghost use Rattle.expression_typing.specs.Typed.{typed as typed_view};
+ghost use Rattle.checker_scope.specs.Answering.{Answers};
+ghost use Rattle.checker_scope.specs.Views.{scope as scope_of};
+ghost use Rattle.value_typing.specs.Typed.{typed as typed_view};
 ghost use Rattle.expression_typing.specs.Calls.{called as called_as};
 ghost use Rattle.statement_typing.specs.Walks.{Walks, call_statement, needs_loop, nested as nested_in, turns as turns_in, while_loop as while_in, for_loop as for_in};
 ghost use Rattle.pointer_modes.specs.Types.{ctype as ctype_of};
@@ -20,6 +20,9 @@ ghost use Rattle.pointer_modes.specs.Types.{ctype as ctype_of};
 use crate::core_forms;
 use crate::core_forms::{both, choice, repeated};
 use crate::declarations::declaration;
+use checker_scope::refusals::{needs, refusal};
+use checker_scope::scope::Scope;
+use checker_scope::sites::Sites;
 use ckc_core::program::{Expr, Stmt};
 use ckc_text::code::Code;
 use ckc_text::fault::Refused;
@@ -27,14 +30,12 @@ use ckc_text::place::Span;
 use ckc_tree::stmt::{Assignment, ForInitial, Mark};
 use ckc_tree::{expr, stmt};
 use expression_typing::assignments::{assignment, condition};
-use expression_typing::calls::{Called, converted};
+use expression_typing::calls::Called;
 use expression_typing::expressions::{call_typed, typed};
-use expression_typing::refusals::{needs, refusal};
-use expression_typing::scope::Scope;
-use expression_typing::sites::Sites;
-use expression_typing::typed::Typed;
 use pointer_modes::ctype::CType;
 use std::alloc::Global;
+use value_typing::conversions::converted;
+use value_typing::typed::Typed;
 
 // The condition of a loop, which holds where it isn't written.
 fn optional_condition(
