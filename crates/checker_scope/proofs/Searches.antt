@@ -1,19 +1,18 @@
 -- Searches in lists, by the place that they find.
-use Rattle.std.proofs.Common.{◌≡◌, ℕ, suc, ◌+◌, Bool, true, false, cond, bytes_eq, position, List, [], ◌∷◌, ◌++◌, length, map, take, get_or, reverse, ◌<◌, slice_get, Option, Some, None, refl, sym, ap, ◌∙◌, arith}
+use Rattle.std.proofs.Common.{◌≡◌, ℕ, suc, ◌+◌, Bool, true, false, cond, bytes_eq, position, List, [], ◌∷◌, length, map, get_or, slice_get, Option, Some, None, refl, sym, ap, ◌∙◌, arith}
 use Rattle.std.specs.List.{position_from}
 use Rattle.std.specs.Option.{option_map}
 use Rattle.std.proofs.lemmas.Iterator.Adapters.{position_from-zero}
 use Rattle.std.proofs.lemmas.List.Quantifiers.{position-Some}
-use Rattle.std.proofs.lemmas.List.{take_more, map-append, reverse-append}
 use Rattle.std.proofs.lemmas.Option.{slice_get_read}
 use Rattle.pointer_modes.specs.declared.ctype.Member as code_member
-use Rattle.pointer_modes.specs.Types.{CType, member, ctype}
+use Rattle.pointer_modes.specs.Types.{member, ctype}
 use Rattle.typing_rules.specs.Verdicts.{picked}
-use Rattle.typing_rules.specs.Scopes.{Object, found_if, local_if, local_named, object_named, function_named}
+use Rattle.typing_rules.specs.Scopes.{Object, found_if, object_named, function_named}
 use Rattle.typing_rules.specs.Expressions.{member_from}
 use Rattle.checker_scope.specs.declared.scope as code
 use Rattle.checker_scope.specs.declared.signature.Signature as code_signature
-use Rattle.checker_scope.specs.Views.{variable, visible, signature}
+use Rattle.checker_scope.specs.Views.{variable, signature}
 use Rattle.checker_scope.specs.Tables.{place_of}
 use Rattle.checker_scope.specs.Searches.{object_at, member_at, function_at}
 
@@ -82,11 +81,3 @@ member_there name ms k m place at =
 
 pub function_there : (name : List ℕ) (fs : List code_signature.Signature) (k : ℕ) (f : code_signature.Signature) → place_of (λ w. bytes_eq name w.name) fs ≡ Some k → slice_get fs k ≡ Some f → Some (signature f) ≡ function_named (map signature fs) name
 function_there name fs k f place at = sym (function_found name fs ∙ ap (function_at fs) place ∙ ap (option_map signature) at)
-
--- the innermost of the locals up to one
-pub last_local : (types : List CType) (vs : List code.Visible.Visible) (n k : ℕ) (v : code.Visible.Visible) (name : List ℕ) → n ≡ k + 1 → k < length vs → v ≡ get_or vs k v
-    → local_named types (reverse (map visible (take n vs))) name ≡ found_if (bytes_eq name v.name) (local_if (slice_get types v.local) v.local) (local_named types (reverse (map visible (take k vs))) name)
-last_local types vs n k v name e less is =
-    ap (λ ws. local_named types (reverse (map visible ws)) name) (ap (λ j. take j vs) e ∙ take_more vs k v less ∙ ap (λ w. take k vs ++ w ∷ []) (sym is))
-    ∙ ap (λ ws. local_named types (reverse ws) name) (map-append visible (take k vs) (v ∷ []))
-    ∙ ap (λ ws. local_named types ws name) (reverse-append (map visible (take k vs)) (visible v ∷ []))

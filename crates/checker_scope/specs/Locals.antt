@@ -3,11 +3,12 @@ use Rattle.std.specs.Prelude.{◌≡◌, Bool, List, ◌++◌}
 use Rattle.pointer_modes.specs.Types.{CType}
 use Rattle.typing_rules.specs.Scopes.{Visible}
 use Rattle.checker_scope.specs.declared.scope as code
+use Rattle.visible_locals.specs.declared.visible as visible_code
 use Rattle.checker_scope.specs.Views.{scope}
 
 -- locals are added, of which some may be visible besides; what stands at file level stays
 pub record Grows (old new : code.Scope.Scope) : Type 0 where
-  pub more : List code.Visible.Visible
+  pub more : List visible_code.Visible.Visible
   pub seen : new.visible.items ≡ old.visible.items ++ more
   pub types : List CType
   pub names : List Visible

@@ -2,15 +2,13 @@
 use Rattle.std.specs.Prelude.{map, reverse}
 use Rattle.std.specs.Option.{option_map}
 use Rattle.pointer_modes.specs.Types.{ctype}
-use Rattle.typing_rules.specs.Scopes.{Variable, Visible, Scope}
+use Rattle.typing_rules.specs.Scopes.{Variable, Scope}
 use Rattle.checker_scope.specs.declared.scope as code
 pub use Rattle.checker_scope.specs.Signatures.{signature}
+pub use Rattle.visible_locals.specs.Visibles.{visible}
 
 abbrev pub variable : code.Variable.Variable → Variable
 variable v = record { name = v.name; type = ctype v.ctype }
-
-abbrev pub visible : code.Visible.Visible → Visible
-visible v = record { name = v.name; local = v.local }
 
 abbrev pub scope : code.Scope.Scope → Scope
 scope s = record {

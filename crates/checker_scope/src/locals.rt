@@ -5,11 +5,12 @@ ghost use Rattle.pointer_modes.specs.Types.{ctype as ctype_of};
 ghost use Rattle.typing_rules.specs.Statements.{with_local};
 ghost use Rattle.checker_scope.specs.Views.{scope as scope_of, visible as visible_of};
 
-use crate::scope::{Scope, Visible};
+use crate::scope::Scope;
 use ckc_text::fault::NoMemory;
 use ckc_text::name::Name;
 use pointer_modes::ctype::CType;
 use std::alloc::Global;
+use visible_locals::visible::Visible;
 
 impl Scope {
     /// A local more, which is visible from now on.

@@ -1,37 +1,23 @@
 // What the names that are known stand for.
 
-ghost use Rattle.std.specs.Prelude.{◌≡◌, ◌≤◌, true, bytes_eq, position, length, map, reverse, List};
+ghost use Rattle.std.specs.Prelude.{◌≡◌, ◌≤◌, true, bytes_eq, position, length, map};
 ghost use Rattle.std.specs.Option.{option_map};
-ghost use Rattle.pointer_modes.specs.Types.{CType as ctype_tree, ctype as ctype_of};
+ghost use Rattle.pointer_modes.specs.Types.{ctype as ctype_of};
 ghost use Rattle.typing_rules.specs.Scopes.{Local, Object, struct_named, local_named, object_named, function_named};
-ghost use Rattle.checker_scope.specs.Views.{scope as scope_of, signature, visible as visible_of};
-ghost use Rattle.checker_scope.specs.Searches.{local_at};
+ghost use Rattle.checker_scope.specs.Views.{scope as scope_of, signature};
 ghost use Rattle.checker_scope.specs.Tables.{side_before as side_before_of};
 ghost use Rattle.typing_rules.specs.Expressions.{side_number as side_number_of};
 
-use crate::scope::{Scope, Visible};
+use crate::scope::Scope;
 use crate::signature::Signature;
 use pointer_modes::ctype::CType;
+use visible_locals::visible::innermost;
 
 /// A variable that a name stands for: its number, and its type.
 #[derive(Clone, Copy)]
 pub struct Known<'a> {
     pub number: u32,
     pub ctype: &'a CType,
-}
-
-/// The innermost local of a name.
-fn innermost(visible: &[Visible], name: &[u8]) -> Option<u32>
-    ensures { (types : List ctype_tree) → local_named types (reverse (map visible_of visible.now)) name.now ≡ local_at types result }
-{
-    let mut at = visible.len();
-    while at > 0 {
-        at -= 1;
-        if name == visible[at].name.as_bytes() {
-            return Some(visible[at].local);
-        }
-    }
-    None
 }
 
 impl Scope {

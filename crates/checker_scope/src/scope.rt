@@ -12,19 +12,13 @@ use crate::signature::Signature;
 use ckc_text::name::Name;
 use pointer_modes::ctype::CType;
 use pointer_modes::structs::Structs;
+use visible_locals::visible::Visible;
 
 /// A variable that has a name, and its type.
 #[derive(Drop)]
 pub struct Variable {
     pub name: Name,
     pub ctype: CType,
-}
-
-/// A local that is visible: its name, and its number in its function.
-#[derive(Drop)]
-pub struct Visible {
-    pub name: Name,
-    pub local: u32,
 }
 
 /// What stands at file level, and the locals of the function that is walked. What stands at file level is found by the

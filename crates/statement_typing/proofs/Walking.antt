@@ -11,6 +11,7 @@ use Rattle.typing_rules.specs.Verdicts.{Verdict, Passes, Breaks, passing}
 use Rattle.typing_rules.specs.Scopes.{Scope}
 use Rattle.typing_rules.specs.Statements.{behind_block, with_local}
 use Rattle.checker_scope.specs.declared.scope as code
+use Rattle.visible_locals.specs.declared.visible as visible_code
 use Rattle.checker_scope.specs.Views.{scope, visible}
 use Rattle.checker_scope.specs.Answering.{Answers}
 use Rattle.checker_scope.specs.Locals.{Grows}
@@ -32,7 +33,7 @@ grown {a} {b} {c} first rest = record {
 }
 
 -- a scope in which a local became visible
-pub one_more : (name : List ℕ) (t : CType) (a b : code.Scope.Scope) → scope b ≡ with_local name t (scope a) → ((v : code.Visible.Visible) × (b.visible.items ≡ a.visible.items ++ v ∷ [])) → Grows a b
+pub one_more : (name : List ℕ) (t : CType) (a b : code.Scope.Scope) → scope b ≡ with_local name t (scope a) → ((v : visible_code.Visible.Visible) × (b.visible.items ≡ a.visible.items ++ v ∷ [])) → Grows a b
 one_more name t a b known seen = record { more = seen.0 ∷ []; seen = seen.1; types = _; names = _; loop = _; file = known }
 
 -- a scope whose loop is another

@@ -1,8 +1,8 @@
 use Rattle.std.proofs.Common.{◌≡◌, List, ◌≤◌, length, map, reverse, take}
 use Rattle.pointer_modes.specs.Types.{CType}
 use Rattle.typing_rules.specs.Scopes.{local_named}
-use Rattle.checker_scope.specs.Views.{visible}
-use Rattle.checker_scope.proofs.lookups.innermost.Given as goal
+use Rattle.visible_locals.specs.Visibles.{visible}
+use Rattle.visible_locals.proofs.visible.innermost.Given as goal
 
 -- the innermost of all is the innermost of those before the place
 abbrev pub invariant-loop-at : goal.invariant-loop-at
