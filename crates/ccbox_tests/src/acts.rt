@@ -130,9 +130,11 @@ const TABLES: &[Table] = &[
     Table(Question::ActFile, SPACED_FILES),
 ];
 
-#[test]
-fn acts(rt: HostRuntime) -> Result<(), Fail> {
-    let alloc = rt.alloc();
-    expect(takes_spaces(alloc) && writes_lines(alloc) && starts_so(alloc))?;
+/// Fails unless lines of acts are read, and refused, as they must be.
+pub fn acts(alloc: Global) -> Result<(), Fail> {
+    expect(
+        "acts",
+        takes_spaces(alloc) && writes_lines(alloc) && starts_so(alloc),
+    )?;
     expect_tables(alloc, TABLES)
 }

@@ -183,9 +183,14 @@ fn follows_chain(alloc: Global) -> bool {
     }
 }
 
-#[test]
-fn entailment(rt: HostRuntime) -> Result<(), Fail> {
-    let alloc = rt.alloc();
-    expect(entails_so(alloc) && chain_joins_copy(alloc) && follows_chain(alloc))?;
-    expect(counts_elements(alloc) && limits_constants())
+/// Fails unless facts entail what they must, and nothing else.
+pub fn entailment(alloc: Global) -> Result<(), Fail> {
+    expect(
+        "facts",
+        entails_so(alloc) && chain_joins_copy(alloc) && follows_chain(alloc),
+    )?;
+    expect(
+        "elements and constants",
+        counts_elements(alloc) && limits_constants(),
+    )
 }

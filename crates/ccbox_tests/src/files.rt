@@ -150,7 +150,10 @@ fn fails_so(alloc: Global) -> bool {
         && answers_by_bytes(alloc, &WITH_OUTPUT)
 }
 
-#[test]
-fn files_and_outputs(rt: HostRuntime) -> Result<(), Fail> {
-    expect(reads_file_of_system(&rt) && takes_piece(&rt) && fails_so(rt.alloc()))
+/// Fails unless files and outputs that fail are answered as they must be.
+pub fn files_and_outputs(rt: &HostRuntime) -> Result<(), Fail> {
+    expect(
+        "files and outputs",
+        reads_file_of_system(rt) && takes_piece(rt) && fails_so(rt.alloc()),
+    )
 }

@@ -44,6 +44,8 @@ mod sources;
 #[cfg(test)]
 mod tokens;
 #[cfg(test)]
+mod topics;
+#[cfg(test)]
 mod trees;
 #[cfg(test)]
 mod turns;

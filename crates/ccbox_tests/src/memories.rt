@@ -168,10 +168,15 @@ fn lists_vector(alloc: Global) -> bool {
     }
 }
 
-#[test]
-fn memories_and_layouts(rt: HostRuntime) -> Result<(), Fail> {
-    let alloc = rt.alloc();
-    expect(has_words() && fits_so() && lists_vector(alloc))?;
-    expect(makes_blocks(alloc) && stores_at_both_ends(alloc))?;
-    expect(lays_out_all(alloc) && refuses_all(alloc) && declares_all(alloc))
+/// Fails unless memories and layouts are as they must be.
+pub fn memories_and_layouts(alloc: Global) -> Result<(), Fail> {
+    expect(
+        "words and lists",
+        has_words() && fits_so() && lists_vector(alloc),
+    )?;
+    expect("blocks", makes_blocks(alloc) && stores_at_both_ends(alloc))?;
+    expect(
+        "layouts",
+        lays_out_all(alloc) && refuses_all(alloc) && declares_all(alloc),
+    )
 }

@@ -2,6 +2,7 @@
 
 use crate::questions::Question;
 use crate::rows::{Table, expect_tables};
+use std::alloc::Global;
 use std::test::Fail;
 
 // Words that ask for nothing.
@@ -76,7 +77,7 @@ const ASKED: &str =
 
 const TABLES: &[Table] = &[Table(Question::Call, REFUSED), Table(Question::Call, ASKED)];
 
-#[test]
-fn options(rt: HostRuntime) -> Result<(), Fail> {
-    expect_tables(rt.alloc(), TABLES)
+/// Fails unless the words of the command line do what they must.
+pub fn options(alloc: Global) -> Result<(), Fail> {
+    expect_tables(alloc, TABLES)
 }

@@ -43,8 +43,8 @@ fn expect_printed(alloc: Global) -> Result<(), Fail> {
     Ok(())
 }
 
-#[test]
-fn printing(rt: HostRuntime) -> Result<(), Fail> {
-    expect_printed(rt.alloc())?;
-    expect_read_back(rt.alloc())
+/// Fails unless trees are printed, and read back, as they must be.
+pub fn printing(alloc: Global) -> Result<(), Fail> {
+    expect_printed(alloc)?;
+    expect_read_back(alloc)
 }

@@ -92,11 +92,7 @@ pub fn expect_tables(alloc: Global, tables: &[Table]) -> Result<(), Fail> {
     Ok(())
 }
 
-/// Fails unless all is right.
-pub fn expect(right: bool) -> Result<(), Fail> {
-    if right {
-        Ok(())
-    } else {
-        Err(Fail::new("another answer"))
-    }
+/// Fails, and says of what, unless all is right.
+pub fn expect(of: &str, right: bool) -> Result<(), Fail> {
+    if right { Ok(()) } else { Err(Fail::new(of)) }
 }

@@ -3,6 +3,7 @@
 use crate::cores::{has_codes, has_core};
 use crate::questions::Question;
 use crate::rows::{Table, expect, expect_tables};
+use std::alloc::Global;
 use std::test::Fail;
 
 // What can't be read, and what is no more than a comment.
@@ -342,8 +343,8 @@ const TABLES: &[Table] = &[
     Table(Question::Statements, FIRST_OF_TWO_STATEMENTS),
 ];
 
-#[test]
-fn names_and_types(rt: HostRuntime) -> Result<(), Fail> {
-    expect(has_codes() && has_core(rt.alloc()))?;
-    expect_tables(rt.alloc(), TABLES)
+/// Fails unless each rule of names and types is refused at its place.
+pub fn names_and_types(alloc: Global) -> Result<(), Fail> {
+    expect("codes and a core", has_codes() && has_core(alloc))?;
+    expect_tables(alloc, TABLES)
 }

@@ -2,6 +2,7 @@
 
 use crate::questions::Question;
 use crate::rows::{Table, expect_tables};
+use std::alloc::Global;
 use std::test::Fail;
 
 // Operators at their edges, and their order. Each value stands in the second line, from its eighth column on.
@@ -213,9 +214,9 @@ const TABLES: &[Table] = &[
     Table(Question::Call, CALCULATOR),
 ];
 
-#[test]
-fn runs(rt: HostRuntime) -> Result<(), Fail> {
-    expect_tables(rt.alloc(), TABLES)
+/// Fails unless runs print what they must.
+pub fn runs(alloc: Global) -> Result<(), Fail> {
+    expect_tables(alloc, TABLES)
 }
 
 // The last bytes of file-level variables, at the end of a run, at a failed check and at a stop.
@@ -241,7 +242,7 @@ const BASES: &str =
 
 const TABLES_OF_DUMPS: &[Table] = &[Table(Question::Dump, DUMPS), Table(Question::Call, BASES)];
 
-#[test]
-fn dumps(rt: HostRuntime) -> Result<(), Fail> {
-    expect_tables(rt.alloc(), TABLES_OF_DUMPS)
+/// Fails unless dumps show what they must.
+pub fn dumps(alloc: Global) -> Result<(), Fail> {
+    expect_tables(alloc, TABLES_OF_DUMPS)
 }

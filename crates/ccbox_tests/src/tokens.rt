@@ -355,10 +355,12 @@ E03 0@/*`1048574× `";
 
 const TABLES: &[Table] = &[Table(Question::Count, COUNTS)];
 
-#[test]
-fn lexing(rt: HostRuntime) -> Result<(), Fail> {
-    let alloc = rt.alloc();
+/// Fails unless each token, and each fault of one, stands where it must.
+pub fn lexing(alloc: Global) -> Result<(), Fail> {
     expect_lines(alloc)?;
-    expect(takes_bytes(alloc) && has_spans(alloc) && has_places(alloc))?;
+    expect(
+        "bytes, spans and places",
+        takes_bytes(alloc) && has_spans(alloc) && has_places(alloc),
+    )?;
     expect_tables(alloc, TABLES)
 }

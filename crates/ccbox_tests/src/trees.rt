@@ -2,6 +2,7 @@
 
 use crate::questions::Question;
 use crate::rows::{Table, expect_tables};
+use std::alloc::Global;
 use std::test::Fail;
 
 // Whether they have a tree; the last ones have up to 200 levels, or too many.
@@ -76,7 +77,7 @@ n8@int x=((a));
 
 const TABLES: &[Table] = &[Table(Question::Tree, TREES), Table(Question::Shape, SHAPES)];
 
-#[test]
-fn parsing(rt: HostRuntime) -> Result<(), Fail> {
-    expect_tables(rt.alloc(), TABLES)
+/// Fails unless each form is read as its tree.
+pub fn parsing(alloc: Global) -> Result<(), Fail> {
+    expect_tables(alloc, TABLES)
 }

@@ -1,0 +1,46 @@
+// The tests, each of several topics, since each test is a program of its own.
+
+use crate::acts::acts;
+use crate::facts::entailment;
+use crate::files::files_and_outputs;
+use crate::limits::limits;
+use crate::memories::memories_and_layouts;
+use crate::options::options;
+use crate::printing::printing;
+use crate::rules::names_and_types;
+use crate::runs::{dumps, runs};
+use crate::tokens::lexing;
+use crate::trees::parsing;
+use crate::turns::sandboxes;
+use std::test::Fail;
+
+#[test]
+fn front_end(rt: HostRuntime) -> Result<(), Fail> {
+    let alloc = rt.alloc();
+    lexing(alloc)?;
+    parsing(alloc)?;
+    printing(alloc)?;
+    names_and_types(alloc)
+}
+
+#[test]
+fn programs(rt: HostRuntime) -> Result<(), Fail> {
+    let alloc = rt.alloc();
+    runs(alloc)?;
+    dumps(alloc)?;
+    limits(alloc)?;
+    options(alloc)
+}
+
+#[test]
+fn sandbox_acts(rt: HostRuntime) -> Result<(), Fail> {
+    acts(rt.alloc())?;
+    sandboxes(rt.alloc())?;
+    files_and_outputs(&rt)
+}
+
+#[test]
+fn libraries(rt: HostRuntime) -> Result<(), Fail> {
+    entailment(rt.alloc())?;
+    memories_and_layouts(rt.alloc())
+}
