@@ -12,7 +12,7 @@ use Rattle.typing_rules.specs.Verdicts.{Verdict, Passes, Breaks, passing}
 use Rattle.typing_rules.specs.Scopes.{Scope}
 use Rattle.typing_rules.specs.Expressions.{Places, Typed, typed, all_typed}
 use Rattle.expression_typing.specs.declared.calls.Argument as code
-use Rattle.expression_typing.specs.Typed.{typed as typed_view}
+use Rattle.value_typing.specs.Typed.{typed as typed_view}
 use Rattle.expression_typing.specs.Calls.{argument}
 use Rattle.expression_typing.specs.Slices.{expression_list}
 

@@ -4,7 +4,7 @@ use Rattle.ckc_text.specs.declared.place.Span.{Span}
 use Rattle.typing_rules.specs.Types.{is_number, are_comparable}
 use Rattle.typing_rules.specs.Verdicts.{passing}
 use Rattle.typing_rules.specs.Expressions.{Typed, Value, AStruct, equated}
-use Rattle.expression_typing.specs.Operands.{Operand, operand_of, equated_operands, equated_to_null}
+use Rattle.value_typing.specs.Operands.{Operand, operand_of, equated_operands, equated_to_null}
 
 -- equality of operands of two types
 pub equated_otherwise : (a b : Operand) (span : Span) → (is_number a.type && is_number b.type) ≡ false → are_comparable a.type b.type ≡ false → equated_operands a b span ≡ equated_to_null a b span

@@ -1,10 +1,6 @@
-pub mod Going
 pub mod Equality
-pub mod Searches
 pub mod MemberCells
 pub mod Arguments
 pub mod Continuing
 pub mod CoreRows
 pub mod Conversions
-pub mod FileLevel
-pub mod Tables

@@ -13,9 +13,9 @@ use Rattle.typing_rules.specs.Verdicts.{Passes, breaks}
 use Rattle.typing_rules.specs.Scopes.{Scope}
 use Rattle.typing_rules.specs.Types.{is_scalar}
 use Rattle.typing_rules.specs.Expressions.{Value, OfCell, at_place, member_from, member_at, member_place, offset_among}
-use Rattle.expression_typing.specs.Tables.{place_of}
-use Rattle.expression_typing.specs.Searches.{member_at as member_found_at}
-use Rattle.expression_typing.proofs.Searches.{member_found, member_there, none_at}
+use Rattle.checker_scope.specs.Tables.{place_of}
+use Rattle.checker_scope.specs.Searches.{member_at as member_found_at}
+use Rattle.checker_scope.proofs.Searches.{member_found, member_there, none_at}
 
 and_first : (a b : Bool) → (a && b) ≡ true → a ≡ true
 and_first true b both = refl

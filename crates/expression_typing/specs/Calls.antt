@@ -11,7 +11,7 @@ use Rattle.typing_rules.specs.Expressions.{Typed, Called, Gives, GivesNothing, c
 use Rattle.expression_typing.specs.declared.calls.Called as code
 use Rattle.expression_typing.specs.declared.calls.Called.TheVariants as calls
 use Rattle.expression_typing.specs.declared.calls.Argument as code_argument
-use Rattle.expression_typing.specs.Typed.{typed}
+use Rattle.value_typing.specs.Typed.{typed}
 
 abbrev pub called : code.Called → Called
 called (calls.Gives type value) = Gives (ctype type) (expression value)

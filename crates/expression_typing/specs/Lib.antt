@@ -1,13 +1,3 @@
-pub mod Answering
-pub mod Names
-pub mod Signatures
-pub mod Tables
-pub mod Views
-pub mod Typed
-pub mod Operands
-pub mod Searches
 pub mod Calls
 pub mod Slices
 pub mod Targets
-pub mod Locals
-pub mod Filling

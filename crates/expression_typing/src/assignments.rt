@@ -8,20 +8,17 @@ ghost use Rattle.pointer_modes.specs.Types.{ctype as ctype_of};
 ghost use Rattle.ckc_core.specs.Core.{expression, statement, place as place_of};
 ghost use Rattle.typing_rules.specs.Expressions.{site_at};
 ghost use Rattle.typing_rules.specs.Statements.{is_char as is_char_of, store as store_of, update as update_with, updated_place as updated_at, set_to as set_to_of, updated as updated_of, stored as stored_of, step_of as step_from, one as one_of, assignment as assignment_of, condition as condition_of};
-ghost use Rattle.expression_typing.specs.Answering.{Answers};
-ghost use Rattle.expression_typing.specs.Views.{scope as scope_of};
-ghost use Rattle.expression_typing.specs.Typed.{typed as typed_view};
+ghost use Rattle.checker_scope.specs.Answering.{Answers};
+ghost use Rattle.checker_scope.specs.Views.{scope as scope_of};
+ghost use Rattle.value_typing.specs.Typed.{typed as typed_view};
 ghost use Rattle.expression_typing.specs.Targets.{target as target_view, lvalue, target_of as target_in, updated_target};
 
-use crate::calls::converted;
 use crate::expressions::typed;
-use crate::operands::{number, scalar};
 use crate::operators::is_pointer_value;
-use crate::refusals::{needs, refusal};
-use crate::scope::Scope;
-use crate::sites::Sites;
-use crate::typed::{Typed, plain};
-use crate::types::{is_number, is_pointer};
+use checker_scope::refusals::{needs, refusal};
+use checker_scope::scope::Scope;
+use checker_scope::sites::Sites;
+use checker_scope::types::{is_number, is_pointer};
 use ckc_core::program;
 use ckc_core::program::{CellPlace, Operator, Site, Stmt};
 use ckc_text::code::Code;
@@ -31,6 +28,9 @@ use ckc_tree::expr::Expr;
 use ckc_tree::stmt::{Assignment, StepOperator, StoreOperator};
 use pointer_modes::ctype::CType;
 use std::alloc::Global;
+use value_typing::conversions::converted;
+use value_typing::operands::{number, scalar};
+use value_typing::typed::{Typed, plain};
 
 /// Where a value may be stored.
 #[derive(Drop)]

@@ -5,27 +5,27 @@ ghost use Rattle.std.specs.Option.{option_map};
 ghost use Rattle.pointer_modes.specs.Types.{ctype as ctype_of};
 ghost use Rattle.ckc_core.specs.Core.{expression, arguments_of, statement, Print, PutByte};
 ghost use Rattle.typing_rules.specs.Verdicts.{Passes};
-ghost use Rattle.typing_rules.specs.Expressions.{converted as converted_to, in_type as value_in_type, as_pointer, with_result as with_result_of, arguments_as as arguments_in, predefined_call as predefined_in, writes, call_of as call_in, is_import as is_import_of, declared_call as declared_in, called as called_in};
+ghost use Rattle.typing_rules.specs.Expressions.{with_result as with_result_of, arguments_as as arguments_in, predefined_call as predefined_in, writes, call_of as call_in, declared_call as declared_in, called as called_in};
 ghost use Rattle.typing_rules.specs.Scopes.{function_named};
-ghost use Rattle.expression_typing.specs.Views.{scope as scope_of, signature};
-ghost use Rattle.expression_typing.specs.Answering.{Answers};
-ghost use Rattle.expression_typing.specs.Typed.{typed};
+ghost use Rattle.checker_scope.specs.Views.{scope as scope_of, signature};
+ghost use Rattle.checker_scope.specs.Answering.{Answers};
+ghost use Rattle.value_typing.specs.Typed.{typed};
 ghost use Rattle.expression_typing.specs.Calls.{argument, called as called_as, only_number, call_value, call_statement};
 
-use crate::operands::{Operand, value_of};
-use crate::refusals::{needs, refusal};
-use crate::scope::Scope;
-use crate::signature::Signature;
-use crate::typed::{Typed, plain};
-use crate::types::{converts, copied, is_number};
+use checker_scope::refusals::{needs, refusal};
+use checker_scope::scope::Scope;
+use checker_scope::sides::is_import;
+use checker_scope::signature::Signature;
+use checker_scope::types::copied;
 use ckc_core::program::{Expr, Site, Stmt};
 use ckc_text::code::Code;
 use ckc_text::fault::{NoMemory, Refused};
 use ckc_text::place::Span;
-use ckc_tree::item::FunctionKind;
 use pointer_modes::ctype::CType;
 use std::alloc::Global;
 use std::collections::VecDeque;
+use value_typing::conversions::converted;
+use value_typing::typed::{Typed, plain};
 
 /// What a call is: a value of a type, or a statement where it has no result.
 #[derive(Drop)]
@@ -39,38 +39,6 @@ pub enum Called {
 pub struct Argument {
     pub typed: Typed,
     pub span: Span,
-}
-
-// A value as one of a type.
-fn in_type(to: &CType, null: bool, value: Box<Expr>) -> Expr
-    ensures { expression result ≡ value_in_type (ctype_of to.now) null (expression value.value) }
-{
-    match to {
-        CType::Char => Expr::LowByte(value),
-        CType::Pointer(..) => pointer_value(null, value),
-        CType::Int | CType::Struct(_) => Box::into_inner(value),
-    }
-}
-
-// A pointer, where the constant 0 is null.
-fn pointer_value(null: bool, value: Box<Expr>) -> Expr
-    ensures { expression result ≡ as_pointer null (expression value.value) }
-{
-    if null {
-        Expr::Null
-    } else {
-        Box::into_inner(value)
-    }
-}
-
-/// A value as one of a type that it converts to.
-pub fn converted(alloc: Global, t: Typed, to: &CType, span: Span) -> Result<Expr, Refused>
-    ensures { Answers expression (converted_to (typed t) (ctype_of to.now) span Passes) result }
-{
-    let Operand { ctype, zero, value } = value_of(alloc, t, span)?;
-    needs(converts(&ctype, zero, to), Code::E13, span)?;
-    let null = zero && is_number(&ctype);
-    Ok(in_type(to, null, value))
 }
 
 // The arguments of a call as values of the types of its parameters.
@@ -202,16 +170,6 @@ fn statement_of_call(import: bool, number: u32, site: Site, arguments: Vec<Expr>
             function: number,
             arguments,
         }
-    }
-}
-
-/// Whether a function runs on the other side of the boundary.
-pub fn is_import(f: &Signature) -> bool
-    ensures { result ≡ is_import_of (signature f.now) }
-{
-    match f.kind {
-        FunctionKind::Tainted => true,
-        FunctionKind::Trusted | FunctionKind::Callback => false,
     }
 }
 

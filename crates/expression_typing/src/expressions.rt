@@ -8,20 +8,19 @@ ghost use Rattle.pointer_modes.specs.Layout.{size_of as bytes_of};
 ghost use Rattle.typing_rules.specs.Scopes.{named as named_in};
 ghost use Rattle.typing_rules.specs.Verdicts.{Passes};
 ghost use Rattle.typing_rules.specs.Expressions.{constant, typed as typed_of, all_typed as all_typed_of, call_typed as call_typed_of, name_typed};
-ghost use Rattle.expression_typing.specs.Answering.{Answers};
-ghost use Rattle.expression_typing.specs.Views.{scope as scope_of};
-ghost use Rattle.expression_typing.specs.Typed.{typed as typed_view, number_typed, size_typed};
+ghost use Rattle.checker_scope.specs.Answering.{Answers};
+ghost use Rattle.checker_scope.specs.Views.{scope as scope_of};
+ghost use Rattle.value_typing.specs.Typed.{typed as typed_view, number_typed, size_typed};
 ghost use Rattle.expression_typing.specs.Calls.{argument, called as called_as};
 ghost use Rattle.expression_typing.specs.Slices.{expression_list};
 
 use crate::calls::{Argument, Called, call, with_result};
 use crate::members::{arrowed, dotted};
 use crate::operators::{binary, indexed, unary};
-use crate::refusals::refusal;
-use crate::scope::Scope;
-use crate::sites::Sites;
-use crate::typed::{Base, Typed, at_base, at_local, plain};
-use crate::types::{copied, type_named};
+use checker_scope::refusals::refusal;
+use checker_scope::scope::Scope;
+use checker_scope::sites::Sites;
+use checker_scope::types::{copied, type_named};
 use ckc_core::program;
 use ckc_text::code::Code;
 use ckc_text::fault::{NoMemory, Refused};
@@ -31,6 +30,7 @@ use ckc_tree::type_form::TypeName;
 use pointer_modes::ctype::CType;
 use std::alloc::Global;
 use std::collections::VecDeque;
+use value_typing::typed::{Base, Typed, at_base, at_local, plain};
 
 // A number, which has at most 31 bits.
 fn number(value: u32, span: Span) -> Result<Typed, Refused>

@@ -4,17 +4,6 @@
 pub mod assignments;
 pub mod calls;
 pub mod expressions;
-mod filling;
-mod locals;
-mod lookups;
 mod members;
-pub mod name_table;
-mod operands;
 mod operators;
 mod places;
-pub mod refusals;
-pub mod scope;
-pub mod signature;
-pub mod sites;
-pub mod typed;
-pub mod types;

@@ -4,21 +4,21 @@ ghost use Rattle.std.specs.Prelude.{◌≡◌, bytes_eq, position};
 ghost use Rattle.pointer_modes.specs.Types.{ctype as ctype_of};
 ghost use Rattle.ckc_core.specs.Core.{place as place_of};
 ghost use Rattle.typing_rules.specs.Expressions.{member_at as member_in, member_place as place_in, dotted as dotted_in, arrowed as arrowed_in};
-ghost use Rattle.expression_typing.specs.Answering.{Answers};
-ghost use Rattle.expression_typing.specs.Views.{scope as scope_of};
-ghost use Rattle.expression_typing.specs.Typed.{typed, base_place, struct_of, struct_behind};
+ghost use Rattle.checker_scope.specs.Answering.{Answers};
+ghost use Rattle.checker_scope.specs.Views.{scope as scope_of};
+ghost use Rattle.value_typing.specs.Typed.{typed, base_place, struct_of, struct_behind};
 
-use crate::operands::{Operand, value_of};
-use crate::refusals::refusal;
-use crate::scope::Scope;
-use crate::typed::{Base, Typed};
-use crate::types::copied;
+use checker_scope::refusals::refusal;
+use checker_scope::scope::Scope;
+use checker_scope::types::copied;
 use ckc_core::program::{CellPlace, Site};
 use ckc_text::code::Code;
 use ckc_text::fault::Refused;
 use ckc_text::place::Span;
 use pointer_modes::ctype::{CType, Member};
 use std::alloc::Global;
+use value_typing::operands::{Operand, value_of};
+use value_typing::typed::{Base, Typed};
 
 /// The place of the first of members that has this name.
 fn member_place(members: &[Member], name: &[u8]) -> Option<usize>

@@ -4,15 +4,13 @@ ghost use Rattle.std.specs.Prelude.{◌≡◌, ◌||◌, IfOk};
 ghost use Rattle.ckc_core.specs.Core.{expression, Not};
 ghost use Rattle.typing_rules.specs.Verdicts.{Passes, passing};
 ghost use Rattle.typing_rules.specs.Expressions.{number as number_typed, unary_typed as unary_of, binary_typed as binary_of, two_numbers, two_scalars, summands, arithmetic as arithmetic_of, equated as equated_in, ordered as ordered_in, indexed as indexed_in, is_pointer_value as pointer_value_of};
-ghost use Rattle.expression_typing.specs.Answering.{Answers};
-ghost use Rattle.expression_typing.specs.Typed.{typed};
-ghost use Rattle.expression_typing.specs.Operands.{and_also, or_else, operand as operand_view, equated_operands as equated_as, equated_to_null as null_as};
+ghost use Rattle.checker_scope.specs.Answering.{Answers};
+ghost use Rattle.value_typing.specs.Typed.{typed};
+ghost use Rattle.value_typing.specs.Operands.{and_also, or_else, operand as operand_view, equated_operands as equated_as, equated_to_null as null_as};
 
-use crate::operands::{Operand, number, scalar, value_of};
 use crate::places::{address, pointed_at};
-use crate::refusals::{needs, refusal};
-use crate::typed::{Typed, plain};
-use crate::types::{are_comparable, are_numbers, is_number, is_pointer};
+use checker_scope::refusals::{needs, refusal};
+use checker_scope::types::{are_comparable, are_numbers, is_number, is_pointer};
 use ckc_core::program::{Comparison, Expr, Operator, Site};
 use ckc_text::code::Code;
 use ckc_text::fault::Refused;
@@ -20,6 +18,8 @@ use ckc_text::place::Span;
 use ckc_tree::expr::{BinaryOperator, UnaryOperator};
 use pointer_modes::ctype::CType;
 use std::alloc::Global;
+use value_typing::operands::{Operand, number, scalar, value_of};
+use value_typing::typed::{Typed, plain};
 
 // A number.
 fn numeric(value: Expr) -> Typed

@@ -5,20 +5,20 @@ ghost use Rattle.std.specs.Option.{option_map};
 ghost use Rattle.pointer_modes.specs.Types.{ctype as ctype_of, member as member_view};
 ghost use Rattle.ckc_core.specs.Core.{expression, place as place_of};
 ghost use Rattle.typing_rules.specs.Expressions.{dereferenced, address as address_of, pointer_to as pointer_at, struct_place, member_at as member_in, member_place as place_in, dotted as dotted_in, arrowed as arrowed_in};
-ghost use Rattle.expression_typing.specs.Answering.{Answers};
-ghost use Rattle.expression_typing.specs.Views.{scope as scope_of};
-ghost use Rattle.expression_typing.specs.Typed.{typed, base_place, pointer_value};
+ghost use Rattle.checker_scope.specs.Answering.{Answers};
+ghost use Rattle.checker_scope.specs.Views.{scope as scope_of};
+ghost use Rattle.value_typing.specs.Typed.{typed, base_place, pointer_value};
 
-use crate::operands::{Operand, value_of};
-use crate::refusals::refusal;
-use crate::scope::Scope;
-use crate::typed::{Base, Typed, at_base, first_cell, plain};
+use checker_scope::refusals::refusal;
+use checker_scope::scope::Scope;
 use ckc_core::program::{CellPlace, Expr, Site};
 use ckc_text::code::Code;
 use ckc_text::fault::{NoMemory, Refused};
 use ckc_text::place::Span;
 use pointer_modes::ctype::{CType, Kind, Mode};
 use std::alloc::Global;
+use value_typing::operands::{Operand, value_of};
+use value_typing::typed::{Base, Typed, at_base, first_cell, plain};
 
 /// What a pointer points to.
 pub fn pointed_at(alloc: Global, t: Typed, site: Site, span: Span) -> Result<Typed, Refused>

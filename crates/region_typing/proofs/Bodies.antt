@@ -22,11 +22,11 @@ use Rattle.typing_rules.specs.Scopes.{Scope, Signature, Variable, Visible, funct
 use Rattle.typing_rules.specs.Expressions.{Places}
 use Rattle.typing_rules.specs.Statements.{statements, is_unchecked, with_local}
 use Rattle.typing_rules.specs.Items.{Walk, with_parameters, inside, core_function, function_body, listed, parameter_types, result_type, signature_of, agrees, all_scalar, scalar_result, with_function, is_trusted, is_defined, function_rules, function}
-use Rattle.expression_typing.specs.declared.scope as code
-use Rattle.expression_typing.specs.declared.signature.Signature as code_signature
-use Rattle.expression_typing.specs.Views.{scope, signature, variable}
-use Rattle.expression_typing.specs.Answering.{Answers, answers_so}
-use Rattle.expression_typing.specs.Locals.{Grows}
+use Rattle.checker_scope.specs.declared.scope as code
+use Rattle.checker_scope.specs.declared.signature.Signature as code_signature
+use Rattle.checker_scope.specs.Views.{scope, signature, variable}
+use Rattle.checker_scope.specs.Answering.{Answers, answers_so}
+use Rattle.checker_scope.specs.Locals.{Grows}
 use Rattle.statement_typing.specs.Walks.{Walks}
 use Rattle.region_typing.specs.Items.{Outside, body_core, kept_rules}
 use Rattle.region_typing.specs.Signatures.{declared_function}

@@ -7,7 +7,7 @@ use Rattle.ckc_core.specs.Core.{Core}
 use Rattle.typing_rules.specs.Expressions.{Places}
 use Rattle.typing_rules.specs.Items.{Walk, start}
 use Rattle.typing_rules.specs.Cores.{checked, CheckAnswers}
-use Rattle.expression_typing.specs.Answering.{Answers}
+use Rattle.checker_scope.specs.Answering.{Answers}
 use Rattle.region_typing.specs.Items.{Outside}
 
 pub as_check : {C : Type 0} (view : C → Core) (at : Places) (t : Tree) (r : Result C Refused) → Answers view (checked at t) r → CheckAnswers view at t r

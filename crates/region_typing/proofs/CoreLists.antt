@@ -5,8 +5,8 @@ use Rattle.typing_rules.specs.Verdicts.{picked}
 use Rattle.typing_rules.specs.Scopes.{Signature}
 use Rattle.typing_rules.specs.Expressions.{is_import}
 use Rattle.typing_rules.specs.Cores.{trusted_functions, tainted_functions, without_body}
-use Rattle.expression_typing.specs.declared.signature.Signature as code
-use Rattle.expression_typing.specs.Views.{signature}
+use Rattle.checker_scope.specs.declared.signature.Signature as code
+use Rattle.checker_scope.specs.Views.{signature}
 use Rattle.region_typing.specs.CoreParts.{import_as}
 use Rattle.region_typing.proofs.Lists.{made_more, made_all}
 

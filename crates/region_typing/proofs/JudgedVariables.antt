@@ -14,7 +14,7 @@ use Rattle.typing_rules.specs.Types.{base_type, without_stars}
 use Rattle.typing_rules.specs.Expressions.{Places}
 use Rattle.typing_rules.specs.Items as rules
 use Rattle.typing_rules.specs.Items.{Walk, WalkedVariable, with_variable, block_bytes, initializer, variables, with_objects, global, in_checked_region}
-use Rattle.expression_typing.specs.Answering.{Answers}
+use Rattle.checker_scope.specs.Answering.{Answers}
 use Rattle.region_typing.specs.Initials.{Judged, judged_as, judged_cells}
 use Rattle.region_typing.specs.Items.{JudgedVariable, variable_type, with_one, one_variable, judged_variables, judged_initializer, one_object, judged_objects}
 use Rattle.statement_typing.proofs.Verdicts.{same_behind, in_parts}

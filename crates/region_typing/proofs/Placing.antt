@@ -8,8 +8,8 @@ use Rattle.typing_rules.specs.Verdicts.{picked}
 use Rattle.typing_rules.specs.Scopes.{Signature, function_named}
 use Rattle.typing_rules.specs.Expressions.{is_import, side_number, counted, same_side}
 use Rattle.typing_rules.specs.Cores.{body_of, trusted_functions}
-use Rattle.expression_typing.specs.Names.{Distinct, are_distinct}
-use Rattle.expression_typing.proofs.FileLevel.{turned, distinct}
+use Rattle.checker_scope.specs.Names.{Distinct, are_distinct}
+use Rattle.checker_scope.proofs.FileLevel.{turned, distinct}
 use Rattle.region_typing.specs.CoreParts.{trusted_place}
 
 -- the name of no function

@@ -12,7 +12,7 @@ use Rattle.typing_rules.specs.Verdicts.{Verdict, Passes, passing, needs}
 use Rattle.typing_rules.specs.Scopes.{Scope}
 use Rattle.typing_rules.specs.Types.{is_scalar}
 use Rattle.typing_rules.specs.Items.{Walk, is_struct, member_types, scalar_members, with_struct, in_checked_region, structure}
-use Rattle.expression_typing.specs.Filling.{struct_added}
+use Rattle.checker_scope.specs.Filling.{struct_added}
 use Rattle.statement_typing.proofs.Verdicts.{same_behind}
 
 scalars_first : {A : Type 0} (ms : List types.Member) (next : Verdict A) → scalar_members ms next ≡ passing (scalar_members {A = Unit {0}} ms (Passes tt)) (λ u. next)

@@ -2,7 +2,7 @@
 use Rattle.std.specs.Prelude.{◌≡◌, ℕ, List, is_some}
 use Rattle.ckc_tree.specs.Items.{Item}
 use Rattle.typing_rules.specs.Items.{is_defined}
-use Rattle.expression_typing.specs.Tables.{place_in}
+use Rattle.checker_scope.specs.Tables.{place_in}
 
 -- a table has the names of the functions that have bodies among items
 pub record Knows (table : List (List ℕ × ℕ)) (items : List Item) : Type 0 where

@@ -15,7 +15,7 @@ use Rattle.typing_rules.specs.Types.{type_named, without_stars}
 use Rattle.typing_rules.specs.Expressions.{Places}
 use Rattle.typing_rules.specs.Statements.{statements, is_unchecked}
 use Rattle.typing_rules.specs.Items.{Walk, with_variable, block_bytes, initializer, inside, core_function, is_trusted, is_defined, in_checked_region}
-use Rattle.expression_typing.specs.Views.{scope}
+use Rattle.checker_scope.specs.Views.{scope}
 use Rattle.region_typing.specs.declared.walk as code
 use Rattle.region_typing.specs.declared.globals.WalkedVariable as code_variable
 use Rattle.region_typing.specs.Initials.{Judged, judged, judged_as, judged_cells}

@@ -4,7 +4,7 @@ use Rattle.ckc_tree.specs.Items as i
 use Rattle.typing_rules.specs.Verdicts.{Verdict, Passes, passing}
 use Rattle.typing_rules.specs.Scopes.{Scope, Signature, Variable}
 use Rattle.typing_rules.specs.Items.{listed, parameter_types, result_type, signature_of}
-use Rattle.expression_typing.specs.Views.{signature, variable}
+use Rattle.checker_scope.specs.Views.{signature, variable}
 use Rattle.region_typing.specs.declared.prototype.Prototype as code
 
 abbrev pub declared : code.Prototype → Signature × List Variable

@@ -9,10 +9,10 @@ ghost use Rattle.typing_rules.specs.Cores.{CheckAnswers};
 use crate::cores::core_of;
 use crate::items::items;
 use crate::walk::Walk;
+use checker_scope::sites::Sites;
 use ckc_core::program::Core;
 use ckc_names::named::Named;
 use ckc_text::fault::Refused;
-use expression_typing::sites::Sites;
 use std::alloc::Global;
 
 /// The core of a program whose names are visible where they stand.

@@ -8,13 +8,17 @@ ghost use Rattle.ckc_tree.specs.Statements.{initializer as initializer_tree, dec
 ghost use Rattle.ckc_tree.specs.Items.{global as global_tree};
 ghost use Rattle.pointer_modes.specs.Types.{ctype as ctype_of};
 ghost use Rattle.typing_rules.specs.Items.{block_bytes as bytes_of_block, global as global_of};
-ghost use Rattle.expression_typing.specs.Answering.{Answers};
-ghost use Rattle.expression_typing.specs.Views.{scope as scope_of};
+ghost use Rattle.checker_scope.specs.Answering.{Answers};
+ghost use Rattle.checker_scope.specs.Views.{scope as scope_of};
 ghost use Rattle.region_typing.specs.Initials.{judged as judged_view};
 ghost use Rattle.region_typing.specs.Items.{walk as walk_of, variable_type as type_of_variable, with_one, judged_initializer, judged_variable, one_variable, judged_variables, one_object, judged_objects};
 
 use crate::initials::{Judged, cells_of, judged_value};
 use crate::walk::Walk;
+use checker_scope::refusals::needs;
+use checker_scope::scope::Scope;
+use checker_scope::sites::Sites;
+use checker_scope::types::{base_type, copied, without_stars};
 use ckc_core::program::Object;
 use ckc_text::code::Code;
 use ckc_text::fault::{NoMemory, Refused};
@@ -23,10 +27,6 @@ use ckc_tree::item::Global as Declaration;
 use ckc_tree::stmt::{Declarator, Initializer};
 use ckc_tree::type_form::TypeForm;
 use expression_typing::expressions::typed;
-use expression_typing::refusals::needs;
-use expression_typing::scope::Scope;
-use expression_typing::sites::Sites;
-use expression_typing::types::{base_type, copied, without_stars};
 use pointer_modes::ctype::CType;
 use std::alloc::Global;
 

@@ -8,21 +8,21 @@ ghost use Rattle.ckc_core.specs.Core.{initial as initial_of};
 ghost use Rattle.ckc_core.specs.Meaning.{low_byte as low_byte_of};
 ghost use Rattle.typing_rules.specs.Types.{is_scalar};
 ghost use Rattle.typing_rules.specs.Items.{Written, negative as negative_of, unsigned_constant as unsigned_of, signed_constant as signed_of, cells_with as cells_as, is_zero as zero_typed};
-ghost use Rattle.expression_typing.specs.Answering.{Answers};
-ghost use Rattle.expression_typing.specs.Typed.{typed as typed_view};
+ghost use Rattle.checker_scope.specs.Answering.{Answers};
+ghost use Rattle.value_typing.specs.Typed.{typed as typed_view};
 ghost use Rattle.region_typing.specs.Initials.{IsSmall, IsStructOf, judged_as, judged_cells, constant_cells as constant_cells_as, judged as judged_of, stride_at};
 
+use checker_scope::refusals::{needs, refusal};
+use checker_scope::types::copied;
 use ckc_core::program::Initial;
 use ckc_text::code::Code;
 use ckc_text::fault::{NoMemory, Refused};
 use ckc_text::place::Span;
 use ckc_tree::expr::{Expr, UnaryOperator};
-use expression_typing::refusals::{needs, refusal};
-use expression_typing::typed::Typed;
-use expression_typing::types::copied;
 use pointer_modes::ctype::{CType, Member};
 use pointer_modes::structs::Structs;
 use std::alloc::Global;
+use value_typing::typed::Typed;
 
 /// What a variable is initialised with.
 #[derive(Drop, Clone, Copy)]

@@ -6,8 +6,8 @@ ghost use Rattle.ckc_tree.specs.Items.{function as function_tree, item as item_t
 ghost use Rattle.typing_rules.specs.Verdicts.{picked};
 ghost use Rattle.typing_rules.specs.Scopes.{function_named};
 ghost use Rattle.typing_rules.specs.Items.{is_trusted as trusted_kind, is_defined as defined_in, is_off as is_off_of, agrees as agrees_of, all_scalar, scalar_result, function as function_of, item as item_of, items as items_of};
-ghost use Rattle.expression_typing.specs.Answering.{Answers};
-ghost use Rattle.expression_typing.specs.Views.{scope as scope_of, signature};
+ghost use Rattle.checker_scope.specs.Answering.{Answers};
+ghost use Rattle.checker_scope.specs.Views.{scope as scope_of, signature};
 ghost use Rattle.region_typing.specs.Items.{walk as walk_of, Outside, kept_rules};
 
 use crate::definitions::Listing;
@@ -16,13 +16,13 @@ use crate::globals::global;
 use crate::signatures::{agrees, declare, declared, is_scalar_signature};
 use crate::structures::structure;
 use crate::walk::Walk;
+use checker_scope::refusals::needs;
+use checker_scope::scope::Scope;
+use checker_scope::signature::Signature;
+use checker_scope::sites::Sites;
 use ckc_text::code::Code;
 use ckc_text::fault::Refused;
 use ckc_tree::item::{Function, FunctionKind, Item, Region};
-use expression_typing::refusals::needs;
-use expression_typing::scope::Scope;
-use expression_typing::signature::Signature;
-use expression_typing::sites::Sites;
 use statement_typing::statements::is_unchecked;
 use std::alloc::Global;
 

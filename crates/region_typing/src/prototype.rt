@@ -2,8 +2,8 @@
 
 ghost use Rattle.std.specs.Prelude.{◌≤◌, length};
 
-use expression_typing::scope::Variable;
-use expression_typing::signature::Signature;
+use checker_scope::scope::Variable;
+use checker_scope::signature::Signature;
 
 /// A declaration of a function: its signature, and its parameters with their names.
 #[derive(Drop)]

@@ -5,7 +5,7 @@ ghost use Rattle.typing_rules.specs.Items.{start};
 ghost use Rattle.region_typing.specs.Items.{walk as walk_of};
 
 use crate::walk::Walk;
-use expression_typing::scope::Scope;
+use checker_scope::scope::Scope;
 use std::alloc::Global;
 
 impl Walk {

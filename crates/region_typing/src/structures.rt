@@ -5,19 +5,19 @@ ghost use Rattle.ckc_tree.specs.Items.{member as member_tree, structure as struc
 ghost use Rattle.pointer_modes.specs.Types.{ctype as ctype_of, member as member_of};
 ghost use Rattle.typing_rules.specs.Verdicts.{Passes};
 ghost use Rattle.typing_rules.specs.Items.{is_struct as struct_type, member_types as member_types_of, scalar_members, structure as structure_of};
-ghost use Rattle.expression_typing.specs.Answering.{Answers};
-ghost use Rattle.expression_typing.specs.Views.{scope as scope_of};
+ghost use Rattle.checker_scope.specs.Answering.{Answers};
+ghost use Rattle.checker_scope.specs.Views.{scope as scope_of};
 ghost use Rattle.region_typing.specs.Items.{walk as walk_of, one_member};
 
 use crate::walk::Walk;
+use checker_scope::refusals::needs;
+use checker_scope::scope::Scope;
+use checker_scope::types::type_named;
 use ckc_text::code::Code;
 use ckc_text::fault::Refused;
 use ckc_text::name::Name;
 use ckc_tree::item;
 use ckc_tree::item::Structure;
-use expression_typing::refusals::needs;
-use expression_typing::scope::Scope;
-use expression_typing::types::type_named;
 use pointer_modes::ctype::{CType, Member};
 use std::alloc::Global;
 

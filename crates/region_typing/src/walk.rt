@@ -2,8 +2,8 @@
 
 ghost use Rattle.std.specs.Prelude.{◌≤◌};
 
+use checker_scope::scope::Scope;
 use ckc_core::program::{Function, Object};
-use expression_typing::scope::Scope;
 
 /// What is known behind an item: what stands at file level, the cells of the file-level variables with the bytes that
 /// their blocks take, and the functions that have bodies, in the order of these.

@@ -16,10 +16,10 @@ use Rattle.typing_rules.specs.Scopes.{Scope}
 use Rattle.typing_rules.specs.Types.{without_stars, is_scalar}
 use Rattle.typing_rules.specs.Expressions.{Places}
 use Rattle.typing_rules.specs.Statements.{both, zero_value, initialised, with_local, declarator, declarators}
-use Rattle.expression_typing.specs.declared.scope as code
-use Rattle.expression_typing.specs.Views.{scope}
-use Rattle.expression_typing.specs.Answering.{Answers}
-use Rattle.expression_typing.specs.Locals.{Grows}
+use Rattle.checker_scope.specs.declared.scope as code
+use Rattle.checker_scope.specs.Views.{scope}
+use Rattle.checker_scope.specs.Answering.{Answers}
+use Rattle.checker_scope.specs.Locals.{Grows}
 use Rattle.statement_typing.specs.Walks.{Walks, from_zero, declared_local}
 use Rattle.statement_typing.proofs.Verdicts.{same_behind}
 use Rattle.statement_typing.proofs.Steps.{parts_at}

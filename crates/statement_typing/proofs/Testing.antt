@@ -7,10 +7,10 @@ use Rattle.ckc_text.specs.declared.fault.Refused.{Refused}
 use Rattle.ckc_text.specs.declared.fault.Refused.TheVariants.{Source, NoMemory}
 use Rattle.ckc_text.specs.declared.fault.SourceFault.{SourceFault}
 use Rattle.typing_rules.specs.Verdicts.{Verdict, Passes, Breaks, passing, needs}
-use Rattle.expression_typing.specs.declared.scope as code
+use Rattle.checker_scope.specs.declared.scope as code
 use Rattle.typing_rules.specs.Scopes.{Scope}
-use Rattle.expression_typing.specs.Answering.{Answers, answers_so}
-use Rattle.expression_typing.proofs.Going as going
+use Rattle.checker_scope.specs.Answering.{Answers, answers_so}
+use Rattle.checker_scope.proofs.Going as going
 use Rattle.statement_typing.specs.Walks.{Walks}
 use Rattle.statement_typing.proofs.Walking as walking
 

@@ -10,10 +10,10 @@ use Rattle.pointer_modes.specs.Types.{CType}
 use Rattle.typing_rules.specs.Verdicts.{Verdict, Passes, Breaks, passing}
 use Rattle.typing_rules.specs.Scopes.{Scope}
 use Rattle.typing_rules.specs.Statements.{behind_block, with_local}
-use Rattle.expression_typing.specs.declared.scope as code
-use Rattle.expression_typing.specs.Views.{scope, visible}
-use Rattle.expression_typing.specs.Answering.{Answers}
-use Rattle.expression_typing.specs.Locals.{Grows}
+use Rattle.checker_scope.specs.declared.scope as code
+use Rattle.checker_scope.specs.Views.{scope, visible}
+use Rattle.checker_scope.specs.Answering.{Answers}
+use Rattle.checker_scope.specs.Locals.{Grows}
 use Rattle.statement_typing.specs.Walks.{Walks, walks_so}
 
 -- ---- locals that become visible

@@ -13,9 +13,9 @@ use Rattle.typing_rules.specs.Expressions.{Places, typed, converted}
 use Rattle.typing_rules.specs.Types.{is_scalar}
 use Rattle.typing_rules.specs.Statements.{both, zero_value, initialised, with_local}
 use Rattle.typing_rules.specs.Scopes.{Scope}
-use Rattle.expression_typing.specs.declared.scope as code
-use Rattle.expression_typing.specs.Views.{scope}
-use Rattle.expression_typing.specs.Locals.{Grows}
+use Rattle.checker_scope.specs.declared.scope as code
+use Rattle.checker_scope.specs.Views.{scope}
+use Rattle.checker_scope.specs.Locals.{Grows}
 
 abbrev pub walks_so : {C A : Type 0} → (C → A) → Verdict (A × Scope) → code.Scope.Scope → Result C Refused → code.Scope.Scope → Type 0
 walks_so view verdict old (Ok c) new = (verdict ≡ Passes (view c, scope new)) × Grows old new

@@ -6,22 +6,22 @@ ghost use Rattle.ckc_tree.specs.Types.{type_tree};
 ghost use Rattle.ckc_tree.specs.Statements.{declarator as declarator_tree, declaration as declaration_tree};
 ghost use Rattle.pointer_modes.specs.Types.{ctype as ctype_of};
 ghost use Rattle.typing_rules.specs.Statements.{declarator as declarator_of, declarators as declarators_of, declaration as declaration_of};
-ghost use Rattle.expression_typing.specs.Views.{scope as scope_of};
+ghost use Rattle.checker_scope.specs.Views.{scope as scope_of};
 ghost use Rattle.statement_typing.specs.OnHeap.{statement};
 ghost use Rattle.statement_typing.specs.Walks.{Walks, declared_local};
 
 use crate::core_forms::{both, boxed};
 use crate::initial_values::from_zero;
+use checker_scope::refusals::needs;
+use checker_scope::scope::Scope;
+use checker_scope::sites::Sites;
+use checker_scope::types::{base_type, copied, without_stars};
 use ckc_core::program::Stmt;
 use ckc_text::code::Code;
 use ckc_text::fault::Refused;
 use ckc_text::place::Span;
 use ckc_tree::stmt::{Declaration, Declarator};
 use ckc_tree::type_form::TypeForm;
-use expression_typing::refusals::needs;
-use expression_typing::scope::Scope;
-use expression_typing::sites::Sites;
-use expression_typing::types::{base_type, copied, without_stars};
 use pointer_modes::ctype::CType;
 use std::alloc::Global;
 

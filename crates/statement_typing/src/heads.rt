@@ -5,20 +5,20 @@ ghost use Rattle.ckc_text.specs.Places.{place_at};
 ghost use Rattle.ckc_tree.specs.Expressions.{expression as expression_tree};
 ghost use Rattle.ckc_tree.specs.Statements.{on_heap, assignment as assignment_tree, for_initial as initial_tree};
 ghost use Rattle.typing_rules.specs.Statements.{condition as condition_of, optional_condition as optional_condition_of, assignment as assignment_of, optional_step as optional_step_of, first_part as first_part_of};
-ghost use Rattle.expression_typing.specs.Answering.{Answers};
-ghost use Rattle.expression_typing.specs.Views.{scope as scope_of};
+ghost use Rattle.checker_scope.specs.Answering.{Answers};
+ghost use Rattle.checker_scope.specs.Views.{scope as scope_of};
 ghost use Rattle.statement_typing.specs.OnHeap.{expression, statement};
 ghost use Rattle.statement_typing.specs.Walks.{Walks};
 
+use crate::core_forms::boxed;
+use crate::declarations::declaration;
+use checker_scope::scope::Scope;
+use checker_scope::sites::Sites;
 use ckc_core::program::{Expr, Stmt};
 use ckc_text::fault::Refused;
 use ckc_tree::expr;
 use ckc_tree::stmt::{Assignment, ForInitial};
-use crate::core_forms::boxed;
-use crate::declarations::declaration;
 use expression_typing::assignments;
-use expression_typing::scope::Scope;
-use expression_typing::sites::Sites;
 use std::alloc::Global;
 
 /// A condition.

@@ -6,26 +6,26 @@ ghost use Rattle.ckc_tree.specs.Expressions.{expression as expression_tree};
 ghost use Rattle.ckc_tree.specs.Statements.{initializer as initializer_tree};
 ghost use Rattle.pointer_modes.specs.Types.{ctype as ctype_of};
 ghost use Rattle.typing_rules.specs.Statements.{initialised as initialised_as};
-ghost use Rattle.expression_typing.specs.Answering.{Answers};
-ghost use Rattle.expression_typing.specs.Views.{scope as scope_of};
+ghost use Rattle.checker_scope.specs.Answering.{Answers};
+ghost use Rattle.checker_scope.specs.Views.{scope as scope_of};
 ghost use Rattle.statement_typing.specs.OnHeap.{statement as statement_of};
 ghost use Rattle.statement_typing.specs.Walks.{initial_value as initial_value_as, from_zero as from_zero_as};
 
 use crate::core_forms::{both, boxed};
+use checker_scope::refusals::{needs, refusal};
+use checker_scope::scope::Scope;
+use checker_scope::sites::Sites;
+use checker_scope::types::is_scalar;
 use ckc_core::program::Stmt;
 use ckc_text::code::Code;
 use ckc_text::fault::Refused;
 use ckc_text::place::Span;
 use ckc_tree::expr::Expr;
 use ckc_tree::stmt::Initializer;
-use expression_typing::calls::converted;
 use expression_typing::expressions::typed;
-use expression_typing::refusals::{needs, refusal};
-use expression_typing::scope::Scope;
-use expression_typing::sites::Sites;
-use expression_typing::types::is_scalar;
 use pointer_modes::ctype::CType;
 use std::alloc::Global;
+use value_typing::conversions::converted;
 use zero_values::set_to_zero;
 
 // The value that a local is given.

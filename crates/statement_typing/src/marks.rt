@@ -3,8 +3,8 @@
 ghost use Rattle.std.specs.Prelude.{◌≡◌, ◌||◌, not};
 ghost use Rattle.typing_rules.specs.Statements.{is_unchecked as unchecked_mark};
 
+use checker_scope::scope::Scope;
 use ckc_tree::stmt::Mark;
-use expression_typing::scope::Scope;
 
 /// Whether a mark says unchecked.
 pub fn is_unchecked(mark: Option<Mark>) -> bool

@@ -8,25 +8,26 @@ ghost use Rattle.ckc_tree.specs.Statements.{on_heap};
 ghost use Rattle.pointer_modes.specs.Types.{ctype as ctype_of};
 ghost use Rattle.ckc_core.specs.Core.{statement as statement_of, Break, Continue};
 ghost use Rattle.typing_rules.specs.Statements.{return as return_of, returned_nothing as nothing_as, alone as alone_of};
-ghost use Rattle.expression_typing.specs.Answering.{Answers};
-ghost use Rattle.expression_typing.specs.Views.{scope as scope_of};
+ghost use Rattle.checker_scope.specs.Answering.{Answers};
+ghost use Rattle.checker_scope.specs.Views.{scope as scope_of};
 ghost use Rattle.expression_typing.specs.Calls.{called as called_as};
 ghost use Rattle.statement_typing.specs.OnHeap.{statement};
 ghost use Rattle.statement_typing.specs.Parts.{call_statement, needs_loop, value_returned as value_returned_in, converted_return, refused_value as refused_value_in};
 
+use crate::core_forms::boxed;
+use checker_scope::refusals::{needs, refusal};
+use checker_scope::scope::Scope;
+use checker_scope::sites::Sites;
 use ckc_core::program::Stmt;
 use ckc_text::code::Code;
 use ckc_text::fault::Refused;
 use ckc_text::place::Span;
 use ckc_tree::expr::Expr;
-use crate::core_forms::boxed;
-use expression_typing::calls::{Called, converted};
+use expression_typing::calls::Called;
 use expression_typing::expressions::{call_typed, typed};
-use expression_typing::refusals::{needs, refusal};
-use expression_typing::scope::Scope;
-use expression_typing::sites::Sites;
 use pointer_modes::ctype::CType;
 use std::alloc::Global;
+use value_typing::conversions::converted;
 
 // A call whose result is left.
 fn alone(call: Called) -> Stmt

@@ -1,5 +1,5 @@
-use Rattle.expression_typing.specs.Typed.{typed}
-use Rattle.expression_typing.proofs.Going.{goes_on, refused}
+use Rattle.value_typing.specs.Typed.{typed}
+use Rattle.checker_scope.proofs.Going.{goes_on, refused}
 use Rattle.expression_typing.proofs.Continuing.{set_parts}
 use Rattle.expression_typing.proofs.assignments.set_to.Goals as goal
 

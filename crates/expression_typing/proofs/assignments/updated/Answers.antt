@@ -1,6 +1,6 @@
 use Rattle.ckc_text.specs.Places.{place_at}
-use Rattle.expression_typing.specs.Typed.{typed}
-use Rattle.expression_typing.proofs.Going.{goes_on}
+use Rattle.value_typing.specs.Typed.{typed}
+use Rattle.checker_scope.proofs.Going.{goes_on}
 use Rattle.expression_typing.proofs.Continuing.{updated_parts}
 use Rattle.expression_typing.proofs.assignments.updated.Goals as goal
 

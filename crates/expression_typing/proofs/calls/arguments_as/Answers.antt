@@ -2,7 +2,7 @@ use Rattle.std.proofs.Common.{◌≡◌, ◌<◌, length, map, drop, get_or, ap,
 use Rattle.pointer_modes.specs.Types.{ctype}
 use Rattle.typing_rules.specs.Expressions.{arguments_as}
 use Rattle.expression_typing.specs.Calls.{argument}
-use Rattle.expression_typing.proofs.Going.{refused_by}
+use Rattle.checker_scope.proofs.Going.{refused_by}
 use Rattle.expression_typing.proofs.Conversions.{value_breaks, value_pushed, pushed_long, all_values, none_left}
 use Rattle.expression_typing.proofs.calls.arguments_as.Goals as goal
 

@@ -1,5 +1,5 @@
 use Rattle.std.proofs.Common.{◌==◌, ap, ◌∙◌}
-use Rattle.expression_typing.proofs.Going.{refused_by}
+use Rattle.checker_scope.proofs.Going.{refused_by}
 use Rattle.expression_typing.proofs.Conversions.{one_too_many}
 use Rattle.expression_typing.proofs.calls.one_number.Goals as goal
 

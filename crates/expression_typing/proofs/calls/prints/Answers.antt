@@ -1,7 +1,7 @@
 use Rattle.std.proofs.Common.{map, refl}
 use Rattle.ckc_core.specs.Core.{Print}
 use Rattle.expression_typing.specs.Calls.{argument}
-use Rattle.expression_typing.proofs.Going.{goes_on, refused}
+use Rattle.checker_scope.proofs.Going.{goes_on, refused}
 use Rattle.expression_typing.proofs.Continuing.{writes_parts}
 use Rattle.expression_typing.proofs.calls.prints.Goals as goal
 

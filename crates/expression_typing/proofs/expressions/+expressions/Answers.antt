@@ -1,8 +1,8 @@
 use Rattle.std.proofs.Common.{◌<◌, length, map, arith}
 use Rattle.ckc_text.specs.Places.{place_at}
-use Rattle.expression_typing.specs.Views.{scope}
+use Rattle.checker_scope.specs.Views.{scope}
 use Rattle.expression_typing.specs.Calls.{argument}
-use Rattle.expression_typing.proofs.Going.{goes_on, refused, refused_by}
+use Rattle.checker_scope.proofs.Going.{goes_on, refused, refused_by}
 use Rattle.expression_typing.proofs.Arguments.{call_tree, argument_pushed, argument_breaks, arguments_done}
 use Rattle.expression_typing.proofs.expressions.+expressions.Goals as goal
 

@@ -1,7 +1,7 @@
 use Rattle.std.proofs.Common.{◌≡◌, map, drop}
 use Rattle.ckc_text.specs.Places.{place_at}
 use Rattle.typing_rules.specs.Expressions.{all_typed}
-use Rattle.expression_typing.specs.Views.{scope}
+use Rattle.checker_scope.specs.Views.{scope}
 use Rattle.expression_typing.specs.Calls.{argument}
 use Rattle.expression_typing.specs.Slices.{expression_list}
 use Rattle.expression_typing.proofs.Arguments.{behind}

@@ -1,4 +1,4 @@
-use Rattle.expression_typing.proofs.Going.{goes_on, refused}
+use Rattle.checker_scope.proofs.Going.{goes_on, refused}
 use Rattle.expression_typing.proofs.Arguments.{call_tree}
 use Rattle.expression_typing.proofs.expressions.call_typed.Goals as goal
 

@@ -2,9 +2,9 @@ use Rattle.std.proofs.Common.{sym, ap, ◌∙◌, ◌<◌, bytes_eq, length, ref
 use Rattle.pointer_modes.specs.Types.{Struct, ctype}
 use Rattle.pointer_modes.proofs.Cells.{length_of_cells}
 use Rattle.ckc_core.specs.Core.{place}
-use Rattle.expression_typing.specs.Views.{scope}
-use Rattle.expression_typing.specs.Typed.{base_place}
-use Rattle.expression_typing.proofs.Searches.{read_at}
+use Rattle.checker_scope.specs.Views.{scope}
+use Rattle.value_typing.specs.Typed.{base_place}
+use Rattle.checker_scope.proofs.Searches.{read_at}
 use Rattle.expression_typing.proofs.MemberCells.{no_member, member_cell, found_within}
 use Rattle.expression_typing.proofs.members.member_at.Goals as goal
 

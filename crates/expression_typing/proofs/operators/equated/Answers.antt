@@ -1,5 +1,5 @@
-use Rattle.expression_typing.specs.Typed.{typed}
-use Rattle.expression_typing.proofs.Going.{goes_on}
+use Rattle.value_typing.specs.Typed.{typed}
+use Rattle.checker_scope.proofs.Going.{goes_on}
 use Rattle.expression_typing.proofs.Equality.{equated_parts}
 use Rattle.expression_typing.proofs.operators.equated.Goals as goal
 

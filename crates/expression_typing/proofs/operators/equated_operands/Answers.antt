@@ -1,5 +1,5 @@
 use Rattle.std.proofs.Common.{sym, ◌∙◌}
-use Rattle.expression_typing.specs.Operands.{operand}
+use Rattle.value_typing.specs.Operands.{operand}
 use Rattle.expression_typing.proofs.Equality.{equated_otherwise}
 use Rattle.expression_typing.proofs.operators.equated_operands.Goals as goal
 

@@ -3,7 +3,7 @@ use Rattle.ckc_text.specs.Places.{place_at}
 use Rattle.ckc_tree.specs.Items as trees
 use Rattle.ckc_core.specs.Core.{core}
 use Rattle.typing_rules.specs.Verdicts.{Passes}
-use Rattle.expression_typing.proofs.Going.{goes_on, refused}
+use Rattle.checker_scope.proofs.Going.{goes_on, refused}
 use Rattle.region_typing.specs.Items.{walk}
 use Rattle.region_typing.proofs.Checks.{as_check, outside_at_start}
 use Rattle.region_typing.proofs.checker.check.Goals as goal

@@ -2,7 +2,7 @@ use Rattle.std.proofs.Common.{[], ◌++◌, map, length, sym, ap, ◌∙◌}
 use Rattle.std.proofs.lemmas.List.{append-nil, length-map, nil_from_length}
 use Rattle.ckc_core.specs.Core.{function}
 use Rattle.typing_rules.specs.Cores.{trusted_functions}
-use Rattle.expression_typing.specs.Views.{signature}
+use Rattle.checker_scope.specs.Views.{signature}
 use Rattle.region_typing.proofs.Placing.{body_popped}
 use Rattle.region_typing.proofs.cores.functions.Goals as goal
 

@@ -2,8 +2,8 @@ use Rattle.std.proofs.Common.{map}
 use Rattle.ckc_text.specs.Places.{place_at}
 use Rattle.ckc_tree.specs.Items as trees
 use Rattle.ckc_core.specs.Core.{function}
-use Rattle.expression_typing.specs.Views.{scope, signature, variable}
-use Rattle.expression_typing.proofs.Going.{goes_on, refused}
+use Rattle.checker_scope.specs.Views.{scope, signature, variable}
+use Rattle.checker_scope.proofs.Going.{goes_on, refused}
 use Rattle.region_typing.specs.Items.{walk}
 use Rattle.region_typing.proofs.Bodies.{function_body_parts, bodies_more, scope_kept}
 use Rattle.statement_typing.proofs.Testing.{holds, fails}

@@ -1,5 +1,5 @@
 use Rattle.std.proofs.Common.{◌<◌, length, map, refl, arith}
-use Rattle.expression_typing.proofs.Going.{refused_by}
+use Rattle.checker_scope.proofs.Going.{refused_by}
 use Rattle.region_typing.specs.Items.{walk, judged_variable, one_object, judged_objects}
 use Rattle.statement_typing.proofs.Steps.{part_more, part_breaks, parts_done}
 use Rattle.region_typing.proofs.globals.objects.Goals as goal

@@ -3,7 +3,7 @@ use Rattle.ckc_text.specs.Places.{place_at}
 use Rattle.ckc_tree.specs.Types.{type_tree}
 use Rattle.ckc_tree.specs.Statements.{declarator}
 use Rattle.pointer_modes.specs.Types.{ctype}
-use Rattle.expression_typing.proofs.Going.{goes_on, refused}
+use Rattle.checker_scope.proofs.Going.{goes_on, refused}
 use Rattle.region_typing.specs.Items.{walk}
 use Rattle.region_typing.proofs.JudgedVariables.{one_more_variable}
 use Rattle.region_typing.proofs.globals.variable.Goals as goal

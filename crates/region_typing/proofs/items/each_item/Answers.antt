@@ -2,7 +2,7 @@ use Rattle.std.proofs.Common.{◌<◌, length, map, arith}
 use Rattle.ckc_text.specs.Places.{place_at}
 use Rattle.ckc_tree.specs.Items as trees
 use Rattle.typing_rules.specs.Items.{items}
-use Rattle.expression_typing.proofs.Going.{refused_by}
+use Rattle.checker_scope.proofs.Going.{refused_by}
 use Rattle.region_typing.specs.Items.{walk}
 use Rattle.statement_typing.proofs.Steps.{part_more, part_breaks, parts_done}
 use Rattle.region_typing.proofs.Outside.{stays_outside}

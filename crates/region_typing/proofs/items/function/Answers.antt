@@ -5,8 +5,8 @@ use Rattle.ckc_text.specs.Places.{place_at}
 use Rattle.ckc_text.specs.declared.code.Code.TheVariants.{E08}
 use Rattle.ckc_tree.specs.Items as trees
 use Rattle.typing_rules.specs.Scopes.{function_named}
-use Rattle.expression_typing.specs.Views.{scope, signature}
-use Rattle.expression_typing.proofs.Going.{goes_on, refused}
+use Rattle.checker_scope.specs.Views.{scope, signature}
+use Rattle.checker_scope.proofs.Going.{goes_on, refused}
 use Rattle.region_typing.specs.Items.{walk}
 use Rattle.region_typing.specs.Signatures.{declared}
 use Rattle.region_typing.proofs.Bodies.{function_parts, function_walk, kept_last, room_left, declared_name}

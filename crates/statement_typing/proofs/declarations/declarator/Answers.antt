@@ -5,7 +5,7 @@ use Rattle.ckc_text.specs.declared.code.Code.TheVariants.{E08}
 use Rattle.ckc_tree.specs.Types.{type_tree}
 use Rattle.ckc_tree.specs.Statements.{declarator}
 use Rattle.pointer_modes.specs.Types.{ctype}
-use Rattle.expression_typing.specs.Views.{scope}
+use Rattle.checker_scope.specs.Views.{scope}
 use Rattle.statement_typing.proofs.Locals.{declarator_parts, few_locals}
 use Rattle.statement_typing.proofs.Testing.{walk_fails, tested}
 use Rattle.statement_typing.proofs.Walking.{goes_on, refused}

@@ -1,7 +1,7 @@
 use Rattle.std.proofs.Common.{◌≡◌, sym, ap, ◌∙◌}
 use Rattle.ckc_core.specs.Core as core
 use Rattle.typing_rules.specs.Verdicts.{Passes}
-use Rattle.expression_typing.proofs.Going.{goes_on, refused}
+use Rattle.checker_scope.proofs.Going.{goes_on, refused}
 use Rattle.statement_typing.proofs.Testing.{holds, fails}
 use Rattle.statement_typing.proofs.initial_values.from_zero.Goals as goal
 

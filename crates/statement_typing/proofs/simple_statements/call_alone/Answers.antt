@@ -1,7 +1,7 @@
 use Rattle.std.proofs.Common.{ap, sym, ◌∙◌}
 use Rattle.ckc_core.specs.Core as core
 use Rattle.typing_rules.specs.Verdicts.{Passes}
-use Rattle.expression_typing.proofs.Going.{goes_on, refused}
+use Rattle.checker_scope.proofs.Going.{goes_on, refused}
 use Rattle.statement_typing.proofs.simple_statements.call_alone.Goals as goal
 
 pub returns-in_err-call : goal.returns-in_err-call

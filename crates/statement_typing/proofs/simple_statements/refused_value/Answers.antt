@@ -1,4 +1,4 @@
-use Rattle.expression_typing.proofs.Going.{goes_on, refused}
+use Rattle.checker_scope.proofs.Going.{goes_on, refused}
 use Rattle.statement_typing.proofs.simple_statements.refused_value.Goals as goal
 
 pub returns-in_err-typed : goal.returns-in_err-typed

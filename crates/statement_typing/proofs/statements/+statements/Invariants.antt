@@ -2,8 +2,8 @@ use Rattle.std.proofs.Common.{◌≡◌, drop}
 use Rattle.ckc_text.specs.Places.{place_at}
 use Rattle.ckc_tree.specs.Items.{statement_list}
 use Rattle.typing_rules.specs.Statements.{statements}
-use Rattle.expression_typing.specs.Views.{scope}
-use Rattle.expression_typing.specs.Locals.{Grows}
+use Rattle.checker_scope.specs.Views.{scope}
+use Rattle.checker_scope.specs.Locals.{Grows}
 use Rattle.statement_typing.proofs.Sequences.{behind}
 use Rattle.statement_typing.proofs.statements.+statements.Given as goal
 

@@ -1,0 +1,4 @@
+pub mod Going
+pub mod Searches
+pub mod FileLevel
+pub mod Tables

@@ -1,0 +1,68 @@
+// Operands as values.
+
+ghost use Rattle.std.specs.Prelude.{◌≡◌, IfOk};
+ghost use Rattle.pointer_modes.specs.Types.{ctype as ctype_of};
+ghost use Rattle.ckc_core.specs.Core.{expression};
+ghost use Rattle.typing_rules.specs.Verdicts.{Passes};
+ghost use Rattle.typing_rules.specs.Expressions.{number_of, scalar_of};
+ghost use Rattle.checker_scope.specs.Answering.{Answers};
+ghost use Rattle.value_typing.specs.Typed.{typed};
+ghost use Rattle.value_typing.specs.Operands.{operand as operand_view, operand_of};
+
+use crate::typed::Typed;
+use checker_scope::refusals::{needs, refusal};
+use checker_scope::types::{copied, is_number};
+use ckc_core::program::Expr;
+use ckc_text::code::Code;
+use ckc_text::fault::{NoMemory, Refused};
+use ckc_text::place::Span;
+use pointer_modes::ctype::CType;
+use std::alloc::Global;
+
+/// A value of a scalar type, which may be the constant 0.
+#[derive(Drop)]
+pub struct Operand {
+    pub ctype: CType,
+    pub zero: bool,
+    pub value: Box<Expr>,
+}
+
+/// What an expression that is no struct is as a value.
+pub fn value_of(alloc: Global, t: Typed, span: Span) -> Result<Operand, Refused>
+    ensures { Answers operand_view (operand_of (typed t) span) result }
+{
+    match t {
+        Typed::Value { ctype, zero, value } => boxed(alloc, ctype, zero, value),
+        Typed::Local { ctype, local } => boxed(alloc, ctype, false, Expr::Local(local)),
+        Typed::Cell { ctype, place } => {
+            let copy = copied(alloc, &ctype)?;
+            boxed(alloc, copy, false, Expr::Load { ctype, cell: place })
+        }
+        Typed::Struct { .. } => Err(refusal(Code::E13, span)),
+    }
+}
+
+// An operand with its value on the heap.
+fn boxed(alloc: Global, ctype: CType, zero: bool, value: Expr) -> Result<Operand, Refused>
+    ensures { Answers operand_view (Passes (record { type = ctype_of ctype; zero = zero; value = expression value })) result }
+{
+    let value = Box::new(alloc, value)?;
+    Ok(Operand { ctype, zero, value })
+}
+
+/// A number, for an operator that takes numbers.
+pub fn number(alloc: Global, t: Typed, span: Span) -> Result<Box<Expr>, Refused>
+    ensures { Answers (λ v. expression v.value) (number_of (typed t) span Passes) result }
+{
+    let o = value_of(alloc, t, span)?;
+    needs(is_number(&o.ctype), Code::E13, span)?;
+    Ok(o.value)
+}
+
+/// A scalar, for a condition and for operators on truth.
+pub fn scalar(alloc: Global, t: Typed, span: Span) -> Result<Box<Expr>, Refused>
+    ensures { Answers (λ v. expression v.value) (scalar_of (typed t) span Passes) result }
+{
+    let o = value_of(alloc, t, span)?;
+    Ok(o.value)
+}
