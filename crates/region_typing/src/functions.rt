@@ -24,7 +24,8 @@ use ckc_text::name::Name;
 use ckc_tree::item::{Block, Parameter, Parameters, ResultForm};
 use ckc_tree::stmt;
 use pointer_modes::ctype::CType;
-use statement_typing::statements::{is_checked, statements};
+use statement_typing::marks::is_checked;
+use statement_typing::statements::statements;
 use std::alloc::Global;
 
 /// How many parameters a function may have.
