@@ -6,8 +6,8 @@ ghost use Rattle.typing_rules.specs.Statements.{is_unchecked as unchecked_mark};
 use checker_scope::scope::Scope;
 use ckc_tree::stmt::Mark;
 
-/// Whether a mark says unchecked.
-pub fn is_unchecked(mark: Option<Mark>) -> bool
+// Whether a mark says unchecked.
+fn is_unchecked(mark: Option<Mark>) -> bool
     ensures { result ≡ unchecked_mark mark }
 {
     match mark {
