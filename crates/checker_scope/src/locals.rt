@@ -5,7 +5,7 @@ ghost use Rattle.pointer_modes.specs.Types.{ctype as ctype_of};
 ghost use Rattle.typing_rules.specs.Statements.{with_local};
 ghost use Rattle.checker_scope.specs.Views.{scope as scope_of, visible as visible_of};
 
-use crate::scope::Scope;
+use crate::scope::{BlockStart, Scope};
 use ckc_text::fault::NoMemory;
 use ckc_text::name::Name;
 use pointer_modes::ctype::CType;
@@ -26,12 +26,30 @@ impl Scope {
         Ok(())
     }
 
-    /// Hides all names but the first ones that were visible, and says whether a loop is around.
-    pub fn leave(&mut self, visible: usize, in_loop: bool)
-        ensures known { scope_of self.new ≡ record (scope_of self.old) { visible = reverse (map visible_of (take visible self.old.visible.items)); in_loop = in_loop } }
-        ensures seen { self.new.visible.items ≡ take visible self.old.visible.items }
+    /// Where a block begins that begins here.
+    pub fn block_start(&self) -> BlockStart
+        ensures { result ≡ record { visible = length self.now.visible.items; in_loop = self.now.in_loop } }
     {
-        self.visible.truncate(visible);
+        BlockStart {
+            visible: self.visible.len(),
+            in_loop: self.in_loop,
+        }
+    }
+
+    /// Says whether a loop is around.
+    pub fn set_in_loop(&mut self, in_loop: bool)
+        ensures known { scope_of self.new ≡ record (scope_of self.old) { in_loop = in_loop } }
+        ensures seen { self.new.visible.items ≡ self.old.visible.items }
+    {
         self.in_loop = in_loop;
+    }
+
+    /// Leaves a block: hides the names that became visible in it, and says whether a loop is around it.
+    pub fn leave(&mut self, start: BlockStart)
+        ensures known { scope_of self.new ≡ record (scope_of self.old) { visible = reverse (map visible_of (take start.visible self.old.visible.items)); in_loop = start.in_loop } }
+        ensures seen { self.new.visible.items ≡ take start.visible self.old.visible.items }
+    {
+        self.visible.truncate(start.visible);
+        self.in_loop = start.in_loop;
     }
 }

@@ -21,6 +21,13 @@ pub struct Variable {
     pub ctype: CType,
 }
 
+/// Where a block begins: how many names are visible there, and whether a loop is around.
+#[derive(Clone, Copy)]
+pub struct BlockStart {
+    pub visible: usize,
+    pub in_loop: bool,
+}
+
 /// What stands at file level, and the locals of the function that is walked. What stands at file level is found by the
 /// tables of its names.
 #[derive(Drop)]

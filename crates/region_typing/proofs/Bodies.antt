@@ -159,6 +159,11 @@ kept_last_so new v (Err NoMemory) first = tt
 pub kept_last : {B : Type 0} (new : B) (v : Verdict (Unit {0})) (r : Result (Unit {0}) Refused) → Answers {C = Unit {0}} (λ x. x) v r → Answers {C = Unit {0}} (λ u. new) (passing v (λ u. Passes new)) r
 kept_last new v r first = record { so = kept_last_so new v r first }
 
+-- neither a function nor its region is unchecked
+pub checked_once : (unchecked off : Bool) (span : Span) → needs (not unchecked) E15 span (needs (not off) E15 span (Passes tt)) ≡ needs (not (unchecked || off)) E15 span (Passes tt)
+checked_once true off span = refl
+checked_once false off span = refl
+
 -- behind a declaration
 pub function_walk : {new : Walk} {r : Result (Unit {0}) Refused} (at : Places) (all : List Item) (w : Walk) (d : i.Function) (x : Signature × List Variable) (mid : Scope) → declared_function w.scope d ≡ Passes x → mid ≡ with_function (function_named w.scope.functions x.0.name) x.0 w.scope
     → Answers {C = Unit {0}} (λ u. new) (passing (function_body at (record w { scope = mid }) x.0 x.1 d.body) (λ v. passing (kept_rules all d (agrees (function_named w.scope.functions x.0.name) x.0 && (all_scalar x.0.parameters && scalar_result x.0.result)) v.scope) (λ u. Passes v))) r

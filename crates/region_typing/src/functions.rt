@@ -24,7 +24,8 @@ use ckc_text::name::Name;
 use ckc_tree::item::{Block, Parameter, Parameters, ResultForm};
 use ckc_tree::stmt;
 use pointer_modes::ctype::CType;
-use statement_typing::statements::{is_checked, statements};
+use statement_typing::marks::is_checked;
+use statement_typing::statements::statements;
 use std::alloc::Global;
 
 /// How many parameters a function may have.
@@ -55,9 +56,10 @@ fn push_parameter(
         Code::E08,
         written.type_name.base.span(),
     )?;
-    let ctype = type_named(alloc, scope, &written.type_name)?;
     let name = Name::copied(alloc, written.name.name.as_bytes())?;
-    parameters.push(Variable { name, ctype })?;
+    parameters.reserve(1)?;
+    let ctype = type_named(alloc, scope, &written.type_name)?;
+    parameters.push_reserved(Variable { name, ctype });
     Ok(())
 }
 
@@ -190,9 +192,10 @@ fn with_body(
 {
     let checked = is_checked(&walk.scope, body.mark);
     let written = body.statements.as_slice();
+    walk.bodies.reserve(1)?;
     let built = body_of(alloc, sites, &mut walk.scope, f, parameters, written)?;
     needs(checked, Code::E15, body.span)?;
-    walk.bodies.push(built)?;
+    walk.bodies.push_reserved(built);
     Ok(())
 }
 

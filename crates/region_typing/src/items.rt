@@ -23,7 +23,8 @@ use checker_scope::sites::Sites;
 use ckc_text::code::Code;
 use ckc_text::fault::Refused;
 use ckc_tree::item::{Function, FunctionKind, Item, Region};
-use statement_typing::statements::is_unchecked;
+use function_rules::keep_function_rules;
+use statement_typing::marks::is_checked;
 use std::alloc::Global;
 
 /// How many functions a program may declare.
@@ -60,10 +61,9 @@ fn fits(scope: &Scope, f: &Signature) -> bool
 fn keep_rules(listing: &Listing, scope: &Scope, d: &Function, fits: bool) -> Result<(), Refused>
     ensures { Answers (λ x. x) (kept_rules (map item_tree listing.now.items.now) (function_tree d.now) fits (scope_of scope.now)) result }
 {
-    needs(fits, Code::E13, d.span)?;
-    needs(has_body(listing, d), Code::E10, d.span)?;
-    needs(!is_unchecked(d.mark), Code::E15, d.span)?;
-    needs(!scope.is_off, Code::E15, d.span)
+    let has_body = has_body(listing, d);
+    let is_checked = is_checked(scope, d.mark);
+    keep_function_rules(fits, has_body, is_checked, d.span)
 }
 
 // Whether a function is known, or there is room for one more.

@@ -45,13 +45,14 @@ fn push_member(
         Code::E08,
         written.type_name.base.span(),
     )?;
-    let ctype = type_named(alloc, scope, &written.type_name)?;
     let name = Name::copied(alloc, written.name.name.as_bytes())?;
-    members.push(Member {
+    members.reserve(1)?;
+    let ctype = type_named(alloc, scope, &written.type_name)?;
+    members.push_reserved(Member {
         name,
         ctype,
         span: written.span,
-    })?;
+    });
     Ok(())
 }
 

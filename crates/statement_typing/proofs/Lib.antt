@@ -1,6 +1,8 @@
+pub mod Blocks
+pub mod Boxed
+pub mod Rows
 pub mod Walking
 pub mod Testing
-pub mod Rows
 pub mod Verdicts
 pub mod Locals
 pub mod Loops

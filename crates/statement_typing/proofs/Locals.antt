@@ -1,5 +1,5 @@
 -- Declared locals.
-use Rattle.std.proofs.Common.{◌≡◌, ℕ, ◌<◌, map, drop, get_or, Bool, true, false, nat_lt, List, length, Result, refl, ap, sym, ◌∙◌}
+use Rattle.std.proofs.Common.{◌≡◌, ℕ, ◌<◌, map, drop, get_or, Bool, true, false, nat_lt, List, length, Result, Box, Global, refl, ap, sym, ◌∙◌}
 use Rattle.std.proofs.lemmas.List.{length-map}
 use Rattle.ckc_text.specs.declared.place.Span.{Span}
 use Rattle.ckc_text.specs.declared.code.Code.TheVariants.{E13}
@@ -10,7 +10,7 @@ use Rattle.ckc_tree.specs.Statements.{Declarator, declarator as declarator_tree}
 use Rattle.pointer_modes.specs.Types.{CType, ctype}
 use Rattle.ckc_core.specs.declared.program.Stmt.{Stmt}
 use Rattle.ckc_core.specs.Core as core
-use Rattle.ckc_core.specs.Core.{statement}
+use Rattle.statement_typing.specs.OnHeap.{statement}
 use Rattle.typing_rules.specs.Verdicts.{Verdict, Passes, Breaks, passing, needs}
 use Rattle.typing_rules.specs.Scopes.{Scope}
 use Rattle.typing_rules.specs.Types.{without_stars, is_scalar}
@@ -37,7 +37,7 @@ declarator_parts at g base t span d few =
     (λ u. with_initial (initialised at (with_local d.name.name u g) d.initializer u (length g.locals) span) (is_scalar u) span (both (core.SetLocal (length g.locals) (zero_value u))) (with_local d.name.name u g)))
 
 -- a local that became visible
-pub local_declared : (at : Places) (d : Declarator) (t u : CType) (local : ℕ) (span : Span) (old mid : code.Scope.Scope) (r : Result Stmt Refused) → scope mid ≡ with_local d.name.name u (scope old) → u ≡ t → local ≡ length old.locals.items → Grows old mid
+pub local_declared : (at : Places) (d : Declarator) (t u : CType) (local : ℕ) (span : Span) (old mid : code.Scope.Scope) (r : Result (Box Stmt Global) Refused) → scope mid ≡ with_local d.name.name u (scope old) → u ≡ t → local ≡ length old.locals.items → Grows old mid
     → Answers statement (from_zero at (scope mid) d.initializer t local span) r → Walks statement (declared_local at (scope old) d t span) old r mid
 local_declared at d t u local span old mid r known same number more answer =
     let here : scope mid ≡ with_local d.name.name t (scope old) = known ∙ ap (λ (v : CType). with_local d.name.name v (scope old)) same in
@@ -51,7 +51,7 @@ pub few_locals : (g : code.Scope.Scope) (n : ℕ) → n ≡ length g.locals.item
 few_locals g n is = ap (λ k. nat_lt k 256) (is ∙ sym (length-map g.locals.items ctype))
 
 -- the first of several declarators
-pub declarators_walk : {r : Result Stmt Refused} {old new : code.Scope.Scope} (at : Places) (base : TypeTree) (t : CType) (span : Span) (ds : List code_declarator.Declarator) (first : code_declarator.Declarator) → 0 < length ds → first ≡ get_or ds 0 first
+pub declarators_walk : {r : Result (Box Stmt Global) Refused} {old new : code.Scope.Scope} (at : Places) (base : TypeTree) (t : CType) (span : Span) (ds : List code_declarator.Declarator) (first : code_declarator.Declarator) → 0 < length ds → first ≡ get_or ds 0 first
     → Walks statement (passing {B = core.Statement × Scope} (declarator at (scope old) base t span (declarator_tree first)) (λ x. passing {B = core.Statement × Scope} (declarators at x.1 base t span (map declarator_tree (drop 1 ds))) (λ rest. Passes (both x.0 rest.0, rest.1)))) old r new
     → Walks statement (declarators at (scope old) base t span (map declarator_tree ds)) old r new
 declarators_walk at base t span ds first some is walk = rw (parts_at declarator_tree ds 0 first some is) walk

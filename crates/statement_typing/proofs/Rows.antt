@@ -1,5 +1,5 @@
 -- Statements that a `Vec` holds, as the trees show them.
-use Rattle.std.proofs.Common.{◌≡◌, List, [], ◌∷◌, Vec, Global, Option, refl, ap, sym, ◌∙◌}
+use Rattle.std.proofs.Common.{◌≡◌, List, Vec, Global, Option, refl, ap, sym, ◌∙◌}
 use mathlib.Core.Former.{Count}
 use Rattle.ckc_text.specs.declared.place.Span.{Span}
 use Rattle.ckc_tree.specs.declared.stmt.Mark.{Mark}
@@ -7,10 +7,6 @@ use Rattle.ckc_tree.specs.declared.stmt.Stmt as trees
 use Rattle.ckc_tree.specs.declared.stmt.Stmt.TheVariants as tree_stmts
 use Rattle.ckc_tree.specs.Statements as s
 use Rattle.ckc_tree.specs.Items.{statement_list}
-use Rattle.ckc_core.specs.declared.program.Stmt.{Stmt, Row_of-Stmt, end_of-Stmt, more_of-Stmt, items-the_row-Stmt, items_hidden-the_row-Stmt-0}
-use Rattle.ckc_core.specs.declared.program.Stmt.TheVariants as stmts
-use Rattle.ckc_core.specs.Core as core
-use Rattle.ckc_core.specs.Core.{statement, statements, statements_of}
 
 abbrev tree_row : trees.Stmt → (n : Count) × trees.Row_of-Stmt n
 tree_row (tree_stmts.Block' mark shape row span) = (_, row)
@@ -26,15 +22,3 @@ block_tree x mark inner span slice is same =
     let row = tree_row (tree_stmts.Block mark inner span) in
     ap s.statement is
     ∙ ap (λ xs. s.Block mark xs span) (list_of_tree_row row.0 row.1 ∙ ap statement_list (trees.items_hidden-the_row-Stmt-0 inner ∙ sym same))
-
-abbrev core_row : Stmt → (n : Count) × Row_of-Stmt n
-core_row (stmts.Block' shape row) = (_, row)
-core_row _ = (_, end_of-Stmt)
-
-list_of_row : (n : _) (row : Row_of-Stmt n) → statements row ≡ statements_of (items-the_row-Stmt n row)
-list_of_row n end_of-Stmt = refl
-list_of_row n (more_of-Stmt first rest) = ap (core.Then (statement first)) (list_of_row _ rest)
-
--- the block of a core
-pub core_block : (v : Vec Stmt Global) → statement (stmts.Block v) ≡ core.Block (statements_of v.items)
-core_block v = let row = core_row (stmts.Block v) in ap core.Block (list_of_row row.0 row.1 ∙ ap statements_of (items_hidden-the_row-Stmt-0 v))

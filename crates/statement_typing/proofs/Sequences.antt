@@ -12,7 +12,7 @@ use Rattle.typing_rules.specs.Verdicts.{Verdict, Passes, Breaks, passing}
 use Rattle.typing_rules.specs.Scopes.{Scope}
 use Rattle.typing_rules.specs.Expressions.{Places}
 use Rattle.typing_rules.specs.Statements as rules
-use Rattle.statement_typing.specs.Walks.{joined}
+use Rattle.statement_typing.specs.Parts.{joined}
 
 -- statements so far before those that are left
 abbrev pub behind : List Stmt → Verdict (core.Statements × Scope) → Verdict (core.Statements × Scope)

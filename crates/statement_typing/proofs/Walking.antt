@@ -49,10 +49,11 @@ pub record Left (outside inside new : code.Scope.Scope) : Type 0 where
   pub known : scope new ≡ behind_block (scope outside) (scope inside)
   pub grows : Grows outside new
 
-pub left : (n : ℕ) (loop : Bool) (outside inside new : code.Scope.Scope) → Grows outside inside → n ≡ length outside.visible.items → loop ≡ outside.in_loop
-    → scope new ≡ record (scope inside) { visible = reverse (map visible (take n inside.visible.items)); in_loop = loop } → new.visible.items ≡ take n inside.visible.items → Left outside inside new
-left n loop outside inside new more all around known seen =
-    let here : take n inside.visible.items ≡ outside.visible.items = ap (λ k. take k inside.visible.items) all ∙ seen_before more in
+pub left : (start : code.BlockStart.BlockStart) (outside inside new : code.Scope.Scope) → start ≡ record { visible = length outside.visible.items; in_loop = outside.in_loop } → Grows outside inside
+    → scope new ≡ record (scope inside) { visible = reverse (map visible (take start.visible inside.visible.items)); in_loop = start.in_loop } → new.visible.items ≡ take start.visible inside.visible.items → Left outside inside new
+left start outside inside new begins more known seen =
+    let here : take start.visible inside.visible.items ≡ outside.visible.items = ap (λ (b : code.BlockStart.BlockStart). take b.visible inside.visible.items) begins ∙ seen_before more in
+    let around : start.in_loop ≡ outside.in_loop = ap (λ (b : code.BlockStart.BlockStart). b.in_loop) begins in
     let is : scope new ≡ behind_block (scope outside) (scope inside) = known ∙ rw (here, around) refl in
     record {
       known = is;

@@ -1,1 +1,3 @@
+pub mod OnHeap
 pub mod Walks
+pub mod Parts

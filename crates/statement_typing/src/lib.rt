@@ -3,4 +3,8 @@
 
 mod core_forms;
 mod declarations;
+mod heads;
+mod initial_values;
+pub mod marks;
+mod simple_statements;
 pub mod statements;

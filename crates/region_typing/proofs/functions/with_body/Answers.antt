@@ -1,4 +1,4 @@
-use Rattle.std.proofs.Common.{map}
+use Rattle.std.proofs.Common.{map, ap, [], ◌∷◌, ◌++◌, ◌∙◌}
 use Rattle.ckc_text.specs.Places.{place_at}
 use Rattle.ckc_tree.specs.Items as trees
 use Rattle.ckc_core.specs.Core.{function}
@@ -25,4 +25,4 @@ returns c =
     let passes = rw c.as_slice-written.ensures.value at c.in_ok-built.ensures in
     rw (function_body_parts (place_at c.args.sites.now) (walk c.args.walk.now) (signature c.args.f.now) (map variable c.args.parameters.now) (trees.body c.args.body.now))
     (goes_on _ passes (holds _ _ _ _ _ c.is_checked-checked.ensures c.in_ok-needs.ensures
-    (record { so = bodies_more (walk c.args.walk.now) (scope c.body_of.new.scope) c.args.walk.now.bodies.items c.push.new.self.items c.in_ok-built.built (scope_kept (place_at c.args.sites.now) (scope c.args.walk.now.scope) (signature c.args.f.now) (map variable c.args.parameters.now) (trees.statement_list c.args.body.now.statements.items) (function c.in_ok-built.built) (scope c.body_of.new.scope) passes.so) c.in_ok-push.ensures.items })))
+    (record { so = bodies_more (walk c.args.walk.now) (scope c.body_of.new.scope) c.args.walk.now.bodies.items c.push_reserved.new.self.items c.in_ok-built.built (scope_kept (place_at c.args.sites.now) (scope c.args.walk.now.scope) (signature c.args.f.now) (map variable c.args.parameters.now) (trees.statement_list c.args.body.now.statements.items) (function c.in_ok-built.built) (scope c.body_of.new.scope) passes.so) (c.push_reserved.ensures.items ∙ ap (λ bs. bs ++ c.in_ok-built.built ∷ []) c.reserve.ensures.items) })))

@@ -1,19 +1,18 @@
-use Rattle.std.proofs.Common.{◌≡◌, ◌<◌, length, refl, arith}
+use Rattle.std.proofs.Common.{◌≡◌, ◌<◌, length, ap, arith}
 use Rattle.std.proofs.lemmas.List.{nil_from_length, take_rest}
 use Rattle.ckc_text.specs.Places.{place_at}
 use Rattle.ckc_tree.specs.Types.{type_tree}
 use Rattle.pointer_modes.specs.Types.{ctype}
 use Rattle.ckc_core.specs.Core as core
-use Rattle.ckc_core.specs.Core.{statement}
-use Rattle.ckc_core.specs.declared.program.Stmt.TheVariants as stmts
+use Rattle.statement_typing.specs.OnHeap.{statement}
 use Rattle.statement_typing.proofs.Walking.{walks_on, refused_walk, done}
 use Rattle.statement_typing.proofs.Locals.{declarators_walk}
 use Rattle.statement_typing.proofs.declarations.+declarators.Goals as goal
 
-pub returns-in-empty : goal.returns-in-empty
-returns-in-empty t c =
+pub returns-in_ok-boxed-in-empty : goal.returns-in_ok-boxed-in-empty
+returns-in_ok-boxed-in-empty t c =
     let none : length c.args.ds.now ≡ 0 = omega (arith, c.in-empty.len_below) in
-    rw (nil_from_length c.args.ds.now none) (done statement stmts.Nothing core.Nothing c.args.scope.now refl)
+    rw (nil_from_length c.args.ds.now none) (done statement c.in_ok-boxed-in-empty.field-0 core.Nothing c.args.scope.now (ap core.statement c.in_ok-boxed-in-empty.ensures))
 
 pub returns-in_err-first-in-len1-up : goal.returns-in_err-first-in-len1-up
 returns-in_err-first-in-len1-up t c =

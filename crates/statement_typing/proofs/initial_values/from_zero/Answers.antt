@@ -1,8 +1,9 @@
-use Rattle.std.proofs.Common.{sym, ap}
+use Rattle.std.proofs.Common.{◌≡◌, sym, ap, ◌∙◌}
+use Rattle.ckc_core.specs.Core as core
 use Rattle.typing_rules.specs.Verdicts.{Passes}
 use Rattle.checker_scope.proofs.Going.{goes_on, refused}
 use Rattle.statement_typing.proofs.Testing.{holds, fails}
-use Rattle.statement_typing.proofs.declarations.from_zero.Goals as goal
+use Rattle.statement_typing.proofs.initial_values.from_zero.Goals as goal
 
 pub returns-in_err-initial : goal.returns-in_err-initial
 returns-in_err-initial c = refused _ c.from_residual.result c.from_residual.ensures.1 c.in_err-initial.ensures
@@ -12,5 +13,6 @@ returns-in_err-needs c = goes_on _ c.in_ok-initial.ensures (fails _ _ _ _ _ c.fr
 
 pub returns : goal.returns
 returns c =
-    let built = rw c.zero_value-value.ensures at c.in_ok-both.ensures in
+    let first = ap core.statement c.in_ok-first.ensures ∙ c.set_to_zero.ensures in
+    let built = rw first at c.in_ok-both.ensures in
     goes_on _ c.in_ok-initial.ensures (holds _ _ _ _ _ c.is_scalar.ensures c.in_ok-needs.ensures (record { so = ap Passes (sym built) }))

@@ -1,9 +1,0 @@
-use Rattle.std.proofs.Common.{refl}
-use Rattle.statement_typing.proofs.Testing.{holds, fails}
-use Rattle.statement_typing.proofs.statements.in_loop.Goals as goal
-
-pub returns-in_err-needs : goal.returns-in_err-needs
-returns-in_err-needs c = fails _ _ _ _ _ c.from_residual.result refl c.from_residual.ensures.1 c.in_err-needs.ensures
-
-pub returns : goal.returns
-returns c = holds _ _ _ _ _ refl c.in_ok-needs.ensures (record { so = refl })

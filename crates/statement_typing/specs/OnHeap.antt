@@ -1,0 +1,13 @@
+-- Inside: parts of the core behind a `Box`.
+use Rattle.std.specs.Prelude.{Box}
+use Rattle.std.proofs.Common.{Global}
+use Rattle.ckc_core.specs.declared.program.Expr.{Expr}
+use Rattle.ckc_core.specs.declared.program.Stmt.{Stmt}
+use Rattle.ckc_core.specs.Core.{Expression, Statement}
+use Rattle.ckc_core.specs.Core as core
+
+abbrev pub expression : Box Expr Global → Expression
+expression e = core.expression e.value
+
+abbrev pub statement : Box Stmt Global → Statement
+statement s = core.statement s.value

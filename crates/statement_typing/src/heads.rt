@@ -1,0 +1,98 @@
+// What stands in the heads of statements.
+
+ghost use Rattle.std.specs.Option.{option_map};
+ghost use Rattle.ckc_text.specs.Places.{place_at};
+ghost use Rattle.ckc_tree.specs.Expressions.{expression as expression_tree};
+ghost use Rattle.ckc_tree.specs.Statements.{on_heap, assignment as assignment_tree, for_initial as initial_tree};
+ghost use Rattle.typing_rules.specs.Statements.{condition as condition_of, optional_condition as optional_condition_of, assignment as assignment_of, optional_step as optional_step_of, first_part as first_part_of};
+ghost use Rattle.checker_scope.specs.Answering.{Answers};
+ghost use Rattle.checker_scope.specs.Views.{scope as scope_of};
+ghost use Rattle.statement_typing.specs.OnHeap.{expression, statement};
+ghost use Rattle.statement_typing.specs.Walks.{Walks};
+
+use crate::core_forms::boxed;
+use crate::declarations::declaration;
+use checker_scope::scope::Scope;
+use checker_scope::sites::Sites;
+use ckc_core::program::{Expr, Stmt};
+use ckc_text::fault::Refused;
+use ckc_tree::expr;
+use ckc_tree::stmt::{Assignment, ForInitial};
+use expression_typing::assignments;
+use std::alloc::Global;
+
+/// A condition.
+pub fn condition(
+    alloc: Global,
+    sites: &Sites,
+    scope: &Scope,
+    written: &expr::Expr,
+) -> Result<Box<Expr>, Refused>
+    ensures { Answers expression (condition_of (place_at sites.now) (scope_of scope.now) (expression_tree written.now)) result }
+{
+    let test = assignments::condition(alloc, sites, scope, written)?;
+    Ok(boxed(alloc, test)?)
+}
+
+/// The condition of a loop, which holds where it isn't written.
+pub fn optional_condition(
+    alloc: Global,
+    sites: &Sites,
+    scope: &Scope,
+    written: &Option<Box<expr::Expr>>,
+) -> Result<Box<Expr>, Refused>
+    ensures { Answers expression (optional_condition_of (place_at sites.now) (scope_of scope.now) (option_map on_heap written.now)) result }
+{
+    match written {
+        None => Ok(boxed(alloc, Expr::Number(1))?),
+        Some(written) => condition(alloc, sites, scope, written),
+    }
+}
+
+/// An assignment.
+pub fn assignment(
+    alloc: Global,
+    sites: &Sites,
+    scope: &Scope,
+    written: &Assignment,
+) -> Result<Box<Stmt>, Refused>
+    ensures { Answers statement (assignment_of (place_at sites.now) (scope_of scope.now) (assignment_tree written.now)) result }
+{
+    let built = assignments::assignment(alloc, sites, scope, written)?;
+    Ok(boxed(alloc, built)?)
+}
+
+/// What follows each turn of a loop.
+pub fn optional_step(
+    alloc: Global,
+    sites: &Sites,
+    scope: &Scope,
+    written: &Option<Assignment>,
+) -> Result<Box<Stmt>, Refused>
+    ensures { Answers statement (optional_step_of (place_at sites.now) (scope_of scope.now) (option_map assignment_tree written.now)) result }
+{
+    match written {
+        None => Ok(boxed(alloc, Stmt::Nothing)?),
+        Some(written) => assignment(alloc, sites, scope, written),
+    }
+}
+
+/// What stands first in the head of a `for`.
+pub fn first_part(
+    alloc: Global,
+    sites: &Sites,
+    scope: &mut Scope,
+    written: &ForInitial,
+) -> Result<Box<Stmt>, Refused>
+    ensures { Walks statement (first_part_of (place_at sites.now) (scope_of scope.old) (initial_tree written.now)) scope.old result scope.new }
+{
+    match written {
+        ForInitial::Nothing => Ok(boxed(alloc, Stmt::Nothing)?),
+        ForInitial::Declare {
+            declaration: written,
+        } => declaration(alloc, sites, scope, written),
+        ForInitial::Assign {
+            assignment: written,
+        } => assignment(alloc, sites, scope, written),
+    }
+}

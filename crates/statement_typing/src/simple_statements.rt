@@ -1,0 +1,145 @@
+// Statements that have no statements.
+
+ghost use Rattle.std.specs.Prelude.{◌≡◌};
+ghost use Rattle.std.specs.Option.{option_map};
+ghost use Rattle.ckc_text.specs.Places.{place_at};
+ghost use Rattle.ckc_tree.specs.Expressions.{expression as expression_tree};
+ghost use Rattle.ckc_tree.specs.Statements.{on_heap};
+ghost use Rattle.pointer_modes.specs.Types.{ctype as ctype_of};
+ghost use Rattle.ckc_core.specs.Core.{statement as statement_of, Break, Continue};
+ghost use Rattle.typing_rules.specs.Statements.{return as return_of, returned_nothing as nothing_as, alone as alone_of};
+ghost use Rattle.checker_scope.specs.Answering.{Answers};
+ghost use Rattle.checker_scope.specs.Views.{scope as scope_of};
+ghost use Rattle.expression_typing.specs.Calls.{called as called_as};
+ghost use Rattle.statement_typing.specs.OnHeap.{statement};
+ghost use Rattle.statement_typing.specs.Parts.{call_statement, needs_loop, value_returned as value_returned_in, converted_return, refused_value as refused_value_in};
+
+use crate::core_forms::boxed;
+use checker_scope::refusals::{needs, refusal};
+use checker_scope::scope::Scope;
+use checker_scope::sites::Sites;
+use ckc_core::program::Stmt;
+use ckc_text::code::Code;
+use ckc_text::fault::Refused;
+use ckc_text::place::Span;
+use ckc_tree::expr::Expr;
+use expression_typing::calls::Called;
+use expression_typing::expressions::{call_typed, typed};
+use pointer_modes::ctype::CType;
+use std::alloc::Global;
+use value_typing::conversions::converted;
+
+// A call whose result is left.
+fn alone(call: Called) -> Stmt
+    ensures { statement_of result ≡ alone_of (called_as call) }
+{
+    match call {
+        Called::Gives { ctype: _, value } => Stmt::Evaluate(value),
+        Called::GivesNothing { call } => call,
+    }
+}
+
+/// A statement that is a call.
+pub fn call_alone(
+    alloc: Global,
+    sites: &Sites,
+    scope: &Scope,
+    call: &Expr,
+) -> Result<Box<Stmt>, Refused>
+    ensures { Answers statement (call_statement (place_at sites.now) (scope_of scope.now) (expression_tree call.now)) result }
+{
+    let call = call_typed(alloc, sites, scope, call)?;
+    Ok(boxed(alloc, alone(call))?)
+}
+
+// A return without a value.
+fn returned_nothing(
+    alloc: Global,
+    result_type: &Option<CType>,
+    span: Span,
+) -> Result<Box<Stmt>, Refused>
+    ensures { Answers statement (nothing_as (option_map ctype_of result_type.now) span) result }
+{
+    match result_type {
+        None => Ok(boxed(alloc, Stmt::ReturnNothing)?),
+        Some(_) => Err(refusal(Code::E13, span)),
+    }
+}
+
+// A value that is returned where there is no result.
+fn refused_value(
+    alloc: Global,
+    sites: &Sites,
+    scope: &Scope,
+    written: &Expr,
+    span: Span,
+) -> Result<Box<Stmt>, Refused>
+    ensures { Answers statement (refused_value_in (place_at sites.now) (scope_of scope.now) (expression_tree written.now) span) result }
+{
+    typed(alloc, sites, scope, written)?;
+    Err(refusal(Code::E13, span))
+}
+
+// A return of a value that converts.
+fn return_value(
+    alloc: Global,
+    sites: &Sites,
+    scope: &Scope,
+    t: &CType,
+    written: &Expr,
+    span: Span,
+) -> Result<Box<Stmt>, Refused>
+    ensures { Answers statement (converted_return (place_at sites.now) (scope_of scope.now) (ctype_of t.now) (expression_tree written.now) span) result }
+{
+    let given = typed(alloc, sites, scope, written)?;
+    let value = converted(alloc, given, t, span)?;
+    Ok(boxed(alloc, Stmt::Return(value))?)
+}
+
+// A return of a value, where the function has a result.
+fn value_returned(
+    alloc: Global,
+    sites: &Sites,
+    scope: &Scope,
+    written: &Expr,
+    span: Span,
+) -> Result<Box<Stmt>, Refused>
+    ensures { Answers statement (value_returned_in (place_at sites.now) (scope_of scope.now) (scope_of scope.now).result (expression_tree written.now) span) result }
+{
+    match &scope.result {
+        None => refused_value(alloc, sites, scope, written, span),
+        Some(t) => return_value(alloc, sites, scope, t, written, span),
+    }
+}
+
+/// A return, which has a value where the function has a result.
+pub fn return_from(
+    alloc: Global,
+    sites: &Sites,
+    scope: &Scope,
+    written: &Option<Box<Expr>>,
+    span: Span,
+) -> Result<Box<Stmt>, Refused>
+    ensures { Answers statement (return_of (place_at sites.now) (scope_of scope.now) (option_map on_heap written.now) span) result }
+{
+    match written {
+        None => returned_nothing(alloc, &scope.result, span),
+        Some(written) => value_returned(alloc, sites, scope, written, span),
+    }
+}
+
+/// A `break`, which stands in a loop.
+pub fn break_from(alloc: Global, scope: &Scope, span: Span) -> Result<Box<Stmt>, Refused>
+    ensures { Answers statement (needs_loop (scope_of scope.now) Break span) result }
+{
+    needs(scope.in_loop, Code::E30, span)?;
+    Ok(boxed(alloc, Stmt::Break)?)
+}
+
+/// A `continue`, which stands in a loop.
+pub fn continue_with(alloc: Global, scope: &Scope, span: Span) -> Result<Box<Stmt>, Refused>
+    ensures { Answers statement (needs_loop (scope_of scope.now) Continue span) result }
+{
+    needs(scope.in_loop, Code::E30, span)?;
+    Ok(boxed(alloc, Stmt::Continue)?)
+}
