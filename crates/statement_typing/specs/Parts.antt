@@ -25,12 +25,12 @@ Branch = core.Expression × core.Statement
 abbrev pub branched : code.Branch → Branch
 branched b = (on_heap.expression b.condition, on_heap.statement b.consequent)
 
-abbrev pub branch : Places → Scope → Expression → Statement → Verdict (Branch × Scope)
-branch at g test consequent = passing (condition at g test) (λ c. passing (nested at g g.in_loop consequent) (λ x. Passes ((c, x.0), x.1)))
+abbrev pub then_branch : Places → Scope → Expression → Statement → Verdict (Branch × Scope)
+then_branch at g test consequent = passing (condition at g test) (λ c. passing (nested at g g.in_loop consequent) (λ x. Passes ((c, x.0), x.1)))
 
 -- a branch alone, and one with an alternative
 abbrev pub if_alone : Places → Scope → Expression → Statement → Verdict (core.Statement × Scope)
-if_alone at g test consequent = passing (branch at g test consequent) (λ x. Passes (core.If x.0.0 x.0.1 core.Nothing, x.1))
+if_alone at g test consequent = passing (then_branch at g test consequent) (λ x. Passes (core.If x.0.0 x.0.1 core.Nothing, x.1))
 
 abbrev pub otherwise : Places → Branch × Scope → Statement → Verdict (core.Statement × Scope)
 otherwise at b alternative = passing (nested at b.1 b.1.in_loop alternative) (λ y. Passes (core.If b.0.0 b.0.1 y.0, y.1))

@@ -10,7 +10,7 @@ ghost use Rattle.typing_rules.specs.Statements.{statement as statement_in, state
 ghost use Rattle.checker_scope.specs.Views.{scope as scope_of};
 ghost use Rattle.statement_typing.specs.OnHeap.{statement as statement_of};
 ghost use Rattle.statement_typing.specs.Walks.{Walks};
-ghost use Rattle.statement_typing.specs.Parts.{nested as nested_in, branched, branch as branch_in, if_alone as if_in, otherwise as otherwise_in, turns as turns_in, while_loop as while_in, for_loop as for_in};
+ghost use Rattle.statement_typing.specs.Parts.{nested as nested_in, branched, then_branch as branch_in, if_alone as if_in, otherwise as otherwise_in, turns as turns_in, while_loop as while_in, for_loop as for_in};
 
 use crate::core_forms;
 use crate::core_forms::{Branch, both, boxed, choice, repeated};
@@ -64,7 +64,7 @@ pub fn statement(
         } => match alternative {
             None => if_alone(alloc, sites, scope, consequent, test),
             Some(alternative) => {
-                let first = branch(alloc, sites, scope, consequent, test)?;
+                let first = then_branch(alloc, sites, scope, consequent, test)?;
                 otherwise(alloc, sites, scope, alternative, first)
             }
         },
@@ -108,7 +108,7 @@ fn block(
 
 // A condition with the statement that runs where it holds.
 #[cycle(statements)]
-fn branch(
+fn then_branch(
     alloc: Global,
     sites: &Sites,
     scope: &mut Scope,
@@ -137,7 +137,7 @@ fn if_alone(
 ) -> Result<Box<Stmt>, Refused>
     ensures { Walks statement_of (if_in (place_at sites.now) (scope_of scope.old) (expression_tree test.now) (statement_tree consequent.now)) scope.old result scope.new }
 {
-    let first = branch(alloc, sites, scope, consequent, test)?;
+    let first = then_branch(alloc, sites, scope, consequent, test)?;
     let nothing = boxed(alloc, Stmt::Nothing)?;
     Ok(choice(alloc, first, nothing)?)
 }

@@ -18,7 +18,7 @@ pub returns-in_err-first-in-len1-up : goal.returns-in_err-first-in-len1-up
 returns-in_err-first-in-len1-up t c =
     let some : 0 < length c.args.ds.now = omega (arith, c.in-len1-up.len_at_least) in
     declarators_walk (place_at c.args.sites.now) (type_tree c.args.base.now) (ctype c.args.t.now) c.args.span c.args.ds.now c.first-item.result some c.first-item.is
-    (refused_walk _ c.from_residual.result c.from_residual.ensures.1 c.in_err-first-in-len1-up.ensures)
+    (refused_walk _ c.from_residual-in_err-first-in-len1-up.result c.from_residual-in_err-first-in-len1-up.ensures.1 c.in_err-first-in-len1-up.ensures)
 
 pub returns-in_err-rest-in-len1-up : goal.returns-in_err-rest-in-len1-up
 returns-in_err-rest-in-len1-up t c =

@@ -1,3 +1,4 @@
+use Rattle.std.proofs.Common.{refl}
 use Rattle.checker_scope.proofs.Going.{goes_on, refused}
 use Rattle.statement_typing.proofs.simple_statements.refused_value.Goals as goal
 

@@ -1,4 +1,4 @@
-use Rattle.std.proofs.Common.{◌<◌, ◌++◌, ◌∷◌, [], length, map, ap, sym, refl, ◌∙◌, arith}
+use Rattle.std.proofs.Common.{◌≡◌, ◌<◌, ◌++◌, ◌∷◌, [], length, map, ap, sym, refl, ◌∙◌, arith}
 use Rattle.std.specs.Option.{option_map}
 use Rattle.ckc_text.specs.Places.{place_at}
 use Rattle.ckc_text.specs.declared.code.Code.TheVariants.{E15}
@@ -23,14 +23,14 @@ pub nested-returns : goal.nested-returns
 nested-returns t c =
     nested_walk (place_at c.args.sites.now) c.args.in_loop c.block_start-start.result (s.statement c.args.written.now) c.statement-inner.result c.args.scope.now c.statement-inner.new.scope c.leave.new.self c.statement-inner.ensures c.set_in_loop.ensures.known c.set_in_loop.ensures.seen c.block_start-start.ensures c.leave.ensures.known c.leave.ensures.seen
 
-pub branch-returns-in_err-condition : goal.branch-returns-in_err-condition
-branch-returns-in_err-condition t c = refused _ c.from_residual.result c.from_residual.ensures.1 c.in_err-condition.ensures
+pub then_branch-returns-in_err-condition : goal.then_branch-returns-in_err-condition
+then_branch-returns-in_err-condition t c = refused _ c.from_residual.result c.from_residual.ensures.1 c.in_err-condition.ensures
 
-pub branch-returns-in_err-consequent : goal.branch-returns-in_err-consequent
-branch-returns-in_err-consequent t c = goes_on _ c.in_ok-condition.ensures (refused_walk _ c.from_residual-in_err-consequent.result c.from_residual-in_err-consequent.ensures.1 c.in_err-consequent.ensures)
+pub then_branch-returns-in_err-consequent : goal.then_branch-returns-in_err-consequent
+then_branch-returns-in_err-consequent t c = goes_on _ c.in_ok-condition.ensures (refused_walk _ c.from_residual-in_err-consequent.result c.from_residual-in_err-consequent.ensures.1 c.in_err-consequent.ensures)
 
-pub branch-returns : goal.branch-returns
-branch-returns t c = goes_on _ c.in_ok-condition.ensures (walks_on _ c.in_ok-consequent.ensures (done branched (record { condition = c.in_ok-condition.condition; consequent = c.in_ok-consequent.consequent }) _ c.nested.new.scope refl))
+pub then_branch-returns : goal.then_branch-returns
+then_branch-returns t c = goes_on _ c.in_ok-condition.ensures (walks_on _ c.in_ok-consequent.ensures (done branched (record { condition = c.in_ok-condition.condition; consequent = c.in_ok-consequent.consequent }) _ c.nested.new.scope refl))
 
 pub if_alone-returns-in_err-first : goal.if_alone-returns-in_err-first
 if_alone-returns-in_err-first t c = refused_walk _ c.from_residual.result c.from_residual.ensures.1 c.in_err-first.ensures
@@ -38,7 +38,7 @@ if_alone-returns-in_err-first t c = refused_walk _ c.from_residual.result c.from
 pub if_alone-returns : goal.if_alone-returns
 if_alone-returns t c =
     let built = rw c.in_ok-nothing.ensures at c.in_ok-choice.ensures in
-    walks_on _ c.in_ok-first.ensures (done statement c.in_ok-choice.field-0 _ c.branch.new.scope built)
+    walks_on _ c.in_ok-first.ensures (done statement c.in_ok-choice.field-0 _ c.then_branch.new.scope built)
 
 pub otherwise-returns-in_err-second : goal.otherwise-returns-in_err-second
 otherwise-returns-in_err-second t c = refused_walk _ c.from_residual.result c.from_residual.ensures.1 c.in_err-second.ensures
@@ -107,7 +107,7 @@ statements-returns-in_err-next t c =
 pub statements-loop-listed-preserved : goal.statements-loop-listed-preserved
 statements-loop-listed-preserved t c =
     let xs = c.args.written.now in
-    let pushed = c.push_reserved.ensures.items ∙ ap (λ ys. ys ++ c.into_inner.result ∷ []) c.reserve.ensures.items ∙ ap (λ (y : Stmt). c.loop-listed.built.items ++ y ∷ []) c.into_inner.ensures in
+    let pushed : c.push_reserved.new.self.items ≡ c.loop-listed.built.items ++ c.in_ok-next.next.value ∷ [] = c.push_reserved.ensures.items ∙ ap (λ ys. ys ++ c.into_inner.result ∷ []) c.reserve.ensures.items ∙ ap (λ (y : Stmt). c.loop-listed.built.items ++ y ∷ []) c.into_inner.ensures in
     record {
       so_far = statement_more (place_at c.args.sites.now) (rules.statements (place_at c.args.sites.now) (scope c.args.scope.now) (statement_list xs)) xs c.loop-listed.listed-index c.listed-item.result (scope c.loop-listed.scope) (scope c.statement.new.scope) c.loop-listed.built.items c.push_reserved.new.self.items c.in_ok-next.next.value pushed (omega (arith, c.loop-listed-test.true)) c.listed-item.is c.loop-listed.invariant.so_far c.in_ok-next.ensures.so.0;
       more = grown c.loop-listed.invariant.more c.in_ok-next.ensures.so.1;
@@ -166,10 +166,10 @@ pub statement-returns-in_err-first-in-Some : goal.statement-returns-in_err-first
 statement-returns-in_err-first-in-Some t c =
     let broken = rw (c.deref-in-Some.ensures, c.deref-in-Some-2.ensures) at c.in_err-first-in-Some.ensures in
     if_else_walk (place_at c.args.sites.now) (s.statement c.args.written.now) (trees.expression c.in-If.test.value) (s.statement c.in-If.consequent.value) (s.statement c.in-Some.alternative.value) c.in-If.span (rw (c.in-If.is, c.in-Some.is) refl)
-    (refused_walk _ c.from_residual.result c.from_residual.ensures.1 broken)
+    (refused_walk _ c.from_residual-in_err-first-in-Some.result c.from_residual-in_err-first-in-Some.ensures.1 broken)
 
-pub statement-returns-in-Some : goal.statement-returns-in-Some
-statement-returns-in-Some t c =
+pub statement-returns-in_ok-first-in-Some : goal.statement-returns-in_ok-first-in-Some
+statement-returns-in_ok-first-in-Some t c =
     let first = rw (c.deref-in-Some.ensures, c.deref-in-Some-2.ensures) at c.in_ok-first-in-Some.ensures in
     let second = rw c.deref-in-Some-3.ensures at c.otherwise.ensures in
     if_else_walk (place_at c.args.sites.now) (s.statement c.args.written.now) (trees.expression c.in-If.test.value) (s.statement c.in-If.consequent.value) (s.statement c.in-Some.alternative.value) c.in-If.span (rw (c.in-If.is, c.in-Some.is) refl)
