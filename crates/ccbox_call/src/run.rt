@@ -22,14 +22,15 @@ use ckc_core::program::Core;
 use ckc_io::shelf::Shelf;
 use ckc_io::sink::Sink;
 use ckc_io::whole::{ReadFault, read_whole};
-use ckc_lexer::lexer::MAX_SOURCE;
 use ckc_text::fault::{Refused, SourceFault};
-use ckc_text::place::{Place, place_of};
+use ckc_text::place::Place;
+use ckc_tokens::limits::MAX_SOURCE;
 use command_words::request::Options;
 use lowering::lower::lower;
 use run_core::run::{RunFault, run};
 use sandbox_actor::actor::ActorFault;
 use sandbox_actor::list_actor::ListActor;
+use source_places::place::place_of;
 use std::alloc::Global;
 
 /// The status where a file is missing.

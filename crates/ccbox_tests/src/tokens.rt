@@ -5,7 +5,7 @@ use crate::places::has_places;
 use crate::questions::{Question, is_refusal};
 use crate::rows::{Table, expect, expect_tables};
 use ckc_lexer::lexer::lex;
-use ckc_lexer::token::{CheckedScope, Token, TokenKind};
+use ckc_tokens::token::{CheckedScope, Token, TokenKind};
 use std::alloc::Global;
 use std::test::Fail;
 

@@ -1,8 +1,8 @@
 -- Tokens that are always spelled the same: a token is a terminal where it is spelled as that terminal is.
 use Rattle.std.proofs.Common.{◌≡◌, false, Some, refl}
 use Rattle.std.proofs.lemmas.Option.{same_Some, none-some}
-use Rattle.ckc_lexer.specs.declared.token.TokenKind.{TokenKind}
-use Rattle.ckc_lexer.specs.declared.token.TokenKind.TheVariants as kinds
+use Rattle.ckc_tokens.specs.declared.token.TokenKind.{TokenKind}
+use Rattle.ckc_tokens.specs.declared.token.TokenKind.TheVariants as kinds
 use Rattle.ckc_cursor.specs.declared.terminal.Terminal.{Terminal}
 use Rattle.ckc_cursor.specs.declared.terminal.Terminal.TheVariants as terminals
 use Rattle.ckc_cursor.specs.Terminals.{kind_of, is_terminal, terminal_of}

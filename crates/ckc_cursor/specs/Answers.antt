@@ -3,9 +3,9 @@
 use Rattle.std.specs.Prelude.{◌≡◌, ◌≤◌, ◌<◌, Bool, true, false, List, ◌∷◌, ℕ, length, Result, Ok, Err}
 use Rattle.std.specs.Borrow.{Bor}
 use Rattle.ckc_text.specs.declared.place.Span.{Span}
-use Rattle.ckc_lexer.specs.declared.token.Token.{Token}
-use Rattle.ckc_lexer.specs.declared.token.TokenKind.{TokenKind}
-use Rattle.ckc_lexer.specs.declared.token.TokenKind.TheVariants as kinds
+use Rattle.ckc_tokens.specs.declared.token.Token.{Token}
+use Rattle.ckc_tokens.specs.declared.token.TokenKind.{TokenKind}
+use Rattle.ckc_tokens.specs.declared.token.TokenKind.TheVariants as kinds
 use Rattle.ckc_grammar.specs.Tokens.{token, next_is}
 use Rattle.ckc_grammar.specs.StuckTypes.{name_token}
 use Rattle.ckc_grammar.specs.Failures.{Failure, unexpected, too_deep, no_memory}

@@ -1,7 +1,7 @@
 -- Inside: tokens that are always spelled the same.
 use Rattle.std.specs.Prelude.{◌≡◌, Bool, true, false, Option, Some, None}
-use Rattle.ckc_lexer.specs.declared.token.TokenKind.{TokenKind}
-use Rattle.ckc_lexer.specs.declared.token.TokenKind.TheVariants as kinds
+use Rattle.ckc_tokens.specs.declared.token.TokenKind.{TokenKind}
+use Rattle.ckc_tokens.specs.declared.token.TokenKind.TheVariants as kinds
 use Rattle.ckc_grammar.specs.Tokens as words
 use Rattle.ckc_grammar.specs.StuckTypes as types
 use Rattle.ckc_grammar.specs.StuckExpressions as expressions

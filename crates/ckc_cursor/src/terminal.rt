@@ -5,8 +5,8 @@ ghost use Rattle.ckc_cursor.specs.Terminals.{terminal_of, kind_of, is_terminal, 
 ghost use Rattle.ckc_cursor.specs.Answers.{ReadsMark};
 
 use crate::stuck::Stuck;
-use ckc_lexer::token::{Token, TokenKind};
 use ckc_text::place::Span;
+use ckc_tokens::token::{Token, TokenKind};
 
 /// A mark or a word that the grammar asks for.
 #[derive(Clone, Copy, PartialEq, Eq)]

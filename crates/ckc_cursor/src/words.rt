@@ -1,7 +1,7 @@
 // Reading single words and marks that say one thing each: each function takes what it reads from the front of the tokens
 // that are left.
 
-ghost use Rattle.ckc_lexer.specs.declared.token.TokenKind.TheVariants as kinds;
+ghost use Rattle.ckc_tokens.specs.declared.token.TokenKind.TheVariants as kinds;
 ghost use Rattle.ckc_grammar.specs.Tokens as words;
 ghost use Rattle.ckc_grammar.specs.StatementGrammar.{SpellsConstant};
 ghost use Rattle.ckc_grammar.specs.StuckStatements as marks;
@@ -11,8 +11,8 @@ ghost use Rattle.ckc_cursor.specs.WordReadings.{ReadsWord, IsNumber};
 
 use crate::stuck::Stuck;
 use crate::terminal::{Terminal, expect};
-use ckc_lexer::token::{Token, TokenKind};
 use ckc_text::place::Span;
+use ckc_tokens::token::{Token, TokenKind};
 use ckc_tree::stmt::{ArrayKind, Constant, Mark, StepOperator, StoreOperator};
 
 /// The span of a mark `:`.
@@ -34,13 +34,6 @@ pub fn minus(tokens: &mut &[Token]) -> Result<Span, Stuck>
     ensures { ReadsMark kinds.Minus readings.minus tokens.old.now result tokens.new.now }
 {
     expect(Terminal::Minus, tokens)
-}
-
-/// The span of the word `else`.
-pub fn else_word(tokens: &mut &[Token]) -> Result<Span, Stuck>
-    ensures { ReadsMark kinds.Else words.else_word tokens.old.now result tokens.new.now }
-{
-    expect(Terminal::Else, tokens)
 }
 
 /// A number with its span.

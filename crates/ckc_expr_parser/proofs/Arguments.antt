@@ -10,8 +10,8 @@ use Rattle.ckc_tree.specs.declared.expr.Expr.TheVariants as exprs
 use Rattle.ckc_tree.specs.Expressions as e
 use Rattle.ckc_tree.specs.Expressions.{Expression, Expressions, NoMore, Then, Call, expression, expressions}
 use Rattle.ckc_tree.specs.Heights.{Reach, nowhere, around, ◌beside◌, expression_reach, expressions_reach}
-use Rattle.ckc_lexer.specs.declared.token.Token.{Token}
-use Rattle.ckc_lexer.specs.declared.token.TokenKind.TheVariants as kinds
+use Rattle.ckc_tokens.specs.declared.token.Token.{Token}
+use Rattle.ckc_tokens.specs.declared.token.TokenKind.TheVariants as kinds
 use Rattle.ckc_grammar.specs.Tokens.{token}
 use Rattle.ckc_grammar.specs.ExpressionGrammar as g
 use Rattle.ckc_grammar.specs.ExpressionGrammar.{SpellsBinary, SpellsMoreArguments, SpellsArguments}

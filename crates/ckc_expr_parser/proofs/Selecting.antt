@@ -1,8 +1,8 @@
 -- Operands as they are read, and the indices and members behind them.
 use Rattle.std.proofs.Common.{◌≡◌, ℕ, suc, ◌+◌, ◌<◌, Bool, true, false, List, ◌∷◌, Result, Ok, Err, refl, ap, arith}
 use Rattle.ckc_text.specs.declared.place.Span.{Span}
-use Rattle.ckc_lexer.specs.declared.token.Token.{Token}
-use Rattle.ckc_lexer.specs.declared.token.TokenKind.TheVariants as kinds
+use Rattle.ckc_tokens.specs.declared.token.Token.{Token}
+use Rattle.ckc_tokens.specs.declared.token.TokenKind.TheVariants as kinds
 use Rattle.ckc_tree.specs.Expressions.{Expression, Index, Dot, Arrow, expression}
 use Rattle.ckc_tree.specs.Heights.{Reach, ◌beside◌, expression_reach}
 use Rattle.ckc_expr_parser.specs.declared.operand.Operand.{Operand}

@@ -1,7 +1,7 @@
 -- Inside: an expression and the mark behind it.
 use Rattle.std.specs.Prelude.{◌≡◌, ℕ, false, List, ◌∷◌}
 use Rattle.ckc_text.specs.declared.place.Span.{Span}
-use Rattle.ckc_lexer.specs.declared.token.Token.{Token}
+use Rattle.ckc_tokens.specs.declared.token.Token.{Token}
 use Rattle.ckc_tree.specs.Expressions.{Expression, expression}
 use Rattle.ckc_tree.specs.Heights.{expression_reach}
 use Rattle.ckc_cursor.specs.declared.terminal.Terminal.{Terminal}

@@ -1,8 +1,8 @@
 -- Inside: the words of bounds.
 use Rattle.std.specs.Prelude.{◌≡◌, ℕ, false, List, ◌∷◌, codes, Option, Some, None, Result, Ok, Err}
 use Rattle.ckc_text.specs.declared.place.Span.{Span}
-use Rattle.ckc_lexer.specs.declared.token.Token.{Token}
-use Rattle.ckc_lexer.specs.declared.token.TokenKind.TheVariants as kinds
+use Rattle.ckc_tokens.specs.declared.token.Token.{Token}
+use Rattle.ckc_tokens.specs.declared.token.TokenKind.TheVariants as kinds
 use Rattle.ckc_expr_parser.specs.declared.bounds.BoundsForm.{BoundsForm}
 use Rattle.ckc_expr_parser.specs.declared.bounds.BoundsForm.TheVariants as forms
 use Rattle.ckc_cursor.specs.declared.stuck.Stuck.{Stuck}

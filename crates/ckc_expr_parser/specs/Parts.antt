@@ -1,8 +1,8 @@
 -- Inside: parts of casts and allocations.
 use Rattle.std.specs.Prelude.{◌≡◌, ℕ, false, List, ◌∷◌}
 use Rattle.ckc_text.specs.declared.place.Span.{Span}
-use Rattle.ckc_lexer.specs.declared.token.Token.{Token}
-use Rattle.ckc_lexer.specs.declared.token.TokenKind.TheVariants as kinds
+use Rattle.ckc_tokens.specs.declared.token.Token.{Token}
+use Rattle.ckc_tokens.specs.declared.token.TokenKind.TheVariants as kinds
 use Rattle.ckc_tree.specs.Types.{TypeName, type_name}
 use Rattle.ckc_tree.specs.Expressions.{Bounds, bounds, expression}
 use Rattle.ckc_tree.specs.Heights.{type_reach, expression_reach, bounds_reach}

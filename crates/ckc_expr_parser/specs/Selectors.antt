@@ -1,9 +1,9 @@
 -- Inside: what selects a part of an expression, in the code's types.
 use Rattle.std.specs.Prelude.{◌≡◌, false, List, ◌∷◌, Option, Some, None}
 use Rattle.ckc_text.specs.declared.place.Span.{Span}
-use Rattle.ckc_lexer.specs.declared.token.Token.{Token}
-use Rattle.ckc_lexer.specs.declared.token.TokenKind.{TokenKind}
-use Rattle.ckc_lexer.specs.declared.token.TokenKind.TheVariants as kinds
+use Rattle.ckc_tokens.specs.declared.token.Token.{Token}
+use Rattle.ckc_tokens.specs.declared.token.TokenKind.{TokenKind}
+use Rattle.ckc_tokens.specs.declared.token.TokenKind.TheVariants as kinds
 use Rattle.ckc_expr_parser.specs.declared.expressions.Selector.{Selector}
 use Rattle.ckc_expr_parser.specs.declared.expressions.Selector.TheVariants as code
 use Rattle.ckc_grammar.specs.Tokens.{token, next_is, selector}

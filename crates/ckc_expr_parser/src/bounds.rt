@@ -3,7 +3,7 @@
 ghost use Rattle.std.specs.Prelude.{◌≡◌, ◌≤◌, ◌∷◌, codes, false};
 ghost use Rattle.std.specs.Str.{bytes_eq};
 ghost use Rattle.ckc_text.specs.declared.place.Span.{Span as Place};
-ghost use Rattle.ckc_lexer.specs.declared.token.TokenKind.TheVariants as kinds;
+ghost use Rattle.ckc_tokens.specs.declared.token.TokenKind.TheVariants as kinds;
 ghost use Rattle.ckc_tree.specs.Expressions.{expression, bounds as bounds_of};
 ghost use Rattle.ckc_tree.specs.Expressions as trees;
 ghost use Rattle.ckc_tree.specs.Heights.{bounds_reach};
@@ -19,12 +19,15 @@ use crate::expressions::{Ended, expression_before};
 use crate::operand::Reach;
 use ckc_cursor::stuck::Stuck;
 use ckc_cursor::terminal::Terminal;
-use ckc_cursor::tokens::{MAX_DEPTH, binary_operator, close_paren, join, name, open_paren};
-use ckc_lexer::token::{Token, TokenKind};
+use ckc_cursor::tokens::{close_paren, name, open_paren};
 use ckc_text::name::Name;
 use ckc_text::place::Span;
+use ckc_tokens::token::{Token, TokenKind};
 use ckc_tree::expr::BoundsText;
 use std::alloc::Global;
+use syntax_rules::depth::MAX_DEPTH;
+use syntax_rules::operators::binary_operator;
+use syntax_rules::spans::join;
 
 /// Bounds, with their span and their reach.
 #[derive(Drop)]

@@ -16,13 +16,13 @@ use crate::primary::{ReadArguments, Typed};
 use crate::types::ReadTypeName;
 use ckc_cursor::memory::boxed;
 use ckc_cursor::stuck::Stuck;
-use ckc_cursor::tokens::join;
 use ckc_text::place::Span;
 use ckc_tree::expr::{
     BinaryOperator, BoundsText, CallocWord, CastWord, Expr, MallocWord, UnaryOperator,
 };
 use ckc_tree::identifier::Identifier;
 use std::alloc::Global;
+use syntax_rules::spans::join;
 
 /// An expression with its reach, and with these bytes around it.
 fn built(alloc: Global, expr: Expr, outer: Span, reach: Reach) -> Result<Operand, Stuck>

@@ -3,8 +3,8 @@
 
 ghost use Rattle.std.specs.Prelude.{◌≡◌, ◌≤◌, ◌<◌, ◌∷◌, ◌+◌, ℕ, List, length, false, Some, IfOk};
 ghost use Rattle.ckc_text.specs.declared.place.Span.{Span as Place};
-ghost use Rattle.ckc_lexer.specs.declared.token.Token.{Token as Sign};
-ghost use Rattle.ckc_lexer.specs.declared.token.TokenKind.TheVariants as kinds;
+ghost use Rattle.ckc_tokens.specs.declared.token.Token.{Token as Sign};
+ghost use Rattle.ckc_tokens.specs.declared.token.TokenKind.TheVariants as kinds;
 ghost use Rattle.ckc_tree.specs.Expressions.{expression};
 ghost use Rattle.ckc_tree.specs.Heights.{expression_reach};
 ghost use Rattle.ckc_grammar.specs.Tokens as words;
@@ -23,13 +23,14 @@ use crate::primary::{primary, starts_primary};
 use ckc_cursor::memory::push;
 use ckc_cursor::stuck::Stuck;
 use ckc_cursor::terminal::{Terminal, expect};
-use ckc_cursor::tokens::{
-    MAX_DEPTH, binary_operator, close_paren, identifier, join, level, open_paren, unary_operator,
-};
-use ckc_lexer::token::{Token, TokenKind};
+use ckc_cursor::tokens::{close_paren, identifier, open_paren, unary_operator};
 use ckc_text::place::Span;
+use ckc_tokens::token::{Token, TokenKind};
 use ckc_tree::expr::{BinaryOperator, UnaryOperator};
 use std::alloc::Global;
+use syntax_rules::depth::MAX_DEPTH;
+use syntax_rules::operators::{self, binary_operator, level};
+use syntax_rules::spans::join;
 
 /// A form whose last operand isn't read yet.
 #[derive(Drop)]
@@ -301,7 +302,7 @@ fn takes_before(pending: &[Pending], looser: u32) -> bool
     match last {
         Pending::Paren { .. } => false,
         Pending::Unary { .. } => true,
-        Pending::Binary { operator, .. } => level(*operator) <= looser,
+        Pending::Binary { operator, .. } => operators::takes_before(*operator, looser),
     }
 }
 

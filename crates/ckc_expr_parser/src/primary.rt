@@ -1,8 +1,8 @@
 // Reading the smallest expressions, with what stands in their own parentheses.
 
 ghost use Rattle.std.specs.Prelude.{◌≡◌, ◌≤◌, ◌<◌, ◌∷◌, ◌++◌, [], IfOk};
-ghost use Rattle.ckc_lexer.specs.declared.token.TokenKind.{TokenKind as Kind};
-ghost use Rattle.ckc_lexer.specs.declared.token.TokenKind.TheVariants as kinds;
+ghost use Rattle.ckc_tokens.specs.declared.token.TokenKind.{TokenKind as Kind};
+ghost use Rattle.ckc_tokens.specs.declared.token.TokenKind.TheVariants as kinds;
 ghost use Rattle.ckc_tree.specs.Types.{type_tree};
 ghost use Rattle.ckc_tree.specs.Expressions as trees;
 ghost use Rattle.ckc_tree.specs.Expressions.{expression};
@@ -25,14 +25,16 @@ use crate::types::{ReadTypeName, angled, type_name};
 use ckc_cursor::memory::push;
 use ckc_cursor::stuck::Stuck;
 use ckc_cursor::terminal::Terminal;
-use ckc_cursor::tokens::{MAX_DEPTH, close_paren, comma, copied, join, open_paren};
-use ckc_lexer::text::Text;
-use ckc_lexer::token::{Token, TokenKind};
+use ckc_cursor::tokens::{close_paren, comma, copied, open_paren};
 use ckc_text::fault::NoMemory;
 use ckc_text::name::Name;
 use ckc_text::place::Span;
+use ckc_tokens::text::Text;
+use ckc_tokens::token::{Token, TokenKind};
 use ckc_tree::expr::{CallocWord, CastWord, Expr, MallocWord};
 use std::alloc::Global;
+use syntax_rules::depth::check_depth;
+use syntax_rules::spans::join;
 
 /// Whether a token is the first of an expression without operators and parentheses around it.
 pub fn starts_primary(kind: &TokenKind) -> bool
@@ -64,10 +66,7 @@ fn primary_word<'t>(depth: u32, tokens: &mut &'t [Token]) -> Result<&'t Token, S
     if !starts_primary(&token.kind) {
         return Err(Stuck::Unexpected);
     }
-    if depth >= MAX_DEPTH {
-        let start = token.span.from;
-        return Err(Stuck::TooDeep { start });
-    }
+    check_depth(depth, token.span.from)?;
     *tokens = rest;
     Ok(token)
 }

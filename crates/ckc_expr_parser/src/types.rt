@@ -10,18 +10,20 @@ ghost use Rattle.ckc_expr_parser.specs.Reaches.{reach_of};
 ghost use Rattle.ckc_expr_parser.specs.Readings.{IsType, IsTypeName, IsAngled};
 ghost use Rattle.ckc_cursor.specs.WordReadings.{pointer_word_of};
 ghost use Rattle.ckc_grammar.specs.Tokens.{token, IsPointerWord};
-ghost use Rattle.ckc_lexer.specs.declared.token.TokenKind.{TokenKind as Kind};
-ghost use Rattle.ckc_lexer.specs.declared.token.TokenKind.TheVariants as kinds;
+ghost use Rattle.ckc_tokens.specs.declared.token.TokenKind.{TokenKind as Kind};
+ghost use Rattle.ckc_tokens.specs.declared.token.TokenKind.TheVariants as kinds;
 
 use crate::operand::Reach;
 use ckc_cursor::memory::boxed;
 use ckc_cursor::stuck::Stuck;
-use ckc_cursor::tokens::{MAX_DEPTH, greater, identifier, join, less, open_paren, star};
-use ckc_lexer::token::{Token, TokenKind};
+use ckc_cursor::tokens::{greater, identifier, less, open_paren, star};
 use ckc_text::fault::NoMemory;
 use ckc_text::place::Span;
+use ckc_tokens::token::{Token, TokenKind};
 use ckc_tree::type_form::{PointerKind, PointerMode, PointerWord, TypeForm, TypeName};
 use std::alloc::Global;
+use syntax_rules::depth::check_depth;
+use syntax_rules::spans::join;
 
 /// A type without stars, with its span and its reach.
 #[derive(Drop)]
@@ -106,10 +108,7 @@ fn type_word<'t>(depth: u32, tokens: &mut &'t [Token]) -> Result<&'t Token, Stuc
     if !starts_type(&token.kind) {
         return Err(Stuck::Unexpected);
     }
-    if depth >= MAX_DEPTH {
-        let start = token.span.from;
-        return Err(Stuck::TooDeep { start });
-    }
+    check_depth(depth, token.span.from)?;
     *tokens = rest;
     Ok(token)
 }

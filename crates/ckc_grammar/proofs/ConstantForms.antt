@@ -1,9 +1,9 @@
 -- Lists of constants as forms that are built of others: reading them goes one way, and where they are stuck they fail.
 use Rattle.std.proofs.Common.{◌≡◌, ◌≤◌, ℕ, zero, suc, true, false, List, ◌∷◌, refl, subst}
 use Rattle.ckc_text.specs.declared.place.Span.{Span}
-use Rattle.ckc_lexer.specs.declared.token.Token.{Token}
-use Rattle.ckc_lexer.specs.declared.token.TokenKind.{TokenKind}
-use Rattle.ckc_lexer.specs.declared.token.TokenKind.TheVariants as kinds
+use Rattle.ckc_tokens.specs.declared.token.Token.{Token}
+use Rattle.ckc_tokens.specs.declared.token.TokenKind.{TokenKind}
+use Rattle.ckc_tokens.specs.declared.token.TokenKind.TheVariants as kinds
 use Rattle.ckc_tree.specs.declared.stmt.Constant.{Constant}
 use Rattle.ckc_tree.specs.declared.stmt.SignedConstant.{SignedConstant}
 use Rattle.ckc_tree.specs.Heights.{Reach, nowhere}

@@ -1,8 +1,8 @@
 -- The source that ends early spells no tree.
 use Rattle.std.proofs.Common.{ℕ, ◌≤◌, List, [], ◌∷◌, Option, refl, sym, ap, subst, arith}
 use Rattle.ckc_text.specs.declared.place.Span.{Span}
-use Rattle.ckc_lexer.specs.declared.token.Token.{Token}
-use Rattle.ckc_lexer.specs.declared.token.TokenKind.TheVariants as kinds
+use Rattle.ckc_tokens.specs.declared.token.Token.{Token}
+use Rattle.ckc_tokens.specs.declared.token.TokenKind.TheVariants as kinds
 use Rattle.ckc_tree.specs.Statements.{Statement, Statements}
 use Rattle.ckc_tree.specs.Items.{Item, Tree, Body}
 use Rattle.ckc_grammar.specs.Tokens.{token, from_first}

@@ -1,8 +1,8 @@
 -- What goes on with an expression so far: an index or a member, and an operator with its right operand.
 use Rattle.std.proofs.Common.{◌≡◌, ◌<◌, ℕ, suc, length, List, ◌∷◌, Some, refl, ap, subst, arith}
 use Rattle.ckc_text.specs.declared.place.Span.{Span}
-use Rattle.ckc_lexer.specs.declared.token.Token.{Token}
-use Rattle.ckc_lexer.specs.declared.token.TokenKind.TheVariants as kinds
+use Rattle.ckc_tokens.specs.declared.token.Token.{Token}
+use Rattle.ckc_tokens.specs.declared.token.TokenKind.TheVariants as kinds
 use Rattle.ckc_tree.specs.declared.expr.BinaryOperator.{BinaryOperator}
 use Rattle.ckc_tree.specs.declared.expr.BinaryOperator.TheVariants.{ShiftRight}
 use Rattle.ckc_tree.specs.Expressions as trees

@@ -2,10 +2,10 @@
 -- tokens, so a beginning of an item is one of any of them.
 use Rattle.std.proofs.Common.{◌≡◌, Bool, true, List, ◌∷◌, Option, refl, sym, ap, subst}
 use Rattle.ckc_text.specs.declared.place.Span.{Span}
-use Rattle.ckc_lexer.specs.declared.token.Token.{Token}
-use Rattle.ckc_lexer.specs.declared.token.TokenKind.{TokenKind}
-use Rattle.ckc_lexer.specs.declared.token.TokenKind.TheVariants as kinds
-use Rattle.ckc_lexer.specs.declared.token.CheckedScope.{CheckedScope}
+use Rattle.ckc_tokens.specs.declared.token.Token.{Token}
+use Rattle.ckc_tokens.specs.declared.token.TokenKind.{TokenKind}
+use Rattle.ckc_tokens.specs.declared.token.TokenKind.TheVariants as kinds
+use Rattle.ckc_tokens.specs.declared.token.CheckedScope.{CheckedScope}
 use Rattle.ckc_tree.specs.declared.stmt.Mark.{Mark}
 use Rattle.ckc_tree.specs.declared.item.FunctionKind.{FunctionKind}
 use Rattle.ckc_tree.specs.Items.{ResultForm, Item}

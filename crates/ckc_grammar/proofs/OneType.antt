@@ -1,9 +1,9 @@
 -- Tokens that begin with a type begin with one type.
 use Rattle.std.proofs.Common.{◌≡◌, ℕ, suc, List, [], ◌∷◌, refl, sym, ap, subst}
 use Rattle.ckc_text.specs.declared.place.Span.{Span}
-use Rattle.ckc_lexer.specs.declared.token.Token.{Token}
-use Rattle.ckc_lexer.specs.declared.token.TokenKind.{TokenKind}
-use Rattle.ckc_lexer.specs.declared.token.TokenKind.TheVariants as kinds
+use Rattle.ckc_tokens.specs.declared.token.Token.{Token}
+use Rattle.ckc_tokens.specs.declared.token.TokenKind.{TokenKind}
+use Rattle.ckc_tokens.specs.declared.token.TokenKind.TheVariants as kinds
 use Rattle.ckc_tree.specs.declared.type_form.PointerWord.{PointerWord}
 use Rattle.ckc_tree.specs.Types.{TypeTree, PointerType, TypeName}
 use Rattle.ckc_grammar.specs.Tokens.{token, join, IsPointerWord, ptr, array_ptr, nt_array_ptr, t_ptr, t_array_ptr, t_nt_array_ptr}

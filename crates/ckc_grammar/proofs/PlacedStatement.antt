@@ -2,8 +2,8 @@
 use Rattle.std.proofs.Common.{◌≡◌, ℕ, ◌≤◌, List, [], ◌∷◌, map, Option, refl, arith}
 use Rattle.std.specs.List.{AllByRecursion}
 use Rattle.ckc_text.specs.declared.place.Span.{Span}
-use Rattle.ckc_lexer.specs.declared.token.Token.{Token}
-use Rattle.ckc_lexer.specs.declared.token.TokenKind.{TokenKind}
+use Rattle.ckc_tokens.specs.declared.token.Token.{Token}
+use Rattle.ckc_tokens.specs.declared.token.TokenKind.{TokenKind}
 use Rattle.ckc_tree.specs.declared.stmt.ArrayForm.{ArrayForm}
 use Rattle.ckc_tree.specs.declared.stmt.Constant.{Constant}
 use Rattle.ckc_tree.specs.declared.stmt.SignedConstant.{SignedConstant}

@@ -1,9 +1,9 @@
 -- Tokens as the grammar reads them: the words and marks that say one thing each, and a look at the next token.
 use Rattle.std.specs.Prelude.{ℕ, nat_eq, Bool, true, false, List, [], ◌∷◌, Option, Some, None}
 use Rattle.ckc_text.specs.declared.place.Span.{Span}
-use Rattle.ckc_lexer.specs.declared.token.Token.{Token}
-use Rattle.ckc_lexer.specs.declared.token.TokenKind.{TokenKind}
-use Rattle.ckc_lexer.specs.declared.token.TokenKind.TheVariants as kinds
+use Rattle.ckc_tokens.specs.declared.token.Token.{Token}
+use Rattle.ckc_tokens.specs.declared.token.TokenKind.{TokenKind}
+use Rattle.ckc_tokens.specs.declared.token.TokenKind.TheVariants as kinds
 use Rattle.ckc_tree.specs.declared.identifier.Identifier.{Identifier}
 use Rattle.ckc_tree.specs.declared.type_form.PointerWord.{PointerWord}
 use Rattle.ckc_tree.specs.declared.type_form.PointerMode.TheVariants as modes

@@ -3,7 +3,7 @@
 ghost use Rattle.std.specs.Prelude.{[], ◌∷◌, codes};
 ghost use Rattle.ckc_grammar.specs.Examples.{span, at, left_tokens, left_tree, product_tokens, product_tree, paren_tokens, paren_tree, shift_tokens, shift_tree, nested_tokens, nested_type, else_tokens, else_tree, early_tokens, whole_tokens, whole_tree};
 ghost use Rattle.ckc_text.specs.declared.code.Code.TheVariants.{E06};
-ghost use Rattle.ckc_lexer.specs.declared.token.TokenKind.TheVariants as kinds;
+ghost use Rattle.ckc_tokens.specs.declared.token.TokenKind.TheVariants as kinds;
 ghost use Rattle.ckc_grammar.specs.TypeGrammar.{SpellsTypeName};
 ghost use Rattle.ckc_grammar.specs.ExpressionGrammar.{SpellsExpression};
 ghost use Rattle.ckc_grammar.specs.StatementGrammar.{SpellsStatement};

@@ -1,4 +1,3 @@
-pub mod Numerals
 pub mod Meanings
 pub mod Fronts
 pub mod Cuts

@@ -1,7 +1,4 @@
-pub mod Bytes
 pub mod Keywords
-pub mod Words
-pub mod Marks
 pub mod Runs
 pub mod Quoted
 pub mod Directives

@@ -2,18 +2,19 @@
 use Rattle.std.specs.Prelude.{◌≡◌, ℕ, ◌+◌, Bool, true, false, ◌&&◌, cond, List, [], ◌∷◌, take, drop, codes, ◌==◌, Option}
 use Rattle.std.specs.List.{list_any, prefix_len}
 use Rattle.std.specs.Str.{bytes_eq}
-use Rattle.ckc_text.specs.declared.code.Code.TheVariants.{E01, E02, E03}
-use Rattle.ckc_lexer.specs.Bytes.{is_blank, is_word_byte, is_line_feed, is_in_line, is_control, is_forbidden, begins_with}
-use Rattle.ckc_lexer.specs.Words.{word_piece}
-use Rattle.ckc_lexer.specs.Marks.{mark_piece}
+use Rattle.ckc_text.specs.declared.code.Code.TheVariants.{E01, E02}
+use Rattle.ckc_tokens.specs.Bytes.{is_blank, is_word_byte, is_line_feed, is_in_line, is_control, is_forbidden, begins_with}
+use Rattle.ckc_tokens.specs.Words.{word_piece}
+use Rattle.ckc_tokens.specs.Marks.{mark_piece}
+use Rattle.ckc_tokens.specs.Rules.{comment}
 use Rattle.ckc_lexer.specs.Runs.{Extent}
 use Rattle.ckc_lexer.specs.Quoted.{IsContent, string_piece, character_piece}
 use Rattle.ckc_lexer.specs.Directives.{part, named_directive}
 use Rattle.ckc_lexer.specs.declared.front.Front.{Front}
 use Rattle.ckc_lexer.specs.declared.front.Front.TheVariants.{BlankByte, LineComment, BlockComment, StringQuote, CharacterQuote, Word, Hash, Mark}
 use Rattle.ckc_lexer.specs.declared.run.Run.TheVariants.{Comment, Directive, Quoted}
-use Rattle.ckc_lexer.specs.declared.piece.Piece.{Piece}
-use Rattle.ckc_lexer.specs.declared.piece.Piece.TheVariants.{Gap, Include, CommentFault, Forbidden, Fault}
+use Rattle.ckc_tokens.specs.declared.piece.Piece.{Piece}
+use Rattle.ckc_tokens.specs.declared.piece.Piece.TheVariants.{Gap, Include, CommentFault, Forbidden, Fault}
 
 -- what a slash begins, by what follows it
 abbrev pub slash_front : List ℕ → Front
@@ -42,7 +43,7 @@ front_len Mark = 0
 
 -- a comment, by what stands in it and by whether it is closed
 abbrev pub comment_piece : List ℕ → Bool → Piece
-comment_piece body closed = cond (list_any is_control body) (CommentFault E01) (cond closed (Gap (list_any is_line_feed body)) (CommentFault E03))
+comment_piece body closed = cond (list_any is_control body) (CommentFault E01) (comment closed (list_any is_line_feed body))
 
 -- `#include` and the rest of its line
 abbrev pub include_piece : List ℕ → Piece

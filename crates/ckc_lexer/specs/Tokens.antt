@@ -1,5 +1,5 @@
 -- The tokens that a source has, or the first place where none can be read: the source is cut into pieces from its start on.
-use Rattle.std.specs.Prelude.{◌≡◌, ℕ, ◌+◌, ◌<◌, ◌≤◌, Bool, true, false, ◌&&◌, cond, List, [], ◌∷◌, ◌++◌, length, drop, ◌==◌, nat_lt, Option, Some, None, Result, Ok, Err}
+use Rattle.std.specs.Prelude.{◌≡◌, ℕ, ◌+◌, ◌<◌, ◌≤◌, Bool, true, false, cond, List, [], ◌∷◌, ◌++◌, length, drop, nat_lt, Option, Some, None, Result, Ok, Err}
 use Rattle.std.specs.List.{find}
 use Rattle.std.specs.Option.{option_map}
 use Rattle.std.specs.Str.{bytes_eq}
@@ -9,17 +9,18 @@ use Rattle.ckc_text.specs.declared.code.Code.TheVariants.{E01, E05, E08}
 use Rattle.ckc_text.specs.declared.fault.SourceFault.{SourceFault}
 use Rattle.ckc_text.specs.declared.fault.Refused.{Refused}
 use Rattle.ckc_text.specs.declared.fault.Refused.TheVariants.{Source, NoMemory}
+use Rattle.ckc_tokens.specs.Rules.{is_same_number}
 use Rattle.ckc_lexer.specs.Pieces.{Stands}
-use Rattle.ckc_lexer.specs.declared.token.Token.{Token}
-use Rattle.ckc_lexer.specs.declared.token.CheckedScope.{CheckedScope}
-use Rattle.ckc_lexer.specs.declared.token.CheckedScope.TheVariants as scope
-use Rattle.ckc_lexer.specs.declared.token.TokenKind.{TokenKind}
-use Rattle.ckc_lexer.specs.declared.token.TokenKind.TheVariants as kind
-use Rattle.ckc_lexer.specs.declared.piece.Definition.{Definition}
-use Rattle.ckc_lexer.specs.declared.piece.ScopeWord.{ScopeWord}
-use Rattle.ckc_lexer.specs.declared.piece.ScopeWord.TheVariants as word
-use Rattle.ckc_lexer.specs.declared.piece.Piece.{Piece}
-use Rattle.ckc_lexer.specs.declared.piece.Piece.TheVariants.{Gap, Lexeme, Named, Include, Define, Scope, CommentFault, Forbidden, Fault}
+use Rattle.ckc_tokens.specs.declared.token.Token.{Token}
+use Rattle.ckc_tokens.specs.declared.token.CheckedScope.{CheckedScope}
+use Rattle.ckc_tokens.specs.declared.token.CheckedScope.TheVariants as scope
+use Rattle.ckc_tokens.specs.declared.token.TokenKind.{TokenKind}
+use Rattle.ckc_tokens.specs.declared.token.TokenKind.TheVariants as kind
+use Rattle.ckc_tokens.specs.declared.piece.Definition.{Definition}
+use Rattle.ckc_tokens.specs.declared.piece.ScopeWord.{ScopeWord}
+use Rattle.ckc_tokens.specs.declared.piece.ScopeWord.TheVariants as word
+use Rattle.ckc_tokens.specs.declared.piece.Piece.{Piece}
+use Rattle.ckc_tokens.specs.declared.piece.Piece.TheVariants.{Gap, Lexeme, Named, Include, Define, Scope, CommentFault, Forbidden, Fault}
 use Rattle.ckc_lexer.specs.declared.line.Line.{Line}
 use Rattle.ckc_lexer.specs.declared.line.Line.TheVariants.{Fresh, Marked, Behind}
 
@@ -91,17 +92,11 @@ fault Fresh code at = fault_at code at
 fault Marked code at = fault_at code at
 fault (Behind directive) code at = fault_at E05 directive
 
-abbrev pub is_same_sign : Bool → Bool → Bool
-is_same_sign true true = true
-is_same_sign true false = false
-is_same_sign false true = false
-is_same_sign false false = true
-
 -- a definition, by what its name stands for already: two of one name have the same sign and the same number
 abbrev pub define : Option (Bool × ℕ) → Definition → State → Result State SourceFault
 define None d s =
     Ok (record { at = s.at; line = s.line; tokens = s.tokens; definitions = s.definitions ++ d ∷ []; scope = s.scope; kept = s.kept })
-define (Some (negative, value)) d s = cond (is_same_sign negative d.negative && value == d.value) (Ok s) (Err (fault_at E05 s.at))
+define (Some (negative, value)) d s = cond (is_same_number negative value d) (Ok s) (Err (fault_at E05 s.at))
 
 -- from here on this scope stands
 abbrev pub scope_from : State → CheckedScope → List CheckedScope → ℕ → Result State SourceFault

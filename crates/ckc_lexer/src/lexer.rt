@@ -3,24 +3,21 @@
 ghost use Rattle.std.specs.Prelude.{◌≡◌, ◌+◌, ◌-◌, ◌<◌, ◌≤◌, length, OnOk};
 ghost use Rattle.ckc_text.specs.declared.fault.Refused.TheVariants.{Source};
 ghost use Rattle.ckc_lexer.specs.Tokens.{fault_at, push, definition_for, number_tokens, name_tokens, behind_mark, forbidden, fault, define, go_on, scope_from, change_scope, is_first, next, LexAnswers};
-ghost use Rattle.ckc_lexer.specs.declared.piece.Piece.TheVariants.{Gap};
+ghost use Rattle.ckc_tokens.specs.declared.piece.Piece.TheVariants.{Gap};
 ghost use Rattle.ckc_lexer.specs.Progress.{state_of, Gives, Steps};
 
 use crate::line::Line;
-use crate::piece::{Definition, Piece, ScopeWord};
 use crate::pieces::piece_at;
-use crate::token::{CheckedScope, Token, TokenKind};
 use ckc_text::code::Code;
 use ckc_text::fault::{Refused, SourceFault};
 use ckc_text::name::Name;
 use ckc_text::place::Span;
+use ckc_tokens::definition::is_same_number;
+use ckc_tokens::limits::{has_room, is_read};
+use ckc_tokens::piece::{Definition, Piece, ScopeWord};
+use ckc_tokens::scope;
+use ckc_tokens::token::{CheckedScope, Token, TokenKind};
 use std::alloc::Global;
-
-/// The most bytes of a source.
-pub const MAX_SOURCE: usize = 1_048_576;
-
-/// The most tokens of a source.
-pub const MAX_TOKENS: usize = 200_000;
 
 /// What stands before a place of a source: the tokens, the definitions, the scope and those that were kept.
 #[derive(Drop)]
@@ -71,7 +68,7 @@ impl Lexer {
     {
         let from = self.at as u32;
         let to = (self.at + len) as u32;
-        if self.tokens.len() >= MAX_TOKENS {
+        if !has_room(self.tokens.len()) {
             return Err(fault_at(Code::E08, from));
         }
         let span = Span { from, to };
@@ -114,8 +111,7 @@ impl Lexer {
                 self.definitions.push(definition)?;
                 Ok(())
             }
-            Some((negative, value))
-                if negative == definition.negative && value == definition.value => Ok(()),
+            Some((negative, value)) if is_same_number(negative, value, &definition) => Ok(()),
             Some(_) => Err(fault_at(Code::E05, self.at as u32)),
         }
     }
@@ -144,7 +140,7 @@ impl Lexer {
                 self.kept.push(scope)?;
                 self.scope_from(scope, len)
             }
-            ScopeWord::Pop => match self.kept.pop() {
+            ScopeWord::Pop => match scope::pop(&mut self.kept) {
                 Some(scope) => self.scope_from(scope, len),
                 None => Err(fault_at(Code::E05, self.at as u32)),
             },
@@ -262,7 +258,7 @@ impl Lexer {
 pub fn lex(alloc: Global, src: &[u8]) -> Result<Vec<Token>, Refused>
     ensures { LexAnswers src.now result }
 {
-    if src.len() > MAX_SOURCE {
+    if !is_read(src.len()) {
         return Err(fault_at(Code::E08, 0));
     }
     let mut lexer = Lexer {

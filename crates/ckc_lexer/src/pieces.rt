@@ -2,7 +2,7 @@
 
 ghost use Rattle.std.specs.Prelude.{◌≡◌, ℕ, ◌<◌, length, IfOk};
 ghost use Rattle.std.specs.List.{list_any};
-ghost use Rattle.ckc_lexer.specs.Bytes.{is_line_feed};
+ghost use Rattle.ckc_tokens.specs.Bytes.{is_line_feed};
 ghost use Rattle.ckc_lexer.specs.Runs.{Extent};
 ghost use Rattle.ckc_lexer.specs.Pieces.{comment_piece, is_closing, IsBlankByte, IsLineComment, IsBlockComment, IsWord, Stands};
 ghost use Rattle.ckc_lexer.specs.declared.run.Run.TheVariants.{Comment};
@@ -10,12 +10,13 @@ ghost use Rattle.ckc_lexer.specs.declared.run.Run.TheVariants.{Comment};
 use crate::directive::{hash, line_len, word_len};
 use crate::front::{Front, front_of};
 use crate::mark::mark_piece;
-use crate::piece::Piece;
 use crate::quoted::{character, has_control, string};
 use crate::run::{Run, extent};
 use crate::word::word_piece;
 use ckc_text::code::Code;
 use ckc_text::fault::NoMemory;
+use ckc_tokens::comment::comment;
+use ckc_tokens::piece::Piece;
 use std::alloc::Global;
 
 fn has_line_feed(bytes: &[u8]) -> bool
@@ -35,10 +36,8 @@ fn comment_piece(body: &[u8], closed: bool) -> Piece
 {
     if has_control(body) {
         Piece::CommentFault(Code::E01)
-    } else if closed {
-        Piece::Gap(has_line_feed(body))
     } else {
-        Piece::CommentFault(Code::E03)
+        comment(closed, has_line_feed(body))
     }
 }
 

@@ -4,20 +4,20 @@ ghost use Rattle.std.specs.Prelude.{◌≡◌, ◌+◌, ◌<◌, ◌≤◌, leng
 ghost use Rattle.std.specs.Option.{option_map};
 ghost use Rattle.std.specs.Prelude.{ℕ, List, Option, take};
 ghost use Rattle.std.specs.List.{list_any};
-ghost use Rattle.ckc_lexer.specs.Bytes.{is_hexadecimal_digit, is_control, is_forbidden};
+ghost use Rattle.ckc_tokens.specs.Bytes.{is_hexadecimal_digit, is_control, is_forbidden};
 ghost use Rattle.ckc_lexer.specs.Runs.{Extent};
 ghost use Rattle.ckc_lexer.specs.declared.run.Run.TheVariants.{Quoted};
 ghost use Rattle.ckc_lexer.specs.Pieces.{is_quote, IsString, IsCharacter};
 ghost use Rattle.ckc_lexer.specs.Quoted.{simple_escape, hexadecimal_escape, escape, quoted_byte, IsContent, string_piece, one_byte, character_piece};
 
 use crate::front::{is_control, is_forbidden};
-use crate::piece::Piece;
 use crate::run::{Run, extent};
-use crate::text::Text;
-use crate::token::TokenKind;
-use crate::word::digit_value;
 use ckc_text::code::Code;
 use ckc_text::fault::NoMemory;
+use ckc_tokens::number::digit_value;
+use ckc_tokens::piece::Piece;
+use ckc_tokens::text::Text;
+use ckc_tokens::token::TokenKind;
 use std::alloc::Global;
 
 /// The byte that a backslash and this byte are, and how many bytes the escape takes.

@@ -1,1 +1,4 @@
+mod Ahead
+mod Assignments
+mod Blocks
 mod FileLevel

@@ -1,1 +1,2 @@
+pub mod StatementReadings
 pub mod ItemReadings

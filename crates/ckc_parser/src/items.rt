@@ -2,7 +2,7 @@
 
 ghost use Rattle.std.specs.Prelude.{◌≡◌, false, map, None, MatchOption};
 ghost use Rattle.std.specs.Option.{option_map};
-ghost use Rattle.ckc_lexer.specs.declared.token.TokenKind.TheVariants as kinds;
+ghost use Rattle.ckc_tokens.specs.declared.token.TokenKind.TheVariants as kinds;
 ghost use Rattle.ckc_tree.specs.Types.{type_tree, type_name};
 ghost use Rattle.ckc_tree.specs.Expressions.{bounds};
 ghost use Rattle.ckc_tree.specs.Statements as statements;
@@ -18,20 +18,19 @@ ghost use Rattle.ckc_grammar.specs.StuckItems.{IsLowMember, StuckMember, StuckMe
 ghost use Rattle.ckc_cursor.specs.WordReadings.{ReadsWord};
 ghost use Rattle.ckc_parser.specs.ItemReadings.{IsScope, IsKindWord, SideAnswers, IsLed, IsBase, IsStructureHead, IsStructure, IsNamed, StuckNamed, StuckResult, IsHead};
 
+use crate::declarations::{Read, declarators, from_first, optional_bounds};
+use crate::statements::statements;
 use ckc_cursor::memory::push;
 use ckc_cursor::stuck::Stuck;
 use ckc_cursor::terminal::{Terminal, expect};
 use ckc_cursor::tokens::{
-    close_brace, close_paren, comma, copied, identifier, join, name, open_brace, open_paren,
-    semicolon,
+    close_brace, close_paren, comma, copied, identifier, name, open_brace, open_paren, semicolon,
 };
 use ckc_cursor::words::mark;
 use ckc_expr_parser::types::{star_count, stars, type_form, type_name};
-use ckc_lexer::token::{CheckedScope, Token, TokenKind};
-use ckc_stmt_parser::declarations::{Read, declarators, from_first, optional_bounds};
-use ckc_stmt_parser::statements::statements;
 use ckc_text::name::Name;
 use ckc_text::place::Span;
+use ckc_tokens::token::{CheckedScope, Token, TokenKind};
 use ckc_tree::item::{
     Block, Function, FunctionKind, Global as Variables, Item, Member, Parameter, Parameters,
     Region, ResultForm, Structure,
@@ -39,6 +38,7 @@ use ckc_tree::item::{
 use ckc_tree::stmt::Mark;
 use ckc_tree::type_form::TypeForm;
 use std::alloc::Global;
+use syntax_rules::spans::join;
 
 // ---- words
 
@@ -350,12 +350,12 @@ fn function(
     requires { IsHead whole.now kind mark (views.result_form returned) named.stars named.name.now named.span tokens.old.now }
     ensures { Reads (λ x rest. SpellsItem whole.now (views.item x) rest × IsLow 0 (item_reach (views.item x))) (StuckItem whole.now) result tokens.new.now }
 {
+    let stars = star_count(named.stars)?;
+    let name = copied(alloc, named.name, named.span)?;
     let parameters = parameters(alloc, tokens)?;
     let so_far = from_first(whole, parameters.span);
     let bounds = optional_bounds(alloc, 0, so_far, tokens)?;
     let body = body(alloc, tokens)?;
-    let stars = star_count(named.stars)?;
-    let name = copied(alloc, named.name, named.span)?;
     let function = Function {
         kind,
         mark,

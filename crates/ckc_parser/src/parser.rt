@@ -1,8 +1,8 @@
 // Reading a tree from tokens.
 
-ghost use Rattle.std.specs.Prelude.{◌≡◌, List, map, Err, MatchResult};
-ghost use Rattle.ckc_lexer.specs.declared.token.Token.{Token as TokenOf};
-ghost use Rattle.ckc_grammar.specs.Parsing.{point, ParseAnswers};
+ghost use Rattle.std.specs.Prelude.{List, map, Err, MatchResult};
+ghost use Rattle.ckc_tokens.specs.declared.token.Token.{Token as TokenOf};
+ghost use Rattle.ckc_grammar.specs.Parsing.{ParseAnswers};
 ghost use Rattle.ckc_grammar.specs.Refusals.{FaultIs};
 ghost use Rattle.ckc_tree.specs.Items.{item};
 ghost use Rattle.ckc_tree.specs.Heights.{items_reach};
@@ -14,12 +14,13 @@ ghost use Rattle.ckc_cursor.specs.Answers.{failure};
 use crate::items::item;
 use ckc_cursor::memory::push;
 use ckc_cursor::stuck::Stuck;
-use ckc_lexer::token::Token;
 use ckc_text::code::Code;
 use ckc_text::fault::{Refused, SourceFault};
 use ckc_text::place::Span;
+use ckc_tokens::token::Token;
 use ckc_tree::item::{Item, Program};
 use std::alloc::Global;
+use syntax_rules::faults::{first_span, point};
 
 /// The tree that the tokens of a source of so many bytes spell.
 ///
@@ -62,10 +63,7 @@ fn refused(source_len: u32, stuck: Stuck, rest: &[Token]) -> Refused
 {
     match stuck {
         Stuck::Unexpected => {
-            let span = match rest.split_first() {
-                Some((token, _)) => token.span,
-                None => point(source_len),
-            };
+            let span = first_span(source_len, rest);
             let code = Code::E06;
             Refused::Source(SourceFault { code, span })
         }
@@ -76,11 +74,4 @@ fn refused(source_len: u32, stuck: Stuck, rest: &[Token]) -> Refused
         }
         Stuck::NoMemory => Refused::NoMemory,
     }
-}
-
-/// No bytes, at this one.
-fn point(at: u32) -> Span
-    ensures { result ≡ point at }
-{
-    Span { from: at, to: at }
 }

@@ -5,19 +5,20 @@ use Rattle.std.specs.Char.{digit_value}
 use Rattle.std.specs.Str.Parse.{digits_value}
 use Rattle.std.proofs.lemmas.Bool.Decides.{nat_tests}
 use Rattle.ckc_text.specs.declared.code.Code.{Code}
-use Rattle.ckc_text.specs.declared.code.Code.TheVariants.{E01, E02, E03, E04, E05}
-use Rattle.ckc_lexer.specs.Bytes.{is_blank, is_digit, is_letter, is_word_byte, is_line_feed, is_in_line, is_control, is_forbidden, is_hexadecimal_digit, begins_with}
-use Rattle.ckc_lexer.specs.Words.{keywords, listed, is_decimal, is_hexadecimal, limited, number_of, number_piece, name_piece, word_piece}
-use Rattle.ckc_lexer.specs.Marks.{long_marks, short_marks, long_mark, short_mark, marked, mark_piece}
+use Rattle.ckc_text.specs.declared.code.Code.TheVariants.{E01, E02, E04, E05}
+use Rattle.ckc_tokens.specs.Bytes.{is_blank, is_digit, is_letter, is_word_byte, is_line_feed, is_in_line, is_control, is_forbidden, is_hexadecimal_digit, begins_with}
+use Rattle.ckc_tokens.specs.Words.{keywords, listed, is_decimal, is_hexadecimal, limited, number_of, number_piece, name_piece, word_piece}
+use Rattle.ckc_tokens.specs.Marks.{long_marks, short_marks, long_mark, short_mark, marked, mark_piece}
 use Rattle.ckc_lexer.specs.Quoted.{Means, nothing, byte, IsContent, quoted_byte, escape, simple_escape, hexadecimal_escape, string_piece, character_piece}
 use Rattle.ckc_lexer.specs.Directives.{part, is_keyword, numbered_definition, signed_definition, definition_of, scope_word, scope_piece, scope_of, pragma_of, named_directive}
+use Rattle.ckc_tokens.specs.Rules.{comment}
 use Rattle.ckc_lexer.specs.Pieces.{front_of, comment_piece, is_closing, is_quote, is_include, IsDirective, IsHash, StandsAs, Stands}
 use Rattle.ckc_lexer.specs.declared.front.Front.{Front}
 use Rattle.ckc_lexer.specs.declared.front.Front.TheVariants.{BlankByte, LineComment, BlockComment, StringQuote, CharacterQuote, Word, Hash, Mark}
-use Rattle.ckc_lexer.specs.declared.piece.Piece.{Piece}
-use Rattle.ckc_lexer.specs.declared.piece.Piece.TheVariants.{Gap, Lexeme, Named, Include, Define, CommentFault, Forbidden, Fault}
-use Rattle.ckc_lexer.specs.declared.piece.ScopeWord.{ScopeWord}
-use Rattle.ckc_lexer.specs.declared.token.TokenKind.{TokenKind}
+use Rattle.ckc_tokens.specs.declared.piece.Piece.{Piece}
+use Rattle.ckc_tokens.specs.declared.piece.Piece.TheVariants.{Lexeme, Named, Include, Define, CommentFault, Forbidden, Fault}
+use Rattle.ckc_tokens.specs.declared.piece.ScopeWord.{ScopeWord}
+use Rattle.ckc_tokens.specs.declared.token.TokenKind.{TokenKind}
 use Rattle.ckc_lexer.proofs.Fronts.{word_first}
 use Rattle.ckc_printer.specs.ReadingBack.{IsName, IsLexical, AreBytes}
 
@@ -182,10 +183,14 @@ character_lexical false (Some bytes) false h = tt
 
 -- ---- comments and directives
 
+closed_lexical : (closed ends_line : Bool) → IsLexicalPiece (comment closed ends_line)
+closed_lexical true ends_line = tt
+closed_lexical false ends_line = tt
+
 comment_lexical : (body : List ℕ) (closed : Bool) → IsLexicalPiece (comment_piece body closed)
 comment_lexical body closed =
-    let found = Gap (list_any is_line_feed body) in
-    either IsLexicalPiece (list_any is_control body) (CommentFault E01) (cond closed found (CommentFault E03)) tt (either IsLexicalPiece closed found (CommentFault E03) tt tt)
+    let ends_line = list_any is_line_feed body in
+    either IsLexicalPiece (list_any is_control body) (CommentFault E01) (comment closed ends_line) tt (closed_lexical closed ends_line)
 
 numbered_lexical : (name : List ℕ) (negative : Bool) (rest : List ℕ) (r : Result ℕ Code) → IfOk r (λ n. n ≤ 2147483647) → IsLexicalPiece (numbered_definition name negative rest r)
 unfolding numbered_definition

@@ -1,21 +1,22 @@
 -- The tokens of a source can be spelled: each piece of a cut adds such tokens, and definitions whose numbers are in range.
-use Rattle.std.proofs.Common.{ℕ, ◌+◌, ◌≤◌, Bool, true, false, ◌&&◌, ◌==◌, nat_lt, cond, List, [], ◌∷◌, ◌++◌, length, drop, find, bytes_eq, Option, Some, None, Result, Ok, Err, IfSome, IfOk, option_map, subst}
+use Rattle.std.proofs.Common.{ℕ, ◌+◌, ◌≤◌, Bool, true, false, nat_lt, cond, List, [], ◌∷◌, ◌++◌, length, drop, find, bytes_eq, Option, Some, None, Result, Ok, Err, IfSome, IfOk, option_map, subst}
 use Rattle.std.specs.List.{AllByRecursion}
 use Rattle.ckc_text.specs.declared.fault.SourceFault.{SourceFault}
 use Rattle.ckc_text.specs.declared.code.Code.TheVariants.{E05, E08}
 use Rattle.ckc_lexer.specs.declared.line.Line.{Line}
 use Rattle.ckc_lexer.specs.declared.line.Line.TheVariants.{Fresh, Marked, Behind}
-use Rattle.ckc_lexer.specs.declared.piece.Definition.{Definition}
-use Rattle.ckc_lexer.specs.declared.piece.Piece.{Piece}
-use Rattle.ckc_lexer.specs.declared.piece.Piece.TheVariants.{Gap, Lexeme, Named, Include, Define, Scope, CommentFault, Forbidden, Fault}
-use Rattle.ckc_lexer.specs.declared.piece.ScopeWord.{ScopeWord}
-use Rattle.ckc_lexer.specs.declared.piece.ScopeWord.TheVariants as word
-use Rattle.ckc_lexer.specs.declared.token.CheckedScope.{CheckedScope}
-use Rattle.ckc_lexer.specs.declared.token.CheckedScope.TheVariants as scopes
-use Rattle.ckc_lexer.specs.declared.token.Token.{Token}
-use Rattle.ckc_lexer.specs.declared.token.TokenKind.{TokenKind}
-use Rattle.ckc_lexer.specs.declared.token.TokenKind.TheVariants as kinds
-use Rattle.ckc_lexer.specs.Tokens.{State, Step, Cut, ends, stops, goes, cut, token_at, fault_at, go_on, push, push_after, definition_for, name_tokens, behind_mark, is_same_sign, define, scope_from, pop_scope, change_scope, is_first, next}
+use Rattle.ckc_tokens.specs.declared.piece.Definition.{Definition}
+use Rattle.ckc_tokens.specs.declared.piece.Piece.{Piece}
+use Rattle.ckc_tokens.specs.declared.piece.Piece.TheVariants.{Gap, Lexeme, Named, Include, Define, Scope, CommentFault, Forbidden, Fault}
+use Rattle.ckc_tokens.specs.declared.piece.ScopeWord.{ScopeWord}
+use Rattle.ckc_tokens.specs.declared.piece.ScopeWord.TheVariants as word
+use Rattle.ckc_tokens.specs.declared.token.CheckedScope.{CheckedScope}
+use Rattle.ckc_tokens.specs.declared.token.CheckedScope.TheVariants as scopes
+use Rattle.ckc_tokens.specs.declared.token.Token.{Token}
+use Rattle.ckc_tokens.specs.declared.token.TokenKind.{TokenKind}
+use Rattle.ckc_tokens.specs.declared.token.TokenKind.TheVariants as kinds
+use Rattle.ckc_tokens.specs.Rules.{is_same_number}
+use Rattle.ckc_lexer.specs.Tokens.{State, Step, Cut, ends, stops, goes, cut, token_at, fault_at, go_on, push, push_after, definition_for, name_tokens, behind_mark, define, scope_from, pop_scope, change_scope, is_first, next}
 use Rattle.ckc_printer.specs.ReadingBack.{IsName, IsLexical, AreBytes, TokensAreLexical}
 use Rattle.ckc_printer.proofs.Printable.{Lexical}
 use Rattle.ckc_printer.proofs.LexicalPieces.{IsLexicalPiece, either, dropped, piece_lexical}
@@ -70,7 +71,7 @@ behind_leads (Behind directive) r n l = tt
 
 define_leads : {s : State} (found : Option (Bool × ℕ)) (d : Definition) → InRange d → IsLexicalState s → Leads (define found d s)
 define_leads {s} None d h l = record { tokens = l.tokens; definitions = all_more InRange s.definitions d l.definitions h }
-define_leads {s} (Some (negative, value)) d h l = either Leads (is_same_sign negative d.negative && value == d.value) (Ok s) (Err (fault_at E05 s.at)) l tt
+define_leads {s} (Some (negative, value)) d h l = either Leads (is_same_number negative value d) (Ok s) (Err (fault_at E05 s.at)) l tt
 
 scope_leads : {s : State} (scope : CheckedScope) (kept : List CheckedScope) (n : ℕ) → IsLexicalState s → Leads (scope_from s scope kept n)
 scope_leads {s} scope kept n l =

@@ -3,9 +3,9 @@ use Rattle.std.proofs.Common.{◌≡◌, ◌≤◌, Bool, true, false, List, [],
 use Rattle.std.specs.Option.{option_map}
 use Rattle.std.specs.List.{flat_map}
 use Rattle.ckc_text.specs.declared.place.Span.{Span}
-use Rattle.ckc_lexer.specs.declared.token.Token.{Token}
-use Rattle.ckc_lexer.specs.declared.token.TokenKind.{TokenKind}
-use Rattle.ckc_lexer.specs.declared.token.TokenKind.TheVariants as kinds
+use Rattle.ckc_tokens.specs.declared.token.Token.{Token}
+use Rattle.ckc_tokens.specs.declared.token.TokenKind.{TokenKind}
+use Rattle.ckc_tokens.specs.declared.token.TokenKind.TheVariants as kinds
 use Rattle.ckc_tree.specs.declared.stmt.Mark.{Mark}
 use Rattle.ckc_tree.specs.declared.stmt.Mark.TheVariants as marks
 use Rattle.ckc_tree.specs.Expressions.{Expression}
@@ -19,8 +19,8 @@ use Rattle.ckc_grammar.specs.ExpressionGrammar.{SpellsExpression}
 use Rattle.ckc_grammar.specs.StatementGrammar as g
 use Rattle.ckc_grammar.specs.StatementGrammar.{SpellsForInitial, SpellsForCondition, SpellsForStep, SpellsStatement, SpellsStatements}
 use Rattle.ckc_grammar.proofs.Roles.{role, role_at, statement_starts}
-use Rattle.ckc_printer.specs.Pieces.{Sign, One}
-use Rattle.ckc_printer.specs.ExpressionPieces.{expression_pieces}
+use Rattle.printed_signs.specs.Pieces.{Sign, One}
+use Rattle.printed_signs.specs.ExpressionPieces.{expression_pieces}
 use Rattle.ckc_printer.specs.StatementPieces.{declaration_pieces, assignment_pieces, bundled_pieces, mark_kind, initial_pieces, optional_expression_pieces, optional_assignment_pieces, statement_pieces, statements_pieces}
 use Rattle.ckc_printer.specs.ReadingBack.{AreSigns, one}
 use Rattle.ckc_printer.proofs.SignedTokens as follow

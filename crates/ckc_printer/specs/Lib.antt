@@ -1,6 +1,3 @@
-pub mod Pieces
-pub mod TypePieces
-pub mod ExpressionPieces
 pub mod StatementPieces
 pub mod ItemPieces
 pub mod Spaced

@@ -1,11 +1,10 @@
 // Printing of expressions and bounds.
 
-ghost use Rattle.std.specs.Prelude.{◌≡◌, ◌∷◌, [], ◌++◌};
+ghost use Rattle.std.specs.Prelude.{◌∷◌, [], ◌++◌};
 ghost use Rattle.ckc_tree.specs.Types.{type_name as type_name_tree};
 ghost use Rattle.ckc_tree.specs.Expressions.{expression, bounds};
-ghost use Rattle.ckc_printer.specs.Pieces.{kind_text, sign_text};
-ghost use Rattle.ckc_printer.specs.ExpressionPieces.{unary_kind, binary_sign, cast_kind, malloc_kind, calloc_kind, is_compound, operand_pieces, expression_pieces, arguments_pieces, bounds_pieces};
-ghost use Rattle.ckc_printer.specs.TypePieces.{angled_pieces};
+ghost use Rattle.printed_signs.specs.ExpressionPieces.{operand_pieces, expression_pieces, arguments_pieces, bounds_pieces};
+ghost use Rattle.printed_signs.specs.TypePieces.{angled_pieces};
 ghost use Rattle.ckc_printer.specs.Parts.{size_pieces, closed_pieces, limits_pieces, call_pieces};
 ghost use Rattle.ckc_printer.specs.Slices.{expressions_of};
 ghost use Rattle.ckc_printer.specs.Output.{Puts};
@@ -15,131 +14,11 @@ use crate::output::Output;
 use crate::quoted::{put_character, put_string};
 use crate::signs::{put, put_if, put_name, put_number};
 use crate::types::{angled, type_with_stars};
-use ckc_tree::expr::{
-    BinaryOperator, BoundsText, CallocWord, CastWord, Expr, MallocWord, UnaryOperator,
-};
+use ckc_tree::expr::{BoundsText, Expr};
 use ckc_tree::identifier::Identifier;
 use ckc_tree::type_form::TypeName;
-
-/// An operator before its operand.
-fn unary_text(operator: UnaryOperator) -> &'static [u8]
-    ensures { result.now ≡ kind_text (unary_kind operator) }
-{
-    match operator {
-        UnaryOperator::Deref => b"*",
-        UnaryOperator::AddressOf => b"&",
-        UnaryOperator::Negate => b"-",
-        UnaryOperator::Not => b"!",
-        UnaryOperator::Complement => b"~",
-    }
-}
-
-/// Each operator between its operands, in their order.
-static BINARY_TEXTS: [&[u8]; 18] = [
-    b"||", b"&&", b"|", b"^", b"&", b"==", b"!=", b"<", b"<=", b">", b">=", b"<<", b">>", b"+",
-    b"-", b"*", b"/", b"%",
-];
-
-/// An operator between its operands.
-fn binary_text(operator: BinaryOperator) -> &'static [u8]
-    ensures { result.now ≡ sign_text (binary_sign operator) }
-{
-    BINARY_TEXTS[operator as usize]
-}
-
-fn cast_text(word: CastWord) -> &'static [u8]
-    ensures { result.now ≡ kind_text (cast_kind word) }
-{
-    match word {
-        CastWord::Dynamic => b"_Dynamic_bounds_cast",
-        CastWord::Assume => b"_Assume_bounds_cast",
-    }
-}
-
-fn malloc_text(word: MallocWord) -> &'static [u8]
-    ensures { result.now ≡ kind_text (malloc_kind word) }
-{
-    match word {
-        MallocWord::Malloc => b"malloc",
-        MallocWord::TMalloc => b"t_malloc",
-    }
-}
-
-fn calloc_text(word: CallocWord) -> &'static [u8]
-    ensures { result.now ≡ kind_text (calloc_kind word) }
-{
-    match word {
-        CallocWord::Calloc => b"calloc",
-        CallocWord::NtCalloc => b"nt_calloc",
-    }
-}
-
-/// Whether it stands in parentheses as an operand or a base.
-fn is_compound_expr(expr: &Expr) -> bool
-    ensures { result ≡ is_compound (expression expr.now) }
-{
-    match expr {
-        Expr::Number { value: _, span: _ } => false,
-        Expr::Character { value: _, span: _ } => false,
-        Expr::Text { bytes: _, span: _ } => false,
-        Expr::Name { name: _ } => false,
-        Expr::Call {
-            callee: _,
-            arguments: _,
-            span: _,
-        } => false,
-        Expr::SizeOf {
-            type_name: _,
-            span: _,
-        } => false,
-        Expr::Cast {
-            word: _,
-            type_name: _,
-            operand: _,
-            bounds: _,
-            span: _,
-        } => true,
-        Expr::Malloc {
-            word: _,
-            type_name: _,
-            size: _,
-            span: _,
-        } => false,
-        Expr::Calloc {
-            word: _,
-            type_name: _,
-            count: _,
-            size: _,
-            span: _,
-        } => false,
-        Expr::Index {
-            base: _,
-            index: _,
-            span: _,
-        } => false,
-        Expr::Dot {
-            base: _,
-            member: _,
-            span: _,
-        } => false,
-        Expr::Arrow {
-            base: _,
-            member: _,
-            span: _,
-        } => false,
-        Expr::Unary {
-            operator: _,
-            operand: _,
-            span: _,
-        } => true,
-        Expr::Binary {
-            operator: _,
-            left: _,
-            right: _,
-            span: _,
-        } => true,
-    }
-}
+use printed_signs::operands::is_compound;
+use printed_signs::texts::{binary_text, calloc_text, cast_text, malloc_text, unary_text};
 
 /// A word, a type in angle brackets and the parenthesis behind them.
 fn put_opened(out: &mut Output, word: &[u8], type_name: &TypeName)
@@ -273,7 +152,7 @@ pub fn put_expr(out: &mut Output, expr: &Expr)
 fn put_operand(out: &mut Output, operand: &Expr)
     ensures { Puts out.old out.new (spaced_text (operand_pieces (expression operand.now))) }
 {
-    let compound = is_compound_expr(operand);
+    let compound = is_compound(operand);
     put_if(out, compound, b"(");
     put_expr(out, operand);
     put_if(out, compound, b")");

@@ -1,3 +1,1 @@
-mod Rows
-mod Decided
 pub mod SameHeights

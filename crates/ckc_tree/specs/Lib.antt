@@ -5,5 +5,4 @@ pub mod Items
 pub mod Heights
 pub mod Bare
 pub mod Placement
-pub mod Walks
 pub mod Examples

@@ -1,12 +1,11 @@
 // What stands at file level, and the whole source.
 
-ghost use Rattle.std.specs.Prelude.{◌≡◌, ◌↔◌, IsTrue};
-ghost use Rattle.ckc_tree.specs.Items.{result_form, item, tree};
-ghost use Rattle.ckc_tree.specs.Placement.{result_span, item_span, IsPlaced};
+ghost use Rattle.std.specs.Prelude.{◌≡◌};
+ghost use Rattle.ckc_tree.specs.Items.{result_form, item};
+ghost use Rattle.ckc_tree.specs.Placement.{result_span, item_span};
 
 use crate::expr::BoundsText;
 use crate::identifier::Identifier;
-use crate::placement::program_is_placed;
 use crate::stmt::{Declarator, Mark, Stmt};
 use crate::type_form::{TypeForm, TypeName};
 use ckc_text::place::Span;
@@ -139,15 +138,5 @@ impl Item {
             Item::Global { global } => global.span,
             Item::Function { function } => function.span,
         }
-    }
-}
-
-impl Program {
-    /// Whether each span lies in that of the form around it, those of the parts of a form stand in order, and all lie in
-    /// a source of `len` bytes.
-    pub fn well_placed(&self, len: u32) -> bool
-        ensures { IsTrue result ↔ IsPlaced len (tree self.now) }
-    {
-        program_is_placed(self, len)
     }
 }

@@ -1,7 +1,7 @@
 use Rattle.std.proofs.Common.{◌≡◌, Bool, true, false, Some, rules, sym, ap, ◌∙◌}
 use Rattle.std.proofs.lemmas.Option.{same_Some}
 use denote.Enum.Bare.{sameb, same_true, same_false}
-use Rattle.ckc_lexer.specs.declared.token.TokenKind.{TokenKind}
+use Rattle.ckc_tokens.specs.declared.token.TokenKind.{TokenKind}
 use Rattle.ckc_cursor.specs.contracts.terminal.Terminal.{the_type}
 use Rattle.ckc_cursor.specs.declared.terminal.Terminal.{Terminal}
 use Rattle.ckc_cursor.specs.Terminals.{terminal_of, Matches}

@@ -1,5 +1,5 @@
 use Rattle.std.proofs.Common.{◌≡◌, List, length}
-use Rattle.ckc_lexer.specs.declared.token.Token.{Token}
+use Rattle.ckc_tokens.specs.declared.token.Token.{Token}
 use Rattle.ckc_tree.specs.Expressions.{expression}
 use Rattle.ckc_tree.specs.Heights.{expression_reach}
 use Rattle.ckc_grammar.specs.Failures.{IsLow}

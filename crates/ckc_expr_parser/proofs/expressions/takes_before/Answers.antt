@@ -9,4 +9,4 @@ pub returns-in-Unary : goal.returns-in-Unary
 returns-in-Unary c = rw (waiting_last _ _ _ c.in-Some.ensures.cases.0, c.in-Unary.is) refl
 
 pub returns-in-Binary : goal.returns-in-Binary
-returns-in-Binary c = rw (waiting_last _ _ _ c.in-Some.ensures.cases.0, c.in-Binary.is, c.level.ensures) refl
+returns-in-Binary c = rw (waiting_last _ _ _ c.in-Some.ensures.cases.0, c.in-Binary.is, c.takes_before.ensures) refl

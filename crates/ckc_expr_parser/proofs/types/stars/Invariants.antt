@@ -1,5 +1,5 @@
 use Rattle.std.proofs.Common.{ℕ, ◌+◌, ◌≤◌, List, length}
-use Rattle.ckc_lexer.specs.declared.token.Token.{Token}
+use Rattle.ckc_tokens.specs.declared.token.Token.{Token}
 use Rattle.ckc_grammar.specs.TypeGrammar.{SpellsStars}
 use Rattle.ckc_expr_parser.proofs.types.stars.Given as goal
 

@@ -1,5 +1,5 @@
 use Rattle.std.proofs.Common.{◌∷◌, arith}
-use Rattle.ckc_lexer.specs.declared.token.TokenKind.TheVariants as kinds
+use Rattle.ckc_tokens.specs.declared.token.TokenKind.TheVariants as kinds
 use Rattle.ckc_grammar.specs.Tokens.{token}
 use Rattle.ckc_grammar.specs.TypeGrammar as grammar
 use Rattle.ckc_grammar.specs.StuckTypes as stuck

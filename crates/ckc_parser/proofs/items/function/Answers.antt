@@ -7,7 +7,7 @@ use Rattle.ckc_parser.proofs.items.function.Goals as goal
 pub returns-in_err-parameters : goal.returns-in_err-parameters
 returns-in_err-parameters c =
     let head = c.requires in
-    rw (err _ _ c.from_residual.ensures.1) (stuck.function_parameters head.led.spelled_kind head.led.spelled_mark head.returned head.low head.is_named.spelled c.in_err-parameters.ensures)
+    rw (err _ _ c.from_residual-in_err-parameters.ensures.1) (stuck.function_parameters head.led.spelled_kind head.led.spelled_mark head.returned head.low head.is_named.spelled c.in_err-parameters.ensures)
 
 pub returns-in_err-bounds : goal.returns-in_err-bounds
 returns-in_err-bounds c =
@@ -22,7 +22,7 @@ returns-in_err-body c =
     (stuck.function_body head.led.spelled_kind head.led.spelled_mark head.returned head.low head.is_named.spelled c.in_ok-parameters.ensures.0 c.in_ok-parameters.ensures.1 (rw c.from_first-so_far.ensures at c.in_ok-bounds.ensures.0) c.in_ok-bounds.ensures.1 c.in_err-body.ensures)
 
 pub returns-in_err-stars : goal.returns-in_err-stars
-returns-in_err-stars c = rw (err _ _ c.from_residual-in_err-stars.ensures.1) stuck.no_room
+returns-in_err-stars c = rw (err _ _ c.from_residual.ensures.1) stuck.no_room
 
 pub returns-in_err-name : goal.returns-in_err-name
 returns-in_err-name c = rw (err _ _ c.from_residual-in_err-name.ensures.1) stuck.no_room

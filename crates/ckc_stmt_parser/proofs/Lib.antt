@@ -1,3 +1,0 @@
-mod Ahead
-mod Assignments
-mod Blocks

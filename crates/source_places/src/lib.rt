@@ -1,0 +1,5 @@
+// Places of a source: lines and columns, and whether places come in order.
+#![tactic(auto)]
+
+pub mod cursor;
+pub mod place;
