@@ -10,7 +10,7 @@ use crate::cores::core_of;
 use crate::items::items;
 use crate::walk::Walk;
 use ckc_core::program::Core;
-use ckc_names::named::Named;
+use name_resolution::named::Named;
 use ckc_text::fault::Refused;
 use expression_typing::sites::Sites;
 use std::alloc::Global;

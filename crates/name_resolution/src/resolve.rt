@@ -1,0 +1,49 @@
+// Naming: whether each name of a program is visible where it stands, and none stands twice.
+
+ghost use Rattle.std.specs.Prelude.{◌≡◌};
+ghost use Rattle.ckc_tree.specs.Items.{tree};
+ghost use Rattle.ckc_names.specs.Naming.{Names};
+ghost use Rattle.name_resolution.specs.Named.{named_tree};
+
+use crate::items::names_in;
+use crate::main_function::has_main;
+use crate::name_list::NameList;
+use crate::named::Named;
+use crate::table::Table;
+use ckc_text::code::Code;
+use ckc_text::fault::{Refused, SourceFault};
+use ckc_text::place::Span;
+use ckc_tree::item::Program;
+use std::alloc::Global;
+
+// The names of a program, where nothing is wrong with them.
+fn names_of(alloc: Global, program: &Program) -> Result<NameList, Refused>
+    ensures { Names (λ names. record { tree = tree program.now; names = names }) (tree program.now) result }
+{
+    let mut table = Table::new(alloc);
+    table.open()?;
+    names_in(&mut table, program)?;
+    if has_main(program) {
+        Ok(table.into_names())
+    } else {
+        Err(Refused::Source(SourceFault {
+            code: Code::E28,
+            span: Span { from: 0, to: 0 },
+        }))
+    }
+}
+
+/// Names a program.
+///
+/// # Errors
+///
+/// The first name that isn't visible where it stands (E10) or stands twice (E11); else, where the program has no `main`,
+/// E28 at the start of the source.
+pub fn resolve(alloc: Global, program: Program) -> Result<Named, Refused>
+    ensures { Names named_tree (tree program) result }
+{
+    match names_of(alloc, &program) {
+        Ok(names) => Ok(Named::new(program, names)),
+        Err(refused) => Err(refused),
+    }
+}
