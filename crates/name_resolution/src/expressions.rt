@@ -5,42 +5,40 @@ ghost use Rattle.ckc_tree.specs.Types.{type_tree};
 ghost use Rattle.ckc_tree.specs.Expressions.{expression as expression_of, bounds as bounds_of};
 ghost use Rattle.ckc_names.specs.Mentions.{type_mentions, expression_mentions, bounds_mentions};
 ghost use Rattle.name_resolution.specs.Slices.{arguments_mentions};
-ghost use Rattle.ckc_names.specs.State.{Goes};
+ghost use Rattle.ckc_names.specs.Progress.{Passes};
 
-use crate::mentions::{call, select, use_tag, use_value};
-use crate::table::Table;
-use ckc_text::fault::Refused;
+use ckc_names::resolver::Resolver;
 use ckc_tree::expr::{BoundsText, Expr};
 use ckc_tree::type_form::TypeForm;
 
 /// The tag in a type, if it has one.
-pub fn type_form(table: &mut Table, base: &TypeForm) -> Result<(), Refused>
-    ensures { Goes (type_mentions (type_tree base.now)) table.old result table.new }
+pub fn type_form(resolver: &mut Resolver, base: &TypeForm)
+    ensures { Passes (type_mentions (type_tree base.now)) resolver.old resolver.new }
 {
     match base {
-        TypeForm::Int { .. } | TypeForm::Char { .. } => Ok(()),
-        TypeForm::Struct { tag, .. } => use_tag(table, tag),
-        TypeForm::Pointer { element, .. } => type_form(table, element),
+        TypeForm::Int { .. } | TypeForm::Char { .. } => {}
+        TypeForm::Struct { tag, .. } => resolver.use_tag(tag),
+        TypeForm::Pointer { element, .. } => type_form(resolver, element),
     }
 }
 
 /// The names in an expression.
 #[cycle(expressions)]
-pub fn expression(table: &mut Table, written: &Expr) -> Result<(), Refused>
-    ensures { Goes (expression_mentions (expression_of written.now)) table.old result table.new }
+pub fn expression(resolver: &mut Resolver, written: &Expr)
+    ensures { Passes (expression_mentions (expression_of written.now)) resolver.old resolver.new }
 {
     match written {
-        Expr::Number { .. } | Expr::Character { .. } | Expr::Text { .. } => Ok(()),
-        Expr::Name { name } => use_value(table, name),
+        Expr::Number { .. } | Expr::Character { .. } | Expr::Text { .. } => {}
+        Expr::Name { name } => resolver.use_value(name),
         Expr::Call {
             callee,
             arguments,
             ..
         } => {
-            call(table, callee)?;
-            expressions(table, arguments.as_slice())
+            resolver.call(callee);
+            expressions(resolver, arguments.as_slice());
         }
-        Expr::SizeOf { type_name, .. } => type_form(table, &type_name.base),
+        Expr::SizeOf { type_name, .. } => type_form(resolver, &type_name.base),
         Expr::Cast {
             type_name,
             operand,
@@ -48,13 +46,13 @@ pub fn expression(table: &mut Table, written: &Expr) -> Result<(), Refused>
             ..
         } => match limits {
             None => {
-                type_form(table, &type_name.base)?;
-                expression(table, operand)
+                type_form(resolver, &type_name.base);
+                expression(resolver, operand);
             }
             Some(limits) => {
-                type_form(table, &type_name.base)?;
-                expression(table, operand)?;
-                bounds(table, limits)
+                type_form(resolver, &type_name.base);
+                expression(resolver, operand);
+                bounds(resolver, limits);
             }
         },
         Expr::Malloc {
@@ -62,8 +60,8 @@ pub fn expression(table: &mut Table, written: &Expr) -> Result<(), Refused>
             size,
             ..
         } => {
-            type_form(table, &type_name.base)?;
-            expression(table, size)
+            type_form(resolver, &type_name.base);
+            expression(resolver, size);
         }
         Expr::Calloc {
             type_name,
@@ -71,54 +69,53 @@ pub fn expression(table: &mut Table, written: &Expr) -> Result<(), Refused>
             size,
             ..
         } => {
-            type_form(table, &type_name.base)?;
-            expression(table, count)?;
-            expression(table, size)
+            type_form(resolver, &type_name.base);
+            expression(resolver, count);
+            expression(resolver, size);
         }
         Expr::Index { base, index, .. } => {
-            expression(table, base)?;
-            expression(table, index)
+            expression(resolver, base);
+            expression(resolver, index);
         }
         Expr::Dot { base, member, .. } => {
-            expression(table, base)?;
-            select(table, member)
+            expression(resolver, base);
+            resolver.select(member);
         }
         Expr::Arrow { base, member, .. } => {
-            expression(table, base)?;
-            select(table, member)
+            expression(resolver, base);
+            resolver.select(member);
         }
-        Expr::Unary { operand, .. } => expression(table, operand),
+        Expr::Unary { operand, .. } => expression(resolver, operand),
         Expr::Binary { left, right, .. } => {
-            expression(table, left)?;
-            expression(table, right)
+            expression(resolver, left);
+            expression(resolver, right);
         }
     }
 }
 
 // The names in arguments, from left to right.
 #[cycle(expressions)]
-fn expressions(table: &mut Table, arguments: &[Expr]) -> Result<(), Refused>
-    ensures { Goes (arguments_mentions arguments.now) table.old result table.new }
+fn expressions(resolver: &mut Resolver, arguments: &[Expr])
+    ensures { Passes (arguments_mentions arguments.now) resolver.old resolver.new }
 {
     for argument in arguments {
-        expression(table, argument)?;
+        expression(resolver, argument);
     }
-    Ok(())
 }
 
 /// The names in bounds.
 #[cycle(expressions)]
-pub fn bounds(table: &mut Table, written: &BoundsText) -> Result<(), Refused>
-    ensures { Goes (bounds_mentions (bounds_of written.now)) table.old result table.new }
+pub fn bounds(resolver: &mut Resolver, written: &BoundsText)
+    ensures { Passes (bounds_mentions (bounds_of written.now)) resolver.old resolver.new }
 {
     match written {
         BoundsText::Count { count, .. } | BoundsText::ByteCount { count, .. } => {
-            expression(table, count)
+            expression(resolver, count)
         }
-        BoundsText::Unknown { .. } => Ok(()),
+        BoundsText::Unknown { .. } => {}
         BoundsText::Range { low, high, .. } => {
-            expression(table, low)?;
-            expression(table, high)
+            expression(resolver, low);
+            expression(resolver, high);
         }
     }
 }

@@ -8,14 +8,12 @@ ghost use Rattle.ckc_tree.specs.Expressions.{bounds as bounds_of};
 ghost use Rattle.ckc_tree.specs.Items.{member as member_of, parameter as parameter_of, structure as structure_of, parameters as parameters_of, result_form as result_of, body as body_of, function as function_of, item as item_of, tree};
 ghost use Rattle.ckc_names.specs.Mentions.{Reveal, Declare, DeclareTag, optional_mentions, type_mentions, bounds_mentions, in_block, member_mentions, listed_mentions, parameters_mentions, result_mentions, function_mentions, item_mentions, tree_mentions};
 ghost use Rattle.name_resolution.specs.Slices.{body_mentions};
-ghost use Rattle.ckc_names.specs.State.{Goes};
+ghost use Rattle.ckc_names.specs.Progress.{Passes};
 
 use crate::declarations::{declarators, optional_bounds};
 use crate::expressions::type_form;
-use crate::mentions::{close, declare, declare_function, declare_tag, open, reveal};
 use crate::statements::statements;
-use crate::table::Table;
-use ckc_text::fault::Refused;
+use ckc_names::resolver::Resolver;
 use ckc_tree::expr::BoundsText;
 use ckc_tree::identifier::Identifier;
 use ckc_tree::item::{
@@ -24,169 +22,162 @@ use ckc_tree::item::{
 use ckc_tree::type_form::TypeForm;
 
 // The type, the name and the bounds of a member or a parameter.
-fn listed(
-    table: &mut Table,
-    base: &TypeForm,
-    name: &Identifier,
-    bounds: &Option<BoundsText>,
-) -> Result<(), Refused>
-    ensures { Goes (type_mentions (type_tree base.now) ++ Declare name.now ∷ optional_mentions bounds_mentions (option_map bounds_of bounds.now)) table.old result table.new }
+fn listed(resolver: &mut Resolver, base: &TypeForm, name: &Identifier, bounds: &Option<BoundsText>)
+    ensures { Passes (type_mentions (type_tree base.now) ++ Declare name.now ∷ optional_mentions bounds_mentions (option_map bounds_of bounds.now)) resolver.old resolver.new }
 {
-    type_form(table, base)?;
-    declare(table, name)?;
-    optional_bounds(table, bounds)
+    type_form(resolver, base);
+    resolver.declare(name);
+    optional_bounds(resolver, bounds);
 }
 
-fn reveal_members(table: &mut Table, members: &[Member]) -> Result<(), Refused>
-    ensures { Goes (flat_map (λ x. Reveal (member_of x).name ∷ []) members.now) table.old result table.new }
+fn reveal_members(resolver: &mut Resolver, members: &[Member])
+    ensures { Passes (flat_map (λ x. Reveal (member_of x).name ∷ []) members.now) resolver.old resolver.new }
 {
     for member in members {
-        reveal(table, &member.name)?;
+        resolver.reveal(&member.name);
     }
-    Ok(())
 }
 
-fn declare_member(table: &mut Table, member: &Member) -> Result<(), Refused>
-    ensures { Goes (member_mentions (member_of member.now)) table.old result table.new }
-{
-    listed(table, &member.type_name.base, &member.name, &member.bounds)
-}
-
-fn declare_members(table: &mut Table, members: &[Member]) -> Result<(), Refused>
-    ensures { Goes (flat_map (λ x. member_mentions (member_of x)) members.now) table.old result table.new }
-{
-    for member in members {
-        declare_member(table, member)?;
-    }
-    Ok(())
-}
-
-fn members(table: &mut Table, members: &[Member]) -> Result<(), Refused>
-    ensures { Goes (listed_mentions (map member_of members.now)) table.old result table.new }
-{
-    reveal_members(table, members)?;
-    declare_members(table, members)
-}
-
-fn reveal_parameters(table: &mut Table, parameters: &[Parameter]) -> Result<(), Refused>
-    ensures { Goes (flat_map (λ x. Reveal (parameter_of x).name ∷ []) parameters.now) table.old result table.new }
-{
-    for parameter in parameters {
-        reveal(table, &parameter.name)?;
-    }
-    Ok(())
-}
-
-fn declare_parameter(table: &mut Table, parameter: &Parameter) -> Result<(), Refused>
-    ensures { Goes (member_mentions (parameter_of parameter.now)) table.old result table.new }
+fn declare_member(resolver: &mut Resolver, member: &Member)
+    ensures { Passes (member_mentions (member_of member.now)) resolver.old resolver.new }
 {
     listed(
-        table,
+        resolver,
+        &member.type_name.base,
+        &member.name,
+        &member.bounds,
+    )
+}
+
+fn declare_members(resolver: &mut Resolver, members: &[Member])
+    ensures { Passes (flat_map (λ x. member_mentions (member_of x)) members.now) resolver.old resolver.new }
+{
+    for member in members {
+        declare_member(resolver, member);
+    }
+}
+
+fn members(resolver: &mut Resolver, members: &[Member])
+    ensures { Passes (listed_mentions (map member_of members.now)) resolver.old resolver.new }
+{
+    reveal_members(resolver, members);
+    declare_members(resolver, members);
+}
+
+fn reveal_parameters(resolver: &mut Resolver, parameters: &[Parameter])
+    ensures { Passes (flat_map (λ x. Reveal (parameter_of x).name ∷ []) parameters.now) resolver.old resolver.new }
+{
+    for parameter in parameters {
+        resolver.reveal(&parameter.name);
+    }
+}
+
+fn declare_parameter(resolver: &mut Resolver, parameter: &Parameter)
+    ensures { Passes (member_mentions (parameter_of parameter.now)) resolver.old resolver.new }
+{
+    listed(
+        resolver,
         &parameter.type_name.base,
         &parameter.name,
         &parameter.bounds,
     )
 }
 
-fn declare_parameters(table: &mut Table, parameters: &[Parameter]) -> Result<(), Refused>
-    ensures { Goes (flat_map (λ x. member_mentions (parameter_of x)) parameters.now) table.old result table.new }
+fn declare_parameters(resolver: &mut Resolver, parameters: &[Parameter])
+    ensures { Passes (flat_map (λ x. member_mentions (parameter_of x)) parameters.now) resolver.old resolver.new }
 {
     for parameter in parameters {
-        declare_parameter(table, parameter)?;
-    }
-    Ok(())
-}
-
-fn parameters(table: &mut Table, written: &[Parameter]) -> Result<(), Refused>
-    ensures { Goes (listed_mentions (map parameter_of written.now)) table.old result table.new }
-{
-    reveal_parameters(table, written)?;
-    declare_parameters(table, written)
-}
-
-fn parameter_list(table: &mut Table, written: &Parameters) -> Result<(), Refused>
-    ensures { Goes (parameters_mentions (parameters_of written.now)) table.old result table.new }
-{
-    match written {
-        Parameters::Nothing | Parameters::Void => Ok(()),
-        Parameters::Listed { parameters: names } => parameters(table, names.as_slice()),
+        declare_parameter(resolver, parameter);
     }
 }
 
-fn result_form(table: &mut Table, written: &ResultForm) -> Result<(), Refused>
-    ensures { Goes (result_mentions (result_of written.now)) table.old result table.new }
+fn parameters(resolver: &mut Resolver, written: &[Parameter])
+    ensures { Passes (listed_mentions (map parameter_of written.now)) resolver.old resolver.new }
+{
+    reveal_parameters(resolver, written);
+    declare_parameters(resolver, written);
+}
+
+fn parameter_list(resolver: &mut Resolver, written: &Parameters)
+    ensures { Passes (parameters_mentions (parameters_of written.now)) resolver.old resolver.new }
 {
     match written {
-        ResultForm::Void { .. } => Ok(()),
-        ResultForm::Value { base } => type_form(table, base),
+        Parameters::Nothing | Parameters::Void => {}
+        Parameters::Listed { parameters: names } => parameters(resolver, names.as_slice()),
     }
 }
 
-fn body(table: &mut Table, written: &Option<Block>) -> Result<(), Refused>
-    ensures { Goes (optional_mentions body_mentions (option_map body_of written.now)) table.old result table.new }
+fn result_form(resolver: &mut Resolver, written: &ResultForm)
+    ensures { Passes (result_mentions (result_of written.now)) resolver.old resolver.new }
 {
     match written {
-        None => Ok(()),
-        Some(block) => statements(table, block.statements.as_slice()),
+        ResultForm::Void { .. } => {}
+        ResultForm::Value { base } => type_form(resolver, base),
+    }
+}
+
+fn body(resolver: &mut Resolver, written: &Option<Block>)
+    ensures { Passes (optional_mentions body_mentions (option_map body_of written.now)) resolver.old resolver.new }
+{
+    match written {
+        None => {}
+        Some(block) => statements(resolver, block.statements.as_slice()),
     }
 }
 
 // The parameters, the result's bounds and the statements of a function.
-fn function_block(table: &mut Table, written: &Function) -> Result<(), Refused>
-    ensures { let f = function_of written.now in Goes (parameters_mentions f.parameters ++ (optional_mentions bounds_mentions f.bounds ++ optional_mentions body_mentions f.body)) table.old result table.new }
+fn function_block(resolver: &mut Resolver, written: &Function)
+    ensures { let f = function_of written.now in Passes (parameters_mentions f.parameters ++ (optional_mentions bounds_mentions f.bounds ++ optional_mentions body_mentions f.body)) resolver.old resolver.new }
 {
-    parameter_list(table, &written.parameters)?;
-    optional_bounds(table, &written.bounds)?;
-    body(table, &written.body)
+    parameter_list(resolver, &written.parameters);
+    optional_bounds(resolver, &written.bounds);
+    body(resolver, &written.body);
 }
 
-fn function(table: &mut Table, written: &Function) -> Result<(), Refused>
-    ensures { Goes (function_mentions (function_of written.now)) table.old result table.new }
+fn function(resolver: &mut Resolver, written: &Function)
+    ensures { Passes (function_mentions (function_of written.now)) resolver.old resolver.new }
 {
-    result_form(table, &written.result)?;
-    declare_function(table, &written.name, written.body.is_some())?;
-    open(table)?;
-    function_block(table, written)?;
-    close(table);
-    Ok(())
+    result_form(resolver, &written.result);
+    resolver.declare_function(&written.name, written.body.is_some());
+    resolver.open();
+    function_block(resolver, written);
+    resolver.close();
 }
 
-fn structure(table: &mut Table, written: &Structure) -> Result<(), Refused>
-    ensures { let s = structure_of written.now in Goes (DeclareTag s.tag ∷ in_block (listed_mentions s.members)) table.old result table.new }
+fn structure(resolver: &mut Resolver, written: &Structure)
+    ensures { let s = structure_of written.now in Passes (DeclareTag s.tag ∷ in_block (listed_mentions s.members)) resolver.old resolver.new }
 {
-    declare_tag(table, &written.tag)?;
-    open(table)?;
-    members(table, written.members.as_slice())?;
-    close(table);
-    Ok(())
+    resolver.declare_tag(&written.tag);
+    resolver.open();
+    members(resolver, written.members.as_slice());
+    resolver.close();
 }
 
-fn item(table: &mut Table, written: &Item) -> Result<(), Refused>
-    ensures { Goes (item_mentions (item_of written.now)) table.old result table.new }
+fn item(resolver: &mut Resolver, written: &Item)
+    ensures { Passes (item_mentions (item_of written.now)) resolver.old resolver.new }
 {
     match written {
-        Item::Region { .. } => Ok(()),
-        Item::Structure { structure: inner } => structure(table, inner),
+        Item::Region { .. } => {}
+        Item::Structure { structure: inner } => structure(resolver, inner),
         Item::Global { global } => {
-            type_form(table, &global.base)?;
-            declarators(table, global.declarators.as_slice())
+            type_form(resolver, &global.base);
+            declarators(resolver, global.declarators.as_slice());
         }
-        Item::Function { function: inner } => function(table, inner),
+        Item::Function { function: inner } => function(resolver, inner),
     }
 }
 
-fn items(table: &mut Table, written: &[Item]) -> Result<(), Refused>
-    ensures { Goes (flat_map (λ x. item_mentions (item_of x)) written.now) table.old result table.new }
+fn items(resolver: &mut Resolver, written: &[Item])
+    ensures { Passes (flat_map (λ x. item_mentions (item_of x)) written.now) resolver.old resolver.new }
 {
     for listed in written {
-        item(table, listed)?;
+        item(resolver, listed);
     }
-    Ok(())
 }
 
 /// The names in a whole source, in its order.
-pub fn names_in(table: &mut Table, program: &Program) -> Result<(), Refused>
-    ensures { Goes (tree_mentions (tree program.now)) table.old result table.new }
+pub fn names_in(resolver: &mut Resolver, program: &Program)
+    ensures { Passes (tree_mentions (tree program.now)) resolver.old resolver.new }
 {
-    items(table, program.items.as_slice())
+    items(resolver, program.items.as_slice())
 }

@@ -6,13 +6,11 @@ ghost use Rattle.ckc_names.specs.Naming.{Names};
 ghost use Rattle.name_resolution.specs.Named.{named_tree};
 
 use crate::items::names_in;
-use crate::main_function::has_main;
-use crate::name_list::NameList;
 use crate::named::Named;
-use crate::table::Table;
-use ckc_text::code::Code;
-use ckc_text::fault::{Refused, SourceFault};
-use ckc_text::place::Span;
+use ckc_names::main_function::with_main;
+use ckc_names::name_list::NameList;
+use ckc_names::resolver::Resolver;
+use ckc_text::fault::Refused;
 use ckc_tree::item::Program;
 use std::alloc::Global;
 
@@ -20,16 +18,12 @@ use std::alloc::Global;
 fn names_of(alloc: Global, program: &Program) -> Result<NameList, Refused>
     ensures { Names (λ names. record { tree = tree program.now; names = names }) (tree program.now) result }
 {
-    let mut table = Table::new(alloc);
-    table.open()?;
-    names_in(&mut table, program)?;
-    if has_main(program) {
-        Ok(table.into_names())
-    } else {
-        Err(Refused::Source(SourceFault {
-            code: Code::E28,
-            span: Span { from: 0, to: 0 },
-        }))
+    let mut resolver = Resolver::new(alloc);
+    resolver.open();
+    names_in(&mut resolver, program);
+    match resolver.finish() {
+        Ok(names) => with_main(program, names),
+        Err(refused) => Err(refused),
     }
 }
 

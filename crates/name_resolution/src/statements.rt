@@ -5,71 +5,68 @@ ghost use Rattle.std.specs.Option.{option_map};
 ghost use Rattle.ckc_tree.specs.Statements.{assignment as assignment_of, for_initial as initial_of, on_heap, statement as statement_of};
 ghost use Rattle.ckc_names.specs.Mentions.{optional_mentions, expression_mentions, assignment_mentions, for_initial_mentions, in_block, statement_mentions};
 ghost use Rattle.name_resolution.specs.Slices.{block_mentions};
-ghost use Rattle.ckc_names.specs.State.{Goes};
+ghost use Rattle.ckc_names.specs.Progress.{Passes};
 
 use crate::declarations::{
     assignment, assignments, declaration, optional_assignment, optional_expression,
 };
 use crate::expressions::expression;
-use crate::mentions::{close, open};
-use crate::table::Table;
-use ckc_text::fault::Refused;
+use ckc_names::resolver::Resolver;
 use ckc_tree::expr::Expr;
 use ckc_tree::stmt::{Assignment, ForInitial, Stmt};
 
 // What stands first in the head of a `for`.
-fn for_initial(table: &mut Table, written: &ForInitial) -> Result<(), Refused>
-    ensures { Goes (for_initial_mentions (initial_of written.now)) table.old result table.new }
+fn for_initial(resolver: &mut Resolver, written: &ForInitial)
+    ensures { Passes (for_initial_mentions (initial_of written.now)) resolver.old resolver.new }
 {
     match written {
-        ForInitial::Nothing => Ok(()),
-        ForInitial::Declare { declaration: first } => declaration(table, first),
-        ForInitial::Assign { assignment: first } => assignment(table, first),
+        ForInitial::Nothing => {}
+        ForInitial::Declare { declaration: first } => declaration(resolver, first),
+        ForInitial::Assign { assignment: first } => assignment(resolver, first),
     }
 }
 
 // The names in the head of a `for`.
 fn head(
-    table: &mut Table,
+    resolver: &mut Resolver,
     initial: &ForInitial,
     condition: &Option<Box<Expr>>,
     step: &Option<Assignment>,
-) -> Result<(), Refused>
-    ensures { Goes (for_initial_mentions (initial_of initial.now) ++ (optional_mentions expression_mentions (option_map on_heap condition.now) ++ optional_mentions assignment_mentions (option_map assignment_of step.now))) table.old result table.new }
+)
+    ensures { Passes (for_initial_mentions (initial_of initial.now) ++ (optional_mentions expression_mentions (option_map on_heap condition.now) ++ optional_mentions assignment_mentions (option_map assignment_of step.now))) resolver.old resolver.new }
 {
-    for_initial(table, initial)?;
-    optional_expression(table, condition)?;
-    optional_assignment(table, step)
+    for_initial(resolver, initial);
+    optional_expression(resolver, condition);
+    optional_assignment(resolver, step);
 }
 
 /// The names in a statement.
 #[cycle(statements)]
-pub fn statement(table: &mut Table, written: &Stmt) -> Result<(), Refused>
-    ensures { Goes (statement_mentions (statement_of written.now)) table.old result table.new }
+pub fn statement(resolver: &mut Resolver, written: &Stmt)
+    ensures { Passes (statement_mentions (statement_of written.now)) resolver.old resolver.new }
 {
     match written {
         Stmt::Block {
             statements: inner,
             ..
         } => {
-            open(table)?;
-            statements(table, inner.as_slice())?;
-            close(table);
-            Ok(())
+            resolver.open();
+            statements(resolver, inner.as_slice());
+            resolver.close();
         }
         Stmt::Bundle {
             assignments: inner,
             ..
-        } => assignments(table, inner.as_slice()),
+        } => assignments(resolver, inner.as_slice()),
         Stmt::Declare {
             declaration: inner,
             ..
-        } => declaration(table, inner),
+        } => declaration(resolver, inner),
         Stmt::Assign {
             assignment: inner,
             ..
-        } => assignment(table, inner),
-        Stmt::Call { call, .. } => expression(table, call),
+        } => assignment(resolver, inner),
+        Stmt::Call { call, .. } => expression(resolver, call),
         Stmt::If {
             condition,
             consequent,
@@ -77,13 +74,13 @@ pub fn statement(table: &mut Table, written: &Stmt) -> Result<(), Refused>
             ..
         } => match alternative {
             None => {
-                expression(table, condition)?;
-                nested(table, consequent)
+                expression(resolver, condition);
+                nested(resolver, consequent);
             }
             Some(alternative) => {
-                expression(table, condition)?;
-                nested(table, consequent)?;
-                nested(table, alternative)
+                expression(resolver, condition);
+                nested(resolver, consequent);
+                nested(resolver, alternative);
             }
         },
         Stmt::While {
@@ -91,8 +88,8 @@ pub fn statement(table: &mut Table, written: &Stmt) -> Result<(), Refused>
             body,
             ..
         } => {
-            expression(table, condition)?;
-            nested(table, body)
+            expression(resolver, condition);
+            nested(resolver, body);
         }
         Stmt::For {
             initial,
@@ -101,35 +98,32 @@ pub fn statement(table: &mut Table, written: &Stmt) -> Result<(), Refused>
             body,
             ..
         } => {
-            open(table)?;
-            head(table, initial, condition, step)?;
-            nested(table, body)?;
-            close(table);
-            Ok(())
+            resolver.open();
+            head(resolver, initial, condition, step);
+            nested(resolver, body);
+            resolver.close();
         }
-        Stmt::Return { value, .. } => optional_expression(table, value),
-        Stmt::Empty { .. } | Stmt::Break { .. } | Stmt::Continue { .. } => Ok(()),
+        Stmt::Return { value, .. } => optional_expression(resolver, value),
+        Stmt::Empty { .. } | Stmt::Break { .. } | Stmt::Continue { .. } => {}
     }
 }
 
 // The names in a statement that is a block of its own.
 #[cycle(statements)]
-fn nested(table: &mut Table, written: &Stmt) -> Result<(), Refused>
-    ensures { Goes (in_block (statement_mentions (statement_of written.now))) table.old result table.new }
+fn nested(resolver: &mut Resolver, written: &Stmt)
+    ensures { Passes (in_block (statement_mentions (statement_of written.now))) resolver.old resolver.new }
 {
-    open(table)?;
-    statement(table, written)?;
-    close(table);
-    Ok(())
+    resolver.open();
+    statement(resolver, written);
+    resolver.close();
 }
 
 /// The names in statements, in their order.
 #[cycle(statements)]
-pub fn statements(table: &mut Table, written: &[Stmt]) -> Result<(), Refused>
-    ensures { Goes (block_mentions written.now) table.old result table.new }
+pub fn statements(resolver: &mut Resolver, written: &[Stmt])
+    ensures { Passes (block_mentions written.now) resolver.old resolver.new }
 {
     for listed in written {
-        statement(table, listed)?;
+        statement(resolver, listed);
     }
-    Ok(())
 }

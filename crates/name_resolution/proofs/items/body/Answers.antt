@@ -1,7 +1,6 @@
-use Rattle.std.proofs.Common.{ap, ◌∙◌}
+use Rattle.std.proofs.Common.{ap, sym, ◌∙◌}
 use Rattle.name_resolution.specs.Slices.{block_mentions}
 use Rattle.name_resolution.proofs.Rows.{body_says}
-use Rattle.std.proofs.Common.{sym}
 use Rattle.name_resolution.proofs.items.body.Goals as goal
 
 pub returns-in-Some : goal.returns-in-Some

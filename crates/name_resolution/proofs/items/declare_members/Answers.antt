@@ -1,14 +1,10 @@
 use Rattle.std.proofs.Common.{arith}
 use Rattle.ckc_tree.specs.Items.{member}
 use Rattle.ckc_names.specs.Mentions.{member_mentions}
-use Rattle.name_resolution.proofs.Going.{part_more, part_refused}
+use Rattle.name_resolution.proofs.Going.{part_more}
 use Rattle.name_resolution.proofs.items.declare_members.Goals as goal
-
-pub returns-in_err-declare_member : goal.returns-in_err-declare_member
-returns-in_err-declare_member c =
-    part_refused (λ x. member_mentions (member x)) c.args.members.now c.loop-member.member-index c.member-item.result c.from_residual.result (omega (arith, c.loop-member-test.true)) c.member-item.is c.from_residual.ensures.1 c.loop-member.invariant.so_far c.in_err-declare_member.ensures
 
 pub loop-member-preserved : goal.loop-member-preserved
 loop-member-preserved c = record {
-  so_far = part_more (λ x. member_mentions (member x)) c.args.members.now c.loop-member.member-index c.member-item.result (omega (arith, c.loop-member-test.true)) c.member-item.is c.loop-member.invariant.so_far c.in_ok-declare_member.ensures;
+  so_far = part_more (λ x. member_mentions (member x)) c.args.members.now c.loop-member.member-index c.member-item.result (omega (arith, c.loop-member-test.true)) c.member-item.is c.loop-member.invariant.so_far c.declare_member.ensures;
 }
