@@ -22,7 +22,7 @@ use Rattle.act_words.specs.Limits.{AreAllowed}
 use Rattle.ckc_core.specs.Core.{Core}
 use Rattle.sandbox_actor.specs.ActLists.{ActList}
 use Rattle.code_words.specs.declared.image.Image.{Image}
-use Rattle.lowering.specs.Correct.{KeepsMeaning}
+use Rattle.lowered_code.specs.Correct.{KeepsMeaning}
 use Rattle.run_core.specs.Runs.{Outcome, Ends, LineRefused, FileMissing, Comes, WritesAll, WritesFront, Counts}
 use Rattle.ccbox_call.specs.Texts.{refused_text, act_refused_text}
 use Rattle.command_words.specs.Requests.{Options, settings_of, inputs_of}

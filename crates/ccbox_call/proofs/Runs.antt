@@ -14,9 +14,9 @@ use Rattle.sandbox_actor.specs.ActLists.{ActList, no_acts, acts_of_file, lines_o
 use Rattle.sandbox_actor.proofs.Acts.{are_acts}
 use Rattle.code_words.specs.Runs.{memory_of}
 use Rattle.code_words.proofs.Worlds.{view}
-use Rattle.lowering.specs.Images.{image_of}
-use Rattle.lowering.specs.Correct.{IsLowerable}
-use Rattle.lowering.proofs.Programs.{keeps_meaning}
+use Rattle.lowered_code.specs.Images.{image_of}
+use Rattle.lowered_code.specs.Correct.{IsLowerable}
+use Rattle.lowered_code.proofs.Programs.{keeps_meaning}
 use Rattle.typing_rules.specs.NeverStuck.{NeverStuck}
 use Rattle.typing_rules.proofs.Typing.{typed, small}
 use Rattle.typing_rules.proofs.Programs.{never_stuck}

@@ -1,4 +1,3 @@
 pub mod Names
 pub mod Tables
-pub mod Going
-pub mod Rows
+pub mod Steps

@@ -1,9 +1,7 @@
 pub mod Mentions
 pub mod Scopes
 pub mod Naming
-pub mod Examples
 pub mod State
 pub mod NameLists
 pub mod Insides
-pub mod Slices
-pub mod Named
+pub mod Progress

@@ -87,9 +87,14 @@ abbrev main_or_fault : Bool → Option SourceFault
 main_or_fault true = None
 main_or_fault false = Some (record { code = E28; span = start })
 
+-- names, where there is a `main`
+abbrev pub names_if : Bool → List (List ℕ) → Result (List (List ℕ)) Refused
+names_if true names = Ok names
+names_if false names = Err (Source (record { code = E28; span = start }))
+
 -- what is wrong with the names of a program: the first name that isn't visible where it stands or stands twice, else that
 -- there is no `main`
-abbrev naming_fault_in : Bool → Result Scopes SourceFault → Option SourceFault
+abbrev pub naming_fault_in : Bool → Result Scopes SourceFault → Option SourceFault
 naming_fault_in main (Ok s) = main_or_fault main
 naming_fault_in main (Err f) = Some f
 

@@ -140,7 +140,7 @@ mentioned (Call name) s = unless_refused (not_so (is_among predefined name.name 
 mentioned (UseTag name) s = unless_refused (not_so (is_among s.tags name.name)) E10 name s
 mentioned (Select name) s = Ok s
 
-abbrev then_mentioned : Result Scopes SourceFault → (Scopes → Result Scopes SourceFault) → Result Scopes SourceFault
+abbrev pub then_mentioned : Result Scopes SourceFault → (Scopes → Result Scopes SourceFault) → Result Scopes SourceFault
 then_mentioned (Ok s) rest = rest s
 then_mentioned (Err f) rest = Err f
 

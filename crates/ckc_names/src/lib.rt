@@ -1,14 +1,8 @@
-// The names of a program: which are visible where, and which stand twice.
+// What names stand for: tables of the names that are visible, and what each mention of a name does to one.
 #![tactic(auto)]
 
-mod declarations;
-mod expressions;
-mod items;
-pub mod laws;
-mod main_function;
+pub mod main_function;
 mod mentions;
 pub mod name_list;
-pub mod named;
-pub mod resolve;
-mod statements;
+pub mod resolver;
 mod table;

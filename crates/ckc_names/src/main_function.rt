@@ -1,4 +1,4 @@
-// Whether a program has a `main`.
+// Whether a program has a `main`, without which it is refused.
 
 ghost use Rattle.std.specs.Prelude.{◌≡◌};
 ghost use Rattle.std.specs.List.{list_any};
@@ -6,6 +6,10 @@ ghost use Rattle.ckc_tree.specs.Types.{type_tree};
 ghost use Rattle.ckc_tree.specs.Items.{result_form as result_of, parameters as parameters_of, function as function_of, item as item_of, tree};
 ghost use Rattle.ckc_names.specs.Naming as naming;
 
+use crate::name_list::NameList;
+use ckc_text::code::Code;
+use ckc_text::fault::{Refused, SourceFault};
+use ckc_text::place::Span;
 use ckc_tree::item::{Function, FunctionKind, Item, Parameters, Program, ResultForm};
 use ckc_tree::type_form::TypeForm;
 
@@ -59,9 +63,27 @@ fn one_is_main(written: &[Item]) -> bool
     false
 }
 
-/// Whether a program has a trusted `int main(void)` with a body.
-pub fn has_main(program: &Program) -> bool
+// Whether a program has a trusted `int main(void)` with a body.
+fn has_main(program: &Program) -> bool
     ensures { result ≡ naming.has_main (tree program.now) }
 {
     one_is_main(program.items.as_slice())
+}
+
+/// The names of a program.
+///
+/// # Errors
+///
+/// E28 at the start of the source, where it has no trusted `int main(void)` with a body.
+pub fn with_main(program: &Program, names: NameList) -> Result<NameList, Refused>
+    ensures { result ≡ naming.names_if (naming.has_main (tree program.now)) names }
+{
+    if has_main(program) {
+        Ok(names)
+    } else {
+        Err(Refused::Source(SourceFault {
+            code: Code::E28,
+            span: Span { from: 0, to: 0 },
+        }))
+    }
 }

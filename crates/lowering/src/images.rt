@@ -1,73 +1,31 @@
 // Emitting the image of a program: its static blocks, its functions and the tainted ones.
 
-ghost use Rattle.std.specs.Prelude.{◌≡◌, ◌-◌, ◌++◌, map, replicate, option_map, IfOk, OnOk, All};
-ghost use Rattle.act_words.specs.Numbers.{word};
+ghost use Rattle.std.specs.Prelude.{◌≡◌, ◌++◌, map, option_map, IfOk, OnOk, All};
 ghost use Rattle.pointer_modes.specs.Types.{ctype as type_of};
-ghost use Rattle.ckc_core.specs.Core.{core, function, import_of, initial, object};
-ghost use Rattle.lowering.specs.Code as code;
-ghost use Rattle.lowering.specs.Images.{word_bytes_if, cell_bytes, object_bytes, function_code, functions_from, import_code, imports_from, image_of};
-ghost use Rattle.lowering.specs.Correct.{width_if, IsFunction, IsLowerable};
+ghost use Rattle.ckc_core.specs.Core.{core, function, import_of, object};
+ghost use Rattle.lowered_code.specs.Code as code;
+ghost use Rattle.lowered_code.specs.Images.{object_bytes, function_code, functions_from, import_code, imports_from, image_of};
+ghost use Rattle.lowered_code.specs.Correct.{IsFunction, IsLowerable};
 
-use crate::code_sizes::{has_one_byte, statements_size};
-use crate::expression_code::{put, put_two};
-use crate::stacks::statements_stack;
-use crate::statement_code::{Targets, emit_statements};
+use crate::statement_code::emit_statements;
 use ckc_core::program;
 use ckc_core::program::{Core, Function, Initial, Object};
 use ckc_text::fault::NoMemory;
 use ckc_text::name::Name;
+use code_fragments::cells::put_cell;
+use code_fragments::loops::Targets;
 use code_words::image::{
     Blocks, Func, Funs, Image, Import, Imports, Layout, Ops, SideCode, WordKind,
 };
 use code_words::lists::Listed;
 use code_words::op::Op;
+use lowered_code::code_sizes::statements_size;
+use lowered_code::instructions::{put, put_two};
+use lowered_code::stacks::statements_stack;
 use pointer_modes::ctype::CType;
 use std::alloc::Global;
 
 // ---- static blocks
-
-// So many zeros.
-fn put_zeros(bytes: &mut Vec<u8>, count: u32) -> Result<(), NoMemory>
-    ensures { OnOk result (bytes.new.items ≡ bytes.old.items ++ replicate count 0) }
-{
-    for _ in 0..count {
-        bytes.push(0)?;
-    }
-    Ok(())
-}
-
-// The word of a number, of one byte or of four.
-fn put_word(bytes: &mut Vec<u8>, char: bool, number: i32) -> Result<(), NoMemory>
-    ensures { OnOk result (bytes.new.items ≡ bytes.old.items ++ word_bytes_if char (word number)) }
-{
-    let word = number.cast_unsigned();
-    if char {
-        bytes.push((word % 256) as u8)?;
-    } else {
-        bytes.extend_from_slice(&word.to_le_bytes())?;
-    }
-    Ok(())
-}
-
-// How many bytes of a cell stand behind its word.
-fn padding(stride: u32, char: bool) -> u32
-    ensures { result ≡ stride - width_if char }
-{
-    if char {
-        stride.saturating_sub(1)
-    } else {
-        stride.saturating_sub(4)
-    }
-}
-
-// The bytes of a cell up to the next one: its word, and zeros.
-fn put_cell(bytes: &mut Vec<u8>, cell: &Initial) -> Result<(), NoMemory>
-    ensures { OnOk result (bytes.new.items ≡ bytes.old.items ++ cell_bytes (initial cell.now)) }
-{
-    let char = has_one_byte(&cell.ctype);
-    put_word(bytes, char, cell.number)?;
-    put_zeros(bytes, padding(cell.stride, char))
-}
 
 // The bytes of a file-level variable.
 fn static_block(alloc: Global, variable: &Object) -> Result<Listed<u8>, NoMemory>

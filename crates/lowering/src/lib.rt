@@ -1,10 +1,6 @@
-// From cores to code that does what they mean.
+// From cores to images whose runs are what the cores mean.
 #![tactic(auto)]
 
-mod code_sizes;
-mod expression_code;
 mod images;
-pub mod laws;
 pub mod lower;
-mod stacks;
 mod statement_code;

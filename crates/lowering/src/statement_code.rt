@@ -1,47 +1,23 @@
 // Emitting the code of statements.
 
-ghost use Rattle.std.specs.Prelude.{◌≡◌, ◌+◌, [], ◌∷◌, ◌++◌, length, IfOk, OnOk};
+ghost use Rattle.std.specs.Prelude.{◌≡◌, ◌+◌, [], ◌∷◌, ◌++◌, length, OnOk};
 ghost use Rattle.pointer_modes.specs.Types.{ctype as type_of};
-ghost use Rattle.ckc_core.specs.Core.{expression, place as place_of, arguments_of, statement, statements_of};
+ghost use Rattle.ckc_core.specs.Core.{expression, place as place_of, statement, statements_of};
 ghost use Rattle.ckc_core.specs.Core as cores;
 ghost use Rattle.code_words.specs.declared.op.Op.TheVariants as ops_of;
-ghost use Rattle.lowering.specs.Code as code;
-ghost use Rattle.lowering.specs.Code.{Places};
-ghost use Rattle.lowering.specs.Views.{targets_of, loop_places};
+ghost use Rattle.lowered_code.specs.Code as code;
+ghost use Rattle.lowered_code.specs.Code.{Places};
+ghost use Rattle.code_fragments.specs.Views.{targets_of};
 
-use crate::code_sizes::{expression_size, has_one_byte, plus, statement_size};
-use crate::expression_code::{
-    emit_address, emit_arguments, emit_expression, emit_place, emit_through, load_op, operator_op,
-    place_behind, put, put_two, store_op,
-};
 use ckc_core::program::{CellPlace, Expr, Operator, Site, Stmt};
 use ckc_text::fault::NoMemory;
+use code_fragments::addresses::{emit_address, emit_behind_value};
+use code_fragments::loops::{Targets, begin_loop, loop_targets};
 use code_words::op::Op;
+use expression_code::expressions::{emit_call, emit_expression, emit_place, emit_with};
+use lowered_code::code_sizes::{expression_size, has_one_byte, plus, statement_size};
+use lowered_code::instructions::{load_op, operator_op, place_behind, put, put_two, store_op};
 use pointer_modes::ctype::CType;
-
-/// The slot in which a store keeps its value while its pointer is checked, and where `break` and `continue` go.
-#[derive(Clone, Copy)]
-pub struct Targets {
-    pub scratch: u32,
-    pub on_break: u32,
-    pub on_continue: u32,
-}
-
-// A value and what is done with it.
-fn emit_with(ops: &mut Vec<Op>, value: &Expr, op: Op) -> Result<(), NoMemory>
-    ensures { OnOk result (ops.new.items ≡ ops.old.items ++ (code.expression_code (length ops.old.items) (expression value.now) ++ op ∷ [])) }
-{
-    emit_expression(ops, value)?;
-    put(ops, op)
-}
-
-// A call that has no result, behind its tick.
-fn emit_call(ops: &mut Vec<Op>, arguments: &[Expr], call: Op) -> Result<(), NoMemory>
-    ensures { OnOk result (ops.new.items ≡ ops.old.items ++ (code.arguments_code (length ops.old.items) (arguments_of arguments.now) ++ ops_of.Tick ∷ call ∷ [])) }
-{
-    emit_arguments(ops, arguments)?;
-    put_two(ops, Op::Tick, call)
-}
 
 // The address that a store needs before its value, or its pointer.
 fn emit_before_value(ops: &mut Vec<Op>, cell: &CellPlace) -> Result<(), NoMemory>
@@ -50,25 +26,6 @@ fn emit_before_value(ops: &mut Vec<Op>, cell: &CellPlace) -> Result<(), NoMemory
     match cell {
         CellPlace::Direct { object, offset, .. } => emit_address(ops, *object, *offset),
         CellPlace::Through { pointer, .. } => emit_expression(ops, pointer),
-    }
-}
-
-// What follows the value: the check of the pointer, while the value is kept in the scratch slot.
-fn emit_behind_value(
-    ops: &mut Vec<Op>,
-    scratch: u32,
-    ctype: &CType,
-    cell: &CellPlace,
-) -> Result<(), NoMemory>
-    ensures { OnOk result (ops.new.items ≡ ops.old.items ++ code.behind_value scratch (type_of ctype.now) (place_of cell.now)) }
-{
-    match cell {
-        CellPlace::Direct { .. } => put(ops, store_op(ctype)),
-        CellPlace::Through { offset, site, .. } => {
-            put(ops, Op::Set(scratch))?;
-            emit_through(ops, *offset, *site)?;
-            put_two(ops, Op::Local(scratch), store_op(ctype))
-        }
     }
 }
 
@@ -148,34 +105,6 @@ fn emit_jump(ops: &mut Vec<Op>, over: u32) -> Result<(), NoMemory>
 {
     let end = place_behind(ops, plus(over, 1)?)?;
     put(ops, Op::Jump(end))
-}
-
-// Where `break` and `continue` go in a loop that begins at the next instruction, by the sizes of its parts.
-fn loop_targets(
-    ops: &Vec<Op>,
-    scratch: u32,
-    body: u32,
-    step: u32,
-    condition: u32,
-) -> Result<Targets, NoMemory>
-    ensures { IfOk result (λ inner. targets_of inner ≡ loop_places scratch (length ops.now.items) body step condition) }
-{
-    let on_continue = place_behind(ops, plus(body, 2)?)?;
-    let test = plus(on_continue, step)?;
-    let on_break = plus(test, plus(condition, 2)?)?;
-    Ok(Targets {
-        scratch,
-        on_break,
-        on_continue,
-    })
-}
-
-// The head of a loop: a jump to its condition, and the tick with which each turn begins.
-fn begin_loop(ops: &mut Vec<Op>, step_place: u32, step: u32) -> Result<(), NoMemory>
-    ensures { OnOk result (ops.new.items ≡ ops.old.items ++ ops_of.Jump (step_place + step) ∷ ops_of.Tick ∷ []) }
-{
-    let test = plus(step_place, step)?;
-    put_two(ops, Op::Jump(test), Op::Tick)
 }
 
 // The end of a loop: its condition, and the jump to its tick where it holds.

@@ -11,7 +11,7 @@ use crate::items::items;
 use crate::walk::Walk;
 use checker_scope::sites::Sites;
 use ckc_core::program::Core;
-use ckc_names::named::Named;
+use name_resolution::named::Named;
 use ckc_text::fault::Refused;
 use std::alloc::Global;
 

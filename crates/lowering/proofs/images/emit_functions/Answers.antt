@@ -1,5 +1,5 @@
-use Rattle.lowering.specs.Correct.{IsFunction}
-use Rattle.lowering.proofs.Slices.{function_at}
+use Rattle.lowered_code.specs.Correct.{IsFunction}
+use Rattle.lowered_code.proofs.Slices.{function_at}
 use Rattle.lowering.proofs.images.emit_functions.Goals as goal
 
 pub emit_function-requires : goal.emit_function-requires

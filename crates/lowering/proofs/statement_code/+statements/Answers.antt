@@ -2,10 +2,10 @@ use Rattle.std.proofs.Common.{◌≡◌, ◌+◌, ◌++◌, length, refl, sym, a
 use Rattle.std.proofs.lemmas.Result.{IfOk-weaker}
 use Rattle.ckc_core.specs.Core as core
 use Rattle.ckc_core.specs.Core.{expression, statement}
-use Rattle.lowering.specs.Code.{statement_code}
-use Rattle.lowering.specs.Views.{targets_of}
-use Rattle.lowering.proofs.Slices.{block_of}
-use Rattle.lowering.proofs.Emitting.{if_emitted, loop_emitted, statements_emitted}
+use Rattle.lowered_code.specs.Code.{statement_code}
+use Rattle.code_fragments.specs.Views.{targets_of}
+use Rattle.lowered_code.proofs.Slices.{block_of}
+use Rattle.lowered_code.proofs.Emitting.{if_emitted, loop_emitted, statements_emitted}
 use Rattle.lowering.proofs.statement_code.+statements.Goals as goal
 
 pub emit_statement-returns-in-Block : goal.emit_statement-returns-in-Block

@@ -1,6 +1,6 @@
 use Rattle.std.proofs.lemmas.Result.{IfOk-weaker}
 use Rattle.ckc_core.specs.Core.{expression}
-use Rattle.lowering.proofs.Emitting.{condition_emitted}
+use Rattle.lowered_code.proofs.Emitting.{condition_emitted}
 use Rattle.lowering.proofs.statement_code.emit_condition.Goals as goal
 
 pub returns : goal.returns

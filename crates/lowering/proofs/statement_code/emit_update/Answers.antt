@@ -1,7 +1,7 @@
 use Rattle.std.proofs.lemmas.Result.{IfOk-weaker}
 use Rattle.pointer_modes.specs.Types.{ctype}
 use Rattle.ckc_core.specs.Core.{expression, place}
-use Rattle.lowering.proofs.Emitting.{update_emitted}
+use Rattle.lowered_code.proofs.Emitting.{update_emitted}
 use Rattle.lowering.proofs.statement_code.emit_update.Goals as goal
 
 pub returns : goal.returns

@@ -1,0 +1,15 @@
+// The end of a call.
+
+ghost use Rattle.std.specs.Prelude.{◌≡◌, ◌∷◌, [], ◌++◌, OnOk};
+ghost use Rattle.code_words.specs.declared.op.Op.TheVariants as ops_of;
+
+use ckc_text::fault::NoMemory;
+use code_words::op::Op;
+use lowered_code::instructions::put_two;
+
+/// What follows the arguments of a call: its tick, and the call.
+pub fn put_call(ops: &mut Vec<Op>, call: Op) -> Result<(), NoMemory>
+    ensures { OnOk result (ops.new.items ≡ ops.old.items ++ ops_of.Tick ∷ call ∷ []) }
+{
+    put_two(ops, Op::Tick, call)
+}

@@ -1,0 +1,7 @@
+// Pieces of code around the parts of a program: addresses and their checks, calls, the heads of loops, the bytes of cells.
+#![tactic(auto)]
+
+pub mod addresses;
+pub mod calls;
+pub mod cells;
+pub mod loops;

@@ -1,0 +1,283 @@
+-- The code of a program: which instructions each of its parts becomes. An instruction's place is its number in its function,
+-- which jumps name; so the code of a part takes the place of its first instruction.
+use Rattle.std.specs.Prelude.{ℕ, zero, suc, ◌+◌, Bool, true, false, List, [], ◌∷◌, ◌++◌, length, Option, Some, None, pos}
+use Rattle.act_words.specs.Numbers.{signed}
+use Rattle.pointer_modes.specs.Types.{CType, Int, Char, Struct, Pointer}
+use Rattle.ckc_core.specs.declared.program.Operator.{Operator}
+use Rattle.ckc_core.specs.declared.program.Operator.TheVariants as operators
+use Rattle.ckc_core.specs.declared.program.Comparison.{Comparison}
+use Rattle.ckc_core.specs.declared.program.Comparison.TheVariants as comparisons
+use Rattle.ckc_core.specs.declared.program.Site.{Site}
+use Rattle.ckc_core.specs.Core as core
+use Rattle.ckc_core.specs.Meaning.{is_char}
+use Rattle.code_words.specs.declared.op.Op.{Op}
+use Rattle.code_words.specs.declared.op.Op.TheVariants as ops
+use Rattle.code_words.specs.declared.image.WordKind.{WordKind}
+use Rattle.code_words.specs.declared.image.WordKind.TheVariants as kinds
+
+-- ---- single instructions
+
+abbrev pub operator_code : Operator → Site → Op
+operator_code operators.Add site = ops.Add site.place
+operator_code operators.Subtract site = ops.Sub site.place
+operator_code operators.Multiply site = ops.Mul site.place
+operator_code operators.Divide site = ops.Div site.place
+operator_code operators.Remainder site = ops.Rem site.place
+operator_code operators.ShiftLeft site = ops.Shl site.place
+operator_code operators.ShiftRight site = ops.Shr site.place
+operator_code operators.And site = ops.And
+operator_code operators.Or site = ops.Or
+operator_code operators.Xor site = ops.Xor
+
+abbrev pub comparison_code : Comparison → Op
+comparison_code comparisons.Equal = ops.Equal
+comparison_code comparisons.NotEqual = ops.NotEqual
+comparison_code comparisons.Less = ops.Less
+comparison_code comparisons.LessEqual = ops.LessEqual
+comparison_code comparisons.Greater = ops.Greater
+comparison_code comparisons.GreaterEqual = ops.GreaterEqual
+
+-- a cell of type `char` has one byte, and all others have four
+abbrev pub load_if : Bool → Op
+load_if true = ops.Load1
+load_if false = ops.Load4
+
+abbrev pub store_if : Bool → Op
+store_if true = ops.Store1
+store_if false = ops.Store4
+
+abbrev pub load_code : CType → Op
+load_code type = load_if (is_char type)
+
+abbrev pub store_code : CType → Op
+store_code type = store_if (is_char type)
+
+-- so many bytes behind an address
+abbrev pub offset_code : ℕ → List Op
+offset_code zero = []
+offset_code (suc n) = ops.Const (signed (suc n)) ∷ ops.WrapAdd ∷ []
+
+-- the address of a cell of a file-level variable
+abbrev pub address_code : ℕ → ℕ → List Op
+address_code object offset = ops.BlockAddress object ∷ offset_code offset
+
+-- the address of a cell behind a pointer, whose word is on the stack
+abbrev pub through_code : ℕ → Site → List Op
+through_code offset site = ops.NonNull site.place ∷ offset_code offset
+
+-- keeps a number modulo 256, where it has to be
+abbrev pub byte_code : Bool → List Op
+byte_code true = ops.Byte ∷ []
+byte_code false = []
+
+-- ---- how many instructions there are
+
+abbrev pub offset_size : ℕ → ℕ
+offset_size zero = 0
+offset_size (suc n) = 2
+
+abbrev pub byte_size : Bool → ℕ
+byte_size true = 1
+byte_size false = 0
+
+abbrev mutual
+  pub expression_size : core.Expression → ℕ
+  expression_size (core.Number number) = 1
+  expression_size core.Null = 1
+  expression_size (core.Local local) = 1
+  expression_size (core.Load type p) = place_size p + 1
+  expression_size (core.AddressOf object cell offset) = 1 + offset_size offset
+  expression_size (core.AddressThrough pointer cell offset site) = expression_size pointer + (1 + offset_size offset)
+  expression_size (core.Negate operand site) = expression_size operand + 1
+  expression_size (core.Complement operand) = expression_size operand + 1
+  expression_size (core.Not operand) = expression_size operand + 1
+  expression_size (core.Arithmetic operator left right site) = expression_size left + (expression_size right + 1)
+  expression_size (core.Compare comparison left right) = expression_size left + (expression_size right + 1)
+  expression_size (core.Same left right) = expression_size left + (expression_size right + 1)
+  expression_size (core.AndAlso left right) = expression_size left + (expression_size right + 5)
+  expression_size (core.OrElse left right) = expression_size left + (expression_size right + 5)
+  expression_size (core.LowByte operand) = expression_size operand + 1
+  expression_size (core.Call function arguments) = arguments_size arguments + 2
+  expression_size (core.TaintedCall import arguments site) = arguments_size arguments + 2
+  expression_size core.NextInput = 1
+
+  pub arguments_size : core.Arguments → ℕ
+  arguments_size core.Done = 0
+  arguments_size (core.More first rest) = expression_size first + arguments_size rest
+
+  pub place_size : core.Place → ℕ
+  place_size (core.Direct object cell offset) = 1 + offset_size offset
+  place_size (core.Through pointer cell offset site) = expression_size pointer + (1 + offset_size offset)
+
+-- what a store has before its value, and behind it
+abbrev pub before_value_size : core.Place → ℕ
+before_value_size (core.Direct object cell offset) = 1 + offset_size offset
+before_value_size (core.Through pointer cell offset site) = expression_size pointer
+
+abbrev pub behind_value_size : core.Place → ℕ
+behind_value_size (core.Direct object cell offset) = 1
+behind_value_size (core.Through pointer cell offset site) = 4 + offset_size offset
+
+abbrev mutual
+  pub statement_size : core.Statement → ℕ
+  statement_size core.Nothing = 0
+  statement_size (core.SetLocal local value) = expression_size value + 1
+  statement_size (core.Store type p value) = before_value_size p + (expression_size value + behind_value_size p)
+  statement_size (core.UpdateLocal char local operator value site) = 1 + (expression_size value + (1 + (byte_size char + 1)))
+  statement_size (core.Update type p operator value site) = place_size p + (2 + (expression_size value + (1 + (byte_size (is_char type) + 1))))
+  statement_size (core.Evaluate value) = expression_size value + 1
+  statement_size (core.CallAlone function arguments) = arguments_size arguments + 2
+  statement_size (core.TaintedAlone import arguments site) = arguments_size arguments + 2
+  statement_size (core.Print number) = expression_size number + 1
+  statement_size (core.PutByte number) = expression_size number + 1
+  statement_size (core.Block inner) = statements_size inner
+  statement_size (core.If condition consequent alternative) = expression_size condition + (1 + (statement_size consequent + (1 + statement_size alternative)))
+  statement_size (core.Loop condition body step) = 2 + (statement_size body + (statement_size step + (expression_size condition + 2)))
+  statement_size (core.Return value) = expression_size value + 1
+  statement_size core.ReturnNothing = 1
+  statement_size core.Break = 1
+  statement_size core.Continue = 1
+
+  pub statements_size : core.Statements → ℕ
+  statements_size core.NoMore = 0
+  statements_size (core.Then first others) = statement_size first + statements_size others
+
+-- ---- expressions
+
+abbrev mutual
+  -- leaves the word of the expression's value on the stack
+  pub expression_code : ℕ → core.Expression → List Op
+  expression_code at (core.Number number) = ops.Const number ∷ []
+  expression_code at core.Null = ops.Const (pos 0) ∷ []
+  expression_code at (core.Local local) = ops.Local local ∷ []
+  expression_code at (core.Load type p) = place_code at p ++ load_code type ∷ []
+  expression_code at (core.AddressOf object cell offset) = address_code object offset
+  expression_code at (core.AddressThrough pointer cell offset site) = expression_code at pointer ++ through_code offset site
+  expression_code at (core.Negate operand site) = expression_code at operand ++ ops.Neg site.place ∷ []
+  expression_code at (core.Complement operand) = expression_code at operand ++ ops.Not ∷ []
+  expression_code at (core.Not operand) = expression_code at operand ++ ops.Zero ∷ []
+  expression_code at (core.Arithmetic operator left right site) =
+      expression_code at left ++ (expression_code (at + expression_size left) right ++ operator_code operator site ∷ [])
+  expression_code at (core.Compare comparison left right) =
+      expression_code at left ++ (expression_code (at + expression_size left) right ++ comparison_code comparison ∷ [])
+  expression_code at (core.Same left right) = expression_code at left ++ (expression_code (at + expression_size left) right ++ ops.Equal ∷ [])
+  -- where the left one is 0 or null the right one is passed over, and the result is 0
+  expression_code at (core.AndAlso left right) =
+      expression_code at left
+      ++ ops.JumpIfZero (at + expression_size left + 1 + expression_size right + 3)
+      ∷ (expression_code (at + expression_size left + 1) right
+      ++ ops.Zero ∷ ops.Zero ∷ ops.Jump (at + expression_size left + 1 + expression_size right + 4) ∷ ops.Const (pos 0) ∷ [])
+  -- where the left one is neither the right one is passed over, and the result is 1
+  expression_code at (core.OrElse left right) =
+      expression_code at left
+      ++ ops.JumpIfZero (at + expression_size left + 3)
+      ∷ ops.Const (pos 1)
+      ∷ ops.Jump (at + expression_size left + 3 + expression_size right + 2)
+      ∷ (expression_code (at + expression_size left + 3) right ++ ops.Zero ∷ ops.Zero ∷ [])
+  expression_code at (core.LowByte operand) = expression_code at operand ++ ops.Byte ∷ []
+  expression_code at (core.Call function arguments) = arguments_code at arguments ++ ops.Tick ∷ ops.Call function ∷ []
+  expression_code at (core.TaintedCall import arguments site) = arguments_code at arguments ++ ops.Tick ∷ ops.TaintedCall import site.place ∷ []
+  expression_code at core.NextInput = ops.NextInput ∷ []
+
+  -- leaves the words of the arguments there, the last on top
+  pub arguments_code : ℕ → core.Arguments → List Op
+  arguments_code at core.Done = []
+  arguments_code at (core.More first rest) = expression_code at first ++ arguments_code (at + expression_size first) rest
+
+  -- leaves the address of the cell there
+  pub place_code : ℕ → core.Place → List Op
+  place_code at (core.Direct object cell offset) = address_code object offset
+  place_code at (core.Through pointer cell offset site) = expression_code at pointer ++ through_code offset site
+
+-- ---- statements
+
+-- the slot behind the locals, in which a store keeps its value while its pointer is checked, and where `break` and `continue` go
+pub record Places : Type 0 where
+  pub scratch : ℕ
+  pub on_break : ℕ
+  pub on_continue : ℕ
+
+-- where they go in the body of a loop, by its place and the sizes of its body, its step and its condition
+abbrev pub loop_places : ℕ → ℕ → ℕ → ℕ → ℕ → Places
+loop_places scratch at body step condition = record { scratch = scratch; on_break = at + 2 + body + step + condition + 2; on_continue = at + 2 + body }
+
+-- the address that a store needs before its value, or its pointer
+abbrev pub before_value : ℕ → core.Place → List Op
+before_value at (core.Direct object cell offset) = address_code object offset
+before_value at (core.Through pointer cell offset site) = expression_code at pointer
+
+-- what follows the value
+abbrev pub behind_value : ℕ → CType → core.Place → List Op
+behind_value scratch type (core.Direct object cell offset) = store_code type ∷ []
+behind_value scratch type (core.Through pointer cell offset site) =
+    ops.Set scratch ∷ (through_code offset site ++ ops.Local scratch ∷ store_code type ∷ [])
+
+abbrev mutual
+  pub statement_code : Places → ℕ → core.Statement → List Op
+  statement_code p at core.Nothing = []
+  statement_code p at (core.SetLocal local value) = expression_code at value ++ ops.Set local ∷ []
+  statement_code p at (core.Store type cell value) =
+      before_value at cell ++ (expression_code (at + before_value_size cell) value ++ behind_value p.scratch type cell)
+  statement_code p at (core.UpdateLocal char local operator value site) =
+      ops.Local local ∷ (expression_code (at + 1) value ++ operator_code operator site ∷ (byte_code char ++ ops.Set local ∷ []))
+  statement_code p at (core.Update type cell operator value site) =
+      place_code at cell
+      ++ ops.Duplicate
+      ∷ load_code type
+      ∷ (expression_code (at + place_size cell + 2) value ++ operator_code operator site ∷ (byte_code (is_char type) ++ store_code type ∷ []))
+  statement_code p at (core.Evaluate value) = expression_code at value ++ ops.Discard ∷ []
+  statement_code p at (core.CallAlone function arguments) = arguments_code at arguments ++ ops.Tick ∷ ops.Call function ∷ []
+  statement_code p at (core.TaintedAlone import arguments site) = arguments_code at arguments ++ ops.Tick ∷ ops.TaintedCall import site.place ∷ []
+  statement_code p at (core.Print number) = expression_code at number ++ ops.Print ∷ []
+  statement_code p at (core.PutByte number) = expression_code at number ++ ops.PutByte ∷ []
+  statement_code p at (core.Block inner) = statements_code p at inner
+  statement_code p at (core.If condition consequent alternative) =
+      let inside = at + expression_size condition + 1 in
+      let other = inside + statement_size consequent + 1 in
+      expression_code at condition
+      ++ ops.JumpIfZero other
+      ∷ (statement_code p inside consequent ++ ops.Jump (other + statement_size alternative) ∷ statement_code p other alternative)
+  -- The condition stands behind the body and the step, and is where the loop begins. Each turn begins with a tick. `break` and
+  -- `continue` in the step are those of the loop around it.
+  statement_code p at (core.Loop condition body step) =
+      let inside = at + 2 in
+      let next = inside + statement_size body in
+      let test = next + statement_size step in
+      let end = test + expression_size condition + 2 in
+      let q : Places = record { scratch = p.scratch; on_break = end; on_continue = next } in
+      ops.Jump test
+      ∷ ops.Tick
+      ∷ (statement_code q inside body
+      ++ (statement_code p next step ++ (expression_code test condition ++ ops.JumpIfZero end ∷ ops.Jump (at + 1) ∷ [])))
+  statement_code p at (core.Return value) = expression_code at value ++ ops.Return ∷ []
+  statement_code p at core.ReturnNothing = ops.ReturnNothing ∷ []
+  statement_code p at core.Break = ops.Jump p.on_break ∷ []
+  statement_code p at core.Continue = ops.Jump p.on_continue ∷ []
+
+  pub statements_code : Places → ℕ → core.Statements → List Op
+  statements_code p at core.NoMore = []
+  statements_code p at (core.Then first others) = statement_code p at first ++ statements_code p (at + statement_size first) others
+
+-- ---- functions and the whole program
+
+-- a body that runs to its end gives 0 or null back, or nothing
+abbrev pub ending_code : Option CType → List Op
+ending_code None = ops.ReturnNothing ∷ []
+ending_code (Some type) = ops.Const (pos 0) ∷ ops.Return ∷ []
+
+abbrev pub kind_of : CType → WordKind
+kind_of Int = kinds.Int
+kind_of Char = kinds.Char
+kind_of (Struct number) = kinds.Pointer
+kind_of (Pointer mode kind target) = kinds.Pointer
+
+abbrev pub result_kind : Option CType → WordKind
+result_kind None = kinds.Void
+result_kind (Some type) = kind_of type
+
+-- outside of loops, `break` and `continue` lead to the end of the body
+abbrev pub body_places : core.Function → Places
+body_places f = record { scratch = length f.locals; on_break = statements_size f.body; on_continue = statements_size f.body }
+
+abbrev pub function_ops : core.Function → List Op
+function_ops f = statements_code (body_places f) 0 f.body ++ ending_code f.result

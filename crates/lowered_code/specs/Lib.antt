@@ -1,0 +1,4 @@
+pub mod Code
+pub mod Images
+pub mod Correct
+pub mod Examples

@@ -1,0 +1,10 @@
+// Whether each name of a program is visible where it stands: a walk over the tree.
+#![tactic(auto)]
+
+mod declarations;
+mod expressions;
+mod items;
+pub mod laws;
+pub mod named;
+pub mod resolve;
+mod statements;
