@@ -24,6 +24,7 @@ use act_words::settings::Settings;
 use ckc_io::shelf::Shelf;
 use ckc_text::fault::NoMemory;
 use code_words::image::Image;
+use instruction_steps::running;
 use sandbox_actor::actor::{Actor, ActorFault, Now};
 use std::alloc::Global;
 use two_memory_machine::event::{Event, Waiting};
@@ -176,7 +177,7 @@ impl<'a> Play<'a> {
         ensures sooner { IfOk result (λ ending. FallsUnless ending self.old.machine self.new.machine) }
         ensures settings { self.new.settings ≡ self.old.settings }
     {
-        let event = self.machine.run_on();
+        let event = running::run_on(&mut self.machine);
         self.tell(alloc, &event)?;
         Ok(ending_of(&event))
     }

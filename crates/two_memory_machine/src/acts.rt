@@ -11,7 +11,6 @@ ghost use Rattle.code_words.specs.Moves.{make_touch, before_touch_by, in_sandbox
 ghost use Rattle.two_memory_machine.specs.Machines.{Touching};
 ghost use Rattle.two_memory_machine.specs.Steps.{MovesBy, IsSuspended, moved_if, bytes_if, EndsBy, EventBy};
 
-use crate::calls::{Link, MAX_DEPTH};
 use crate::event::Event;
 use crate::machine::{Machine, Pending, Phase};
 use act_words::act::{Act, Release, Seen};
@@ -22,6 +21,8 @@ use ckc_text::code::Code;
 use ckc_text::place::Place;
 use code_words::image::WordKind;
 use flat_bytes::words;
+use machine_arithmetic::limits;
+use machine_memory::calls::Link;
 
 /// The end of a run that no line of the table goes on with.
 pub const WILD: Ending = Ending::Stop {
@@ -190,7 +191,7 @@ impl<'a> Machine<'a> {
         requires { len ≤ 64 }
         ensures { result ≡ bytes_if (lies_in at len self.now.sandbox) at len self.now.sandbox }
     {
-        if !self.holds(at, len as usize) {
+        if !limits::lie_in(at, len as usize, self.sandbox.len()) {
             return None;
         }
         let at = at as usize;
@@ -203,7 +204,7 @@ impl<'a> Machine<'a> {
         requires few { length bytes.now ≤ 64 }
         ensures { MovesBy (λ s. moved_if (written at bytes.now s.world) s) self.old result self.new }
     {
-        if !self.holds(at, bytes.len()) {
+        if !limits::lie_in(at, bytes.len(), self.sandbox.len()) {
             return self.stop_by_act(Code::S4);
         }
         let at = at as usize;
@@ -211,21 +212,12 @@ impl<'a> Machine<'a> {
         Event::Ran
     }
 
-    // Whether bytes from a place on lie in the sandbox's memory.
-    fn holds(&self, at: u32, len: usize) -> bool
-        requires { len ≤ 64 }
-        ensures { result ≡ lies_in at len self.now.sandbox }
-    {
-        at as usize + len <= self.sandbox.len()
-    }
-
     // Ends the run by the act that was taken last.
     pub(crate) fn stop_by_act(&mut self, code: Code) -> Event
         ensures ends { EndsBy self.old (Ending.Stop code (Some self.old.taken)) result self.new }
         ensures line { MovesBy (λ s. Over (stopped_by_act code s.world) s) self.old result self.new }
     {
-        let act = Some(self.taken);
-        self.end_move(Ending::Stop { code, act })
+        self.end_move(limits::stop_by_act(code, self.taken))
     }
 
     // Ends the run by an act, or where none is left.
