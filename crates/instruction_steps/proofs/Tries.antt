@@ -14,9 +14,11 @@ use Rattle.act_words.specs.declared.ending.Ending.{Ending}
 use Rattle.two_memory_machine.specs.Machines.{Machine, Gives, TellsStep, Steps, StepsIf, is_input, next_op_of, state_of, waiting_of}
 use Rattle.instruction_steps.specs.Families.{family}
 use Rattle.two_memory_machine.specs.Steps.{EventBy, GoesBy, Brings, Acts, Performs, TellsSomething, event_of}
-use Rattle.instruction_steps.specs.Running.{IsStep, IsEndedIf}
-use Rattle.two_memory_machine.proofs.Moving.{stands_in, runs_of, steps_from, steps_wild, performs_over, step_over, gives_told, event_told}
+use Rattle.machine_interaction.specs.Told.{IsStep}
+use Rattle.instruction_steps.specs.Running.{IsEndedIf}
+use Rattle.two_memory_machine.proofs.Moving.{stands_in, runs_of, steps_wild, step_over, gives_told, event_told}
 use Rattle.two_memory_machine.proofs.Ends.{step_sooner}
+use Rattle.machine_interaction.proofs.Stepped.{stepped}
 
 -- behind a step that tells nothing an instruction is next
 pub runs_again : (old new : Machine) → Steps old Ran new → waiting_of new ≡ waiting.Runs
@@ -44,13 +46,6 @@ other_family _ input line byte = omega arith
 pub performs_told : (old new : Machine) (event : Event) (outcome : Outcome) (op : Op) → 1 ≤ family op → event ≡ event_of outcome new.over → Acts op old outcome new → Performs op old event new
 performs_told old new event outcome op other told acts =
     rw (no_input op other, told) (λ f here all inputs events. gives_told all inputs events _ old new outcome (acts f here all inputs events))
-
--- a step that does what the next instruction says
-pub stepped : (old new : Machine) (event : Event) (op : Op) → IsTrue (is_paced old.image) → waiting_of old ≡ waiting.Runs → next_op_of old ≡ Some op → Performs op old event new → IsStep old event new
-stepped old new event op paced waits next performs =
-    let runs = runs_of old.over old.doing waits in
-    let steps = steps_from old new event op runs.1 next performs in
-    record { steps = steps; over = performs_over old new event op runs.0 next performs; sooner = step_sooner old new event paced runs.0 runs.1 steps }
 
 -- a step where no instruction stands
 pub stepped_wild : (old new : Machine) (event : Event) → IsTrue (is_paced old.image) → waiting_of old ≡ waiting.Runs → next_op_of old ≡ None → EventBy wild old event new → IsStep old event new

@@ -3,6 +3,7 @@
 ghost use Rattle.std.specs.Prelude.{◌≡◌};
 ghost use Rattle.two_memory_machine.specs.Steps.{Acts, IsReady};
 
+use crate::stack;
 use ckc_text::code::Code;
 use ckc_text::place::Place;
 use code_words::op::Op;
@@ -19,7 +20,7 @@ pub fn non_null(machine: &mut Machine, place: Place) -> Outcome
     let Some(word) = machine.word() else {
         return machine.end_wild();
     };
-    machine.check(0, limits::is_not_null(word), Code::C1, place)
+    stack::check(machine, 0, limits::is_not_null(word), Code::C1, place)
 }
 
 /// Goes on if an element lies between ends (C2).
@@ -45,7 +46,7 @@ pub fn check_in(
         size,
     };
     let holds = ends.hold(pointer, index);
-    machine.check(5, holds, Code::C2, place)
+    stack::check(machine, 5, holds, Code::C2, place)
 }
 
 /// Goes on if an element lies between ends, or at the upper one (C2).
@@ -71,7 +72,7 @@ pub fn check_up_to(
         size,
     };
     let holds = ends.reach(pointer, index);
-    machine.check(5, holds, Code::C2, place)
+    stack::check(machine, 5, holds, Code::C2, place)
 }
 
 /// Goes on if the value is 0 or the element doesn't lie at the upper end (C3).
@@ -91,7 +92,7 @@ pub fn check_term(machine: &mut Machine, high_plus: i64, size: u32, place: Place
         size,
     };
     let holds = ends.leave_end(pointer, index, value);
-    machine.check(5, holds, Code::C3, place)
+    stack::check(machine, 5, holds, Code::C3, place)
 }
 
 /// Goes on if new ends lie within old ones, unless they are turned or the pointer below is null (C5).
@@ -127,7 +128,7 @@ pub fn check_contain(
         size,
     };
     let holds = old.contain(pointer, &new);
-    machine.check(6, holds, Code::C5, place)
+    stack::check(machine, 6, holds, Code::C5, place)
 }
 
 /// Goes on if ends lie in the sandbox's memory, with so many bytes more, unless they are turned or the pointer below is
@@ -156,7 +157,7 @@ pub fn check_lies(
     };
     let memory = machine.sandbox_size();
     let holds = ends.lie_in(memory, pointer, more);
-    machine.check(3, holds, Code::C5, place)
+    stack::check(machine, 3, holds, Code::C5, place)
 }
 
 /// Goes on if the bytes from the topmost word on lie in the sandbox's memory (C4).
@@ -169,5 +170,5 @@ pub fn check_range(machine: &mut Machine, offset: u32, len: u32, place: Place) -
     };
     let end = u64::from(word) + u64::from(offset) + u64::from(len);
     let holds = end <= u64::from(machine.sandbox_size());
-    machine.check(0, holds, Code::C4, place)
+    stack::check(machine, 0, holds, Code::C4, place)
 }

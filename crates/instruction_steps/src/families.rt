@@ -7,7 +7,9 @@ ghost use Rattle.two_memory_machine.specs.Steps.{Acts, IsReady};
 use crate::bounds;
 use crate::memory;
 use crate::operations;
+use crate::stack;
 use code_words::op::Op;
+use machine_interaction::touches;
 use two_memory_machine::machine::Machine;
 use two_memory_machine::outcome::Outcome;
 
@@ -25,14 +27,14 @@ pub fn perform(machine: &mut Machine, op: &Op) -> Outcome
         Op::Duplicate => operations::duplicate(machine),
         Op::BlockAddress(k) => machine.block_address(*k),
         Op::BlockOffset(k) => machine.block_offset(*k),
-        Op::Jump(target) => machine.jump(*target),
-        Op::JumpIfZero(target) => machine.jump_if_zero(*target),
+        Op::Jump(target) => stack::jump(machine, *target),
+        Op::JumpIfZero(target) => stack::jump_if_zero(machine, *target),
         Op::Call(k) => machine.call(*k),
         Op::TaintedCall { import, place } => machine.call_tainted(*import, *place),
         Op::CallBack(_) => machine.end_wild(),
         Op::Return => memory::return_word(machine),
         Op::ReturnNothing => memory::return_nothing(machine),
-        Op::Tick => machine.tick(),
+        Op::Tick => stack::tick(machine),
         _ => calculate(machine, op),
     }
 }
@@ -113,10 +115,10 @@ fn reach(machine: &mut Machine, op: &Op) -> Outcome
         Op::Load4 => memory::load_4(machine),
         Op::Store1 => memory::store_1(machine),
         Op::Store4 => memory::store_4(machine),
-        Op::TouchLoad1 => memory::touch_load_1(machine),
-        Op::TouchLoad4 => memory::touch_load_4(machine),
-        Op::TouchStore1 => memory::touch_store_1(machine),
-        Op::TouchStore4 => memory::touch_store_4(machine),
+        Op::TouchLoad1 => touches::touch_load_1(machine),
+        Op::TouchLoad4 => touches::touch_load_4(machine),
+        Op::TouchStore1 => touches::touch_store_1(machine),
+        Op::TouchStore4 => touches::touch_store_4(machine),
         Op::Alloc { size } => memory::alloc(machine, *size),
         Op::AllocTerminated { size } => memory::alloc_terminated(machine, *size),
         Op::SandboxAlloc { size } => machine.sandbox_alloc(*size),

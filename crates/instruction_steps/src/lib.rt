@@ -7,3 +7,4 @@ pub mod laws;
 mod memory;
 mod operations;
 pub mod running;
+mod stack;

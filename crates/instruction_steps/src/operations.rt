@@ -3,6 +3,7 @@
 ghost use Rattle.std.specs.Prelude.{◌≡◌};
 ghost use Rattle.two_memory_machine.specs.Steps.{Acts, IsReady};
 
+use crate::stack;
 use ckc_text::place::Place;
 use code_words::op::Op;
 use machine_arithmetic::arithmetic;
@@ -18,7 +19,7 @@ pub fn add(machine: &mut Machine, place: Place) -> Outcome
         return machine.end_wild();
     };
     let number = arithmetic::add(place, left, right);
-    machine.push_number(2, number)
+    stack::push_number(machine, 2, number)
 }
 
 /// Pops two numbers, and pushes their difference.
@@ -30,7 +31,7 @@ pub fn subtract(machine: &mut Machine, place: Place) -> Outcome
         return machine.end_wild();
     };
     let number = arithmetic::subtract(place, left, right);
-    machine.push_number(2, number)
+    stack::push_number(machine, 2, number)
 }
 
 /// Pops two numbers, and pushes their product.
@@ -42,7 +43,7 @@ pub fn multiply(machine: &mut Machine, place: Place) -> Outcome
         return machine.end_wild();
     };
     let number = arithmetic::multiply(place, left, right);
-    machine.push_number(2, number)
+    stack::push_number(machine, 2, number)
 }
 
 /// Pops two numbers, and pushes their quotient.
@@ -54,7 +55,7 @@ pub fn divide(machine: &mut Machine, place: Place) -> Outcome
         return machine.end_wild();
     };
     let number = arithmetic::divide(place, left, right);
-    machine.push_number(2, number)
+    stack::push_number(machine, 2, number)
 }
 
 /// Pops two numbers, and pushes their remainder.
@@ -66,7 +67,7 @@ pub fn remainder(machine: &mut Machine, place: Place) -> Outcome
         return machine.end_wild();
     };
     let number = arithmetic::remainder(place, left, right);
-    machine.push_number(2, number)
+    stack::push_number(machine, 2, number)
 }
 
 /// Pops two numbers, and pushes their shifted number.
@@ -78,7 +79,7 @@ pub fn shift_left(machine: &mut Machine, place: Place) -> Outcome
         return machine.end_wild();
     };
     let number = arithmetic::shift_left(place, left, right);
-    machine.push_number(2, number)
+    stack::push_number(machine, 2, number)
 }
 
 /// Pops two numbers, and pushes their shifted number.
@@ -90,7 +91,7 @@ pub fn shift_right(machine: &mut Machine, place: Place) -> Outcome
         return machine.end_wild();
     };
     let number = arithmetic::shift_right(place, left, right);
-    machine.push_number(2, number)
+    stack::push_number(machine, 2, number)
 }
 
 /// Pops a number, and pushes it negated.
@@ -102,7 +103,7 @@ pub fn negate(machine: &mut Machine, place: Place) -> Outcome
         return machine.end_wild();
     };
     let number = arithmetic::negate(place, word);
-    machine.push_number(1, number)
+    stack::push_number(machine, 1, number)
 }
 
 /// Pops an address and an index, and pushes the address of the element.

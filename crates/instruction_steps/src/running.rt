@@ -1,12 +1,13 @@
 // Many steps at once.
 
 ghost use Rattle.std.specs.Prelude.{◌≡◌, ◌<◌};
-ghost use Rattle.two_memory_machine.specs.Machines.{Steps, waiting_of, next_op_of, ending_given, moves_left};
+ghost use Rattle.two_memory_machine.specs.Machines.{Steps, waiting_of, ending_given, moves_left};
 ghost use Rattle.two_memory_machine.specs.Steps.{TellsSomething};
-ghost use Rattle.instruction_steps.specs.Running.{StepsOn, TriesStep, IsTold};
+ghost use Rattle.instruction_steps.specs.Running.{StepsOn, TriesStep};
 
 use crate::families;
 use code_words::op::Op;
+use machine_interaction::told::told_step;
 use two_memory_machine::event::{Event, Waiting};
 use two_memory_machine::machine::Machine;
 use two_memory_machine::outcome::Outcome;
@@ -52,26 +53,5 @@ fn try_step(machine: &mut Machine) -> Option<Outcome>
     match op {
         Op::NextInput | Op::Print | Op::PutByte => None,
         _ => Some(families::perform(machine, op)),
-    }
-}
-
-// Makes the next step, which writes or waits for a number.
-#[inline(never)]
-fn told_step(machine: &mut Machine) -> Event
-    requires runs { waiting_of machine.old ≡ Waiting.Runs }
-    requires told { IsTold (next_op_of machine.old) }
-    ensures steps { Steps machine.old result machine.new }
-    ensures over { machine.new.over ≡ ending_given result }
-    ensures told { TellsSomething result }
-    ensures sooner { moves_left machine.new < moves_left machine.old }
-{
-    let Some(op) = machine.op() else {
-        unreachable!();
-    };
-    match op {
-        Op::NextInput => machine.next_input(),
-        Op::Print => machine.print(),
-        Op::PutByte => machine.put_byte(),
-        _ => unreachable!(),
     }
 }

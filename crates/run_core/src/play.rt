@@ -25,6 +25,7 @@ use ckc_io::shelf::Shelf;
 use ckc_text::fault::NoMemory;
 use code_words::image::Image;
 use instruction_steps::running;
+use machine_interaction::acts;
 use sandbox_actor::actor::{Actor, ActorFault, Now};
 use std::alloc::Global;
 use two_memory_machine::event::{Event, Waiting};
@@ -296,7 +297,7 @@ impl<'a> Play<'a> {
         ensures settings { self.new.settings ≡ self.old.settings }
     {
         let turn = self.machine.turn();
-        let event = self.machine.act(act);
+        let event = acts::act(&mut self.machine, act);
         self.tell(alloc, &event)?;
         if let Some(ending) = ending_of(&event) {
             return Ok(Progressed::Ends { ending });

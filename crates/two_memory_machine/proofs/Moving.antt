@@ -7,7 +7,7 @@ use Rattle.act_words.specs.declared.ending.Ending.{Ending}
 use Rattle.act_words.specs.declared.settings.Settings.{Settings}
 use Rattle.act_words.specs.Acts.{Act}
 use Rattle.act_words.specs.World
-use Rattle.act_words.specs.World.{World, NoAct, counted}
+use Rattle.act_words.specs.World.{World, NoAct}
 use Rattle.act_words.specs.Acting.{BeforeTouch, InSandbox, act_before_touch, act_in_sandbox, sandbox_ended}
 use Rattle.act_words.specs.Numbers.{word}
 use Rattle.code_words.specs.declared.op.Op.{Op}
@@ -19,7 +19,7 @@ use Rattle.code_words.specs.Moves.{move, make_touch, before_touch_by, in_sandbox
 use Rattle.two_memory_machine.specs.declared.event.Event.{Event}
 use Rattle.two_memory_machine.specs.declared.event.Event.TheVariants.{Ran, Asks, Input, Out, Showed, Touched, Ended}
 use Rattle.two_memory_machine.specs.declared.event.Waiting.TheVariants as waiting
-use Rattle.two_memory_machine.specs.Machines.{Machine, Doing, Running, NeedsNumber, Touching, Suspended, Gives, TellsStep, TellsAct, StepsIf, Steps, TakesAct, TakesEnd, is_input, next_op_of, state_of, world_of, turn_of, waiting_for, TakesNumber, TakesNoNumber, ending_given}
+use Rattle.two_memory_machine.specs.Machines.{Machine, with_one, Doing, Running, NeedsNumber, Touching, Suspended, Gives, TellsStep, TellsAct, StepsIf, Steps, TakesAct, TakesEnd, is_input, next_op_of, state_of, world_of, turn_of, waiting_for, TakesNumber, TakesNoNumber, ending_given}
 use Rattle.two_memory_machine.specs.declared.outcome.Outcome.{Outcome}
 use Rattle.two_memory_machine.specs.declared.outcome.Outcome.TheVariants as outcomes
 use Rattle.two_memory_machine.specs.Steps.{EventBy, GoesBy, Brings, IsIn, Acts, event_of, PerformsIf, Performs, MovesBy}
@@ -129,10 +129,6 @@ sandbox_in image settings (InSandbox.Keeps w) u s = refl
 sandbox_in image settings (InSandbox.Answers word w) u s = refl
 sandbox_in image settings (InSandbox.Calls k words w) u s = refl
 sandbox_in image settings (InSandbox.Ends ending w) u s = refl
-
--- one more act is taken
-abbrev pub with_one : Machine → Machine
-with_one m = record m { taken = counted m.taken }
 
 pub takes_before : (old new : Machine) (event : Event) (touch : Touch) (a : Act) → old.doing ≡ Touching touch →
     MovesBy (λ s. before_touch_by old.image old.frame touch (act_before_touch a s.world) s) (with_one old) event new → TakesAct old a event new

@@ -15,8 +15,8 @@ use machine_memory::callbacks;
 use machine_memory::calls::Link;
 
 impl<'a> Machine<'a> {
-    // Calls a callback for the sandbox: the count of arguments (S5), a tick (S1), an open call (S2), the arguments (C9, C4).
-    pub(crate) fn call_back(&mut self, k: u32, words: &[u32]) -> Event
+    /// Calls a callback for the sandbox: the count of arguments (S5), a tick (S1), an open call (S2), the arguments (C9, C4).
+    pub fn call_back(&mut self, k: u32, words: &[u32]) -> Event
         requires going { self.old.over ≡ None }
         requires suspended { IsSuspended self.old.doing }
         ensures { MovesBy (λ s. call_back self.old.image self.old.settings k (slice_get self.old.image.layout.callbacks k) words.now s) self.old result self.new }

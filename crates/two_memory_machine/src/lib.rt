@@ -1,7 +1,7 @@
 // The machine that runs an image: its memories, its open calls, and what single steps and acts do to them.
 #![tactic(auto)]
 
-mod acts;
+pub mod acts;
 mod callbacks;
 pub mod event;
 pub mod machine;

@@ -3,20 +3,18 @@
 ghost use Rattle.std.specs.Prelude.{◌≡◌, ◌+◌, ◌-◌, ◌^◌, ◌<◌, ◌≤◌, ◌⊎◌, List, length, drop, IfOk, IfSome, IsTrue, OnSome, None, Some, is_some, slice_get, pos};
 ghost use Rattle.std.specs.Option.{option_copied};
 ghost use Rattle.std.proofs.Common.{ℤ};
-ghost use Rattle.act_words.specs.Acts.{act_view};
 ghost use Rattle.trusted_memory.specs.Memories.{byte_of};
 ghost use Rattle.code_words.specs.Fitting.{Fits};
 ghost use Rattle.code_words.specs.Paced.{is_paced};
 ghost use Rattle.code_words.specs.declared.image.Func.{Func as FuncData};
-ghost use Rattle.code_words.specs.Table.{Over, wild, pop, pop_2, on_with, push, push_some, push_checked, check, load, store};
-ghost use Rattle.two_memory_machine.specs.Machines.{IsStart, waiting_of, turn_of, next_op_of, TakesAct, TakesEnd, TakesNumber, TakesNoNumber, ending_given, moves_left, Sooner, block_of};
-ghost use Rattle.machine_arithmetic.specs.CheckedNumbers.{checked_of};
+ghost use Rattle.code_words.specs.Table.{Over, wild, pop, pop_2, on_with, push, push_some, jump, load, store};
+ghost use Rattle.two_memory_machine.specs.Machines.{IsStart, waiting_of, turn_of, next_op_of, with_one, TakesEnd, TakesNumber, TakesNoNumber, ending_given, moves_left, block_of};
 ghost use Rattle.two_memory_machine.specs.Steps.{GoesBy, IsIn, Acts, IsReady, StopsBy, event_of, two_topmost, four_topmost, five_topmost, seven_topmost, top_words_of};
 
 use crate::acts::SANDBOX_ENDED;
 use crate::event::{Event, Waiting};
 use crate::outcome::Outcome;
-use act_words::act::{Act, Turn};
+use act_words::act::Turn;
 use act_words::ending::Ending;
 use act_words::octets::Octets;
 use act_words::settings::Settings;
@@ -165,22 +163,27 @@ impl<'a> Machine<'a> {
         }
     }
 
-    /// Takes an act of the sandbox.
-    pub fn act(&mut self, act: &Act) -> Event
-        requires { waiting_of self.old ≡ Waiting.Act }
-        ensures takes { TakesAct self.old (act_view act.now) result self.new }
-        ensures over { self.new.over ≡ ending_given result }
-        ensures sooner { Sooner (act_view act.now) self.old self.new }
+    /// Counts an act that is taken. Each loop of the image spends a tick.
+    pub fn count_act(&mut self)
+        ensures counts { self.new ≡ with_one self.old }
+        ensures paced { IsTrue (is_paced self.old.image) }
     {
         self.taken = self.taken.saturating_add(1);
-        match self.phase {
-            Phase::Touching { touch: _ } => self.act_before_touch(act),
-            Phase::Suspended {
-                import: _,
-                place: _,
-            } => self.act_in_sandbox(act),
-            Phase::Running | Phase::NeedsNumber => Event::Ran,
-        }
+    }
+
+    /// How many ticks were spent, and may be.
+    pub fn ticks(&self) -> (u32, u32)
+        ensures { result ≡ (self.now.ticks, self.now.settings.budget) }
+    {
+        (self.ticks, self.settings.budget)
+    }
+
+    /// Sets how many ticks were spent.
+    pub fn set_ticks(&mut self, ticks: u32)
+        requires { ticks ≤ self.old.settings.budget }
+        ensures { self.new ≡ record self.old { ticks = ticks } }
+    {
+        self.ticks = ticks;
     }
 
     /// Goes on where no act is left.
@@ -255,34 +258,6 @@ impl<'a> Machine<'a> {
             (Outcome::Asks, _) => Event::Asks,
             (Outcome::Ended, Some(ending)) => Event::Ended { ending },
         }
-    }
-
-    /// Pops words, and pushes the number of a check that holds.
-    pub fn push_number(&mut self, popped: usize, number: Result<i32, Ending>) -> Outcome
-        requires ready { IsReady self.old }
-        requires there { popped ≤ length self.old.frame.stack }
-        ensures { (f : FuncData) → IsIn self.old f
-            → GoesBy (push_checked f (checked_of number) (drop popped self.old.frame.stack) self.old.frame) self.old result self.new }
-    {
-        match number {
-            Ok(number) => self.push(popped, number.cast_unsigned()),
-            Err(ending) => self.end(ending),
-        }
-    }
-
-    /// Pops words, and goes on where a check holds.
-    #[tactic(auto, using(std::proofs::lemmas::Bool::Decides::nat_tests))]
-    pub fn check(&mut self, popped: usize, holds: bool, code: Code, place: Place) -> Outcome
-        requires ready { IsReady self.old }
-        requires there { popped ≤ length self.old.frame.stack }
-        ensures { GoesBy (check holds code place (drop popped self.old.frame.stack) self.old.frame) self.old result self.new }
-    {
-        if !holds {
-            return self.end(Ending::Check { code, place });
-        }
-        self.calls.pop(popped);
-        self.calls.advance();
-        Outcome::Ran
     }
 
     /// Pops a word into a slot.
@@ -367,55 +342,6 @@ impl<'a> Machine<'a> {
         Outcome::Ran
     }
 
-    /// Goes on at an instruction of the same function.
-    pub fn jump(&mut self, target: u32) -> Outcome
-        requires { IsReady self.old }
-        ensures { Acts (Op.Jump target) self.old result self.new }
-    {
-        if !self.calls.jump(target) {
-            return self.end_wild();
-        }
-        Outcome::Ran
-    }
-
-    /// Pops a word, and goes on there where it is 0.
-    #[tactic(auto, using(std::proofs::lemmas::Bool::Decides::nat_tests))]
-    pub fn jump_if_zero(&mut self, target: u32) -> Outcome
-        requires { IsReady self.old }
-        ensures { Acts (Op.JumpIfZero target) self.old result self.new }
-    {
-        let Some(word) = self.word() else {
-            return self.end_wild();
-        };
-        if word != 0 {
-            self.calls.pop(1);
-            self.calls.advance();
-            return Outcome::Ran;
-        }
-        if !self.calls.jump(target) {
-            return self.end_wild();
-        }
-        self.calls.pop(1);
-        Outcome::Ran
-    }
-
-    /// Spends a tick.
-    #[tactic(auto, using(std::proofs::lemmas::Bool::Decides::nat_tests))]
-    pub fn tick(&mut self) -> Outcome
-        requires { IsReady self.old }
-        ensures { Acts Op.Tick self.old result self.new }
-    {
-        if self.ticks >= self.settings.budget {
-            return self.end(Ending::Stop {
-                code: Code::S1,
-                act: None,
-            });
-        }
-        self.ticks += 1;
-        self.calls.advance();
-        Outcome::Ran
-    }
-
     // Pushes what is there.
     pub(crate) fn push_some(&mut self, word: Option<u32>) -> Outcome
         requires { IsReady self.old }
@@ -426,6 +352,21 @@ impl<'a> Machine<'a> {
             Some(word) => self.push(0, word),
             None => self.end_wild(),
         }
+    }
+
+    /// Pops words, and goes on at an instruction of the same function.
+    #[tactic(auto, using(std::proofs::lemmas::Bool::Decides::nat_tests))]
+    pub fn jump(&mut self, popped: usize, target: u32) -> Outcome
+        requires ready { IsReady self.old }
+        requires there { popped ≤ length self.old.frame.stack }
+        ensures { (f : FuncData) → IsIn self.old f
+            → GoesBy (jump f target (drop popped self.old.frame.stack) self.old.frame) self.old result self.new }
+    {
+        if !self.calls.jump(target) {
+            return self.end_wild();
+        }
+        self.calls.pop(popped);
+        Outcome::Ran
     }
 
     /// Pops words, pushes a word if there is room for it then, and goes on to the next instruction.
@@ -465,9 +406,9 @@ impl<'a> Machine<'a> {
         })
     }
 
-    // Ends the run.
+    /// Ends the run.
     #[cold]
-    pub(crate) fn end(&mut self, ending: Ending) -> Outcome
+    pub fn end(&mut self, ending: Ending) -> Outcome
         ensures ends { StopsBy self.old ending result self.new }
         ensures line { GoesBy (Over ending) self.old result self.new }
     {

@@ -2,8 +2,8 @@ use Rattle.std.proofs.Common.{◌≡◌, Some, sym, subst}
 use Rattle.code_words.specs.declared.op.Op.{Op}
 use Rattle.two_memory_machine.specs.Machines.{next_op_of}
 use Rattle.two_memory_machine.specs.Steps.{Performs}
-use Rattle.instruction_steps.proofs.Tries.{stepped}
-use Rattle.instruction_steps.proofs.running.told_step.Goals as goal
+use Rattle.machine_interaction.proofs.Stepped.{stepped}
+use Rattle.machine_interaction.proofs.told.told_step.Goals as goal
 
 pub returns-in-NextInput : goal.returns-in-NextInput
 returns-in-NextInput c =
