@@ -68,8 +68,8 @@ pub fn tick(machine: &mut Machine) -> Outcome
     requires { IsReady machine.old }
     ensures { Acts Op.Tick machine.old result machine.new }
 {
-    let (spent, budget) = machine.ticks();
-    if spent >= budget {
+    let spent = machine.ticks();
+    if spent >= machine.budget() {
         return machine.end(Ending::Stop {
             code: Code::S1,
             act: None,

@@ -16,4 +16,3 @@ stepped old new event op paced waits next performs =
     let runs = runs_of old.over old.doing waits in
     let steps = steps_from old new event op runs.1 next performs in
     record { steps = steps; over = performs_over old new event op runs.0 next performs; sooner = step_sooner old new event paced runs.0 runs.1 steps }
-

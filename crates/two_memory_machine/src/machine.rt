@@ -171,11 +171,18 @@ impl<'a> Machine<'a> {
         self.taken = self.taken.saturating_add(1);
     }
 
-    /// How many ticks were spent, and may be.
-    pub fn ticks(&self) -> (u32, u32)
-        ensures { result ≡ (self.now.ticks, self.now.settings.budget) }
+    /// How many ticks were spent.
+    pub fn ticks(&self) -> u32
+        ensures { result ≡ self.now.ticks }
     {
-        (self.ticks, self.settings.budget)
+        self.ticks
+    }
+
+    /// How many ticks may be spent.
+    pub fn budget(&self) -> u32
+        ensures { result ≡ self.now.settings.budget }
+    {
+        self.settings.budget
     }
 
     /// Sets how many ticks were spent.
