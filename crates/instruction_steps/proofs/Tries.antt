@@ -61,12 +61,10 @@ ended (Goes s) old new outcomes.Asks brings = _
 ended (Goes s) old new outcomes.Ended brings = absurd brings.1
 ended (Over ending s) old new outcome brings = rw (brings.0, brings.1) _
 
--- an outcome other than that nothing can be seen is told by an event that tells something
-pub told_by : (outcome : Outcome) (over : Option Ending) → (outcome ≡ outcomes.Ran → ⊥) → IsEndedIf outcome over → TellsSomething (event_of outcome over)
-told_by outcomes.Ran over ran ends = absurd (ran refl)
-told_by outcomes.Asks over ran ends = _
-told_by outcomes.Ended None ran ends = absurd ends
-told_by outcomes.Ended (Some ending) ran ends = _
+-- the ending of a run is told
+pub told_by : (over : Option Ending) → IsEndedIf outcomes.Ended over → TellsSomething (event_of outcomes.Ended over)
+told_by None ends = absurd ends
+told_by (Some ending) ends = _
 
 -- what an instruction did that isn't told is a step
 pub tried : (old new : Machine) (outcome : Outcome) (op : Op) → IsTrue (is_paced old.image) → waiting_of old ≡ waiting.Runs → next_op_of old ≡ Some op → 1 ≤ family op → Acts op old outcome new → IsStep old (event_of outcome new.over) new × IsEndedIf outcome new.over
@@ -76,4 +74,4 @@ tried old new outcome op paced waits next other acts =
 
 pub tried_wild : (old new : Machine) (outcome : Outcome) → IsTrue (is_paced old.image) → waiting_of old ≡ waiting.Runs → next_op_of old ≡ None → GoesBy wild old outcome new → IsStep old (event_of outcome new.over) new × IsEndedIf outcome new.over
 tried_wild old new outcome paced waits next goes =
-    (stepped_wild old new (event_of outcome new.over) paced waits next (event_told wild old new (event_of outcome new.over) outcome refl goes), ended _ old new outcome (goes [] [] []))
+    (stepped_wild old new (event_of outcome new.over) paced waits next (event_told wild old new (event_of outcome new.over) outcome refl goes), ended (wild (state_of old [] [] [])) old new outcome (goes [] [] []))

@@ -4,10 +4,7 @@ ghost use Rattle.std.specs.Prelude.{◌≤◌};
 ghost use Rattle.instruction_steps.specs.Families.{family};
 ghost use Rattle.two_memory_machine.specs.Steps.{Acts, IsReady};
 
-use crate::bounds;
-use crate::memory;
-use crate::operations;
-use crate::stack;
+use crate::{bounds, memory, operations, stack};
 use code_words::op::Op;
 use machine_interaction::touches;
 use two_memory_machine::machine::Machine;
@@ -156,7 +153,9 @@ fn check_operands(machine: &mut Machine, op: &Op) -> Outcome
             new_high,
             size,
             place,
-        } => bounds::check_contain(machine, *old_low, *old_high, *new_low, *new_high, *size, *place),
+        } => bounds::check_contain(
+            machine, *old_low, *old_high, *new_low, *new_high, *size, *place,
+        ),
         Op::Lies {
             low,
             high,

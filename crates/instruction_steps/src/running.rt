@@ -36,7 +36,8 @@ pub fn run_on(machine: &mut Machine) -> Event
     'steps: loop {
         match try_step(machine) {
             Some(Outcome::Ran) => {}
-            Some(outcome) => return machine.event(outcome),
+            Some(Outcome::Asks) => return Event::Asks,
+            Some(Outcome::Ended) => return machine.event(Outcome::Ended),
             None => return told_step(machine),
         }
     }

@@ -1,7 +1,10 @@
 use Rattle.std.proofs.Common.{arith}
-use Rattle.two_memory_machine.specs.declared.event.Event.TheVariants.{Ran}
+use Rattle.two_memory_machine.specs.declared.event.Event.TheVariants.{Ran, Asks}
 use Rattle.two_memory_machine.specs.Machines.{Steps}
-use Rattle.instruction_steps.specs.Running.{StepsOn}
+use Rattle.two_memory_machine.specs.declared.outcome.Outcome.TheVariants as outcomes
+use Rattle.two_memory_machine.specs.Steps.{event_of}
+use Rattle.machine_interaction.specs.Told.{IsStep}
+use Rattle.instruction_steps.specs.Running.{StepsOn, IsEndedIf}
 use Rattle.instruction_steps.proofs.Tries.{runs_again, told_by}
 use Rattle.instruction_steps.proofs.running.run_on.Goals as goal
 
@@ -16,14 +19,27 @@ steps-preserved c =
     let again = runs_again c.steps.machine c.try_step.new.machine ran in
     record { waits = again; leads = λ event new rest. at.leads event new (StepsOn.more ran again rest); moves = omega (arith, at.moves, now.sooner) }
 
-pub returns-in-Some : goal.returns-in-Some
-returns-in-Some c =
+pub returns-in-Some-Asks : goal.returns-in-Some-Asks
+returns-in-Some-Asks c =
     let at = c.steps.invariant in
-    let now = c.in-Some.ensures.0 in
+    let now : IsStep c.steps.machine Asks c.try_step.new.machine = rw c.in-Some-Asks.field-0-is at c.in-Some-Asks.ensures.0 in
+    record {
+      steps = at.leads Asks c.try_step.new.machine (StepsOn.last now.steps);
+      over = now.over;
+      told = _;
+      sooner = omega (arith, at.moves, now.sooner);
+    }
+
+pub returns-in-Some-Ended : goal.returns-in-Some-Ended
+returns-in-Some-Ended c =
+    let at = c.steps.invariant in
+    let over = c.try_step.new.machine.over in
+    let now : IsStep c.steps.machine (event_of outcomes.Ended over) c.try_step.new.machine = rw c.in-Some-Ended.field-0-is at c.in-Some-Ended.ensures.0 in
+    let ends : IsEndedIf outcomes.Ended over = rw c.in-Some-Ended.field-0-is at c.in-Some-Ended.ensures.1 in
     record {
       steps = rw c.event.ensures (at.leads _ c.try_step.new.machine (StepsOn.last now.steps));
       over = rw c.event.ensures now.over;
-      told = rw c.event.ensures (told_by c.in-Some.outcome c.try_step.new.machine.over ? c.in-Some.ensures.1);
+      told = rw c.event.ensures (told_by over ends);
       sooner = omega (arith, at.moves, now.sooner);
     }
 
