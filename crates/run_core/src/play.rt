@@ -24,6 +24,8 @@ use act_words::settings::Settings;
 use ckc_io::shelf::Shelf;
 use ckc_text::fault::NoMemory;
 use code_words::image::Image;
+use instruction_steps::running;
+use machine_interaction::acts;
 use sandbox_actor::actor::{Actor, ActorFault, Now};
 use std::alloc::Global;
 use two_memory_machine::event::{Event, Waiting};
@@ -176,7 +178,7 @@ impl<'a> Play<'a> {
         ensures sooner { IfOk result (λ ending. FallsUnless ending self.old.machine self.new.machine) }
         ensures settings { self.new.settings ≡ self.old.settings }
     {
-        let event = self.machine.run_on();
+        let event = running::run_on(&mut self.machine);
         self.tell(alloc, &event)?;
         Ok(ending_of(&event))
     }
@@ -295,7 +297,7 @@ impl<'a> Play<'a> {
         ensures settings { self.new.settings ≡ self.old.settings }
     {
         let turn = self.machine.turn();
-        let event = self.machine.act(act);
+        let event = acts::act(&mut self.machine, act);
         self.tell(alloc, &event)?;
         if let Some(ending) = ending_of(&event) {
             return Ok(Progressed::Ends { ending });

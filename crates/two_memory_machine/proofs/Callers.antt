@@ -18,14 +18,15 @@ use Rattle.code_words.specs.declared.image.Callback.{Callback}
 use Rattle.code_words.specs.declared.image.Image.{Image}
 use Rattle.code_words.specs.declared.image.Param.{Param}
 use Rattle.code_words.specs.Table.{State, Over, wild}
-use Rattle.two_memory_machine.specs.declared.calls.Link.{Link}
-use Rattle.two_memory_machine.specs.declared.calls.Link.TheVariants.{Called, CallsBack}
+use Rattle.machine_memory.specs.declared.calls.Link.{Link}
+use Rattle.machine_memory.specs.declared.calls.Link.TheVariants.{Called, CallsBack}
 use Rattle.two_memory_machine.specs.declared.machine.Phase.{Phase}
 use Rattle.two_memory_machine.specs.declared.machine.Phase.TheVariants as phases
-use Rattle.two_memory_machine.specs.CallStacks.{Behind, callers_with, callers_of}
+use Rattle.machine_memory.specs.CallStacks.{Behind, callers_with, callers_of}
 use Rattle.two_memory_machine.specs.Insides.{doing_of}
 use Rattle.two_memory_machine.specs.Machines.{Running, NeedsNumber}
-use Rattle.two_memory_machine.specs.Steps.{top_words_of, IsSuspended, ending_at, fault_ending}
+use Rattle.two_memory_machine.specs.Steps.{top_words_of, IsSuspended}
+use Rattle.machine_memory.specs.Faults.{ending_at, fault_ending}
 
 -- what `get` of a slice finds
 pub item_found : {X : Type 0} (xs : List X) (k : ℕ) (item : Option (Bor X)) → IsItemAt xs k item → option_copied item ≡ slice_get xs k

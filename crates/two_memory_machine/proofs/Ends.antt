@@ -16,9 +16,6 @@ use Rattle.code_words.proofs.Left.{Falls, Sooner as StepSooner, runs-falls, touc
 use Rattle.two_memory_machine.specs.declared.event.Event.{Event}
 use Rattle.two_memory_machine.specs.declared.event.Waiting.TheVariants as waiting
 use Rattle.two_memory_machine.specs.Machines.{Machine, Doing, Running, NeedsNumber, Touching, Suspended, Gives, TellsStep, TellsAct, StepsIf, Steps, TakesAct, TakesEnd, TakesNumber, is_input, next_op_of, state_of, control_of, callers_in, waiting_of, waiting_for, turn_of, told_behind, left_for, moves_left, Sooner}
-use Rattle.two_memory_machine.specs.Steps.{EventBy, Performs}
-use Rattle.two_memory_machine.specs.Running.{IsStep}
-use Rattle.two_memory_machine.proofs.Moving.{runs_of, steps_from, steps_wild, performs_over, step_over}
 
 -- the moves that the table can make from here
 abbrev number : Machine → ℕ
@@ -206,17 +203,3 @@ end_sooner old new event paced waits takes = by old.doing refl
           before (subst (λ c. IsRun c → ⊥) (sym at) (λ h. h)),
           fewer TellsAct [] [] _ old new event paced first _ refl (some_wait old.image old.settings paced old.frame import place old.callers first calls) (away-falls old.image old.settings paced first at refl) (takes [] []),
         )
-
--- a step that does what the next instruction says
-pub stepped : (old new : Machine) (event : Event) (op : Op) → IsTrue (is_paced old.image) → waiting_of old ≡ waiting.Runs → next_op_of old ≡ Some op → Performs op old event new → IsStep old event new
-stepped old new event op paced waits next performs =
-    let runs = runs_of old.over old.doing waits in
-    let steps = steps_from old new event op runs.1 next performs in
-    record { steps = steps; over = performs_over old new event op runs.0 next performs; sooner = step_sooner old new event paced runs.0 runs.1 steps }
-
--- a step where no instruction stands
-pub stepped_wild : (old new : Machine) (event : Event) → IsTrue (is_paced old.image) → waiting_of old ≡ waiting.Runs → next_op_of old ≡ None → EventBy wild old event new → IsStep old event new
-stepped_wild old new event paced waits next goes =
-    let runs = runs_of old.over old.doing waits in
-    let steps = steps_wild old new event runs.1 next goes in
-    record { steps = steps; over = step_over [] [] [] (wild (state_of old [] [] [])) old new event (goes [] [] []); sooner = step_sooner old new event paced runs.0 runs.1 steps }

@@ -1,12 +1,4 @@
-mod Windows
-mod Stacked
-mod Pops
-mod Scaling
 mod Callers
 mod Refusals
-mod Statics
-mod Moving
-mod Ends
-mod Tries
-mod Faults
-mod TextCounts
+pub mod Moving
+pub mod Ends

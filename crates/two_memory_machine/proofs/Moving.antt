@@ -7,7 +7,7 @@ use Rattle.act_words.specs.declared.ending.Ending.{Ending}
 use Rattle.act_words.specs.declared.settings.Settings.{Settings}
 use Rattle.act_words.specs.Acts.{Act}
 use Rattle.act_words.specs.World
-use Rattle.act_words.specs.World.{World, NoAct, counted}
+use Rattle.act_words.specs.World.{World, NoAct}
 use Rattle.act_words.specs.Acting.{BeforeTouch, InSandbox, act_before_touch, act_in_sandbox, sandbox_ended}
 use Rattle.act_words.specs.Numbers.{word}
 use Rattle.code_words.specs.declared.op.Op.{Op}
@@ -19,10 +19,9 @@ use Rattle.code_words.specs.Moves.{move, make_touch, before_touch_by, in_sandbox
 use Rattle.two_memory_machine.specs.declared.event.Event.{Event}
 use Rattle.two_memory_machine.specs.declared.event.Event.TheVariants.{Ran, Asks, Input, Out, Showed, Touched, Ended}
 use Rattle.two_memory_machine.specs.declared.event.Waiting.TheVariants as waiting
-use Rattle.two_memory_machine.specs.Machines.{Machine, Doing, Running, NeedsNumber, Touching, Suspended, Gives, TellsStep, TellsAct, StepsIf, Steps, TakesAct, TakesEnd, is_input, next_op_of, state_of, world_of, turn_of, waiting_for, TakesNumber, TakesNoNumber, ending_given}
+use Rattle.two_memory_machine.specs.Machines.{Machine, with_one, Doing, Running, NeedsNumber, Touching, Suspended, Gives, TellsStep, TellsAct, StepsIf, Steps, TakesAct, TakesEnd, is_input, next_op_of, state_of, world_of, turn_of, waiting_for, TakesNumber, TakesNoNumber, ending_given}
 use Rattle.two_memory_machine.specs.declared.outcome.Outcome.{Outcome}
 use Rattle.two_memory_machine.specs.declared.outcome.Outcome.TheVariants as outcomes
-use Rattle.two_memory_machine.specs.Families.{family}
 use Rattle.two_memory_machine.specs.Steps.{EventBy, GoesBy, Brings, IsIn, Acts, event_of, PerformsIf, Performs, MovesBy}
 
 -- a machine of the same image
@@ -61,12 +60,12 @@ act_over acts inputs events (Over ending s) old new event g = g.1 ∙ sym (ap en
 -- ---- steps
 
 -- the instruction that stands next is that of the innermost function
-record StandsIn (m : Machine) (op : Op) : Type 0 where
-  f : Func
-  here : IsIn m f
-  stands : slice_get f.ops m.frame.next ≡ Some op
+pub record StandsIn (m : Machine) (op : Op) : Type 0 where
+  pub f : Func
+  pub here : IsIn m f
+  pub stands : slice_get f.ops m.frame.next ≡ Some op
 
-stands_in : (m : Machine) (op : Op) → next_op_of m ≡ Some op → StandsIn m op
+pub stands_in : (m : Machine) (op : Op) → next_op_of m ≡ Some op → StandsIn m op
 stands_in m op e = by (slice_get m.image.trusted.funs m.frame.function) refl
   where
     by : (f : Option Func) → slice_get m.image.trusted.funs m.frame.function ≡ f → StandsIn m op
@@ -85,19 +84,8 @@ steps_from old new event op runs next performs = subst (λ o. StepsIf (is_input 
         let s = stands_in old op next in
         subst (λ line. Gives TellsStep acts inputs events line old event new) (sym (line_moves old s.f op acts inputs events runs s.here s.stands)) (h s.f s.here acts inputs events)
 
--- an instruction of another family takes no input number
-no_input : (op : Op) → 1 ≤ family op → is_input (Some op) ≡ false
-no_input ops.NextInput h = absurd (omega arith)
-no_input _ h = refl
-
-pub other_family : (op : Op) → (op ≡ ops.NextInput → ⊥) → (op ≡ ops.Print → ⊥) → (op ≡ ops.PutByte → ⊥) → 1 ≤ family op
-other_family ops.NextInput input line byte = absurd (input refl)
-other_family ops.Print input line byte = absurd (line refl)
-other_family ops.PutByte input line byte = absurd (byte refl)
-other_family _ input line byte = omega arith
-
 -- an outcome told by its event
-gives_told : (acts : List Act) (inputs : List ℤ) (events : List World.Event) (step : Step) (old new : Machine) (outcome : Outcome) → Brings acts inputs events step old outcome new → Gives TellsStep acts inputs events step old (event_of outcome new.over) new
+pub gives_told : (acts : List Act) (inputs : List ℤ) (events : List World.Event) (step : Step) (old new : Machine) (outcome : Outcome) → Brings acts inputs events step old outcome new → Gives TellsStep acts inputs events step old (event_of outcome new.over) new
 gives_told acts inputs events (Goes s) old new outcome brings = by outcome brings
   where
     by : (o : Outcome) → Brings acts inputs events (Goes s) old o new → Gives TellsStep acts inputs events (Goes s) old (event_of o new.over) new
@@ -105,10 +93,6 @@ gives_told acts inputs events (Goes s) old new outcome brings = by outcome bring
     by outcomes.Asks b = b
     by outcomes.Ended b = absurd b.1
 gives_told acts inputs events (Over ending s) old new outcome brings = rw (brings.0, brings.1) (refl, refl, brings.2, brings.3, brings.4, brings.5)
-
-pub performs_told : (old new : Machine) (event : Event) (outcome : Outcome) (op : Op) → 1 ≤ family op → event ≡ event_of outcome new.over → Acts op old outcome new → Performs op old event new
-performs_told old new event outcome op other told acts =
-    rw (no_input op other, told) (λ f here all inputs events. gives_told all inputs events _ old new outcome (acts f here all inputs events))
 
 pub event_told : (line : State → Step) (old new : Machine) (event : Event) (outcome : Outcome) → event ≡ event_of outcome new.over → GoesBy line old outcome new → EventBy line old event new
 event_told line old new event outcome told goes = rw told (λ acts inputs events. gives_told acts inputs events _ old new outcome (goes acts inputs events))
@@ -145,10 +129,6 @@ sandbox_in image settings (InSandbox.Keeps w) u s = refl
 sandbox_in image settings (InSandbox.Answers word w) u s = refl
 sandbox_in image settings (InSandbox.Calls k words w) u s = refl
 sandbox_in image settings (InSandbox.Ends ending w) u s = refl
-
--- one more act is taken
-abbrev pub with_one : Machine → Machine
-with_one m = record m { taken = counted m.taken }
 
 pub takes_before : (old new : Machine) (event : Event) (touch : Touch) (a : Act) → old.doing ≡ Touching touch →
     MovesBy (λ s. before_touch_by old.image old.frame touch (act_before_touch a s.world) s) (with_one old) event new → TakesAct old a event new

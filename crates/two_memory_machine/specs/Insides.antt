@@ -3,15 +3,15 @@ use Rattle.std.specs.Prelude.{◌≡◌, ℕ, ◌+◌, ◌*◌, ◌^◌, ◌<◌
 use Rattle.code_words.specs.Fitting.{Fits}
 use Rattle.code_words.specs.Table.{Touch, Loads, Stores, Passes, Replies, address_of, offset_of}
 use Rattle.code_words.specs.declared.op.Op.TheVariants.{NextInput}
-use Rattle.two_memory_machine.specs.declared.calls.Link.{Link}
-use Rattle.two_memory_machine.specs.declared.calls.Link.TheVariants.{Called, CallsBack}
+use Rattle.machine_memory.specs.declared.calls.Link.{Link}
+use Rattle.machine_memory.specs.declared.calls.Link.TheVariants.{Called, CallsBack}
 use Rattle.two_memory_machine.specs.declared.machine.Pending.{Pending}
 use Rattle.two_memory_machine.specs.declared.machine.Pending.TheVariants as pending
 use Rattle.two_memory_machine.specs.declared.machine.Phase.{Phase}
 use Rattle.two_memory_machine.specs.declared.machine.Phase.TheVariants as phases
 use Rattle.two_memory_machine.specs.declared.machine.Machine.TheInside.{Inside}
-use Rattle.two_memory_machine.specs.Places.{block_row}
-use Rattle.two_memory_machine.specs.CallStacks.{CallStack, callers_of, link_of}
+use Rattle.machine_memory.specs.Places.{block_row}
+use Rattle.machine_memory.specs.CallStacks.{CallStack, callers_of, link_of}
 use Rattle.two_memory_machine.specs.Machines.{Doing, Running, NeedsNumber, Touching, Suspended, Machine}
 
 abbrev pub touch_of : Pending → Touch

@@ -1,11 +1,3 @@
-pub mod Places
-pub mod CallStacks
-pub mod CallInsides
 pub mod Machines
 pub mod Insides
-pub mod Families
 pub mod Steps
-pub mod Running
-pub mod Texts
-pub mod Faults
-pub mod Examples

@@ -8,7 +8,7 @@ use Rattle.act_words.specs.declared.ending.Ending.{Ending}
 use Rattle.act_words.specs.declared.settings.Settings.{Settings}
 use Rattle.act_words.specs.Acts.{Act, seen_view, release_view}
 use Rattle.act_words.specs.World
-use Rattle.act_words.specs.World.{World, NoAct}
+use Rattle.act_words.specs.World.{World, NoAct, counted}
 use Rattle.flat_bytes.specs.Blocks.{Block}
 use Rattle.trusted_memory.specs.Memories.{Memory}
 use Rattle.code_words.specs.declared.op.Op.{Op}
@@ -193,6 +193,10 @@ TakesNumber old number event new =
 abbrev pub TakesNoNumber : Machine → Event → Machine → Type 0
 TakesNoNumber old event new =
     (acts : List Act) (events : List World.Event) → Gives TellsStep acts [] events (move old.image old.settings (state_of old acts [] events)) old event new
+
+-- one more act is taken
+abbrev pub with_one : Machine → Machine
+with_one m = record m { taken = counted m.taken }
 
 -- with an act, the machine makes the move that takes it
 abbrev pub TakesAct : Machine → Act → Event → Machine → Type 0

@@ -1,16 +1,11 @@
 -- What a step does, part by part.
-use Rattle.std.specs.Prelude.{◌≡◌, ℕ, ◌+◌, ◌^◌, ◌<◌, nat_le, if◌then◌else◌, Bool, true, false, List, [], ◌∷◌, length, take, reverse, Option, Some, None, slice_get, Result, Ok, Err}
+use Rattle.std.specs.Prelude.{◌≡◌, ℕ, ◌+◌, ◌^◌, ◌<◌, nat_le, if◌then◌else◌, Bool, true, false, List, [], ◌∷◌, length, take, reverse, Option, Some, None, slice_get}
 use Rattle.std.proofs.Common.{ℤ}
 use Rattle.act_words.specs.Acts.{Act}
 use Rattle.act_words.specs.World
 use Rattle.act_words.specs.declared.ending.Ending.{Ending}
-use Rattle.ckc_text.specs.declared.code.Code.{Code}
-use Rattle.ckc_text.specs.declared.code.Code.TheVariants.{C4, C9, S4, S6}
-use Rattle.act_words.specs.declared.ending.Ending.TheVariants as endings
-use Rattle.code_words.specs.Marshalling.{Fault, Count, TooLarge, OutOfRange, fits_kind, optional_region_lies}
-use Rattle.code_words.specs.declared.image.Param.{Param}
+use Rattle.ckc_text.specs.declared.code.Code.TheVariants.{S4}
 use Rattle.act_words.specs.Acting.{bytes_at, stopped_by_act}
-use Rattle.act_words.specs.Checks.{Checked, Holds, Fails}
 use Rattle.code_words.specs.declared.op.Op.{Op}
 use Rattle.code_words.specs.declared.image.Func.{Func}
 use Rattle.code_words.specs.Table.{Touch, State, Step, Goes, Over, act}
@@ -52,6 +47,11 @@ event_of outcomes.Asks over = Asks
 event_of outcomes.Ended None = Ran
 event_of outcomes.Ended (Some ending) = Ended ending
 
+-- the event tells something
+abbrev pub TellsSomething : Event → Type 0
+TellsSomething Ran = ⊥
+TellsSomething _ = Unit {0}
+
 -- the innermost call is one of this function
 abbrev pub IsIn : Machine → Func → Type 0
 IsIn m f = slice_get m.image.trusted.funs m.frame.function ≡ Some f
@@ -89,11 +89,6 @@ EndsBy old ending event new = (event ≡ Ended ending) × (new ≡ record old { 
 
 abbrev pub StopsBy : Machine → Ending → Outcome → Machine → Type 0
 StopsBy old ending outcome new = (outcome ≡ outcomes.Ended) × (new ≡ record old { over = Some ending })
-
--- the number, or how the check of it fails
-abbrev pub checked_of : Result ℤ Ending → Checked ℤ
-checked_of (Ok number) = Holds number
-checked_of (Err ending) = Fails ending
 
 -- four words of a stack and more, the lowest first
 abbrev pub four_topmost : List ℕ → Option (ℕ × ℕ × ℕ × ℕ)
@@ -133,23 +128,3 @@ IsSuspended Running = ⊥
 IsSuspended NeedsNumber = ⊥
 IsSuspended (Touching touch) = ⊥
 IsSuspended (Suspended import place) = Unit {0}
-
--- how a fault of a parameter ends the run
-abbrev pub ending_at : Code → Option Param → Option Ending
-ending_at code None = Some (endings.Stop S6 None)
-ending_at code (Some p) = Some (endings.Check code p.place)
-
-abbrev pub fault_ending : List Param → Option Fault → Option Ending
-fault_ending params None = None
-fault_ending params (Some Count) = Some (endings.Stop S6 None)
-fault_ending params (Some (TooLarge param)) = ending_at C9 (slice_get params param)
-fault_ending params (Some (OutOfRange param)) = ending_at C4 (slice_get params param)
-
-abbrev pub ending_unless : Bool → Ending → Option Ending → Option Ending
-ending_unless true ending later = later
-ending_unless false ending later = Some ending
-
--- how a word ends the run that doesn't fit its parameter
-abbrev pub param_ending : ℕ → List ℕ → ℕ → Param → Option Ending
-param_ending size words word p =
-    ending_unless (fits_kind p.kind word) (endings.Check C9 p.place) (ending_unless (optional_region_lies size words word p.region) (endings.Check C4 p.place) None)

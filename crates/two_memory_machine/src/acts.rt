@@ -11,7 +11,6 @@ ghost use Rattle.code_words.specs.Moves.{make_touch, before_touch_by, in_sandbox
 ghost use Rattle.two_memory_machine.specs.Machines.{Touching};
 ghost use Rattle.two_memory_machine.specs.Steps.{MovesBy, IsSuspended, moved_if, bytes_if, EndsBy, EventBy};
 
-use crate::calls::{Link, MAX_DEPTH};
 use crate::event::Event;
 use crate::machine::{Machine, Pending, Phase};
 use act_words::act::{Act, Release, Seen};
@@ -22,6 +21,8 @@ use ckc_text::code::Code;
 use ckc_text::place::Place;
 use code_words::image::WordKind;
 use flat_bytes::words;
+use machine_arithmetic::limits;
+use machine_memory::calls::Link;
 
 /// The end of a run that no line of the table goes on with.
 pub const WILD: Ending = Ending::Stop {
@@ -36,40 +37,8 @@ pub const SANDBOX_ENDED: Ending = Ending::Stop {
 };
 
 impl<'a> Machine<'a> {
-    // Does what an act says before a touch.
-    pub(crate) fn act_before_touch(&mut self, act: &Act) -> Event
-        requires going { self.old.over ≡ None }
-        requires touches { (touch : Touch) × (self.old.doing ≡ Touching touch) }
-        ensures { (touch : Touch) → self.old.doing ≡ Touching touch
-            → MovesBy (λ s. before_touch_by self.old.image self.old.frame touch (act_before_touch (act_view act.now) s.world) s) self.old result self.new }
-    {
-        match act {
-            Act::Go => self.make_touch(),
-            Act::Read { at, len } => self.show(*at, len.number),
-            Act::Write { at, bytes } => self.write(*at, bytes.octets.as_slice()),
-            Act::Call { fun: _, args: _ } | Act::Return { value: _ } => self.stop_by_act(Code::S5),
-            Act::Stop => self.end_move(SANDBOX_ENDED),
-        }
-    }
-
-    // Does what an act says while the sandbox has the turn.
-    pub(crate) fn act_in_sandbox(&mut self, act: &Act) -> Event
-        requires going { self.old.over ≡ None }
-        requires suspended { IsSuspended self.old.doing }
-        ensures { MovesBy (λ s. in_sandbox_by self.old.image self.old.settings (act_in_sandbox (act_view act.now) s.world) s) self.old result self.new }
-    {
-        match act {
-            Act::Go => Event::Ran,
-            Act::Read { at, len } => self.show(*at, len.number),
-            Act::Write { at, bytes } => self.write(*at, bytes.octets.as_slice()),
-            Act::Call { fun, args } => self.call_back(*fun, args.as_slice()),
-            Act::Return { value } => self.answer(*value),
-            Act::Stop => self.end_move(SANDBOX_ENDED),
-        }
-    }
-
-    // Makes the touch that waits.
-    pub(crate) fn make_touch(&mut self) -> Event
+    /// Makes the touch that waits.
+    pub fn make_touch(&mut self) -> Event
         requires going { self.old.over ≡ None }
         requires touches { (touch : Touch) × (self.old.doing ≡ Touching touch) }
         ensures { (touch : Touch) → self.old.doing ≡ Touching touch
@@ -171,8 +140,8 @@ impl<'a> Machine<'a> {
         }
     }
 
-    // Shows the sandbox bytes of its memory.
-    fn show(&mut self, at: u32, len: u32) -> Event
+    /// Shows the sandbox bytes of its memory.
+    pub fn show(&mut self, at: u32, len: u32) -> Event
         requires going { self.old.over ≡ None }
         requires few { len ≤ 64 }
         ensures { MovesBy (λ s. moved_if (shown at len s.world) s) self.old result self.new }
@@ -190,20 +159,20 @@ impl<'a> Machine<'a> {
         requires { len ≤ 64 }
         ensures { result ≡ bytes_if (lies_in at len self.now.sandbox) at len self.now.sandbox }
     {
-        if !self.holds(at, len as usize) {
+        if !limits::lie_in(at, len as usize, self.sandbox.len()) {
             return None;
         }
         let at = at as usize;
         Octets::from_slice(&self.sandbox[at..at + len as usize])
     }
 
-    // Stores bytes in the sandbox's memory.
-    fn write(&mut self, at: u32, bytes: &[u8]) -> Event
+    /// Stores bytes in the sandbox's memory.
+    pub fn write(&mut self, at: u32, bytes: &[u8]) -> Event
         requires going { self.old.over ≡ None }
         requires few { length bytes.now ≤ 64 }
         ensures { MovesBy (λ s. moved_if (written at bytes.now s.world) s) self.old result self.new }
     {
-        if !self.holds(at, bytes.len()) {
+        if !limits::lie_in(at, bytes.len(), self.sandbox.len()) {
             return self.stop_by_act(Code::S4);
         }
         let at = at as usize;
@@ -211,25 +180,16 @@ impl<'a> Machine<'a> {
         Event::Ran
     }
 
-    // Whether bytes from a place on lie in the sandbox's memory.
-    fn holds(&self, at: u32, len: usize) -> bool
-        requires { len ≤ 64 }
-        ensures { result ≡ lies_in at len self.now.sandbox }
-    {
-        at as usize + len <= self.sandbox.len()
-    }
-
-    // Ends the run by the act that was taken last.
-    pub(crate) fn stop_by_act(&mut self, code: Code) -> Event
+    /// Ends the run by the act that was taken last.
+    pub fn stop_by_act(&mut self, code: Code) -> Event
         ensures ends { EndsBy self.old (Ending.Stop code (Some self.old.taken)) result self.new }
         ensures line { MovesBy (λ s. Over (stopped_by_act code s.world) s) self.old result self.new }
     {
-        let act = Some(self.taken);
-        self.end_move(Ending::Stop { code, act })
+        self.end_move(limits::stop_by_act(code, self.taken))
     }
 
-    // Ends the run by an act, or where none is left.
-    pub(crate) fn end_move(&mut self, ending: Ending) -> Event
+    /// Ends the run by an act, or where none is left.
+    pub fn end_move(&mut self, ending: Ending) -> Event
         ensures ends { EndsBy self.old ending result self.new }
         ensures line { MovesBy (Over ending) self.old result self.new }
         ensures step { EventBy (Over ending) self.old result self.new }
@@ -238,9 +198,9 @@ impl<'a> Machine<'a> {
         Event::Ended { ending }
     }
 
-    // Takes the reply of a tainted function, and goes on with it (C9).
+    /// Takes the reply of a tainted function, and goes on with it (C9).
     #[tactic(auto, using(std::proofs::lemmas::Bool::Decides::nat_tests))]
-    fn answer(&mut self, value: u32) -> Event
+    pub fn answer(&mut self, value: u32) -> Event
         requires going { self.old.over ≡ None }
         requires suspended { IsSuspended self.old.doing }
         ensures { MovesBy (λ s. answer self.old.image s.callers value (in_world (in_turn turns.Trusted s.world) s)) self.old result self.new }

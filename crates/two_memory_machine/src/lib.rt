@@ -1,20 +1,11 @@
-// The machine that runs an image, one instruction at a time.
+// The machine that runs an image: its memories, its open calls, and what single steps and acts do to them.
 #![tactic(auto)]
 
-mod acts;
-mod arithmetic;
-mod bounds;
+pub mod acts;
 mod callbacks;
-mod calls;
 pub mod event;
-mod families;
-pub mod laws;
 pub mod machine;
-mod memory;
-mod operations;
-mod outcome;
+pub mod outcome;
 mod output;
-mod running;
-mod texts;
 mod touches;
 mod transfers;

@@ -1,23 +1,20 @@
 // Running an image over flat memory.
 
-ghost use Rattle.std.specs.Prelude.{◌≡◌, ◌+◌, ◌-◌, ◌^◌, ◌<◌, ◌≤◌, ◌⊎◌, List, length, drop, IfOk, IfSome, OnSome, None, Some, is_some, slice_get, pos};
+ghost use Rattle.std.specs.Prelude.{◌≡◌, ◌+◌, ◌-◌, ◌^◌, ◌<◌, ◌≤◌, ◌⊎◌, List, length, drop, IfOk, IfSome, IsTrue, OnSome, None, Some, is_some, slice_get, pos};
 ghost use Rattle.std.specs.Option.{option_copied};
 ghost use Rattle.std.proofs.Common.{ℤ};
-ghost use Rattle.act_words.specs.Acts.{act_view};
 ghost use Rattle.trusted_memory.specs.Memories.{byte_of};
 ghost use Rattle.code_words.specs.Fitting.{Fits};
+ghost use Rattle.code_words.specs.Paced.{is_paced};
 ghost use Rattle.code_words.specs.declared.image.Func.{Func as FuncData};
-ghost use Rattle.code_words.specs.Table.{Over, wild, pop, pop_2, on_with, push, push_some, push_checked, check, load, store};
-ghost use Rattle.two_memory_machine.specs.Machines.{IsStart, waiting_of, turn_of, Steps, TakesAct, TakesEnd, TakesNumber, TakesNoNumber, ending_given, moves_left, Sooner, block_of};
-ghost use Rattle.two_memory_machine.specs.Steps.{GoesBy, IsIn, Acts, IsReady, StopsBy, event_of, two_topmost, four_topmost, five_topmost, seven_topmost, top_words_of, checked_of};
+ghost use Rattle.code_words.specs.Table.{Over, wild, pop, pop_2, on_with, push, push_some, jump, load, store};
+ghost use Rattle.two_memory_machine.specs.Machines.{IsStart, waiting_of, turn_of, next_op_of, with_one, TakesEnd, TakesNumber, TakesNoNumber, ending_given, moves_left, block_of};
+ghost use Rattle.two_memory_machine.specs.Steps.{GoesBy, IsIn, Acts, IsReady, StopsBy, event_of, two_topmost, four_topmost, five_topmost, seven_topmost, top_words_of};
 
 use crate::acts::SANDBOX_ENDED;
-use crate::calls::CallWords;
 use crate::event::{Event, Waiting};
-use crate::memory;
-use crate::memory::BlockRow;
 use crate::outcome::Outcome;
-use act_words::act::{Act, Turn};
+use act_words::act::Turn;
 use act_words::ending::Ending;
 use act_words::octets::Octets;
 use act_words::settings::Settings;
@@ -27,6 +24,9 @@ use ckc_text::fault::NoMemory;
 use ckc_text::place::Place;
 use code_words::image::Image;
 use code_words::op::Op;
+use machine_arithmetic::blocks::BlockRow;
+use machine_memory::calls::CallWords;
+use machine_memory::memory;
 use std::alloc::Global;
 use std::marker::Model;
 use trusted_memory::memory::Trusted;
@@ -163,35 +163,34 @@ impl<'a> Machine<'a> {
         }
     }
 
-    /// Makes the next step.
-    pub fn step(&mut self) -> Event
-        requires { waiting_of self.old ≡ Waiting.Runs }
-        ensures steps { Steps self.old result self.new }
-        ensures over { self.new.over ≡ ending_given result }
-        ensures sooner { moves_left self.new < moves_left self.old }
-    {
-        match self.try_step() {
-            Some(outcome) => self.event(outcome),
-            None => self.told_step(),
-        }
-    }
-
-    /// Takes an act of the sandbox.
-    pub fn act(&mut self, act: &Act) -> Event
-        requires { waiting_of self.old ≡ Waiting.Act }
-        ensures takes { TakesAct self.old (act_view act.now) result self.new }
-        ensures over { self.new.over ≡ ending_given result }
-        ensures sooner { Sooner (act_view act.now) self.old self.new }
+    /// Counts an act that is taken. Each loop of the image spends a tick.
+    pub fn count_act(&mut self)
+        ensures counts { self.new ≡ with_one self.old }
+        ensures paced { IsTrue (is_paced self.old.image) }
     {
         self.taken = self.taken.saturating_add(1);
-        match self.phase {
-            Phase::Touching { touch: _ } => self.act_before_touch(act),
-            Phase::Suspended {
-                import: _,
-                place: _,
-            } => self.act_in_sandbox(act),
-            Phase::Running | Phase::NeedsNumber => Event::Ran,
-        }
+    }
+
+    /// How many ticks were spent.
+    pub fn ticks(&self) -> u32
+        ensures { result ≡ self.now.ticks }
+    {
+        self.ticks
+    }
+
+    /// How many ticks may be spent.
+    pub fn budget(&self) -> u32
+        ensures { result ≡ self.now.settings.budget }
+    {
+        self.settings.budget
+    }
+
+    /// Sets how many ticks were spent.
+    pub fn set_ticks(&mut self, ticks: u32)
+        requires { ticks ≤ self.old.settings.budget }
+        ensures { self.new ≡ record self.old { ticks = ticks } }
+    {
+        self.ticks = ticks;
     }
 
     /// Goes on where no act is left.
@@ -230,7 +229,7 @@ impl<'a> Machine<'a> {
         ensures before_end { IfSome result (λ _. k + 1 < 2 ^ 32) }
     {
         let block = self.blocks[..self.made].get(k as usize)?;
-        Some((self.settings.base + block.offset, block.bytes))
+        Some(block.placed(self.settings.base))
     }
 
     /// The byte at an address of trusted memory, or None outside it.
@@ -241,8 +240,24 @@ impl<'a> Machine<'a> {
         self.memory.byte(at)
     }
 
-    // What an instruction tells.
-    pub(crate) fn event(&self, outcome: Outcome) -> Event
+    /// How many bytes the sandbox's memory has.
+    pub fn sandbox_size(&self) -> u32
+        ensures { result ≡ length self.now.sandbox }
+    {
+        self.sandbox.len() as u32
+    }
+
+    /// The instruction that stands next, unless none does. Each loop of the image spends a tick.
+    pub fn op(&self) -> Option<&'a Op>
+        ensures op { option_copied result ≡ next_op_of self.now }
+        ensures within { IfSome result (λ _. self.now.frame.next + 1 < 2 ^ 64) }
+        ensures paced { IsTrue (is_paced self.now.image) }
+    {
+        self.calls.op()
+    }
+
+    /// What an instruction tells.
+    pub fn event(&self, outcome: Outcome) -> Event
         ensures { result ≡ event_of outcome self.now.over }
     {
         match (outcome, self.over) {
@@ -252,37 +267,9 @@ impl<'a> Machine<'a> {
         }
     }
 
-    // Pops words, and pushes the number of a check that holds.
-    pub(crate) fn push_number(&mut self, popped: usize, number: Result<i32, Ending>) -> Outcome
-        requires ready { IsReady self.old }
-        requires there { popped ≤ length self.old.frame.stack }
-        ensures { (f : FuncData) → IsIn self.old f
-            → GoesBy (push_checked f (checked_of number) (drop popped self.old.frame.stack) self.old.frame) self.old result self.new }
-    {
-        match number {
-            Ok(number) => self.push(popped, number.cast_unsigned()),
-            Err(ending) => self.end(ending),
-        }
-    }
-
-    // Pops words, and goes on where a check holds.
+    /// Pops a word into a slot.
     #[tactic(auto, using(std::proofs::lemmas::Bool::Decides::nat_tests))]
-    pub(crate) fn check(&mut self, popped: usize, holds: bool, code: Code, place: Place) -> Outcome
-        requires ready { IsReady self.old }
-        requires there { popped ≤ length self.old.frame.stack }
-        ensures { GoesBy (check holds code place (drop popped self.old.frame.stack) self.old.frame) self.old result self.new }
-    {
-        if !holds {
-            return self.end(Ending::Check { code, place });
-        }
-        self.calls.pop(popped);
-        self.calls.advance();
-        Outcome::Ran
-    }
-
-    // Pops a word into a slot.
-    #[tactic(auto, using(std::proofs::lemmas::Bool::Decides::nat_tests))]
-    pub(crate) fn set(&mut self, slot: u32) -> Outcome
+    pub fn set(&mut self, slot: u32) -> Outcome
         requires { IsReady self.old }
         ensures { Acts (Op.Set slot) self.old result self.new }
     {
@@ -297,8 +284,8 @@ impl<'a> Machine<'a> {
         Outcome::Ran
     }
 
-    // Pushes the word of a slot.
-    pub(crate) fn local(&mut self, slot: u32) -> Outcome
+    /// Pushes the word of a slot.
+    pub fn local(&mut self, slot: u32) -> Outcome
         requires { IsReady self.old }
         ensures { Acts (Op.Local slot) self.old result self.new }
     {
@@ -306,8 +293,8 @@ impl<'a> Machine<'a> {
         self.push_some(word)
     }
 
-    // Pushes the address of a static block of trusted memory.
-    pub(crate) fn block_address(&mut self, k: u32) -> Outcome
+    /// Pushes the address of a static block of trusted memory.
+    pub fn block_address(&mut self, k: u32) -> Outcome
         requires { IsReady self.old }
         ensures { Acts (Op.BlockAddress k) self.old result self.new }
     {
@@ -315,8 +302,8 @@ impl<'a> Machine<'a> {
         self.push_some(address)
     }
 
-    // Pushes the offset of a static block of the sandbox's memory.
-    pub(crate) fn block_offset(&mut self, k: u32) -> Outcome
+    /// Pushes the offset of a static block of the sandbox's memory.
+    pub fn block_offset(&mut self, k: u32) -> Outcome
         requires { IsReady self.old }
         ensures { Acts (Op.BlockOffset k) self.old result self.new }
     {
@@ -324,40 +311,8 @@ impl<'a> Machine<'a> {
         self.push_some(offset)
     }
 
-    // Pops an address, and pushes the byte there.
-    pub(crate) fn load_1(&mut self) -> Outcome
-        requires { IsReady self.old }
-        ensures { Acts Op.Load1 self.old result self.new }
-    {
-        self.load(1)
-    }
-
-    // Pops an address, and pushes the word there.
-    pub(crate) fn load_4(&mut self) -> Outcome
-        requires { IsReady self.old }
-        ensures { Acts Op.Load4 self.old result self.new }
-    {
-        self.load(4)
-    }
-
-    // Pops a value and an address, and stores the lowest byte of the value there.
-    pub(crate) fn store_1(&mut self) -> Outcome
-        requires { IsReady self.old }
-        ensures { Acts Op.Store1 self.old result self.new }
-    {
-        self.store(1)
-    }
-
-    // Pops a value and an address, and stores the value there.
-    pub(crate) fn store_4(&mut self) -> Outcome
-        requires { IsReady self.old }
-        ensures { Acts Op.Store4 self.old result self.new }
-    {
-        self.store(4)
-    }
-
-    // Pops an address, and pushes the byte or the word there.
-    fn load(&mut self, len: u32) -> Outcome
+    /// Pops an address, and pushes the byte or the word there.
+    pub fn load(&mut self, len: u32) -> Outcome
         requires ready { IsReady self.old }
         requires width { (len ≡ 1) ⊎ (len ≡ 4) }
         ensures { (f : FuncData) → IsIn self.old f
@@ -373,9 +328,9 @@ impl<'a> Machine<'a> {
         self.push(1, word)
     }
 
-    // Pops a value and an address, and stores the lowest byte or all of the value there.
+    /// Pops a value and an address, and stores the lowest byte or all of the value there.
     #[tactic(auto, using(std::proofs::lemmas::Bool::Decides::nat_tests))]
-    fn store(&mut self, len: u32) -> Outcome
+    pub fn store(&mut self, len: u32) -> Outcome
         requires ready { IsReady self.old }
         requires width { (len ≡ 1) ⊎ (len ≡ 4) }
         ensures { GoesBy
@@ -394,55 +349,6 @@ impl<'a> Machine<'a> {
         Outcome::Ran
     }
 
-    // Goes on at an instruction of the same function.
-    pub(crate) fn jump(&mut self, target: u32) -> Outcome
-        requires { IsReady self.old }
-        ensures { Acts (Op.Jump target) self.old result self.new }
-    {
-        if !self.calls.jump(target) {
-            return self.end_wild();
-        }
-        Outcome::Ran
-    }
-
-    // Pops a word, and goes on there where it is 0.
-    #[tactic(auto, using(std::proofs::lemmas::Bool::Decides::nat_tests))]
-    pub(crate) fn jump_if_zero(&mut self, target: u32) -> Outcome
-        requires { IsReady self.old }
-        ensures { Acts (Op.JumpIfZero target) self.old result self.new }
-    {
-        let Some(word) = self.word() else {
-            return self.end_wild();
-        };
-        if word != 0 {
-            self.calls.pop(1);
-            self.calls.advance();
-            return Outcome::Ran;
-        }
-        if !self.calls.jump(target) {
-            return self.end_wild();
-        }
-        self.calls.pop(1);
-        Outcome::Ran
-    }
-
-    // Spends a tick.
-    #[tactic(auto, using(std::proofs::lemmas::Bool::Decides::nat_tests))]
-    pub(crate) fn tick(&mut self) -> Outcome
-        requires { IsReady self.old }
-        ensures { Acts Op.Tick self.old result self.new }
-    {
-        if self.ticks >= self.settings.budget {
-            return self.end(Ending::Stop {
-                code: Code::S1,
-                act: None,
-            });
-        }
-        self.ticks += 1;
-        self.calls.advance();
-        Outcome::Ran
-    }
-
     // Pushes what is there.
     pub(crate) fn push_some(&mut self, word: Option<u32>) -> Outcome
         requires { IsReady self.old }
@@ -455,8 +361,23 @@ impl<'a> Machine<'a> {
         }
     }
 
-    // Pops words, pushes a word if there is room for it then, and goes on to the next instruction.
-    pub(crate) fn push(&mut self, popped: usize, word: u32) -> Outcome
+    /// Pops words, and goes on at an instruction of the same function.
+    #[tactic(auto, using(std::proofs::lemmas::Bool::Decides::nat_tests))]
+    pub fn jump(&mut self, popped: usize, target: u32) -> Outcome
+        requires ready { IsReady self.old }
+        requires there { popped ≤ length self.old.frame.stack }
+        ensures { (f : FuncData) → IsIn self.old f
+            → GoesBy (jump f target (drop popped self.old.frame.stack) self.old.frame) self.old result self.new }
+    {
+        if !self.calls.jump(target) {
+            return self.end_wild();
+        }
+        self.calls.pop(popped);
+        Outcome::Ran
+    }
+
+    /// Pops words, pushes a word if there is room for it then, and goes on to the next instruction.
+    pub fn push(&mut self, popped: usize, word: u32) -> Outcome
         requires ready { IsReady self.old }
         requires there { popped ≤ length self.old.frame.stack }
         ensures { (f : FuncData) → IsIn self.old f
@@ -469,8 +390,8 @@ impl<'a> Machine<'a> {
         Outcome::Ran
     }
 
-    // Pops words, and goes on to the next instruction.
-    pub(crate) fn go_on(&mut self, popped: usize) -> Outcome
+    /// Pops words, and goes on to the next instruction.
+    pub fn go_on(&mut self, popped: usize) -> Outcome
         requires ready { IsReady self.old }
         requires there { popped ≤ length self.old.frame.stack }
         ensures { GoesBy (on_with self.old.frame (drop popped self.old.frame.stack)) self.old result self.new }
@@ -480,9 +401,9 @@ impl<'a> Machine<'a> {
         Outcome::Ran
     }
 
-    // Ends the run, since no line of the table has a result.
+    /// Ends the run, since no line of the table has a result.
     #[cold]
-    pub(crate) fn end_wild(&mut self) -> Outcome
+    pub fn end_wild(&mut self) -> Outcome
         ensures ends { StopsBy self.old (Ending.Stop Code.S6 None) result self.new }
         ensures line { GoesBy wild self.old result self.new }
     {
@@ -492,9 +413,9 @@ impl<'a> Machine<'a> {
         })
     }
 
-    // Ends the run.
+    /// Ends the run.
     #[cold]
-    pub(crate) fn end(&mut self, ending: Ending) -> Outcome
+    pub fn end(&mut self, ending: Ending) -> Outcome
         ensures ends { StopsBy self.old ending result self.new }
         ensures line { GoesBy (Over ending) self.old result self.new }
     {
@@ -502,15 +423,15 @@ impl<'a> Machine<'a> {
         Outcome::Ended
     }
 
-    // The topmost word, if there is one.
-    pub(crate) fn word(&self) -> Option<u32>
+    /// The topmost word, if there is one.
+    pub fn word(&self) -> Option<u32>
         ensures { result ≡ slice_get self.now.frame.stack 0 }
     {
         self.calls.word()
     }
 
-    // The two topmost words, the lower one first, if there are two.
-    pub(crate) fn two_words(&self) -> Option<(u32, u32)>
+    /// The two topmost words, the lower one first, if there are two.
+    pub fn two_words(&self) -> Option<(u32, u32)>
         ensures { result ≡ two_topmost self.now.frame.stack }
     {
         match self.calls.stack() {
@@ -519,8 +440,8 @@ impl<'a> Machine<'a> {
         }
     }
 
-    // The four topmost words, the lowest first, if there are four.
-    pub(crate) fn four_words(&self) -> Option<(u32, u32, u32, u32)>
+    /// The four topmost words, the lowest first, if there are four.
+    pub fn four_words(&self) -> Option<(u32, u32, u32, u32)>
         ensures { result ≡ four_topmost self.now.frame.stack }
     {
         match self.calls.stack() {
@@ -529,8 +450,8 @@ impl<'a> Machine<'a> {
         }
     }
 
-    // The five topmost words, the lowest first, if there are five.
-    pub(crate) fn five_words(&self) -> Option<(u32, u32, u32, u32, u32)>
+    /// The five topmost words, the lowest first, if there are five.
+    pub fn five_words(&self) -> Option<(u32, u32, u32, u32, u32)>
         ensures { result ≡ five_topmost self.now.frame.stack }
     {
         match self.calls.stack() {
@@ -539,8 +460,8 @@ impl<'a> Machine<'a> {
         }
     }
 
-    // The seven topmost words, the lowest first, if there are seven.
-    pub(crate) fn seven_words(&self) -> Option<(u32, u32, u32, u32, u32, u32, u32)>
+    /// The seven topmost words, the lowest first, if there are seven.
+    pub fn seven_words(&self) -> Option<(u32, u32, u32, u32, u32, u32, u32)>
         ensures { result ≡ seven_topmost self.now.frame.stack }
     {
         match self.calls.stack() {

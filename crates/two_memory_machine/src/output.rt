@@ -8,20 +8,20 @@ ghost use Rattle.act_words.specs.Touches.{offset_unless};
 ghost use Rattle.code_words.specs.Table.{pop, allocate, blocks_made};
 ghost use Rattle.code_words.specs.declared.image.Func.{Func as FuncData};
 ghost use Rattle.two_memory_machine.specs.Machines.{next_op_of};
-ghost use Rattle.two_memory_machine.specs.Steps.{Acts, Tells, Performs, IsReady, IsIn, GoesBy};
+ghost use Rattle.two_memory_machine.specs.Steps.{Acts, Tells, TellsSomething, Performs, IsReady, IsIn, GoesBy};
 
 use crate::acts::WILD;
 use crate::event::Event;
 use crate::machine::{Machine, Phase};
-use crate::memory::BlockRow;
 use crate::outcome::Outcome;
-use crate::texts;
-use crate::texts::TextEnd;
 use act_words::ending::Ending;
 use act_words::octets::Octets;
 use ckc_text::code::Code;
 use code_words::op::Op;
 use itoa::Buffer;
+use machine_arithmetic::blocks::BlockRow;
+use machine_memory::texts;
+use machine_memory::texts::TextEnd;
 
 /// The line of a number: its digits, and a line feed.
 fn line_of(number: i32) -> Octets
@@ -43,10 +43,11 @@ fn byte_of(word: u32) -> Octets
 }
 
 impl<'a> Machine<'a> {
-    // Pops a number, and writes its line.
-    pub(crate) fn print(&mut self) -> Event
+    /// Pops a number, and writes its line.
+    pub fn print(&mut self) -> Event
         requires { IsReady self.old }
-        ensures { Tells Op.Print self.old result self.new }
+        ensures line { Tells Op.Print self.old result self.new }
+        ensures told { TellsSomething result }
     {
         let Some(word) = self.word() else {
             return self.end_move(WILD);
@@ -57,10 +58,11 @@ impl<'a> Machine<'a> {
         Event::Out { bytes }
     }
 
-    // Pops a word, and writes its lowest byte.
-    pub(crate) fn put_byte(&mut self) -> Event
+    /// Pops a word, and writes its lowest byte.
+    pub fn put_byte(&mut self) -> Event
         requires { IsReady self.old }
-        ensures { Tells Op.PutByte self.old result self.new }
+        ensures line { Tells Op.PutByte self.old result self.new }
+        ensures told { TellsSomething result }
     {
         let Some(word) = self.word() else {
             return self.end_move(WILD);
@@ -71,34 +73,19 @@ impl<'a> Machine<'a> {
         Event::Out { bytes }
     }
 
-    // Waits for the next input number.
-    pub(crate) fn next_input(&mut self) -> Event
+    /// Waits for the next input number.
+    pub fn next_input(&mut self) -> Event
         requires ready { IsReady self.old }
         requires there { next_op_of self.old ≡ Some Op.NextInput }
-        ensures { Performs Op.NextInput self.old result self.new }
+        ensures line { Performs Op.NextInput self.old result self.new }
+        ensures told { TellsSomething result }
     {
         self.phase = Phase::NeedsNumber;
         Event::Input
     }
 
-    // Pops a count, and pushes the address of a block of so many elements, or 0 where there are none.
-    pub(crate) fn alloc(&mut self, size: u32) -> Outcome
-        requires { IsReady self.old }
-        ensures { Acts (Op.Alloc size) self.old result self.new }
-    {
-        self.allocate(size, 0)
-    }
-
-    // The same with one element more.
-    pub(crate) fn alloc_terminated(&mut self, size: u32) -> Outcome
-        requires { IsReady self.old }
-        ensures { Acts (Op.AllocTerminated size) self.old result self.new }
-    {
-        self.allocate(size, 1)
-    }
-
-    // Pops a count, and pushes the address of a block of so many elements and some more, or 0 where there are none.
-    fn allocate(&mut self, size: u32, more: u32) -> Outcome
+    /// Pops a count, and pushes the address of a block of so many elements and some more, or 0 where there are none.
+    pub fn allocate(&mut self, size: u32, more: u32) -> Outcome
         requires ready { IsReady self.old }
         requires few { more ≤ 1 }
         ensures { (f : FuncData) → IsIn self.old f
@@ -138,8 +125,8 @@ impl<'a> Machine<'a> {
         address
     }
 
-    // Pops a count, and pushes the offset of a block of the sandbox's memory of so many elements, or 0 where there are none.
-    pub(crate) fn sandbox_alloc(&mut self, size: u32) -> Outcome
+    /// Pops a count, and pushes the offset of a block of the sandbox's memory of so many elements, or 0 where there are none.
+    pub fn sandbox_alloc(&mut self, size: u32) -> Outcome
         requires { IsReady self.old }
         ensures { Acts (Op.SandboxAlloc size) self.old result self.new }
     {
@@ -157,8 +144,8 @@ impl<'a> Machine<'a> {
         Outcome::Ran
     }
 
-    // Pops an address, and pushes how many bytes stand before the first 0 from there; each spends a tick (S1).
-    pub(crate) fn text_length(&mut self) -> Outcome
+    /// Pops an address, and pushes how many bytes stand before the first 0 from there; each spends a tick (S1).
+    pub fn text_length(&mut self) -> Outcome
         requires { IsReady self.old }
         ensures { Acts Op.TextLength self.old result self.new }
     {

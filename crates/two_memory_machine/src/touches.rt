@@ -10,64 +10,11 @@ use crate::outcome::Outcome;
 use act_words::octets::Octets;
 use code_words::op::Op;
 
-/// The lowest byte of a word.
-fn low_byte(word: u32) -> Octets
-    ensures { result ≡ to_le_bytes w8 (word % 256) }
-{
-    let byte = (word % 256) as u8;
-    Octets::from_slice(&byte.to_le_bytes()).unwrap()
-}
-
-/// The bytes of a word, the lowest first.
-fn word_bytes(word: u32) -> Octets
-    ensures { result ≡ to_le_bytes w32 word }
-{
-    Octets::from_slice(&word.to_le_bytes()).unwrap()
-}
-
 impl<'a> Machine<'a> {
-    // A load of a byte waits.
-    pub(crate) fn touch_load_1(&mut self) -> Outcome
-        requires { IsReady self.old }
-        ensures { Acts Op.TouchLoad1 self.old result self.new }
-    {
-        self.touch_load(1)
-    }
-
-    // A load of a word waits.
-    pub(crate) fn touch_load_4(&mut self) -> Outcome
-        requires { IsReady self.old }
-        ensures { Acts Op.TouchLoad4 self.old result self.new }
-    {
-        self.touch_load(4)
-    }
-
-    // A store of a byte waits.
-    pub(crate) fn touch_store_1(&mut self) -> Outcome
-        requires { IsReady self.old }
-        ensures { Acts Op.TouchStore1 self.old result self.new }
-    {
-        let Some((at, word)) = self.two_words() else {
-            return self.end_wild();
-        };
-        self.touch_store(at, low_byte(word))
-    }
-
-    // A store of a word waits.
-    pub(crate) fn touch_store_4(&mut self) -> Outcome
-        requires { IsReady self.old }
-        ensures { Acts Op.TouchStore4 self.old result self.new }
-    {
-        let Some((at, word)) = self.two_words() else {
-            return self.end_wild();
-        };
-        self.touch_store(at, word_bytes(word))
-    }
-
-    // Pops an offset, and a load of so many bytes from it on waits for its acts.
+    /// Pops an offset, and a load of so many bytes from it on waits for its acts.
     #[tactic(auto, using(std::proofs::lemmas::Bool::Decides::nat_tests))]
     #[inline(never)]
-    fn touch_load(&mut self, len: u32) -> Outcome
+    pub fn touch_load(&mut self, len: u32) -> Outcome
         requires ready { IsReady self.old }
         requires width { (len ≡ 1) ⊎ (len ≡ 4) }
         ensures { GoesBy
@@ -87,10 +34,10 @@ impl<'a> Machine<'a> {
         Outcome::Asks
     }
 
-    // Pops two words, and a store of bytes waits for its acts.
+    /// Pops two words, and a store of bytes waits for its acts.
     #[tactic(auto, using(std::proofs::lemmas::Bool::Decides::nat_tests))]
     #[inline(never)]
-    fn touch_store(&mut self, at: u32, bytes: Octets) -> Outcome
+    pub fn touch_store(&mut self, at: u32, bytes: Octets) -> Outcome
         requires ready { IsReady self.old }
         requires there { 2 ≤ length self.old.frame.stack }
         ensures { GoesBy

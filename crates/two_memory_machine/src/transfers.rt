@@ -5,7 +5,6 @@ ghost use Rattle.code_words.specs.Table.{return_to, reply_of, exit_with};
 ghost use Rattle.two_memory_machine.specs.Machines.{next_op_of};
 ghost use Rattle.two_memory_machine.specs.Steps.{Acts, Performs, IsReady, GoesBy};
 
-use crate::calls::{Link, MAX_DEPTH};
 use crate::machine::{Machine, Pending, Phase};
 use crate::outcome::Outcome;
 use act_words::ending::Ending;
@@ -13,11 +12,13 @@ use ckc_text::code::Code;
 use ckc_text::place::Place;
 use code_words::image::WordKind;
 use code_words::op::Op;
+use machine_arithmetic::limits;
+use machine_memory::calls::Link;
 
 impl<'a> Machine<'a> {
-    // Calls a function of the same side with the words that it pops (S2).
+    /// Calls a function of the same side with the words that it pops (S2).
     #[inline(never)]
-    pub(crate) fn call(&mut self, k: u32) -> Outcome
+    pub fn call(&mut self, k: u32) -> Outcome
         requires { IsReady self.old }
         ensures { Acts (Op.Call k) self.old result self.new }
     {
@@ -28,7 +29,7 @@ impl<'a> Machine<'a> {
         let Some(words) = self.top_words(args) else {
             return self.end_wild();
         };
-        if self.depth >= MAX_DEPTH {
+        if !limits::may_call(self.depth) {
             return self.end(Ending::Stop {
                 code: Code::S2,
                 act: None,
@@ -41,9 +42,9 @@ impl<'a> Machine<'a> {
         Outcome::Ran
     }
 
-    // A call of a tainted function with the words that it pops waits for its touch (S2).
+    /// A call of a tainted function with the words that it pops waits for its touch (S2).
     #[inline(never)]
-    pub(crate) fn call_tainted(&mut self, import: u32, place: Place) -> Outcome
+    pub fn call_tainted(&mut self, import: u32, place: Place) -> Outcome
         requires { IsReady self.old }
         ensures { Acts (Op.TaintedCall import place) self.old result self.new }
     {
@@ -54,7 +55,7 @@ impl<'a> Machine<'a> {
         let Some(words) = self.top_words(args) else {
             return self.end_wild();
         };
-        if self.depth >= MAX_DEPTH {
+        if !limits::may_call(self.depth) {
             return self.end(Ending::Stop {
                 code: Code::S2,
                 act: None,
@@ -71,28 +72,9 @@ impl<'a> Machine<'a> {
         Outcome::Asks
     }
 
-    // Returns the topmost word.
-    pub(crate) fn return_word(&mut self) -> Outcome
-        requires { IsReady self.old }
-        ensures { Acts Op.Return self.old result self.new }
-    {
-        let Some(word) = self.word() else {
-            return self.end_wild();
-        };
-        self.leave(1, Some(word))
-    }
-
-    // Returns nothing.
-    pub(crate) fn return_nothing(&mut self) -> Outcome
-        requires { IsReady self.old }
-        ensures { Acts Op.ReturnNothing self.old result self.new }
-    {
-        self.leave(0, None)
-    }
-
-    // Pops words, and goes back to what called the innermost function, with what this one returns.
+    /// Pops words, and goes back to what called the innermost function, with what this one returns.
     #[inline(never)]
-    fn leave(&mut self, popped: usize, value: Option<u32>) -> Outcome
+    pub fn leave(&mut self, popped: usize, value: Option<u32>) -> Outcome
         requires ready { IsReady self.old }
         requires there { popped ≤ length self.old.frame.stack }
         ensures { GoesBy

@@ -1,11 +1,11 @@
-use Rattle.std.proofs.Common.{◌≡◌, ◌+◌, Some, None, true, nat_lt, length, drop, suc, refl, sym, ap, ◌∙◌, arith}
+use Rattle.std.proofs.Common.{◌≡◌, ℕ, ◌+◌, ◌<◌, Some, None, true, nat_lt, length, drop, suc, refl, sym, ap, ◌∙◌, arith}
 use Rattle.std.specs.Prelude.{slice_get}
 use Rattle.std.proofs.lemmas.Bool.Decides.{nat_tests}
 use Rattle.code_words.specs.declared.image.Func.{Func}
 use Rattle.code_words.specs.Fitting.{HasSmallFrame}
-use Rattle.two_memory_machine.specs.declared.calls.Link.TheVariants.{Called}
+use Rattle.machine_memory.specs.declared.calls.Link.TheVariants.{Called}
 use Rattle.two_memory_machine.specs.declared.machine.Phase.TheVariants as phases
-use Rattle.two_memory_machine.specs.CallStacks.{CallStack, entered, at_next, with_stack, callers_of}
+use Rattle.machine_memory.specs.CallStacks.{CallStack, entered, at_next, with_stack, callers_of}
 use Rattle.two_memory_machine.specs.Machines.{Machine}
 use Rattle.two_memory_machine.proofs.Callers.{item_found, one_found, all_found, running, length-callers, AreTop, are_top}
 use Rattle.two_memory_machine.proofs.machine.Machine.call.Goals as goal
@@ -15,12 +15,18 @@ use Rattle.two_memory_machine.proofs.machine.Machine.call.Goals.{After-as_slice-
 there : (c : After-as_slice-2) → slice_get c.self.inside.image.now.trusted.funs c.args.k ≡ Some c.in-Some.fun.now
 there c = rw c.as_slice.ensures at (sym (item_found c.as_slice.result.now c.args.k (Some c.in-Some.fun) c.in-Some.ensures.lookup))
 
+shallow : (c : After-as_slice-2) → nat_lt c.self.inside.depth 1000 ≡ true
+shallow c = sym c.may_call.ensures ∙ c.if-not-may_call.false
+
+below : (n : ℕ) → nat_lt n 1000 ≡ true → n < 1000
+below n h = grind (arith, nat_tests)
+
 behind_same : (c : After-as_slice-2) → c.advance.new.self ≡ at_next (c.self.inside.calls.frame.next + 1) (with_stack (drop c.in-Some.fun.now.args c.self.inside.calls.frame.stack) c.self.inside.calls)
 behind_same c = c.advance.ensures ∙ ap (λ (s : CallStack). at_next (s.frame.next + 1) s) c.pop.ensures
 
 pub enter-requires-clause-few : goal.enter-requires-clause-few
 enter-requires-clause-few c =
-    omega (arith, ap (λ (s : CallStack). length s.behind) (behind_same c), length-callers c.self.inside.calls.behind, c.self.invariant.depth, c.if-self-ge-MAX_DEPTH.false)
+    omega (arith, ap (λ (s : CallStack). length s.behind) (behind_same c), length-callers c.self.inside.calls.behind, c.self.invariant.depth, below c.self.inside.depth (shallow c))
 
 pub enter-requires-clause-fits : goal.enter-requires-clause-fits
 enter-requires-clause-fits c = λ f e.
@@ -54,7 +60,7 @@ invariant_of-self c =
       funs = ap (λ (s : CallStack). s.funs) e ∙ ap (λ (s : CallStack). s.funs) (behind_same b) ∙ h.funs;
       there = rw e (found b);
       depth = omega (arith, ap (λ (s : CallStack). length (callers_of s.behind)) e, ap (λ (s : CallStack). length (callers_of s.behind)) (behind_same b), h.depth);
-      few = rw p (omega (arith, c.if-self-ge-MAX_DEPTH.false));
+      few = rw p (omega (arith, below i.depth (shallow b)));
       phase = rw p _;
       sandbox = h.sandbox;
       room = h.room;
@@ -71,5 +77,5 @@ returns c = λ f here acts inputs events.
     let words : c.as_slice-2.result.now ≡ c.in-Some-top_words.words = c.as_slice-2.ensures.words in
     let e = c.enter.ensures g (found b) ∙ ap (λ ws. entered Called c.args.k g ws c.advance.new.self) words ∙ ap (entered Called c.args.k g c.in-Some-top_words.words) (behind_same b) in
     let top : AreTop g.args i.calls.frame.stack c.in-Some-top_words.words = are_top g.args i.calls.frame.stack c.in-Some-top_words.words (rw (← c.self.view_is) at c.in-Some-top_words.ensures) in
-    let shallow : nat_lt (suc (length (callers_of i.calls.behind))) 1000 ≡ true = grind (arith, nat_tests, c.self.invariant.depth, c.if-self-ge-MAX_DEPTH.false) in
-    rw (← c.self.view_is, there b, p, top.enough, ← top.same, shallow, e) (refl, refl, going, (refl, refl))
+    let deep : nat_lt (suc (length (callers_of i.calls.behind))) 1000 ≡ true = grind (arith, nat_tests, c.self.invariant.depth, shallow b) in
+    rw (← c.self.view_is, there b, p, top.enough, ← top.same, deep, e) (refl, refl, going, (refl, refl))

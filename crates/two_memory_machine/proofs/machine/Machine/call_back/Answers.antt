@@ -2,10 +2,11 @@ use Rattle.std.proofs.Common.{◌≡◌, Some, None, true, nat_lt, length, suc, 
 use Rattle.std.specs.Prelude.{slice_get, ◌==◌}
 use Rattle.std.proofs.lemmas.Bool.Decides.{nat_tests}
 use Rattle.code_words.specs.Marshalling.{arguments_fault}
-use Rattle.two_memory_machine.specs.CallStacks.{callers_of}
+use Rattle.machine_memory.specs.CallStacks.{callers_of}
 use Rattle.two_memory_machine.specs.Machines.{Machine, TellsAct, callers_in}
 use Rattle.two_memory_machine.specs.Insides.{doing_of, machine}
-use Rattle.two_memory_machine.specs.Steps.{IsSuspended, fault_ending}
+use Rattle.two_memory_machine.specs.Steps.{IsSuspended}
+use Rattle.machine_memory.specs.Faults.{fault_ending}
 use Rattle.two_memory_machine.proofs.Callers.{item_found, away, tested_ends, tested_passes}
 use Rattle.two_memory_machine.proofs.Moving.{gives_at}
 use Rattle.two_memory_machine.proofs.machine.Machine.call_back.Goals as goal
@@ -23,7 +24,7 @@ early c = grind (arith, nat_tests, c.if-self.false)
 shallow : (c : After-fault_of) → nat_lt (suc (length (callers_in (doing_of c.self.inside.phase) c.self.inside.calls.frame (callers_of c.self.inside.calls.behind)))) 1000 ≡ true
 shallow c =
     let a = away c.self.inside.phase (subst IsSuspended (ap (λ (m : Machine). m.doing) (sym c.self.view_is)) c.requires.suspended) in
-    rw a.is (grind (arith, nat_tests, c.self.invariant.depth, c.if-self-ge-MAX_DEPTH.false))
+    rw a.is (grind (arith, nat_tests, c.self.invariant.depth, sym c.may_call.ensures ∙ c.if-not-may_call.false))
 
 same_fault : (c : After-fault_of) → c.fault_of.result ≡ fault_ending c.in-Some.callback.now.signature (arguments_fault c.in-Some.callback.now.signature c.args.words.now (length c.self.inside.sandbox.items))
 same_fault c =

@@ -3,7 +3,7 @@ use Rattle.std.specs.Prelude.{slice_get, ◌==◌}
 use Rattle.std.proofs.lemmas.Bool.Decides.{nat_tests}
 use Rattle.code_words.specs.declared.image.Func.{Func}
 use Rattle.code_words.specs.Fitting.{HasSmallFrame}
-use Rattle.two_memory_machine.specs.CallStacks.{CallStack, callers_of}
+use Rattle.machine_memory.specs.CallStacks.{CallStack, callers_of}
 use Rattle.two_memory_machine.specs.Machines.{Machine}
 use Rattle.two_memory_machine.proofs.Callers.{item_found, one_found, all_found, length-callers}
 use Rattle.two_memory_machine.proofs.machine.Machine.run_callback.Goals as goal

@@ -8,9 +8,9 @@ use Rattle.code_words.specs.declared.image.Image.{Image}
 use Rattle.code_words.specs.Fitting.{Fits}
 use Rattle.code_words.specs.Runs.{memory_of, counter_behind}
 use Rattle.code_words.specs.Table.{frame_for}
-use Rattle.two_memory_machine.specs.CallStacks.{CallStack}
-use Rattle.two_memory_machine.specs.Places.{block_row}
-use Rattle.two_memory_machine.proofs.Statics.{counter_at_base, counter_room, places_listed, offsets_listed}
+use Rattle.machine_memory.specs.CallStacks.{CallStack}
+use Rattle.machine_memory.specs.Places.{block_row}
+use Rattle.machine_memory.proofs.Statics.{counter_at_base, counter_room, places_listed, offsets_listed}
 use Rattle.two_memory_machine.proofs.machine.Machine.start.Goals as goal
 use Rattle.two_memory_machine.proofs.machine.Machine.start.Goals.{After-counter_of}
 

@@ -1,0 +1,2 @@
+mod Pops
+mod Tries

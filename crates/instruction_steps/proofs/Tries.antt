@@ -1,0 +1,77 @@
+-- Steps that tell nothing lead to a machine that runs on.
+use Rattle.std.proofs.Common.{◌≡◌, ◌≤◌, Bool, true, false, Option, Some, None, [], refl, arith}
+use Rattle.std.specs.Prelude.{IsTrue}
+use Rattle.code_words.specs.Paced.{is_paced}
+use Rattle.code_words.specs.Table.{Step, Goes, Over, wild}
+use Rattle.code_words.specs.declared.op.Op.{Op}
+use Rattle.code_words.specs.declared.op.Op.TheVariants as ops
+use Rattle.two_memory_machine.specs.declared.event.Event.{Event}
+use Rattle.two_memory_machine.specs.declared.event.Event.TheVariants.{Ran, Input, Ended}
+use Rattle.two_memory_machine.specs.declared.event.Waiting.TheVariants as waiting
+use Rattle.two_memory_machine.specs.declared.outcome.Outcome.{Outcome}
+use Rattle.two_memory_machine.specs.declared.outcome.Outcome.TheVariants as outcomes
+use Rattle.act_words.specs.declared.ending.Ending.{Ending}
+use Rattle.two_memory_machine.specs.Machines.{Machine, Gives, TellsStep, Steps, StepsIf, is_input, next_op_of, state_of, waiting_of}
+use Rattle.instruction_steps.specs.Families.{family}
+use Rattle.two_memory_machine.specs.Steps.{EventBy, GoesBy, Brings, Acts, Performs, TellsSomething, event_of}
+use Rattle.machine_interaction.specs.Told.{IsStep}
+use Rattle.instruction_steps.specs.Running.{IsEndedIf}
+use Rattle.two_memory_machine.proofs.Moving.{stands_in, runs_of, steps_wild, step_over, gives_told, event_told}
+use Rattle.two_memory_machine.proofs.Ends.{step_sooner}
+use Rattle.machine_interaction.proofs.Stepped.{stepped}
+
+-- behind a step that tells nothing an instruction is next
+pub runs_again : (old new : Machine) → Steps old Ran new → waiting_of new ≡ waiting.Runs
+runs_again old new steps = by (is_input (next_op_of old)) steps
+  where
+    next : (step : Step) → Gives TellsStep [] [] [] step old Ran new → waiting_of new ≡ waiting.Runs
+    next (Goes t) gives = rw (gives.2, gives.1) refl
+    next (Over ending t) gives = absurd (let no : Ran ≡ Ended ending = gives.0 in cc)
+
+    by : (input : Bool) → StepsIf input old Ran new → waiting_of new ≡ waiting.Runs
+    by true h = absurd (let no : Ran ≡ Input = h.0 in cc)
+    by false h = next _ (h [] [] [])
+
+-- an instruction of another family takes no input number
+no_input : (op : Op) → 1 ≤ family op → is_input (Some op) ≡ false
+no_input ops.NextInput h = absurd (omega arith)
+no_input _ h = refl
+
+pub other_family : (op : Op) → (op ≡ ops.NextInput → ⊥) → (op ≡ ops.Print → ⊥) → (op ≡ ops.PutByte → ⊥) → 1 ≤ family op
+other_family ops.NextInput input line byte = absurd (input refl)
+other_family ops.Print input line byte = absurd (line refl)
+other_family ops.PutByte input line byte = absurd (byte refl)
+other_family _ input line byte = omega arith
+
+pub performs_told : (old new : Machine) (event : Event) (outcome : Outcome) (op : Op) → 1 ≤ family op → event ≡ event_of outcome new.over → Acts op old outcome new → Performs op old event new
+performs_told old new event outcome op other told acts =
+    rw (no_input op other, told) (λ f here all inputs events. gives_told all inputs events _ old new outcome (acts f here all inputs events))
+
+-- a step where no instruction stands
+pub stepped_wild : (old new : Machine) (event : Event) → IsTrue (is_paced old.image) → waiting_of old ≡ waiting.Runs → next_op_of old ≡ None → EventBy wild old event new → IsStep old event new
+stepped_wild old new event paced waits next goes =
+    let runs = runs_of old.over old.doing waits in
+    let steps = steps_wild old new event runs.1 next goes in
+    record { steps = steps; over = step_over [] [] [] (wild (state_of old [] [] [])) old new event (goes [] [] []); sooner = step_sooner old new event paced runs.0 runs.1 steps }
+
+-- an outcome that ends the run leaves an ending
+ended : (step : Step) (old new : Machine) (outcome : Outcome) → Brings [] [] [] step old outcome new → IsEndedIf outcome new.over
+ended (Goes s) old new outcomes.Ran brings = _
+ended (Goes s) old new outcomes.Asks brings = _
+ended (Goes s) old new outcomes.Ended brings = absurd brings.1
+ended (Over ending s) old new outcome brings = rw (brings.0, brings.1) _
+
+-- the ending of a run is told
+pub told_by : (over : Option Ending) → IsEndedIf outcomes.Ended over → TellsSomething (event_of outcomes.Ended over)
+told_by None ends = absurd ends
+told_by (Some ending) ends = _
+
+-- what an instruction did that isn't told is a step
+pub tried : (old new : Machine) (outcome : Outcome) (op : Op) → IsTrue (is_paced old.image) → waiting_of old ≡ waiting.Runs → next_op_of old ≡ Some op → 1 ≤ family op → Acts op old outcome new → IsStep old (event_of outcome new.over) new × IsEndedIf outcome new.over
+tried old new outcome op paced waits next other acts =
+    let s = stands_in old op next in
+    (stepped old new (event_of outcome new.over) op paced waits next (performs_told old new (event_of outcome new.over) outcome op other refl acts), ended _ old new outcome (acts s.f s.here [] [] []))
+
+pub tried_wild : (old new : Machine) (outcome : Outcome) → IsTrue (is_paced old.image) → waiting_of old ≡ waiting.Runs → next_op_of old ≡ None → GoesBy wild old outcome new → IsStep old (event_of outcome new.over) new × IsEndedIf outcome new.over
+tried_wild old new outcome paced waits next goes =
+    (stepped_wild old new (event_of outcome new.over) paced waits next (event_told wild old new (event_of outcome new.over) outcome refl goes), ended (wild (state_of old [] [] [])) old new outcome (goes [] [] []))

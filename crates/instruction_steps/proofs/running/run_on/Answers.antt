@@ -1,0 +1,48 @@
+use Rattle.std.proofs.Common.{arith}
+use Rattle.two_memory_machine.specs.declared.event.Event.TheVariants.{Ran, Asks}
+use Rattle.two_memory_machine.specs.Machines.{Steps}
+use Rattle.two_memory_machine.specs.declared.outcome.Outcome.TheVariants as outcomes
+use Rattle.two_memory_machine.specs.Steps.{event_of}
+use Rattle.machine_interaction.specs.Told.{IsStep}
+use Rattle.instruction_steps.specs.Running.{StepsOn, IsEndedIf}
+use Rattle.instruction_steps.proofs.Tries.{runs_again, told_by}
+use Rattle.instruction_steps.proofs.running.run_on.Goals as goal
+
+pub steps-init : goal.steps-init
+steps-init c = record { waits = c.requires; leads = λ event new steps. steps; moves = omega arith }
+
+pub steps-preserved : goal.steps-preserved
+steps-preserved c =
+    let at = c.steps.invariant in
+    let now = c.in-Some-Ran.ensures.0 in
+    let ran : Steps c.steps.machine Ran c.try_step.new.machine = rw c.in-Some-Ran.field-0-is at now.steps in
+    let again = runs_again c.steps.machine c.try_step.new.machine ran in
+    record { waits = again; leads = λ event new rest. at.leads event new (StepsOn.more ran again rest); moves = omega (arith, at.moves, now.sooner) }
+
+pub returns-in-Some-Asks : goal.returns-in-Some-Asks
+returns-in-Some-Asks c =
+    let at = c.steps.invariant in
+    let now : IsStep c.steps.machine Asks c.try_step.new.machine = rw c.in-Some-Asks.field-0-is at c.in-Some-Asks.ensures.0 in
+    record {
+      steps = at.leads Asks c.try_step.new.machine (StepsOn.last now.steps);
+      over = now.over;
+      told = _;
+      sooner = omega (arith, at.moves, now.sooner);
+    }
+
+pub returns-in-Some-Ended : goal.returns-in-Some-Ended
+returns-in-Some-Ended c =
+    let at = c.steps.invariant in
+    let over = c.try_step.new.machine.over in
+    let now : IsStep c.steps.machine (event_of outcomes.Ended over) c.try_step.new.machine = rw c.in-Some-Ended.field-0-is at c.in-Some-Ended.ensures.0 in
+    let ends : IsEndedIf outcomes.Ended over = rw c.in-Some-Ended.field-0-is at c.in-Some-Ended.ensures.1 in
+    record {
+      steps = rw c.event.ensures (at.leads _ c.try_step.new.machine (StepsOn.last now.steps));
+      over = rw c.event.ensures now.over;
+      told = rw c.event.ensures (told_by over ends);
+      sooner = omega (arith, at.moves, now.sooner);
+    }
+
+pub returns-in-None-clause-steps : goal.returns-in-None-clause-steps
+returns-in-None-clause-steps c =
+    c.steps.invariant.leads c.told_step.result c.told_step.new.machine (StepsOn.last (rw c.in-None.ensures.0 at c.told_step.ensures.steps))

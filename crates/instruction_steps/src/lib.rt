@@ -1,0 +1,10 @@
+// The instructions: each makes its line of the table on a machine, and a run goes from one to the next.
+#![tactic(auto)]
+
+mod bounds;
+mod families;
+pub mod laws;
+mod memory;
+mod operations;
+pub mod running;
+mod stack;

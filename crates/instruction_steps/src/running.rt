@@ -1,0 +1,58 @@
+// Many steps at once.
+
+ghost use Rattle.std.specs.Prelude.{◌≡◌, ◌<◌};
+ghost use Rattle.two_memory_machine.specs.Machines.{Steps, waiting_of, ending_given, moves_left};
+ghost use Rattle.two_memory_machine.specs.Steps.{TellsSomething};
+ghost use Rattle.instruction_steps.specs.Running.{StepsOn, TriesStep};
+
+use crate::families;
+use code_words::op::Op;
+use machine_interaction::told::told_step;
+use two_memory_machine::event::{Event, Waiting};
+use two_memory_machine::machine::Machine;
+use two_memory_machine::outcome::Outcome;
+
+/// Makes the next step.
+pub fn step(machine: &mut Machine) -> Event
+    requires { waiting_of machine.old ≡ Waiting.Runs }
+    ensures steps { Steps machine.old result machine.new }
+    ensures over { machine.new.over ≡ ending_given result }
+    ensures sooner { moves_left machine.new < moves_left machine.old }
+{
+    match try_step(machine) {
+        Some(outcome) => machine.event(outcome),
+        None => told_step(machine),
+    }
+}
+
+/// Makes steps up to one that has to be told.
+pub fn run_on(machine: &mut Machine) -> Event
+    requires { waiting_of machine.old ≡ Waiting.Runs }
+    ensures steps { StepsOn machine.old result machine.new }
+    ensures over { machine.new.over ≡ ending_given result }
+    ensures told { TellsSomething result }
+    ensures sooner { moves_left machine.new < moves_left machine.old }
+{
+    'steps: loop {
+        match try_step(machine) {
+            Some(Outcome::Ran) => {}
+            Some(Outcome::Asks) => return Event::Asks,
+            Some(Outcome::Ended) => return machine.event(Outcome::Ended),
+            None => return told_step(machine),
+        }
+    }
+}
+
+// Makes the next step, unless it writes or waits for a number. An `Outcome` goes from hand to hand in a register.
+fn try_step(machine: &mut Machine) -> Option<Outcome>
+    requires { waiting_of machine.old ≡ Waiting.Runs }
+    ensures { TriesStep machine.old result machine.new }
+{
+    let Some(op) = machine.op() else {
+        return Some(machine.end_wild());
+    };
+    match op {
+        Op::NextInput | Op::Print | Op::PutByte => None,
+        _ => Some(families::perform(machine, op)),
+    }
+}

@@ -1,0 +1,6 @@
+// What the machine computes with words alone: operations, tests, places of blocks, and stops.
+#![tactic(auto)]
+
+pub mod arithmetic;
+pub mod blocks;
+pub mod limits;

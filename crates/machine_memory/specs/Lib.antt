@@ -1,0 +1,5 @@
+pub mod Places
+pub mod CallStacks
+pub mod CallInsides
+pub mod Texts
+pub mod Faults

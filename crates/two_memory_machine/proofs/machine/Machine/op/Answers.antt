@@ -1,0 +1,19 @@
+use Rattle.std.proofs.Common.{◌≡◌, Some, refl, ap, sym, ◌∙◌}
+use Rattle.std.specs.Prelude.{slice_get}
+use Rattle.two_memory_machine.specs.Machines.{next_op_of}
+use Rattle.two_memory_machine.specs.Insides.{machine, IsConsistent}
+use Rattle.two_memory_machine.specs.declared.machine.Machine.TheInside.{Inside}
+use Rattle.two_memory_machine.proofs.machine.Machine.op.Goals as goal
+
+here : (i : Inside) → IsConsistent i → slice_get i.image.now.trusted.funs i.calls.frame.function ≡ Some i.calls.fun
+here i h = ap (λ funs. slice_get funs i.calls.frame.function) (sym h.funs) ∙ h.there
+
+-- the instruction that the innermost call would do next is the machine's
+next_is : (i : Inside) → IsConsistent i → next_op_of (machine i) ≡ slice_get i.calls.fun.ops i.calls.frame.next
+next_is i h = rw (here i h) refl
+
+pub returns-clause-op : goal.returns-clause-op
+returns-clause-op c = c.op.ensures.op ∙ sym (rw (← c.self.view_is) (next_is c.self.inside c.self.invariant))
+
+pub returns-clause-paced : goal.returns-clause-paced
+returns-clause-paced c = rw (← c.self.view_is) c.self.invariant.fits.paced
