@@ -160,7 +160,7 @@ pub kept_last : {B : Type 0} (new : B) (v : Verdict (Unit {0})) (r : Result (Uni
 kept_last new v r first = record { so = kept_last_so new v r first }
 
 -- neither a function nor its region is unchecked
-pub checked_once : (unchecked off : Bool) (span : Span) → needs (not unchecked) E15 span (needs (not off) E15 span (Passes tt)) ≡ needs (not (unchecked || off)) E15 span (Passes tt)
+pub checked_once : (unchecked off : Bool) (span : Span) → needs {A = Unit {0}} (not unchecked) E15 span (needs (not off) E15 span (Passes tt)) ≡ needs {A = Unit {0}} (not (unchecked || off)) E15 span (Passes tt)
 checked_once true off span = refl
 checked_once false off span = refl
 

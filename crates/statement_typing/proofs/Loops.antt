@@ -1,5 +1,5 @@
 -- Statements that have statements, by their parts.
-use Rattle.std.proofs.Common.{◌≡◌, Bool, true, false, Option, length, map, reverse, take, Result, Ok, Err, Box, Global, refl, ap, sym, ◌∙◌}
+use Rattle.std.proofs.Common.{◌≡◌, Bool, true, false, Option, length, map, reverse, take, Result, Ok, Err, Box, Global, refl, sym, ◌∙◌}
 use Rattle.ckc_text.specs.declared.fault.Refused.{Refused}
 use Rattle.ckc_text.specs.declared.fault.Refused.TheVariants.{Source, NoMemory}
 use Rattle.ckc_text.specs.declared.code.Code.TheVariants.{E30}
@@ -16,7 +16,7 @@ use Rattle.typing_rules.specs.Statements.{both, alone, behind_block, in_loop, co
 use Rattle.checker_scope.specs.declared.scope as code
 use Rattle.checker_scope.specs.Views.{scope, visible}
 use Rattle.statement_typing.specs.OnHeap as on_heap
-use Rattle.statement_typing.specs.Walks.{Walks, walks_so}
+use Rattle.statement_typing.specs.Walks.{Walks}
 use Rattle.statement_typing.proofs.Walking.{left, left_walk, grown, other_loop}
 use Rattle.statement_typing.proofs.Verdicts.{same_behind, in_parts}
 use Rattle.statement_typing.specs.Parts.{Branch, nested, then_branch, if_alone, otherwise, turns, while_loop, for_loop, call_statement, needs_loop}

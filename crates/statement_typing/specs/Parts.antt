@@ -1,5 +1,5 @@
 -- Inside: the rules of statements by their parts.
-use Rattle.std.specs.Prelude.{Bool, true, List, [], ◌∷◌, Option, Some, None}
+use Rattle.std.specs.Prelude.{Bool, true, List, [], ◌∷◌, Option}
 use Rattle.ckc_text.specs.declared.place.Span.{Span}
 use Rattle.ckc_text.specs.declared.code.Code.TheVariants.{E13, E30}
 use Rattle.pointer_modes.specs.Types.{CType}

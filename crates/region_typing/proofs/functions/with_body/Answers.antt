@@ -12,7 +12,7 @@ use Rattle.region_typing.proofs.functions.with_body.Goals as goal
 pub returns-in_err-built : goal.returns-in_err-built
 returns-in_err-built c =
     let broken = rw c.as_slice-written.ensures.value at c.in_err-built.ensures in
-    rw (function_body_parts (place_at c.args.sites.now) (walk c.args.walk.now) (signature c.args.f.now) (map variable c.args.parameters.now) (trees.body c.args.body.now)) (refused _ c.from_residual.result c.from_residual.ensures.1 broken)
+    rw (function_body_parts (place_at c.args.sites.now) (walk c.args.walk.now) (signature c.args.f.now) (map variable c.args.parameters.now) (trees.body c.args.body.now)) (refused _ c.from_residual-in_err-built.result c.from_residual-in_err-built.ensures.1 broken)
 
 pub returns-in_err-needs : goal.returns-in_err-needs
 returns-in_err-needs c =

@@ -1,4 +1,3 @@
-use Rattle.ckc_tree.specs.Items as trees
 use Rattle.checker_scope.specs.Views.{scope}
 use Rattle.typing_rules.specs.Statements.{is_unchecked}
 use Rattle.region_typing.proofs.Bodies.{checked_once}
