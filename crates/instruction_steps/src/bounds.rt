@@ -1,6 +1,5 @@
 // Checks of pointers and of bounds.
 
-ghost use Rattle.std.specs.Prelude.{◌≡◌};
 ghost use Rattle.two_memory_machine.specs.Steps.{Acts, IsReady};
 
 use crate::stack;

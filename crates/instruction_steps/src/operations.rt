@@ -1,6 +1,5 @@
 // Instructions that pop words and push what they come to.
 
-ghost use Rattle.std.specs.Prelude.{◌≡◌};
 ghost use Rattle.two_memory_machine.specs.Steps.{Acts, IsReady};
 
 use crate::stack;

@@ -1,6 +1,6 @@
 // Acts of the sandbox, before touches and in its turn.
 
-ghost use Rattle.std.specs.Prelude.{◌≡◌, None, slice_get};
+ghost use Rattle.std.specs.Prelude.{◌≡◌, None};
 ghost use Rattle.act_words.specs.Acts.{act_view};
 ghost use Rattle.act_words.specs.Acting.{act_before_touch as before_touch, act_in_sandbox as in_sandbox};
 ghost use Rattle.code_words.specs.Table.{Touch};

@@ -6,8 +6,7 @@ use Rattle.act_words.specs.declared.ending.Ending.{Ending}
 use Rattle.act_words.specs.Acts.{Act}
 use Rattle.act_words.specs.World
 use Rattle.act_words.specs.World.{NoAct}
-use Rattle.code_words.specs.declared.op.Op.{Op}
-use Rattle.code_words.specs.Table.{Waits, wild, Control, Runs, Touches, Away, State, Step, Goes, Over}
+use Rattle.code_words.specs.Table.{Waits, Control, Runs, Touches, Away, State, Step, Goes, Over}
 use Rattle.code_words.specs.Moves.{move}
 use Rattle.code_words.specs.Paced.{is_paced}
 use Rattle.code_words.specs.Left as code

@@ -1,5 +1,5 @@
 -- From what a part of a call does to the table's move.
-use Rattle.std.proofs.Common.{◌≡◌, ◌≤◌, ℕ, ℤ, ◌++◌, pos, Bool, true, false, List, [], ◌∷◌, Option, Some, None, refl, sym, ap, subst, ◌∙◌, arith}
+use Rattle.std.proofs.Common.{◌≡◌, ℕ, ℤ, ◌++◌, pos, Bool, true, false, List, [], ◌∷◌, Option, Some, None, refl, sym, ap, subst, ◌∙◌}
 use Rattle.std.specs.Prelude.{slice_get}
 use Rattle.ckc_text.specs.declared.place.Place.{Place}
 use Rattle.act_words.specs.declared.act.Turn.TheVariants as turns
@@ -22,7 +22,7 @@ use Rattle.two_memory_machine.specs.declared.event.Waiting.TheVariants as waitin
 use Rattle.two_memory_machine.specs.Machines.{Machine, with_one, Doing, Running, NeedsNumber, Touching, Suspended, Gives, TellsStep, TellsAct, StepsIf, Steps, TakesAct, TakesEnd, is_input, next_op_of, state_of, world_of, turn_of, waiting_for, TakesNumber, TakesNoNumber, ending_given}
 use Rattle.two_memory_machine.specs.declared.outcome.Outcome.{Outcome}
 use Rattle.two_memory_machine.specs.declared.outcome.Outcome.TheVariants as outcomes
-use Rattle.two_memory_machine.specs.Steps.{EventBy, GoesBy, Brings, IsIn, Acts, event_of, PerformsIf, Performs, MovesBy}
+use Rattle.two_memory_machine.specs.Steps.{EventBy, GoesBy, Brings, IsIn, event_of, PerformsIf, Performs, MovesBy}
 
 -- a machine of the same image
 pub gives_at : (Tells : Event → Doing → Type 0) (acts : List Act) (inputs : List ℤ) (events : List World.Event) (step : Step) (old mid new : Machine) (event : Event) → mid.image ≡ old.image → mid.settings ≡ old.settings → Gives Tells acts inputs events step mid event new → Gives Tells acts inputs events step old event new

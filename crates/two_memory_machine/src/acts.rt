@@ -1,19 +1,18 @@
 // Acts of the sandbox, before touches and in its turn.
 
-ghost use Rattle.std.specs.Prelude.{◌≡◌, ◌^◌, ◌≤◌, ◌+◌, ◌<◌, List, length, map, Some, None, slice_get};
-ghost use Rattle.std.proofs.Common.{ℤ};
-ghost use Rattle.act_words.specs.Acts.{act_view, Passed, Replied, Looked, Wrote};
-ghost use Rattle.act_words.specs.Acting.{act_before_touch, act_in_sandbox, shown, written, lies_in, stopped_by_act};
+ghost use Rattle.std.specs.Prelude.{◌≡◌, ◌≤◌, length, Some, None};
+ghost use Rattle.act_words.specs.Acts.{Passed, Replied, Looked, Wrote};
+ghost use Rattle.act_words.specs.Acting.{shown, written, lies_in, stopped_by_act};
 ghost use Rattle.act_words.specs.World.{in_turn};
 ghost use Rattle.act_words.specs.declared.act.Turn.TheVariants as turns;
 ghost use Rattle.code_words.specs.Table.{Touch, Loads, Stores, Passes, Replies, Over};
-ghost use Rattle.code_words.specs.Moves.{make_touch, before_touch_by, in_sandbox_by, answer, call_back, in_world};
+ghost use Rattle.code_words.specs.Moves.{make_touch, answer, in_world};
 ghost use Rattle.two_memory_machine.specs.Machines.{Touching};
 ghost use Rattle.two_memory_machine.specs.Steps.{MovesBy, IsSuspended, moved_if, bytes_if, EndsBy, EventBy};
 
 use crate::event::Event;
 use crate::machine::{Machine, Pending, Phase};
-use act_words::act::{Act, Release, Seen};
+use act_words::act::{Release, Seen};
 use act_words::ending::Ending;
 use act_words::octets::Octets;
 use act_words::words::Words;

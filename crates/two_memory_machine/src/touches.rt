@@ -1,14 +1,12 @@
 // Touches of the sandbox's memory: where they are asked for, and where they are made.
 
-ghost use Rattle.std.specs.Prelude.{◌≡◌, ◌%◌, ◌≤◌, ◌⊎◌, drop, length};
-ghost use Rattle.std.specs.Int.{to_le_bytes, w8, w32};
+ghost use Rattle.std.specs.Prelude.{◌≡◌, ◌≤◌, ◌⊎◌, drop, length};
 ghost use Rattle.code_words.specs.Table.{pop, touch_if, is_touchable, Loads, Stores};
-ghost use Rattle.two_memory_machine.specs.Steps.{Acts, IsReady, GoesBy};
+ghost use Rattle.two_memory_machine.specs.Steps.{IsReady, GoesBy};
 
 use crate::machine::{Machine, Pending, Phase};
 use crate::outcome::Outcome;
 use act_words::octets::Octets;
-use code_words::op::Op;
 
 impl<'a> Machine<'a> {
     /// Pops an offset, and a load of so many bytes from it on waits for its acts.

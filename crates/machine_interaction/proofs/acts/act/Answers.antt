@@ -1,7 +1,6 @@
-use Rattle.std.proofs.Common.{◌≡◌, []}
+use Rattle.std.proofs.Common.{[]}
 use Rattle.act_words.specs.Acts.{act_view}
 use Rattle.two_memory_machine.specs.Machines.{TakesAct}
-use Rattle.two_memory_machine.specs.Steps.{IsSuspended}
 use Rattle.two_memory_machine.proofs.Moving.{act_over}
 use Rattle.two_memory_machine.proofs.Ends.{act_sooner}
 use Rattle.machine_interaction.proofs.Turns.{IsTouching, touches, IsWaiting, waits, before_touch, in_sandbox}
