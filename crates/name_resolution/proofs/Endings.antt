@@ -9,7 +9,6 @@ use Rattle.ckc_names.specs.Scopes.{Scopes, mentioned, then_mentioned, all_mentio
 use Rattle.ckc_names.specs.Naming.{name_in, with_all, names_seen, has_main, names_if, naming_fault_in, NamedTree, Names}
 use Rattle.ckc_names.specs.State.{State}
 use Rattle.ckc_names.specs.Progress.{Progress, Passes, Finishes, beginning, after, known_behind}
-use Rattle.name_resolution.proofs.Going.{on}
 
 after_fault : (ms : List Mention) (f : SourceFault) → after ms (Err f) ≡ Err f
 after_fault [] f = refl
