@@ -4,4 +4,3 @@ pub mod Naming
 pub mod State
 pub mod NameLists
 pub mod Insides
-pub mod Progress

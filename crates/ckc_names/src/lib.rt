@@ -2,7 +2,6 @@
 #![tactic(auto)]
 
 pub mod main_function;
-mod mentions;
+pub mod mentions;
 pub mod name_list;
-pub mod resolver;
-mod table;
+pub mod table;

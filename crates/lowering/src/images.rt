@@ -9,7 +9,7 @@ ghost use Rattle.lowered_code.specs.Correct.{IsFunction, IsLowerable};
 
 use crate::statement_code::emit_statements;
 use ckc_core::program;
-use ckc_core::program::{Core, Function, Initial, Object};
+use ckc_core::program::{Core, Function, Object};
 use ckc_text::fault::NoMemory;
 use ckc_text::name::Name;
 use code_fragments::cells::put_cell;

@@ -8,8 +8,7 @@ use Rattle.ckc_names.specs.Mentions.{Mention, Open, tree_mentions}
 use Rattle.ckc_names.specs.Scopes.{Scopes, mentioned, then_mentioned, all_mentioned, at_file_level}
 use Rattle.ckc_names.specs.Naming.{name_in, with_all, names_seen, has_main, names_if, naming_fault_in, NamedTree, Names}
 use Rattle.ckc_names.specs.State.{State}
-use Rattle.ckc_names.specs.Progress.{Progress, Passes, Finishes, beginning, after, known_behind}
-use Rattle.name_resolution.proofs.Going.{on}
+use Rattle.name_resolution.specs.Progress.{Progress, Passes, Finishes, beginning, after, known_behind}
 
 after_fault : (ms : List Mention) (f : SourceFault) → after ms (Err f) ≡ Err f
 after_fault [] f = refl

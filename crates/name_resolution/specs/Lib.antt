@@ -1,3 +1,4 @@
+pub mod Progress
 pub mod Slices
 pub mod Named
 pub mod Examples

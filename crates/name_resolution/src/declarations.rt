@@ -6,10 +6,10 @@ ghost use Rattle.std.specs.List.{flat_map};
 ghost use Rattle.ckc_tree.specs.Expressions.{bounds as bounds_of};
 ghost use Rattle.ckc_tree.specs.Statements.{initializer as initializer_of, declarator as declarator_of, declaration as declaration_of, assignment as assignment_of, on_heap};
 ghost use Rattle.ckc_names.specs.Mentions.{optional_mentions, expression_mentions, bounds_mentions, initializer_mentions, declarator_mentions, declaration_mentions, assignment_mentions};
-ghost use Rattle.ckc_names.specs.Progress.{Passes};
+ghost use Rattle.name_resolution.specs.Progress.{Passes};
 
 use crate::expressions::{bounds, expression, type_form};
-use ckc_names::resolver::Resolver;
+use crate::resolver::Resolver;
 use ckc_tree::expr::{BoundsText, Expr};
 use ckc_tree::stmt::{Assignment, Declaration, Declarator, Initializer};
 

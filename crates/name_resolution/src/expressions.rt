@@ -5,9 +5,9 @@ ghost use Rattle.ckc_tree.specs.Types.{type_tree};
 ghost use Rattle.ckc_tree.specs.Expressions.{expression as expression_of, bounds as bounds_of};
 ghost use Rattle.ckc_names.specs.Mentions.{type_mentions, expression_mentions, bounds_mentions};
 ghost use Rattle.name_resolution.specs.Slices.{arguments_mentions};
-ghost use Rattle.ckc_names.specs.Progress.{Passes};
+ghost use Rattle.name_resolution.specs.Progress.{Passes};
 
-use ckc_names::resolver::Resolver;
+use crate::resolver::Resolver;
 use ckc_tree::expr::{BoundsText, Expr};
 use ckc_tree::type_form::TypeForm;
 

@@ -8,12 +8,12 @@ ghost use Rattle.ckc_tree.specs.Expressions.{bounds as bounds_of};
 ghost use Rattle.ckc_tree.specs.Items.{member as member_of, parameter as parameter_of, structure as structure_of, parameters as parameters_of, result_form as result_of, body as body_of, function as function_of, item as item_of, tree};
 ghost use Rattle.ckc_names.specs.Mentions.{Reveal, Declare, DeclareTag, optional_mentions, type_mentions, bounds_mentions, in_block, member_mentions, listed_mentions, parameters_mentions, result_mentions, function_mentions, item_mentions, tree_mentions};
 ghost use Rattle.name_resolution.specs.Slices.{body_mentions};
-ghost use Rattle.ckc_names.specs.Progress.{Passes};
+ghost use Rattle.name_resolution.specs.Progress.{Passes};
 
 use crate::declarations::{declarators, optional_bounds};
 use crate::expressions::type_form;
+use crate::resolver::Resolver;
 use crate::statements::statements;
-use ckc_names::resolver::Resolver;
 use ckc_tree::expr::BoundsText;
 use ckc_tree::identifier::Identifier;
 use ckc_tree::item::{

@@ -7,4 +7,5 @@ mod items;
 pub mod laws;
 pub mod named;
 pub mod resolve;
+mod resolver;
 mod statements;

@@ -7,9 +7,9 @@ ghost use Rattle.name_resolution.specs.Named.{named_tree};
 
 use crate::items::names_in;
 use crate::named::Named;
+use crate::resolver::Resolver;
 use ckc_names::main_function::with_main;
 use ckc_names::name_list::NameList;
-use ckc_names::resolver::Resolver;
 use ckc_text::fault::Refused;
 use ckc_tree::item::Program;
 use std::alloc::Global;

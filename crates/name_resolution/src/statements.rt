@@ -5,13 +5,13 @@ ghost use Rattle.std.specs.Option.{option_map};
 ghost use Rattle.ckc_tree.specs.Statements.{assignment as assignment_of, for_initial as initial_of, on_heap, statement as statement_of};
 ghost use Rattle.ckc_names.specs.Mentions.{optional_mentions, expression_mentions, assignment_mentions, for_initial_mentions, in_block, statement_mentions};
 ghost use Rattle.name_resolution.specs.Slices.{block_mentions};
-ghost use Rattle.ckc_names.specs.Progress.{Passes};
+ghost use Rattle.name_resolution.specs.Progress.{Passes};
 
 use crate::declarations::{
     assignment, assignments, declaration, optional_assignment, optional_expression,
 };
 use crate::expressions::expression;
-use ckc_names::resolver::Resolver;
+use crate::resolver::Resolver;
 use ckc_tree::expr::Expr;
 use ckc_tree::stmt::{Assignment, ForInitial, Stmt};
 

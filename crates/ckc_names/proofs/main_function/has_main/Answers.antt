@@ -2,7 +2,7 @@ use Rattle.std.proofs.Common.{ap, sym, ◌∙◌}
 use Rattle.std.specs.List.{list_any}
 use Rattle.ckc_tree.specs.Items.{item}
 use Rattle.ckc_names.specs.Naming.{is_main}
-use Rattle.ckc_names.proofs.Steps.{any_shown}
+use Rattle.ckc_names.proofs.Shown.{any_shown}
 use Rattle.ckc_names.proofs.main_function.has_main.Goals as goal
 
 pub returns : goal.returns

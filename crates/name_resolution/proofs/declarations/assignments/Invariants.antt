@@ -2,7 +2,7 @@ use Rattle.std.proofs.Common.{take}
 use Rattle.std.specs.List.{flat_map}
 use Rattle.ckc_tree.specs.Statements.{assignment}
 use Rattle.ckc_names.specs.Mentions.{assignment_mentions}
-use Rattle.ckc_names.specs.Progress.{Passes}
+use Rattle.name_resolution.specs.Progress.{Passes}
 use Rattle.name_resolution.proofs.declarations.assignments.Given as goal
 
 -- the assignments so far were gone over

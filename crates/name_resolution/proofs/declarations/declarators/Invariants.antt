@@ -2,7 +2,7 @@ use Rattle.std.proofs.Common.{take}
 use Rattle.std.specs.List.{flat_map}
 use Rattle.ckc_tree.specs.Statements.{declarator}
 use Rattle.ckc_names.specs.Mentions.{declarator_mentions}
-use Rattle.ckc_names.specs.Progress.{Passes}
+use Rattle.name_resolution.specs.Progress.{Passes}
 use Rattle.name_resolution.proofs.declarations.declarators.Given as goal
 
 -- the declarators so far were gone over

@@ -1,6 +1,6 @@
 use Rattle.std.proofs.Common.{take}
 use Rattle.name_resolution.specs.Slices.{arguments_mentions}
-use Rattle.ckc_names.specs.Progress.{Passes}
+use Rattle.name_resolution.specs.Progress.{Passes}
 use Rattle.name_resolution.proofs.expressions.+expressions.Given as goal
 
 -- the arguments so far were gone over

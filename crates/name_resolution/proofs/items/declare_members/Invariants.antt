@@ -2,7 +2,7 @@ use Rattle.std.proofs.Common.{take}
 use Rattle.std.specs.List.{flat_map}
 use Rattle.ckc_tree.specs.Items.{member}
 use Rattle.ckc_names.specs.Mentions.{member_mentions}
-use Rattle.ckc_names.specs.Progress.{Passes}
+use Rattle.name_resolution.specs.Progress.{Passes}
 use Rattle.name_resolution.proofs.items.declare_members.Given as goal
 
 -- the members so far were gone over

@@ -2,7 +2,7 @@ use Rattle.std.proofs.Common.{take}
 use Rattle.std.specs.List.{flat_map}
 use Rattle.ckc_tree.specs.Items.{item}
 use Rattle.ckc_names.specs.Mentions.{item_mentions}
-use Rattle.ckc_names.specs.Progress.{Passes}
+use Rattle.name_resolution.specs.Progress.{Passes}
 use Rattle.name_resolution.proofs.items.items.Given as goal
 
 -- the items so far were gone over

@@ -1,6 +1,6 @@
 use Rattle.std.proofs.Common.{take}
 use Rattle.name_resolution.specs.Slices.{block_mentions}
-use Rattle.ckc_names.specs.Progress.{Passes}
+use Rattle.name_resolution.specs.Progress.{Passes}
 use Rattle.name_resolution.proofs.statements.+statements.Given as goal
 
 -- the statements so far were gone over

@@ -2,11 +2,11 @@
 
 ghost use Rattle.std.specs.Prelude.{◌≡◌, ◌∷◌, []};
 ghost use Rattle.ckc_names.specs.Mentions as m;
-ghost use Rattle.ckc_names.specs.Progress.{beginning, Passes, Finishes};
+ghost use Rattle.name_resolution.specs.Progress.{beginning, Passes, Finishes};
 
-use crate::mentions;
-use crate::name_list::NameList;
-use crate::table::Table;
+use ckc_names::mentions;
+use ckc_names::name_list::NameList;
+use ckc_names::table::Table;
 use ckc_text::fault::Refused;
 use ckc_tree::identifier::Identifier;
 use std::alloc::Global;
@@ -21,7 +21,7 @@ pub struct Resolver {
 }
 
 impl Model for Resolver {
-    ghost use Rattle.ckc_names.specs.Progress.{Progress, progress};
+    ghost use Rattle.name_resolution.specs.Progress.{Progress, progress};
 
     ghost Value = { Progress };
 

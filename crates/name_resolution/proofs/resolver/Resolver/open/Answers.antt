@@ -1,7 +1,7 @@
 use Rattle.std.proofs.Common.{sym, ◌∙◌}
 use Rattle.ckc_names.specs.Mentions.{Open}
-use Rattle.ckc_names.proofs.Steps.{steps}
-use Rattle.ckc_names.proofs.resolver.Resolver.open.Goals as goal
+use Rattle.name_resolution.proofs.Steps.{steps}
+use Rattle.name_resolution.proofs.resolver.Resolver.open.Goals as goal
 
 pub returns-then-is_ok : goal.returns-then-is_ok
 returns-then-is_ok c =

@@ -1,6 +1,5 @@
 -- What a mention does to a walk over names.
-use Rattle.std.proofs.Common.{◌≡◌, ℕ, Bool, true, false, ◌||◌, List, [], ◌∷◌, map, Result, Ok, Err, is_ok, refl, ap, true≢false, sym}
-use Rattle.std.specs.List.{list_any}
+use Rattle.std.proofs.Common.{◌≡◌, ℕ, true, false, List, [], ◌∷◌, Result, Ok, Err, is_ok, refl, true≢false, sym}
 use Rattle.ckc_text.specs.declared.fault.Refused.{Refused}
 use Rattle.ckc_text.specs.declared.fault.Refused.TheVariants.{Source, NoMemory}
 use Rattle.ckc_text.specs.declared.fault.SourceFault.{SourceFault}
@@ -8,7 +7,7 @@ use Rattle.ckc_names.specs.Mentions.{Mention}
 use Rattle.ckc_names.specs.Scopes.{Scopes, mentioned, then_mentioned, all_mentioned}
 use Rattle.ckc_names.specs.Naming.{name_in, with_all}
 use Rattle.ckc_names.specs.State.{State, Goes}
-use Rattle.ckc_names.specs.Progress.{Passes, progress, known_behind}
+use Rattle.name_resolution.specs.Progress.{Passes, progress, known_behind}
 
 known_then : (q : Result Scopes SourceFault) (names : List (List ℕ)) (t : State) → then_mentioned q (all_mentioned []) ≡ Ok t.scopes → names ≡ t.names → Ok t ≡ known_behind names q
 known_then (Ok s) names t is same = let scopes : s ≡ t.scopes = cc in rw (scopes, same) refl
@@ -27,8 +26,3 @@ from_ok m (Err NoMemory) s t goes = record { passed = λ whole. absurd (true≢f
 pub steps : (m : Mention) (o r : Result (Unit {0}) Refused) (s t : State) → is_ok o ≡ true → Goes (m ∷ []) s r t → Passes (m ∷ []) (progress s o) (progress t r)
 steps m (Ok done) r s t goes_on goes = from_ok m r s t goes
 steps m (Err e) r s t goes_on goes = absurd (true≢false (sym goes_on))
-
--- what is shown of one is shown of any
-pub any_shown : {X Y : Type 0} (p : Y → Bool) (g : X → Y) (xs : List X) → list_any p (map g xs) ≡ list_any (λ x. p (g x)) xs
-any_shown p g [] = refl
-any_shown p g (x ∷ xs) = ap (λ b. p (g x) || b) (any_shown p g xs)
