@@ -5,9 +5,9 @@ ghost use Rattle.ccbox_call.specs.Acceptance.{FrontAnswers};
 use built_forms::items::is_built;
 use ckc_core::program::Core;
 use ckc_lexer::lexer::lex;
-use name_resolution::resolve::resolve;
 use ckc_parser::parser::parse;
 use ckc_text::fault::Refused;
+use name_resolution::resolve::resolve;
 use region_typing::checker::check;
 use std::alloc::Global;
 

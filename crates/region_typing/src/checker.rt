@@ -11,8 +11,8 @@ use crate::items::items;
 use crate::walk::Walk;
 use checker_scope::sites::Sites;
 use ckc_core::program::Core;
-use name_resolution::named::Named;
 use ckc_text::fault::Refused;
+use name_resolution::named::Named;
 use std::alloc::Global;
 
 /// The core of a program whose names are visible where they stand.
