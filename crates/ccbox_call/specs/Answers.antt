@@ -20,7 +20,7 @@ use Rattle.ckc_core.specs.States.{State}
 use Rattle.ckc_core.specs.Meaning.{meaning}
 use Rattle.sandbox_actor.specs.Answers.{Moment}
 use Rattle.sandbox_actor.specs.ActLists.{ActList, RefusedLine, no_acts, acts_of_file}
-use Rattle.run_core.specs.Texts.{run_text, front_text}
+use Rattle.run_transcript.specs.Texts.{run_text, front_text}
 use Rattle.run_core.specs.Moments.{due_in, before_due}
 use Rattle.lowered_code.specs.Correct.{blocks_meant}
 use Rattle.command_words.specs.Requests.{Request, Run, Options, settings_of, inputs_of, request_of}

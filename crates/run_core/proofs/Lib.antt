@@ -1,4 +1,3 @@
-mod Feeds
 mod Dues
 mod Reaching
 mod Goings

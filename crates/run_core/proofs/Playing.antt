@@ -10,13 +10,14 @@ use Rattle.sandbox_actor.specs.Answers.{Gives}
 use Rattle.code_words.specs.declared.image.Image.{Image}
 use Rattle.two_memory_machine.specs.declared.event.Event.{Event as MachineEvent}
 use Rattle.two_memory_machine.specs.Machines.{Machine, IsStart, turn_of}
-use Rattle.run_core.specs.declared.run.RunFault.{RunFault}
-use Rattle.run_core.specs.declared.run.RunFault.TheVariants as faults
+use Rattle.run_transcript.specs.declared.fault.RunFault.{RunFault}
+use Rattle.run_transcript.specs.declared.fault.RunFault.TheVariants as faults
 use Rattle.run_core.specs.declared.play.Play.{Play}
-use Rattle.run_core.specs.Texts.{event_text, events_text, ending_text, dump_text, with_last_line}
-use Rattle.run_core.specs.Chains.{Answering, Chain}
+use Rattle.run_transcript.specs.Texts.{event_text, events_text, ending_text, dump_text, with_last_line}
+use Rattle.run_interaction.specs.Asked.{Answering, HasEnded, AskAnswers}
+use Rattle.run_core.specs.Chains.{Chain}
 use Rattle.run_core.specs.Runs.{Comes, Ends}
-use Rattle.run_core.specs.Progress.{Progress, Played, moment_in, HasEnded, AskAnswers, Tells, Steps, Takes, TakesNone, IsAsked, Stops, told, blocks_of}
+use Rattle.run_core.specs.Progress.{Progress, Played, moment_in, Tells, Steps, Takes, TakesNone, IsAsked, Stops, told, blocks_of}
 use Rattle.run_core.proofs.Reaching.{unended}
 use Rattle.run_core.proofs.Goings.{going_first, going_step, out_step, going_act, out_end, out_of_going, ends_before, is_due, run_out}
 

@@ -5,13 +5,10 @@ use Rattle.act_words.specs.declared.settings.Settings.{Settings}
 use Rattle.act_words.specs.Acts.{Act}
 use Rattle.act_words.specs.World.{Event}
 use Rattle.ckc_io.specs.Files.{Files}
-use Rattle.sandbox_actor.specs.Answers.{Moment, Answer, Gives}
+use Rattle.sandbox_actor.specs.Answers.{Moment, Gives}
 use Rattle.code_words.specs.declared.image.Image.{Image}
+use Rattle.run_interaction.specs.Asked.{Answering}
 use Rattle.run_core.specs.Moments.{IsDue}
-
--- what an actor may answer, and which state is behind it
-abbrev pub Answering : Type 0 → Type 1
-Answering S = S → Option Files → Moment → Answer → S → Type 0
 
 -- while the image ran, the actor gave these acts, and went from the first state to the second
 pub data Chain {S : Type 0} (answers : Answering S) (files : Option Files) (image : Image) (settings : Settings) (inputs : List ℤ) : S → List Act → S → Type 0 where

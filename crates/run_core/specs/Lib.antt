@@ -1,7 +1,5 @@
-pub mod Texts
 pub mod Moments
 pub mod Chains
 pub mod Runs
 pub mod Progress
-pub mod Finishes
 pub mod Examples

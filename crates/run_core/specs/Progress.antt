@@ -1,16 +1,13 @@
 -- How far a run with an actor has come, and what is left to say where it stops.
 use Rattle.std.specs.Prelude.{◌≡◌, ℕ, ◌≤◌, ◌<◌, ◌++◌, List, [], ◌∷◌, Option, Some, None, option_map, Bool, true, false, Result, Ok, Err}
 use Rattle.std.proofs.Common.{ℤ, pos}
-use Rattle.ckc_io.specs.Counts.{Rises}
 use Rattle.ckc_io.specs.Files.{Files}
-use Rattle.act_words.specs.declared.act as code
-use Rattle.act_words.specs.declared.act.Turn.{Turn}
 use Rattle.act_words.specs.declared.ending.Ending.{Ending}
 use Rattle.act_words.specs.declared.settings.Settings.{Settings}
-use Rattle.act_words.specs.Acts.{Act, Seen, act_view, seen_view, release_view}
-use Rattle.act_words.specs.World.{Event, Output, Released, Showed, NoAct}
+use Rattle.act_words.specs.Acts.{Act, Seen, seen_view}
+use Rattle.act_words.specs.World.{Event, Output, Showed}
 use Rattle.act_words.specs.Shown.{Shown}
-use Rattle.sandbox_actor.specs.Answers.{Moment, Gives, Ended, Refused, Missing, Lowers}
+use Rattle.sandbox_actor.specs.Answers.{Moment, Ended}
 use Rattle.code_words.specs.declared.image.Image.{Image}
 use Rattle.code_words.specs.Table.{State}
 use Rattle.code_words.specs.Left.{LeavesTurn}
@@ -22,12 +19,14 @@ use Rattle.two_memory_machine.specs.declared.event.Waiting.TheVariants as waitin
 use Rattle.two_memory_machine.specs.Machines.{Machine, IsOfSame, state_of, world_of, turn_of, waiting_of, told_behind, TakesAct, TakesEnd, moves_left}
 use Rattle.run_core.specs.declared.play.Progressed.{Progressed}
 use Rattle.run_core.specs.declared.play.Progressed.TheVariants as progressed
-use Rattle.run_core.specs.declared.run.RunFault.{RunFault}
-use Rattle.run_core.specs.declared.run.RunFault.TheVariants as faults
+use Rattle.run_transcript.specs.declared.fault.RunFault.{RunFault}
+use Rattle.run_transcript.specs.declared.fault.RunFault.TheVariants as faults
 use Rattle.run_core.specs.declared.play.Play.{Play}
-use Rattle.run_core.specs.Texts.{events_text, ending_text, dump_text, with_last_line}
+use Rattle.run_transcript.specs.Texts.{events_text, ending_text, dump_text, with_last_line}
 use Rattle.run_core.specs.Moments.{due_in, IsDue}
-use Rattle.run_core.specs.Chains.{Answering, Chain}
+use Rattle.run_interaction.specs.Asked.{Answering}
+use Rattle.run_interaction.specs.Touched.{last_of, touched}
+use Rattle.run_core.specs.Chains.{Chain}
 use Rattle.run_core.specs.Runs.{Ends, LineRefused, FileMissing, Comes}
 
 -- ---- where a machine stands
@@ -41,14 +40,6 @@ IsAt (Finished ending s) m acts inputs events = (m.over ≡ Some ending) × (s.m
 pub record Reaches (image : Image) (settings : Settings) (s : State) (m : Machine) (acts : List Act) (inputs : List ℤ) (events : List Event) : Type 0 where
   pub moves : ℕ
   pub there : IsAt (exec image settings moves s) m acts inputs events
-
--- what was shown last, where this was shown last before the events
-abbrev pub last_of : Option Seen → List Event → Option Seen
-last_of last [] = last
-last_of last (Output bytes ∷ events) = last_of last events
-last_of last (Released release ∷ events) = last_of last events
-last_of last (Showed seen ∷ events) = last_of (Some seen) events
-last_of last (NoAct turn ∷ events) = last_of last events
 
 -- over these acts, whichever follow them, the image's run comes to where the machine stands, behind these events
 pub record Going (image : Image) (settings : Settings) (inputs : List ℤ) (acts : List Act) (events : List Event) (last : Option Seen) (left : List ℤ) (m : Machine) : Type 0 where
@@ -85,27 +76,6 @@ Played answers files image settings inputs first now p =
 abbrev pub moment_in : Play → Moment
 moment_in p = record { turn = turn_of p.machine.doing; last = option_map seen_view p.last }
 
--- no act is left: the actor had ended before, or ends now
-abbrev pub HasEnded : {S : Type 0} → Answering S → Option Files → Moment → S → S → Bool → Type 0
-HasEnded answers files moment before after true = after ≡ before
-HasEnded answers files moment before after false = answers before files moment Ended after
-
--- what an actor answers, if it is asked: it isn't once it has ended
-abbrev pub AskAnswers : {S : Type 0} → Answering S → Option Files → Moment → Bool → S → S → Result (Option code.Act.Act) RunFault → Type 0
-AskAnswers answers files moment ended before after (Ok (Some act)) = (ended ≡ false) × answers before files moment (Gives (act_view act)) after
-AskAnswers answers files moment ended before after (Ok None) = HasEnded answers files moment before after ended
-AskAnswers answers files moment ended before after (Err (faults.Line line code)) = (ended ≡ false) × answers before files moment (Refused line code) after
-AskAnswers answers files moment ended before after (Err faults.Missing) = (ended ≡ false) × answers before files moment Missing after
-AskAnswers answers files moment ended before after (Err faults.ShelfFailed) = Unit {0}
-AskAnswers answers files moment ended before after (Err faults.SinkFailed) = ⊥
-AskAnswers answers files moment ended before after (Err faults.NoMemory) = Unit {0}
-
--- an act that is given lowers the actor's measure, where it leaves the turn and makes no touch
-abbrev pub AskLowers : Turn → Result (Option code.Act.Act) RunFault → ℕ → ℕ → Type 0
-AskLowers turn (Ok (Some act)) before after = Lowers turn (act_view act) before after
-AskLowers turn (Ok None) before after = Unit {0}
-AskLowers turn (Err e) before after = Unit {0}
-
 -- ---- what happens
 
 -- what an event tells
@@ -115,8 +85,7 @@ told told_by.Asks = []
 told told_by.Input = []
 told (told_by.Out bytes) = Output bytes ∷ []
 told (told_by.Showed seen) = Showed (seen_view seen) ∷ []
-told (told_by.Touched release None) = Released (release_view release) ∷ []
-told (told_by.Touched release (Some seen)) = Released (release_view release) ∷ Showed (seen_view seen) ∷ []
+told (told_by.Touched release seen) = touched release seen
 told (told_by.Ended ending) = []
 
 -- what an event tells is in the text, and what it shows was shown last
@@ -177,15 +146,6 @@ PlayGoes answers files image settings inputs first now p (Err fault) = Stops ans
 abbrev pub PlayEnds : {S : Type 0} → Answering S → Option Files → Image → Settings → List ℤ → S → S → List ℕ → List Shown → Result Ending RunFault → Type 0
 PlayEnds answers files image settings inputs first now text blocks (Ok ending) = Comes answers files image settings inputs first now (Ends ending) (with_last_line text (ending_text ending) ++ dump_text settings blocks)
 PlayEnds answers files image settings inputs first now text blocks (Err fault) = Stops answers files image settings inputs first now text fault
-
--- what the answer says of the lent shelf's two counts
-abbrev pub PlayCounts : {A : Type 0} → Result A RunFault → ℕ → ℕ → ℕ → ℕ → Type 0
-PlayCounts (Ok x) misses misses' failures failures' = (misses' ≡ misses) × (failures' ≡ failures)
-PlayCounts (Err (faults.Line line code)) misses misses' failures failures' = (misses' ≡ misses) × (failures' ≡ failures)
-PlayCounts (Err faults.Missing) misses misses' failures failures' = Rises misses misses' × (failures' ≡ failures)
-PlayCounts (Err faults.ShelfFailed) misses misses' failures failures' = (misses' ≡ misses) × Rises failures failures'
-PlayCounts (Err faults.SinkFailed) misses misses' failures failures' = ⊥
-PlayCounts (Err faults.NoMemory) misses misses' failures failures' = (misses' ≡ misses) × (failures' ≡ failures)
 
 -- ---- that a run ends
 

@@ -1,7 +1,7 @@
 // The last blocks of trusted memory, as lines.
 
 ghost use Rattle.std.specs.Prelude.{◌≡◌, ◌-◌, ◌≤◌, ◌++◌, flat_map, take, drop, IfOk, OnOk};
-ghost use Rattle.run_core.specs.Texts.{block_text};
+ghost use Rattle.run_transcript.specs.Texts.{block_text};
 ghost use Rattle.run_core.specs.Progress.{blocks_of};
 
 use ckc_text::fault::NoMemory;
@@ -28,8 +28,15 @@ fn block_line(alloc: Global, machine: &Machine, address: u32, len: u32) -> Resul
         { address = address; bytes = take len (drop (address - machine.now.memory.base) machine.now.memory.bytes) })) }
 {
     let bytes = block_bytes(alloc, machine, address, len)?;
+    bytes_line(alloc, address, bytes.as_slice())
+}
+
+// The line of these bytes at an address.
+fn bytes_line(alloc: Global, address: u32, bytes: &[u8]) -> Result<Vec<u8>, NoMemory>
+    ensures { IfOk result (λ line. line.items ≡ block_text (record { address = address; bytes = bytes.now })) }
+{
     let count = bytes.len();
-    let hex = hex::encode(alloc, bytes.as_slice())?;
+    let hex = hex::encode(alloc, bytes)?;
     Ok(format!(in alloc; "[block {address} {count} {hex}]\n")?.into_bytes())
 }
 

@@ -5,4 +5,3 @@ mod dump;
 pub mod laws;
 mod play;
 pub mod run;
-pub mod texts;

@@ -1,32 +1,31 @@
 // A run in play: its machine, the text so far, and what the actor has to be told.
 
-ghost use Rattle.std.specs.Prelude.{◌≡◌, ◌<◌, ◌++◌, List, None, true, false, IfOk, OnOk, []};
+ghost use Rattle.std.specs.Prelude.{◌≡◌, ◌<◌, List, None, true, false, IfOk, OnOk, []};
 ghost use Rattle.std.proofs.Common.{ℤ};
 ghost use Rattle.act_words.specs.declared.settings.Settings.{Settings as SettingsData};
-ghost use Rattle.act_words.specs.Acts.{act_view, seen_view, release_view};
-ghost use Rattle.act_words.specs.World.{Output, Released, Showed};
+ghost use Rattle.act_words.specs.Acts.{act_view};
 ghost use Rattle.code_words.specs.declared.image.Image.{Image as ImageData};
 ghost use Rattle.code_words.specs.Fitting.{Fits};
 ghost use Rattle.code_words.specs.Left.{LeavesTurn};
 ghost use Rattle.two_memory_machine.specs.Machines.{IsStart, waiting_of, turn_of, moves_left, ending_given};
-ghost use Rattle.two_memory_machine.specs.declared.event.Event.TheVariants as EventOf;
-ghost use Rattle.run_core.specs.Texts.{event_text, ending_text, dump_text};
-ghost use Rattle.run_core.specs.Progress.{Played, AskAnswers, AskLowers, PlayGoes, PlayEnds, PlayCounts, IsAsked, Steps, TakesInput, Takes, TakesNone, Tells, NearsBy, Nears, FallsUnless, IsOnward, ending_in, moment_in, blocks_of};
+ghost use Rattle.run_transcript.specs.Texts.{dump_text};
+ghost use Rattle.run_interaction.specs.Asked.{AskAnswers, AskLowers, PlayCounts};
+ghost use Rattle.run_core.specs.Progress.{Played, PlayGoes, PlayEnds, IsAsked, Steps, TakesInput, Takes, TakesNone, Tells, NearsBy, Nears, FallsUnless, IsOnward, ending_in, moment_in, blocks_of};
 
 use crate::dump::add_blocks;
-use crate::run::RunFault;
-use crate::texts::{answer_text, output_line};
-use act_recorder::lines::{release_line, seen_line};
-use act_words::act::{Act, Release, Seen, Turn};
+use act_words::act::{Act, Seen, Turn};
 use act_words::ending::Ending;
-use act_words::octets::Octets;
 use act_words::settings::Settings;
 use ckc_io::shelf::Shelf;
 use ckc_text::fault::NoMemory;
 use code_words::image::Image;
 use instruction_steps::running;
 use machine_interaction::acts;
-use sandbox_actor::actor::{Actor, ActorFault, Now};
+use run_interaction::ask::ask;
+use run_interaction::touch::touch;
+use run_transcript::fault::RunFault;
+use run_transcript::transcript;
+use sandbox_actor::actor::{Actor, Now};
 use std::alloc::Global;
 use two_memory_machine::event::{Event, Waiting};
 use two_memory_machine::machine::Machine;
@@ -132,12 +131,11 @@ impl<'a> Play<'a> {
         }
     }
 
-    /// The line of an ending, and behind it the last blocks, where they are asked for.
-    pub fn last_lines(&self, alloc: Global, ending: &Ending) -> Result<Vec<u8>, NoMemory>
-        ensures { IfOk result (λ text. text.items
-            ≡ ending_text ending.now ++ dump_text self.now.settings (blocks_of self.now.machine)) }
+    /// The lines of the last blocks, where they are asked for.
+    pub fn last_blocks(&self, alloc: Global) -> Result<Vec<u8>, NoMemory>
+        ensures { IfOk result (λ text. text.items ≡ dump_text self.now.settings (blocks_of self.now.machine)) }
     {
-        let mut text = answer_text(alloc, ending)?;
+        let mut text = Vec::new(alloc);
         if self.settings.dump {
             add_blocks(alloc, &self.machine, &mut text)?;
         }
@@ -273,19 +271,9 @@ impl<'a> Play<'a> {
         ensures counts { PlayCounts result
             (F.misses shelf.old) (F.misses shelf.new) (F.faults shelf.old) (F.faults shelf.new) }
     {
-        if self.ended {
-            return Ok(None);
-        }
         let turn = self.machine.turn();
         let last = self.last;
-        match actor.next(shelf, &Now { turn, last }) {
-            Ok(act) => Ok(Some(act)),
-            Err(ActorFault::Ended) => Ok(None),
-            Err(ActorFault::Line { line, code }) => Err(RunFault::Line { line, code }),
-            Err(ActorFault::Missing) => Err(RunFault::Missing),
-            Err(ActorFault::Failed) => Err(RunFault::ShelfFailed),
-            Err(ActorFault::NoMemory) => Err(RunFault::NoMemory),
-        }
+        ask(actor, shelf, self.ended, &Now { turn, last })
     }
 
     // Takes an act.
@@ -343,70 +331,21 @@ impl<'a> Play<'a> {
         ensures tells { OnOk result (Tells event.now self.old self.new) }
     {
         match event {
-            Event::Out { bytes } => self.write(alloc, bytes),
-            Event::Showed { seen } => self.show(alloc, seen),
-            Event::Touched { release, seen } => self.touch(alloc, release, seen),
+            Event::Out { bytes } => {
+                transcript::write(alloc, &self.settings, bytes, &mut self.text)
+            }
+            Event::Showed { seen } => {
+                transcript::show(alloc, &self.settings, seen, &mut self.text, &mut self.last)
+            }
+            Event::Touched { release, seen } => touch(
+                alloc,
+                &self.settings,
+                release,
+                seen,
+                &mut self.text,
+                &mut self.last,
+            ),
             Event::Ran | Event::Asks | Event::Input | Event::Ended { ending: _ } => Ok(()),
         }
-    }
-
-    // Tells of what the program wrote: as it is, or as a line where lines are asked for.
-    fn write(&mut self, alloc: Global, bytes: &Octets) -> Result<(), NoMemory>
-        ensures rest { self.new ≡ record self.old { text = self.new.text } }
-        ensures text { OnOk result (self.new.text.items
-            ≡ self.old.text.items ++ event_text self.old.settings (Output bytes.now)) }
-    {
-        if self.settings.view || self.settings.releases {
-            self.text
-                .extend_from_slice(&output_line(alloc, bytes.as_slice())?)?;
-        } else {
-            self.text.extend_from_slice(bytes.as_slice())?;
-        }
-        Ok(())
-    }
-
-    // Tells of a touch: what it released, and then what the sandbox was shown of it.
-    fn touch(
-        &mut self,
-        alloc: Global,
-        release: &Release,
-        seen: &Option<Seen>,
-    ) -> Result<(), NoMemory>
-        ensures machine { self.new.machine ≡ self.old.machine }
-        ensures settings { self.new.settings ≡ self.old.settings }
-        ensures inputs { self.new.inputs ≡ self.old.inputs }
-        ensures ended { self.new.ended ≡ self.old.ended }
-        ensures tells { OnOk result (Tells (EventOf.Touched release.now seen.now) self.old self.new) }
-    {
-        self.release(alloc, release)?;
-        match seen {
-            Some(seen) => self.show(alloc, seen),
-            None => Ok(()),
-        }
-    }
-
-    // Tells of a release: its line, where releases are asked for.
-    fn release(&mut self, alloc: Global, release: &Release) -> Result<(), NoMemory>
-        ensures rest { self.new ≡ record self.old { text = self.new.text } }
-        ensures text { OnOk result (self.new.text.items
-            ≡ self.old.text.items ++ event_text self.old.settings (Released (release_view release.now))) }
-    {
-        if self.settings.releases {
-            self.text.extend_from_slice(&release_line(alloc, release)?)?;
-        }
-        Ok(())
-    }
-
-    // Tells of what the sandbox was shown: its line, where such lines are asked for.
-    fn show(&mut self, alloc: Global, seen: &Seen) -> Result<(), NoMemory>
-        ensures rest { self.new ≡ record self.old { text = self.new.text; last = Some seen.now } }
-        ensures text { OnOk result (self.new.text.items
-            ≡ self.old.text.items ++ event_text self.old.settings (Showed (seen_view seen.now))) }
-    {
-        self.last = Some(*seen);
-        if self.settings.view {
-            self.text.extend_from_slice(&seen_line(alloc, seen)?)?;
-        }
-        Ok(())
     }
 }

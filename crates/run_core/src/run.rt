@@ -3,54 +3,20 @@
 ghost use Rattle.std.specs.Prelude.{◌≡◌};
 ghost use Rattle.ckc_io.specs.Files.{Files};
 ghost use Rattle.code_words.specs.Fitting.{Fits};
-ghost use Rattle.run_core.specs.Texts.{with_last_line};
 ghost use Rattle.run_core.specs.Runs.{RunWrites, RunCounts};
-ghost use Rattle.run_core.specs.Finishes.{Finish, Finishes};
+ghost use Rattle.run_interaction.specs.Finishes.{Finishes};
 ghost use Rattle.run_core.specs.Progress.{blocks_of};
 
 use crate::play::Play;
-use crate::texts::add_last_line;
 use act_words::ending::Ending;
 use act_words::settings::Settings;
 use ckc_io::shelf::Shelf;
-use ckc_io::sink::{Sink, SinkFault};
-use ckc_io::whole::write_whole;
-use ckc_text::code::Code;
-use ckc_text::fault::NoMemory;
+use ckc_io::sink::Sink;
 use code_words::image::Image;
+use run_interaction::finish::{write_end, write_front};
+use run_transcript::fault::RunFault;
 use sandbox_actor::actor::Actor;
 use std::alloc::Global;
-use thiserror::Error;
-
-/// Why a run has no ending.
-#[derive(Debug, Drop, Error)]
-pub enum RunFault {
-    /// The run needs an act whose line is refused: A1 to A5, at the line of this number, the first being 1.
-    #[error("an act line is refused")]
-    Line { line: u64, code: Code },
-    /// The run needs an act from a file that isn't there.
-    #[error("the file of acts is missing")]
-    Missing,
-    /// The shelf failed.
-    #[error("the file of acts can't be read")]
-    ShelfFailed,
-    /// The sink failed.
-    #[error("the output can't be written")]
-    SinkFailed,
-    #[error("out of memory")]
-    NoMemory,
-}
-
-impl From<NoMemory> for RunFault {
-    ghost use Rattle.std.specs.Prelude.{◌≡◌};
-    ghost use Rattle.run_core.specs.declared.run.RunFault.TheVariants.{NoMemory};
-
-    ghost from_gives = { λ _ e. e ≡ NoMemory };
-
-    fn from(_e: NoMemory) -> RunFault {
-        RunFault::NoMemory
-    }
-}
 
 /// Runs an image to its end, with these input numbers and the sandbox's acts from an actor, and writes the text of the
 /// run: what the settings ask for of what happened, the line of the ending, and the last blocks of trusted memory, where
@@ -80,45 +46,24 @@ pub fn run<A: Actor, F: Shelf, K: Sink>(
 {
     let mut play = Play::start(alloc, image, settings, inputs)?;
     let outcome = play.to_end(alloc, actor, shelf);
-    finish(alloc, play, outcome, sink)
+    finish(alloc, &mut play, outcome, sink)
 }
 
 // Writes the text of a run that has come to its end, or to an act that can't be given, and nothing else.
 fn finish<K: Sink>(
     alloc: Global,
-    play: Play,
+    play: &mut Play,
     outcome: Result<Ending, RunFault>,
     sink: &mut K,
 ) -> Result<Ending, RunFault>
-    ensures { Finishes play.entry.text.items play.entry.settings (blocks_of play.entry.machine) outcome
+    ensures { Finishes play.old.text.items play.old.settings (blocks_of play.old.machine) outcome
         (K.written sink.old) (K.written sink.new) (K.faults sink.old) (K.faults sink.new) result }
 {
     match outcome {
         Ok(ending) => {
-            let last = play.last_lines(alloc, &ending)?;
-            write_text(play.text, last.as_slice(), Ok(ending), sink)
+            let blocks = play.last_blocks(alloc)?;
+            write_end(alloc, &mut play.text, ending, blocks.as_slice(), sink)
         }
-        Err(RunFault::Line { line, code }) => {
-            write_text(play.text, &[], Err(RunFault::Line { line, code }), sink)
-        }
-        Err(RunFault::Missing) => write_text(play.text, &[], Err(RunFault::Missing), sink),
-        Err(fault) => Err(fault),
-    }
-}
-
-// Writes a text and a last line behind it, and answers the outcome unless that fails.
-fn write_text<K: Sink>(
-    mut text: Vec<u8>,
-    last: &[u8],
-    outcome: Result<Ending, RunFault>,
-    sink: &mut K,
-) -> Result<Ending, RunFault>
-    ensures { Finish (with_last_line text.items last.now) outcome
-        (K.written sink.old) (K.written sink.new) (K.faults sink.old) (K.faults sink.new) result }
-{
-    add_last_line(&mut text, last)?;
-    match write_whole(sink, text.as_slice()) {
-        Ok(()) => outcome,
-        Err(SinkFault::Failed) => Err(RunFault::SinkFailed),
+        Err(fault) => write_front(&mut play.text, fault, sink),
     }
 }

@@ -1,7 +1,7 @@
 // The lines of a run.
 
 ghost use Rattle.std.specs.Prelude.{◌≡◌, ◌++◌, ◌∷◌, [], if◌then◌else◌, IfOk, OnOk, codes, None, Some};
-ghost use Rattle.run_core.specs.Texts.{ending_text, placed_text, output_line, missing_feed, with_last_line};
+ghost use Rattle.run_transcript.specs.Texts.{ending_text, placed_text, output_line, missing_feed, with_last_line};
 
 use act_words::ending::Ending;
 use ckc_text::code::Code;

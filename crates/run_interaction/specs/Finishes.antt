@@ -5,9 +5,9 @@ use Rattle.ckc_io.specs.Written.{grown}
 use Rattle.act_words.specs.declared.ending.Ending.{Ending}
 use Rattle.act_words.specs.declared.settings.Settings.{Settings}
 use Rattle.act_words.specs.Shown.{Shown}
-use Rattle.run_core.specs.declared.run.RunFault.{RunFault}
-use Rattle.run_core.specs.declared.run.RunFault.TheVariants as faults
-use Rattle.run_core.specs.Texts.{ending_text, dump_text, with_last_line}
+use Rattle.run_transcript.specs.declared.fault.RunFault.{RunFault}
+use Rattle.run_transcript.specs.declared.fault.RunFault.TheVariants as faults
+use Rattle.run_transcript.specs.Texts.{ending_text, dump_text, with_last_line}
 
 -- a front of a text was written
 pub record Fronts (text : List ℕ) (old new : Option (List ℕ)) : Type 0 where

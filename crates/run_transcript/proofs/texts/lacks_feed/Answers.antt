@@ -1,7 +1,7 @@
 use Rattle.std.proofs.Common.{◌≡◌, ℕ, ◌-◌, Bool, true, false, not, List, [], ◌∷◌, length, get_or, if◌then◌else◌, refl, ◌∙◌, arith}
 use Rattle.std.specs.Prelude.{◌==◌}
-use Rattle.run_core.proofs.Feeds.{missing_behind}
-use Rattle.run_core.proofs.texts.lacks_feed.Goals as goal
+use Rattle.run_transcript.proofs.Feeds.{missing_behind}
+use Rattle.run_transcript.proofs.texts.lacks_feed.Goals as goal
 
 not_swaps : (b : Bool) (x y : List ℕ) → (if b then x else y) ≡ (if not b then y else x)
 not_swaps true x y = refl

@@ -1,8 +1,8 @@
 use Rattle.std.proofs.Common.{◌≤◌, length, take, refl, ap, ◌∙◌, subst}
 use Rattle.std.proofs.lemmas.Result.{err_from_is_err_and}
 use Rattle.ckc_io.specs.Written.{grown}
-use Rattle.run_core.specs.Finishes.{Finish}
-use Rattle.run_core.proofs.run.write_text.Goals as goal
+use Rattle.run_interaction.specs.Finishes.{Finish}
+use Rattle.run_interaction.proofs.finish.write_text.Goals as goal
 
 pub returns-in_err-add_last_line : goal.returns-in_err-add_last_line
 returns-in_err-add_last_line g c =
@@ -14,8 +14,8 @@ returns-in-Ok g c =
     let text = c.as_slice.ensures.value ∙ c.in_ok-add_last_line.ensures in
     Finish.whole (c.in-Ok.ensures.all ∙ ap (λ t. grown (g.K.Sink.written c.args.sink.now) t) text) c.in-Ok.ensures.counts
 
-pub returns : goal.returns
-returns g c =
+pub returns-in-Err-Failed : goal.returns-in-Err-Failed
+returns-in-Err-Failed g c =
     let text = c.as_slice.ensures.value ∙ c.in_ok-add_last_line.ensures in
     let front = c.in-Err-Failed.ensures.front in
     Finish.failed
