@@ -10,7 +10,6 @@ ghost use Rattle.checker_scope.specs.Views.{scope as scope_of};
 ghost use Rattle.statement_typing.specs.OnHeap.{expression, statement};
 ghost use Rattle.statement_typing.specs.Walks.{Walks};
 
-use crate::core_forms::boxed;
 use crate::declarations::declaration;
 use checker_scope::scope::Scope;
 use checker_scope::sites::Sites;
@@ -20,6 +19,7 @@ use ckc_tree::expr;
 use ckc_tree::stmt::{Assignment, ForInitial};
 use expression_typing::assignments;
 use std::alloc::Global;
+use value_typing::on_heap::boxed;
 
 /// A condition.
 pub fn condition(

@@ -13,7 +13,7 @@ ghost use Rattle.statement_typing.specs.Walks.{Walks};
 ghost use Rattle.statement_typing.specs.Parts.{nested as nested_in, branched, then_branch as branch_in, if_alone as if_in, otherwise as otherwise_in, turns as turns_in, while_loop as while_in, for_loop as for_in};
 
 use crate::core_forms;
-use crate::core_forms::{Branch, both, boxed, choice, repeated};
+use crate::core_forms::{Branch, both, choice, repeated};
 use crate::declarations::declaration;
 use crate::heads::{assignment, condition, first_part, optional_condition, optional_step};
 use crate::marks::is_checked;
@@ -28,6 +28,7 @@ use ckc_text::place::Span;
 use ckc_tree::stmt::{Assignment, ForInitial, Mark};
 use ckc_tree::{expr, stmt};
 use std::alloc::Global;
+use value_typing::on_heap::boxed;
 
 /// A statement.
 #[cycle(statements)]
