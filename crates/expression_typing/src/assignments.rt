@@ -10,7 +10,7 @@ ghost use Rattle.typing_rules.specs.Verdicts.{Passes};
 ghost use Rattle.typing_rules.specs.Statements.{is_char as is_char_of, store as store_of, update as update_with, updated_place as updated_at, set_to as set_to_of, updated as updated_of, stored as stored_of, step_of as step_from, one as one_of, assignment as assignment_of, condition as condition_of};
 ghost use Rattle.checker_scope.specs.Answering.{Answers};
 ghost use Rattle.checker_scope.specs.Views.{scope as scope_of};
-ghost use Rattle.value_typing.specs.OnHeap.{typed as typed_view};
+ghost use Rattle.value_typing.specs.OnHeap.{typed as typed_view, expression as expression_on_heap, statement as statement_on_heap};
 ghost use Rattle.expression_typing.specs.Targets.{target as target_view, target_on_heap, lvalue, target_of as target_in, updated_target};
 
 use crate::expressions::typed;
@@ -78,12 +78,17 @@ fn store(target: Target, value: program::Expr) -> Stmt
 }
 
 // A store of a value that converts.
-fn set_to(alloc: Global, left: Box<Typed>, right: Box<Typed>, span: Span) -> Result<Stmt, Refused>
-    ensures { Answers statement (set_to_of (typed_view left) (typed_view right) span) result }
+fn set_to(
+    alloc: Global,
+    left: Box<Typed>,
+    right: Box<Typed>,
+    span: Span,
+) -> Result<Box<Stmt>, Refused>
+    ensures { Answers statement_on_heap (set_to_of (typed_view left) (typed_view right) span) result }
 {
     let target = target_of(alloc, left, span)?;
     let value = converted(alloc, right, &target.ctype, span)?;
-    Ok(store(Box::into_inner(target), value))
+    Ok(boxed(alloc, store(Box::into_inner(target), value))?)
 }
 
 // Whether a type is `char`.
@@ -155,8 +160,8 @@ fn update_target(
     right: Box<Typed>,
     site: Site,
     span: Span,
-) -> Result<Stmt, Refused>
-    ensures { Answers statement (updated_target operator (target_on_heap target) (typed_view right) site span) result }
+) -> Result<Box<Stmt>, Refused>
+    ensures { Answers statement_on_heap (updated_target operator (target_on_heap target) (typed_view right) site span) result }
 {
     if is_pointer(&target.ctype) || is_pointer_value(&right) {
         return Err(refusal(Code::E19, span));
@@ -166,7 +171,8 @@ fn update_target(
     }
     let value = number(alloc, right, span)?;
     let target = Box::into_inner(target);
-    Ok(update(target, operator, Box::into_inner(value), site))
+    let value = Box::into_inner(value);
+    Ok(boxed(alloc, update(target, operator, value, site))?)
 }
 
 // An update by the rules of the sum or the difference.
@@ -177,8 +183,8 @@ fn updated(
     left: Box<Typed>,
     right: Box<Typed>,
     span: Span,
-) -> Result<Stmt, Refused>
-    ensures { Answers statement (updated_of (place_at sites.now) operator (typed_view left) (typed_view right) span) result }
+) -> Result<Box<Stmt>, Refused>
+    ensures { Answers statement_on_heap (updated_of (place_at sites.now) operator (typed_view left) (typed_view right) span) result }
 {
     let target = target_of(alloc, left, span)?;
     update_target(alloc, operator, target, right, sites.site(span), span)
@@ -192,8 +198,8 @@ fn stored(
     left: Box<Typed>,
     right: Box<Typed>,
     span: Span,
-) -> Result<Stmt, Refused>
-    ensures { Answers statement (stored_of (place_at sites.now) operator (typed_view left) (typed_view right) span) result }
+) -> Result<Box<Stmt>, Refused>
+    ensures { Answers statement_on_heap (stored_of (place_at sites.now) operator (typed_view left) (typed_view right) span) result }
 {
     match operator {
         StoreOperator::Set => set_to(alloc, left, right, span),
@@ -224,8 +230,8 @@ pub fn assignment(
     sites: &Sites,
     scope: &Scope,
     written: &Assignment,
-) -> Result<Stmt, Refused>
-    ensures { Answers statement (assignment_of (place_at sites.now) (scope_of scope.now) (assignment_tree written.now)) result }
+) -> Result<Box<Stmt>, Refused>
+    ensures { Answers statement_on_heap (assignment_of (place_at sites.now) (scope_of scope.now) (assignment_tree written.now)) result }
 {
     match written {
         Assignment::Store {
@@ -257,10 +263,9 @@ pub fn condition(
     sites: &Sites,
     scope: &Scope,
     e: &Expr,
-) -> Result<program::Expr, Refused>
-    ensures { Answers expression (condition_of (place_at sites.now) (scope_of scope.now) (expression_tree e.now)) result }
+) -> Result<Box<program::Expr>, Refused>
+    ensures { Answers expression_on_heap (condition_of (place_at sites.now) (scope_of scope.now) (expression_tree e.now)) result }
 {
     let t = typed(alloc, sites, scope, e)?;
-    let value = scalar(alloc, t, e.span())?;
-    Ok(Box::into_inner(value))
+    scalar(alloc, t, e.span())
 }

@@ -7,7 +7,7 @@ ghost use Rattle.ckc_tree.specs.Statements.{declarator as declarator_tree, decla
 ghost use Rattle.pointer_modes.specs.Types.{ctype as ctype_of};
 ghost use Rattle.typing_rules.specs.Statements.{declarator as declarator_of, declarators as declarators_of, declaration as declaration_of};
 ghost use Rattle.checker_scope.specs.Views.{scope as scope_of};
-ghost use Rattle.statement_typing.specs.OnHeap.{statement};
+ghost use Rattle.value_typing.specs.OnHeap.{statement};
 ghost use Rattle.statement_typing.specs.Walks.{Walks, declared_local};
 
 use crate::core_forms::both;

@@ -8,7 +8,7 @@ ghost use Rattle.pointer_modes.specs.Types.{ctype as ctype_of};
 ghost use Rattle.typing_rules.specs.Statements.{initialised as initialised_as};
 ghost use Rattle.checker_scope.specs.Answering.{Answers};
 ghost use Rattle.checker_scope.specs.Views.{scope as scope_of};
-ghost use Rattle.statement_typing.specs.OnHeap.{statement as statement_of};
+ghost use Rattle.value_typing.specs.OnHeap.{statement as statement_of};
 ghost use Rattle.statement_typing.specs.Walks.{initial_value as initial_value_as, from_zero as from_zero_as};
 
 use crate::core_forms::both;

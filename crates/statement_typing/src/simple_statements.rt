@@ -11,7 +11,7 @@ ghost use Rattle.typing_rules.specs.Statements.{return as return_of, returned_no
 ghost use Rattle.checker_scope.specs.Answering.{Answers};
 ghost use Rattle.checker_scope.specs.Views.{scope as scope_of};
 ghost use Rattle.expression_typing.specs.Calls.{called as called_as};
-ghost use Rattle.statement_typing.specs.OnHeap.{statement};
+ghost use Rattle.value_typing.specs.OnHeap.{statement};
 ghost use Rattle.statement_typing.specs.Parts.{call_statement, needs_loop, value_returned as value_returned_in, converted_return, refused_value as refused_value_in};
 
 use checker_scope::refusals::{needs, refusal};

@@ -6,7 +6,7 @@ ghost use Rattle.ckc_core.specs.Core.{expression};
 ghost use Rattle.typing_rules.specs.Verdicts.{Passes};
 ghost use Rattle.typing_rules.specs.Expressions.{number_of, scalar_of};
 ghost use Rattle.checker_scope.specs.Answering.{Answers};
-ghost use Rattle.value_typing.specs.OnHeap.{typed};
+ghost use Rattle.value_typing.specs.OnHeap.{typed, expression as boxed_expression};
 ghost use Rattle.value_typing.specs.Operands.{operand as operand_view, operand_of};
 
 use crate::on_heap::boxed;
@@ -57,7 +57,7 @@ fn read(alloc: Global, ctype: CType, value: Expr) -> Result<Operand, Refused>
 
 /// A number, for an operator that takes numbers.
 pub fn number(alloc: Global, t: Box<Typed>, span: Span) -> Result<Box<Expr>, Refused>
-    ensures { Answers (λ v. expression v.value) (number_of (typed t) span Passes) result }
+    ensures { Answers boxed_expression (number_of (typed t) span Passes) result }
 {
     let o = value_of(alloc, t, span)?;
     needs(is_number(&o.ctype), Code::E13, span)?;
@@ -66,7 +66,7 @@ pub fn number(alloc: Global, t: Box<Typed>, span: Span) -> Result<Box<Expr>, Ref
 
 /// A scalar, for a condition and for operators on truth.
 pub fn scalar(alloc: Global, t: Box<Typed>, span: Span) -> Result<Box<Expr>, Refused>
-    ensures { Answers (λ v. expression v.value) (scalar_of (typed t) span Passes) result }
+    ensures { Answers boxed_expression (scalar_of (typed t) span Passes) result }
 {
     let o = value_of(alloc, t, span)?;
     Ok(o.value)
