@@ -1,7 +1,8 @@
 use Rattle.std.proofs.Common.{◌<◌, length, map, arith}
 use Rattle.ckc_text.specs.Places.{place_at}
 use Rattle.checker_scope.specs.Views.{scope}
-use Rattle.expression_typing.specs.Calls.{argument}
+use Rattle.expression_typing.specs.Calls.{argument, called_with}
+use Rattle.expression_typing.specs.Slices.{expression_list}
 use Rattle.checker_scope.proofs.Going.{goes_on, refused, refused_by}
 use Rattle.expression_typing.proofs.Arguments.{call_parts, argument_pushed, argument_breaks, arguments_done}
 use Rattle.expression_typing.proofs.expressions.+expressions.Goals as goal
@@ -10,13 +11,13 @@ pub typed-returns-in_err-answer-in-Call : goal.typed-returns-in_err-answer-in-Ca
 typed-returns-in_err-answer-in-Call t c =
     let answer = rw (c.as_bytes-in-Call.ensures) at c.in_err-answer-in-Call.ensures in
     rw (call_parts (place_at c.args.sites.now) (scope c.args.scope.now) c.args.e.now c.in-Call.callee c.in-Call.arguments c.in-Call.span c.as_slice-arguments.result.now c.in-Call.is c.as_slice-arguments.ensures.value)
-    (refused _ c.from_residual-in_err-answer-in-Call.result c.from_residual-in_err-answer-in-Call.ensures.1 answer)
+    (refused {verdict = called_with (place_at c.args.sites.now) (scope c.args.scope.now) c.in-Call.callee.name (expression_list c.as_slice-arguments.result.now) c.in-Call.span} _ c.from_residual-in_err-answer-in-Call.result c.from_residual-in_err-answer-in-Call.ensures.1 answer)
 
 pub typed-returns-in_ok-answer-in-Call : goal.typed-returns-in_ok-answer-in-Call
 typed-returns-in_ok-answer-in-Call t c =
     let answer = rw (c.as_bytes-in-Call.ensures) at c.in_ok-answer-in-Call.ensures in
     rw (call_parts (place_at c.args.sites.now) (scope c.args.scope.now) c.args.e.now c.in-Call.callee c.in-Call.arguments c.in-Call.span c.as_slice-arguments.result.now c.in-Call.is c.as_slice-arguments.ensures.value)
-    (goes_on _ answer c.with_result.ensures)
+    (goes_on {verdict = called_with (place_at c.args.sites.now) (scope c.args.scope.now) c.in-Call.callee.name (expression_list c.as_slice-arguments.result.now) c.in-Call.span} _ answer c.with_result.ensures)
 
 pub called-returns-in_err-arguments : goal.called-returns-in_err-arguments
 called-returns-in_err-arguments t c = refused _ c.from_residual.result c.from_residual.ensures.1 c.in_err-arguments.ensures
