@@ -15,7 +15,7 @@ ghost use Rattle.expression_typing.specs.Targets.{target as target_view, target_
 
 use crate::expressions::typed;
 use crate::operand_tests::is_pointer_value;
-use checker_scope::refusals::{needs, refusal};
+use checker_scope::refusals::refusal;
 use checker_scope::scope::Scope;
 use checker_scope::sites::Sites;
 use checker_scope::types::{is_number, is_pointer};

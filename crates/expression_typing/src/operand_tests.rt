@@ -1,6 +1,6 @@
 // Tests of what operands are.
 
-ghost use Rattle.std.specs.Prelude.{◌≡◌, ◌||◌, ◌&&◌};
+ghost use Rattle.std.specs.Prelude.{◌≡◌, ◌||◌};
 ghost use Rattle.pointer_modes.specs.Types.{ctype as ctype_of};
 ghost use Rattle.typing_rules.specs.Expressions.{is_pointer_value as pointer_value_of};
 ghost use Rattle.value_typing.specs.Typed.{typed};

@@ -2,7 +2,6 @@
 
 ghost use Rattle.std.specs.Option.{option_map};
 ghost use Rattle.ckc_text.specs.Places.{place_at};
-ghost use Rattle.ckc_tree.specs.Expressions.{expression as expression_tree};
 ghost use Rattle.ckc_tree.specs.Statements.{on_heap, assignment as assignment_tree, for_initial as initial_tree};
 ghost use Rattle.typing_rules.specs.Statements.{optional_condition as optional_condition_of, optional_step as optional_step_of, first_part as first_part_of};
 ghost use Rattle.checker_scope.specs.Answering.{Answers};

@@ -1,6 +1,6 @@
 // Operands as values.
 
-ghost use Rattle.std.specs.Prelude.{◌≡◌, false};
+ghost use Rattle.std.specs.Prelude.{false};
 ghost use Rattle.pointer_modes.specs.Types.{ctype as ctype_of};
 ghost use Rattle.ckc_core.specs.Core.{expression};
 ghost use Rattle.typing_rules.specs.Verdicts.{Passes};
@@ -15,7 +15,7 @@ use checker_scope::refusals::{needs, refusal};
 use checker_scope::types::{copied, is_number};
 use ckc_core::program::Expr;
 use ckc_text::code::Code;
-use ckc_text::fault::{NoMemory, Refused};
+use ckc_text::fault::Refused;
 use ckc_text::place::Span;
 use pointer_modes::ctype::CType;
 use std::alloc::Global;
