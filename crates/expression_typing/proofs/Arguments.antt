@@ -10,10 +10,10 @@ use Rattle.ckc_tree.specs.declared.expr.Expr.TheVariants as exprs
 use Rattle.ckc_tree.specs.Expressions.{Call, Then, expression, expressions, expression_span}
 use Rattle.typing_rules.specs.Verdicts.{Verdict, Passes, Breaks, passing}
 use Rattle.typing_rules.specs.Scopes.{Scope}
-use Rattle.typing_rules.specs.Expressions.{Places, Typed, typed, all_typed}
+use Rattle.typing_rules.specs.Expressions.{Places, Typed, typed, all_typed, with_result}
 use Rattle.expression_typing.specs.declared.calls.Argument as code
-use Rattle.value_typing.specs.Typed.{typed as typed_view}
-use Rattle.expression_typing.specs.Calls.{argument}
+use Rattle.value_typing.specs.OnHeap.{typed as typed_view}
+use Rattle.expression_typing.specs.Calls.{argument, called_with}
 use Rattle.expression_typing.specs.Slices.{expression_list}
 
 abbrev arguments_row : Expr → (n : Count) × Row_of-Expr n
@@ -30,6 +30,16 @@ call_tree x callee arguments span slice is same =
     let row = arguments_row (exprs.Call callee arguments span) in
     ap expression is
     ∙ ap (λ es. Call callee es span) (list_of_row row.0 row.1 ∙ ap expression_list (items_hidden-the_row-Expr-0 arguments ∙ sym same))
+
+passing_twice : {A B C : Type 0} (v : Verdict A) (f : A → Verdict B) (g : B → Verdict C) → passing v (λ x. passing (f x) g) ≡ passing (passing v f) g
+passing_twice (Passes x) f g = refl
+passing_twice (Breaks fault) f g = refl
+
+-- the value of a call
+pub call_parts : (at : Places) (s : Scope) (x : Expr) (callee : Identifier) (arguments : Vec Expr Global) (span : Span) (slice : List Expr) → x ≡ exprs.Call callee arguments span → slice ≡ arguments.items
+    → typed at s (expression x) ≡ passing (called_with at s callee.name (expression_list slice) span) (λ c. with_result c span)
+call_parts at s x callee arguments span slice is same =
+    ap (typed at s) (call_tree x callee arguments span slice is same) ∙ passing_twice (all_typed at s (expression_list slice)) _ _
 
 -- the arguments so far before those that are left
 abbrev pub behind : List (Typed × Span) → Verdict (List (Typed × Span)) → Verdict (List (Typed × Span))

@@ -13,7 +13,7 @@ use Rattle.ckc_text.specs.declared.code.Code.TheVariants.{E14}
 use Rattle.typing_rules.specs.Verdicts.{Verdict, Passes, Breaks, passing, needs}
 use Rattle.typing_rules.specs.Expressions.{arguments_as, converted}
 use Rattle.expression_typing.specs.declared.calls.Argument as code
-use Rattle.value_typing.specs.Typed.{typed}
+use Rattle.value_typing.specs.OnHeap.{typed}
 use Rattle.expression_typing.specs.Calls.{argument, only_number}
 use Rattle.expression_typing.proofs.Continuing.{converted_then}
 use Rattle.expression_typing.proofs.CoreRows.{joined, joined_none, joined_one}

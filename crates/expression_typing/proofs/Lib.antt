@@ -1,4 +1,4 @@
-pub mod Equality
+pub mod Comparing
 pub mod MemberCells
 pub mod Arguments
 pub mod Continuing

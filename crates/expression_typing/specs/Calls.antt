@@ -4,18 +4,20 @@ use Rattle.ckc_text.specs.declared.place.Span.{Span}
 use Rattle.ckc_text.specs.declared.code.Code.TheVariants.{E14}
 use Rattle.ckc_core.specs.declared.program.Site.{Site}
 use Rattle.ckc_core.specs.Core as core
-use Rattle.typing_rules.specs.Verdicts.{Verdict, Passes, breaks}
+use Rattle.typing_rules.specs.Verdicts.{Verdict, Passes, passing, breaks}
+use Rattle.typing_rules.specs.Scopes.{Scope, function_named}
+use Rattle.ckc_tree.specs.Expressions.{Expressions}
 use Rattle.pointer_modes.specs.Types.{Int, ctype}
 use Rattle.ckc_core.specs.Core.{expression, statement}
-use Rattle.typing_rules.specs.Expressions.{Typed, Called, Gives, GivesNothing, converted}
+use Rattle.typing_rules.specs.Expressions.{Places, Typed, Called, Gives, GivesNothing, converted, all_typed, called as called_in, site_at}
 use Rattle.expression_typing.specs.declared.calls.Called as code
 use Rattle.expression_typing.specs.declared.calls.Called.TheVariants as calls
 use Rattle.expression_typing.specs.declared.calls.Argument as code_argument
-use Rattle.value_typing.specs.Typed.{typed}
+use Rattle.value_typing.specs.OnHeap.{typed}
 
 abbrev pub called : code.Called → Called
-called (calls.Gives type value) = Gives (ctype type) (expression value)
-called (calls.GivesNothing call) = GivesNothing (statement call)
+called (calls.Gives type value) = Gives (ctype type) (expression value.value)
+called (calls.GivesNothing call) = GivesNothing (statement call.value)
 
 -- an argument with its span
 abbrev pub argument : code_argument.Argument → Typed × Span
@@ -34,3 +36,7 @@ call_value false number site arguments = core.Call number arguments
 abbrev pub call_statement : Bool → ℕ → Site → core.Arguments → core.Statement
 call_statement true number site arguments = core.TaintedAlone number arguments site
 call_statement false number site arguments = core.CallAlone number arguments
+
+-- a call of a function by its name, with what its arguments are
+abbrev pub called_with : Places → Scope → List ℕ → Expressions → Span → Verdict Called
+called_with at s name arguments span = passing (all_typed at s arguments) (λ ts. called_in s (function_named s.functions name) name ts (site_at at span) span)

@@ -1,3 +1,5 @@
 pub mod Calls
 pub mod Slices
 pub mod Targets
+pub mod Comparing
+pub mod Equality

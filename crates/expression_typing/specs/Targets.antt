@@ -1,5 +1,6 @@
 -- Inside: what an assignment stores in, as the code holds it.
-use Rattle.std.specs.Prelude.{not, ◌||◌, Some, None}
+use Rattle.std.specs.Prelude.{Box, not, ◌||◌, Some, None}
+use Rattle.std.proofs.Common.{Global}
 use Rattle.ckc_text.specs.declared.place.Span.{Span}
 use Rattle.ckc_text.specs.declared.code.Code.TheVariants.{E12, E13, E19}
 use Rattle.pointer_modes.specs.Types.{CType, ctype}
@@ -26,6 +27,9 @@ pub record Target : Type 0 where
 
 abbrev pub target : code_target.Target → Target
 target t = record { type = ctype t.ctype; place = lvalue t.place }
+
+abbrev pub target_on_heap : Box code_target.Target Global → Target
+target_on_heap t = target t.value
 
 -- the place of a scalar (E12, E13)
 abbrev pub target_of : Typed → Span → Verdict Target

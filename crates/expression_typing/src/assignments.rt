@@ -1,34 +1,35 @@
 // Assignments.
 
-ghost use Rattle.std.specs.Prelude.{◌≡◌};
+ghost use Rattle.std.specs.Prelude.{◌≡◌, IfOk};
 ghost use Rattle.ckc_text.specs.Places.{place_at};
 ghost use Rattle.ckc_tree.specs.Expressions.{expression as expression_tree};
 ghost use Rattle.ckc_tree.specs.Statements.{assignment as assignment_tree};
 ghost use Rattle.pointer_modes.specs.Types.{ctype as ctype_of};
 ghost use Rattle.ckc_core.specs.Core.{expression, statement, place as place_of};
-ghost use Rattle.typing_rules.specs.Expressions.{site_at};
+ghost use Rattle.typing_rules.specs.Verdicts.{Passes};
 ghost use Rattle.typing_rules.specs.Statements.{is_char as is_char_of, store as store_of, update as update_with, updated_place as updated_at, set_to as set_to_of, updated as updated_of, stored as stored_of, step_of as step_from, one as one_of, assignment as assignment_of, condition as condition_of};
 ghost use Rattle.checker_scope.specs.Answering.{Answers};
 ghost use Rattle.checker_scope.specs.Views.{scope as scope_of};
-ghost use Rattle.value_typing.specs.Typed.{typed as typed_view};
-ghost use Rattle.expression_typing.specs.Targets.{target as target_view, lvalue, target_of as target_in, updated_target};
+ghost use Rattle.value_typing.specs.OnHeap.{typed as typed_view, expression as expression_on_heap, statement as statement_on_heap};
+ghost use Rattle.expression_typing.specs.Targets.{target as target_view, target_on_heap, lvalue, target_of as target_in, updated_target};
 
 use crate::expressions::typed;
-use crate::operators::is_pointer_value;
-use checker_scope::refusals::{needs, refusal};
+use crate::operand_tests::is_pointer_value;
+use checker_scope::refusals::refusal;
 use checker_scope::scope::Scope;
 use checker_scope::sites::Sites;
 use checker_scope::types::{is_number, is_pointer};
 use ckc_core::program;
 use ckc_core::program::{CellPlace, Operator, Site, Stmt};
 use ckc_text::code::Code;
-use ckc_text::fault::Refused;
+use ckc_text::fault::{NoMemory, Refused};
 use ckc_text::place::Span;
 use ckc_tree::expr::Expr;
 use ckc_tree::stmt::{Assignment, StepOperator, StoreOperator};
 use pointer_modes::ctype::CType;
 use std::alloc::Global;
 use value_typing::conversions::converted;
+use value_typing::on_heap::boxed;
 use value_typing::operands::{number, scalar};
 use value_typing::typed::{Typed, plain};
 
@@ -46,20 +47,21 @@ pub struct Target {
     pub place: Lvalue,
 }
 
-/// The place that an expression stands for.
-fn target_of(t: Typed, span: Span) -> Result<Target, Refused>
-    ensures { Answers target_view (target_in (typed_view t) span) result }
+// A place of a type.
+fn target_at(alloc: Global, ctype: CType, place: Lvalue) -> Result<Box<Target>, Refused>
+    ensures { Answers target_on_heap (Passes (target_view (record { ctype = ctype; place = place }))) result }
 {
-    match t {
+    Ok(boxed(alloc, Target { ctype, place })?)
+}
+
+/// The place that an expression stands for.
+fn target_of(alloc: Global, t: Box<Typed>, span: Span) -> Result<Box<Target>, Refused>
+    ensures { Answers target_on_heap (target_in (typed_view t) span) result }
+{
+    match Box::into_inner(t) {
         Typed::Value { .. } => Err(refusal(Code::E12, span)),
-        Typed::Local { ctype, local } => Ok(Target {
-            ctype,
-            place: Lvalue::Local(local),
-        }),
-        Typed::Cell { ctype, place } => Ok(Target {
-            ctype,
-            place: Lvalue::Cell(place),
-        }),
+        Typed::Local { ctype, local } => target_at(alloc, ctype, Lvalue::Local(local)),
+        Typed::Cell { ctype, place } => target_at(alloc, ctype, Lvalue::Cell(place)),
         Typed::Struct { .. } => Err(refusal(Code::E13, span)),
     }
 }
@@ -76,12 +78,17 @@ fn store(target: Target, value: program::Expr) -> Stmt
 }
 
 // A store of a value that converts.
-fn set_to(alloc: Global, left: Typed, right: Typed, span: Span) -> Result<Stmt, Refused>
-    ensures { Answers statement (set_to_of (typed_view left) (typed_view right) span) result }
+fn set_to(
+    alloc: Global,
+    left: Box<Typed>,
+    right: Box<Typed>,
+    span: Span,
+) -> Result<Box<Stmt>, Refused>
+    ensures { Answers statement_on_heap (set_to_of (typed_view left) (typed_view right) span) result }
 {
-    let target = target_of(left, span)?;
+    let target = target_of(alloc, left, span)?;
     let value = converted(alloc, right, &target.ctype, span)?;
-    Ok(store(target, value))
+    Ok(boxed(alloc, store(Box::into_inner(target), value))?)
 }
 
 // Whether a type is `char`.
@@ -149,12 +156,12 @@ fn update(target: Target, operator: Operator, value: program::Expr, site: Site) 
 fn update_target(
     alloc: Global,
     operator: Operator,
-    target: Target,
-    right: Typed,
+    target: Box<Target>,
+    right: Box<Typed>,
     site: Site,
     span: Span,
-) -> Result<Stmt, Refused>
-    ensures { Answers statement (updated_target operator (target_view target) (typed_view right) site span) result }
+) -> Result<Box<Stmt>, Refused>
+    ensures { Answers statement_on_heap (updated_target operator (target_on_heap target) (typed_view right) site span) result }
 {
     if is_pointer(&target.ctype) || is_pointer_value(&right) {
         return Err(refusal(Code::E19, span));
@@ -163,7 +170,9 @@ fn update_target(
         return Err(refusal(Code::E13, span));
     }
     let value = number(alloc, right, span)?;
-    Ok(update(target, operator, Box::into_inner(value), site))
+    let target = Box::into_inner(target);
+    let value = Box::into_inner(value);
+    Ok(boxed(alloc, update(target, operator, value, site))?)
 }
 
 // An update by the rules of the sum or the difference.
@@ -171,13 +180,13 @@ fn updated(
     alloc: Global,
     sites: &Sites,
     operator: Operator,
-    left: Typed,
-    right: Typed,
+    left: Box<Typed>,
+    right: Box<Typed>,
     span: Span,
-) -> Result<Stmt, Refused>
-    ensures { Answers statement (updated_of (place_at sites.now) operator (typed_view left) (typed_view right) span) result }
+) -> Result<Box<Stmt>, Refused>
+    ensures { Answers statement_on_heap (updated_of (place_at sites.now) operator (typed_view left) (typed_view right) span) result }
 {
-    let target = target_of(left, span)?;
+    let target = target_of(alloc, left, span)?;
     update_target(alloc, operator, target, right, sites.site(span), span)
 }
 
@@ -186,11 +195,11 @@ fn stored(
     alloc: Global,
     sites: &Sites,
     operator: StoreOperator,
-    left: Typed,
-    right: Typed,
+    left: Box<Typed>,
+    right: Box<Typed>,
     span: Span,
-) -> Result<Stmt, Refused>
-    ensures { Answers statement (stored_of (place_at sites.now) operator (typed_view left) (typed_view right) span) result }
+) -> Result<Box<Stmt>, Refused>
+    ensures { Answers statement_on_heap (stored_of (place_at sites.now) operator (typed_view left) (typed_view right) span) result }
 {
     match operator {
         StoreOperator::Set => set_to(alloc, left, right, span),
@@ -209,10 +218,10 @@ fn step_of(operator: StepOperator) -> Operator
 }
 
 // The number 1.
-fn one() -> Typed
-    ensures { typed_view result ≡ one_of }
+fn one(alloc: Global) -> Result<Box<Typed>, NoMemory>
+    ensures { IfOk result (λ t. typed_view t ≡ one_of) }
 {
-    plain(CType::Int, program::Expr::Number(1))
+    plain(alloc, CType::Int, program::Expr::Number(1))
 }
 
 /// An assignment.
@@ -221,8 +230,8 @@ pub fn assignment(
     sites: &Sites,
     scope: &Scope,
     written: &Assignment,
-) -> Result<Stmt, Refused>
-    ensures { Answers statement (assignment_of (place_at sites.now) (scope_of scope.now) (assignment_tree written.now)) result }
+) -> Result<Box<Stmt>, Refused>
+    ensures { Answers statement_on_heap (assignment_of (place_at sites.now) (scope_of scope.now) (assignment_tree written.now)) result }
 {
     match written {
         Assignment::Store {
@@ -242,7 +251,8 @@ pub fn assignment(
             ..
         } => {
             let left = typed(alloc, sites, scope, target)?;
-            updated(alloc, sites, step_of(*operator), left, one(), *span)
+            let right = one(alloc)?;
+            updated(alloc, sites, step_of(*operator), left, right, *span)
         }
     }
 }
@@ -253,10 +263,9 @@ pub fn condition(
     sites: &Sites,
     scope: &Scope,
     e: &Expr,
-) -> Result<program::Expr, Refused>
-    ensures { Answers expression (condition_of (place_at sites.now) (scope_of scope.now) (expression_tree e.now)) result }
+) -> Result<Box<program::Expr>, Refused>
+    ensures { Answers expression_on_heap (condition_of (place_at sites.now) (scope_of scope.now) (expression_tree e.now)) result }
 {
     let t = typed(alloc, sites, scope, e)?;
-    let value = scalar(alloc, t, e.span())?;
-    Ok(Box::into_inner(value))
+    scalar(alloc, t, e.span())
 }

@@ -1,15 +1,14 @@
 // Calls.
 
-ghost use Rattle.std.specs.Prelude.{◌≡◌, ◌+◌, ◌<◌, ◌≤◌, length, map, IfOk};
+ghost use Rattle.std.specs.Prelude.{◌≡◌, length, map, IfOk};
 ghost use Rattle.std.specs.Option.{option_map};
 ghost use Rattle.pointer_modes.specs.Types.{ctype as ctype_of};
 ghost use Rattle.ckc_core.specs.Core.{expression, arguments_of, statement, Print, PutByte};
-ghost use Rattle.typing_rules.specs.Verdicts.{Passes};
 ghost use Rattle.typing_rules.specs.Expressions.{with_result as with_result_of, arguments_as as arguments_in, predefined_call as predefined_in, writes, call_of as call_in, declared_call as declared_in, called as called_in};
 ghost use Rattle.typing_rules.specs.Scopes.{function_named};
 ghost use Rattle.checker_scope.specs.Views.{scope as scope_of, signature};
 ghost use Rattle.checker_scope.specs.Answering.{Answers};
-ghost use Rattle.value_typing.specs.Typed.{typed};
+ghost use Rattle.value_typing.specs.OnHeap.{typed};
 ghost use Rattle.expression_typing.specs.Calls.{argument, called as called_as, only_number, call_value, call_statement};
 
 use checker_scope::refusals::{needs, refusal};
@@ -25,19 +24,20 @@ use pointer_modes::ctype::CType;
 use std::alloc::Global;
 use std::collections::VecDeque;
 use value_typing::conversions::converted;
-use value_typing::typed::{Typed, plain};
+use value_typing::on_heap::boxed;
+use value_typing::typed::Typed;
 
 /// What a call is: a value of a type, or a statement where it has no result.
 #[derive(Drop)]
 pub enum Called {
-    Gives { ctype: CType, value: Expr },
-    GivesNothing { call: Stmt },
+    Gives { ctype: CType, value: Box<Expr> },
+    GivesNothing { call: Box<Stmt> },
 }
 
 /// An argument of a call.
 #[derive(Drop)]
 pub struct Argument {
-    pub typed: Typed,
+    pub typed: Box<Typed>,
     pub span: Span,
 }
 
@@ -77,9 +77,8 @@ fn prints(alloc: Global, arguments: VecDeque<Argument>, span: Span) -> Result<Ca
     ensures { Answers called_as (writes Print (map argument arguments.items) span) result }
 {
     let value = one_number(alloc, arguments, span)?;
-    Ok(Called::GivesNothing {
-        call: Stmt::Print(value),
-    })
+    let call = boxed(alloc, Stmt::Print(value))?;
+    Ok(Called::GivesNothing { call })
 }
 
 // A call of `put_byte`.
@@ -87,9 +86,8 @@ fn puts_byte(alloc: Global, arguments: VecDeque<Argument>, span: Span) -> Result
     ensures { Answers called_as (writes PutByte (map argument arguments.items) span) result }
 {
     let value = one_number(alloc, arguments, span)?;
-    Ok(Called::GivesNothing {
-        call: Stmt::PutByte(value),
-    })
+    let call = boxed(alloc, Stmt::PutByte(value))?;
+    Ok(Called::GivesNothing { call })
 }
 
 // A call of a function that is there before the program.
@@ -103,9 +101,10 @@ fn predefined(
 {
     if name == b"next_input".as_slice() {
         needs(arguments.is_empty(), Code::E14, span)?;
+        let value = boxed(alloc, Expr::NextInput)?;
         return Ok(Called::Gives {
             ctype: CType::Int,
-            value: Expr::NextInput,
+            value,
         });
     }
     if name == b"print_int".as_slice() {
@@ -127,13 +126,15 @@ fn call_of(
     ensures { IfOk result (λ c. called_as c ≡ call_in import number (option_map ctype_of result_type.now) site (arguments_of arguments.items)) }
 {
     match result_type {
-        Some(t) => Ok(Called::Gives {
-            ctype: copied(alloc, t)?,
-            value: value_of_call(import, number, site, arguments),
-        }),
-        None => Ok(Called::GivesNothing {
-            call: statement_of_call(import, number, site, arguments),
-        }),
+        Some(t) => {
+            let value = boxed(alloc, value_of_call(import, number, site, arguments))?;
+            let ctype = copied(alloc, t)?;
+            Ok(Called::Gives { ctype, value })
+        }
+        None => {
+            let call = boxed(alloc, statement_of_call(import, number, site, arguments))?;
+            Ok(Called::GivesNothing { call })
+        }
     }
 }
 
@@ -211,11 +212,18 @@ pub fn call(
 }
 
 /// The value of a call that has a result.
-pub fn with_result(called: Called, span: Span) -> Result<Typed, Refused>
+pub fn with_result(alloc: Global, called: Called, span: Span) -> Result<Box<Typed>, Refused>
     ensures { Answers typed (with_result_of (called_as called) span) result }
 {
     match called {
-        Called::Gives { ctype, value } => Ok(plain(ctype, value)),
+        Called::Gives { ctype, value } => Ok(boxed(
+            alloc,
+            Typed::Value {
+                ctype,
+                zero: false,
+                value,
+            },
+        )?),
         Called::GivesNothing { .. } => Err(refusal(Code::E13, span)),
     }
 }

@@ -1,17 +1,19 @@
 // The walk over expressions.
 
-ghost use Rattle.std.specs.Prelude.{◌≡◌, IfOk, map, false};
+ghost use Rattle.std.specs.Prelude.{◌≡◌, IfOk, map, false, None};
 ghost use Rattle.ckc_text.specs.Places.{place_at};
 ghost use Rattle.ckc_tree.specs.Types.{type_name as type_name_of};
 ghost use Rattle.ckc_tree.specs.Expressions.{expression as expression_of};
-ghost use Rattle.pointer_modes.specs.Layout.{size_of as bytes_of};
+ghost use Rattle.pointer_modes.specs.Types.{Int};
+ghost use Rattle.ckc_core.specs.Core.{Number};
 ghost use Rattle.typing_rules.specs.Scopes.{named as named_in};
 ghost use Rattle.typing_rules.specs.Verdicts.{Passes};
-ghost use Rattle.typing_rules.specs.Expressions.{constant, typed as typed_of, all_typed as all_typed_of, call_typed as call_typed_of, name_typed};
+ghost use Rattle.typing_rules.specs.Expressions.{constant as constant_of, Value, typed as typed_of, all_typed as all_typed_of, call_typed as call_typed_of, name_typed};
 ghost use Rattle.checker_scope.specs.Answering.{Answers};
 ghost use Rattle.checker_scope.specs.Views.{scope as scope_of};
-ghost use Rattle.value_typing.specs.Typed.{typed as typed_view, number_typed, size_typed};
-ghost use Rattle.expression_typing.specs.Calls.{argument, called as called_as};
+ghost use Rattle.value_typing.specs.OnHeap.{typed as typed_view};
+ghost use Rattle.value_typing.specs.Typed.{number_typed, size_typed};
+ghost use Rattle.expression_typing.specs.Calls.{argument, called as called_as, called_with};
 ghost use Rattle.expression_typing.specs.Slices.{expression_list};
 
 use crate::calls::{Argument, Called, call, with_result};
@@ -30,67 +32,75 @@ use ckc_tree::type_form::TypeName;
 use pointer_modes::ctype::CType;
 use std::alloc::Global;
 use std::collections::VecDeque;
-use value_typing::typed::{Base, Typed, at_base, at_local, plain};
+use value_typing::on_heap::boxed;
+use value_typing::typed::{Base, Typed, at_base, at_local};
+
+// A constant, which is 0 or not.
+fn constant(alloc: Global, zero: bool, number: i32) -> Result<Box<Typed>, NoMemory>
+    ensures { IfOk result (λ t. typed_view t ≡ Value Int zero (Number number) None) }
+{
+    let value = boxed(alloc, program::Expr::Number(number))?;
+    boxed(
+        alloc,
+        Typed::Value {
+            ctype: CType::Int,
+            zero,
+            value,
+        },
+    )
+}
 
 // A number, which has at most 31 bits.
-fn number(value: u32, span: Span) -> Result<Typed, Refused>
+fn number(alloc: Global, value: u32, span: Span) -> Result<Box<Typed>, Refused>
     ensures { Answers typed_view (number_typed value span) result }
 {
     match i32::try_from(value) {
-        Ok(number) => Ok(Typed::Value {
-            ctype: CType::Int,
-            zero: value == 0,
-            value: program::Expr::Number(number),
-        }),
+        Ok(number) => Ok(constant(alloc, value == 0, number)?),
         Err(_) => Err(refusal(Code::E04, span)),
     }
 }
 
 // A character at a span.
-fn character(value: u8, span: Span) -> Typed
-    ensures { constant value false span ≡ Passes (typed_view result) }
+fn character(alloc: Global, value: u8) -> Result<Box<Typed>, NoMemory>
+    ensures { IfOk result (λ t. (span : Span) → constant_of value false span ≡ Passes (typed_view t)) }
 {
-    plain(CType::Int, program::Expr::Number(value as i32))
+    constant(alloc, false, value as i32)
 }
 
 // The bytes of a type.
-fn size_of(alloc: Global, scope: &Scope, t: &TypeName) -> Result<Typed, Refused>
+fn size_of(alloc: Global, scope: &Scope, t: &TypeName) -> Result<Box<Typed>, Refused>
     ensures { Answers typed_view (size_typed (scope_of scope.now) (type_name_of t.now)) result }
 {
     let named = type_named(alloc, scope, t)?;
     let bytes = scope.structs.size_of(&named);
-    Ok(plain(CType::Int, program::Expr::Number(bytes as i32)))
+    Ok(constant(alloc, false, bytes as i32)?)
 }
 
 // What a name stands for.
-fn named(alloc: Global, scope: &Scope, name: &[u8]) -> Result<Typed, NoMemory>
+fn named(alloc: Global, scope: &Scope, name: &[u8]) -> Result<Box<Typed>, NoMemory>
     ensures { IfOk result (λ t. typed_view t ≡ name_typed (named_in (scope_of scope.now) name.now)) }
 {
     if let Some(local) = scope.local(name) {
         let ctype = copied(alloc, local.ctype)?;
-        return Ok(at_local(ctype, local.number));
+        return boxed(alloc, at_local(ctype, local.number));
     }
     match scope.object(name) {
         Some(object) => {
             let ctype = copied(alloc, object.ctype)?;
-            Ok(at_base(ctype, Base::Object(object.number)))
+            boxed(alloc, at_base(ctype, Base::Object(object.number)))
         }
-        None => Ok(Typed::Value {
-            ctype: CType::Int,
-            zero: true,
-            value: program::Expr::Number(0),
-        }),
+        None => constant(alloc, true, 0),
     }
 }
 
 /// What an expression is.
 #[cycle(expressions)]
-pub fn typed(alloc: Global, sites: &Sites, scope: &Scope, e: &Expr) -> Result<Typed, Refused>
+pub fn typed(alloc: Global, sites: &Sites, scope: &Scope, e: &Expr) -> Result<Box<Typed>, Refused>
     ensures { Answers typed_view (typed_of (place_at sites.now) (scope_of scope.now) (expression_of e.now)) result }
 {
     match e {
-        Expr::Number { value, span } => number(*value, *span),
-        Expr::Character { value, span } => Ok(character(*value, *span)),
+        Expr::Number { value, span } => number(alloc, *value, *span),
+        Expr::Character { value, .. } => Ok(character(alloc, *value)?),
         Expr::Text { span, .. }
         | Expr::Cast { span, .. }
         | Expr::Malloc { span, .. }
@@ -101,16 +111,22 @@ pub fn typed(alloc: Global, sites: &Sites, scope: &Scope, e: &Expr) -> Result<Ty
             arguments,
             span,
         } => {
-            let arguments = all_typed(alloc, sites, scope, arguments.as_slice())?;
-            let site = sites.site(*span);
-            let answer = call(alloc, scope, callee.name.as_bytes(), arguments, site, *span)?;
-            with_result(answer, *span)
+            let arguments = arguments.as_slice();
+            let answer = called(
+                alloc,
+                sites,
+                scope,
+                callee.name.as_bytes(),
+                arguments,
+                *span,
+            )?;
+            with_result(alloc, answer, *span)
         }
         Expr::SizeOf { type_name, .. } => size_of(alloc, scope, type_name),
         Expr::Index { base, index, span } => {
             let base = typed(alloc, sites, scope, base)?;
             let index = typed(alloc, sites, scope, index)?;
-            indexed(alloc, base, index, *span)
+            indexed(&base, &index, *span)
         }
         Expr::Dot { base, member, span } => {
             let base = typed(alloc, sites, scope, base)?;
@@ -164,6 +180,22 @@ fn all_typed(
     Ok(built)
 }
 
+/// A call of a function by its name, with what its arguments are.
+#[cycle(expressions)]
+fn called(
+    alloc: Global,
+    sites: &Sites,
+    scope: &Scope,
+    name: &[u8],
+    arguments: &[Expr],
+    span: Span,
+) -> Result<Called, Refused>
+    ensures { Answers called_as (called_with (place_at sites.now) (scope_of scope.now) name.now (expression_list arguments.now) span) result }
+{
+    let arguments = all_typed(alloc, sites, scope, arguments)?;
+    call(alloc, scope, name, arguments, sites.site(span), span)
+}
+
 /// A call that stands alone.
 pub fn call_typed(alloc: Global, sites: &Sites, scope: &Scope, e: &Expr) -> Result<Called, Refused>
     ensures { Answers called_as (call_typed_of (place_at sites.now) (scope_of scope.now) (expression_of e.now)) result }
@@ -174,9 +206,15 @@ pub fn call_typed(alloc: Global, sites: &Sites, scope: &Scope, e: &Expr) -> Resu
             arguments,
             span,
         } => {
-            let arguments = all_typed(alloc, sites, scope, arguments.as_slice())?;
-            let site = sites.site(*span);
-            call(alloc, scope, callee.name.as_bytes(), arguments, site, *span)
+            let arguments = arguments.as_slice();
+            called(
+                alloc,
+                sites,
+                scope,
+                callee.name.as_bytes(),
+                arguments,
+                *span,
+            )
         }
         _ => Err(refusal(Code::E13, Span { from: 0, to: 0 })),
     }

@@ -3,7 +3,9 @@
 
 pub mod assignments;
 pub mod calls;
+mod equality;
 pub mod expressions;
 mod members;
+mod operand_tests;
 mod operators;
 mod places;

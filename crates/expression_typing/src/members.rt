@@ -6,7 +6,8 @@ ghost use Rattle.ckc_core.specs.Core.{place as place_of};
 ghost use Rattle.typing_rules.specs.Expressions.{member_at as member_in, member_place as place_in, dotted as dotted_in, arrowed as arrowed_in};
 ghost use Rattle.checker_scope.specs.Answering.{Answers};
 ghost use Rattle.checker_scope.specs.Views.{scope as scope_of};
-ghost use Rattle.value_typing.specs.Typed.{typed, base_place, struct_of, struct_behind};
+ghost use Rattle.value_typing.specs.Typed.{base_place, struct_of, struct_behind};
+ghost use Rattle.value_typing.specs.OnHeap.{typed};
 
 use checker_scope::refusals::refusal;
 use checker_scope::scope::Scope;
@@ -17,6 +18,7 @@ use ckc_text::fault::Refused;
 use ckc_text::place::Span;
 use pointer_modes::ctype::{CType, Member};
 use std::alloc::Global;
+use value_typing::on_heap::boxed;
 use value_typing::operands::{Operand, value_of};
 use value_typing::typed::{Base, Typed};
 
@@ -55,7 +57,7 @@ pub fn member_at(
     name: &[u8],
     site: Site,
     span: Span,
-) -> Result<Typed, Refused>
+) -> Result<Box<Typed>, Refused>
     ensures { Answers typed (member_in (scope_of scope.now) number (base_place base) name.now site span) result }
 {
     let members = scope.structs.members(number);
@@ -67,7 +69,7 @@ pub fn member_at(
                 .offset_of_cell(&CType::Struct(number), cell as u32);
             let ctype = copied(alloc, &members[cell].ctype)?;
             let place = cell_of(base, cell as u32, offset, site);
-            Ok(Typed::Cell { ctype, place })
+            Ok(boxed(alloc, Typed::Cell { ctype, place })?)
         }
     }
 }
@@ -76,14 +78,14 @@ pub fn member_at(
 pub fn dotted(
     alloc: Global,
     scope: &Scope,
-    t: Typed,
+    t: Box<Typed>,
     name: &[u8],
     site: Site,
     span: Span,
-) -> Result<Typed, Refused>
+) -> Result<Box<Typed>, Refused>
     ensures { Answers typed (dotted_in (scope_of scope.now) (typed t) name.now site span) result }
 {
-    match t {
+    match Box::into_inner(t) {
         Typed::Struct { number, base } => {
             let base = base.unwrap_or(Base::Object(0));
             member_at(alloc, scope, number, base, name, site, span)
@@ -96,11 +98,11 @@ pub fn dotted(
 pub fn arrowed(
     alloc: Global,
     scope: &Scope,
-    t: Typed,
+    t: Box<Typed>,
     name: &[u8],
     site: Site,
     span: Span,
-) -> Result<Typed, Refused>
+) -> Result<Box<Typed>, Refused>
     ensures { Answers typed (arrowed_in (scope_of scope.now) (typed t) name.now site span) result }
 {
     let Operand {

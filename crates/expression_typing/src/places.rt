@@ -1,27 +1,31 @@
 // Members, what pointers point to, and addresses.
 
-ghost use Rattle.std.specs.Prelude.{◌≡◌, ◌<◌, ◌+◌, IfOk, map, length};
-ghost use Rattle.std.specs.Option.{option_map};
-ghost use Rattle.pointer_modes.specs.Types.{ctype as ctype_of, member as member_view};
+ghost use Rattle.std.specs.Prelude.{◌≡◌, IfOk};
+ghost use Rattle.pointer_modes.specs.Types.{ctype as ctype_of};
 ghost use Rattle.ckc_core.specs.Core.{expression, place as place_of};
-ghost use Rattle.typing_rules.specs.Expressions.{dereferenced, address as address_of, pointer_to as pointer_at, struct_place, member_at as member_in, member_place as place_in, dotted as dotted_in, arrowed as arrowed_in};
+ghost use Rattle.typing_rules.specs.Expressions.{dereferenced, address as address_of, pointer_to as pointer_at};
 ghost use Rattle.checker_scope.specs.Answering.{Answers};
-ghost use Rattle.checker_scope.specs.Views.{scope as scope_of};
-ghost use Rattle.value_typing.specs.Typed.{typed, base_place, pointer_value};
+ghost use Rattle.value_typing.specs.Typed.{pointer_value};
+ghost use Rattle.value_typing.specs.OnHeap.{typed};
 
 use checker_scope::refusals::refusal;
-use checker_scope::scope::Scope;
 use ckc_core::program::{CellPlace, Expr, Site};
 use ckc_text::code::Code;
 use ckc_text::fault::{NoMemory, Refused};
 use ckc_text::place::Span;
 use pointer_modes::ctype::{CType, Kind, Mode};
 use std::alloc::Global;
+use value_typing::on_heap::boxed;
 use value_typing::operands::{Operand, value_of};
 use value_typing::typed::{Base, Typed, at_base, first_cell, plain};
 
 /// What a pointer points to.
-pub fn pointed_at(alloc: Global, t: Typed, site: Site, span: Span) -> Result<Typed, Refused>
+pub fn pointed_at(
+    alloc: Global,
+    t: Box<Typed>,
+    site: Site,
+    span: Span,
+) -> Result<Box<Typed>, Refused>
     ensures { Answers typed (dereferenced (typed t) site span) result }
 {
     let Operand {
@@ -31,19 +35,25 @@ pub fn pointed_at(alloc: Global, t: Typed, site: Site, span: Span) -> Result<Typ
     } = value_of(alloc, t, span)?;
     match ctype {
         CType::Pointer(_, _, target) => {
-            Ok(at_base(Box::into_inner(target), Base::Behind { pointer, site }))
+            let pointed = at_base(Box::into_inner(target), Base::Behind { pointer, site });
+            Ok(boxed(alloc, pointed)?)
         }
         _ => Err(refusal(Code::E13, span)),
     }
 }
 
 // A pointer to a place.
-fn pointer_to(alloc: Global, ctype: CType, place: CellPlace, site: Site) -> Result<Typed, NoMemory>
+fn pointer_to(
+    alloc: Global,
+    ctype: CType,
+    place: CellPlace,
+    site: Site,
+) -> Result<Box<Typed>, NoMemory>
     ensures { IfOk result (λ t. typed t ≡ pointer_at (ctype_of ctype) (place_of place) site) }
 {
     let target = Box::new(alloc, ctype)?;
     let ctype = CType::Pointer(Mode::Checked, Kind::One, target);
-    Ok(plain(ctype, pointer_of(place, site)))
+    plain(alloc, ctype, pointer_of(place, site))
 }
 
 // The value of a pointer to a place.
@@ -75,10 +85,10 @@ fn pointer_of(place: CellPlace, site: Site) -> Expr
 }
 
 /// The address of a place.
-pub fn address(alloc: Global, t: Typed, site: Site, span: Span) -> Result<Typed, Refused>
+pub fn address(alloc: Global, t: Box<Typed>, site: Site, span: Span) -> Result<Box<Typed>, Refused>
     ensures { Answers typed (address_of (typed t) site span) result }
 {
-    match t {
+    match Box::into_inner(t) {
         Typed::Value { .. } => Err(refusal(Code::E12, span)),
         Typed::Local { .. } => Err(refusal(Code::E22, span)),
         Typed::Cell { ctype, place } => Ok(pointer_to(alloc, ctype, place, site)?),

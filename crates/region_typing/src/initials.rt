@@ -7,7 +7,7 @@ ghost use Rattle.pointer_modes.specs.Layout.{cells_of as cells_in};
 ghost use Rattle.ckc_core.specs.Core.{initial as initial_of};
 ghost use Rattle.ckc_core.specs.Meaning.{low_byte as low_byte_of};
 ghost use Rattle.typing_rules.specs.Types.{is_scalar};
-ghost use Rattle.typing_rules.specs.Items.{Written, negative as negative_of, unsigned_constant as unsigned_of, signed_constant as signed_of, cells_with as cells_as, is_zero as zero_typed};
+ghost use Rattle.typing_rules.specs.Items.{Written, negative as negative_of, unsigned_constant as unsigned_of, signed_constant as signed_of, cells_with as cells_as};
 ghost use Rattle.checker_scope.specs.Answering.{Answers};
 ghost use Rattle.value_typing.specs.Typed.{typed as typed_view};
 ghost use Rattle.region_typing.specs.Initials.{IsSmall, IsStructOf, judged_as, judged_cells, constant_cells as constant_cells_as, judged as judged_of, stride_at};
@@ -22,7 +22,7 @@ use ckc_tree::expr::{Expr, UnaryOperator};
 use pointer_modes::ctype::{CType, Member};
 use pointer_modes::structs::Structs;
 use std::alloc::Global;
-use value_typing::typed::Typed;
+use value_typing::typed::{Typed, is_zero};
 
 /// What a variable is initialised with.
 #[derive(Drop, Clone, Copy)]
@@ -74,16 +74,6 @@ fn signed_constant(e: &Expr) -> Option<i32>
             ..
         } => Some(negative(unsigned_constant(operand)?)),
         _ => None,
-    }
-}
-
-// Whether a value is the constant 0.
-fn is_zero(t: &Typed) -> bool
-    ensures { result ≡ zero_typed (typed_view t.now) }
-{
-    match t {
-        Typed::Value { zero, .. } => *zero,
-        Typed::Local { .. } | Typed::Cell { .. } | Typed::Struct { .. } => false,
     }
 }
 

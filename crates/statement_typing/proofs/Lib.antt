@@ -1,5 +1,4 @@
 pub mod Blocks
-pub mod Boxed
 pub mod Rows
 pub mod Walking
 pub mod Testing

@@ -10,7 +10,7 @@ use Rattle.ckc_tree.specs.Statements.{Declarator, declarator as declarator_tree}
 use Rattle.pointer_modes.specs.Types.{CType, ctype}
 use Rattle.ckc_core.specs.declared.program.Stmt.{Stmt}
 use Rattle.ckc_core.specs.Core as core
-use Rattle.statement_typing.specs.OnHeap.{statement}
+use Rattle.value_typing.specs.OnHeap.{statement}
 use Rattle.typing_rules.specs.Verdicts.{Verdict, Passes, Breaks, passing, needs}
 use Rattle.typing_rules.specs.Scopes.{Scope}
 use Rattle.typing_rules.specs.Types.{without_stars, is_scalar}

@@ -15,7 +15,7 @@ use Rattle.typing_rules.specs.Expressions.{Places, call_typed}
 use Rattle.typing_rules.specs.Statements.{both, alone, behind_block, in_loop, condition, optional_condition, optional_step, first_part, statement}
 use Rattle.checker_scope.specs.declared.scope as code
 use Rattle.checker_scope.specs.Views.{scope, visible}
-use Rattle.statement_typing.specs.OnHeap as on_heap
+use Rattle.value_typing.specs.OnHeap as on_heap
 use Rattle.statement_typing.specs.Walks.{Walks}
 use Rattle.statement_typing.proofs.Walking.{left, left_walk, grown, other_loop}
 use Rattle.statement_typing.proofs.Verdicts.{same_behind, in_parts}

@@ -1,3 +1,2 @@
-pub mod OnHeap
 pub mod Walks
 pub mod Parts

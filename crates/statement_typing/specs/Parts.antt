@@ -12,7 +12,7 @@ use Rattle.typing_rules.specs.Expressions.{Places, typed, converted, call_typed}
 use Rattle.typing_rules.specs.Statements.{both, alone, statement, behind_block, condition, optional_condition, optional_step, first_part, returned}
 use Rattle.typing_rules.specs.Scopes.{Scope}
 use Rattle.statement_typing.specs.declared.core_forms.Branch as code
-use Rattle.statement_typing.specs.OnHeap as on_heap
+use Rattle.value_typing.specs.OnHeap as on_heap
 
 -- a statement whose locals are gone behind it, where a loop is around or not
 abbrev pub nested : Places → Scope → Bool → Statement → Verdict (core.Statement × Scope)

@@ -3,18 +3,12 @@
 ghost use Rattle.std.specs.Prelude.{◌≡◌, IfOk};
 ghost use Rattle.ckc_core.specs.Core.{statements_of, Block, If, Loop};
 ghost use Rattle.typing_rules.specs.Statements.{both as both_of};
-ghost use Rattle.statement_typing.specs.OnHeap.{expression as expression_of, statement as statement_of};
+ghost use Rattle.value_typing.specs.OnHeap.{expression as expression_of, statement as statement_of};
 
 use ckc_core::program::{Expr, Stmt};
 use ckc_text::fault::NoMemory;
 use std::alloc::Global;
-
-/// A value on the heap.
-pub fn boxed<T: Drop>(alloc: Global, value: T) -> Result<Box<T>, NoMemory>
-    ensures { IfOk result (λ b. b.value ≡ value) }
-{
-    Ok(Box::new(alloc, value)?)
-}
+use value_typing::on_heap::boxed;
 
 /// Statements in their order.
 pub fn block(alloc: Global, statements: Vec<Stmt>) -> Result<Box<Stmt>, NoMemory>

@@ -7,10 +7,10 @@ ghost use Rattle.ckc_tree.specs.Statements.{declarator as declarator_tree, decla
 ghost use Rattle.pointer_modes.specs.Types.{ctype as ctype_of};
 ghost use Rattle.typing_rules.specs.Statements.{declarator as declarator_of, declarators as declarators_of, declaration as declaration_of};
 ghost use Rattle.checker_scope.specs.Views.{scope as scope_of};
-ghost use Rattle.statement_typing.specs.OnHeap.{statement};
+ghost use Rattle.value_typing.specs.OnHeap.{statement};
 ghost use Rattle.statement_typing.specs.Walks.{Walks, declared_local};
 
-use crate::core_forms::{both, boxed};
+use crate::core_forms::both;
 use crate::initial_values::from_zero;
 use checker_scope::refusals::needs;
 use checker_scope::scope::Scope;
@@ -24,6 +24,7 @@ use ckc_tree::stmt::{Declaration, Declarator};
 use ckc_tree::type_form::TypeForm;
 use pointer_modes::ctype::CType;
 use std::alloc::Global;
+use value_typing::on_heap::boxed;
 
 /// How many locals a function may have.
 const MOST_LOCALS: usize = 256;

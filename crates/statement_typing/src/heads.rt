@@ -2,15 +2,13 @@
 
 ghost use Rattle.std.specs.Option.{option_map};
 ghost use Rattle.ckc_text.specs.Places.{place_at};
-ghost use Rattle.ckc_tree.specs.Expressions.{expression as expression_tree};
 ghost use Rattle.ckc_tree.specs.Statements.{on_heap, assignment as assignment_tree, for_initial as initial_tree};
-ghost use Rattle.typing_rules.specs.Statements.{condition as condition_of, optional_condition as optional_condition_of, assignment as assignment_of, optional_step as optional_step_of, first_part as first_part_of};
+ghost use Rattle.typing_rules.specs.Statements.{optional_condition as optional_condition_of, optional_step as optional_step_of, first_part as first_part_of};
 ghost use Rattle.checker_scope.specs.Answering.{Answers};
 ghost use Rattle.checker_scope.specs.Views.{scope as scope_of};
-ghost use Rattle.statement_typing.specs.OnHeap.{expression, statement};
+ghost use Rattle.value_typing.specs.OnHeap.{expression, statement};
 ghost use Rattle.statement_typing.specs.Walks.{Walks};
 
-use crate::core_forms::boxed;
 use crate::declarations::declaration;
 use checker_scope::scope::Scope;
 use checker_scope::sites::Sites;
@@ -18,21 +16,9 @@ use ckc_core::program::{Expr, Stmt};
 use ckc_text::fault::Refused;
 use ckc_tree::expr;
 use ckc_tree::stmt::{Assignment, ForInitial};
-use expression_typing::assignments;
+use expression_typing::assignments::{assignment, condition};
 use std::alloc::Global;
-
-/// A condition.
-pub fn condition(
-    alloc: Global,
-    sites: &Sites,
-    scope: &Scope,
-    written: &expr::Expr,
-) -> Result<Box<Expr>, Refused>
-    ensures { Answers expression (condition_of (place_at sites.now) (scope_of scope.now) (expression_tree written.now)) result }
-{
-    let test = assignments::condition(alloc, sites, scope, written)?;
-    Ok(boxed(alloc, test)?)
-}
+use value_typing::on_heap::boxed;
 
 /// The condition of a loop, which holds where it isn't written.
 pub fn optional_condition(
@@ -47,19 +33,6 @@ pub fn optional_condition(
         None => Ok(boxed(alloc, Expr::Number(1))?),
         Some(written) => condition(alloc, sites, scope, written),
     }
-}
-
-/// An assignment.
-pub fn assignment(
-    alloc: Global,
-    sites: &Sites,
-    scope: &Scope,
-    written: &Assignment,
-) -> Result<Box<Stmt>, Refused>
-    ensures { Answers statement (assignment_of (place_at sites.now) (scope_of scope.now) (assignment_tree written.now)) result }
-{
-    let built = assignments::assignment(alloc, sites, scope, written)?;
-    Ok(boxed(alloc, built)?)
 }
 
 /// What follows each turn of a loop.

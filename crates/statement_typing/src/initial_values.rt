@@ -8,10 +8,10 @@ ghost use Rattle.pointer_modes.specs.Types.{ctype as ctype_of};
 ghost use Rattle.typing_rules.specs.Statements.{initialised as initialised_as};
 ghost use Rattle.checker_scope.specs.Answering.{Answers};
 ghost use Rattle.checker_scope.specs.Views.{scope as scope_of};
-ghost use Rattle.statement_typing.specs.OnHeap.{statement as statement_of};
+ghost use Rattle.value_typing.specs.OnHeap.{statement as statement_of};
 ghost use Rattle.statement_typing.specs.Walks.{initial_value as initial_value_as, from_zero as from_zero_as};
 
-use crate::core_forms::{both, boxed};
+use crate::core_forms::both;
 use checker_scope::refusals::{needs, refusal};
 use checker_scope::scope::Scope;
 use checker_scope::sites::Sites;
@@ -26,6 +26,7 @@ use expression_typing::expressions::typed;
 use pointer_modes::ctype::CType;
 use std::alloc::Global;
 use value_typing::conversions::converted;
+use value_typing::on_heap::boxed;
 use zero_values::set_to_zero;
 
 // The value that a local is given.

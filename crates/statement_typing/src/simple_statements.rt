@@ -1,26 +1,25 @@
 // Statements that have no statements.
 
-ghost use Rattle.std.specs.Prelude.{◌≡◌};
+ghost use Rattle.std.specs.Prelude.{◌≡◌, IfOk};
 ghost use Rattle.std.specs.Option.{option_map};
 ghost use Rattle.ckc_text.specs.Places.{place_at};
 ghost use Rattle.ckc_tree.specs.Expressions.{expression as expression_tree};
 ghost use Rattle.ckc_tree.specs.Statements.{on_heap};
 ghost use Rattle.pointer_modes.specs.Types.{ctype as ctype_of};
-ghost use Rattle.ckc_core.specs.Core.{statement as statement_of, Break, Continue};
+ghost use Rattle.ckc_core.specs.Core.{Break, Continue};
 ghost use Rattle.typing_rules.specs.Statements.{return as return_of, returned_nothing as nothing_as, alone as alone_of};
 ghost use Rattle.checker_scope.specs.Answering.{Answers};
 ghost use Rattle.checker_scope.specs.Views.{scope as scope_of};
 ghost use Rattle.expression_typing.specs.Calls.{called as called_as};
-ghost use Rattle.statement_typing.specs.OnHeap.{statement};
+ghost use Rattle.value_typing.specs.OnHeap.{statement};
 ghost use Rattle.statement_typing.specs.Parts.{call_statement, needs_loop, value_returned as value_returned_in, converted_return, refused_value as refused_value_in};
 
-use crate::core_forms::boxed;
 use checker_scope::refusals::{needs, refusal};
 use checker_scope::scope::Scope;
 use checker_scope::sites::Sites;
 use ckc_core::program::Stmt;
 use ckc_text::code::Code;
-use ckc_text::fault::Refused;
+use ckc_text::fault::{NoMemory, Refused};
 use ckc_text::place::Span;
 use ckc_tree::expr::Expr;
 use expression_typing::calls::Called;
@@ -28,14 +27,18 @@ use expression_typing::expressions::{call_typed, typed};
 use pointer_modes::ctype::CType;
 use std::alloc::Global;
 use value_typing::conversions::converted;
+use value_typing::on_heap::boxed;
 
 // A call whose result is left.
-fn alone(call: Called) -> Stmt
-    ensures { statement_of result ≡ alone_of (called_as call) }
+fn alone(alloc: Global, call: Called) -> Result<Box<Stmt>, NoMemory>
+    ensures { IfOk result (λ s. statement s ≡ alone_of (called_as call)) }
 {
     match call {
-        Called::Gives { ctype: _, value } => Stmt::Evaluate(value),
-        Called::GivesNothing { call } => call,
+        Called::Gives { ctype: _, value } => {
+            let value = Box::into_inner(value);
+            boxed(alloc, Stmt::Evaluate(value))
+        }
+        Called::GivesNothing { call } => Ok(call),
     }
 }
 
@@ -49,7 +52,7 @@ pub fn call_alone(
     ensures { Answers statement (call_statement (place_at sites.now) (scope_of scope.now) (expression_tree call.now)) result }
 {
     let call = call_typed(alloc, sites, scope, call)?;
-    Ok(boxed(alloc, alone(call))?)
+    Ok(alone(alloc, call)?)
 }
 
 // A return without a value.

@@ -8,14 +8,14 @@ ghost use Rattle.ckc_tree.specs.Items.{statement_list};
 ghost use Rattle.ckc_core.specs.Core.{statements_of};
 ghost use Rattle.typing_rules.specs.Statements.{statement as statement_in, statements as statements_in};
 ghost use Rattle.checker_scope.specs.Views.{scope as scope_of};
-ghost use Rattle.statement_typing.specs.OnHeap.{statement as statement_of};
+ghost use Rattle.value_typing.specs.OnHeap.{statement as statement_of};
 ghost use Rattle.statement_typing.specs.Walks.{Walks};
 ghost use Rattle.statement_typing.specs.Parts.{nested as nested_in, branched, then_branch as branch_in, if_alone as if_in, otherwise as otherwise_in, turns as turns_in, while_loop as while_in, for_loop as for_in};
 
 use crate::core_forms;
-use crate::core_forms::{Branch, both, boxed, choice, repeated};
+use crate::core_forms::{Branch, both, choice, repeated};
 use crate::declarations::declaration;
-use crate::heads::{assignment, condition, first_part, optional_condition, optional_step};
+use crate::heads::{first_part, optional_condition, optional_step};
 use crate::marks::is_checked;
 use crate::simple_statements::{break_from, call_alone, continue_with, return_from};
 use checker_scope::refusals::{needs, refusal};
@@ -27,7 +27,9 @@ use ckc_text::fault::Refused;
 use ckc_text::place::Span;
 use ckc_tree::stmt::{Assignment, ForInitial, Mark};
 use ckc_tree::{expr, stmt};
+use expression_typing::assignments::{assignment, condition};
 use std::alloc::Global;
+use value_typing::on_heap::boxed;
 
 /// A statement.
 #[cycle(statements)]

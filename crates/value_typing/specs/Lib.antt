@@ -1,2 +1,3 @@
 pub mod Typed
+pub mod OnHeap
 pub mod Operands

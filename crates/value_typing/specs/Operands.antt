@@ -1,13 +1,12 @@
 -- Inside: an operand as its value alone.
-use Rattle.std.specs.Prelude.{Bool, ◌&&◌}
+use Rattle.std.specs.Prelude.{Bool}
 use Rattle.ckc_text.specs.declared.place.Span.{Span}
 use Rattle.ckc_text.specs.declared.code.Code.TheVariants.{E13}
 use Rattle.pointer_modes.specs.Types.{CType, ctype}
 use Rattle.ckc_core.specs.Core as core
 use Rattle.ckc_core.specs.Core.{expression}
-use Rattle.typing_rules.specs.Verdicts.{Verdict, Passes, needs, breaks, picked}
-use Rattle.typing_rules.specs.Types.{is_pointer}
-use Rattle.typing_rules.specs.Expressions.{Typed, Value, AStruct, number, equated_values}
+use Rattle.typing_rules.specs.Verdicts.{Verdict, Passes, breaks}
+use Rattle.typing_rules.specs.Expressions.{Typed, Value, AStruct, number}
 use Rattle.value_typing.specs.declared.operands.Operand as code
 
 -- a value of a scalar type, which may be the constant 0
@@ -30,11 +29,3 @@ and_also v w = number (core.AndAlso v w)
 
 abbrev pub or_else : core.Expression → core.Expression → Verdict Typed
 or_else v w = number (core.OrElse v w)
-
--- equality of two operands
-abbrev pub equated_operands : Operand → Operand → Span → Verdict core.Expression
-equated_operands a b span = equated_values a.type a.zero a.value b.type b.zero b.value span
-
--- equality where the operands aren't of one type
-abbrev pub equated_to_null : Operand → Operand → Span → Verdict core.Expression
-equated_to_null a b span = picked (is_pointer a.type && b.zero) (Passes (core.Same a.value core.Null)) (needs (is_pointer b.type && a.zero) E13 span (Passes (core.Same core.Null b.value)))

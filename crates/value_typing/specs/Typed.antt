@@ -24,7 +24,7 @@ base_place (bases.Behind pointer site) = core.Through (expression pointer.value)
 
 -- what a value of the code's type stands for
 abbrev pub typed : code.Typed → Typed
-typed (forms.Value type zero value) = Value (ctype type) zero (expression value) None
+typed (forms.Value type zero value) = Value (ctype type) zero (expression value.value) None
 typed (forms.Local type local) = Value (ctype type) false (core.Local local) (Some (OfLocal local))
 typed (forms.Cell type at) = Value (ctype type) false (core.Load (ctype type) (place at)) (Some (OfCell (place at)))
 typed (forms.Struct struct base) = AStruct struct (option_map base_place base)

@@ -6,7 +6,7 @@ ghost use Rattle.ckc_core.specs.Core.{expression};
 ghost use Rattle.typing_rules.specs.Verdicts.{Passes};
 ghost use Rattle.typing_rules.specs.Expressions.{converted as converted_to, in_type as value_in_type, as_pointer};
 ghost use Rattle.checker_scope.specs.Answering.{Answers};
-ghost use Rattle.value_typing.specs.Typed.{typed};
+ghost use Rattle.value_typing.specs.OnHeap.{typed};
 
 use crate::operands::{Operand, value_of};
 use crate::typed::Typed;
@@ -42,7 +42,7 @@ fn pointer_value(null: bool, value: Box<Expr>) -> Expr
 }
 
 /// A value as one of a type that it converts to.
-pub fn converted(alloc: Global, t: Typed, to: &CType, span: Span) -> Result<Expr, Refused>
+pub fn converted(alloc: Global, t: Box<Typed>, to: &CType, span: Span) -> Result<Expr, Refused>
     ensures { Answers expression (converted_to (typed t) (ctype_of to.now) span Passes) result }
 {
     let Operand { ctype, zero, value } = value_of(alloc, t, span)?;

@@ -2,5 +2,6 @@
 #![tactic(auto)]
 
 pub mod conversions;
+pub mod on_heap;
 pub mod operands;
 pub mod typed;

@@ -1,20 +1,21 @@
 // Operands as values.
 
-ghost use Rattle.std.specs.Prelude.{◌≡◌, IfOk};
+ghost use Rattle.std.specs.Prelude.{false};
 ghost use Rattle.pointer_modes.specs.Types.{ctype as ctype_of};
 ghost use Rattle.ckc_core.specs.Core.{expression};
 ghost use Rattle.typing_rules.specs.Verdicts.{Passes};
 ghost use Rattle.typing_rules.specs.Expressions.{number_of, scalar_of};
 ghost use Rattle.checker_scope.specs.Answering.{Answers};
-ghost use Rattle.value_typing.specs.Typed.{typed};
+ghost use Rattle.value_typing.specs.OnHeap.{typed, expression as boxed_expression};
 ghost use Rattle.value_typing.specs.Operands.{operand as operand_view, operand_of};
 
+use crate::on_heap::boxed;
 use crate::typed::Typed;
 use checker_scope::refusals::{needs, refusal};
 use checker_scope::types::{copied, is_number};
 use ckc_core::program::Expr;
 use ckc_text::code::Code;
-use ckc_text::fault::{NoMemory, Refused};
+use ckc_text::fault::Refused;
 use ckc_text::place::Span;
 use pointer_modes::ctype::CType;
 use std::alloc::Global;
@@ -28,31 +29,35 @@ pub struct Operand {
 }
 
 /// What an expression that is no struct is as a value.
-pub fn value_of(alloc: Global, t: Typed, span: Span) -> Result<Operand, Refused>
+pub fn value_of(alloc: Global, t: Box<Typed>, span: Span) -> Result<Operand, Refused>
     ensures { Answers operand_view (operand_of (typed t) span) result }
 {
-    match t {
-        Typed::Value { ctype, zero, value } => boxed(alloc, ctype, zero, value),
-        Typed::Local { ctype, local } => boxed(alloc, ctype, false, Expr::Local(local)),
+    match Box::into_inner(t) {
+        Typed::Value { ctype, zero, value } => Ok(Operand { ctype, zero, value }),
+        Typed::Local { ctype, local } => read(alloc, ctype, Expr::Local(local)),
         Typed::Cell { ctype, place } => {
             let copy = copied(alloc, &ctype)?;
-            boxed(alloc, copy, false, Expr::Load { ctype, cell: place })
+            read(alloc, copy, Expr::Load { ctype, cell: place })
         }
         Typed::Struct { .. } => Err(refusal(Code::E13, span)),
     }
 }
 
-// An operand with its value on the heap.
-fn boxed(alloc: Global, ctype: CType, zero: bool, value: Expr) -> Result<Operand, Refused>
-    ensures { Answers operand_view (Passes (record { type = ctype_of ctype; zero = zero; value = expression value })) result }
+// What is read from a place.
+fn read(alloc: Global, ctype: CType, value: Expr) -> Result<Operand, Refused>
+    ensures { Answers operand_view (Passes (record { type = ctype_of ctype; zero = false; value = expression value })) result }
 {
-    let value = Box::new(alloc, value)?;
-    Ok(Operand { ctype, zero, value })
+    let value = boxed(alloc, value)?;
+    Ok(Operand {
+        ctype,
+        zero: false,
+        value,
+    })
 }
 
 /// A number, for an operator that takes numbers.
-pub fn number(alloc: Global, t: Typed, span: Span) -> Result<Box<Expr>, Refused>
-    ensures { Answers (λ v. expression v.value) (number_of (typed t) span Passes) result }
+pub fn number(alloc: Global, t: Box<Typed>, span: Span) -> Result<Box<Expr>, Refused>
+    ensures { Answers boxed_expression (number_of (typed t) span Passes) result }
 {
     let o = value_of(alloc, t, span)?;
     needs(is_number(&o.ctype), Code::E13, span)?;
@@ -60,8 +65,8 @@ pub fn number(alloc: Global, t: Typed, span: Span) -> Result<Box<Expr>, Refused>
 }
 
 /// A scalar, for a condition and for operators on truth.
-pub fn scalar(alloc: Global, t: Typed, span: Span) -> Result<Box<Expr>, Refused>
-    ensures { Answers (λ v. expression v.value) (scalar_of (typed t) span Passes) result }
+pub fn scalar(alloc: Global, t: Box<Typed>, span: Span) -> Result<Box<Expr>, Refused>
+    ensures { Answers boxed_expression (scalar_of (typed t) span Passes) result }
 {
     let o = value_of(alloc, t, span)?;
     Ok(o.value)

@@ -1,12 +1,14 @@
 // What an expression is.
 
 ghost use Rattle.std.specs.Prelude.{◌≡◌, IfOk, false, None};
-ghost use Rattle.std.specs.Option.{option_map};
 ghost use Rattle.pointer_modes.specs.Types.{ctype as ctype_of};
 ghost use Rattle.ckc_core.specs.Core.{expression, place as place_of};
-ghost use Rattle.typing_rules.specs.Expressions.{Value, at_place, local_typed, struct_place, member_place};
+ghost use Rattle.typing_rules.specs.Expressions.{Value, at_place, local_typed};
+ghost use Rattle.typing_rules.specs.Items.{is_zero as zero_typed};
 ghost use Rattle.value_typing.specs.Typed.{typed, base_place};
+ghost use Rattle.value_typing.specs.OnHeap.{typed as typed_on_heap};
 
+use crate::on_heap::boxed;
 use ckc_core::program::{CellPlace, Expr, Site};
 use ckc_text::fault::NoMemory;
 use pointer_modes::ctype::CType;
@@ -26,7 +28,7 @@ pub enum Typed {
     Value {
         ctype: CType,
         zero: bool,
-        value: Expr,
+        value: Box<Expr>,
     },
     /// What a local holds.
     Local {
@@ -46,13 +48,27 @@ pub enum Typed {
 }
 
 /// A value that isn't the constant 0.
-pub fn plain(ctype: CType, value: Expr) -> Typed
-    ensures { typed result ≡ Value (ctype_of ctype) false (expression value) None }
+pub fn plain(alloc: Global, ctype: CType, value: Expr) -> Result<Box<Typed>, NoMemory>
+    ensures { IfOk result (λ t. typed_on_heap t ≡ Value (ctype_of ctype) false (expression value) None) }
 {
-    Typed::Value {
-        ctype,
-        zero: false,
-        value,
+    let value = boxed(alloc, value)?;
+    boxed(
+        alloc,
+        Typed::Value {
+            ctype,
+            zero: false,
+            value,
+        },
+    )
+}
+
+/// Whether a value is the constant 0.
+pub fn is_zero(t: &Typed) -> bool
+    ensures { result ≡ zero_typed (typed t.now) }
+{
+    match t {
+        Typed::Value { zero, .. } => *zero,
+        Typed::Local { .. } | Typed::Cell { .. } | Typed::Struct { .. } => false,
     }
 }
 

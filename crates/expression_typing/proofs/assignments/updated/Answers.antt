@@ -1,5 +1,5 @@
 use Rattle.ckc_text.specs.Places.{place_at}
-use Rattle.value_typing.specs.Typed.{typed}
+use Rattle.value_typing.specs.OnHeap.{typed}
 use Rattle.checker_scope.proofs.Going.{goes_on}
 use Rattle.expression_typing.proofs.Continuing.{updated_parts}
 use Rattle.expression_typing.proofs.assignments.updated.Goals as goal

@@ -1,27 +1,29 @@
 use Rattle.std.proofs.Common.{◌<◌, length, map, arith}
 use Rattle.ckc_text.specs.Places.{place_at}
 use Rattle.checker_scope.specs.Views.{scope}
-use Rattle.expression_typing.specs.Calls.{argument}
+use Rattle.expression_typing.specs.Calls.{argument, called_with}
+use Rattle.expression_typing.specs.Slices.{expression_list}
 use Rattle.checker_scope.proofs.Going.{goes_on, refused, refused_by}
-use Rattle.expression_typing.proofs.Arguments.{call_tree, argument_pushed, argument_breaks, arguments_done}
+use Rattle.expression_typing.proofs.Arguments.{call_parts, argument_pushed, argument_breaks, arguments_done}
 use Rattle.expression_typing.proofs.expressions.+expressions.Goals as goal
-
-pub typed-returns-in_err-arguments-in-Call : goal.typed-returns-in_err-arguments-in-Call
-typed-returns-in_err-arguments-in-Call t c =
-    rw (call_tree c.args.e.now c.in-Call.callee c.in-Call.arguments c.in-Call.span c.as_slice.result.now c.in-Call.is c.as_slice.ensures.value)
-    (refused _ c.from_residual-in_err-arguments-in-Call.result c.from_residual-in_err-arguments-in-Call.ensures.1 c.in_err-arguments-in-Call.ensures)
 
 pub typed-returns-in_err-answer-in-Call : goal.typed-returns-in_err-answer-in-Call
 typed-returns-in_err-answer-in-Call t c =
-    let answer = rw (c.as_bytes-in-Call.ensures, c.site-site.ensures) at c.in_err-answer-in-Call.ensures in
-    rw (call_tree c.args.e.now c.in-Call.callee c.in-Call.arguments c.in-Call.span c.as_slice.result.now c.in-Call.is c.as_slice.ensures.value)
-    (goes_on _ c.in_ok-arguments-in-Call.ensures (refused _ c.from_residual-in_err-answer-in-Call.result c.from_residual-in_err-answer-in-Call.ensures.1 answer))
+    let answer = rw (c.as_bytes-in-Call.ensures) at c.in_err-answer-in-Call.ensures in
+    rw (call_parts (place_at c.args.sites.now) (scope c.args.scope.now) c.args.e.now c.in-Call.callee c.in-Call.arguments c.in-Call.span c.as_slice-arguments.result.now c.in-Call.is c.as_slice-arguments.ensures.value)
+    (refused {verdict = called_with (place_at c.args.sites.now) (scope c.args.scope.now) c.in-Call.callee.name (expression_list c.as_slice-arguments.result.now) c.in-Call.span} _ c.from_residual-in_err-answer-in-Call.result c.from_residual-in_err-answer-in-Call.ensures.1 answer)
 
 pub typed-returns-in_ok-answer-in-Call : goal.typed-returns-in_ok-answer-in-Call
 typed-returns-in_ok-answer-in-Call t c =
-    let answer = rw (c.as_bytes-in-Call.ensures, c.site-site.ensures) at c.in_ok-answer-in-Call.ensures in
-    rw (call_tree c.args.e.now c.in-Call.callee c.in-Call.arguments c.in-Call.span c.as_slice.result.now c.in-Call.is c.as_slice.ensures.value)
-    (goes_on _ c.in_ok-arguments-in-Call.ensures (goes_on _ answer c.with_result.ensures))
+    let answer = rw (c.as_bytes-in-Call.ensures) at c.in_ok-answer-in-Call.ensures in
+    rw (call_parts (place_at c.args.sites.now) (scope c.args.scope.now) c.args.e.now c.in-Call.callee c.in-Call.arguments c.in-Call.span c.as_slice-arguments.result.now c.in-Call.is c.as_slice-arguments.ensures.value)
+    (goes_on {verdict = called_with (place_at c.args.sites.now) (scope c.args.scope.now) c.in-Call.callee.name (expression_list c.as_slice-arguments.result.now) c.in-Call.span} _ answer c.with_result.ensures)
+
+pub called-returns-in_err-arguments : goal.called-returns-in_err-arguments
+called-returns-in_err-arguments t c = refused _ c.from_residual.result c.from_residual.ensures.1 c.in_err-arguments.ensures
+
+pub called-returns : goal.called-returns
+called-returns t c = goes_on _ c.in_ok-arguments.ensures (rw (c.site.ensures) at c.call.ensures)
 
 pub all_typed-returns-in_err-typed : goal.all_typed-returns-in_err-typed
 all_typed-returns-in_err-typed t c =

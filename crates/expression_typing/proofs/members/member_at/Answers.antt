@@ -3,7 +3,8 @@ use Rattle.pointer_modes.specs.Types.{Struct, ctype}
 use Rattle.pointer_modes.proofs.Cells.{length_of_cells}
 use Rattle.ckc_core.specs.Core.{place}
 use Rattle.checker_scope.specs.Views.{scope}
-use Rattle.value_typing.specs.Typed.{base_place}
+use Rattle.typing_rules.specs.Verdicts.{Passes}
+use Rattle.value_typing.specs.Typed.{typed, base_place}
 use Rattle.checker_scope.proofs.Searches.{read_at}
 use Rattle.expression_typing.proofs.MemberCells.{no_member, member_cell, found_within}
 use Rattle.expression_typing.proofs.members.member_at.Goals as goal
@@ -20,9 +21,9 @@ offset_of_cell-offset-requires c =
     let within : c.in-Some.cell < length ms = found_within c.args.name.now ms c.in-Some.cell c.in-Some.ensures in
     omega (arith, long)
 
-pub returns-in_ok-ctype-in-Some : goal.returns-in_ok-ctype-in-Some
-returns-in_ok-ctype-in-Some c =
+pub returns-in_ok-boxed-in-Some : goal.returns-in_ok-boxed-in-Some
+returns-in_ok-boxed-in-Some c =
     let ms = c.members-members.result.now in
     let m = c.index-members-cell.result in
     let read = read_at (λ m. bytes_eq c.args.name.now m.name) ms ms c.in-Some.cell m (sym c.in-Some.ensures) refl c.index-members-cell.is in
-    record { so = member_cell (scope c.args.scope.now) c.args.number c.in-Some.cell c.offset_of_cell-offset.result (base_place c.args.base) (place c.cell_of-place.result) c.args.name.now c.args.site c.args.span ms m _ c.members-members.ensures.members read.0 read.1 c.args.scope.now.scalar (c.in_ok-ctype-in-Some.ensures ∙ sym (ap (λ w. ctype w.ctype) c.index-members-cell.is)) c.offset_of_cell-offset.ensures c.cell_of-place.ensures }
+    record { so = member_cell (scope c.args.scope.now) c.args.number c.in-Some.cell c.offset_of_cell-offset.result (base_place c.args.base) (place c.cell_of-place.result) c.args.name.now c.args.site c.args.span ms m _ c.members-members.ensures.members read.0 read.1 c.args.scope.now.scalar (c.in_ok-ctype-in-Some.ensures ∙ sym (ap (λ w. ctype w.ctype) c.index-members-cell.is)) c.offset_of_cell-offset.ensures c.cell_of-place.ensures ∙ ap (λ t. Passes (typed t)) (sym c.in_ok-boxed-in-Some.ensures) }

@@ -4,7 +4,7 @@ use Rattle.ckc_text.specs.Places.{place_at}
 use Rattle.ckc_tree.specs.Types.{type_tree}
 use Rattle.pointer_modes.specs.Types.{ctype}
 use Rattle.ckc_core.specs.Core as core
-use Rattle.statement_typing.specs.OnHeap.{statement}
+use Rattle.value_typing.specs.OnHeap.{statement}
 use Rattle.statement_typing.proofs.Walking.{walks_on, refused_walk, done}
 use Rattle.statement_typing.proofs.Locals.{declarators_walk}
 use Rattle.statement_typing.proofs.declarations.+declarators.Goals as goal

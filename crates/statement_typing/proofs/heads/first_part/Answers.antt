@@ -1,6 +1,6 @@
 use Rattle.std.proofs.Common.{ap}
 use Rattle.ckc_core.specs.Core as core
-use Rattle.statement_typing.specs.OnHeap.{statement}
+use Rattle.value_typing.specs.OnHeap.{statement}
 use Rattle.statement_typing.proofs.Walking.{done, kept}
 use Rattle.statement_typing.proofs.heads.first_part.Goals as goal
 

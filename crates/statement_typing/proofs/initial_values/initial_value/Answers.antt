@@ -2,7 +2,7 @@ use Rattle.std.proofs.Common.{sym, ap}
 use Rattle.pointer_modes.specs.Types.{ctype}
 use Rattle.ckc_core.specs.Core as core
 use Rattle.typing_rules.specs.Verdicts.{Passes}
-use Rattle.value_typing.specs.Typed.{typed}
+use Rattle.value_typing.specs.OnHeap.{typed}
 use Rattle.checker_scope.proofs.Going.{goes_on, refused}
 use Rattle.expression_typing.proofs.Continuing.{converted_then}
 use Rattle.statement_typing.proofs.initial_values.initial_value.Goals as goal

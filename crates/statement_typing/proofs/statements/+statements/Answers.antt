@@ -10,7 +10,7 @@ use Rattle.ckc_core.specs.Core as core
 use Rattle.ckc_core.specs.Core.{statements_of}
 use Rattle.typing_rules.specs.Statements as rules
 use Rattle.checker_scope.specs.Views.{scope}
-use Rattle.statement_typing.specs.OnHeap.{statement}
+use Rattle.value_typing.specs.OnHeap.{statement}
 use Rattle.statement_typing.specs.Parts.{branched}
 use Rattle.statement_typing.proofs.Walking.{goes_on, refused, walks_on, refused_walk, refused_by, done, left, left_walk, grown, none_more, kept, kept_as}
 use Rattle.statement_typing.proofs.Testing.{walk_fails, tested}
