@@ -2,24 +2,19 @@
 
 use ckc_text::code::Code;
 use ckc_text::fault::NoMemory;
-use thiserror::Error;
 
 /// Why a run has no ending.
-#[derive(Debug, Drop, Error)]
+#[derive(Clone, Copy)]
 pub enum RunFault {
     /// The run needs an act whose line is refused: A1 to A5, at the line of this number, the first being 1.
-    #[error("an act line is refused")]
     Line { line: u64, code: Code },
     /// The run needs an act from a file that isn't there.
-    #[error("the file of acts is missing")]
     Missing,
     /// The shelf failed.
-    #[error("the file of acts can't be read")]
     ShelfFailed,
     /// The sink failed.
-    #[error("the output can't be written")]
     SinkFailed,
-    #[error("out of memory")]
+    /// Memory ran out.
     NoMemory,
 }
 
