@@ -2,5 +2,6 @@
 #![tactic(auto)]
 
 pub mod acts;
+pub mod ending;
 pub mod told;
 pub mod touches;

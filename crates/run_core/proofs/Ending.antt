@@ -11,7 +11,7 @@ use Rattle.run_transcript.specs.Texts.{ending_text, dump_text, missing_feed, wit
 use Rattle.run_interaction.specs.Asked.{Answering, PlayCounts}
 use Rattle.run_core.specs.Runs.{Outcome, Ends, Comes, RunWrites, RunCounts, WritesFront}
 use Rattle.run_core.specs.Progress.{PlayEnds}
-use Rattle.run_interaction.specs.Finishes.{Fronts, Finish, Finishes}
+use Rattle.run_transcript.specs.Finishes.{Fronts, Finish, Finishes}
 
 module _ {S : Type 0} (answers : Answering S) (files : Option Files) (image : Image) (settings : Settings) (inputs : List ℤ) (first last : S) (old new : Option (List ℕ)) (before after : ℕ) where
   -- a front of the text of what was come to

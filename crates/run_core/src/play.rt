@@ -7,7 +7,7 @@ ghost use Rattle.act_words.specs.Acts.{act_view};
 ghost use Rattle.code_words.specs.declared.image.Image.{Image as ImageData};
 ghost use Rattle.code_words.specs.Fitting.{Fits};
 ghost use Rattle.code_words.specs.Left.{LeavesTurn};
-ghost use Rattle.two_memory_machine.specs.Machines.{IsStart, waiting_of, turn_of, moves_left, ending_given};
+ghost use Rattle.two_memory_machine.specs.Machines.{IsStart, waiting_of, turn_of, moves_left};
 ghost use Rattle.run_transcript.specs.Texts.{dump_text};
 ghost use Rattle.run_interaction.specs.Asked.{AskAnswers, AskLowers, PlayCounts};
 ghost use Rattle.run_core.specs.Progress.{Played, PlayGoes, PlayEnds, IsAsked, Steps, TakesInput, Takes, TakesNone, Tells, NearsBy, Nears, FallsUnless, IsOnward, ending_in, moment_in, blocks_of};
@@ -21,6 +21,7 @@ use ckc_text::fault::NoMemory;
 use code_words::image::Image;
 use instruction_steps::running;
 use machine_interaction::acts;
+use machine_interaction::ending::ending_of;
 use run_interaction::ask::ask;
 use run_interaction::touch::touch;
 use run_transcript::fault::RunFault;
@@ -54,16 +55,6 @@ pub enum Progressed {
     Moves,
     /// The run is over.
     Ends { ending: Ending },
-}
-
-// The ending that an event gave the run.
-fn ending_of(event: &Event) -> Option<Ending>
-    ensures { result ≡ ending_given event.now }
-{
-    match event {
-        Event::Ended { ending } => Some(*ending),
-        _ => None,
-    }
 }
 
 // Whether an act leaves the turn, and makes no touch.

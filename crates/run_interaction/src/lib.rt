@@ -1,7 +1,5 @@
-// What a run exchanges with the outside: acts that an actor is asked for, touches that are told of, and its text when it
-// has come to its end.
+// What a run exchanges with its actor: acts that the actor is asked for, and touches that it is told of.
 #![tactic(auto)]
 
 pub mod ask;
-pub mod finish;
 pub mod touch;

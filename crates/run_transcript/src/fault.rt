@@ -5,7 +5,7 @@ use ckc_text::fault::NoMemory;
 use thiserror::Error;
 
 /// Why a run has no ending.
-#[derive(Debug, Drop, Error)]
+#[derive(Clone, Copy, Debug, Error)]
 pub enum RunFault {
     /// The run needs an act whose line is refused: A1 to A5, at the line of this number, the first being 1.
     #[error("an act line is refused")]
@@ -19,6 +19,7 @@ pub enum RunFault {
     /// The sink failed.
     #[error("the output can't be written")]
     SinkFailed,
+    /// Memory ran out.
     #[error("out of memory")]
     NoMemory,
 }

@@ -1,5 +1,5 @@
 use Rattle.std.proofs.Common.{◌∙◌, subst}
-use Rattle.run_interaction.specs.Finishes.{Finishes}
+use Rattle.run_transcript.specs.Finishes.{Finishes}
 use Rattle.run_core.specs.Progress.{blocks_of}
 use Rattle.run_core.proofs.Playing.{played_first}
 use Rattle.run_core.proofs.Ending.{run_writes, run_counts}

@@ -4,14 +4,14 @@ ghost use Rattle.std.specs.Prelude.{◌≡◌, ◌++◌, List, IfOk, Ok, Err};
 ghost use Rattle.act_words.specs.declared.settings.Settings.{Settings as SettingsData};
 ghost use Rattle.act_words.specs.Shown.{Shown};
 ghost use Rattle.run_transcript.specs.Texts.{ending_text, with_last_line};
-ghost use Rattle.run_interaction.specs.Finishes.{Finish, Finishes};
+ghost use Rattle.run_transcript.specs.Finishes.{Finish, Finishes};
 
+use crate::fault::RunFault;
+use crate::texts::{add_last_line, answer_text};
 use act_words::ending::Ending;
 use ckc_io::sink::{Sink, SinkFault};
 use ckc_io::whole::write_whole;
 use ckc_text::fault::NoMemory;
-use run_transcript::fault::RunFault;
-use run_transcript::texts::{add_last_line, answer_text};
 use std::alloc::Global;
 
 /// Writes the text of a run that has ended: what it told, the line of its ending, and the lines of its last blocks.

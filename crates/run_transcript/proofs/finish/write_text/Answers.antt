@@ -1,8 +1,8 @@
 use Rattle.std.proofs.Common.{◌≤◌, length, take, refl, ap, ◌∙◌, subst}
 use Rattle.std.proofs.lemmas.Result.{err_from_is_err_and}
 use Rattle.ckc_io.specs.Written.{grown}
-use Rattle.run_interaction.specs.Finishes.{Finish}
-use Rattle.run_interaction.proofs.finish.write_text.Goals as goal
+use Rattle.run_transcript.specs.Finishes.{Finish}
+use Rattle.run_transcript.proofs.finish.write_text.Goals as goal
 
 pub returns-in_err-add_last_line : goal.returns-in_err-add_last_line
 returns-in_err-add_last_line g c =

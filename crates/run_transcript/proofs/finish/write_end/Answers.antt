@@ -1,7 +1,7 @@
 use Rattle.std.proofs.Common.{refl}
 use Rattle.std.proofs.lemmas.Result.{err_from_is_err_and}
-use Rattle.run_interaction.specs.Finishes.{Finish}
-use Rattle.run_interaction.proofs.finish.write_end.Goals as goal
+use Rattle.run_transcript.specs.Finishes.{Finish}
+use Rattle.run_transcript.proofs.finish.write_end.Goals as goal
 
 pub returns-in_err-last : goal.returns-in_err-last
 returns-in_err-last g c =
