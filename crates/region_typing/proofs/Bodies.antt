@@ -28,7 +28,7 @@ use Rattle.checker_scope.specs.Views.{scope, signature, variable}
 use Rattle.checker_scope.specs.Answering.{Answers, answers_so}
 use Rattle.checker_scope.specs.Locals.{Grows}
 use Rattle.statement_typing.specs.Walks.{Walks}
-use Rattle.region_typing.specs.Items.{Outside, body_core, kept_rules}
+use Rattle.region_typing.specs.Items.{Outside, body_core, kept_rules, behind_declaration}
 use Rattle.region_typing.specs.Signatures.{declared_function}
 use Rattle.statement_typing.proofs.Verdicts.{same_behind, in_parts}
 use Rattle.statement_typing.proofs.Steps.{parts_at, no_parts}
@@ -118,10 +118,12 @@ body_refused {view = view} {view' = view'} {mid = mid} {e = e} at f ps body old 
     rw (p.1, p.2) (body_refused_so view view' at f ps body old entered mid e is first)
 
 -- the core of a function, as it is put together
-pub core_built : (f : code_signature.Signature) (ps : List code.Variable.Variable) (n : ℕ) → n ≡ length ps → (locals : List code_type.CType) (g : Scope) → map ctype locals ≡ g.locals → (xs : List Stmt) (c : code_function.Function) → core.function c ≡ record { name = f.name; parameters = n; locals = map ctype locals; result = option_map ctype f.result; body = core.statements_of xs }
+pub core_built : (f heading : code_signature.Signature) (ps : List code.Variable.Variable) (n : ℕ) → n ≡ length ps → (locals : List code_type.CType) (g : Scope) → map ctype locals ≡ g.locals → (xs : List Stmt) (c : code_function.Function) → signature heading ≡ signature f → core.function c ≡ record { name = heading.name; parameters = n; locals = map ctype locals; result = option_map ctype heading.result; body = core.statements_of xs }
     → core.function c ≡ core_function (signature f) (map variable ps) (core.statements_of xs) g
-core_built f ps n count locals g are xs c is =
-    is ∙ ap (λ ts. record { name = f.name; parameters = n; locals = ts; result = option_map ctype f.result; body = core.statements_of xs }) are
+core_built f heading ps n count locals g are xs c same is =
+    is
+    ∙ ap (λ (s : Signature). record { name = s.name; parameters = n; locals = map ctype locals; result = s.result; body = core.statements_of xs }) same
+    ∙ ap (λ ts. record { name = f.name; parameters = n; locals = ts; result = option_map ctype f.result; body = core.statements_of xs }) are
     ∙ ap (λ k. record { name = f.name; parameters = k; locals = g.locals; result = option_map ctype f.result; body = core.statements_of xs }) (count ∙ sym (length-map ps variable))
 
 -- ---- parameters as locals
@@ -164,15 +166,20 @@ pub checked_once : (unchecked off : Bool) (span : Span) → needs {A = Unit {0}}
 checked_once true off span = refl
 checked_once false off span = refl
 
--- behind a declaration
-pub function_walk : {new : Walk} {r : Result (Unit {0}) Refused} (at : Places) (all : List Item) (w : Walk) (d : i.Function) (x : Signature × List Variable) (mid : Scope) → declared_function w.scope d ≡ Passes x → mid ≡ with_function (function_named w.scope.functions x.0.name) x.0 w.scope
-    → Answers {C = Unit {0}} (λ u. new) (passing (function_body at (record w { scope = mid }) x.0 x.1 d.body) (λ v. passing (kept_rules all d (agrees (function_named w.scope.functions x.0.name) x.0 && (all_scalar x.0.parameters && scalar_result x.0.result)) v.scope) (λ u. Passes v))) r
+-- behind a declaration, by the name that is written
+pub function_walk : {new : Walk} {r : Result (Unit {0}) Refused} (at : Places) (all : List Item) (w : Walk) (d : i.Function) (x : Signature × List Variable) → declared_function w.scope d ≡ Passes x → Answers {C = Unit {0}} (λ u. new) (behind_declaration at all w d x) r
     → Answers {C = Unit {0}} (λ u. new) (passing (declared_function w.scope d) (λ y. passing (function_body at (record w { scope = with_function (function_named w.scope.functions d.name.name) y.0 w.scope }) y.0 y.1 d.body) (λ v. passing (kept_rules all d (agrees (function_named w.scope.functions d.name.name) y.0 && (all_scalar y.0.parameters && scalar_result y.0.result)) v.scope) (λ u. Passes v)))) r
-function_walk {new = new} {r = r} at all w d x mid first known rest =
+function_walk {new = new} {r = r} at all w d x first rest =
     let named = declared_name w.scope d x first in
     rw first
-    (subst (λ name. Answers {C = Unit {0}} (λ u. new) (passing (function_body at (record w { scope = with_function (function_named w.scope.functions name) x.0 w.scope }) x.0 x.1 d.body) (λ v. passing (kept_rules all d (agrees (function_named w.scope.functions name) x.0 && (all_scalar x.0.parameters && scalar_result x.0.result)) v.scope) (λ u. Passes v))) r) named
-    (subst (λ (g : Scope). Answers {C = Unit {0}} (λ u. new) (passing (function_body at (record w { scope = g }) x.0 x.1 d.body) (λ v. passing (kept_rules all d (agrees (function_named w.scope.functions x.0.name) x.0 && (all_scalar x.0.parameters && scalar_result x.0.result)) v.scope) (λ u. Passes v))) r) known rest))
+    (subst (λ name. Answers {C = Unit {0}} (λ u. new) (passing (function_body at (record w { scope = with_function (function_named w.scope.functions name) x.0 w.scope }) x.0 x.1 d.body) (λ v. passing (kept_rules all d (agrees (function_named w.scope.functions name) x.0 && (all_scalar x.0.parameters && scalar_result x.0.result)) v.scope) (λ u. Passes v))) r) named rest)
+
+-- the scope behind a declaration
+pub behind_scope : {new : Walk} {r : Result (Unit {0}) Refused} (at : Places) (all : List Item) (w : Walk) (d : i.Function) (x : Signature × List Variable) (mid : Scope) → mid ≡ with_function (function_named w.scope.functions x.0.name) x.0 w.scope
+    → Answers {C = Unit {0}} (λ u. new) (passing (function_body at (record w { scope = mid }) x.0 x.1 d.body) (λ v. passing (kept_rules all d (agrees (function_named w.scope.functions x.0.name) x.0 && (all_scalar x.0.parameters && scalar_result x.0.result)) v.scope) (λ u. Passes v))) r
+    → Answers {C = Unit {0}} (λ u. new) (behind_declaration at all w d x) r
+behind_scope {new = new} {r = r} at all w d x mid known rest =
+    subst (λ (g : Scope). Answers {C = Unit {0}} (λ u. new) (passing (function_body at (record w { scope = g }) x.0 x.1 d.body) (λ v. passing (kept_rules all d (agrees (function_named w.scope.functions x.0.name) x.0 && (all_scalar x.0.parameters && scalar_result x.0.result)) v.scope) (λ u. Passes v))) r) known rest
 
 pub room_left : (o : Option Signature) (b : Bool) → (is_some o || b) ≡ true → o ≡ None → b ≡ true
 room_left None b some none = some

@@ -1,9 +1,10 @@
 -- Constants, and the cells that they are in.
-use Rattle.std.proofs.Common.{◌≡◌, ℕ, zero, suc, ◌+◌, ◌-◌, ◌<◌, ◌≤◌, true, nat_lt, List, [], ◌∷◌, ◌++◌, length, map, drop, get_or, slice_index, add-one, append_assoc, refl, ap, sym, ◌∙◌, arith}
+use Rattle.std.proofs.Common.{◌≡◌, ℕ, zero, suc, ◌+◌, ◌-◌, ◌<◌, ◌≤◌, Bool, true, false, nat_lt, Option, Some, None, List, [], ◌∷◌, ◌++◌, length, map, drop, get_or, slice_index, add-one, append_assoc, refl, ap, sym, ◌∙◌, arith}
 use Rattle.std.proofs.lemmas.List.{append-nil, map-append}
 use Rattle.std.proofs.lemmas.Bool.Decides.{nat_tests}
-use Rattle.std.proofs.Common.{ℤ}
+use Rattle.std.proofs.Common.{ℤ, pos}
 use Rattle.ckc_text.specs.declared.place.Span.{Span}
+use Rattle.ckc_text.specs.declared.code.Code.TheVariants.{E13}
 use Rattle.ckc_tree.specs.Expressions.{Expression}
 use Rattle.pointer_modes.specs.declared.ctype.Member as code_member
 use Rattle.pointer_modes.proofs.Cells.{length_of_cells}
@@ -12,21 +13,30 @@ use Rattle.pointer_modes.specs.Layout.{Cell, cells_of, size_of}
 use Rattle.ckc_core.specs.declared.program.Initial as code_initial
 use Rattle.ckc_core.specs.Core as core
 use Rattle.ckc_core.specs.Core.{initial}
-use Rattle.typing_rules.specs.Verdicts.{picked}
+use Rattle.ckc_core.specs.Meaning.{low_byte}
+use Rattle.typing_rules.specs.Verdicts.{Passes, needs, picked}
 use Rattle.typing_rules.specs.Types.{is_scalar}
 use Rattle.typing_rules.specs.Expressions.{Typed}
 use Rattle.typing_rules.specs.Items as rules
-use Rattle.typing_rules.specs.Items.{strides_from, strides_of, cells_with, numbered_cells, object_cells}
-use Rattle.region_typing.specs.Initials.{IsStructOf, judged_as, judged_cells, stride_at}
+use Rattle.typing_rules.specs.Items.{strides_from, strides_of, cells_with, numbered_cells, is_zero, initial_number, number_or_break, object_cells}
+use Rattle.region_typing.specs.Initials.{IsStructOf, constant_cells, judged_as, judged_cells, stride_at}
 use Rattle.statement_typing.proofs.Steps.{parts_at, no_parts}
 
 -- ---- cells by what is judged
 
 written_cells_judged : (structs : List Structure) (t : CType) (value : Expression) (u : Typed) (span : Span) → object_cells structs t (rules.Written value u) span ≡ judged_cells structs t (judged_as (rules.Written value u)) span
 written_cells_judged structs Int value u span = refl
-written_cells_judged structs Char value u span = refl
+written_cells_judged structs Char value u span = by (initial_number value u)
+  where
+    by : (number : Option ℤ) → number_or_break number span (λ n. cells_with structs Char (low_byte n)) ≡ constant_cells structs Char (is_zero u) number span
+    by None = refl
+    by (Some number) = refl
 written_cells_judged structs (Struct number) value u span = refl
-written_cells_judged structs (Pointer mode kind target) value u span = refl
+written_cells_judged structs (Pointer mode kind target) value u span = by (is_zero u)
+  where
+    by : (zero : Bool) → needs zero E13 span (Passes (cells_with structs (Pointer mode kind target) (pos 0))) ≡ constant_cells structs (Pointer mode kind target) zero (initial_number value u) span
+    by true = refl
+    by false = refl
 
 pub cells_judged : (structs : List Structure) (t : CType) (w : rules.Walked) (span : Span) → object_cells structs t w span ≡ judged_cells structs t (judged_as w) span
 cells_judged structs t rules.Missing span = refl

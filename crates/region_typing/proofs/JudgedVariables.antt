@@ -1,9 +1,10 @@
 -- File-level variables, by what is judged of their initialisers.
-use Rattle.std.proofs.Common.{◌≡◌, ◌+◌, Bool, true, false, nat_lt, nat_le, List, [], ◌∷◌, ◌++◌, length, map, Result, refl, ap, sym, ◌∙◌, subst}
+use Rattle.std.proofs.Common.{◌≡◌, ◌+◌, Bool, true, false, nat_lt, nat_le, List, [], ◌∷◌, ◌++◌, length, map, Result, Ok, Err, refl, ap, sym, ◌∙◌, subst}
 use Rattle.std.proofs.lemmas.List.{map-append}
 use Rattle.ckc_text.specs.declared.place.Span.{Span}
 use Rattle.ckc_text.specs.declared.code.Code.TheVariants.{E08, E10}
 use Rattle.ckc_text.specs.declared.fault.Refused.{Refused}
+use Rattle.ckc_text.specs.declared.fault.Refused.TheVariants.{Source, NoMemory}
 use Rattle.ckc_tree.specs.Types.{TypeTree}
 use Rattle.ckc_tree.specs.Items as i
 use Rattle.ckc_tree.specs.Statements.{Declarator}
@@ -14,9 +15,10 @@ use Rattle.typing_rules.specs.Types.{base_type, without_stars}
 use Rattle.typing_rules.specs.Expressions.{Places}
 use Rattle.typing_rules.specs.Items as rules
 use Rattle.typing_rules.specs.Items.{Walk, WalkedVariable, with_variable, block_bytes, initializer, variables, with_objects, global, in_checked_region}
-use Rattle.checker_scope.specs.Answering.{Answers}
-use Rattle.region_typing.specs.Initials.{Judged, judged_as, judged_cells}
-use Rattle.region_typing.specs.Items.{JudgedVariable, variable_type, with_one, one_variable, judged_variables, judged_initializer, one_object, judged_objects}
+use Rattle.checker_scope.specs.Answering.{Answers, answers_so}
+use Rattle.region_typing.specs.declared.initials.Judged as code
+use Rattle.region_typing.specs.Initials.{Judged, judged, judged_as, judged_cells}
+use Rattle.region_typing.specs.Items.{JudgedVariable, judged_variable, variable_type, with_one, one_variable, judged_variables, judged_initializer, one_object, judged_objects}
 use Rattle.statement_typing.proofs.Verdicts.{same_behind, in_parts}
 use Rattle.region_typing.proofs.Constants.{cells_judged}
 
@@ -87,8 +89,17 @@ global_judged at w d =
     same_behind (base_type w.scope d.base) _ _ (λ t. variables_judged at w d.base t d.span d.declarators [] _ (λ x. passing (judged_objects d.span x.1 x.0) (λ v. in_checked_region v.scope d.span v))
     (λ x. ap (λ objects. passing objects (λ v. in_checked_region v.scope d.span v)) (objects_judged x.0 d.span x.1)))
 
+-- what is made of an answer
+made_of_so : {A B C : Type 0} (view : C → A) (next : A → B) (v : Verdict A) (r : Result C Refused) → Answers view v r → answers_so (λ c. next (view c)) (passing v (λ x. Passes (next x))) r
+made_of_so view next v (Ok c) first = rw first.so refl
+made_of_so view next v (Err (Source fault)) first = rw first.so refl
+made_of_so view next v (Err NoMemory) first = tt
+
 -- a variable more, behind its type
-pub one_more_variable : {D : Type 0} {view : D → Walk × JudgedVariable} {r : Result D Refused} (at : Places) (base : TypeTree) (type : CType) (span : Span) (d : Declarator) (t : CType) (old new : Walk) → new ≡ with_one d.name.name t old → variable_type old base type span d ≡ Passes t
-    → Answers view (passing (judged_initializer at new.scope d.initializer) (λ j. Passes (new, record { type = t; initial = j }))) r → Answers view (one_variable at old base type span d) r
-one_more_variable {view = view} {r = r} at base type span d t old new is first rest =
-    rw first (subst (λ (v : Walk). Answers view (passing (judged_initializer at v.scope d.initializer) (λ j. Passes (v, record { type = t; initial = j }))) r) is rest)
+pub one_more_variable : (at : Places) (base : TypeTree) (span : Span) (d : Declarator) (t : CType) (old new : Walk) (r : Result code.Judged Refused) → new ≡ with_one d.name.name t old → variable_type old base t span d ≡ Passes t
+    → Answers judged (judged_initializer at new.scope d.initializer) r → Answers (λ x. (new, judged_variable t x)) (one_variable at old base t span d) r
+one_more_variable at base span d t old new r is first rest =
+    let view : code.Judged → Walk × JudgedVariable = λ x. (new, judged_variable t x) in
+    let next : Judged → Walk × JudgedVariable = λ j. (new, record { type = t; initial = j }) in
+    let made : Answers view (passing (judged_initializer at new.scope d.initializer) (λ j. Passes (next j))) r = record { so = made_of_so judged next (judged_initializer at new.scope d.initializer) r rest } in
+    rw first (subst (λ (v : Walk). Answers view (passing (judged_initializer at v.scope d.initializer) (λ j. Passes (v, record { type = t; initial = j }))) r) is made)

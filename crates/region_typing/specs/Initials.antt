@@ -1,5 +1,5 @@
 -- Inside: what a file-level variable is initialised with, as the code holds it.
-use Rattle.std.specs.Prelude.{◌≡◌, ℕ, ◌<◌, ◌+◌, ◌-◌, Bool, List, length, map, slice_index, nat_lt, Option, Some, pos}
+use Rattle.std.specs.Prelude.{◌≡◌, ℕ, ◌<◌, ◌+◌, ◌-◌, Bool, List, length, map, slice_index, nat_lt, Option, Some, None, pos}
 use Rattle.std.proofs.Common.{ℤ}
 use Rattle.ckc_text.specs.declared.place.Span.{Span}
 use Rattle.ckc_text.specs.declared.code.Code.TheVariants.{E13}
@@ -10,7 +10,7 @@ use Rattle.ckc_tree.specs.Expressions as e
 use Rattle.ckc_tree.specs.Expressions.{Expression}
 use Rattle.ckc_core.specs.Core as core
 use Rattle.ckc_core.specs.Meaning.{low_byte}
-use Rattle.typing_rules.specs.Verdicts.{Verdict, Passes, needs, breaks, picked}
+use Rattle.typing_rules.specs.Verdicts.{Verdict, Passes, breaks, picked}
 use Rattle.typing_rules.specs.Items as rules
 use Rattle.typing_rules.specs.Items.{cells_with, is_zero, unsigned_constant, initial_number, number_or_break}
 use Rattle.region_typing.specs.declared.initials.Judged as code
@@ -33,11 +33,20 @@ judged_as rules.Missing = Missing
 judged_as (rules.Written value t) = Constant (is_zero t) (initial_number value t)
 judged_as rules.Constants = Constants
 
+-- the number modulo 256
+abbrev low_number : Option ℤ → Option ℤ
+low_number None = None
+low_number (Some number) = Some (low_byte number)
+
+-- what the cells of a type hold by a value, which may be the constant 0
+abbrev pub cell_number : CType → Bool → Option ℤ → Option ℤ
+cell_number Int zero number = number
+cell_number Char zero number = low_number number
+cell_number (Struct struct) zero number = None
+cell_number (Pointer mode kind target) zero number = picked zero (Some (pos 0)) None
+
 abbrev pub constant_cells : List Structure → CType → Bool → Option ℤ → Span → Verdict (List core.Initial)
-constant_cells structs Int zero number span = number_or_break number span (cells_with structs Int)
-constant_cells structs Char zero number span = number_or_break number span (λ n. cells_with structs Char (low_byte n))
-constant_cells structs (Struct struct) zero number span = breaks E13 span
-constant_cells structs (Pointer mode kind target) zero number span = needs zero E13 span (Passes (cells_with structs (Pointer mode kind target) (pos 0)))
+constant_cells structs type zero number span = number_or_break (cell_number type zero number) span (cells_with structs type)
 
 abbrev pub judged_cells : List Structure → CType → Judged → Span → Verdict (List core.Initial)
 judged_cells structs type Missing span = Passes (cells_with structs type (pos 0))

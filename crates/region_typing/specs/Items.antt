@@ -1,23 +1,23 @@
 -- Inside: what is known behind an item, as the code holds it, and steps of the walks over items.
-use Rattle.std.specs.Prelude.{◌≡◌, ℕ, ◌+◌, Bool, true, false, not, List, [], ◌∷◌, ◌++◌, length, map, nat_lt, nat_le, Option, None}
+use Rattle.std.specs.Prelude.{◌≡◌, ℕ, ◌+◌, Bool, true, false, not, ◌&&◌, List, [], ◌∷◌, ◌++◌, length, map, nat_lt, nat_le, Option, None}
 use Rattle.ckc_text.specs.declared.place.Span.{Span}
 use Rattle.ckc_text.specs.declared.code.Code.TheVariants.{E08, E10, E13, E15}
 use Rattle.ckc_tree.specs.Types.{TypeTree, type_span}
 use Rattle.ckc_tree.specs.Items as i
 use Rattle.ckc_tree.specs.Statements.{Initializer, Declarator, Statements}
 use Rattle.pointer_modes.specs.Types as types
-use Rattle.pointer_modes.specs.Types.{CType, ctype}
+use Rattle.pointer_modes.specs.Types.{CType}
 use Rattle.ckc_core.specs.Core as core
 use Rattle.ckc_core.specs.Core.{object, function}
 use Rattle.typing_rules.specs.Verdicts.{Verdict, Passes, passing, needs, picked}
-use Rattle.typing_rules.specs.Scopes.{Scope, Signature, Variable}
+use Rattle.typing_rules.specs.Scopes.{Scope, Signature, Variable, function_named}
 use Rattle.typing_rules.specs.Types.{type_named, without_stars}
 use Rattle.typing_rules.specs.Expressions.{Places}
 use Rattle.typing_rules.specs.Statements.{statements, is_unchecked}
-use Rattle.typing_rules.specs.Items.{Walk, with_variable, block_bytes, initializer, inside, core_function, is_trusted, is_defined, in_checked_region}
+use Rattle.typing_rules.specs.Items.{Walk, with_variable, block_bytes, initializer, inside, core_function, function_body, with_function, agrees, all_scalar, scalar_result, is_trusted, is_defined, in_checked_region}
 use Rattle.checker_scope.specs.Views.{scope}
 use Rattle.region_typing.specs.declared.walk as code
-use Rattle.region_typing.specs.declared.globals.WalkedVariable as code_variable
+use Rattle.region_typing.specs.declared.initials.Judged as code_judged
 use Rattle.region_typing.specs.Initials.{Judged, judged, judged_as, judged_cells}
 
 abbrev pub walk : code.Walk.Walk → Walk
@@ -39,13 +39,13 @@ one_parameter g p done =
     needs (nat_lt (length done) 16) E08 (type_span p.type.base)
     (passing (type_named g p.type) (λ t. Passes (done ++ record { name = p.name.name; type = t } ∷ [])))
 
--- a walked variable with what it is initialised with
+-- a variable of a type with what it is initialised with
 pub record JudgedVariable : Type 0 where
   pub type : CType
   pub initial : Judged
 
-abbrev pub judged_variable : code_variable.WalkedVariable → JudgedVariable
-judged_variable v = record { type = ctype v.ctype; initial = judged v.initial }
+abbrev pub judged_variable : CType → code_judged.Judged → JudgedVariable
+judged_variable t v = record { type = t; initial = judged v }
 
 -- the type of a variable that there is room for (E08)
 abbrev pub variable_type : Walk → TypeTree → CType → Span → Declarator → Verdict CType
@@ -90,3 +90,9 @@ kept_rules all d fits g =
     needs fits E13 d.span
     (needs (picked (is_trusted d.kind) (is_defined all d.name.name) true) E10 d.span
     (needs (not (is_unchecked d.mark)) E15 d.span (in_checked_region g d.span tt)))
+
+-- what is asked of a function behind its declaration
+abbrev pub behind_declaration : Places → List i.Item → Walk → i.Function → Signature × List Variable → Verdict Walk
+behind_declaration at all w d x =
+    passing (function_body at (record w { scope = with_function (function_named w.scope.functions x.0.name) x.0 w.scope }) x.0 x.1 d.body) (λ v.
+    passing (kept_rules all d (agrees (function_named w.scope.functions x.0.name) x.0 && (all_scalar x.0.parameters && scalar_result x.0.result)) v.scope) (λ u. Passes v))

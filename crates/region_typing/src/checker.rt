@@ -1,10 +1,15 @@
 // Whether a program keeps the rules, and what it becomes.
 
-ghost use Rattle.std.specs.Prelude.{◌≤◌, length};
+ghost use Rattle.std.specs.Prelude.{◌≤◌, length, map};
 ghost use Rattle.ckc_text.specs.Places.{place_at};
-ghost use Rattle.ckc_tree.specs.Items.{tree};
+ghost use Rattle.ckc_tree.specs.Items.{item as item_tree, tree};
 ghost use Rattle.ckc_core.specs.Core.{core as core_view};
-ghost use Rattle.typing_rules.specs.Cores.{CheckAnswers};
+ghost use Rattle.typing_rules.specs.Verdicts.{Passes, passing};
+ghost use Rattle.typing_rules.specs.Items.{items as items_of};
+ghost use Rattle.typing_rules.specs.Cores.{core_of as core_of_walk, CheckAnswers};
+ghost use Rattle.checker_scope.specs.Answering.{Answers};
+ghost use Rattle.checker_scope.specs.Views.{scope as scope_of};
+ghost use Rattle.region_typing.specs.Items.{walk as walk_of, Outside};
 
 use crate::cores::core_of;
 use crate::items::items;
@@ -12,8 +17,23 @@ use crate::walk::Walk;
 use checker_scope::sites::Sites;
 use ckc_core::program::Core;
 use ckc_text::fault::Refused;
+use ckc_tree::item::Item;
 use name_resolution::named::Named;
 use std::alloc::Global;
+
+// The core of items, all of which are still to be walked.
+fn core_of_items(
+    alloc: Global,
+    sites: &Sites,
+    walk: &mut Walk,
+    written: &[Item],
+) -> Result<Core, Refused>
+    requires { Outside (scope_of walk.old.scope) }
+    ensures { Answers core_view (passing (items_of (place_at sites.now) (map item_tree written.now) (walk_of walk.old) (map item_tree written.now)) (λ w. Passes (core_of_walk w))) result }
+{
+    items(alloc, sites, walk, written)?;
+    core_of(alloc, walk)
+}
 
 /// The core of a program whose names are visible where they stand.
 ///
@@ -25,7 +45,6 @@ pub fn check(alloc: Global, src: &[u8], source: &Named) -> Result<Core, Refused>
     ensures { CheckAnswers core_view (place_at src.now) (tree source.now.program) result }
 {
     let sites = Sites::new(alloc, src)?;
-    let mut walk = Walk::new(alloc);
-    items(alloc, &sites, &mut walk, source.program().items.as_slice())?;
-    Ok(core_of(alloc, walk)?)
+    let mut walk = Walk::new(alloc)?;
+    core_of_items(alloc, &sites, &mut walk, source.program().items.as_slice())
 }

@@ -3,30 +3,34 @@
 ghost use Rattle.std.specs.Prelude.{◌≡◌, ◌<◌, ◌∷◌, ◌++◌, [], slice_set, map, length, IfOk};
 ghost use Rattle.ckc_core.specs.Core.{function as function_of, import_of, core as core_view};
 ghost use Rattle.typing_rules.specs.Cores.{without_body as without_body_of, trusted_functions, tainted_functions, core_of as core_of_walk};
+ghost use Rattle.typing_rules.specs.Verdicts.{Passes};
+ghost use Rattle.checker_scope.specs.Answering.{Answers};
 ghost use Rattle.checker_scope.specs.Views.{signature};
 ghost use Rattle.region_typing.specs.Items.{walk as walk_of};
 ghost use Rattle.region_typing.specs.CoreParts.{import_as, trusted_place as trusted_place_of};
 
 use crate::functions::copied_result;
-use crate::signatures::copied_types;
+use crate::signatures::copied_signature;
 use crate::walk::Walk;
 use checker_scope::scope::Scope;
 use checker_scope::sides::is_import;
 use checker_scope::signature::Signature;
 use ckc_core::program::{Core, Function, Import};
-use ckc_text::fault::NoMemory;
+use ckc_text::fault::{NoMemory, Refused};
 use ckc_text::name::Name;
 use std::alloc::Global;
+use std::mem;
 
 // A function without a body.
 fn without_body(alloc: Global, f: &Signature) -> Result<Function, NoMemory>
     ensures { IfOk result (λ c. function_of c ≡ without_body_of (signature f.now)) }
 {
+    let heading = copied_signature(alloc, f)?;
     Ok(Function {
-        name: Name::copied(alloc, f.name.as_bytes())?,
-        parameters: f.parameters.len() as u32,
-        locals: copied_types(alloc, f.parameters.as_slice())?,
-        result: copied_result(alloc, &f.result)?,
+        name: heading.name,
+        parameters: heading.parameters.len() as u32,
+        locals: heading.parameters,
+        result: heading.result,
         body: Vec::new(alloc),
     })
 }
@@ -123,9 +127,9 @@ fn place(built: &mut Vec<Function>, scope: &Scope, body: Function)
 fn functions(
     alloc: Global,
     scope: &Scope,
-    mut bodies: Vec<Function>,
+    bodies: &mut Vec<Function>,
 ) -> Result<Vec<Function>, NoMemory>
-    ensures { IfOk result (λ v. map function_of v.items ≡ trusted_functions (map function_of bodies.items) (map signature scope.now.functions.items)) }
+    ensures { IfOk result (λ v. map function_of v.items ≡ trusted_functions (map function_of bodies.old.items) (map signature scope.now.functions.items)) }
 {
     let mut built = without_bodies(alloc, scope.functions.as_slice())?;
     while let Some(body) = bodies.pop() {
@@ -134,21 +138,15 @@ fn functions(
     Ok(built)
 }
 
-/// The core of what was walked.
-pub fn core_of(alloc: Global, walk: Walk) -> Result<Core, NoMemory>
-    ensures { IfOk result (λ c. core_view c ≡ core_of_walk (walk_of walk)) }
+/// The core of what was walked. The cells and the bodies are moved into it.
+pub fn core_of(alloc: Global, walk: &mut Walk) -> Result<Core, Refused>
+    ensures { Answers core_view (Passes (core_of_walk (walk_of walk.old))) result }
 {
-    let Walk {
-        scope,
-        objects,
-        taken: _,
-        bodies,
-    } = walk;
-    let imports = imports(alloc, scope.functions.as_slice())?;
-    let main = scope.side_number(false, b"main".as_slice());
-    let functions = functions(alloc, &scope, bodies)?;
+    let functions = functions(alloc, &walk.scope, &mut walk.bodies)?;
+    let imports = imports(alloc, walk.scope.functions.as_slice())?;
+    let main = walk.scope.side_number(false, b"main".as_slice());
     Ok(Core {
-        objects,
+        objects: mem::replace(&mut walk.objects, Vec::new(alloc)),
         imports,
         functions,
         main,

@@ -14,7 +14,7 @@ use std::alloc::Global;
 #[derive(Drop)]
 pub struct Listing<'a> {
     pub items: &'a [Item],
-    defined: NameTable,
+    pub defined: NameTable,
     ghost known: { Knows defined (map item_tree items.now) },
 }
 
@@ -31,8 +31,8 @@ fn note_definition(alloc: Global, item: &Item, defined: &mut NameTable) -> Resul
     }
 }
 
-// The names of the functions that have bodies.
-fn defined_names(alloc: Global, items: &[Item]) -> Result<NameTable, NoMemory>
+/// The names of the functions that have bodies.
+pub fn defined_names(alloc: Global, items: &[Item]) -> Result<NameTable, NoMemory>
     ensures { IfOk result (λ table. Knows table (map item_tree items.now)) }
 {
     let mut defined = NameTable::new(alloc);
@@ -43,14 +43,6 @@ fn defined_names(alloc: Global, items: &[Item]) -> Result<NameTable, NoMemory>
 }
 
 impl<'a> Listing<'a> {
-    /// The items of a source.
-    pub fn new(alloc: Global, items: &'a [Item]) -> Result<Listing<'a>, NoMemory>
-        ensures { IfOk result (λ listing. listing.items.now ≡ items.now) }
-    {
-        let defined = defined_names(alloc, items)?;
-        Ok(Listing { items, defined })
-    }
-
     /// Whether a function of a name has a body.
     pub fn is_defined(&self, name: &[u8]) -> bool
         ensures { result ≡ defined_in (map item_tree self.now.items.now) name.now }

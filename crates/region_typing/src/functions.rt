@@ -11,6 +11,7 @@ ghost use Rattle.checker_scope.specs.Answering.{Answers};
 ghost use Rattle.checker_scope.specs.Views.{scope as scope_of, signature, variable as variable_of};
 ghost use Rattle.region_typing.specs.Items.{walk as walk_of, Outside, one_parameter, body_core};
 
+use crate::signatures::copied_signature;
 use crate::walk::Walk;
 use checker_scope::refusals::needs;
 use checker_scope::scope::{Scope, Variable};
@@ -56,8 +57,8 @@ fn push_parameter(
         Code::E08,
         written.type_name.base.span(),
     )?;
-    let name = Name::copied(alloc, written.name.name.as_bytes())?;
     parameters.reserve(1)?;
+    let name = Name::copied(alloc, written.name.name.as_bytes())?;
     let ctype = type_named(alloc, scope, &written.type_name)?;
     parameters.push_reserved(Variable { name, ctype });
     Ok(())
@@ -139,23 +140,17 @@ fn enter(
 }
 
 // A function with its statements.
-fn core_function(
-    alloc: Global,
-    f: &Signature,
-    parameters: usize,
-    locals: Vec<CType>,
-    body: Vec<Stmt>,
-) -> Result<Function, NoMemory>
+fn core_function(f: Signature, parameters: usize, locals: Vec<CType>, body: Vec<Stmt>) -> Function
     requires { parameters ≤ 16 }
-    ensures { IfOk result (λ c. function_of c ≡ record { name = f.now.name; parameters = parameters; locals = map ctype_of locals.items; result = option_map ctype_of f.now.result; body = statements_of body.items }) }
+    ensures { function_of result ≡ record { name = f.name; parameters = parameters; locals = map ctype_of locals.items; result = option_map ctype_of f.result; body = statements_of body.items } }
 {
-    Ok(Function {
-        name: Name::copied(alloc, f.name.as_bytes())?,
+    Function {
+        name: f.name,
         parameters: parameters as u32,
         locals,
-        result: copied_result(alloc, &f.result)?,
+        result: f.result,
         body,
-    })
+    }
 }
 
 // The core of a function with a body, whose locals are gone behind it.
@@ -173,8 +168,9 @@ fn body_of(
 {
     enter(alloc, scope, f, parameters)?;
     let built = statements(alloc, sites, scope, body)?;
+    let heading = copied_signature(alloc, f)?;
     let locals = scope.exit(alloc);
-    Ok(core_function(alloc, f, parameters.len(), locals, built)?)
+    Ok(core_function(heading, parameters.len(), locals, built))
 }
 
 // The body of a function.
@@ -192,11 +188,9 @@ fn with_body(
 {
     let checked = is_checked(&walk.scope, body.mark);
     let written = body.statements.as_slice();
-    walk.bodies.reserve(1)?;
     let built = body_of(alloc, sites, &mut walk.scope, f, parameters, written)?;
-    needs(checked, Code::E15, body.span)?;
-    walk.bodies.push_reserved(built);
-    Ok(())
+    walk.bodies.push(built)?;
+    needs(checked, Code::E15, body.span)
 }
 
 /// The body of a function, if it has one.

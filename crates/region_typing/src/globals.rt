@@ -18,7 +18,7 @@ use crate::walk::Walk;
 use checker_scope::refusals::needs;
 use checker_scope::scope::Scope;
 use checker_scope::sites::Sites;
-use checker_scope::types::{base_type, copied, without_stars};
+use checker_scope::types::{base_type, copied};
 use ckc_core::program::Object;
 use ckc_text::code::Code;
 use ckc_text::fault::{NoMemory, Refused};
@@ -36,13 +36,6 @@ const MOST_VARIABLES: usize = 4096;
 /// How many bytes they may take, with the gaps between them.
 const MOST_BYTES: u32 = 32768;
 
-/// A walked variable with what it is initialised with.
-#[derive(Drop)]
-pub struct WalkedVariable {
-    pub ctype: CType,
-    pub initial: Judged,
-}
-
 // What the block of a variable takes with its gap.
 fn block_bytes(scope: &Scope, t: &CType) -> u32
     ensures bytes { result ≡ bytes_of_block (scope_of scope.now) (ctype_of t.now) }
@@ -51,24 +44,23 @@ fn block_bytes(scope: &Scope, t: &CType) -> u32
     (scope.structs.size_of(t) + 15) / 16 * 16 + 16
 }
 
-// The type of a variable that there is room for.
-fn variable_type(
-    alloc: Global,
+// Accepts the type of a variable: no stars stand behind it, and there is room for the variable.
+fn accept_type(
     walk: &Walk,
     base: &TypeForm,
     t: &CType,
     span: Span,
     d: &Declarator,
-) -> Result<CType, Refused>
-    ensures known { Answers ctype_of (type_of_variable (walk_of walk.now) (type_tree base.now) (ctype_of t.now) span (declarator_tree d.now)) result }
-    ensures room { IfOk result (λ t. walk.now.taken + bytes_of_block (scope_of walk.now.scope) (ctype_of t) ≤ 32768) }
+) -> Result<(), Refused>
+    ensures known { Answers (λ _. ctype_of t.now) (type_of_variable (walk_of walk.now) (type_tree base.now) (ctype_of t.now) span (declarator_tree d.now)) result }
+    ensures room { IfOk result (λ _. walk.now.taken + bytes_of_block (scope_of walk.now.scope) (ctype_of t.now) ≤ 32768) }
     ensures few { IfOk result (λ _. length walk.now.scope.variables.items < 4096) }
 {
     needs(walk.scope.variables.len() < MOST_VARIABLES, Code::E08, span)?;
-    let t = without_stars(base, d.stars, copied(alloc, t)?)?;
-    let fits = walk.taken + block_bytes(&walk.scope, &t) <= MOST_BYTES;
+    needs(d.stars == 0, Code::E15, base.span())?;
+    let fits = walk.taken + block_bytes(&walk.scope, t) <= MOST_BYTES;
     needs(fits, Code::E08, span)?;
-    Ok(t)
+    Ok(())
 }
 
 // What a variable is initialised with.
@@ -102,7 +94,7 @@ fn add_variable(alloc: Global, walk: &mut Walk, name: &[u8], t: &CType) -> Resul
     Ok(())
 }
 
-// One variable of a declaration.
+// One variable of a declaration, and what it is initialised with.
 fn variable(
     alloc: Global,
     sites: &Sites,
@@ -111,16 +103,15 @@ fn variable(
     t: &CType,
     span: Span,
     d: &Declarator,
-) -> Result<WalkedVariable, Refused>
-    ensures { Answers (λ v. (walk_of walk.new, judged_variable v)) (one_variable (place_at sites.now) (walk_of walk.old) (type_tree base.now) (ctype_of t.now) span (declarator_tree d.now)) result }
+) -> Result<Judged, Refused>
+    ensures { Answers (λ v. (walk_of walk.new, judged_variable (ctype_of t.now) v)) (one_variable (place_at sites.now) (walk_of walk.old) (type_tree base.now) (ctype_of t.now) span (declarator_tree d.now)) result }
 {
-    let t = variable_type(alloc, walk, base, t, span, d)?;
-    add_variable(alloc, walk, d.name.name.as_bytes(), &t)?;
-    let initial = initializer(alloc, sites, &walk.scope, &d.initializer)?;
-    Ok(WalkedVariable { ctype: t, initial })
+    accept_type(walk, base, t, span, d)?;
+    add_variable(alloc, walk, d.name.name.as_bytes(), t)?;
+    initializer(alloc, sites, &walk.scope, &d.initializer)
 }
 
-// The variables of a declaration.
+// The variables of a declaration, and what each is initialised with.
 fn variables(
     alloc: Global,
     sites: &Sites,
@@ -129,8 +120,8 @@ fn variables(
     t: &CType,
     span: Span,
     ds: &[Declarator],
-) -> Result<Vec<WalkedVariable>, Refused>
-    ensures { Answers (λ v. (walk_of walk.new, map judged_variable v.items)) (judged_variables (place_at sites.now) (type_tree base.now) (ctype_of t.now) span (map declarator_tree ds.now) (walk_of walk.old, [])) result }
+) -> Result<Vec<Judged>, Refused>
+    ensures { Answers (λ v. (walk_of walk.new, map (judged_variable (ctype_of t.now)) v.items)) (judged_variables (place_at sites.now) (type_tree base.now) (ctype_of t.now) span (map declarator_tree ds.now) (walk_of walk.old, [])) result }
 {
     let mut walked = Vec::new(alloc);
     for d in ds {
@@ -141,21 +132,27 @@ fn variables(
 }
 
 // The cells of a variable.
-fn object(alloc: Global, walk: &mut Walk, span: Span, v: &WalkedVariable) -> Result<(), Refused>
-    ensures { Answers (λ _. walk_of walk.new) (one_object span (judged_variable v.now) (walk_of walk.old)) result }
+fn object(alloc: Global, walk: &mut Walk, span: Span, t: &CType, v: &Judged) -> Result<(), Refused>
+    ensures { Answers (λ _. walk_of walk.new) (one_object span (judged_variable (ctype_of t.now) v.now) (walk_of walk.old)) result }
 {
-    let cells = cells_of(alloc, &walk.scope.structs, &v.ctype, v.initial, span)?;
-    needs(!cells.is_empty(), Code::E10, span)?;
+    let cells = cells_of(alloc, &walk.scope.structs, t, *v, span)?;
+    let filled = !cells.is_empty();
     walk.objects.push(Object { cells })?;
-    Ok(())
+    needs(filled, Code::E10, span)
 }
 
 // The cells of variables.
-fn objects(alloc: Global, walk: &mut Walk, span: Span, vs: &[WalkedVariable]) -> Result<(), Refused>
-    ensures { Answers (λ _. walk_of walk.new) (judged_objects span (map judged_variable vs.now) (walk_of walk.old)) result }
+fn objects(
+    alloc: Global,
+    walk: &mut Walk,
+    span: Span,
+    t: &CType,
+    vs: &[Judged],
+) -> Result<(), Refused>
+    ensures { Answers (λ _. walk_of walk.new) (judged_objects span (map (judged_variable (ctype_of t.now)) vs.now) (walk_of walk.old)) result }
 {
     for v in vs {
-        object(alloc, walk, span, v)?;
+        object(alloc, walk, span, t, v)?;
     }
     Ok(())
 }
@@ -174,6 +171,6 @@ pub fn global(alloc: Global, sites: &Sites, walk: &mut Walk, d: &Declaration) ->
         d.span,
         d.declarators.as_slice(),
     )?;
-    objects(alloc, walk, d.span, vs.as_slice())?;
+    objects(alloc, walk, d.span, &t, vs.as_slice())?;
     needs(!walk.scope.is_off, Code::E15, d.span)
 }

@@ -10,9 +10,9 @@ ghost use Rattle.typing_rules.specs.Types.{is_scalar};
 ghost use Rattle.typing_rules.specs.Items.{Written, negative as negative_of, unsigned_constant as unsigned_of, signed_constant as signed_of, cells_with as cells_as};
 ghost use Rattle.checker_scope.specs.Answering.{Answers};
 ghost use Rattle.value_typing.specs.Typed.{typed as typed_view};
-ghost use Rattle.region_typing.specs.Initials.{IsSmall, IsStructOf, judged_as, judged_cells, constant_cells as constant_cells_as, judged as judged_of, stride_at};
+ghost use Rattle.region_typing.specs.Initials.{IsSmall, IsStructOf, judged_as, judged_cells, cell_number as cell_number_as, constant_cells as constant_cells_as, judged as judged_of, stride_at};
 
-use checker_scope::refusals::{needs, refusal};
+use checker_scope::refusals::refusal;
 use checker_scope::types::copied;
 use ckc_core::program::Initial;
 use ckc_text::code::Code;
@@ -111,12 +111,13 @@ fn scalar_cell(
     requires { is_scalar (ctype_of t.now) ≡ true }
     ensures { IfOk result (λ v. map initial_of v.items ≡ cells_as structs.now (ctype_of t.now) number) }
 {
-    let mut cells = Vec::new(alloc);
-    cells.push(Initial {
+    let cell = Initial {
         ctype: copied(alloc, t)?,
         stride: structs.size_of(t),
         number,
-    })?;
+    };
+    let mut cells = Vec::new(alloc);
+    cells.push(cell)?;
     Ok(cells)
 }
 
@@ -163,6 +164,18 @@ fn cells_with(
     }
 }
 
+// What the cells of a type hold by a value, if it may stand for them: the number of a constant, or null.
+fn cell_number(t: &CType, zero: bool, number: Option<i32>) -> Option<i32>
+    ensures { result ≡ cell_number_as (ctype_of t.now) zero number }
+{
+    match t {
+        CType::Int => number,
+        CType::Char => Some(low_byte(number?)),
+        CType::Struct(_) => None,
+        CType::Pointer(..) => { if zero { Some(0) } else { None } }
+    }
+}
+
 // The cells of a variable that is initialised with a value.
 fn constant_cells(
     alloc: Global,
@@ -174,20 +187,9 @@ fn constant_cells(
 ) -> Result<Vec<Initial>, Refused>
     ensures { Answers (λ v. map initial_of v.items) (constant_cells_as structs.now (ctype_of t.now) zero number span) result }
 {
-    match t {
-        CType::Int => match number {
-            None => Err(refusal(Code::E13, span)),
-            Some(n) => Ok(cells_with(alloc, structs, t, n)?),
-        },
-        CType::Char => match number {
-            None => Err(refusal(Code::E13, span)),
-            Some(n) => Ok(cells_with(alloc, structs, t, low_byte(n))?),
-        },
-        CType::Struct(_) => Err(refusal(Code::E13, span)),
-        CType::Pointer(..) => {
-            needs(zero, Code::E13, span)?;
-            Ok(cells_with(alloc, structs, t, 0)?)
-        }
+    match cell_number(t, zero, number) {
+        None => Err(refusal(Code::E13, span)),
+        Some(n) => Ok(cells_with(alloc, structs, t, n)?),
     }
 }
 

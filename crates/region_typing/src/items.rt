@@ -1,6 +1,6 @@
 // What stands at file level.
 
-ghost use Rattle.std.specs.Prelude.{◌≡◌, ◌&&◌, ◌||◌, nat_lt, true, is_some, length, map};
+ghost use Rattle.std.specs.Prelude.{◌≡◌, ◌<◌, ◌&&◌, ◌||◌, nat_lt, true, is_some, None, length, map};
 ghost use Rattle.ckc_text.specs.Places.{place_at};
 ghost use Rattle.ckc_tree.specs.Items.{function as function_tree, item as item_tree};
 ghost use Rattle.typing_rules.specs.Verdicts.{picked};
@@ -8,11 +8,13 @@ ghost use Rattle.typing_rules.specs.Scopes.{function_named};
 ghost use Rattle.typing_rules.specs.Items.{is_trusted as trusted_kind, is_defined as defined_in, is_off as is_off_of, agrees as agrees_of, all_scalar, scalar_result, function as function_of, item as item_of, items as items_of};
 ghost use Rattle.checker_scope.specs.Answering.{Answers};
 ghost use Rattle.checker_scope.specs.Views.{scope as scope_of, signature};
-ghost use Rattle.region_typing.specs.Items.{walk as walk_of, Outside, kept_rules};
+ghost use Rattle.region_typing.specs.Items.{walk as walk_of, Outside, kept_rules, behind_declaration};
+ghost use Rattle.region_typing.specs.Signatures.{declared as declared_view};
 
-use crate::definitions::Listing;
+use crate::definitions::{Listing, defined_names};
 use crate::functions::function_body;
 use crate::globals::global;
+use crate::prototype::Prototype;
 use crate::signatures::{agrees, declare, declared, is_scalar_signature};
 use crate::structures::structure;
 use crate::walk::Walk;
@@ -73,6 +75,26 @@ fn has_room(scope: &Scope, name: &[u8]) -> bool
     scope.function(name).is_some() || scope.functions.len() < MOST_FUNCTIONS
 }
 
+// A function whose declaration is known, where there is room for it.
+fn with_prototype(
+    alloc: Global,
+    sites: &Sites,
+    listing: &Listing,
+    walk: &mut Walk,
+    known: &Prototype,
+    d: &Function,
+) -> Result<(), Refused>
+    requires outside { Outside (scope_of walk.old.scope) }
+    requires room { function_named (scope_of walk.old.scope).functions known.now.signature.name ≡ None → length walk.old.scope.functions.items < 4096 }
+    ensures { Answers (λ _. walk_of walk.new) (behind_declaration (place_at sites.now) (map item_tree listing.now.items.now) (walk_of walk.old) (function_tree d.now) (declared_view known.now)) result }
+{
+    let suits = fits(&walk.scope, &known.signature);
+    declare(alloc, &mut walk.scope, &known.signature)?;
+    let parameters = known.parameters.as_slice();
+    function_body(alloc, sites, walk, &known.signature, parameters, &d.body)?;
+    keep_rules(listing, &walk.scope, d, suits)
+}
+
 // A function.
 fn function(
     alloc: Global,
@@ -90,11 +112,7 @@ fn function(
         d.span,
     )?;
     let known = declared(alloc, &walk.scope, d)?;
-    let suits = fits(&walk.scope, &known.signature);
-    declare(alloc, &mut walk.scope, &known.signature)?;
-    let parameters = known.parameters.as_slice();
-    function_body(alloc, sites, walk, &known.signature, parameters, &d.body)?;
-    keep_rules(listing, &walk.scope, d, suits)
+    with_prototype(alloc, sites, listing, walk, &known, d)
 }
 
 fn is_off(region: Region) -> bool
@@ -150,6 +168,9 @@ pub fn items(alloc: Global, sites: &Sites, walk: &mut Walk, written: &[Item]) ->
     requires { Outside (scope_of walk.old.scope) }
     ensures { Answers (λ _. walk_of walk.new) (items_of (place_at sites.now) (map item_tree written.now) (walk_of walk.old) (map item_tree written.now)) result }
 {
-    let listing = Listing::new(alloc, written)?;
+    let listing = Listing {
+        items: written,
+        defined: defined_names(alloc, written)?,
+    };
     each_item(alloc, sites, &listing, walk)
 }

@@ -135,7 +135,8 @@ pub fn declared(alloc: Global, scope: &Scope, d: &Function) -> Result<Prototype,
     })
 }
 
-fn copied_signature(alloc: Global, f: &Signature) -> Result<Signature, NoMemory>
+/// A copy of a signature.
+pub fn copied_signature(alloc: Global, f: &Signature) -> Result<Signature, NoMemory>
     ensures { IfOk result (λ copy. signature copy ≡ signature f.now) }
 {
     Ok(Signature {

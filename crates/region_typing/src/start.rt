@@ -1,23 +1,26 @@
 // What is known before the first item.
 
-ghost use Rattle.std.specs.Prelude.{◌≡◌};
+ghost use Rattle.std.specs.Prelude.{◌≡◌, IfOk};
 ghost use Rattle.typing_rules.specs.Items.{start};
 ghost use Rattle.region_typing.specs.Items.{walk as walk_of};
 
 use crate::walk::Walk;
 use checker_scope::scope::Scope;
+use ckc_text::fault::NoMemory;
 use std::alloc::Global;
+use value_typing::on_heap::boxed;
 
 impl Walk {
-    /// Nothing known.
-    pub fn new(alloc: Global) -> Walk
-        ensures { walk_of result ≡ start }
+    /// Nothing known, on the heap, so that the many parts are one word to who holds them.
+    pub fn new(alloc: Global) -> Result<Box<Walk>, NoMemory>
+        ensures { IfOk result (λ walk. walk_of walk.value ≡ start) }
     {
-        Walk {
+        let walk = Walk {
             scope: Scope::new(alloc),
             objects: Vec::new(alloc),
             taken: 0,
             bodies: Vec::new(alloc),
-        }
+        };
+        boxed(alloc, walk)
     }
 }

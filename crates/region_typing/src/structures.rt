@@ -45,8 +45,8 @@ fn push_member(
         Code::E08,
         written.type_name.base.span(),
     )?;
-    let name = Name::copied(alloc, written.name.name.as_bytes())?;
     members.reserve(1)?;
+    let name = Name::copied(alloc, written.name.name.as_bytes())?;
     let ctype = type_named(alloc, scope, &written.type_name)?;
     members.push_reserved(Member {
         name,

@@ -10,7 +10,7 @@ pub loop-body-init : goal.loop-body-init
 loop-body-init c =
     let bare = rw c.as_slice.ensures.value at c.in_ok-built.ensures in
     record {
-      so_far = ([], sym (append-nil (map function c.args.bodies.items)), bare);
+      so_far = ([], sym (append-nil (map function c.args.bodies.now.items)), bare);
       all = sym (length-map c.in_ok-built.built.items function) ∙ ap length bare;
     }
 
@@ -18,7 +18,7 @@ pub loop-body-preserved : goal.loop-body-preserved
 loop-body-preserved c =
     let before = c.loop-body.invariant.so_far in
     record {
-      so_far = (_, body_popped (map function c.args.bodies.items) c.loop-body.bodies.items c.pop.new.self.items c.in-Some.body before.0 c.in-Some.ensures.items before.1, c.place.ensures.placed before.0 before.2);
+      so_far = (_, body_popped (map function c.args.bodies.now.items) c.loop-body.bodies.items c.pop.new.self.items c.in-Some.body before.0 c.in-Some.ensures.items before.1, c.place.ensures.placed before.0 before.2);
       all = c.place.ensures.all ∙ c.loop-body.invariant.all;
     }
 

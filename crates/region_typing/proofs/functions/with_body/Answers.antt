@@ -1,4 +1,4 @@
-use Rattle.std.proofs.Common.{map, ap, [], ◌∷◌, ◌++◌, ◌∙◌}
+use Rattle.std.proofs.Common.{map}
 use Rattle.ckc_text.specs.Places.{place_at}
 use Rattle.ckc_tree.specs.Items as trees
 use Rattle.ckc_core.specs.Core.{function}
@@ -6,23 +6,17 @@ use Rattle.checker_scope.specs.Views.{scope, signature, variable}
 use Rattle.checker_scope.proofs.Going.{goes_on, refused}
 use Rattle.region_typing.specs.Items.{walk}
 use Rattle.region_typing.proofs.Bodies.{function_body_parts, bodies_more, scope_kept}
-use Rattle.statement_typing.proofs.Testing.{holds, fails}
+use Rattle.statement_typing.proofs.Testing.{last}
 use Rattle.region_typing.proofs.functions.with_body.Goals as goal
 
 pub returns-in_err-built : goal.returns-in_err-built
 returns-in_err-built c =
     let broken = rw c.as_slice-written.ensures.value at c.in_err-built.ensures in
-    rw (function_body_parts (place_at c.args.sites.now) (walk c.args.walk.now) (signature c.args.f.now) (map variable c.args.parameters.now) (trees.body c.args.body.now)) (refused _ c.from_residual-in_err-built.result c.from_residual-in_err-built.ensures.1 broken)
-
-pub returns-in_err-needs : goal.returns-in_err-needs
-returns-in_err-needs c =
-    let passes = rw c.as_slice-written.ensures.value at c.in_ok-built.ensures in
-    rw (function_body_parts (place_at c.args.sites.now) (walk c.args.walk.now) (signature c.args.f.now) (map variable c.args.parameters.now) (trees.body c.args.body.now))
-    (goes_on _ passes (fails _ _ _ _ _ c.from_residual-in_err-needs.result c.is_checked-checked.ensures c.from_residual-in_err-needs.ensures.1 c.in_err-needs.ensures))
+    rw (function_body_parts (place_at c.args.sites.now) (walk c.args.walk.now) (signature c.args.f.now) (map variable c.args.parameters.now) (trees.body c.args.body.now)) (refused _ c.from_residual.result c.from_residual.ensures.1 broken)
 
 pub returns : goal.returns
 returns c =
     let passes = rw c.as_slice-written.ensures.value at c.in_ok-built.ensures in
     rw (function_body_parts (place_at c.args.sites.now) (walk c.args.walk.now) (signature c.args.f.now) (map variable c.args.parameters.now) (trees.body c.args.body.now))
-    (goes_on _ passes (holds _ _ _ _ _ c.is_checked-checked.ensures c.in_ok-needs.ensures
-    (record { so = bodies_more (walk c.args.walk.now) (scope c.body_of.new.scope) c.args.walk.now.bodies.items c.push_reserved.new.self.items c.in_ok-built.built (scope_kept (place_at c.args.sites.now) (scope c.args.walk.now.scope) (signature c.args.f.now) (map variable c.args.parameters.now) (trees.statement_list c.args.body.now.statements.items) (function c.in_ok-built.built) (scope c.body_of.new.scope) passes.so) (c.push_reserved.ensures.items ∙ ap (λ bs. bs ++ c.in_ok-built.built ∷ []) c.reserve.ensures.items) })))
+    (goes_on _ passes (last _ _ _ _ _ _ c.needs.result c.is_checked-checked.ensures c.needs.ensures
+    (bodies_more (walk c.args.walk.now) (scope c.body_of.new.scope) c.args.walk.now.bodies.items c.push.new.self.items c.in_ok-built.built (scope_kept (place_at c.args.sites.now) (scope c.args.walk.now.scope) (signature c.args.f.now) (map variable c.args.parameters.now) (trees.statement_list c.args.body.now.statements.items) (function c.in_ok-built.built) (scope c.body_of.new.scope) passes.so) c.in_ok-push.ensures.items)))

@@ -16,7 +16,7 @@ loop-d-preserved c =
     let t = ctype c.args.t.now in
     let s = c.args.span in
     record {
-      so_far = part_more (judged_variables at base t s) (variable_step at base t s) (variable_by_step at base t s) declarator c.args.ds.now c.loop-d.d-index c.d-item.result (judged_variables at base t s (map declarator c.args.ds.now) (walk c.args.walk.now, [])) (walk c.loop-d.walk, map judged_variable c.loop-d.walked.items) (walk c.variable.new.walk, map judged_variable c.push.new.self.items) (omega (arith, c.loop-d-test.true)) c.d-item.is c.loop-d.invariant.so_far
+      so_far = part_more (judged_variables at base t s) (variable_step at base t s) (variable_by_step at base t s) declarator c.args.ds.now c.loop-d.d-index c.d-item.result (judged_variables at base t s (map declarator c.args.ds.now) (walk c.args.walk.now, [])) (walk c.loop-d.walk, map (judged_variable t) c.loop-d.walked.items) (walk c.variable.new.walk, map (judged_variable t) c.push.new.self.items) (omega (arith, c.loop-d-test.true)) c.d-item.is c.loop-d.invariant.so_far
           (variable_passes at base t s (declarator c.d-item.result) (walk c.loop-d.walk) (walk c.variable.new.walk) c.loop-d.walked.items c.push.new.self.items c.in_ok-next.next c.in_ok-push.ensures.items c.in_ok-next.ensures.so);
     }
 
@@ -28,8 +28,8 @@ returns-in_err-next c =
     let s = c.args.span in
     let less : c.loop-d.d-index < length c.args.ds.now = omega (arith, c.loop-d-test.true) in
     refused_by c.from_residual.result c.from_residual.ensures.1
-    (λ fault breaks. part_breaks (judged_variables at base t s) (variable_step at base t s) (variable_by_step at base t s) declarator c.args.ds.now c.loop-d.d-index c.d-item.result (judged_variables at base t s (map declarator c.args.ds.now) (walk c.args.walk.now, [])) (walk c.loop-d.walk, map judged_variable c.loop-d.walked.items) fault less c.d-item.is c.loop-d.invariant.so_far
-    (variable_breaks at base t s (declarator c.d-item.result) (walk c.loop-d.walk) (map judged_variable c.loop-d.walked.items) fault breaks))
+    (λ fault breaks. part_breaks (judged_variables at base t s) (variable_step at base t s) (variable_by_step at base t s) declarator c.args.ds.now c.loop-d.d-index c.d-item.result (judged_variables at base t s (map declarator c.args.ds.now) (walk c.args.walk.now, [])) (walk c.loop-d.walk, map (judged_variable t) c.loop-d.walked.items) fault less c.d-item.is c.loop-d.invariant.so_far
+    (variable_breaks at base t s (declarator c.d-item.result) (walk c.loop-d.walk) (map (judged_variable t) c.loop-d.walked.items) fault breaks))
     c.in_err-next.ensures
 
 pub returns : goal.returns
@@ -38,4 +38,4 @@ returns c =
     let base = type_tree c.args.base.now in
     let t = ctype c.args.t.now in
     let s = c.args.span in
-    record { so = parts_done (judged_variables at base t s) (variable_step at base t s) (variable_by_step at base t s) declarator c.args.ds.now c.loop-d.d-index (judged_variables at base t s (map declarator c.args.ds.now) (walk c.args.walk.now, [])) (walk c.loop-d.walk, map judged_variable c.loop-d.walked.items) (omega (arith, c.loop-d-test.false)) c.loop-d.invariant.so_far }
+    record { so = parts_done (judged_variables at base t s) (variable_step at base t s) (variable_by_step at base t s) declarator c.args.ds.now c.loop-d.d-index (judged_variables at base t s (map declarator c.args.ds.now) (walk c.args.walk.now, [])) (walk c.loop-d.walk, map (judged_variable t) c.loop-d.walked.items) (omega (arith, c.loop-d-test.false)) c.loop-d.invariant.so_far }

@@ -6,11 +6,10 @@ use Rattle.ckc_text.specs.declared.code.Code.TheVariants.{E08}
 use Rattle.ckc_tree.specs.Items as trees
 use Rattle.typing_rules.specs.Scopes.{function_named}
 use Rattle.checker_scope.specs.Views.{scope, signature}
-use Rattle.checker_scope.proofs.Going.{goes_on, refused}
+use Rattle.checker_scope.proofs.Going.{refused}
 use Rattle.region_typing.specs.Items.{walk}
 use Rattle.region_typing.specs.Signatures.{declared}
-use Rattle.region_typing.proofs.Bodies.{function_parts, function_walk, kept_last, room_left, declared_name}
-use Rattle.region_typing.proofs.Outside.{declared_outside}
+use Rattle.region_typing.proofs.Bodies.{function_parts, function_walk, room_left, declared_name}
 use Rattle.statement_typing.proofs.Testing.{holds, fails, tested}
 use Rattle.region_typing.proofs.items.function.Goals as goal
 
@@ -25,32 +24,16 @@ returns-in_err-known c =
     rw (function_parts (place_at c.args.sites.now) (map trees.item c.args.listing.now.items.now) (walk c.args.walk.now) (trees.function c.args.d.now)) (holds _ _ _ _ _ room c.in_ok-needs.ensures
     (refused _ c.from_residual-in_err-known.result c.from_residual-in_err-known.ensures.1 c.in_err-known.ensures))
 
-pub declare-requires : goal.declare-requires
-declare-requires c none =
+pub with_prototype-requires-clause-room : goal.with_prototype-requires-clause-room
+with_prototype-requires-clause-room c none =
     let g = scope c.args.walk.now.scope in
     let room = rw c.as_bytes.ensures at c.has_room.ensures in
     let named = declared_name g (trees.function c.args.d.now) (declared c.in_ok-known.known) c.in_ok-known.ensures.so in
     let few = room_left (function_named g.functions c.args.d.now.name.name) (nat_lt (length g.functions) 4096) (sym room ∙ tested _ E08 c.args.d.now.span c.in_ok-needs.ensures) (sym (ap (function_named g.functions) named) ∙ none) in
     rw (← length-map c.args.walk.now.scope.functions.items signature) (ltb-true (length g.functions) 4096 few)
 
-pub function_body-requires-clause-outside : goal.function_body-requires-clause-outside
-function_body-requires-clause-outside c =
-    let g = scope c.args.walk.now.scope in
-    declared_outside (function_named g.functions c.in_ok-known.known.signature.name) (signature c.in_ok-known.known.signature) g (scope c.declare.new.scope) c.in_ok-declare.ensures c.requires
-
-pub returns-in_err-function_body : goal.returns-in_err-function_body
-returns-in_err-function_body c =
-    let room = rw c.as_bytes.ensures at c.has_room.ensures in
-    let broken = rw c.as_slice-parameters.ensures.value at c.in_err-function_body.ensures in
-    rw (function_parts (place_at c.args.sites.now) (map trees.item c.args.listing.now.items.now) (walk c.args.walk.now) (trees.function c.args.d.now)) (holds _ _ _ _ _ room c.in_ok-needs.ensures
-    (function_walk (place_at c.args.sites.now) (map trees.item c.args.listing.now.items.now) (walk c.args.walk.now) (trees.function c.args.d.now) (declared c.in_ok-known.known) (scope c.declare.new.scope) c.in_ok-known.ensures.so c.in_ok-declare.ensures
-    (refused _ c.from_residual-in_err-function_body.result c.from_residual-in_err-function_body.ensures.1 broken)))
-
 pub returns : goal.returns
 returns c =
     let room = rw c.as_bytes.ensures at c.has_room.ensures in
-    let passes = rw c.as_slice-parameters.ensures.value at c.in_ok-function_body.ensures in
-    let judged = rw c.fits-suits.ensures at c.keep_rules.ensures in
     rw (function_parts (place_at c.args.sites.now) (map trees.item c.args.listing.now.items.now) (walk c.args.walk.now) (trees.function c.args.d.now)) (holds _ _ _ _ _ room c.in_ok-needs.ensures
-    (function_walk (place_at c.args.sites.now) (map trees.item c.args.listing.now.items.now) (walk c.args.walk.now) (trees.function c.args.d.now) (declared c.in_ok-known.known) (scope c.declare.new.scope) c.in_ok-known.ensures.so c.in_ok-declare.ensures
-    (goes_on _ passes (kept_last _ _ c.keep_rules.result judged))))
+    (function_walk (place_at c.args.sites.now) (map trees.item c.args.listing.now.items.now) (walk c.args.walk.now) (trees.function c.args.d.now) (declared c.in_ok-known.known) c.in_ok-known.ensures.so c.with_prototype.ensures))

@@ -1,0 +1,29 @@
+use Rattle.std.proofs.Common.{map}
+use Rattle.ckc_text.specs.Places.{place_at}
+use Rattle.ckc_tree.specs.Items as trees
+use Rattle.typing_rules.specs.Scopes.{function_named}
+use Rattle.checker_scope.specs.Views.{scope, signature}
+use Rattle.checker_scope.proofs.Going.{goes_on, refused}
+use Rattle.region_typing.specs.Items.{walk}
+use Rattle.region_typing.specs.Signatures.{declared}
+use Rattle.region_typing.proofs.Bodies.{behind_scope, kept_last}
+use Rattle.region_typing.proofs.Outside.{declared_outside}
+use Rattle.region_typing.proofs.items.with_prototype.Goals as goal
+
+pub function_body-requires-clause-outside : goal.function_body-requires-clause-outside
+function_body-requires-clause-outside c =
+    let g = scope c.args.walk.now.scope in
+    declared_outside (function_named g.functions c.args.known.now.signature.name) (signature c.args.known.now.signature) g (scope c.declare.new.scope) c.in_ok-declare.ensures c.requires.outside
+
+pub returns-in_err-function_body : goal.returns-in_err-function_body
+returns-in_err-function_body c =
+    let broken = rw c.as_slice-parameters.ensures.value at c.in_err-function_body.ensures in
+    behind_scope (place_at c.args.sites.now) (map trees.item c.args.listing.now.items.now) (walk c.args.walk.now) (trees.function c.args.d.now) (declared c.args.known.now) (scope c.declare.new.scope) c.in_ok-declare.ensures
+    (refused _ c.from_residual-in_err-function_body.result c.from_residual-in_err-function_body.ensures.1 broken)
+
+pub returns : goal.returns
+returns c =
+    let passes = rw c.as_slice-parameters.ensures.value at c.in_ok-function_body.ensures in
+    let judged = rw c.fits-suits.ensures at c.keep_rules.ensures in
+    behind_scope (place_at c.args.sites.now) (map trees.item c.args.listing.now.items.now) (walk c.args.walk.now) (trees.function c.args.d.now) (declared c.args.known.now) (scope c.declare.new.scope) c.in_ok-declare.ensures
+    (goes_on _ passes (kept_last _ _ c.keep_rules.result judged))
