@@ -1,6 +1,10 @@
 -- The graph of facts: nodes are zero and the variables, and a fact is an edge from its right to its left.
 use Rattle.std.specs.Prelude.{ℕ, suc, ◌^◌, ◌<◌, ℤ, pos, neg_ℤ, ◌≤ℤ◌, Option, None, Some, List, slice_index_or}
-use Rattle.subsumption.specs.declared.fact.Fact.{Fact}
+use Rattle.difference_constraints.specs.declared.fact.Fact.{Fact}
+
+-- the fact that the one is at most the other plus a constant
+abbrev pub fact_at : Option ℕ → Option ℕ → ℤ → Fact
+fact_at left right plus = record { left = left; right = right; plus = plus }
 
 -- the number of a node
 abbrev pub node_of : Option ℕ → ℕ

@@ -1,8 +1,8 @@
 -- Facts without a variable: each that puts the variable below something joins each that puts something below it.
 use Rattle.std.specs.Prelude.{ℕ, ◌+ℤ◌, Bool, true, false, None, List, [], ◌∷◌, ◌++◌}
-use Rattle.subsumption.specs.declared.fact.Fact.{Fact}
-use Rattle.subsumption.specs.Facts.{fact_at}
-use Rattle.subsumption.specs.Tables.{is_variable}
+use Rattle.difference_constraints.specs.declared.fact.Fact.{Fact}
+use Rattle.difference_constraints.specs.Graphs.{fact_at}
+use Rattle.difference_constraints.specs.Shifts.{is_variable}
 
 -- two facts put together, where the second has the variable on its right alone
 abbrev pub pair_by : Bool → Bool → Fact → Fact → List Fact
