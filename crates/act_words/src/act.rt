@@ -4,6 +4,7 @@ ghost use Rattle.std.specs.Prelude.{◌≤◌, length};
 
 use crate::octets::Octets;
 use crate::words::Words;
+use input_numbers::numbers::is_byte_count;
 
 /// Whose turn it is.
 #[derive(Clone, Copy, PartialEq, Eq)]
@@ -27,7 +28,7 @@ impl ByteCount {
         ensures fits { IsSome result ↔ ((1 ≤ number) × (number ≤ 64)) }
         ensures number { IfSome result (λ count. count.number ≡ number) }
     {
-        if 1 <= number && number <= 64 {
+        if is_byte_count(number) {
             Some(ByteCount { number })
         } else {
             None

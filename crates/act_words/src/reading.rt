@@ -11,6 +11,7 @@ use crate::form::{Form, count_of_form, form_of};
 use crate::words::Words;
 use ckc_text::code::Code;
 use hex::FromHexError;
+use input_numbers::numbers::word_from;
 use serde_json::{Number, Value};
 use std::alloc::{AllocFailed, Global};
 use thiserror::Error;
@@ -106,8 +107,8 @@ fn word_of(number: Number) -> Option<u32>
     ensures { result ≡ word_of (number_view number) }
 {
     match number.as_u64() {
-        Some(n) if n <= u32::MAX as u64 => Some(n as u32),
-        _ => None,
+        Some(n) => word_from(n),
+        None => None,
     }
 }
 

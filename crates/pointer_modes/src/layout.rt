@@ -2,10 +2,11 @@
 
 ghost use Rattle.std.specs.Prelude.{◌≡◌, ◌*◌, ◌<◌, ◌≤◌, length, map, slice_index};
 ghost use Rattle.pointer_modes.specs.Types.{ctype, member};
-ghost use Rattle.pointer_modes.specs.Layout.{IsWidth, aligned_up, scalar_size, member_sizes, end_from, largest_of, cells_of, size_of};
+ghost use Rattle.pointer_modes.specs.Layout.{IsWidth, scalar_size, member_sizes, end_from, largest_of, cells_of, size_of};
 
 use crate::ctype::{CType, Member};
 use crate::structs::Structs;
+use size_arithmetic::places::{aligned_up, end_behind, padded_size};
 
 impl Structs {
     /// How many scalar cells a type has. A struct has one for each of its members.
@@ -29,7 +30,7 @@ impl Structs {
             CType::Int | CType::Char | CType::Pointer(..) => scalar_size(t),
             CType::Struct(number) => {
                 let members = self.members(*number);
-                aligned_up(largest_of(members), end_of(members))
+                padded_size(largest_of(members), end_of(members))
             }
         }
     }
@@ -61,15 +62,6 @@ fn scalar_size(t: &CType) -> u32
     }
 }
 
-/// The least multiple of an alignment from a place on.
-fn aligned_up(alignment: u32, place: u32) -> u32
-    requires width { IsWidth alignment }
-    requires small { place ≤ 256 }
-    ensures { result ≡ aligned_up alignment place }
-{
-    place.div_ceil(alignment) * alignment
-}
-
 /// The place behind the cells of members.
 fn end_of(members: &[Member]) -> u32
     requires { length members.now ≤ 64 }
@@ -78,8 +70,7 @@ fn end_of(members: &[Member]) -> u32
 {
     let mut place = 0;
     for member in members {
-        let size = scalar_size(&member.ctype);
-        place = aligned_up(size, place) + size;
+        place = end_behind(scalar_size(&member.ctype), place);
     }
     place
 }

@@ -6,12 +6,12 @@ use Rattle.std.proofs.lemmas.List.{length_push}
 use Rattle.std.proofs.lemmas.List.Elements.{All-push, All-contains, Contains-append_left, Contains-append_right}
 use Rattle.std.specs.Int.Signed.{le_z}
 use Rattle.std.specs.List.{All, Contains}
-use Rattle.subsumption.specs.declared.fact.Fact.{Fact}
+use Rattle.difference_constraints.specs.declared.fact.Fact.{Fact}
+use Rattle.difference_constraints.specs.Graphs.{node_of, at, IsEdge}
 use Rattle.subsumption.specs.Closures.{at_index}
 use Rattle.subsumption.specs.Facts.{HoldsBy}
 use Rattle.subsumption.specs.Models.{AreEdges, IsContradiction}
 use Rattle.subsumption.specs.Relaxation.{last_of, IsStep, IsRelaxed, AreNamed, with_last}
-use Rattle.subsumption.specs.Search.{node_of, at, IsEdge}
 use Rattle.subsumption.proofs.Closures.{node_of-at_index}
 use Rattle.subsumption.proofs.Lists.{node_same, le_from, lt_of}
 use Rattle.subsumption.proofs.Gaps.{gap}

@@ -6,10 +6,11 @@ use Rattle.std.proofs.lemmas.Bool.Decides.{nat_tests}
 use Rattle.std.proofs.lemmas.List.Elements.{All-push, All-append, All-contains_itself, Contains-append_left, Contains-append_right}
 use Rattle.std.specs.Int.Signed.{le_z}
 use Rattle.std.specs.List.{All, Contains}
-use Rattle.subsumption.specs.declared.fact.Fact.{Fact}
-use Rattle.subsumption.specs.Facts.{Holds, Entails, fact_at}
-use Rattle.subsumption.specs.Search.{node_of, distance}
-use Rattle.subsumption.specs.Closures.{BothEntail, longer_of, IsLeastOf, at_index, entry_of, IsOfRow, AddsRow}
+use Rattle.difference_constraints.specs.declared.fact.Fact.{Fact}
+use Rattle.difference_constraints.specs.Graphs.{fact_at, node_of, distance}
+use Rattle.difference_constraints.specs.Distances.{longer_of}
+use Rattle.subsumption.specs.Facts.{Holds, Entails}
+use Rattle.subsumption.specs.Closures.{BothEntail, IsLeastOf, at_index, entry_of, IsOfRow, AddsRow}
 use Rattle.subsumption.proofs.Lists.{le_from, lt_of}
 
 pub node_of-at_index : (i : ℕ) → node_of (at_index i) ≡ i

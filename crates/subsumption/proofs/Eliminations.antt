@@ -1,19 +1,19 @@
 -- Facts without a variable entail just what follows without it.
-use Rattle.std.proofs.Common.{ℕ, ◌<◌, ◌≤◌, ◌+◌, ◌≡◌, ◌≢◌, ℤ, pos, ◌+ℤ◌, ◌-ℤ◌, ◌≤ℤ◌, ◌<ℤ◌, Bool, true, false, cond, ◌==◌, Option, None, Some, List, [], ◌∷◌, ◌++◌, length, take, get_or, refl, sym, ◌∙◌, ap, subst, arith, append-nil}
+use Rattle.std.proofs.Common.{ℕ, ◌<◌, ◌≤◌, ◌+◌, ◌≡◌, ◌≢◌, ℤ, pos, ◌+ℤ◌, ◌-ℤ◌, ◌≤ℤ◌, ◌<ℤ◌, Bool, true, false, cond, ◌==◌, Option, None, Some, List, [], ◌∷◌, ◌++◌, get_or, refl, ap, subst, arith}
 use Rattle.std.proofs.lemmas.Int.{ints}
 use Rattle.std.proofs.lemmas.Bool.Decides.{nat_tests}
-use Rattle.std.proofs.lemmas.List.{append_assoc, take_more}
 use Rattle.std.proofs.lemmas.List.Elements.{All-from_recursion, recursion_from_All}
 use Rattle.std.specs.Prelude.{◌↔◌}
 use Rattle.std.specs.Int.Signed.{le_z}
 use Rattle.std.specs.List.{All, AllByRecursion as ByRecursion}
-use Rattle.subsumption.specs.declared.fact.Fact.{Fact}
+use Rattle.difference_constraints.specs.declared.fact.Fact.{Fact}
+use Rattle.difference_constraints.specs.Graphs.{IsEdge}
+use Rattle.difference_constraints.specs.Shifts.{is_variable}
+use Rattle.difference_constraints.specs.Eliminations.{pair_by, pair_of, pairs_of, entry_by, entry_of, entries_of}
 use Rattle.subsumption.specs.Facts.{value_of, Holds, Entails, Leaves}
-use Rattle.subsumption.specs.Search.{IsEdge}
 use Rattle.subsumption.specs.Models.{AreEdges}
 use Rattle.subsumption.specs.Closures.{IsKept}
-use Rattle.subsumption.specs.Tables.{is_variable, IsWithout, FollowsWithout}
-use Rattle.subsumption.specs.Eliminations.{pair_by, pair_of, pairs_of, entry_by, entry_of, entries_of}
+use Rattle.subsumption.specs.Tables.{IsWithout, FollowsWithout}
 use Rattle.subsumption.proofs.Lists.{le_from, lt_of, front_by_recursion, back_by_recursion}
 use Rattle.subsumption.proofs.Settling.{leaves_same}
 
@@ -28,25 +28,6 @@ variable_is x (Some y) e = let same : y ≡ x = grind (arith, nat_tests) in ap S
 variable_not : (x : ℕ) (o : Option ℕ) → is_variable x o ≡ false → o ≢ Some x
 variable_not x None e h = cc
 variable_not x (Some y) e h = (let same : y ≡ x = cc in let t : (y == x) ≡ true = grind (arith, nat_tests) in cc)
-
--- the loops of the code
-pairs_more : (x : ℕ) (f : Fact) (xs : List Fact) (g : Fact) → pairs_of x f (xs ++ g ∷ []) ≡ pairs_of x f xs ++ pair_of x f g
-pairs_more x f [] g = append-nil (pair_of x f g)
-pairs_more x f (h ∷ xs) g = ap (λ ys. pair_of x f h ++ ys) (pairs_more x f xs g) ∙ sym (append_assoc (pair_of x f h) (pairs_of x f xs) (pair_of x f g))
-
-entries_more : (x : ℕ) (F xs : List Fact) (g : Fact) → entries_of x F (xs ++ g ∷ []) ≡ entries_of x F xs ++ entry_of x F g
-entries_more x F [] g = append-nil (entry_of x F g)
-entries_more x F (h ∷ xs) g = ap (λ ys. entry_of x F h ++ ys) (entries_more x F xs g) ∙ sym (append_assoc (entry_of x F h) (entries_of x F xs) (entry_of x F g))
-
-pub pairs_take : (x : ℕ) (f : Fact) (F : List Fact) (i : ℕ) (d : Fact) (before : List Fact) → i < length F
-    → before ++ pairs_of x f (take i F) ++ pair_of x f (get_or F i d) ≡ before ++ pairs_of x f (take (i + 1) F)
-pairs_take x f F i d before lt =
-    append_assoc before (pairs_of x f (take i F)) (pair_of x f (get_or F i d))
-    ∙ ap (λ ys. before ++ ys) (sym (pairs_more x f (take i F) (get_or F i d)) ∙ ap (pairs_of x f) (sym (take_more F i d lt)))
-
-pub entries_take : (x : ℕ) (F : List Fact) (i : ℕ) (d : Fact) → i < length F
-    → entries_of x F (take i F) ++ entry_of x F (get_or F i d) ≡ entries_of x F (take (i + 1) F)
-entries_take x F i d lt = sym (entries_more x F (take i F) (get_or F i d)) ∙ ap (entries_of x F) (sym (take_more F i d lt))
 
 -- numbers that meet the facts meet what becomes of them
 pair_sound : (v : ℕ → ℤ) (x : ℕ) (f g : Fact) (p q : Bool) → is_variable x g.right ≡ q → f.left ≡ Some x → Holds v f → Holds v g

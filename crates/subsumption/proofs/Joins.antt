@@ -1,7 +1,7 @@
 -- A join with facts that nothing meets.
 use Rattle.std.proofs.Common.{ℕ, ◌+◌, ◌≤◌, List, arith}
 use Rattle.std.specs.List.{All}
-use Rattle.subsumption.specs.declared.fact.Fact.{Fact}
+use Rattle.difference_constraints.specs.declared.fact.Fact.{Fact}
 use Rattle.subsumption.specs.Facts.{value_of, Entails, Leaves}
 use Rattle.subsumption.specs.Models.{AreEdges, IsContradiction}
 use Rattle.subsumption.specs.Closures.{BothEntail, IsKept}

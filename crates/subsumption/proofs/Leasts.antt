@@ -7,15 +7,15 @@ use Rattle.std.proofs.Math.ListN.{get_or-map}
 use Rattle.std.proofs.lemmas.List.Elements.{All-contains}
 use Rattle.std.specs.Int.Signed.{lt_z}
 use Rattle.std.specs.List.{All}
-use Rattle.subsumption.specs.declared.fact.Fact.{Fact}
+use Rattle.difference_constraints.specs.declared.fact.Fact.{Fact}
+use Rattle.difference_constraints.specs.Graphs.{fact_at, node_of, at, distance, IsEdge, IsWithin}
 use Rattle.subsumption.specs.declared.relaxation.Outcome.{Outcome}
 use Rattle.subsumption.specs.declared.relaxation.Outcome.TheVariants.{Settled, Contradictory}
 use Rattle.subsumption.specs.declared.relaxation.Search.{Search}
 use Rattle.subsumption.specs.Closures.{IsLeastOf, AreLeast, reached_of}
-use Rattle.subsumption.specs.Facts.{value_of, HoldsBy, Entails, fact_at}
+use Rattle.subsumption.specs.Facts.{value_of, HoldsBy, Entails}
 use Rattle.subsumption.specs.Models.{AreEdges, CanBeMet, IsContradiction}
 use Rattle.subsumption.specs.Relaxation.{last_of, IsSettled, ShowsSearch}
-use Rattle.subsumption.specs.Search.{node_of, at, distance, IsEdge, IsWithin}
 use Rattle.subsumption.proofs.Gaps.{lt_from, lt_not}
 use Rattle.subsumption.proofs.Lists.{met_among}
 use Rattle.subsumption.proofs.Paths.{link_of}

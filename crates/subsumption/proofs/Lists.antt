@@ -1,14 +1,14 @@
 -- Lists, nodes and comparisons.
-use Rattle.std.proofs.Common.{ℕ, ◌+◌, ◌<◌, ◌≡◌, ℤ, pos, ◌≤ℤ◌, ◌<ℤ◌, true, false, Option, None, Some, List, [], ◌∷◌, ◌++◌, length, get_or, map, take, refl, sym, ◌∙◌, ap, arith, inl, inr}
+use Rattle.std.proofs.Common.{ℕ, ◌+◌, ◌<◌, ◌≡◌, ℤ, pos, ◌≤ℤ◌, ◌<ℤ◌, true, false, Option, None, Some, List, [], ◌∷◌, ◌++◌, length, get_or, refl, sym, ◌∙◌, ap, arith, inl, inr}
 use Rattle.std.proofs.lemmas.Int.{ints}
 use Rattle.std.proofs.lemmas.List.Elements.{All-from_recursion, recursion_from_All, All-contains}
 use Rattle.std.proofs.lemmas.Bool.{cases_eq}
-use Rattle.std.proofs.lemmas.List.{get_or_push, get_or_append_left, length_push, take_more, map-append}
+use Rattle.std.proofs.lemmas.List.{get_or_push, get_or_append_left, length_push}
 use Rattle.std.specs.Int.Signed.{le_z}
 use Rattle.std.specs.List.{All, Contains, AllByRecursion as ByRecursion}
-use Rattle.subsumption.specs.declared.fact.Fact.{Fact}
+use Rattle.difference_constraints.specs.declared.fact.Fact.{Fact}
+use Rattle.difference_constraints.specs.Graphs.{node_of}
 use Rattle.subsumption.specs.Facts.{HoldsBy}
-use Rattle.subsumption.specs.Search.{node_of}
 
 pub front_by_recursion : {X : Type 0} (P : X → Type 0) (xs ys : List X) → ByRecursion P (xs ++ ys) → ByRecursion P xs
 front_by_recursion P [] ys h = tt
@@ -50,7 +50,3 @@ push_each xs i F v size each here = (
 
 pub met_among : (a : Option ℕ → ℤ) (F T : List Fact) → All (Contains F) T → All (HoldsBy a) F → All (HoldsBy a) T
 met_among a F T among met i d lt = All-contains (HoldsBy a) F (get_or T i d) met (among i d lt)
-
--- what is made of one more
-pub map_take : {X Y : Type 0} (f : X → Y) (xs : List X) (i : ℕ) (d : X) → i < length xs → map f (take i xs) ++ f (get_or xs i d) ∷ [] ≡ map f (take (i + 1) xs)
-map_take f xs i d less = sym (ap (map f) (take_more xs i d less) ∙ map-append f (take i xs) (get_or xs i d ∷ []))

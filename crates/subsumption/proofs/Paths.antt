@@ -4,13 +4,13 @@ use Rattle.std.proofs.lemmas.Int.{ints}
 use Rattle.std.proofs.lemmas.List.{length_push}
 use Rattle.std.proofs.lemmas.List.Elements.{All-push, All-contains}
 use Rattle.std.specs.List.{All, Contains}
-use Rattle.subsumption.specs.declared.fact.Fact.{Fact}
+use Rattle.difference_constraints.specs.declared.fact.Fact.{Fact}
+use Rattle.difference_constraints.specs.Graphs.{node_of, at, IsEdge}
 use Rattle.subsumption.specs.declared.relaxation.Outcome.{Outcome}
 use Rattle.subsumption.specs.declared.relaxation.Outcome.TheVariants.{Contradictory}
 use Rattle.subsumption.specs.Facts.{value_of, numbers_of, HoldsBy, Holds, Meets, Entails}
 use Rattle.subsumption.specs.Models.{AreEdges, IsContradiction}
 use Rattle.subsumption.specs.Relaxation.{far_away, last_of, IsStep, IsSettled, IsLink, AreLinked, LeadsFrom, IsPath, AreCounted, ShowsSearch}
-use Rattle.subsumption.specs.Search.{node_of, at, IsEdge}
 use Rattle.subsumption.proofs.Lists.{All_front, All_last}
 
 -- where all facts are met, the right of the fact that lowered a node last fell last in a round before

@@ -4,9 +4,9 @@ use Rattle.std.proofs.lemmas.Bool.{cases_eq}
 use Rattle.std.proofs.lemmas.List.{get_or_default, take_more, take_all}
 use Rattle.std.proofs.lemmas.List.Elements.{All-push, All-contains, All-contains_itself, Contains-append_left, Contains-append_right}
 use Rattle.std.specs.List.{All, Contains}
-use Rattle.subsumption.specs.declared.fact.Fact.{Fact}
+use Rattle.difference_constraints.specs.declared.fact.Fact.{Fact}
+use Rattle.difference_constraints.specs.Graphs.{IsEdge}
 use Rattle.subsumption.specs.Facts.{Holds, Meets, Entails, Leaves}
-use Rattle.subsumption.specs.Search.{IsEdge}
 use Rattle.subsumption.specs.Models.{AreEdges}
 use Rattle.subsumption.specs.Settling.{Keeps, IsPruned, IsPrunedTo, Spares, AreSpared, AreSparedTo}
 use Rattle.subsumption.proofs.Lists.{All_front, All_last}

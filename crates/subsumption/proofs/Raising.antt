@@ -3,9 +3,9 @@ use Rattle.std.proofs.Common.{ℕ, zero, suc, ◌*◌, ◌<◌, ◌≡◌, ℤ, 
 use Rattle.std.proofs.lemmas.Int.{ints}
 use Rattle.std.proofs.Math.Nat.{suc-mul, zero-mul}
 use Rattle.std.specs.Int.Signed.{le_z}
-use Rattle.subsumption.specs.declared.fact.Fact.{Fact}
+use Rattle.difference_constraints.specs.declared.fact.Fact.{Fact}
+use Rattle.difference_constraints.specs.Graphs.{node_of, IsWithin}
 use Rattle.subsumption.specs.Facts.{HoldsBy}
-use Rattle.subsumption.specs.Search.{node_of, IsWithin}
 use Rattle.subsumption.proofs.Lists.{le_from, lt_of}
 use Rattle.subsumption.proofs.Gaps.{climbed}
 

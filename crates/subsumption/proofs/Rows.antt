@@ -6,11 +6,12 @@ use Rattle.std.proofs.lemmas.Bool.Decides.{nat_tests}
 use Rattle.std.proofs.lemmas.List.Elements.{All-contains}
 use Rattle.std.specs.Prelude.{unsigned_abs, option_map}
 use Rattle.std.specs.List.{Contains, list_all}
-use Rattle.subsumption.specs.declared.fact.Fact.{Fact}
-use Rattle.subsumption.specs.Facts.{value_of, HoldsBy, Holds, Entails, fact_at, IsLeastConstant, IsWide, IsBelow}
+use Rattle.difference_constraints.specs.declared.fact.Fact.{Fact}
+use Rattle.difference_constraints.specs.Graphs.{fact_at, node_of, distance, IsWithin}
+use Rattle.difference_constraints.specs.Distances.{AreLonger, is_near}
+use Rattle.subsumption.specs.Facts.{value_of, HoldsBy, Holds, Entails, IsLeastConstant, IsWide, IsBelow}
 use Rattle.subsumption.specs.Models.{CanBeMet}
-use Rattle.subsumption.specs.Search.{node_of, distance, IsWithin}
-use Rattle.subsumption.specs.Closures.{BothEntail, AreLeast, AreLonger, IsLeastOf, IsRowOf, ShowsRow, is_near, at_index, IsOfRow, AddsRow, IsKept, IsRow, AreRows}
+use Rattle.subsumption.specs.Closures.{BothEntail, AreLeast, IsLeastOf, IsRowOf, ShowsRow, at_index, IsOfRow, AddsRow, IsKept, IsRow, AreRows}
 use Rattle.subsumption.proofs.Lists.{node_same, met_among}
 use Rattle.subsumption.proofs.Closures.{both_least, both_weaker, node_of-at_index}
 use Rattle.subsumption.proofs.Valuations.{entails_by}

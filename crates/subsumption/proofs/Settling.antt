@@ -5,9 +5,9 @@ use Rattle.std.proofs.lemmas.Bool.Decides.{nat_tests}
 use Rattle.std.specs.Prelude.{unsigned_abs, option_map, ◌↔◌}
 use Rattle.std.specs.Int.Signed.{le_z}
 use Rattle.std.specs.List.{All, list_all}
-use Rattle.subsumption.specs.declared.fact.Fact.{Fact}
-use Rattle.subsumption.specs.Facts.{value_of, HoldsBy, Holds, Entails, fact_at, IsWide, IsAbout, IsBelow, Leaves}
-use Rattle.subsumption.specs.Search.{node_of, IsWithin, IsEdge}
+use Rattle.difference_constraints.specs.declared.fact.Fact.{Fact}
+use Rattle.difference_constraints.specs.Graphs.{fact_at, node_of, IsWithin, IsEdge}
+use Rattle.subsumption.specs.Facts.{value_of, HoldsBy, Holds, Entails, IsWide, IsAbout, IsBelow, Leaves}
 use Rattle.subsumption.specs.Models.{AreEdges, IsContradiction}
 use Rattle.subsumption.specs.Closures.{BothEntail, at_index, IsKept, AreRows, ShowsClosure}
 use Rattle.subsumption.specs.Settling.{is_modest}

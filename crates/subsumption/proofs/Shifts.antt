@@ -4,12 +4,12 @@ use Rattle.std.proofs.lemmas.Int.{ints}
 use Rattle.std.proofs.lemmas.List.Elements.{All-from_recursion, recursion_from_All}
 use Rattle.std.specs.Prelude.{neg_ℤ, ◌↔◌}
 use Rattle.std.specs.List.{All, AllByRecursion as ByRecursion}
-use Rattle.subsumption.specs.declared.fact.Fact.{Fact}
+use Rattle.difference_constraints.specs.declared.fact.Fact.{Fact}
+use Rattle.difference_constraints.specs.Graphs.{IsWithin, IsEdge}
+use Rattle.difference_constraints.specs.Shifts.{is_variable, moved}
 use Rattle.subsumption.specs.Facts.{value_of, Holds, Entails, Leaves}
-use Rattle.subsumption.specs.Search.{IsWithin, IsEdge}
 use Rattle.subsumption.specs.Models.{AreEdges}
 use Rattle.subsumption.specs.Closures.{IsKept}
-use Rattle.subsumption.specs.Tables.{is_variable, moved}
 use Rattle.subsumption.proofs.Settling.{leaves_same}
 
 -- what the shift adds to a node

@@ -2,7 +2,7 @@
 use Rattle.std.proofs.Common.{ℕ, ◌≡◌, ℤ, ◌-ℤ◌, Option, None, Some, List, get_or, refl, arith}
 use Rattle.std.proofs.lemmas.Int.{ints}
 use Rattle.std.specs.List.{All}
-use Rattle.subsumption.specs.declared.fact.Fact.{Fact}
+use Rattle.difference_constraints.specs.declared.fact.Fact.{Fact}
 use Rattle.subsumption.specs.Facts.{value_of, HoldsBy, Holds, Entails}
 
 -- the numbers of variables, counted from zero

@@ -1,30 +1,15 @@
 -- The least constants for all pairs, of what two lists of facts both entail.
-use Rattle.std.specs.Prelude.{ℕ, ◌+◌, ◌^◌, ◌<◌, ◌≤◌, ◌≡◌, ◌≢◌, ◌⊎◌, ℤ, pos, unsigned_abs, ◌≤ℤ◌, Bool, true, cond, nat_le, Option, None, Some, List, [], ◌∷◌, ◌==◌, zero, suc, length, slice_index_or}
-use Rattle.std.specs.Int.Signed.{le_z, lt_z}
+use Rattle.std.specs.Prelude.{ℕ, ◌+◌, ◌^◌, ◌<◌, ◌≤◌, ◌≡◌, ◌≢◌, ◌⊎◌, ℤ, pos, unsigned_abs, ◌≤ℤ◌, true, cond, Option, None, Some, List, [], ◌∷◌, ◌==◌, zero, suc, length}
+use Rattle.std.specs.Int.Signed.{lt_z}
 use Rattle.std.specs.List.{All, Contains, list_all}
-use Rattle.subsumption.specs.declared.fact.Fact.{Fact}
-use Rattle.subsumption.specs.Facts.{Entails, fact_at, IsLeastConstant, IsWide}
-use Rattle.subsumption.specs.Search.{node_of, distance, IsWithin}
+use Rattle.difference_constraints.specs.declared.fact.Fact.{Fact}
+use Rattle.difference_constraints.specs.Graphs.{fact_at, node_of, distance, IsWithin}
+use Rattle.difference_constraints.specs.Distances.{is_near}
+use Rattle.subsumption.specs.Facts.{Entails, IsLeastConstant, IsWide}
 
 -- both entail it
 abbrev pub BothEntail : List Fact → List Fact → Fact → Type 0
 BothEntail first second goal = Entails first goal × Entails second goal
-
--- the longer of two distances, where there are both
-abbrev pub longer_of : Option ℤ → Option ℤ → Option ℤ
-longer_of None e = None
-longer_of (Some d) None = None
-longer_of (Some d) (Some e) = Some (cond (le_z d e) e d)
-
--- the longer distance of each node
-pub record AreLonger (first second both : List (Option ℤ)) : Type 0 where
-  pub size : length both ≡ length first
-  pub each : (i : ℕ) → i < length first → slice_index_or both i None ≡ longer_of (slice_index_or first i None) (slice_index_or second i None)
-
--- the distance isn't outside -2^100 to 2^100
-abbrev pub is_near : Option ℤ → Bool
-is_near None = true
-is_near (Some d) = nat_le (unsigned_abs d) (2 ^ 100)
 
 -- the node with a number
 abbrev pub at_index : ℕ → Option ℕ

@@ -2,7 +2,8 @@
 use Rattle.std.specs.Prelude.{ℕ, ◌+◌, ◌^◌, ◌<◌, ◌≤◌, ◌≡◌, ◌↔◌, ℤ, pos, negsuc, unsigned_abs, ◌+ℤ◌, ◌-ℤ◌, ◌≤ℤ◌, Option, None, Some, List, [], length, slice_index_or}
 use Rattle.std.specs.List.{All, Contains}
 use Rattle.bounds_exprs.specs.declared.term.Term.{Term}
-use Rattle.subsumption.specs.declared.fact.Fact.{Fact}
+use Rattle.difference_constraints.specs.declared.fact.Fact.{Fact}
+use Rattle.difference_constraints.specs.Graphs.{fact_at}
 use Rattle.subsumption.specs.declared.fact.Answer.{Answer}
 use Rattle.subsumption.specs.declared.fact.Answer.TheVariants.{Yes, No}
 
@@ -58,10 +59,6 @@ IsBelow vars (Some x) = x < vars
 pub record IsAbout (vars : ℕ) (f : Fact) : Type 0 where
   pub left : IsBelow vars f.left
   pub right : IsBelow vars f.right
-
--- the fact that the one is at most the other plus a constant
-abbrev pub fact_at : Option ℕ → Option ℕ → ℤ → Fact
-fact_at left right plus = record { left = left; right = right; plus = plus }
 
 -- of the facts that are entailed, the one with the least constant for these two
 pub record IsLeastConstant (entailed : Fact → Type 0) (left right : Option ℕ) (plus : ℤ) : Type 0 where

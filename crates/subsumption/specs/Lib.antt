@@ -1,8 +1,6 @@
 pub mod Facts
-pub mod Search
 pub mod Models
 pub mod Relaxation
 pub mod Closures
 pub mod Settling
 pub mod Tables
-pub mod Eliminations

@@ -1,9 +1,9 @@
 -- Whether facts can be met.
 use Rattle.std.specs.Prelude.{ℕ, ◌<◌, ◌≤◌, ℤ, Option, List, length}
 use Rattle.std.specs.List.{All, Contains}
-use Rattle.subsumption.specs.declared.fact.Fact.{Fact}
+use Rattle.difference_constraints.specs.declared.fact.Fact.{Fact}
+use Rattle.difference_constraints.specs.Graphs.{IsEdge}
 use Rattle.subsumption.specs.Facts.{HoldsBy}
-use Rattle.subsumption.specs.Search.{IsEdge}
 
 -- a graph of n nodes
 pub record AreEdges (n : ℕ) (facts : List Fact) : Type 0 where

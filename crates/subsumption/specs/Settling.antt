@@ -1,7 +1,7 @@
 -- Facts whose constants are so small that no least constant is too large.
 use Rattle.std.specs.Prelude.{ℕ, ◌+◌, ◌^◌, ◌<◌, ◌≤◌, ◌≡◌, ◌⊎◌, ℤ, Bool, List, length, take, slice_index_or, nat_le, unsigned_abs}
 use Rattle.std.specs.List.{All, Contains}
-use Rattle.subsumption.specs.declared.fact.Fact.{Fact}
+use Rattle.difference_constraints.specs.declared.fact.Fact.{Fact}
 use Rattle.subsumption.specs.Facts.{Holds, Meets}
 
 -- the constant isn't outside -2^87 to 2^87

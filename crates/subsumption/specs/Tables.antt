@@ -1,8 +1,8 @@
 -- What a table of facts is seen as, and what its calls do.
-use Rattle.std.specs.Prelude.{ℕ, ◌+◌, ◌≤◌, ◌≡◌, ◌≢◌, ℤ, pos, ◌+ℤ◌, ◌-ℤ◌, Bool, cond, ◌==◌, false, Option, None, Some, List, length}
+use Rattle.std.specs.Prelude.{ℕ, ◌+◌, ◌≤◌, ◌≡◌, ◌≢◌, ℤ, Some, List, length}
 use Rattle.std.specs.List.{All, Contains}
 use Rattle.bounds_exprs.specs.declared.term.Term.{Term}
-use Rattle.subsumption.specs.declared.fact.Fact.{Fact}
+use Rattle.difference_constraints.specs.declared.fact.Fact.{Fact}
 use Rattle.subsumption.specs.declared.fact.Answer.{Answer}
 use Rattle.subsumption.specs.declared.fact.Answer.TheVariants.{Yes, No}
 use Rattle.subsumption.specs.Facts.{Meets, Entails, Holds, TermsHold, numbers_of, Leaves}
@@ -22,15 +22,6 @@ AnswersTerms table a b (No valuation) = Meets (numbers_of valuation.values.items
 pub record Becomes (before : Table) (entailed : Fact → Type 0) (after : Table) : Type 0 where
   pub vars : after.vars ≡ before.vars
   pub facts : Leaves before.vars entailed after.facts
-
--- whether the variable is this one
-abbrev pub is_variable : ℕ → Option ℕ → Bool
-is_variable x None = false
-is_variable x (Some y) = y == x
-
--- the fact with x + c put for x
-abbrev pub moved : ℕ → ℤ → Fact → Fact
-moved x c f = record { left = f.left; right = f.right; plus = f.plus +ℤ (cond (is_variable x f.right) c (pos 0) -ℤ cond (is_variable x f.left) c (pos 0)) }
 
 -- the fact doesn't name x
 pub record IsWithout (x : ℕ) (f : Fact) : Type 0 where

@@ -1,18 +1,15 @@
 // The least constants for all pairs of nodes.
 
 ghost use Rattle.std.specs.Prelude.{◌≡◌, ◌<◌, ◌≤◌, ◌+◌, ◌++◌, None, slice_index_or, length, IfOk, OnOk, option_map, map};
-ghost use Rattle.std.specs.List.{list_all};
-ghost use Rattle.subsumption.specs.Search.{node_of};
+ghost use Rattle.difference_constraints.specs.Graphs.{node_of};
 ghost use Rattle.subsumption.specs.Models.{AreEdges, CanBeMet};
-ghost use Rattle.subsumption.specs.Closures.{AreLeast, BothEntail, reached_of, AreLonger, longer_of, is_near, AddsRow, entry_of, at_index, ShowsRow, ShowsClosure};
+ghost use Rattle.subsumption.specs.Closures.{AreLeast, BothEntail, reached_of, AddsRow, entry_of, at_index, ShowsRow, ShowsClosure};
 
-use crate::fact::Fact;
 use crate::relaxation::{Outcome, find_distances, node};
 use ckc_text::fault::NoMemory;
+use difference_constraints::distance::{all_near, combined};
+use difference_constraints::fact::Fact;
 use std::alloc::Global;
-
-/// The largest of the least constants; the smallest is its negative: 2^100.
-const MAX_CONSTANT: i128 = 1_267_650_600_228_229_401_496_703_205_376;
 
 /// No node that a start leads to is further from it, and all others are: 2^117.
 const REACH: i128 = 166_153_499_473_114_484_112_975_882_535_043_072;
@@ -23,52 +20,6 @@ pub fn node_at(i: usize) -> Option<u32>
     ensures { result ≡ at_index i }
 {
     if i == 0 { None } else { Some((i - 1) as u32) }
-}
-
-/// The longer of two distances.
-fn longer(first: Option<i128>, second: Option<i128>) -> Option<i128>
-    ensures { result ≡ longer_of first second }
-{
-    match first {
-        None => None,
-        Some(d) => match second {
-            None => None,
-            Some(e) => { if d <= e { Some(e) } else { Some(d) } }
-        },
-    }
-}
-
-/// The longer distance of each node.
-fn combined(
-    alloc: Global,
-    first: &[Option<i128>],
-    second: &[Option<i128>],
-) -> Result<Vec<Option<i128>>, NoMemory>
-    requires { length second.now ≡ length first.now }
-    ensures { IfOk result (λ v. AreLonger first.now second.now v.items) }
-{
-    let mut both = Vec::new(alloc);
-    for i in 0..first.len() {
-        both.push(longer(first[i], second[i]))?;
-    }
-    Ok(both)
-}
-
-/// Whether the distance isn't too long.
-fn near(distance: Option<i128>) -> bool
-    ensures { result ≡ is_near distance }
-{
-    match distance {
-        None => true,
-        Some(d) => -MAX_CONSTANT <= d && d <= MAX_CONSTANT,
-    }
-}
-
-/// Whether no distance is too long.
-fn all_near(distances: &[Option<i128>]) -> bool
-    ensures { result ≡ list_all is_near distances.now }
-{
-    distances.iter().all(|d| near(*d))
 }
 
 /// Adds a fact for the node at `i`, if it is another one and has a distance from this one.

@@ -1,12 +1,6 @@
-// Facts, and the answers to a question about them.
+// The answers to a question about facts.
 
-/// `left` is at most `right` plus a constant. `None` is zero.
-#[derive(Clone, Copy)]
-pub struct Fact {
-    pub left: Option<u32>,
-    pub right: Option<u32>,
-    pub plus: i128,
-}
+use difference_constraints::fact::Fact;
 
 /// Facts that show a goal.
 #[derive(Drop)]

@@ -1,19 +1,21 @@
 // A table of facts.
 
-ghost use Rattle.std.specs.Prelude.{◌≡◌, ◌≤◌, ◌+◌, ◌<◌, ◌^◌, ◌++◌, ◌∷◌, [], ◌-ℤ◌, IfOk, OnOk, OnErr};
+ghost use Rattle.std.specs.Prelude.{◌≡◌, ◌≤◌, ◌+◌, ◌<◌, ◌^◌, ◌++◌, ◌∷◌, [], IfOk, OnOk, OnErr};
 ghost use Rattle.std.specs.List.{All};
 ghost use Rattle.bounds_exprs.specs.declared.term.Term.{Term};
-ghost use Rattle.subsumption.specs.Facts.{Entails, IsBelow, Leaves, fact_of};
+ghost use Rattle.difference_constraints.specs.Graphs.{IsWithin};
+ghost use Rattle.difference_constraints.specs.Shifts.{moved};
+ghost use Rattle.subsumption.specs.Facts.{Entails, IsBelow, fact_of};
 ghost use Rattle.subsumption.specs.Closures.{BothEntail, IsKept};
-ghost use Rattle.subsumption.specs.Search.{IsEdge, IsWithin};
-ghost use Rattle.subsumption.specs.Tables.{AnswersTerms, Becomes, FollowsWithout, moved};
+ghost use Rattle.subsumption.specs.Tables.{AnswersTerms, Becomes, FollowsWithout};
 
 use crate::changes::{joined, killed, shifted};
-use crate::fact::{Answer, Fact};
+use crate::fact::Answer;
 use crate::question::answer;
 use crate::settle::added;
 use bounds_exprs::term::Term;
 use ckc_text::fault::NoMemory;
+use difference_constraints::fact::Fact;
 use std::alloc::Global;
 use std::marker::Model;
 

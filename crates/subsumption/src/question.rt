@@ -2,14 +2,15 @@
 
 ghost use Rattle.std.specs.Prelude.{◌≡◌, ◌<◌, ◌≤◌, ◌+◌, ◌^◌, ◌-ℤ◌, ◌<ℤ◌, ◌+ℤ◌, length, slice_index_or, IfOk, pos};
 ghost use Rattle.std.specs.List.{All};
+ghost use Rattle.difference_constraints.specs.Graphs.{at, node_of, IsWithin};
 ghost use Rattle.subsumption.specs.Facts.{AnswersFact};
 ghost use Rattle.subsumption.specs.Models.{AreEdges};
 ghost use Rattle.subsumption.specs.Relaxation.{far_away, AreCounted, AreLinked, IsPath, IsSettled, last_of};
-ghost use Rattle.subsumption.specs.Search.{at, node_of, IsWithin};
 
-use crate::fact::{Answer, Fact, Path, Valuation};
+use crate::fact::{Answer, Path, Valuation};
 use crate::relaxation::{Outcome, Search, distance_at, find_distances, node};
 use ckc_text::fault::NoMemory;
+use difference_constraints::fact::Fact;
 use std::alloc::Global;
 
 fn difference(a: i128, b: i128) -> i128
@@ -99,7 +100,7 @@ pub fn answer(alloc: Global, vars: u32, facts: &[Fact], goal: &Fact) -> Result<A
     ensures { IfOk result (AnswersFact (vars + 1) facts.now goal.now) }
 {
     let n = vars as usize + 1;
-    match find_distances(alloc, facts, n, goal.right)? {
+    match find_distances(alloc, facts, n, goal.start())? {
         Outcome::Contradictory(facts) => Ok(Answer::Yes(Path { facts })),
         Outcome::Settled(found) => {
             let answer = decide(alloc, facts, n, &found, goal)?;

@@ -2,16 +2,16 @@
 
 ghost use Rattle.std.specs.Prelude.{◌≡◌, ◌≤◌, ◌+◌, ◌^◌, IfOk, OnOk, None, negsuc, ℕ, ℤ, IsTrue, [], ◌∷◌, ◌++◌};
 ghost use Rattle.std.specs.List.{All, list_all};
+ghost use Rattle.difference_constraints.specs.Graphs.{IsEdge};
 ghost use Rattle.subsumption.specs.Facts.{Entails, Leaves, Holds, Meets};
 ghost use Rattle.subsumption.specs.Closures.{BothEntail, IsKept};
 ghost use Rattle.subsumption.specs.Models.{AreEdges, CanBeMet};
-ghost use Rattle.subsumption.specs.Search.{IsEdge};
 ghost use Rattle.subsumption.specs.Settling.{is_modest, AreSpared, IsPruned, Keeps, Spares};
 
 use crate::closure::common;
-use crate::fact::Fact;
 use crate::relaxation::{Outcome, find_distances};
 use ckc_text::fault::NoMemory;
+use difference_constraints::fact::Fact;
 use std::alloc::Global;
 
 /// The largest constant with which facts need no closer look: 2^87. A path has at most 4,096 facts, and all of them

@@ -1,6 +1,6 @@
 use Rattle.std.proofs.Common.{◌+◌, ◌≡◌, ℕ, ◌∙◌, ap, arith, subst}
+use Rattle.difference_constraints.specs.Graphs.{node_of}
 use Rattle.subsumption.specs.Closures.{AreRows, BothEntail}
-use Rattle.subsumption.specs.Search.{node_of}
 use Rattle.subsumption.proofs.Closures.{node_of-at_index}
 use Rattle.subsumption.proofs.Rows.{rows_more, row_is}
 use Rattle.subsumption.proofs.closure.common.Goals as goal

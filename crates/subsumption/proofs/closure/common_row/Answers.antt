@@ -1,6 +1,6 @@
 use Rattle.std.proofs.Common.{sym, ◌∙◌, ◌≡◌, true, false}
 use Rattle.std.specs.List.{list_all}
-use Rattle.subsumption.specs.Closures.{AreLonger, is_near}
+use Rattle.difference_constraints.specs.Distances.{AreLonger, is_near}
 use Rattle.subsumption.proofs.Rows.{row_shown, row_wide}
 use Rattle.subsumption.proofs.closure.common_row.Goals as goal
 

@@ -1,6 +1,6 @@
 use Rattle.std.proofs.Common.{◌≡◌, ◌≤ℤ◌, ◌<ℤ◌, arith}
 use Rattle.std.proofs.lemmas.Int.{ints}
-use Rattle.subsumption.specs.Search.{at}
+use Rattle.difference_constraints.specs.Graphs.{at}
 use Rattle.subsumption.proofs.Rounds.{relaxed_small}
 use Rattle.subsumption.proofs.Paths.{linked, yes_answer, no_answer}
 use Rattle.subsumption.proofs.question.decide.Goals as goal

@@ -1,9 +1,9 @@
 use Rattle.std.proofs.Common.{ℕ, ◌+◌, arith, ◌^◌, ◌≡◌, ◌∙◌, List, ap, subst}
 use Rattle.std.proofs.lemmas.Int.{ints}
-use Rattle.subsumption.specs.declared.fact.Fact.{Fact}
+use Rattle.difference_constraints.specs.declared.fact.Fact.{Fact}
+use Rattle.difference_constraints.specs.Graphs.{IsWithin}
 use Rattle.subsumption.specs.Facts.{AnswersFact, fact_of}
 use Rattle.subsumption.specs.Tables.{Table}
-use Rattle.subsumption.specs.Search.{IsWithin}
 use Rattle.subsumption.proofs.Tables.{terms_answer}
 use Rattle.subsumption.proofs.facts.Facts.entails.Goals as goal
 

@@ -1,9 +1,10 @@
 use Rattle.std.proofs.Common.{ℕ, ℤ, ◌≡◌, ◌∙◌, List, ap, subst}
 use Rattle.std.specs.Int.{w64}
 use Rattle.std.proofs.lemmas.Int.{to_z-of_z}
-use Rattle.subsumption.specs.declared.fact.Fact.{Fact}
+use Rattle.difference_constraints.specs.declared.fact.Fact.{Fact}
+use Rattle.difference_constraints.specs.Shifts.{moved}
 use Rattle.subsumption.specs.Facts.{Entails, Leaves}
-use Rattle.subsumption.specs.Tables.{Table, moved}
+use Rattle.subsumption.specs.Tables.{Table}
 use Rattle.subsumption.proofs.facts.Facts.shift.Goals as goal
 
 pub returns-clause-ok : goal.returns-clause-ok

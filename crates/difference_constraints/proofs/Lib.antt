@@ -1,0 +1,2 @@
+mod Eliminations
+mod Shifts

@@ -1,0 +1,4 @@
+pub mod Graphs
+pub mod Shifts
+pub mod Eliminations
+pub mod Distances
