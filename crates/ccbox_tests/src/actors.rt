@@ -77,19 +77,25 @@ pub fn gives_all(alloc: Global, text: &[u8], expected: &str) -> bool {
     starts_and_gives(alloc, shelf_of(alloc, text, 0), Turn::Trusted, expected)
 }
 
-// Whether no actor starts over these files, since the file is missing.
-fn is_missing(alloc: Global, mut shelf: MemShelf) -> bool {
-    let started = ListActor::start(alloc, &mut shelf, "acts");
-    matches!(started, Err(ActorFault::Missing))
+// Whether no actor starts over these files, since the file is missing, or else since it can't be read.
+fn is_unread(alloc: Global, shelf: &mut MemShelf, missing: bool) -> bool {
+    match ListActor::start(alloc, shelf, "acts") {
+        Err(ActorFault::Missing) => missing,
+        Err(ActorFault::Failed) => !missing,
+        _ => false,
+    }
+}
+
+// Whether no actor starts where there is no file.
+fn is_missing(alloc: Global) -> bool {
+    is_unread(alloc, &mut MemShelf::new(alloc), true)
 }
 
 const GO: &[u8] = b"{\"act\":\"go\"}\n";
 
 // Whether no actor starts where the read of this number fails.
 fn start_fails(alloc: Global, read: u64) -> bool {
-    let mut shelf = shelf_of(alloc, GO, read);
-    let started = ListActor::start(alloc, &mut shelf, "acts");
-    matches!(started, Err(ActorFault::Failed))
+    is_unread(alloc, &mut shelf_of(alloc, GO, read), false)
 }
 
 // Whether the acts of a file are read with no more than two reads.
@@ -100,8 +106,5 @@ fn reads_twice(alloc: Global) -> bool {
 
 /// Whether an actor starts where its file is there and can be read, which takes two reads.
 pub fn starts_so(alloc: Global) -> bool {
-    is_missing(alloc, MemShelf::new(alloc))
-        && start_fails(alloc, 1)
-        && start_fails(alloc, 2)
-        && reads_twice(alloc)
+    is_missing(alloc) && start_fails(alloc, 1) && start_fails(alloc, 2) && reads_twice(alloc)
 }

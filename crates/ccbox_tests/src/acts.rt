@@ -122,7 +122,7 @@ const SPACED_FILES: &str =
     "{\"act\":\"return\",\"value\":7}¶end@ \t\r¶{\"value\":7,\"act\":\"return\"}\r¶¶
 1 A1@\u{b}¶";
 
-const TABLES: &[Table] = &[
+static TABLES: [Table; 5] = [
     Table(Question::Act, ACTS),
     Table(Question::Act, REFUSED),
     Table(Question::Act, LIMITS),
@@ -136,5 +136,5 @@ pub fn acts(alloc: Global) -> Result<(), Fail> {
         "acts",
         takes_spaces(alloc) && writes_lines(alloc) && starts_so(alloc),
     )?;
-    expect_tables(alloc, TABLES)
+    expect_tables(alloc, &TABLES)
 }

@@ -47,12 +47,16 @@ pub fn files(alloc: Global, call: &Call) -> MemShelf {
 
 /// Whether a call over a shelf, with an output that takes one byte at a time and has room for one more, answers so.
 pub fn answers_over<F: Shelf>(alloc: Global, call: &Call, shelf: &mut F) -> bool {
-    let words = words_of(alloc, call.words);
-    let Ok(mut sink) = MemSink::with_room(alloc, call.text.len().saturating_add(1), 1) else {
-        return false;
-    };
+    match MemSink::with_room(alloc, call.text.len().saturating_add(1), 1) {
+        Ok(mut sink) => answers_into(alloc, call, shelf, &mut sink),
+        Err(_) => false,
+    }
+}
+
+fn answers_into<F: Shelf>(alloc: Global, call: &Call, shelf: &mut F, sink: &mut MemSink) -> bool {
     let _ = sink.fail_at(call.put);
-    let status = ccbox(alloc, words.as_slice(), shelf, &mut sink).number;
+    let words = words_of(alloc, call.words);
+    let status = ccbox(alloc, words.as_slice(), shelf, sink).number;
     status == call.status && sink.bytes() == call.text
 }
 
@@ -65,7 +69,7 @@ pub fn answers(alloc: Global, call: &Call) -> bool {
 // How a line begins that tells of no return, and the status of the call that prints it.
 struct Ending(&'static str, u8);
 
-const ENDINGS: &[Ending] = &[
+static ENDINGS: [Ending; 6] = [
     Ending("[refused ", 1),
     Ending("[usage]", 2),
     Ending("[missing ", 3),
@@ -76,7 +80,7 @@ const ENDINGS: &[Ending] = &[
 
 // The status of the call that prints a text.
 fn status_of(text: &str) -> u8 {
-    for Ending(mark, status) in ENDINGS {
+    for Ending(mark, status) in &ENDINGS {
         if text.split_once(*mark).is_some() {
             return *status;
         }
@@ -124,25 +128,21 @@ const BEFORE: &str =
 
 const BEHIND: &str = "\nreturn 0; }\n";
 
-// Whether the run of a program of three pieces prints this.
-fn pieces_print(alloc: Global, pieces: &[&str; 3], expected: &str) -> bool {
+// Whether the run of a program with this between its front and its end prints this.
+fn pieces_print(alloc: Global, front: &str, middle: &str, end: &str, expected: &str) -> bool {
     let mut source = String::new(alloc);
-    for piece in pieces {
-        add(&mut source, piece);
-    }
+    add(&mut source, front);
+    add(&mut source, middle);
+    add(&mut source, end);
     run_prints(alloc, source.as_str(), expected, false)
 }
 
 /// Whether the run of a program that returns this value from its second line prints this.
 pub fn value_prints(alloc: Global, value: &str, expected: &str) -> bool {
-    pieces_print(
-        alloc,
-        &["int main(void) {\nreturn ", value, "; }\n"],
-        expected,
-    )
+    pieces_print(alloc, "int main(void) {\nreturn ", value, "; }\n", expected)
 }
 
 /// Whether the run of a program with these statements in its third line prints this.
 pub fn statements_print(alloc: Global, statements: &str, expected: &str) -> bool {
-    pieces_print(alloc, &[BEFORE, statements, BEHIND], expected)
+    pieces_print(alloc, BEFORE, statements, BEHIND, expected)
 }

@@ -1,7 +1,7 @@
 // The core of a source.
 
 use ccbox_call::front::front;
-use ckc_core::program::{CellPlace, Core, Expr, Object, Site, Stmt};
+use ckc_core::program::{CellPlace, Core, Expr, Function, Object, Stmt};
 use ckc_text::code::Code;
 use ckc_text::place::Place;
 use std::alloc::Global;
@@ -9,25 +9,40 @@ use std::alloc::Global;
 // A store through a pointer stands in the second line.
 const SOURCE: &[u8] = b"int x = 5; int main(void) { ptr<int> p = &x;\n *p = 7; return x; }";
 
+// Whether a cell stands behind the pointer of the source.
+fn is_behind_pointer(cell: &CellPlace) -> bool {
+    match cell {
+        CellPlace::Through { site, .. } => site.place == Place { line: 2, col: 2 },
+        CellPlace::Direct { .. } => false,
+    }
+}
+
+// Whether a statement is the store of the source.
+fn is_store(statement: &Stmt) -> bool {
+    match statement {
+        Stmt::Store { cell, value, .. } => {
+            matches!(value, Expr::Number(7)) && is_behind_pointer(cell)
+        }
+        _ => false,
+    }
+}
+
+// Whether a statement returns what a cell holds.
+fn is_return(statement: &Stmt) -> bool {
+    match statement {
+        Stmt::Return(value) => matches!(value, Expr::Load { .. }),
+        _ => false,
+    }
+}
+
 // Whether these are the statements of the source.
 fn are_statements(body: &[Stmt]) -> bool {
-    matches!(
-        body,
-        [
-            Stmt::Block(_),
-            Stmt::Store {
-                cell: CellPlace::Through {
-                    site: Site {
-                        place: Place { line: 2, col: 2 }
-                    },
-                    ..
-                },
-                value: Expr::Number(7),
-                ..
-            },
-            Stmt::Return(Expr::Load { .. })
-        ]
-    )
+    match body {
+        [first, second, third] => {
+            matches!(first, Stmt::Block(_)) && is_store(second) && is_return(third)
+        }
+        _ => false,
+    }
 }
 
 // Whether this is the variable of the source.
@@ -46,10 +61,15 @@ fn has_variable(core: &Core) -> bool {
     }
 }
 
+// Whether this is the function of the source.
+fn is_function(main: &Function) -> bool {
+    main.parameters == 0 && main.locals.len() == 1 && are_statements(&main.body)
+}
+
 // Whether a core has the function of the source.
 fn has_function(core: &Core) -> bool {
     match core.functions.as_slice() {
-        [main] => main.parameters == 0 && main.locals.len() == 1 && are_statements(&main.body),
+        [main] => is_function(main),
         _ => false,
     }
 }

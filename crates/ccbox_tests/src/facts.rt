@@ -34,15 +34,63 @@ fn term(x: X) -> Term
     Term { var, plus }
 }
 
-// How many facts show that the one is at most the other: none where the answer is no.
-fn facts_for(facts: &Facts, a: X, b: X) -> Option<Option<usize>>
+// Whether a table takes that the one is at most the other.
+fn adds(facts: &mut Facts, vars: u32, a: X, b: X) -> bool
+    requires { facts.old.vars ≡ vars }
+    ensures { facts.new.vars ≡ vars }
+{
+    a.0 < vars && b.0 < vars && facts.add(term(a), term(b)).is_ok()
+}
+
+fn kills(facts: &mut Facts, vars: u32, var: u32) -> bool
+    requires { facts.old.vars ≡ vars }
+    ensures { facts.new.vars ≡ vars }
+{
+    var < vars && facts.kill(var).is_ok()
+}
+
+fn shifts(facts: &mut Facts, vars: u32, var: u32, c: i64) -> bool
+    requires { facts.old.vars ≡ vars }
+    ensures { facts.new.vars ≡ vars }
+{
+    var < vars && facts.shift(var, c).is_ok()
+}
+
+// What a table finds, asked whether the one is at most the other.
+#[derive(Drop)]
+enum Found {
+    // Yes, by so many facts.
+    Path(usize),
+    Nothing,
+    // No answer.
+    Fault,
+}
+
+fn asked(facts: &Facts, a: X, b: X) -> Found
     requires a_below { a.0 < facts.now.vars }
     requires b_below { b.0 < facts.now.vars }
 {
     match facts.entails(&term(a), &term(b)) {
-        Ok(Answer::Yes(path)) => Some(Some(path.facts.len())),
-        Ok(Answer::No(_)) => Some(None),
-        Err(_) => None,
+        Ok(Answer::Yes(path)) => Found::Path(path.facts.len()),
+        Ok(Answer::No(_)) => Found::Nothing,
+        Err(_) => Found::Fault,
+    }
+}
+
+fn asked_within(facts: &Facts, vars: u32, a: X, b: X) -> Found
+    requires { facts.now.vars ≡ vars }
+{
+    if a.0 < vars && b.0 < vars {
+        asked(facts, a, b)
+    } else {
+        Found::Fault
+    }
+}
+
+fn is_path_of(found: Found, count: usize) -> bool {
+    match found {
+        Found::Path(facts) => facts == count,
+        _ => false,
     }
 }
 
@@ -52,17 +100,12 @@ fn takes(facts: &mut Facts, vars: u32, step: &Step) -> bool
     ensures { facts.new.vars ≡ vars }
 {
     match step {
-        Step::Add(a, b) if a.0 < vars && b.0 < vars => facts.add(term(*a), term(*b)).is_ok(),
-        Step::Kill(var) if *var < vars => facts.kill(*var).is_ok(),
-        Step::Shift(var, c) if *var < vars => facts.shift(*var, *c).is_ok(),
-        Step::With(a, b, count) if a.0 < vars && b.0 < vars => {
-            facts_for(facts, *a, *b) == Some(Some(*count))
-        }
-        Step::Yes(a, b) if a.0 < vars && b.0 < vars => {
-            matches!(facts_for(facts, *a, *b), Some(Some(_)))
-        }
-        Step::No(a, b) if a.0 < vars && b.0 < vars => facts_for(facts, *a, *b) == Some(None),
-        _ => false,
+        Step::Add(a, b) => adds(facts, vars, *a, *b),
+        Step::Kill(var) => kills(facts, vars, *var),
+        Step::Shift(var, c) => shifts(facts, vars, *var, *c),
+        Step::With(a, b, count) => is_path_of(asked_within(facts, vars, *a, *b), *count),
+        Step::Yes(a, b) => matches!(asked_within(facts, vars, *a, *b), Found::Path(_)),
+        Step::No(a, b) => matches!(asked_within(facts, vars, *a, *b), Found::Nothing),
     }
 }
 
@@ -90,9 +133,9 @@ fn holds(alloc: Global, vars: u32, steps: &[Step]) -> bool
 }
 
 // `x0 + 1 <= x1` and `x1 + 2 <= x2`.
-const CHAIN: &[Step] = &[Step::Add(X(0, 1), X(1, 0)), Step::Add(X(1, 2), X(2, 0))];
+static CHAIN: [Step; 2] = [Step::Add(X(0, 1), X(1, 0)), Step::Add(X(1, 2), X(2, 0))];
 
-const FOLLOWED: &[Step] = &[
+static FOLLOWED: [Step; 8] = [
     Step::Add(X(0, 1), X(1, 0)),
     Step::Add(X(1, 2), X(2, 0)),
     Step::With(X(0, 3), X(2, 0), 2),
@@ -103,7 +146,7 @@ const FOLLOWED: &[Step] = &[
     Step::No(X(0, 1), X(1, 0)),
 ];
 
-const SHIFTED: &[Step] = &[
+static SHIFTED: [Step; 6] = [
     Step::Add(X(0, 0), X(1, 0)),
     Step::Shift(0, 1),
     Step::With(X(0, -1), X(1, 0), 1),
@@ -114,7 +157,7 @@ const SHIFTED: &[Step] = &[
 ];
 
 // Sums of the greatest constants.
-const FAR: &[Step] = &[
+static FAR: [Step; 8] = [
     Step::Add(X(0, i64::MAX), X(1, 0)),
     Step::Add(X(1, i64::MAX), X(2, 0)),
     Step::Add(X(2, i64::MAX), X(3, 0)),
@@ -127,37 +170,45 @@ const FAR: &[Step] = &[
 
 // Whether facts are followed and shifted, and contradict each other.
 fn entails_so(alloc: Global) -> bool {
-    holds(alloc, 3, FOLLOWED) && holds(alloc, 3, SHIFTED) && holds(alloc, 4, FAR)
+    holds(alloc, 3, &FOLLOWED) && holds(alloc, 3, &SHIFTED) && holds(alloc, 4, &FAR)
 }
 
-const OTHER: &[Step] = &[Step::Kill(0), Step::Add(X(0, 2), X(2, 0))];
+static OTHER: [Step; 2] = [Step::Kill(0), Step::Add(X(0, 2), X(2, 0))];
 
-const JOINED: &[Step] = &[
+static JOINED: [Step; 4] = [
     Step::Yes(X(0, 2), X(2, 0)),
     Step::No(X(0, 3), X(2, 0)),
     Step::Yes(X(1, 2), X(2, 0)),
     Step::No(X(0, 1), X(1, 0)),
 ];
 
+// Whether a table joined with another keeps what both entail.
+fn joins(facts: &mut Facts, other: &Facts) -> bool
+    requires here { facts.old.vars ≡ 3 }
+    requires there { other.now.vars ≡ 3 }
+{
+    facts.join(other).is_ok() && takes_all(facts, 3, &JOINED)
+}
+
 // Whether a table joined with its copy, which went on by itself, keeps what both entail.
 fn joins_copy(facts: &mut Facts) -> bool
     requires { facts.old.vars ≡ 3 }
 {
-    let Ok(mut other) = facts.copy() else {
-        return false;
-    };
-    takes_all(&mut other, 3, OTHER) && facts.join(&other).is_ok() && takes_all(facts, 3, JOINED)
+    match facts.copy() {
+        Ok(mut other) => takes_all(&mut other, 3, &OTHER) && joins(facts, &other),
+        Err(_) => false,
+    }
 }
 
 // Whether the chain, joined with its copy, keeps what both entail.
 fn chain_joins_copy(alloc: Global) -> bool {
     match Facts::new(alloc, 3) {
-        Ok(mut facts) => takes_all(&mut facts, 3, CHAIN) && joins_copy(&mut facts),
+        Ok(mut facts) => takes_all(&mut facts, 3, &CHAIN) && joins_copy(&mut facts),
         Err(_) => false,
     }
 }
 
-const LONG: &[Step] = &[
+static LONG: [Step; 2] = [
     Step::With(X(0, 256), X(256, 0), 256),
     Step::No(X(0, 257), X(256, 0)),
 ];
@@ -178,7 +229,7 @@ fn takes_chain(facts: &mut Facts) -> bool
 // Whether a long chain is followed.
 fn follows_chain(alloc: Global) -> bool {
     match Facts::new(alloc, 257) {
-        Ok(mut facts) => takes_chain(&mut facts) && takes_all(&mut facts, 257, LONG),
+        Ok(mut facts) => takes_chain(&mut facts) && takes_all(&mut facts, 257, &LONG),
         Err(_) => false,
     }
 }

@@ -25,18 +25,25 @@ fn fault(rt: &HostRuntime, name: &str, from: u64) -> Option<ShelfFault> {
     FileShelf::new(rt).read_at(name, from, &mut into).err()
 }
 
+// Whether a file that is written is read, and removed.
+fn reads_written(rt: &HostRuntime, path: &str) -> bool {
+    let written = fs::write(rt, path, "0123456789").is_ok();
+    let read = reads(rt, path);
+    let removed = fs::remove_file(rt, path).is_ok();
+    written && read && removed
+}
+
+// Whether files that can't be read are told apart.
+fn has_faults(rt: &HostRuntime, missing: &str) -> bool {
+    matches!(fault(rt, missing, 8), Some(ShelfFault::Missing))
+        && matches!(fault(rt, "/", 0), Some(ShelfFault::Failed))
+}
+
 // Whether a file of the system is read while it is there.
 fn reads_file_of_system(rt: &HostRuntime) -> bool {
     let mut path = String::new(rt.alloc());
     add_number(&mut path, "/tmp/file_shelf_", process::id(rt.process()));
-    let written = fs::write(rt, path.as_str(), "0123456789").is_ok();
-    let read = reads(rt, path.as_str());
-    let removed = fs::remove_file(rt, path.as_str()).is_ok();
-    written
-        && read
-        && removed
-        && matches!(fault(rt, path.as_str(), 8), Some(ShelfFault::Missing))
-        && matches!(fault(rt, "/", 0), Some(ShelfFault::Failed))
+    reads_written(rt, path.as_str()) && has_faults(rt, path.as_str())
 }
 
 // Whether the output of the system takes a piece.
@@ -74,32 +81,42 @@ fn answers_by_bytes(alloc: Global, call: &Call) -> bool {
     answers_over(alloc, call, &mut shelf)
 }
 
+// Whether a call prints nothing where the read of this number fails.
+fn read_fails(alloc: Global, call: &Call, read: u64) -> bool {
+    let failing = Call {
+        text: b"",
+        status: 4,
+        read,
+        ..*call
+    };
+    answers(alloc, &failing)
+}
+
 // Whether a call prints nothing where one of its first reads fails.
 fn reads_fail(alloc: Global, call: &Call, reads: u64) -> bool {
     for read in 1..=reads {
-        let failing = Call {
-            text: b"",
-            status: 4,
-            read,
-            ..*call
-        };
-        if !answers(alloc, &failing) {
+        if !read_fails(alloc, call, read) {
             return false;
         }
     }
     true
 }
 
+// Whether a call prints this front of its text where the put behind it fails.
+fn put_fails(alloc: Global, call: &Call, front: &[u8]) -> bool {
+    let failing = Call {
+        text: front,
+        status: 5,
+        put: (front.len() as u64).saturating_add(1),
+        ..*call
+    };
+    answers(alloc, &failing)
+}
+
 // Whether a call prints a front of its text where one of its puts fails.
 fn puts_fail(alloc: Global, call: &Call) -> bool {
     for before in 0..call.text.len() {
-        let failing = Call {
-            text: &call.text[..before],
-            status: 5,
-            put: before as u64 + 1,
-            ..*call
-        };
-        if !answers(alloc, &failing) {
+        if !put_fails(alloc, call, &call.text[..before]) {
             return false;
         }
     }
@@ -139,21 +156,46 @@ const WITH_OUTPUT: Call = Call {
     put: 0,
 };
 
-// Whether calls fail as their files and outputs do. A file takes two reads.
+// A call each of whose puts fails, and how many of its first reads do. A file takes two reads.
+struct Failing(Call<'static>, u64);
+
+static FAILING: [Failing; 3] = [
+    Failing(SOURCE_ALONE, 2),
+    Failing(WITH_ACTS, 4),
+    Failing(WITH_OUTPUT, 0),
+];
+
+// Whether calls fail as their files and outputs do.
 fn fails_so(alloc: Global) -> bool {
-    reads_fail(alloc, &SOURCE_ALONE, 2)
-        && puts_fail(alloc, &SOURCE_ALONE)
-        && reads_fail(alloc, &WITH_ACTS, 4)
-        && puts_fail(alloc, &WITH_ACTS)
-        && puts_fail(alloc, &WITH_OUTPUT)
-        && answers_by_bytes(alloc, &SOURCE_ALONE)
-        && answers_by_bytes(alloc, &WITH_OUTPUT)
+    for Failing(call, reads) in &FAILING {
+        if !reads_fail(alloc, call, *reads) || !puts_fail(alloc, call) {
+            return false;
+        }
+    }
+    true
+}
+
+static BY_BYTES: [Call<'static>; 2] = [SOURCE_ALONE, WITH_OUTPUT];
+
+// Whether calls answer over a shelf that gives one byte a call.
+fn answers_all_by_bytes(alloc: Global) -> bool {
+    for call in &BY_BYTES {
+        if !answers_by_bytes(alloc, call) {
+            return false;
+        }
+    }
+    true
+}
+
+// Whether calls answer as their files and outputs let them.
+fn answers_so(alloc: Global) -> bool {
+    fails_so(alloc) && answers_all_by_bytes(alloc)
 }
 
 /// Fails unless files and outputs that fail are answered as they must be.
 pub fn files_and_outputs(rt: &HostRuntime) -> Result<(), Fail> {
     expect(
         "files and outputs",
-        reads_file_of_system(rt) && takes_piece(rt) && fails_so(rt.alloc()),
+        reads_file_of_system(rt) && takes_piece(rt) && answers_so(rt.alloc()),
     )
 }

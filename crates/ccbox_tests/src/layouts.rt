@@ -43,23 +43,50 @@ fn add_member(alloc: Global, members: &mut Vec<Member>, name: u8, letter: u8) {
     }
 }
 
+// Puts a member of this type, with the name that belongs to its position, at the end of members.
+fn add_next(alloc: Global, members: &mut Vec<Member>, names: &[u8], letter: u8) {
+    if let Some(name) = names.get(members.len()) {
+        add_member(alloc, members, *name, letter);
+    }
+}
+
 // Members of these names and types.
 fn members_of(alloc: Global, names: &[u8], types: &[u8]) -> Vec<Member> {
     let mut members = Vec::new(alloc);
-    for (name, letter) in names.iter().zip(types) {
-        add_member(alloc, &mut members, *name, *letter);
+    for letter in types {
+        add_next(alloc, &mut members, names, *letter);
     }
     members
 }
 
-// Whether a type has this size and cells at these offsets.
-fn lies_so(structs: &Structs, t: &CType, size: u32, offsets: &[u32]) -> bool {
-    let mut same = structs.size_of(t) == size && structs.cells_of(t) as usize == offsets.len();
+// Declares a struct, and gives it members of these names and types.
+fn declare_with(
+    alloc: Global,
+    structs: &mut Structs,
+    tainted: bool,
+    names: &[u8],
+    types: &[u8],
+) -> Result<(), Refused> {
+    let number = structs.declare(tainted, DECLARED)?;
+    structs.add(number, members_of(alloc, names, types))
+}
+
+// Whether the cells of a type lie at these offsets.
+fn has_offsets(structs: &Structs, t: &CType, offsets: &[u32]) -> bool {
     for i in 0..structs.cells_of(t) {
         let offset = structs.offset_of_cell(t, i);
-        same = same && offsets.get(i as usize).copied() == Some(offset);
+        if offsets.get(i as usize).copied() != Some(offset) {
+            return false;
+        }
     }
-    same
+    true
+}
+
+// Whether a type has this size and cells at these offsets.
+fn lies_so(structs: &Structs, t: &CType, size: u32, offsets: &[u32]) -> bool {
+    structs.size_of(t) == size
+        && structs.cells_of(t) as usize == offsets.len()
+        && has_offsets(structs, t, offsets)
 }
 
 // Whether a struct is tainted, has as many members as there are offsets and lies so, and no other one is tainted.
@@ -73,20 +100,29 @@ fn is_laid_out(structs: &Structs, size: u32, offsets: &[u32]) -> bool {
 // Whether a struct of these members is laid out so.
 fn lays_out(alloc: Global, types: &[u8], size: u32, offsets: &[u32]) -> bool {
     let mut structs = Structs::new(alloc);
-    let Ok(number) = structs.declare(true, DECLARED) else {
-        return false;
-    };
-    let _ = structs.add(number, members_of(alloc, b"abcde", types));
+    let _ = declare_with(alloc, &mut structs, true, b"abcde", types);
     is_laid_out(&structs, size, offsets)
 }
 
+// The types of members, the size of their struct, and the offsets of its cells.
+struct Layout(&'static [u8], u32, &'static [u32]);
+
+static LAYOUTS: [Layout; 5] = [
+    Layout(b"c", 1, &[0]),
+    Layout(b"ci", 8, &[0, 4]),
+    Layout(b"ic", 8, &[0, 4]),
+    Layout(b"ccc", 3, &[0, 1, 2]),
+    Layout(b"cpcct", 16, &[0, 4, 8, 9, 12]),
+];
+
 // Whether structs are laid out.
 fn lays_out_structs(alloc: Global) -> bool {
-    lays_out(alloc, b"c", 1, &[0])
-        && lays_out(alloc, b"ci", 8, &[0, 4])
-        && lays_out(alloc, b"ic", 8, &[0, 4])
-        && lays_out(alloc, b"ccc", 3, &[0, 1, 2])
-        && lays_out(alloc, b"cpcct", 16, &[0, 4, 8, 9, 12])
+    for Layout(types, size, offsets) in &LAYOUTS {
+        if !lays_out(alloc, types, *size, offsets) {
+            return false;
+        }
+    }
+    true
 }
 
 // Whether the type of a letter has this size, and one cell.
@@ -113,11 +149,8 @@ pub fn lays_out_all(alloc: Global) -> bool {
 // Whether a struct of these members is refused so. It has none then.
 fn refuses(alloc: Global, names: &[u8], types: &[u8], code: Code, at: u32) -> bool {
     let mut structs = Structs::new(alloc);
-    let Ok(number) = structs.declare(false, DECLARED) else {
-        return false;
-    };
-    let added = structs.add(number, members_of(alloc, names, types));
-    structs.members(number).is_empty() && is_refused(&added, code, Span { from: at, to: at })
+    let added = declare_with(alloc, &mut structs, false, names, types);
+    structs.members(0).is_empty() && is_refused(&added, code, Span { from: at, to: at })
 }
 
 fn is_refused<T>(answer: &Result<T, Refused>, code: Code, span: Span) -> bool {
@@ -129,22 +162,31 @@ fn is_refused<T>(answer: &Result<T, Refused>, code: Code, span: Span) -> bool {
 
 const LETTERS: &[u8; 65] = b"abcdefghijklmnopqrstuvwxyzABCDEFGHIJKLMNOPQRSTUVWXYZ0123456789_+-";
 
+// The names and types of members that are refused, with the code, at the member of this number.
+struct Refusal(&'static [u8], &'static [u8], Code, u32);
+
+static REFUSALS: [Refusal; 5] = [
+    Refusal(b"aba", b"iii", Code::E11, 2),
+    Refusal(b"abb", b"ssi", Code::E11, 2),
+    Refusal(b"abc", b"iss", Code::E27, 1),
+    Refusal(&[b'a'; 65], &[b's'; 65], Code::E08, 64),
+    Refusal(LETTERS, &[b'i'; 65], Code::E08, 64),
+];
+
 /// Whether members are refused.
 pub fn refuses_all(alloc: Global) -> bool {
-    refuses(alloc, b"aba", b"iii", Code::E11, 2)
-        && refuses(alloc, b"abb", b"ssi", Code::E11, 2)
-        && refuses(alloc, b"abc", b"iss", Code::E27, 1)
-        && refuses(alloc, &[b'a'; 65], &[b's'; 65], Code::E08, 64)
-        && refuses(alloc, LETTERS, &[b'i'; 65], Code::E08, 64)
+    for Refusal(names, types, code, at) in &REFUSALS {
+        if !refuses(alloc, names, types, *code, *at) {
+            return false;
+        }
+    }
+    true
 }
 
 // Whether a struct of 64 members is taken.
 fn takes_64(alloc: Global) -> bool {
     let mut structs = Structs::new(alloc);
-    let Ok(number) = structs.declare(true, DECLARED) else {
-        return false;
-    };
-    let _ = structs.add(number, members_of(alloc, LETTERS, &[b'i'; 64]));
+    let _ = declare_with(alloc, &mut structs, true, LETTERS, &[b'i'; 64]);
     structs.size_of(&CType::Struct(0)) == 256
 }
 

@@ -51,7 +51,7 @@ const RUNS: &str =
 [stop S1 budget]@int f(int n) { return n; } int main(void) { for (int i = 0; i < 1000; i++) f(i); return f(1); }
 [exit 1]@int f(int n) { return n; } int main(void) { for (int i = 0; i < 1000; i++) { if (i == 999) continue; f(i); } return f(1); }";
 
-const TABLES: &[Table] = &[
+static TABLES: [Table; 3] = [
     Table(Question::Run, SOURCES),
     Table(Question::Run, DECLARATIONS),
     Table(Question::Run, RUNS),
@@ -59,5 +59,5 @@ const TABLES: &[Table] = &[
 
 /// Fails unless each limit holds on both sides.
 pub fn limits(alloc: Global) -> Result<(), Fail> {
-    expect_tables(alloc, TABLES)
+    expect_tables(alloc, &TABLES)
 }

@@ -62,7 +62,7 @@ fn fits_so() -> bool {
 // How many bytes a block is asked for, and its address.
 struct Block(u32, u32);
 
-const BLOCKS: &[Block] = &[
+static BLOCKS: [Block; 8] = [
     Block(0, 0),
     Block(4, 1048592),
     Block(4, 1048624),
@@ -73,7 +73,7 @@ const BLOCKS: &[Block] = &[
     Block(1, 0),
 ];
 
-const WHOLE_BLOCKS: &[Block] = &[Block(65505, 0), Block(65504, 32), Block(1, 0)];
+static WHOLE_BLOCKS: [Block; 3] = [Block(65505, 0), Block(65504, 32), Block(1, 0)];
 
 // Whether a memory makes these blocks.
 fn makes(memory: &mut Trusted, blocks: &[Block]) -> bool {
@@ -99,7 +99,7 @@ fn makes_from(alloc: Global, base: u32, blocks: &[Block]) -> bool
 
 // Whether blocks are made while there is room.
 fn makes_blocks(alloc: Global) -> bool {
-    makes_from(alloc, 1048576, BLOCKS) && makes_from(alloc, 16, WHOLE_BLOCKS)
+    makes_from(alloc, 1048576, &BLOCKS) && makes_from(alloc, 16, &WHOLE_BLOCKS)
 }
 
 // Stores a word and reads it again, where its bytes are in the memory.
@@ -118,7 +118,7 @@ fn stored(memory: &mut Trusted, at: u32, len: u32, v: u32) -> Option<u32> {
 // An address, the length of a word, the word, and what is read, where it is in the memory.
 struct Word(u32, u32, u32, Option<u32>);
 
-const STORED: &[Word] = &[
+static STORED: [Word; 9] = [
     Word(65536, 4, 0x87654321, Some(0x87654321)),
     Word(65539, 1, 0x1ff, Some(0xff)),
     Word(131068, 4, 7, Some(7)),
@@ -142,7 +142,7 @@ fn stores(memory: &mut Trusted, words: &[Word]) -> bool {
 
 // Whether a memory has its words and its size.
 fn holds(memory: &mut Trusted) -> bool {
-    stores(memory, STORED) && memory.in_range(65536, 65536) && !memory.in_range(65536, 65537)
+    stores(memory, &STORED) && memory.in_range(65536, 65536) && !memory.in_range(65536, 65537)
 }
 
 // Whether words are stored at both ends of a memory.
@@ -153,11 +153,17 @@ fn stores_at_both_ends(alloc: Global) -> bool {
     }
 }
 
+// Whether these are the numbers of the vector.
+fn are_numbers(numbers: &[u8]) -> bool {
+    matches!(numbers, [3, 1, 2])
+}
+
 // Whether a vector is listed as it is, and given back.
 fn is_given_back(numbers: Vec<u8>) -> bool {
     let list = Listed::from_vec(numbers);
-    let same = list.as_slice() == [3, 1, 2].as_slice();
-    same && list.into_vec().as_slice() == [3, 1, 2].as_slice()
+    let same = are_numbers(list.as_slice());
+    let numbers = list.into_vec();
+    same && are_numbers(numbers.as_slice())
 }
 
 // Whether a list gives its vector back.

@@ -75,9 +75,9 @@ const ASKED: &str =
 {"out":"01"}¶{"out":"ab"}¶{"out":"2d350a"}¶[check C7 1:74 zero divisor]¶[block 65552 4 03000000]@run a.c --releases --dump@@int g = 3; int main(void) { putchar(1); putchar(171); print_int(-5); g = 1 / 0; return 0; }
 [refused E28 1:1 no main]@run a.c@@"#;
 
-const TABLES: &[Table] = &[Table(Question::Call, REFUSED), Table(Question::Call, ASKED)];
+static TABLES: [Table; 2] = [Table(Question::Call, REFUSED), Table(Question::Call, ASKED)];
 
 /// Fails unless the words of the command line do what they must.
 pub fn options(alloc: Global) -> Result<(), Fail> {
-    expect_tables(alloc, TABLES)
+    expect_tables(alloc, &TABLES)
 }

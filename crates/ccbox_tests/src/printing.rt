@@ -7,7 +7,7 @@ use std::test::Fail;
 // A source, and what it is printed as.
 struct Row(&'static str, &'static str);
 
-const ROWS: &[Row] = &[
+static ROWS: [Row; 8] = [
     Row("", "\n"),
     Row(
         "int g = 1; int main(void) { ptr<int> p = &g; *p = 41; return g + 1; }\n",
@@ -35,7 +35,7 @@ const ROWS: &[Row] = &[
 
 // Fails with the first row that is printed otherwise.
 fn expect_printed(alloc: Global) -> Result<(), Fail> {
-    for Row(src, want) in ROWS {
+    for Row(src, want) in &ROWS {
         if !is_printed(alloc, src.as_bytes(), want.as_bytes()) {
             return Err(Fail::new(*src));
         }

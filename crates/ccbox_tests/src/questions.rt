@@ -6,6 +6,7 @@ use crate::calls::{call_prints, run_prints, statements_print, value_prints};
 use crate::lines::is_number;
 use crate::shapes::has_shape;
 use crate::sources::tree_of;
+use crate::tokens::has_tokens;
 use ckc_lexer::lexer::lex;
 use ckc_text::fault::{Refused, SourceFault};
 use std::alloc::Global;
@@ -13,6 +14,8 @@ use std::alloc::Global;
 /// What is asked about a case.
 #[derive(Clone, Copy)]
 pub enum Question {
+    /// The line of its tokens.
+    Tokens,
     /// How many tokens it has.
     Count,
     /// Whether it has a tree.
@@ -38,6 +41,7 @@ pub enum Question {
 /// Whether a case has this answer. What is printed stands without its last line feed.
 pub fn is_answer(alloc: Global, question: Question, case: &str, expected: &str) -> bool {
     match question {
+        Question::Tokens => has_tokens(alloc, case.as_bytes(), expected),
         Question::Count => has_count(alloc, case.as_bytes(), expected),
         Question::Tree => has_tree(alloc, case.as_bytes(), expected),
         Question::Shape => has_shape(alloc, case.as_bytes(), expected),

@@ -331,20 +331,57 @@ const FIRST_OF_TWO_STATEMENTS: &str = "[refused E13 3:1 type]@g = p; break;
 [refused E13 3:5 type]@1 = h();
 [refused E10 3:19 unknown name]@int x; return x + y + f(1);";
 
-const TABLES: &[Table] = &[
+static TABLES_OF_FORMS: [Table; 3] = [
     Table(Question::Run, SYNTAX),
     Table(Question::Run, FORMS),
     Table(Question::Statements, FORMS_OF_STATEMENTS),
+];
+
+fn forms(alloc: Global) -> Result<(), Fail> {
+    expect_tables(alloc, &TABLES_OF_FORMS)
+}
+
+static TABLES_OF_NAMES: [Table; 2] = [
     Table(Question::Run, NAMES),
     Table(Question::Statements, NAMES_IN_STATEMENTS),
-    Table(Question::Run, ITEMS),
-    Table(Question::Statements, STATEMENTS),
+];
+
+fn names(alloc: Global) -> Result<(), Fail> {
+    expect_tables(alloc, &TABLES_OF_NAMES)
+}
+
+static TABLES_OF_ITEMS: [Table; 1] = [Table(Question::Run, ITEMS)];
+
+fn items(alloc: Global) -> Result<(), Fail> {
+    expect_tables(alloc, &TABLES_OF_ITEMS)
+}
+
+static TABLES_OF_STATEMENTS: [Table; 1] = [Table(Question::Statements, STATEMENTS)];
+
+fn statements(alloc: Global) -> Result<(), Fail> {
+    expect_tables(alloc, &TABLES_OF_STATEMENTS)
+}
+
+static TABLES_OF_TWO: [Table; 2] = [
     Table(Question::Run, FIRST_OF_TWO),
     Table(Question::Statements, FIRST_OF_TWO_STATEMENTS),
 ];
 
+fn first_of_two(alloc: Global) -> Result<(), Fail> {
+    expect_tables(alloc, &TABLES_OF_TWO)
+}
+
+// Fails unless each rule is refused, alone and first of two. A long text is cheaper in a function of its own.
+fn rules(alloc: Global) -> Result<(), Fail> {
+    names(alloc)?;
+    items(alloc)?;
+    statements(alloc)?;
+    first_of_two(alloc)
+}
+
 /// Fails unless each rule of names and types is refused at its place.
 pub fn names_and_types(alloc: Global) -> Result<(), Fail> {
     expect("codes and a core", has_codes() && has_core(alloc))?;
-    expect_tables(alloc, TABLES)
+    forms(alloc)?;
+    rules(alloc)
 }

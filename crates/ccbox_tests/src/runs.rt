@@ -205,18 +205,33 @@ const CALCULATOR: &str =
     "25¶32¶[exit 9]@run a.c --input 1,2,1,3,2,6,4,5,1,-7,3,5,0@@// A stack machine that reads its program from the input: 0 ends; 1 n pushes n; 2, 3 and 4 add, subtract and multiply;¶// 5 prints the topmost number; 6 duplicates it. The stack is a list of eight cells.¶struct cell { int value; ptr<struct cell> below; };¶struct cell c0; struct cell c1; struct cell c2; struct cell c3;¶struct cell c4; struct cell c5; struct cell c6; struct cell c7;¶¶ptr<struct cell> top = NULL;¶ptr<struct cell> free_cells = NULL;¶¶void release(ptr<struct cell> cell) { cell->below = free_cells; free_cells = cell; }¶¶void push(int value) {¶  ptr<struct cell> cell = free_cells;¶  free_cells = cell->below;¶  cell->value = value;¶  cell->below = top;¶  top = cell;¶}¶¶int pop(void) {¶  ptr<struct cell> cell = top;¶  int value = cell->value;¶  top = cell->below;¶  release(cell);¶  return value;¶}¶¶void operate(int code) {¶  int right = pop();¶  int left = pop();¶  if (code == 2) push(left + right);¶  else if (code == 3) push(left - right);¶  else push(left * right);¶}¶¶int main(void) {¶  release(&c0); release(&c1); release(&c2); release(&c3);¶  release(&c4); release(&c5); release(&c6); release(&c7);¶  int steps = 0;¶  while (1) {¶    int code = next_input();¶    if (code == 0) break;¶    steps++;¶    if (code == 1) push(next_input());¶    else if (code == 5) print_int(top->value);¶    else if (code == 6) push(top->value);¶    else operate(code);¶  }¶  return steps;¶}¶
 [check C1 22:15 null]@run a.c --input 2@@// A stack machine that reads its program from the input: 0 ends; 1 n pushes n; 2, 3 and 4 add, subtract and multiply;¶// 5 prints the topmost number; 6 duplicates it. The stack is a list of eight cells.¶struct cell { int value; ptr<struct cell> below; };¶struct cell c0; struct cell c1; struct cell c2; struct cell c3;¶struct cell c4; struct cell c5; struct cell c6; struct cell c7;¶¶ptr<struct cell> top = NULL;¶ptr<struct cell> free_cells = NULL;¶¶void release(ptr<struct cell> cell) { cell->below = free_cells; free_cells = cell; }¶¶void push(int value) {¶  ptr<struct cell> cell = free_cells;¶  free_cells = cell->below;¶  cell->value = value;¶  cell->below = top;¶  top = cell;¶}¶¶int pop(void) {¶  ptr<struct cell> cell = top;¶  int value = cell->value;¶  top = cell->below;¶  release(cell);¶  return value;¶}¶¶void operate(int code) {¶  int right = pop();¶  int left = pop();¶  if (code == 2) push(left + right);¶  else if (code == 3) push(left - right);¶  else push(left * right);¶}¶¶int main(void) {¶  release(&c0); release(&c1); release(&c2); release(&c3);¶  release(&c4); release(&c5); release(&c6); release(&c7);¶  int steps = 0;¶  while (1) {¶    int code = next_input();¶    if (code == 0) break;¶    steps++;¶    if (code == 1) push(next_input());¶    else if (code == 5) print_int(top->value);¶    else if (code == 6) push(top->value);¶    else operate(code);¶  }¶  return steps;¶}¶";
 
-const TABLES: &[Table] = &[
-    Table(Question::Value, VALUES),
-    Table(Question::Run, RUNS),
-    Table(Question::Call, MANY),
+static TABLES_OF_VALUES: [Table; 2] = [Table(Question::Value, VALUES), Table(Question::Call, MANY)];
+
+fn values(alloc: Global) -> Result<(), Fail> {
+    expect_tables(alloc, &TABLES_OF_VALUES)
+}
+
+static TABLES_OF_RUNS: [Table; 1] = [Table(Question::Run, RUNS)];
+
+fn small_programs(alloc: Global) -> Result<(), Fail> {
+    expect_tables(alloc, &TABLES_OF_RUNS)
+}
+
+static TABLES_OF_EXAMPLES: [Table; 3] = [
     Table(Question::Call, ADLER),
     Table(Question::Call, SIEVE),
     Table(Question::Call, CALCULATOR),
 ];
 
-/// Fails unless runs print what they must.
+fn examples(alloc: Global) -> Result<(), Fail> {
+    expect_tables(alloc, &TABLES_OF_EXAMPLES)
+}
+
+/// Fails unless runs print what they must. A long text is cheaper in a function of its own.
 pub fn runs(alloc: Global) -> Result<(), Fail> {
-    expect_tables(alloc, TABLES)
+    values(alloc)?;
+    small_programs(alloc)?;
+    examples(alloc)
 }
 
 // The last bytes of file-level variables, at the end of a run, at a failed check and at a stop.
@@ -240,9 +255,9 @@ const BASES: &str =
 [exit 0]¶[block 65568 8 0700000020000100]@run a.c --dump --base=65552@@struct s { int a; ptr<int> p; }; struct s x; int main(void) { x.a = 7; x.p = &x.a; return 0; }
 [exit 0]¶[block 4026531856 8 07000000100000f0]@run a.c --base 4026531840 --dump --trusted 4194304@@struct s { int a; ptr<int> p; }; struct s x; int main(void) { x.a = 7; x.p = &x.a; return 0; }";
 
-const TABLES_OF_DUMPS: &[Table] = &[Table(Question::Dump, DUMPS), Table(Question::Call, BASES)];
+static TABLES_OF_DUMPS: [Table; 2] = [Table(Question::Dump, DUMPS), Table(Question::Call, BASES)];
 
 /// Fails unless dumps show what they must.
 pub fn dumps(alloc: Global) -> Result<(), Fail> {
-    expect_tables(alloc, TABLES_OF_DUMPS)
+    expect_tables(alloc, &TABLES_OF_DUMPS)
 }

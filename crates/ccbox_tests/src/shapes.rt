@@ -5,8 +5,8 @@ use crate::questions::is_refusal;
 use crate::sources::tree_of;
 use ckc_text::place::Span;
 use ckc_tree::expr::Expr;
-use ckc_tree::item::{Item, Program};
-use ckc_tree::stmt::Initializer;
+use ckc_tree::item::{Global as GlobalDeclaration, Item, Program};
+use ckc_tree::stmt::{Declarator, Initializer};
 use std::alloc::Global;
 
 // What stands before the operands of a form.
@@ -49,16 +49,26 @@ fn add_shape(line: &mut String, expr: &Expr) {
     }
 }
 
-// What the first variable of a program is initialised with, if it is the only item.
-fn initial(program: &Program) -> Option<&Expr> {
-    let [Item::Global { global }] = program.items.as_slice() else {
-        return None;
-    };
-    let [declarator] = global.declarators.as_slice() else {
-        return None;
-    };
+// What the variable of a declaration is initialised with, if it is the only one.
+fn initial_of(global: &GlobalDeclaration) -> Option<&Expr> {
+    match global.declarators.as_slice() {
+        [declarator] => value_of(declarator),
+        _ => None,
+    }
+}
+
+// The value that a variable is initialised with.
+fn value_of(declarator: &Declarator) -> Option<&Expr> {
     match &declarator.initializer {
         Some(Initializer::Value { value }) => Some(value),
+        _ => None,
+    }
+}
+
+// What the first variable of a program is initialised with, if it is the only item.
+fn initial(program: &Program) -> Option<&Expr> {
+    match program.items.as_slice() {
+        [Item::Global { global }] => initial_of(global),
         _ => None,
     }
 }

@@ -8,7 +8,7 @@ use ckc_tree::item::Program;
 use std::alloc::Global;
 use std::test::Fail;
 
-const SOURCES: &[&str] = &[
+static SOURCES: [&str; 41] = [
     "int g = 1; int main(void) { ptr<int> p = &g; *p = 41; return g + 1; }\n",
     "int main(void) {\n  array_ptr<int> a : count(10) = malloc<int>(10 * sizeof(int));\n  int i = 0;\n  int s = 0;\n  while (i < 10) {\n    a[i] = i * i;\n    i = i + 1;\n  }\n  for (int j = 0; j < 10; j++) {\n    s = s + a[j];\n  }\n  print_int(s);\n  return 0;\n}\n",
     "int main(void) { ptr<int> p = 0; return *p; }\n",
@@ -66,10 +66,15 @@ pub fn is_printed(alloc: Global, src: &[u8], want: &[u8]) -> bool {
     }
 }
 
+// What a tree is printed as.
+fn printed_tree(alloc: Global, program: &Program) -> Result<Vec<u8>, Refused> {
+    Ok(print(alloc, program)?)
+}
+
 // What the tree of a source is printed as.
 fn printed(alloc: Global, src: &[u8]) -> Result<Vec<u8>, Refused> {
     let program = tree_of(alloc, src)?;
-    Ok(print(alloc, &program)?)
+    printed_tree(alloc, &program)
 }
 
 // Whether the printed source is printed as it is.
@@ -99,10 +104,15 @@ fn are_fronts_answered(alloc: Global, src: &[u8]) -> bool {
     true
 }
 
+// Whether a source is printed and read back, and each text that it begins with is answered.
+fn is_read_back(alloc: Global, src: &[u8]) -> bool {
+    is_same(alloc, src) && are_fronts_answered(alloc, src)
+}
+
 /// Fails with the first whole program that isn't printed and read back, or of which a front has no answer.
 pub fn expect_read_back(alloc: Global) -> Result<(), Fail> {
-    for src in SOURCES {
-        if !is_same(alloc, src.as_bytes()) || !are_fronts_answered(alloc, src.as_bytes()) {
+    for src in &SOURCES {
+        if !is_read_back(alloc, src.as_bytes()) {
             return Err(Fail::new(*src));
         }
     }

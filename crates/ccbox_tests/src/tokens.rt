@@ -5,153 +5,126 @@ use crate::places::has_places;
 use crate::questions::{Question, is_refusal};
 use crate::rows::{Table, expect, expect_tables};
 use ckc_lexer::lexer::lex;
+use ckc_text::place::Span;
 use ckc_tokens::token::{CheckedScope, Token, TokenKind};
 use std::alloc::Global;
 use std::test::Fail;
 
-// A text, with the line of its tokens, or its fault.
-struct Row(&'static str, &'static str);
+// Keywords, names and marks.
+const SPELLED: &str =
+    "int char void struct if else while for return break continue sizeof malloc calloc nt_calloc t_malloc ptr ptr array_ptr array_ptr nt_array_ptr nt_array_ptr _TPtr _TArray_ptr _TNt_array_ptr _Checked _Nt_checked _Unchecked _Bundled _Tainted _Callback _Dynamic_bounds_cast _Assume_bounds_cast@int char void struct if else while for return break continue sizeof malloc calloc nt_calloc t_malloc ptr _Ptr array_ptr _Array_ptr nt_array_ptr _Nt_array_ptr _TPtr _TArray_ptr _TNt_array_ptr _Checked _Nt_checked _Unchecked _Bundled _Tainted _Callback _Dynamic_bounds_cast _Assume_bounds_cast
+{ } ( ) [ ] < > <= >= == != = += -= ++ -- + - * / % & && | || ^ ~ ! << . -> , ; :@{ } ( ) [ ] < > <= >= == != = += -= ++ -- + - * / % & && | || ^ ~ ! << . -> , ; :
+{ } ( ) [ ] <= >= == != += -= ++ -- && || << ->@{}()[]<=>===!=+=-=++--&&||<<->
+name:a > >= name:b@a >>= b
+<< =@<<=
+name:intx name:_ name:x9 name:NULL name:count name:byte_count name:bounds name:unknown@intx _ x9 NULL count byte_count bounds unknown
+@\t\r¶ ";
 
-const ROWS: &[Row] = &[
-    // Keywords, names and marks.
-    Row(
-        "int char void struct if else while for return break continue sizeof malloc calloc nt_calloc t_malloc ptr _Ptr array_ptr _Array_ptr nt_array_ptr _Nt_array_ptr _TPtr _TArray_ptr _TNt_array_ptr _Checked _Nt_checked _Unchecked _Bundled _Tainted _Callback _Dynamic_bounds_cast _Assume_bounds_cast",
-        "int char void struct if else while for return break continue sizeof malloc calloc nt_calloc t_malloc ptr ptr array_ptr array_ptr nt_array_ptr nt_array_ptr _TPtr _TArray_ptr _TNt_array_ptr _Checked _Nt_checked _Unchecked _Bundled _Tainted _Callback _Dynamic_bounds_cast _Assume_bounds_cast",
-    ),
-    Row(
-        "{ } ( ) [ ] < > <= >= == != = += -= ++ -- + - * / % & && | || ^ ~ ! << . -> , ; :",
-        "{ } ( ) [ ] < > <= >= == != = += -= ++ -- + - * / % & && | || ^ ~ ! << . -> , ; :",
-    ),
-    Row(
-        "{}()[]<=>===!=+=-=++--&&||<<->",
-        "{ } ( ) [ ] <= >= == != += -= ++ -- && || << ->",
-    ),
-    Row("a >>= b", "name:a > >= name:b"),
-    Row("<<=", "<< ="),
-    Row(
-        "intx _ x9 NULL count byte_count bounds unknown",
-        "name:intx name:_ name:x9 name:NULL name:count name:byte_count name:bounds name:unknown",
-    ),
-    Row("\t\r\n ", ""),
-    // Numbers, characters, strings and comments.
-    Row(
-        "0 7 0x0 0XfF 2147483647 0x7fffffff 1.5",
-        "number:0 number:7 number:0 number:255 number:2147483647 number:2147483647 number:1 . number:5",
-    ),
-    Row(
-        "'a' '\\n' '\\t' '\\r' '\\0' '\\\\' '\\'' '\\\"' '\"' '\\xfF'",
-        "character:97 character:10 character:9 character:13 character:0 character:92 character:39 character:34 character:34 character:255",
-    ),
-    Row(
-        "\"\" \"b\" \"a\\n\\t\\r\\0\\\\\\'\\\"\\x41'\"",
-        "text text:98 text:97,10,9,13,0,92,39,34,65,39",
-    ),
-    Row(
-        "a // b\nc /* d\n * / e */ f /**/ /*/ g */",
-        "name:a name:c name:f",
-    ),
-    Row("\"é\"", "text:195,169"),
-    Row("// é\na", "name:a"),
-    // What is no number, or too great.
-    Row("2147483648", "E04 0"),
-    Row("a 2147483648;", "E04 2"),
-    Row("a 0x80000000", "E04 2"),
-    Row("99999999999999999999", "E04 0"),
-    Row("08", "E02 0"),
-    Row("int x = 08;", "E02 8"),
-    Row("007", "E02 0"),
-    Row("12ab", "E02 0"),
-    Row("0x", "E02 0"),
-    Row("0xg", "E02 0"),
-    Row("a 2147483648x", "E02 2"),
-    Row("4_", "E02 0"),
-    Row("a 2147483648", "E04 2"),
-    Row("a b 08", "E02 4"),
-    // Bytes that no source has there.
-    Row("\x01", "E01 0"),
-    Row("a \x7f b", "E01 2"),
-    Row("a\x1f", "E01 1"),
-    Row("/*\x01", "E01 0"),
-    Row("a //\x01\n", "E01 2"),
-    Row("a \"b\x01\" c", "E01 2"),
-    Row("#include \x01\n", "E01 0"),
-    Row("a\n#define N \x01\n", "E01 2"),
-    Row("a '\x02'", "E01 2"),
-    // What begins no token.
-    Row("@", "E02 0"),
-    Row("a $ b", "E02 2"),
-    Row("a ?", "E02 2"),
-    Row("''", "E02 0"),
-    Row("a 'bc' d", "E02 2"),
-    Row("\"\\q\"", "E02 0"),
-    Row("a \"\\x4\" ", "E02 2"),
-    Row("'\\q'", "E02 0"),
-    Row("a # b", "E02 2"),
-    Row("\"\\q", "E02 0"),
-    Row("\\", "E02 0"),
-    // Comments and strings without an end.
-    Row("/*", "E03 0"),
-    Row("a /* b", "E03 2"),
-    Row("/*/", "E03 0"),
-    Row("a \"b\n\"", "E03 2"),
-    Row("\"ab\\\n\"", "E03 0"),
-    Row("a '", "E03 2"),
-    Row("a \"", "E03 2"),
-    Row("'ab", "E03 0"),
-    Row("\"a\\", "E03 0"),
-    Row("#define N 4 /* c", "E03 12"),
-    Row("a b /*", "E03 4"),
-    // Lines that are no directive of the language.
-    Row("#", "E05 0"),
-    Row("a\n #x\nb", "E05 3"),
-    Row("a\n#pragma CHECKED_SCOPE pop", "E05 2"),
-    Row("#pragma once", "E05 0"),
-    Row("#pragma CHECKED_SCOPE", "E05 0"),
-    Row("#pragma CHECKED_SCOPE ons", "E05 0"),
-    Row("#pragma CHECKED_SCOPE on off", "E05 0"),
-    Row("#define", "E05 0"),
-    Row("#define N", "E05 0"),
-    Row("#define N 4 5", "E05 0"),
-    Row("a\n#define N", "E05 2"),
-    // Definitions of what can't be defined so.
-    Row("#define int 4", "E05 0"),
-    Row("#define int 08", "E02 0"),
-    Row("#define N 08", "E02 0"),
-    Row("#define N 2147483648", "E04 0"),
-    Row("#define N /* c */ 4", "E05 0"),
-    Row("#define N 4 /* c */ int", "E05 0"),
-    Row("#define N 4 /* c */ @", "E05 0"),
-    Row("#define N 4\n#define N 5\n", "E05 12"),
-    Row("#define N 0\n#define N -0", "E05 12"),
-    Row("#define N M", "E05 0"),
-    Row("#define 4 N", "E05 0"),
-    Row("#defined N 4", "E05 0"),
-    Row("#includes", "E05 0"),
-    // Directives, and what they make of the names behind them.
-    Row("#define N 4\n#define N 0x4\n N", "number:4"),
-    Row("#define N 4 // c\nN", "number:4"),
-    Row("#define N 4 /* c\n d */ N", "number:4"),
-    Row(" /* c */ # define N - 4 \nN NN", "- number:4 name:NN"),
-    Row("/* c\n*/ #define N 4\nN", "number:4"),
-    Row("N\n#define N 4\nN", "name:N number:4"),
-    Row("#define NULL 4\nNULL", "number:4"),
-    Row(
-        "#define N 4\n#define M 5\n#define N 4\nM N",
-        "number:5 number:4",
-    ),
-    Row("#include <a/*b>\na", "name:a"),
-    Row("  #include\"x\"", ""),
-    Row(
-        "#pragma CHECKED_SCOPE Off\n#pragma CHECKED_SCOPE PUSH\n# pragma  CHECKED_SCOPE on // c\n#pragma CHECKED_SCOPE pop\n",
-        "off off on off",
-    ),
-    Row(
-        "#pragma CHECKED_SCOPE push\n#pragma CHECKED_SCOPE pop\n#pragma CHECKED_SCOPE pop",
-        "E05 53",
-    ),
-];
+// Numbers, characters, strings and comments.
+const VALUES: &str =
+    "number:0 number:7 number:0 number:255 number:2147483647 number:2147483647 number:1 . number:5@0 7 0x0 0XfF 2147483647 0x7fffffff 1.5
+character:97 character:10 character:9 character:13 character:0 character:92 character:39 character:34 character:34 character:255@'a' '\\n' '\\t' '\\r' '\\0' '\\\\' '\\'' '\\\"' '\"' '\\xfF'
+text text:98 text:97,10,9,13,0,92,39,34,65,39@\"\" \"b\" \"a\\n\\t\\r\\0\\\\\\'\\\"\\x41'\"
+name:a name:c name:f@a // b¶c /* d¶ * / e */ f /**/ /*/ g */
+text:195,169@\"é\"
+name:a@// é¶a";
 
-// How a keyword or a mark is spelled; of two spellings the short one.
+// What is no number, or too great.
+const NUMBERS: &str = "E04 0@2147483648
+E04 2@a 2147483648;
+E04 2@a 0x80000000
+E04 0@99999999999999999999
+E02 0@08
+E02 8@int x = 08;
+E02 0@007
+E02 0@12ab
+E02 0@0x
+E02 0@0xg
+E02 2@a 2147483648x
+E02 0@4_
+E04 2@a 2147483648
+E02 4@a b 08";
+
+// Bytes that no source has there.
+const BYTES: &str = "E01 0@\x01
+E01 2@a \x7f b
+E01 1@a\x1f
+E01 0@/*\x01
+E01 2@a //\x01¶
+E01 2@a \"b\x01\" c
+E01 0@#include \x01¶
+E01 2@a¶#define N \x01¶
+E01 2@a '\x02'";
+
+// What begins no token.
+const NO_TOKENS: &str = "E02 0@@
+E02 2@a $ b
+E02 2@a ?
+E02 0@''
+E02 2@a 'bc' d
+E02 0@\"\\q\"
+E02 2@a \"\\x4\" 
+E02 0@'\\q'
+E02 2@a # b
+E02 0@\"\\q
+E02 0@\\";
+
+// Comments and strings without an end.
+const OPEN: &str = "E03 0@/*
+E03 2@a /* b
+E03 0@/*/
+E03 2@a \"b¶\"
+E03 0@\"ab\\¶\"
+E03 2@a '
+E03 2@a \"
+E03 0@'ab
+E03 0@\"a\\
+E03 12@#define N 4 /* c
+E03 4@a b /*";
+
+// Lines that are no directive of the language.
+const DIRECTIVES: &str = "E05 0@#
+E05 3@a¶ #x¶b
+E05 2@a¶#pragma CHECKED_SCOPE pop
+E05 0@#pragma once
+E05 0@#pragma CHECKED_SCOPE
+E05 0@#pragma CHECKED_SCOPE ons
+E05 0@#pragma CHECKED_SCOPE on off
+E05 0@#define
+E05 0@#define N
+E05 0@#define N 4 5
+E05 2@a¶#define N";
+
+// Definitions of what can't be defined so.
+const DEFINITIONS: &str = "E05 0@#define int 4
+E02 0@#define int 08
+E02 0@#define N 08
+E04 0@#define N 2147483648
+E05 0@#define N /* c */ 4
+E05 0@#define N 4 /* c */ int
+E05 0@#define N 4 /* c */ @
+E05 12@#define N 4¶#define N 5¶
+E05 12@#define N 0¶#define N -0
+E05 0@#define N M
+E05 0@#define 4 N
+E05 0@#defined N 4
+E05 0@#includes";
+
+// Directives, and what they make of the names behind them.
+const DEFINED: &str = "number:4@#define N 4¶#define N 0x4¶ N
+number:4@#define N 4 // c¶N
+number:4@#define N 4 /* c¶ d */ N
+- number:4 name:NN@ /* c */ # define N - 4 ¶N NN
+number:4@/* c¶*/ #define N 4¶N
+name:N number:4@N¶#define N 4¶N
+number:4@#define NULL 4¶NULL
+number:5 number:4@#define N 4¶#define M 5¶#define N 4¶M N
+name:a@#include <a/*b>¶a
+@  #include\"x\"
+off off on off@#pragma CHECKED_SCOPE Off¶#pragma CHECKED_SCOPE PUSH¶# pragma  CHECKED_SCOPE on // c¶#pragma CHECKED_SCOPE pop¶
+E05 53@#pragma CHECKED_SCOPE push¶#pragma CHECKED_SCOPE pop¶#pragma CHECKED_SCOPE pop";
+
+// How a keyword of types or statements is spelled, and what other tokens go by.
 fn spelling(kind: &TokenKind) -> &'static str {
     match kind {
         TokenKind::Int => "int",
@@ -166,6 +139,13 @@ fn spelling(kind: &TokenKind) -> &'static str {
         TokenKind::Break => "break",
         TokenKind::Continue => "continue",
         TokenKind::Sizeof => "sizeof",
+        _ => checked_spelling(kind),
+    }
+}
+
+// How a keyword of Checked C is spelled; of two spellings the short one.
+fn checked_spelling(kind: &TokenKind) -> &'static str {
+    match kind {
         TokenKind::Malloc => "malloc",
         TokenKind::Calloc => "calloc",
         TokenKind::NtCalloc => "nt_calloc",
@@ -184,6 +164,13 @@ fn spelling(kind: &TokenKind) -> &'static str {
         TokenKind::Callback => "_Callback",
         TokenKind::DynamicBoundsCast => "_Dynamic_bounds_cast",
         TokenKind::AssumeBoundsCast => "_Assume_bounds_cast",
+        _ => mark_spelling(kind),
+    }
+}
+
+// How a bracket or a comparison is spelled.
+fn mark_spelling(kind: &TokenKind) -> &'static str {
+    match kind {
         TokenKind::OpenBrace => "{",
         TokenKind::CloseBrace => "}",
         TokenKind::OpenParen => "(",
@@ -197,6 +184,16 @@ fn spelling(kind: &TokenKind) -> &'static str {
         TokenKind::EqualEqual => "==",
         TokenKind::NotEqual => "!=",
         TokenKind::Equal => "=",
+        TokenKind::Comma => ",",
+        TokenKind::Semicolon => ";",
+        TokenKind::Colon => ":",
+        _ => operator_spelling(kind),
+    }
+}
+
+// How an operator is spelled.
+fn operator_spelling(kind: &TokenKind) -> &'static str {
+    match kind {
         TokenKind::PlusEqual => "+=",
         TokenKind::MinusEqual => "-=",
         TokenKind::PlusPlus => "++",
@@ -216,15 +213,20 @@ fn spelling(kind: &TokenKind) -> &'static str {
         TokenKind::ShiftLeft => "<<",
         TokenKind::Dot => ".",
         TokenKind::Arrow => "->",
-        TokenKind::Comma => ",",
-        TokenKind::Semicolon => ";",
-        TokenKind::Colon => ":",
+        _ => class_name(kind),
+    }
+}
+
+// What a token with a value goes by.
+fn class_name(kind: &TokenKind) -> &'static str {
+    match kind {
         TokenKind::Name(_) => "name",
         TokenKind::Number(_) => "number",
         TokenKind::Character(_) => "character",
         TokenKind::Text(_) => "text",
         TokenKind::Scope(CheckedScope::On) => "on",
         TokenKind::Scope(CheckedScope::Off) => "off",
+        _ => "?",
     }
 }
 
@@ -274,53 +276,71 @@ fn line_of(alloc: Global, tokens: &[Token]) -> String {
     line
 }
 
-// Whether a text has this line of tokens, or this fault.
-fn is_right(alloc: Global, src: &[u8], want: &str) -> bool {
+// Whether tokens have this line.
+fn is_line(alloc: Global, tokens: &[Token], want: &str) -> bool {
+    line_of(alloc, tokens).as_str() == want
+}
+
+/// Whether a text has this line of tokens, or this fault.
+pub fn has_tokens(alloc: Global, src: &[u8], want: &str) -> bool {
     match lex(alloc, src) {
-        Ok(tokens) => line_of(alloc, tokens.as_slice()).as_str() == want,
+        Ok(tokens) => is_line(alloc, tokens.as_slice(), want),
         Err(refused) => is_refusal(&refused, want),
     }
 }
 
-// Fails with the first line of tokens that is wrong.
-fn expect_lines(alloc: Global) -> Result<(), Fail> {
-    for Row(src, want) in ROWS {
-        if !is_right(alloc, src.as_bytes(), want) {
-            return Err(Fail::new(*want));
-        }
-    }
-    Ok(())
-}
+// Bytes that are no text, with the line of their tokens, or their fault.
+struct BytesRow(&'static [u8], &'static str);
+
+static BYTES_ROWS: [BytesRow; 7] = [
+    BytesRow(b"/* \xc3 */ a", "name:a"),
+    BytesRow(b"\x80", "E01 0"),
+    BytesRow(b"a '\x80' b", "E01 2"),
+    BytesRow(b"#define N 4\xc3", "E01 0"),
+    BytesRow(b"a\xff", "E01 1"),
+    BytesRow(b"#include \xc3\na", "name:a"),
+    BytesRow(b"#define N 4 // \xc3\nN", "number:4"),
+];
 
 // Whether bytes that are no text stand in comments and behind `#include` alone.
 fn takes_bytes(alloc: Global) -> bool {
-    is_right(alloc, b"/* \xc3 */ a", "name:a")
-        && is_right(alloc, b"\x80", "E01 0")
-        && is_right(alloc, b"a '\x80' b", "E01 2")
-        && is_right(alloc, b"#define N 4\xc3", "E01 0")
-        && is_right(alloc, b"a\xff", "E01 1")
-        && is_right(alloc, b"#include \xc3\na", "name:a")
-        && is_right(alloc, b"#define N 4 // \xc3\nN", "number:4")
+    for BytesRow(src, want) in &BYTES_ROWS {
+        if !has_tokens(alloc, src, want) {
+            return false;
+        }
+    }
+    true
+}
+
+// The bytes that a token stands on.
+fn add_span(spans: &mut String, span: Span) {
+    add_number(spans, "", span.from);
+    add_number(spans, "-", span.to);
+    add(spans, " ");
 }
 
 // The bytes that the tokens of a text stand on.
 fn spans_of(alloc: Global, tokens: &[Token]) -> String {
     let mut spans = String::new(alloc);
     for token in tokens {
-        add_number(&mut spans, "", token.span.from);
-        add_number(&mut spans, "-", token.span.to);
-        add(&mut spans, " ");
+        add_span(&mut spans, token.span);
     }
     spans
+}
+
+// Whether tokens stand on these bytes.
+fn stand_on(alloc: Global, tokens: &[Token], expected: &str) -> bool {
+    spans_of(alloc, tokens).as_str() == expected
 }
 
 // Whether the tokens of a function stand on its bytes.
 fn has_spans(alloc: Global) -> bool {
     match lex(alloc, b"int main(void) { return 0; }") {
-        Ok(tokens) => {
-            let spans = spans_of(alloc, tokens.as_slice());
-            spans.as_str() == "0-3 4-8 8-9 9-13 13-14 15-16 17-23 24-25 25-26 27-28 "
-        }
+        Ok(tokens) => stand_on(
+            alloc,
+            tokens.as_slice(),
+            "0-3 4-8 8-9 9-13 13-14 15-16 17-23 24-25 25-26 27-28 ",
+        ),
         Err(_) => false,
     }
 }
@@ -353,14 +373,24 @@ E08 0@`1048577× `
 E08 0@@`1048576× `
 E03 0@/*`1048574× `";
 
-const TABLES: &[Table] = &[Table(Question::Count, COUNTS)];
+static TABLES: [Table; 10] = [
+    Table(Question::Tokens, SPELLED),
+    Table(Question::Tokens, VALUES),
+    Table(Question::Tokens, NUMBERS),
+    Table(Question::Tokens, BYTES),
+    Table(Question::Tokens, NO_TOKENS),
+    Table(Question::Tokens, OPEN),
+    Table(Question::Tokens, DIRECTIVES),
+    Table(Question::Tokens, DEFINITIONS),
+    Table(Question::Tokens, DEFINED),
+    Table(Question::Count, COUNTS),
+];
 
 /// Fails unless each token, and each fault of one, stands where it must.
 pub fn lexing(alloc: Global) -> Result<(), Fail> {
-    expect_lines(alloc)?;
     expect(
         "bytes, spans and places",
         takes_bytes(alloc) && has_spans(alloc) && has_places(alloc),
     )?;
-    expect_tables(alloc, TABLES)
+    expect_tables(alloc, &TABLES)
 }

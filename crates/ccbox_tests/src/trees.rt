@@ -75,9 +75,9 @@ n8@int x=((a));
 [6-13 n7 n11]@int x=(a)+(b);
 [6-9 n6 n8]@int x=a&b;";
 
-const TABLES: &[Table] = &[Table(Question::Tree, TREES), Table(Question::Shape, SHAPES)];
+static TABLES: [Table; 2] = [Table(Question::Tree, TREES), Table(Question::Shape, SHAPES)];
 
 /// Fails unless each form is read as its tree.
 pub fn parsing(alloc: Global) -> Result<(), Fail> {
-    expect_tables(alloc, TABLES)
+    expect_tables(alloc, &TABLES)
 }

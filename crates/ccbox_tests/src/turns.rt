@@ -77,7 +77,7 @@ const CALLS: &str =
 [stop S1 budget]@run a.c --sandbox 65536 --acts=f --budget 1@{"act":"go"}¶{"act":"return","value":4}¶{"act":"go"}¶{"act":"return","value":5}¶@_Tainted int t(void); int main(void) { t(); return t(); }
 [exit 1]@run a.c --sandbox 65536 --acts=f@{"act":"go"}¶{"act":"return","value":1}¶{"act":"go"}¶{"act":"return","value":0}¶@_Tainted int t(int n); int main(void) { int k = 0; while (t(k)) k++; return k; }"#;
 
-const TABLES: &[Table] = &[
+static TABLES: [Table; 5] = [
     Table(Question::Call, TURNS),
     Table(Question::Call, BLANKS),
     Table(Question::Call, VIEWS),
@@ -87,5 +87,5 @@ const TABLES: &[Table] = &[
 
 /// Fails unless sandboxes act, and see, as they must.
 pub fn sandboxes(alloc: Global) -> Result<(), Fail> {
-    expect_tables(alloc, TABLES)
+    expect_tables(alloc, &TABLES)
 }
