@@ -1,4 +1,5 @@
-// Pieces of code around the parts of a program: addresses and their checks, calls, the heads of loops, the bytes of cells.
+// Pieces of code around the parts of a program: addresses and their checks, arguments and calls, the heads of loops, the
+// bytes of cells.
 #![tactic(auto)]
 
 pub mod addresses;

@@ -9,7 +9,7 @@ ghost use Rattle.lowered_code.specs.Code as code;
 use ckc_core::program::{CellPlace, Expr};
 use ckc_text::fault::NoMemory;
 use code_fragments::addresses::{emit_address, emit_through};
-use code_fragments::calls::put_call;
+use code_fragments::calls::{argument_at, put_call};
 use code_words::op::Op;
 use lowered_code::code_sizes::expression_size;
 use lowered_code::instructions::{
@@ -114,7 +114,7 @@ fn emit_argument(ops: &mut Vec<Op>, arguments: &[Expr], place: usize) -> Result<
     requires { place < length arguments.now }
     ensures { (argument : Expr) → slice_get arguments.now place ≡ Some argument → OnOk result (ops.new.items ≡ ops.old.items ++ code.expression_code (length ops.old.items) (expression argument)) }
 {
-    emit_expression(ops, &arguments[place])
+    emit_expression(ops, argument_at(arguments, place))
 }
 
 /// The words of arguments, from left to right.

@@ -1,4 +1,4 @@
-// Which `if` an `else` belongs to.
+// The word before what an `if` does otherwise.
 
 ghost use Rattle.ckc_tokens.specs.declared.token.TokenKind.TheVariants as kinds;
 ghost use Rattle.ckc_grammar.specs.Tokens as words;
@@ -9,8 +9,7 @@ use ckc_cursor::terminal::{Terminal, expect};
 use ckc_text::place::Span;
 use ckc_tokens::token::Token;
 
-/// The span of the word `else`. Where it stands next, behind the statement of an `if`, it belongs to that one, and is
-/// left to none around it.
+/// The span of the word `else`, which is read wherever it stands next. So the innermost `if` that asks for it takes it.
 pub fn else_word(tokens: &mut &[Token]) -> Result<Span, Stuck>
     ensures { ReadsMark kinds.Else words.else_word tokens.old.now result tokens.new.now }
 {

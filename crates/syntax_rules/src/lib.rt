@@ -1,5 +1,5 @@
-// The rules of the syntax that one line states each: which operator takes an operand, which `if` an `else`, how deep a
-// tree may be, which bytes a form stands on, and which a fault names.
+// The rules of the syntax that one line states each: which operator takes an operand, that an `else` is read where it
+// stands next, how deep a tree may be, which bytes a form stands on, and which a fault names.
 #![tactic(auto)]
 
 pub mod alternative;
