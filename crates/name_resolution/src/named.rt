@@ -2,7 +2,7 @@
 
 ghost use Rattle.std.specs.Prelude.{◌≡◌};
 
-use ckc_names::name_list::NameList;
+use crate::name_list::NameList;
 use ckc_tree::item::Program;
 use std::marker::Model;
 

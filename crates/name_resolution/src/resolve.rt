@@ -6,10 +6,10 @@ ghost use Rattle.ckc_names.specs.Naming.{Names};
 ghost use Rattle.name_resolution.specs.Named.{named_tree};
 
 use crate::items::names_in;
+use crate::main_function::with_main;
+use crate::name_list::NameList;
 use crate::named::Named;
 use crate::resolver::Resolver;
-use ckc_names::main_function::with_main;
-use ckc_names::name_list::NameList;
 use ckc_text::fault::Refused;
 use ckc_tree::item::Program;
 use std::alloc::Global;
