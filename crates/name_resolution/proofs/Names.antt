@@ -58,6 +58,9 @@ name_of_key [] number v at = absurd (cc)
 name_of_key (key ∷ keys) zero v at = let same : key ≡ v = cc in ap (λ w. w.items) same
 name_of_key (key ∷ keys) (suc number) v at = name_of_key keys number v at
 
+pub within_names : (keys : List (Vec ℕ Global)) (number : ℕ) → number < length keys → number < length (names_in keys)
+within_names keys number less = omega (arith, less, length-map keys (λ v. v.items))
+
 -- the names behind one that was put in
 pub put_in : (keys : List (Vec ℕ Global)) (v : Vec ℕ Global) → names_in (if list_any (λ w. bytes_eq v.items w.items) keys then keys else keys ++ v ∷ []) ≡ with_new (is_among (names_in keys) v.items) v.items (names_in keys)
 put_in keys v = rw (is_in_set v.items keys) (by (is_among (names_in keys) v.items))

@@ -1,8 +1,9 @@
 -- What the marks and entries of a table say of names.
-use Rattle.std.proofs.Common.{◌≡◌, ℕ, zero, suc, ◌+◌, ◌<◌, ◌≤◌, ◌==◌, Bool, true, false, ◌||◌, cond, nat_lt, is_some, bytes_eq, List, [], ◌∷◌, ◌++◌, length, reverse, slice_get, get_or, Option, Some, None, IsSome, Result, Ok, Err, OnOk, OnErr, refl, sym, ap, ◌∙◌, true≢false, arith}
+use Rattle.std.proofs.Common.{◌≡◌, ℕ, zero, suc, ◌+◌, ◌<◌, ◌≤◌, ◌==◌, Bool, true, false, ◌||◌, cond, nat_lt, is_some, bytes_eq, List, [], ◌∷◌, ◌++◌, length, reverse, slice_get, get_or, set, Option, Some, None, IsSome, Result, Ok, Err, OnOk, OnErr, refl, sym, ap, ◌∙◌, true≢false, arith}
 use Rattle.std.specs.Option.{option_and_then}
 use Rattle.std.specs.List.{list_any}
-use Rattle.std.proofs.lemmas.List.{reverse-append, reverse-reverse, length-reverse, length-append, get_or_append_left, get_or_default}
+use Rattle.std.proofs.lemmas.List.{reverse-append, reverse-reverse, length-reverse, length-append, get_or_append_left, get_or_default, length-set, get_or-set_other}
+use Rattle.std.proofs.lemmas.Grind.{get_or-set_at}
 use Rattle.std.proofs.lemmas.List.Folds.{list_any-append}
 use Rattle.std.proofs.lemmas.Bool.{ltb-true, lt-ltb, eq-eqb}
 use Rattle.std.proofs.lemmas.Slice.Eq.{bytes_eq-Decides}
@@ -10,7 +11,8 @@ use Rattle.ckc_text.specs.declared.fault.NoMemory.{NoMemory}
 use borrow.Author.Tests.{eqb-true}
 use Rattle.name_resolution.specs.declared.table.Held.{Held}
 use Rattle.name_resolution.specs.declared.table.Held.TheVariants as held
-use Rattle.ckc_names.specs.Scopes.{Meaning, Block, visible, innermost, with_entry, is_among}
+use Rattle.ckc_names.specs.declared.meaning.Meaning as code
+use Rattle.ckc_names.specs.Scopes.{Meaning, Block, visible, innermost, with_entry, outside, is_among}
 use Rattle.ckc_names.specs.Naming.{with_new}
 use Rattle.name_resolution.specs.NameLists.{name_at, Distinct}
 use Rattle.name_resolution.specs.State.{State, with_blocks, with_names}
@@ -244,6 +246,62 @@ innermost_in_table names current marks slice block number place table less same 
     ∙ ap (λ b. meaning_at slice (within (name_place number (reverse marks)) b)) table.innermost
     ∙ ap (λ ms. meaning_at ms (within (name_place number (reverse marks)) (block_place (reverse marks)))) (same ∙ sym (reverse-reverse marks))
     ∙ sym (innermost_is names table.distinct (reverse marks) table.settled number less)
+
+-- ---- a name that is declared, and the end of its block
+
+place_set : (places : List (Option ℕ)) (number k : ℕ) (place : Option ℕ) → number < length places → get_or (set places number place) k None ≡ cond (number == k) place (get_or places k None)
+place_set places number k place less = by (number == k) refl
+  where
+    by : (b : Bool) → (number == k) ≡ b → get_or (set places number place) k None ≡ cond b place (get_or places k None)
+    by true e = get_or-set_at places number k place None (sym (eqb-true number k e)) less
+    by false e = get_or-set_other places number k place None (λ same. true≢false (sym (eq-eqb number k (sym same)) ∙ e))
+
+-- a table in which a name was declared
+pub declared_table : (names : List (List ℕ)) (old new : List (Option ℕ)) (marks more : List Held) (block : Option ℕ) (number : ℕ) (stands : code.Meaning) (hides : Option ℕ) → IsTable names old marks block → number < length names → is_some block ≡ true
+    → hides ≡ get_or old number hides → new ≡ set old number (Some (length marks)) → more ≡ marks ++ held.Name number stands hides ∷ [] → IsTable names new more block
+declared_table names old new marks more block number stands hides table less there is sets pushes =
+    let within : number < length old = omega (arith, less, table.room) in
+    let turned = ap reverse pushes ∙ reverse-append marks (held.Name number stands hides ∷ []) in
+    record {
+      distinct = table.distinct;
+      room = omega (arith, table.room, ap length sets, length-set old number (Some (length marks)));
+      places = λ k.
+          ap (λ xs. get_or xs k None) sets ∙ place_set old number k (Some (length marks)) within
+          ∙ ap (λ place. cond (number == k) (Some (length marks)) place) (table.places k)
+          ∙ ap (λ (n : ℕ). cond (number == k) (Some n) (name_place k (reverse marks))) (sym (length-reverse marks))
+          ∙ sym (ap (name_place k) turned);
+      innermost = table.innermost ∙ sym (ap block_place turned);
+      settled = rw turned (less, (place_is old number hides (name_place number (reverse marks)) is (table.places number) within, (ap is_some (sym table.innermost) ∙ there, table.settled)));
+    }
+
+-- a table without the name that was declared last
+pub restored_table : (names : List (List ℕ)) (old new : List (Option ℕ)) (marks rest : List Held) (block : Option ℕ) (number : ℕ) (stands : code.Meaning) (hides : Option ℕ) → IsTable names old marks block
+    → marks ≡ rest ++ held.Name number stands hides ∷ [] → new ≡ set old number hides → IsTable names new rest block
+restored_table names old new marks rest block number stands hides table pops sets =
+    let turned = ap reverse pops ∙ reverse-append rest (held.Name number stands hides ∷ []) in
+    let settled : Settled (length names) (held.Name number stands hides ∷ reverse rest) = rw turned at table.settled in
+    let within : number < length old = omega (arith, settled.0, table.room) in
+    let was : (k : ℕ) → get_or old k None ≡ cond (number == k) (Some (length (reverse rest))) (name_place k (reverse rest)) = λ k. table.places k ∙ ap (name_place k) turned in
+    record {
+      distinct = table.distinct;
+      room = omega (arith, table.room, ap length sets, length-set old number hides);
+      places = λ k. ap (λ xs. get_or xs k None) sets ∙ place_set old number k hides within ∙ ap (cond (number == k) hides) (was k) ∙ back (number == k) k refl settled.1.0;
+      innermost = table.innermost ∙ ap block_place turned;
+      settled = settled.1.1.1;
+    }
+  where
+    back : (b : Bool) (k : ℕ) → (number == k) ≡ b → hides ≡ name_place number (reverse rest) → cond b hides (cond b (Some (length (reverse rest))) (name_place k (reverse rest))) ≡ name_place k (reverse rest)
+    back true k e is = is ∙ ap (λ n. name_place n (reverse rest)) (eqb-true number k e)
+    back false k e is = refl
+
+-- the end of a block leaves out what is declared in it
+pub outside_restored : (names : List (List ℕ)) (marks rest : List Held) (number : ℕ) (stands : code.Meaning) (hides : Option ℕ) → marks ≡ rest ++ held.Name number stands hides ∷ [] → outside (blocks_of names (reverse rest)) ≡ outside (blocks_of names (reverse marks))
+outside_restored names marks rest number stands hides pops =
+    by (blocks_of names (reverse rest)) ∙ sym (ap (λ es. outside (blocks_of names es)) (ap reverse pops ∙ reverse-append rest (held.Name number stands hides ∷ [])))
+  where
+    by : (blocks : List Block) → outside blocks ≡ outside (with_entry (name_at names number) (meaning stands) blocks)
+    by [] = refl
+    by (block ∷ blocks) = refl
 
 is_none : {X : Type 0} (o : Option X) → is_some o ≡ false → o ≡ None
 is_none None none = refl

@@ -5,8 +5,8 @@ ghost use Rattle.std.specs.Option.{option_map};
 ghost use Rattle.std.specs.List.{flat_map};
 ghost use Rattle.ckc_tree.specs.Types.{type_tree};
 ghost use Rattle.ckc_tree.specs.Expressions.{bounds as bounds_of};
-ghost use Rattle.ckc_tree.specs.Items.{member as member_of, parameter as parameter_of, structure as structure_of, parameters as parameters_of, result_form as result_of, body as body_of, function as function_of, item as item_of, tree};
-ghost use Rattle.ckc_names.specs.Mentions.{Reveal, Declare, DeclareTag, optional_mentions, type_mentions, bounds_mentions, in_block, member_mentions, listed_mentions, parameters_mentions, result_mentions, function_mentions, item_mentions, tree_mentions};
+ghost use Rattle.ckc_tree.specs.Items.{member as member_of, parameter as parameter_of, structure as structure_of, parameters as parameters_of, result_form as result_of, body as body_of, function as function_of, item as item_of};
+ghost use Rattle.ckc_names.specs.Mentions.{Reveal, Declare, DeclareTag, optional_mentions, type_mentions, bounds_mentions, in_block, member_mentions, listed_mentions, parameters_mentions, result_mentions, function_mentions, item_mentions};
 ghost use Rattle.name_resolution.specs.Slices.{body_mentions};
 ghost use Rattle.name_resolution.specs.Progress.{Passes};
 
@@ -16,9 +16,7 @@ use crate::resolver::Resolver;
 use crate::statements::statements;
 use ckc_tree::expr::BoundsText;
 use ckc_tree::identifier::Identifier;
-use ckc_tree::item::{
-    Block, Function, Item, Member, Parameter, Parameters, Program, ResultForm, Structure,
-};
+use ckc_tree::item::{Block, Function, Item, Member, Parameter, Parameters, ResultForm, Structure};
 use ckc_tree::type_form::TypeForm;
 
 // The type, the name and the bounds of a member or a parameter.
@@ -167,17 +165,11 @@ fn item(resolver: &mut Resolver, written: &Item)
     }
 }
 
-fn items(resolver: &mut Resolver, written: &[Item])
+/// The names in what stands at file level, in its order.
+pub fn items(resolver: &mut Resolver, written: &[Item])
     ensures { Passes (flat_map (λ x. item_mentions (item_of x)) written.now) resolver.old resolver.new }
 {
     for listed in written {
         item(resolver, listed);
     }
-}
-
-/// The names in a whole source, in its order.
-pub fn names_in(resolver: &mut Resolver, program: &Program)
-    ensures { Passes (tree_mentions (tree program.now)) resolver.old resolver.new }
-{
-    items(resolver, program.items.as_slice())
 }

@@ -51,7 +51,8 @@ fn is_main(written: &Item) -> bool
     }
 }
 
-fn one_is_main(written: &[Item]) -> bool
+// Whether one is a trusted `int main(void)` with a body.
+fn has_main(written: &[Item]) -> bool
     ensures { result ≡ list_any (λ x. naming.is_main (item_of x)) written.now }
 {
     for listed in written {
@@ -62,13 +63,6 @@ fn one_is_main(written: &[Item]) -> bool
     false
 }
 
-// Whether a program has a trusted `int main(void)` with a body.
-fn has_main(program: &Program) -> bool
-    ensures { result ≡ naming.has_main (tree program.now) }
-{
-    one_is_main(program.items.as_slice())
-}
-
 /// The names of a program.
 ///
 /// # Errors
@@ -77,7 +71,7 @@ fn has_main(program: &Program) -> bool
 pub fn with_main(program: &Program, names: NameList) -> Result<NameList, Refused>
     ensures { result ≡ naming.names_if (naming.has_main (tree program.now)) names }
 {
-    match need_main(has_main(program)) {
+    match need_main(has_main(program.items.as_slice())) {
         Ok(()) => Ok(names),
         Err(refused) => Err(refused),
     }

@@ -46,11 +46,4 @@ impl Named {
     {
         &self.names
     }
-
-    /// The program without its names.
-    pub fn into_program(self) -> Program
-        ensures { result ≡ self.program }
-    {
-        self.program
-    }
 }

@@ -137,8 +137,9 @@ impl Resolver {
     pub fn finish(self) -> Result<NameList, Refused>
         ensures { Finishes self result }
     {
+        let names = self.table.into_names();
         match self.outcome {
-            Ok(()) => Ok(self.table.into_names()),
+            Ok(()) => Ok(names),
             Err(refused) => Err(refused),
         }
     }

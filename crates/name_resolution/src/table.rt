@@ -130,9 +130,7 @@ impl Table {
                     self.block = outer;
                     return;
                 }
-                Held::Name { number, hides, .. } => {
-                    restore(self.current.as_mut_slice(), number, hides);
-                }
+                Held::Name { number, hides, .. } => restore(&mut self.current, number, hides),
             }
         }
     }
@@ -169,7 +167,7 @@ impl Table {
             meaning,
             hides,
         })?;
-        hide(self.current.as_mut_slice(), number, place);
+        hide(&mut self.current, number, place);
         Ok(())
     }
 

@@ -2,7 +2,7 @@ use Rattle.std.proofs.Common.{sym, ap, ◌∙◌}
 use Rattle.std.proofs.lemmas.Slice.Eq.{bytes_eq-Decides}
 use Rattle.ckc_names.specs.Naming.{with_new}
 use Rattle.name_resolution.specs.NameLists.{names_in}
-use Rattle.name_resolution.proofs.Names.{number_in, number_within, name_of_key, put_in, distinct_names}
+use Rattle.name_resolution.proofs.Names.{number_in, number_within, within_names, name_of_key, put_in, distinct_names}
 use Rattle.name_resolution.proofs.name_list.NameList.number.Goals as goal
 
 pub returns-in-Some-clause-names : goal.returns-in-Some-clause-names
@@ -35,3 +35,9 @@ returns-clause-stands c =
 
 pub returns-clause-distinct : goal.returns-clause-distinct
 returns-clause-distinct c = distinct_names c.insert_full.new.self.keys c.in_ok-number.ensures.unique
+
+pub returns-in-Some-clause-within : goal.returns-in-Some-clause-within
+returns-in-Some-clause-within c = rw (← c.self.view_is) (within_names c.self.inside.names.keys c.in-Some.number c.in-Some.ensures.within)
+
+pub returns-clause-within : goal.returns-clause-within
+returns-clause-within c = within_names c.insert_full.new.self.keys c.in_ok-number.number c.in_ok-number.ensures.within

@@ -1,0 +1,15 @@
+use Rattle.std.proofs.Common.{◌∙◌}
+use Rattle.name_resolution.proofs.Tables.{restored_table, outside_restored}
+use Rattle.name_resolution.proofs.table.Table.close.Goals as goal
+
+pub loop-held-preserved : goal.loop-held-preserved
+loop-held-preserved c =
+    let inside = c.loop-held.self-inside in
+    let name = c.in-Name in
+    let pops = rw name.is at c.in-Some.ensures.items in
+    record {
+      table = restored_table inside.names inside.current.items c.restore.new.places.items inside.held.items c.pop.new.self.items inside.block name.number name.meaning name.hides c.loop-held.invariant.table pops c.restore.ensures;
+      names = c.loop-held.invariant.names;
+      tags = c.loop-held.invariant.tags;
+      blocks = outside_restored inside.names inside.held.items c.pop.new.self.items name.number name.meaning name.hides pops ∙ c.loop-held.invariant.blocks;
+    }
