@@ -36,22 +36,16 @@ fn reveal_members(resolver: &mut Resolver, members: &[Member])
     }
 }
 
-fn declare_member(resolver: &mut Resolver, member: &Member)
-    ensures { Passes (member_mentions (member_of member.now)) resolver.old resolver.new }
-{
-    listed(
-        resolver,
-        &member.type_name.base,
-        &member.name,
-        &member.bounds,
-    )
-}
-
 fn declare_members(resolver: &mut Resolver, members: &[Member])
     ensures { Passes (flat_map (λ x. member_mentions (member_of x)) members.now) resolver.old resolver.new }
 {
     for member in members {
-        declare_member(resolver, member);
+        listed(
+            resolver,
+            &member.type_name.base,
+            &member.name,
+            &member.bounds,
+        );
     }
 }
 
@@ -70,22 +64,16 @@ fn reveal_parameters(resolver: &mut Resolver, parameters: &[Parameter])
     }
 }
 
-fn declare_parameter(resolver: &mut Resolver, parameter: &Parameter)
-    ensures { Passes (member_mentions (parameter_of parameter.now)) resolver.old resolver.new }
-{
-    listed(
-        resolver,
-        &parameter.type_name.base,
-        &parameter.name,
-        &parameter.bounds,
-    )
-}
-
 fn declare_parameters(resolver: &mut Resolver, parameters: &[Parameter])
     ensures { Passes (flat_map (λ x. member_mentions (parameter_of x)) parameters.now) resolver.old resolver.new }
 {
     for parameter in parameters {
-        declare_parameter(resolver, parameter);
+        listed(
+            resolver,
+            &parameter.type_name.base,
+            &parameter.name,
+            &parameter.bounds,
+        );
     }
 }
 
