@@ -1,4 +1,4 @@
-// Whether each name of a program is visible where it stands: a walk over the tree.
+// Whether each name of a program is visible where it stands: a table of the visible names, and a walk over the tree.
 #![tactic(auto)]
 
 mod declarations;
