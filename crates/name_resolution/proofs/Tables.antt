@@ -303,6 +303,13 @@ outside_restored names marks rest number stands hides pops =
     by [] = refl
     by (block ∷ blocks) = refl
 
+-- where no mark of a block is found, there was no block
+pub none_left : (names : List (List ℕ)) (rest marks start : List Held) (tags : List (List ℕ)) → length rest ≡ 0 → marks ≡ rest ++ [] → outside (blocks_of names (reverse marks)) ≡ outside (blocks_of names (reverse start))
+    → state_of names rest tags ≡ with_blocks (outside (blocks_of names (reverse start))) (state_of names start tags)
+none_left names [] marks start tags empty pops same =
+    ap (λ (bs : List Block). record { scopes = record { blocks = bs; tags = reverse tags }; names = names }) (ap (λ es. outside (blocks_of names (reverse es))) (sym pops) ∙ same)
+none_left names (e ∷ rest) marks start tags empty pops same = absurd (omega (arith, empty))
+
 is_none : {X : Type 0} (o : Option X) → is_some o ≡ false → o ≡ None
 is_none None none = refl
 is_none (Some x) none = absurd (true≢false none)

@@ -1,5 +1,5 @@
-use Rattle.std.proofs.Common.{◌∙◌}
-use Rattle.name_resolution.proofs.Tables.{restored_table, outside_restored}
+use Rattle.std.proofs.Common.{sym, ◌∙◌}
+use Rattle.name_resolution.proofs.Tables.{restored_table, outside_restored, none_left}
 use Rattle.name_resolution.proofs.table.Table.close.Goals as goal
 
 pub loop-held-preserved : goal.loop-held-preserved
@@ -13,3 +13,9 @@ loop-held-preserved c =
       tags = c.loop-held.invariant.tags;
       blocks = outside_restored inside.names inside.held.items c.pop.new.self.items name.number name.meaning name.hides pops ∙ c.loop-held.invariant.blocks;
     }
+
+pub returns : goal.returns
+returns c =
+    let inside = c.loop-held.self-inside in
+    let known = c.loop-held.invariant in
+    rw (← c.self.view_is, known.names, known.tags) (none_left c.self.inside.names c.pop.new.self.items inside.held.items c.self.inside.held.items c.self.inside.tags (sym c.pop.new.self.ok.0 ∙ c.in_default.ensures.cases.1) c.in_default.ensures.items (rw known.names at known.blocks))
