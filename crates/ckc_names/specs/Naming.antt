@@ -87,6 +87,11 @@ abbrev main_or_fault : Bool → Option SourceFault
 main_or_fault true = None
 main_or_fault false = Some (record { code = E28; span = start })
 
+-- goes on where there is a `main`
+abbrev pub need_main : Bool → Result (Unit {0}) Refused
+need_main true = Ok tt
+need_main false = Err (Source (record { code = E28; span = start }))
+
 -- names, where there is a `main`
 abbrev pub names_if : Bool → List (List ℕ) → Result (List (List ℕ)) Refused
 names_if true names = Ok names

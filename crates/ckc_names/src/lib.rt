@@ -1,7 +1,6 @@
-// What names stand for: tables of the names that are visible, and what each mention of a name does to one.
+// What is said of names: the definitions, and the single rules that a walk over a program keeps them by.
 #![tactic(auto)]
 
-pub mod main_function;
-pub mod mentions;
-pub mod name_list;
-pub mod table;
+pub mod hiding;
+pub mod meaning;
+pub mod refusals;

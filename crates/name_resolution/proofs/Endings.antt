@@ -2,12 +2,13 @@
 use Rattle.std.proofs.Common.{◌≡◌, ℕ, Bool, true, false, List, [], ◌∷◌, Result, Ok, Err, refl, sym, ap, ◌∙◌}
 use Rattle.ckc_text.specs.declared.fault.Refused.{Refused}
 use Rattle.ckc_text.specs.declared.fault.Refused.TheVariants.{Source, NoMemory}
+use Rattle.ckc_text.specs.declared.code.Code.TheVariants.{E28}
 use Rattle.ckc_text.specs.declared.fault.SourceFault.{SourceFault}
 use Rattle.ckc_tree.specs.Items.{Tree}
 use Rattle.ckc_names.specs.Mentions.{Mention, Open, tree_mentions}
 use Rattle.ckc_names.specs.Scopes.{Scopes, mentioned, then_mentioned, all_mentioned, at_file_level}
-use Rattle.ckc_names.specs.Naming.{name_in, with_all, names_seen, has_main, names_if, naming_fault_in, NamedTree, Names}
-use Rattle.ckc_names.specs.State.{State}
+use Rattle.ckc_names.specs.Naming.{name_in, with_all, names_seen, has_main, start, need_main, names_if, naming_fault_in, NamedTree, Names}
+use Rattle.name_resolution.specs.State.{State}
 use Rattle.name_resolution.specs.Progress.{Progress, Passes, Finishes, beginning, after, known_behind}
 
 after_fault : (ms : List Mention) (f : SourceFault) → after ms (Err f) ≡ Err f
@@ -61,3 +62,13 @@ main_names t a b names opens goes ends = by (has_main t) refl (found t a b names
     by : (main : Bool) → has_main t ≡ main → (visible_in t ≡ Ok ends.1.0) × (names ≡ names_of t) → Names (λ names. record { tree = t; names = names }) t (names_if main names)
     by true is all = (ap (λ m. naming_fault_in m (visible_in t)) is ∙ ap (naming_fault_in true) all.0, ap (λ (names : List (List ℕ)). record { tree = t; names = names }) all.1)
     by false is all = ap (λ m. naming_fault_in m (visible_in t)) is ∙ ap (naming_fault_in false) all.0
+
+-- ---- `main`
+
+pub names_with_main : (main : Bool) (names : List (List ℕ)) → Ok tt ≡ need_main main → Ok names ≡ names_if main names
+names_with_main true names is = refl
+names_with_main false names is = absurd (cc)
+
+pub refused_without_main : (main : Bool) (names : List (List ℕ)) (e : Refused) → Err e ≡ need_main main → Err e ≡ names_if main names
+refused_without_main true names e is = absurd (cc)
+refused_without_main false names e is = let same : e ≡ Source (record { code = E28; span = start }) = cc in rw same refl

@@ -5,7 +5,7 @@ use Rattle.std.specs.Option.{option_map}
 use Rattle.std.proofs.lemmas.List.{append-nil, take_more}
 use Rattle.ckc_text.specs.declared.fault.SourceFault.{SourceFault}
 use Rattle.ckc_names.specs.Mentions.{Mention}
-use Rattle.ckc_names.specs.State.{State}
+use Rattle.name_resolution.specs.State.{State}
 use Rattle.name_resolution.specs.Progress.{Progress, Passes, step, after}
 
 after_both : (ms ns : List Mention) (known : Result State SourceFault) → after (ms ++ ns) known ≡ after ns (after ms known)

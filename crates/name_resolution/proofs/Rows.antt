@@ -1,5 +1,6 @@
 -- Arguments and statements that a `Vec` holds, as the trees show them.
 use Rattle.std.proofs.Common.{◌≡◌, List, [], ◌∷◌, ◌++◌, Vec, Global, Option, refl, ap, sym, ◌∙◌}
+use Rattle.std.specs.List.{flat_map}
 use mathlib.Core.Former.{Count}
 use Rattle.ckc_text.specs.declared.place.Span.{Span}
 use Rattle.ckc_tree.specs.declared.identifier.Identifier.{Identifier}
@@ -10,9 +11,12 @@ use Rattle.ckc_tree.specs.declared.stmt.Stmt.{Stmt, Row_of-Stmt, end_of-Stmt, mo
 use Rattle.ckc_tree.specs.declared.stmt.Stmt.TheVariants as stmts
 use Rattle.ckc_tree.specs.Expressions.{expression, expressions}
 use Rattle.ckc_tree.specs.Statements.{statement, statements}
-use Rattle.ckc_tree.specs.Items.{statement_list}
-use Rattle.ckc_names.specs.Mentions.{Call, expression_mentions, expressions_mentions, in_block, statement_mentions, statements_mentions}
+use Rattle.ckc_tree.specs.declared.item.Item.{Item}
+use Rattle.ckc_tree.specs.declared.item.Program.{Program}
+use Rattle.ckc_tree.specs.Items.{statement_list, item, tree}
+use Rattle.ckc_names.specs.Mentions.{Call, expression_mentions, expressions_mentions, in_block, statement_mentions, statements_mentions, item_mentions, tree_mentions}
 use Rattle.name_resolution.specs.Slices.{arguments_mentions, block_mentions}
+use Rattle.name_resolution.proofs.Going.{flat_shown}
 
 abbrev arguments_row : Expr → (n : Count) × Row_of-Expr n
 arguments_row (exprs.Call' callee shape row span) = (_, row)
@@ -48,3 +52,7 @@ block_says x mark inner span slice is same =
 pub body_says : (xs : List Stmt) → statements_mentions (statement_list xs) ≡ block_mentions xs
 body_says [] = refl
 body_says (x ∷ xs) = ap (λ ms. statement_mentions (statement x) ++ ms) (body_says xs)
+
+-- the items of a program
+pub program_says : (program : Program) (slice : List Item) → slice ≡ program.items.items → flat_map (λ x. item_mentions (item x)) slice ≡ tree_mentions (tree program)
+program_says program slice is = ap (flat_map (λ x. item_mentions (item x))) is ∙ sym (flat_shown item_mentions item program.items.items)

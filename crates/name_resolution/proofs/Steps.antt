@@ -6,7 +6,7 @@ use Rattle.ckc_text.specs.declared.fault.SourceFault.{SourceFault}
 use Rattle.ckc_names.specs.Mentions.{Mention}
 use Rattle.ckc_names.specs.Scopes.{Scopes, mentioned, then_mentioned, all_mentioned}
 use Rattle.ckc_names.specs.Naming.{name_in, with_all}
-use Rattle.ckc_names.specs.State.{State, Goes}
+use Rattle.name_resolution.specs.State.{State, Goes}
 use Rattle.name_resolution.specs.Progress.{Passes, progress, known_behind}
 
 known_then : (q : Result Scopes SourceFault) (names : List (List ℕ)) (t : State) → then_mentioned q (all_mentioned []) ≡ Ok t.scopes → names ≡ t.names → Ok t ≡ known_behind names q

@@ -6,7 +6,7 @@ use Rattle.ckc_text.specs.declared.fault.SourceFault.{SourceFault}
 use Rattle.ckc_names.specs.Mentions.{Mention}
 use Rattle.ckc_names.specs.Scopes.{Scopes, mentioned}
 use Rattle.ckc_names.specs.Naming.{name_in, with_all}
-use Rattle.ckc_names.specs.State.{State, nothing_known}
+use Rattle.name_resolution.specs.State.{State, nothing_known}
 
 -- what is known behind a mention, where the names before it are known
 abbrev pub known_behind : List (List ℕ) → Result Scopes SourceFault → Result State SourceFault

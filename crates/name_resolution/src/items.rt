@@ -5,8 +5,8 @@ ghost use Rattle.std.specs.Option.{option_map};
 ghost use Rattle.std.specs.List.{flat_map};
 ghost use Rattle.ckc_tree.specs.Types.{type_tree};
 ghost use Rattle.ckc_tree.specs.Expressions.{bounds as bounds_of};
-ghost use Rattle.ckc_tree.specs.Items.{member as member_of, parameter as parameter_of, structure as structure_of, parameters as parameters_of, result_form as result_of, body as body_of, function as function_of, item as item_of, tree};
-ghost use Rattle.ckc_names.specs.Mentions.{Reveal, Declare, DeclareTag, optional_mentions, type_mentions, bounds_mentions, in_block, member_mentions, listed_mentions, parameters_mentions, result_mentions, function_mentions, item_mentions, tree_mentions};
+ghost use Rattle.ckc_tree.specs.Items.{member as member_of, parameter as parameter_of, structure as structure_of, parameters as parameters_of, result_form as result_of, body as body_of, function as function_of, item as item_of};
+ghost use Rattle.ckc_names.specs.Mentions.{Reveal, Declare, DeclareTag, optional_mentions, type_mentions, bounds_mentions, in_block, member_mentions, listed_mentions, parameters_mentions, result_mentions, function_mentions, item_mentions};
 ghost use Rattle.name_resolution.specs.Slices.{body_mentions};
 ghost use Rattle.name_resolution.specs.Progress.{Passes};
 
@@ -16,9 +16,7 @@ use crate::resolver::Resolver;
 use crate::statements::statements;
 use ckc_tree::expr::BoundsText;
 use ckc_tree::identifier::Identifier;
-use ckc_tree::item::{
-    Block, Function, Item, Member, Parameter, Parameters, Program, ResultForm, Structure,
-};
+use ckc_tree::item::{Block, Function, Item, Member, Parameter, Parameters, ResultForm, Structure};
 use ckc_tree::type_form::TypeForm;
 
 // The type, the name and the bounds of a member or a parameter.
@@ -38,22 +36,16 @@ fn reveal_members(resolver: &mut Resolver, members: &[Member])
     }
 }
 
-fn declare_member(resolver: &mut Resolver, member: &Member)
-    ensures { Passes (member_mentions (member_of member.now)) resolver.old resolver.new }
-{
-    listed(
-        resolver,
-        &member.type_name.base,
-        &member.name,
-        &member.bounds,
-    )
-}
-
 fn declare_members(resolver: &mut Resolver, members: &[Member])
     ensures { Passes (flat_map (λ x. member_mentions (member_of x)) members.now) resolver.old resolver.new }
 {
     for member in members {
-        declare_member(resolver, member);
+        listed(
+            resolver,
+            &member.type_name.base,
+            &member.name,
+            &member.bounds,
+        );
     }
 }
 
@@ -72,22 +64,16 @@ fn reveal_parameters(resolver: &mut Resolver, parameters: &[Parameter])
     }
 }
 
-fn declare_parameter(resolver: &mut Resolver, parameter: &Parameter)
-    ensures { Passes (member_mentions (parameter_of parameter.now)) resolver.old resolver.new }
-{
-    listed(
-        resolver,
-        &parameter.type_name.base,
-        &parameter.name,
-        &parameter.bounds,
-    )
-}
-
 fn declare_parameters(resolver: &mut Resolver, parameters: &[Parameter])
     ensures { Passes (flat_map (λ x. member_mentions (parameter_of x)) parameters.now) resolver.old resolver.new }
 {
     for parameter in parameters {
-        declare_parameter(resolver, parameter);
+        listed(
+            resolver,
+            &parameter.type_name.base,
+            &parameter.name,
+            &parameter.bounds,
+        );
     }
 }
 
@@ -167,17 +153,11 @@ fn item(resolver: &mut Resolver, written: &Item)
     }
 }
 
-fn items(resolver: &mut Resolver, written: &[Item])
+/// The names in what stands at file level, in its order.
+pub fn items(resolver: &mut Resolver, written: &[Item])
     ensures { Passes (flat_map (λ x. item_mentions (item_of x)) written.now) resolver.old resolver.new }
 {
     for listed in written {
         item(resolver, listed);
     }
-}
-
-/// The names in a whole source, in its order.
-pub fn names_in(resolver: &mut Resolver, program: &Program)
-    ensures { Passes (tree_mentions (tree program.now)) resolver.old resolver.new }
-{
-    items(resolver, program.items.as_slice())
 }

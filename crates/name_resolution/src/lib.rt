@@ -1,11 +1,15 @@
-// Whether each name of a program is visible where it stands: a walk over the tree.
+// Whether each name of a program is visible where it stands: a table of the visible names, and a walk over the tree.
 #![tactic(auto)]
 
 mod declarations;
 mod expressions;
 mod items;
 pub mod laws;
+mod main_function;
+mod mentions;
+pub mod name_list;
 pub mod named;
 pub mod resolve;
 mod resolver;
 mod statements;
+mod table;

@@ -2,7 +2,7 @@
 
 ghost use Rattle.std.specs.Prelude.{◌≡◌};
 
-use ckc_names::name_list::NameList;
+use crate::name_list::NameList;
 use ckc_tree::item::Program;
 use std::marker::Model;
 
@@ -45,12 +45,5 @@ impl Named {
         ensures { result.now ≡ self.now.names }
     {
         &self.names
-    }
-
-    /// The program without its names.
-    pub fn into_program(self) -> Program
-        ensures { result ≡ self.program }
-    {
-        self.program
     }
 }

@@ -5,11 +5,11 @@ ghost use Rattle.ckc_tree.specs.Items.{tree};
 ghost use Rattle.ckc_names.specs.Naming.{Names};
 ghost use Rattle.name_resolution.specs.Named.{named_tree};
 
-use crate::items::names_in;
+use crate::items::items;
+use crate::main_function::with_main;
+use crate::name_list::NameList;
 use crate::named::Named;
 use crate::resolver::Resolver;
-use ckc_names::main_function::with_main;
-use ckc_names::name_list::NameList;
 use ckc_text::fault::Refused;
 use ckc_tree::item::Program;
 use std::alloc::Global;
@@ -20,7 +20,7 @@ fn names_of(alloc: Global, program: &Program) -> Result<NameList, Refused>
 {
     let mut resolver = Resolver::new(alloc);
     resolver.open();
-    names_in(&mut resolver, program);
+    items(&mut resolver, program.items.as_slice());
     match resolver.finish() {
         Ok(names) => with_main(program, names),
         Err(refused) => Err(refused),

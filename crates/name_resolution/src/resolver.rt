@@ -4,9 +4,9 @@ ghost use Rattle.std.specs.Prelude.{◌≡◌, ◌∷◌, []};
 ghost use Rattle.ckc_names.specs.Mentions as m;
 ghost use Rattle.name_resolution.specs.Progress.{beginning, Passes, Finishes};
 
-use ckc_names::mentions;
-use ckc_names::name_list::NameList;
-use ckc_names::table::Table;
+use crate::mentions;
+use crate::name_list::NameList;
+use crate::table::Table;
 use ckc_text::fault::Refused;
 use ckc_tree::identifier::Identifier;
 use std::alloc::Global;
@@ -137,8 +137,9 @@ impl Resolver {
     pub fn finish(self) -> Result<NameList, Refused>
         ensures { Finishes self result }
     {
+        let names = self.table.into_names();
         match self.outcome {
-            Ok(()) => Ok(self.table.into_names()),
+            Ok(()) => Ok(names),
             Err(refused) => Err(refused),
         }
     }

@@ -50,3 +50,12 @@ expression-returns-in-None t c =
 pub expression-returns-in-Some : goal.expression-returns-in-Some
 expression-returns-in-Some t c =
     on (rw (c.in-Cast.is, c.in-Some.is, c.deref-in-Some.ensures, c.deref-in-Some-2.ensures) refl) c.type_form-in-Some.ensures (on refl c.expression-in-Some.ensures c.bounds.ensures)
+
+pub expression-returns-in-Name : goal.expression-returns-in-Name
+expression-returns-in-Name t c = rw c.in-Name.is c.use_value.ensures
+
+pub expression-returns-in-SizeOf : goal.expression-returns-in-SizeOf
+expression-returns-in-SizeOf t c = rw c.in-SizeOf.is c.type_form.ensures
+
+pub expression-returns-in-Unary : goal.expression-returns-in-Unary
+expression-returns-in-Unary t c = rw (c.in-Unary.is, ← c.deref-in-Unary.ensures) c.expression-in-Unary.ensures

@@ -6,5 +6,5 @@ use Rattle.name_resolution.proofs.items.declare_parameters.Goals as goal
 
 pub loop-parameter-preserved : goal.loop-parameter-preserved
 loop-parameter-preserved c = record {
-  so_far = part_more (λ x. member_mentions (parameter x)) c.args.parameters.now c.loop-parameter.parameter-index c.parameter-item.result (omega (arith, c.loop-parameter-test.true)) c.parameter-item.is c.loop-parameter.invariant.so_far c.declare_parameter.ensures;
+  so_far = part_more (λ x. member_mentions (parameter x)) c.args.parameters.now c.loop-parameter.parameter-index c.parameter-item.result (omega (arith, c.loop-parameter-test.true)) c.parameter-item.is c.loop-parameter.invariant.so_far c.listed.ensures;
 }

@@ -1,16 +1,19 @@
 use Rattle.std.proofs.Common.{ℕ, List}
 use Rattle.ckc_tree.specs.Items.{tree}
 use Rattle.name_resolution.proofs.Endings.{refused_names, main_names}
+use Rattle.name_resolution.proofs.Rows.{program_says}
 use Rattle.name_resolution.proofs.resolve.names_of.Goals as goal
 
 pub returns-in-Ok : goal.returns-in-Ok
 returns-in-Ok c =
     let opens = rw c.new-resolver.ensures at c.open.ensures in
+    let walks = rw (program_says c.args.program.now c.as_slice.result.now c.as_slice.ensures.value) at c.items.ensures in
     let ends = rw c.in-Ok.is at c.finish.ensures in
-    rw c.with_main.ensures (main_names (tree c.args.program.now) c.open.new.self c.names_in.new.resolver c.in-Ok.names opens c.names_in.ensures ends)
+    rw c.with_main.ensures (main_names (tree c.args.program.now) c.open.new.self c.items.new.resolver c.in-Ok.names opens walks ends)
 
 pub returns-in-Err : goal.returns-in-Err
 returns-in-Err c =
     let opens = rw c.new-resolver.ensures at c.open.ensures in
+    let walks = rw (program_says c.args.program.now c.as_slice.result.now c.as_slice.ensures.value) at c.items.ensures in
     let ends = rw c.in-Err.is at c.finish.ensures in
-    refused_names (λ (names : List (List ℕ)). record { tree = tree c.args.program.now; names = names }) (tree c.args.program.now) c.open.new.self c.names_in.new.resolver c.in-Err.refused opens c.names_in.ensures ends
+    refused_names (λ (names : List (List ℕ)). record { tree = tree c.args.program.now; names = names }) (tree c.args.program.now) c.open.new.self c.items.new.resolver c.in-Err.refused opens walks ends

@@ -41,3 +41,15 @@ statements-loop-listed-preserved t c =
     record {
       so_far = part_more (λ x. statement_mentions (statement x)) c.args.written.now c.loop-listed.listed-index c.listed-item.result (omega (arith, c.loop-listed-test.true)) c.listed-item.is c.loop-listed.invariant.so_far c.statement.ensures;
     }
+
+pub statement-returns-in-Declare : goal.statement-returns-in-Declare
+statement-returns-in-Declare t c = rw c.in-Declare.is c.declaration.ensures
+
+pub statement-returns-in-Assign : goal.statement-returns-in-Assign
+statement-returns-in-Assign t c = rw c.in-Assign.is c.assignment.ensures
+
+pub statement-returns-in-Call : goal.statement-returns-in-Call
+statement-returns-in-Call t c = rw (c.in-Call.is, ← c.deref.ensures) c.expression.ensures
+
+pub statement-returns-in-Return : goal.statement-returns-in-Return
+statement-returns-in-Return t c = rw c.in-Return.is c.optional_expression.ensures
