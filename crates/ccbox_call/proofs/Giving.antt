@@ -24,11 +24,13 @@ use Rattle.sandbox_actor.specs.ActLists.{ActList}
 use Rattle.code_words.specs.declared.image.Image.{Image}
 use Rattle.lowered_code.specs.Correct.{KeepsMeaning}
 use Rattle.run_core.specs.Runs.{Outcome, Ends, LineRefused, FileMissing, Comes, WritesAll, WritesFront, Counts}
-use Rattle.ccbox_call.specs.Texts.{refused_text, act_refused_text}
+use Rattle.run_transcript.specs.Diagnostics.{refused_text, act_refused_text}
+use Rattle.exit_status.specs.Statuses.{status_of}
+use Rattle.exit_status.specs.Given.{all, failed, LineGiven, given, unmade}
 use Rattle.command_words.specs.Requests.{Options, settings_of, inputs_of}
 use Rattle.ccbox_call.specs.Acceptance.{IsAcceptedCore, no_tokens}
-use Rattle.ccbox_call.specs.Answers.{acts_at, status_of, ListAnswer, CoreAnswer, acts, SourceAnswer, refused, accepted}
-use Rattle.ccbox_call.specs.Calls.{all, failed, LineGiven, given, unmade, IsFoundStatus, StatusCounts, Gives, answered, output_failed, files_failed, no_memory, no_memory_behind}
+use Rattle.ccbox_call.specs.Answers.{acts_at, ListAnswer, CoreAnswer, acts, SourceAnswer, refused, accepted}
+use Rattle.ccbox_call.specs.Calls.{IsFoundStatus, StatusCounts, Gives, answered, output_failed, files_failed, no_memory, no_memory_behind}
 use Rattle.ccbox_call.proofs.Fronts.{core_or_fault, one_refusal}
 use Rattle.ccbox_call.proofs.ListRuns.{FromList, Answers, whole, front, answers}
 

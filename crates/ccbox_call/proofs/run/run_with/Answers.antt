@@ -20,7 +20,7 @@ pub returns-in-Err-Line : goal.returns-in-Err-Line
 returns-in-Err-Line g c =
     let h = rw c.in-Err-Line.field-0-is at c.in-Err-Line.ensures in
     line_refused_gives (core c.args.program.now) c.in-Ok.image c.args.settings.now c.args.inputs.now c.args.actor.now c.requires.accepted c.in-Ok.ensures.meaning c.requires.allowed c.requires.words c.requires.acts
-    c.in-Err-Line.line c.in-Err-Line.code _ _ _ _ _ _ _ c.give_line.result h.writes h.counts (c.give_line.ensures _ c.act_refused_line.ensures)
+    c.in-Err-Line.line c.in-Err-Line.code _ _ _ _ _ _ _ c.give_act_refused.result h.writes h.counts c.give_act_refused.ensures
 
 pub returns-in-Err-Missing : goal.returns-in-Err-Missing
 returns-in-Err-Missing g c =
