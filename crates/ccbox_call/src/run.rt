@@ -23,11 +23,10 @@ use ckc_text::fault::{Refused, SourceFault};
 use ckc_text::place::Place;
 use ckc_tokens::limits::MAX_SOURCE;
 use command_words::request::Options;
-use exit_status::output::{give_act_refused, give_missing, give_refused};
-use exit_status::status::{FILE_MISSING, FILES_FAILED, NO_MEMORY, OUTPUT_FAILED, status_of};
+use exit_status::output::{give_missing, give_outcome, give_refused};
+use exit_status::status::{FILES_FAILED, NO_MEMORY};
 use lowering::lower::lower;
 use run_core::run::run;
-use run_transcript::fault::RunFault;
 use sandbox_actor::actor::ActorFault;
 use sandbox_actor::list_actor::ListActor;
 use source_places::place::place_of;
@@ -146,13 +145,6 @@ fn run_with<F: Shelf, K: Sink>(
     let Ok(image) = lower(alloc, program) else {
         return NO_MEMORY;
     };
-    match run(alloc, &image, settings, inputs, actor, shelf, sink) {
-        Ok(ending) => status_of(&ending),
-        Err(RunFault::Line { line, code }) => give_act_refused(alloc, line, code, sink),
-        // An actor of a list has read its file.
-        Err(RunFault::Missing) => FILE_MISSING,
-        Err(RunFault::ShelfFailed) => FILES_FAILED,
-        Err(RunFault::SinkFailed) => OUTPUT_FAILED,
-        Err(RunFault::NoMemory) => NO_MEMORY,
-    }
+    let outcome = run(alloc, &image, settings, inputs, actor, shelf, sink);
+    give_outcome(alloc, outcome, sink)
 }

@@ -1,17 +1,37 @@
 // Writing one line, and the status behind it.
 
 ghost use Rattle.std.specs.Prelude.{◌≡◌, ℕ, List, IfOk};
-ghost use Rattle.exit_status.specs.Given.{TextGiven, LineGiven};
+ghost use Rattle.exit_status.specs.Given.{TextGiven, LineGiven, OutcomeGiven};
 ghost use Rattle.run_transcript.specs.Diagnostics.{refused_text, act_refused_text, missing_text, usage_text};
 
-use crate::status::{FILE_MISSING, LINE_REFUSED, NO_MEMORY, OUTPUT_FAILED, SOURCE_REFUSED, USAGE};
+use crate::status::{
+    FILE_MISSING, FILES_FAILED, LINE_REFUSED, NO_MEMORY, OUTPUT_FAILED, SOURCE_REFUSED, USAGE,
+    status_of,
+};
+use act_words::ending::Ending;
 use ckc_io::sink::{Sink, SinkFault};
 use ckc_io::whole::write_whole;
 use ckc_text::code::Code;
 use ckc_text::fault::NoMemory;
 use ckc_text::place::Place;
 use run_transcript::diagnostics::{act_refused_line, missing_line, refused_line, usage_line};
+use run_transcript::fault::RunFault;
 use std::alloc::Global;
+
+/// Writes the line that a run leaves to its caller, where the run needs a line of the acts that is refused, and answers the
+/// status of what the run came to.
+pub fn give_outcome<K: Sink>(alloc: Global, outcome: Result<Ending, RunFault>, sink: &mut K) -> u8
+    ensures { OutcomeGiven outcome (K.written sink.old) (K.written sink.new) (K.faults sink.old) (K.faults sink.new) result }
+{
+    match outcome {
+        Ok(ending) => status_of(&ending),
+        Err(RunFault::Line { line, code }) => give_act_refused(alloc, line, code, sink),
+        Err(RunFault::Missing) => FILE_MISSING,
+        Err(RunFault::ShelfFailed) => FILES_FAILED,
+        Err(RunFault::SinkFailed) => OUTPUT_FAILED,
+        Err(RunFault::NoMemory) => NO_MEMORY,
+    }
+}
 
 /// Writes the line of a refused source, and answers its status, or that of a failed output or of want of memory.
 pub fn give_refused<K: Sink>(alloc: Global, code: Code, place: Place, sink: &mut K) -> u8
@@ -20,8 +40,8 @@ pub fn give_refused<K: Sink>(alloc: Global, code: Code, place: Place, sink: &mut
     give_line(sink, refused_line(alloc, code, place), SOURCE_REFUSED)
 }
 
-/// The same of a refused line of acts, which has this number.
-pub fn give_act_refused<K: Sink>(alloc: Global, line: u64, code: Code, sink: &mut K) -> u8
+// The same of a refused line of acts, which has this number.
+fn give_act_refused<K: Sink>(alloc: Global, line: u64, code: Code, sink: &mut K) -> u8
     ensures { LineGiven (act_refused_text line code) 8 (K.written sink.old) (K.written sink.new) (K.faults sink.old) (K.faults sink.new) result }
 {
     give_line(sink, act_refused_line(alloc, line, code), LINE_REFUSED)
