@@ -133,14 +133,14 @@ module _ (c : Core) (image : Image) (settings : Settings) (inputs : List ℤ) (l
   output_gives {files} {last} {old} {new} {before} {after} w misses faults rises = fronted w.text w.outcome w.size old new before after (answers_of w.comes) w.fits w.front misses faults rises
 
   -- what a run came to, and the line and the status behind it
-  pub outcome_gives : {files : Option Files} {last : ActList} {old mid new : Option (List ℕ)} (outcome : Result Ending RunFault) (m m' f f' k j k' status : ℕ) → RunWrites FromList files image settings inputs list last outcome old mid →
+  pub outcome_gives : (files : Option Files) (last : ActList) (old mid new : Option (List ℕ)) (outcome : Result Ending RunFault) (m m' f f' k j k' status : ℕ) → RunWrites FromList files image settings inputs list last old mid outcome →
       RunCounts outcome (record { misses = m; faults = f; sink = k }) (record { misses = m'; faults = f'; sink = j }) → OutcomeGiven outcome mid new j k' status → Gives IsAnswer old new (record { misses = m; faults = f; sink = k }) (record { misses = m'; faults = f'; sink = k' }) status
-  outcome_gives (Ok ending) m m' f f' k j k' status w counts made = rw (made.1, made.2) (run_gives ending status w counts made.0)
-  outcome_gives (Err (faults.Line line code)) m m' f f' k j k' status w counts made = line_refused_gives line code m m' f f' k j k' status w counts made
-  outcome_gives {files} {last} {old} {mid} (Err faults.Missing) m m' f f' k j k' status w counts made = absurd (never_missing old mid w)
-  outcome_gives (Err faults.ShelfFailed) m m' f f' k j k' status w counts made = rw (made.0, made.1, made.2) (files_failed w counts.0 counts.1 counts.2)
-  outcome_gives (Err faults.SinkFailed) m m' f f' k j k' status w counts made = rw (made.0, made.1, made.2) (output_gives w counts.0 counts.1 counts.2)
-  outcome_gives (Err faults.NoMemory) m m' f f' k j k' status w counts made = rw (made.0, made.1, made.2) (no_memory w counts.0 counts.1 counts.2)
+  outcome_gives files last old mid new (Ok ending) m m' f f' k j k' status w counts made = rw (made.1, made.2) (run_gives ending status w counts made.0)
+  outcome_gives files last old mid new (Err (faults.Line line code)) m m' f f' k j k' status w counts made = line_refused_gives line code m m' f f' k j k' status w counts made
+  outcome_gives files last old mid new (Err faults.Missing) m m' f f' k j k' status w counts made = absurd (never_missing old mid w)
+  outcome_gives files last old mid new (Err faults.ShelfFailed) m m' f f' k j k' status w counts made = rw (made.0, made.1, made.2) (files_failed w counts.0 counts.1 counts.2)
+  outcome_gives files last old mid new (Err faults.SinkFailed) m m' f f' k j k' status w counts made = rw (made.0, made.1, made.2) (output_gives w counts.0 counts.1 counts.2)
+  outcome_gives files last old mid new (Err faults.NoMemory) m m' f f' k j k' status w counts made = rw (made.0, made.1, made.2) (no_memory w counts.0 counts.1 counts.2)
 
 -- ---- from lists to files
 

@@ -11,7 +11,7 @@ lower-requires g c = lowerable (core c.args.program.now) c.requires.accepted
 pub returns-in_default : goal.returns-in_default
 returns-in_default g c = no_memory refl (omega arith) refl refl
 
-pub returns-in-Ok : goal.returns-in-Ok
-returns-in-Ok g c =
+pub returns : goal.returns
+returns g c =
     outcome_gives (core c.args.program.now) c.in-Ok.image c.args.settings.now c.args.inputs.now c.args.actor.now c.requires.accepted c.in-Ok.ensures.meaning c.requires.allowed c.requires.words c.requires.acts
-    c.run-outcome.result _ _ _ _ _ _ _ c.give_outcome.result c.run-outcome.ensures.writes c.run-outcome.ensures.counts c.give_outcome.ensures
+    _ _ _ _ _ c.run-outcome.result _ _ _ _ _ _ _ c.give_outcome.result c.run-outcome.ensures.writes c.run-outcome.ensures.counts c.give_outcome.ensures
