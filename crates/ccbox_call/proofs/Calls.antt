@@ -15,11 +15,12 @@ use Rattle.ckc_core.specs.States.{State}
 use Rattle.sandbox_actor.specs.ActLists.{ActList, RefusedLine}
 use Rattle.run_core.specs.Runs.{Counts}
 use Rattle.command_words.specs.Requests.{Run, Options, settings_of, inputs_of, request_of}
-use Rattle.ccbox_call.specs.Texts.{usage_text, missing_text}
+use Rattle.run_transcript.specs.Diagnostics.{usage_text, missing_text}
+use Rattle.exit_status.specs.Given.{TextGiven, all, failed, LineGiven, given, unmade}
 use Rattle.ccbox_call.specs.Acceptance.{Accepts, IsRefused}
-use Rattle.ccbox_call.specs.Answers.{RunsTo, needed_line, text_of, status_of, status_with, ListAnswer, ran, CoreAnswer, acts_missing, acts, SourceAnswer, refused, accepted, FileAnswer, missing, source, Answer, IsFailure, WritesFront, GivesFront, GivesWhole, Exactly, AsksToRun, AsksFor, SourceIsRefused, RunEndsWith, RunExits, CheckFails, RunStops, LineIsRefused, FileIsMissing, PrintsRun, PrintedRun, IsComplete, IsQuiet, IsUntouched}
+use Rattle.ccbox_call.specs.Answers.{RunsTo, needed_line, text_of, status_with, ListAnswer, ran, CoreAnswer, acts_missing, acts, SourceAnswer, refused, accepted, FileAnswer, missing, source, Answer, IsFailure, WritesFront, GivesFront, GivesWhole, Exactly, AsksToRun, AsksFor, SourceIsRefused, RunEndsWith, RunExits, CheckFails, RunStops, LineIsRefused, FileIsMissing, PrintsRun, PrintedRun, IsComplete, IsQuiet, IsUntouched}
 use Rattle.ccbox_call.specs.Answers as answers
-use Rattle.ccbox_call.specs.Calls.{TextGiven, all, failed, LineGiven, given, unmade, StatusCounts, Gives, answered, output_failed, files_failed, no_memory, no_memory_behind, CallEnds, usage, asked}
+use Rattle.ccbox_call.specs.Calls.{StatusCounts, Gives, answered, output_failed, files_failed, no_memory, no_memory_behind, CallEnds, usage, asked}
 use Rattle.ccbox_call.proofs.OneAnswer.{one_answer}
 use Rattle.ccbox_call.proofs.Runs.{ends_over, view_over}
 

@@ -1,6 +1,6 @@
 -- How the parts of a call give their answers.
 use Rattle.std.proofs.Common.{◌≡◌, ℕ, ℤ, ◌+◌, ◌<◌, ◌≤◌, nat_lt, Bool, true, false, inl, inr, List, ◌++◌, length, take, Option, Some, refl, sym, ap, ◌∙◌, subst, arith, length-append}
-use Rattle.std.specs.Prelude.{All, IsTrue}
+use Rattle.std.specs.Prelude.{All, IsTrue, Result, Ok, Err}
 use Rattle.std.proofs.lemmas.Bool.{ltb-true, ltb-false}
 use Rattle.std.proofs.lemmas.List.{take-append-le, take_all, length-take}
 use Rattle.std.proofs.Math.Seq.{take-append_seam, take-append-add}
@@ -23,12 +23,16 @@ use Rattle.ckc_core.specs.Core.{Core}
 use Rattle.sandbox_actor.specs.ActLists.{ActList}
 use Rattle.code_words.specs.declared.image.Image.{Image}
 use Rattle.lowered_code.specs.Correct.{KeepsMeaning}
-use Rattle.run_core.specs.Runs.{Outcome, Ends, LineRefused, FileMissing, Comes, WritesAll, WritesFront, Counts}
-use Rattle.ccbox_call.specs.Texts.{refused_text, act_refused_text}
+use Rattle.run_transcript.specs.declared.fault.RunFault.{RunFault}
+use Rattle.run_transcript.specs.declared.fault.RunFault.TheVariants as faults
+use Rattle.run_core.specs.Runs.{Outcome, Ends, LineRefused, FileMissing, Comes, WritesAll, WritesFront, RunWrites, Counts, RunCounts}
+use Rattle.run_transcript.specs.Diagnostics.{refused_text, act_refused_text}
+use Rattle.exit_status.specs.Statuses.{status_of}
+use Rattle.exit_status.specs.Given.{all, failed, LineGiven, given, unmade, OutcomeGiven}
 use Rattle.command_words.specs.Requests.{Options, settings_of, inputs_of}
 use Rattle.ccbox_call.specs.Acceptance.{IsAcceptedCore, no_tokens}
-use Rattle.ccbox_call.specs.Answers.{acts_at, status_of, ListAnswer, CoreAnswer, acts, SourceAnswer, refused, accepted}
-use Rattle.ccbox_call.specs.Calls.{all, failed, LineGiven, given, unmade, IsFoundStatus, StatusCounts, Gives, answered, output_failed, files_failed, no_memory, no_memory_behind}
+use Rattle.ccbox_call.specs.Answers.{acts_at, ListAnswer, CoreAnswer, acts, SourceAnswer, refused, accepted}
+use Rattle.ccbox_call.specs.Calls.{IsFoundStatus, StatusCounts, Gives, answered, output_failed, files_failed, no_memory, no_memory_behind}
 use Rattle.ccbox_call.proofs.Fronts.{core_or_fault, one_refusal}
 use Rattle.ccbox_call.proofs.ListRuns.{FromList, Answers, whole, front, answers}
 
@@ -80,7 +84,7 @@ module _ (c : Core) (image : Image) (settings : Settings) (inputs : List ℤ) (l
   ended_gives : (text : List ℕ) (ending : Ending) (old new : Option (List ℕ)) (before : Counts) → Answers c image settings inputs list is keeps allowed are_words are text (Ends ending) → new ≡ grown old text → Gives IsAnswer old new before before (status_of ending)
   ended_gives text _ old new before (whole ending a) written = answered text (status_of ending) a (unchanged ending before) written refl
 
-  pub run_gives : {files : Option Files} {last : ActList} {old new : Option (List ℕ)} {before after : Counts} (ending : Ending) (status : ℕ) → WritesAll FromList files image settings inputs list last (Ends ending) old new → after ≡ before → status ≡ status_of ending → Gives IsAnswer old new before after status
+  run_gives : {files : Option Files} {last : ActList} {old new : Option (List ℕ)} {before after : Counts} (ending : Ending) (status : ℕ) → WritesAll FromList files image settings inputs list last (Ends ending) old new → after ≡ before → status ≡ status_of ending → Gives IsAnswer old new before after status
   run_gives {files} {last} {old} {new} {before} {after} ending status w same is_status =
       subst (λ x. Gives IsAnswer old new before x status) (sym same)
       (subst (Gives IsAnswer old new before before) (sym is_status) (ended_gives w.0 ending old new before (answers_of w.1) w.2))
@@ -100,7 +104,7 @@ module _ (c : Core) (image : Image) (settings : Settings) (inputs : List ℤ) (l
       subst (Gives IsAnswer old new (record { misses = m; faults = f; sink = k }) (record { misses = m; faults = f; sink = k' })) (sym nine)
       (no_memory_behind (text ++ act_refused_text line code) 8 (length text) a (omega (arith, length-append text (act_refused_text line code))) (same ∙ first ∙ ap (grown old) (sym (take-append_seam text (act_refused_text line code)))) (omega arith) refl still)
 
-  pub line_refused_gives : {files : Option Files} {last : ActList} {old mid new : Option (List ℕ)} (line : ℕ) (code : Code) (m m' f f' k j k' result : ℕ) → WritesAll FromList files image settings inputs list last (LineRefused line code) old mid → ◌≡◌ {A = Counts} (record { misses = m'; faults = f'; sink = j }) (record { misses = m; faults = f; sink = k }) → LineGiven (act_refused_text line code) 8 mid new j k' result →
+  line_refused_gives : {files : Option Files} {last : ActList} {old mid new : Option (List ℕ)} (line : ℕ) (code : Code) (m m' f f' k j k' result : ℕ) → WritesAll FromList files image settings inputs list last (LineRefused line code) old mid → ◌≡◌ {A = Counts} (record { misses = m'; faults = f'; sink = j }) (record { misses = m; faults = f; sink = k }) → LineGiven (act_refused_text line code) 8 mid new j k' result →
       Gives IsAnswer old new (record { misses = m; faults = f; sink = k }) (record { misses = m'; faults = f'; sink = k' }) result
   line_refused_gives {files} {last} {old} {mid} {new} line code m m' f f' k j k' result w same made =
       let misses = ap (λ (x : Counts). x.misses) same in
@@ -116,7 +120,7 @@ module _ (c : Core) (image : Image) (settings : Settings) (inputs : List ℤ) (l
       by _ (whole ending a) e = cc
       by _ (front line code a) e = cc
 
-  pub never_missing : {files : Option Files} {last : ActList} (old new : Option (List ℕ)) → WritesAll FromList files image settings inputs list last FileMissing old new → ⊥
+  never_missing : {files : Option Files} {last : ActList} (old new : Option (List ℕ)) → WritesAll FromList files image settings inputs list last FileMissing old new → ⊥
   never_missing old new w = not_missing (answers_of w.1)
 
   -- a front of a run's text
@@ -125,8 +129,18 @@ module _ (c : Core) (image : Image) (settings : Settings) (inputs : List ℤ) (l
   fronted text _ n old new before after (front line code a) le part misses faults rises =
       output_failed (text ++ act_refused_text line code) 8 n a misses faults (omega (arith, length-append text (act_refused_text line code), le)) (part ∙ ap (grown old) (sym (take-append-le n text (act_refused_text line code) le))) rises
 
-  pub output_gives : {files : Option Files} {last : ActList} {old new : Option (List ℕ)} {before after : Counts} → WritesFront FromList files image settings inputs list last old new → before.misses ≤ after.misses → after.faults ≡ before.faults → Rises before.sink after.sink → Gives IsAnswer old new before after 5
+  output_gives : {files : Option Files} {last : ActList} {old new : Option (List ℕ)} {before after : Counts} → WritesFront FromList files image settings inputs list last old new → before.misses ≤ after.misses → after.faults ≡ before.faults → Rises before.sink after.sink → Gives IsAnswer old new before after 5
   output_gives {files} {last} {old} {new} {before} {after} w misses faults rises = fronted w.text w.outcome w.size old new before after (answers_of w.comes) w.fits w.front misses faults rises
+
+  -- what a run came to, and the line and the status behind it
+  pub outcome_gives : (files : Option Files) (last : ActList) (old mid new : Option (List ℕ)) (outcome : Result Ending RunFault) (m m' f f' k j k' status : ℕ) → RunWrites FromList files image settings inputs list last old mid outcome →
+      RunCounts outcome (record { misses = m; faults = f; sink = k }) (record { misses = m'; faults = f'; sink = j }) → OutcomeGiven outcome mid new j k' status → Gives IsAnswer old new (record { misses = m; faults = f; sink = k }) (record { misses = m'; faults = f'; sink = k' }) status
+  outcome_gives files last old mid new (Ok ending) m m' f f' k j k' status w counts made = rw (made.1, made.2) (run_gives ending status w counts made.0)
+  outcome_gives files last old mid new (Err (faults.Line line code)) m m' f f' k j k' status w counts made = line_refused_gives line code m m' f f' k j k' status w counts made
+  outcome_gives files last old mid new (Err faults.Missing) m m' f f' k j k' status w counts made = absurd (never_missing old mid w)
+  outcome_gives files last old mid new (Err faults.ShelfFailed) m m' f f' k j k' status w counts made = rw (made.0, made.1, made.2) (files_failed w counts.0 counts.1 counts.2)
+  outcome_gives files last old mid new (Err faults.SinkFailed) m m' f f' k j k' status w counts made = rw (made.0, made.1, made.2) (output_gives w counts.0 counts.1 counts.2)
+  outcome_gives files last old mid new (Err faults.NoMemory) m m' f f' k j k' status w counts made = rw (made.0, made.1, made.2) (no_memory w counts.0 counts.1 counts.2)
 
 -- ---- from lists to files
 

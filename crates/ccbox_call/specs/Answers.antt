@@ -24,7 +24,8 @@ use Rattle.run_transcript.specs.Texts.{run_text, front_text}
 use Rattle.run_core.specs.Moments.{due_in, before_due}
 use Rattle.lowered_code.specs.Correct.{blocks_meant}
 use Rattle.command_words.specs.Requests.{Request, Run, Options, settings_of, inputs_of, request_of}
-use Rattle.ccbox_call.specs.Texts.{usage_text, missing_text, refused_text, act_refused_text}
+use Rattle.run_transcript.specs.Diagnostics.{usage_text, missing_text, refused_text, act_refused_text}
+use Rattle.exit_status.specs.Statuses.{status_of}
 use Rattle.ccbox_call.specs.Acceptance.{Accepts, IsRefused}
 
 -- ---- runs
@@ -55,12 +56,7 @@ text_with settings (Some refused) events ending blocks = front_text settings (be
 abbrev pub text_of : Settings → ActList → Ending → State → List ℕ
 text_of settings list ending s = text_with settings (needed_line list s.world.events) s.world.events ending (blocks_meant settings.base s)
 
--- the status of a run that ended so
-abbrev pub status_of : Ending → ℕ
-status_of (Exit value) = 0
-status_of (Check code place) = 6
-status_of (Stop code act) = 7
-
+-- the status of such a run
 abbrev pub status_with : Option RefusedLine → Ending → ℕ
 status_with None ending = status_of ending
 status_with (Some refused) ending = 8

@@ -7,23 +7,14 @@ use Rattle.ckc_io.specs.Files.{Files, Told}
 use Rattle.ckc_io.specs.Written.{grown}
 use Rattle.run_core.specs.Runs.{Counts}
 use Rattle.command_words.specs.Requests.{Request, Options, settings_of, inputs_of, request_of}
-use Rattle.ccbox_call.specs.Texts.{usage_text}
+use Rattle.run_transcript.specs.Diagnostics.{usage_text}
+use Rattle.exit_status.specs.Given.{LineGiven}
 use Rattle.ccbox_call.specs.Answers.{RequestAnswer}
 
 -- the options may be run with: their settings are allowed, and their input numbers have 32 bits
 pub record MayRun (options : Options) : Type 0 where
   pub settings : AreAllowed (settings_of options)
   pub inputs : All (λ z. IsTrue (is_word_number z)) (inputs_of options)
-
--- a text was written, and the status is that of its answer; or the output failed behind a front of it
-pub data TextGiven (text : List ℕ) (status : ℕ) (old new : Option (List ℕ)) (faults faults' : ℕ) : ℕ → Type 0 where
-  all : new ≡ grown old text → faults' ≡ faults → TextGiven text status old new faults faults' status
-  failed : (k : ℕ) → k ≤ length text → new ≡ grown old (take k text) → Rises faults faults' → TextGiven text status old new faults faults' 5
-
--- or memory ran out before
-pub data LineGiven (text : List ℕ) (status : ℕ) (old new : Option (List ℕ)) (faults faults' result : ℕ) : Type 0 where
-  given : TextGiven text status old new faults faults' result → LineGiven text status old new faults faults' result
-  unmade : result ≡ 9 → new ≡ old → faults' ≡ faults → LineGiven text status old new faults faults' result
 
 -- a status of an answer for which all files were found
 abbrev pub IsFoundStatus : ℕ → Type 0

@@ -1,4 +1,3 @@
-pub mod Texts
 pub mod Acceptance
 pub mod Answers
 pub mod Calls

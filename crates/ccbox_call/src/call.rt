@@ -6,12 +6,11 @@ ghost use Rattle.command_words.specs.Requests.{request_of};
 ghost use Rattle.ccbox_call.specs.Answers.{GivesFront, GivesWhole, IsFailure, IsStatus, Exactly, Tells, SourceIsRefused, FileIsMissing, RunExits, CheckFails, RunStops, LineIsRefused, PrintedRun, IsComplete, IsQuiet, IsUntouched};
 ghost use Rattle.ccbox_call.specs.Calls.{CallEnds};
 
-use crate::output::give_line;
 use crate::run::run_file;
-use crate::texts::usage_line;
 use ckc_io::shelf::Shelf;
 use ckc_io::sink::Sink;
 use command_words::request::{Request, request_from};
+use exit_status::output::give_usage;
 use std::alloc::Global;
 
 /// How a call ended.
@@ -82,6 +81,6 @@ fn status_of_call<F: Shelf, K: Sink>(
 {
     match request_from(words) {
         Some(Request { file, options }) => run_file(alloc, file, &options, shelf, sink),
-        None => give_line(sink, usage_line(alloc), 2),
+        None => give_usage(alloc, sink),
     }
 }

@@ -4,6 +4,4 @@
 pub mod call;
 pub mod front;
 pub mod laws;
-mod output;
 mod run;
-mod texts;

@@ -9,14 +9,11 @@ ghost use Rattle.ckc_text.specs.Places.{place_at};
 ghost use Rattle.ckc_io.specs.Files.{Told};
 ghost use Rattle.ckc_core.specs.Core.{core};
 ghost use Rattle.ccbox_call.specs.Acceptance.{IsAcceptedCore, IsRefused};
-ghost use Rattle.ccbox_call.specs.Answers.{ListAnswer, CoreAnswer, SourceAnswer, FileAnswer, status_of as status_of_ending};
+ghost use Rattle.ccbox_call.specs.Answers.{ListAnswer, CoreAnswer, SourceAnswer, FileAnswer};
 ghost use Rattle.command_words.specs.Requested.{options as options_view};
 ghost use Rattle.ccbox_call.specs.Calls.{MayRun, Gives};
 
 use crate::front::front;
-use crate::output::{NO_MEMORY, OUTPUT_FAILED, give_line};
-use crate::texts::{act_refused_line, missing_line, refused_line};
-use act_words::ending::Ending;
 use act_words::settings::Settings;
 use ckc_core::program::Core;
 use ckc_io::shelf::Shelf;
@@ -26,19 +23,14 @@ use ckc_text::fault::{Refused, SourceFault};
 use ckc_text::place::Place;
 use ckc_tokens::limits::MAX_SOURCE;
 use command_words::request::Options;
+use exit_status::output::{give_missing, give_outcome, give_refused};
+use exit_status::status::{FILES_FAILED, NO_MEMORY};
 use lowering::lower::lower;
 use run_core::run::run;
-use run_transcript::fault::RunFault;
 use sandbox_actor::actor::ActorFault;
 use sandbox_actor::list_actor::ListActor;
 use source_places::place::place_of;
 use std::alloc::Global;
-
-/// The status where a file is missing.
-const FILE_MISSING: u8 = 3;
-
-/// The status where the files failed.
-const FILES_FAILED: u8 = 4;
 
 /// Runs the program of a file.
 pub fn run_file<F: Shelf, K: Sink>(
@@ -56,7 +48,7 @@ pub fn run_file<F: Shelf, K: Sink>(
 {
     match read_whole(alloc, shelf, file, MAX_SOURCE + 1) {
         Ok(src) => run_source(alloc, src.as_slice(), options, shelf, sink),
-        Err(ReadFault::Missing) => give_line(sink, missing_line(alloc, file), FILE_MISSING),
+        Err(ReadFault::Missing) => give_missing(alloc, file, sink),
         Err(ReadFault::Failed) => FILES_FAILED,
         Err(ReadFault::NoMemory) => NO_MEMORY,
     }
@@ -80,7 +72,7 @@ fn run_source<F: Shelf, K: Sink>(
         Ok(program) => run_program(alloc, &program, options, shelf, sink),
         Err(Refused::Source(fault)) => {
             let place = place_of_fault(src, &fault);
-            give_line(sink, refused_line(alloc, fault.code, place), 1)
+            give_refused(alloc, fault.code, place, sink)
         }
         Err(Refused::NoMemory) => NO_MEMORY,
     }
@@ -122,7 +114,7 @@ fn run_program<F: Shelf, K: Sink>(
     };
     match ListActor::start(alloc, shelf, name) {
         Ok(mut actor) => run_with(alloc, program, &settings, inputs, &mut actor, shelf, sink),
-        Err(ActorFault::Missing) => give_line(sink, missing_line(alloc, name), FILE_MISSING),
+        Err(ActorFault::Missing) => give_missing(alloc, name, sink),
         Err(ActorFault::Failed) => FILES_FAILED,
         Err(ActorFault::NoMemory) => NO_MEMORY,
         // No act is asked for yet.
@@ -153,26 +145,6 @@ fn run_with<F: Shelf, K: Sink>(
     let Ok(image) = lower(alloc, program) else {
         return NO_MEMORY;
     };
-    match run(alloc, &image, settings, inputs, actor, shelf, sink) {
-        Ok(ending) => status_of(&ending),
-        Err(RunFault::Line { line, code }) => {
-            give_line(sink, act_refused_line(alloc, line, code), 8)
-        }
-        // An actor of a list has read its file.
-        Err(RunFault::Missing) => FILE_MISSING,
-        Err(RunFault::ShelfFailed) => FILES_FAILED,
-        Err(RunFault::SinkFailed) => OUTPUT_FAILED,
-        Err(RunFault::NoMemory) => NO_MEMORY,
-    }
-}
-
-// The status of a run that ended so.
-fn status_of(ending: &Ending) -> u8
-    ensures { result ≡ status_of_ending ending.now }
-{
-    match ending {
-        Ending::Exit { value: _ } => 0,
-        Ending::Check { code: _, place: _ } => 6,
-        Ending::Stop { code: _, act: _ } => 7,
-    }
+    let outcome = run(alloc, &image, settings, inputs, actor, shelf, sink);
+    give_outcome(alloc, outcome, sink)
 }

@@ -13,7 +13,8 @@ use Rattle.two_memory_machine.specs.declared.event.Event.TheVariants as told_by
 use Rattle.two_memory_machine.specs.declared.event.Waiting.TheVariants as waiting
 use Rattle.two_memory_machine.specs.Machines.{Machine, Doing, Running, NeedsNumber, Touching, Suspended, Gives, TellsStep, Steps as MachineSteps, StepsIf, TakesNumber, TakesNoNumber, IsOfSame, state_of, waiting_of, waiting_for, told_behind, is_input, next_op_of}
 use Rattle.instruction_steps.specs.Running.{StepsOn}
-use Rattle.run_core.specs.Progress.{IsAt, Reaches, Leads, TakesInput, told}
+use Rattle.run_interaction.specs.Inputs.{TakesInput}
+use Rattle.run_core.specs.Progress.{IsAt, Reaches, Leads, told}
 
 -- what an event tells stands behind the events
 pub told_is : (event : MachineEvent) (events : List Event) → told_behind event events ≡ events ++ told event

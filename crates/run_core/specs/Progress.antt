@@ -1,6 +1,6 @@
 -- How far a run with an actor has come, and what is left to say where it stops.
 use Rattle.std.specs.Prelude.{◌≡◌, ℕ, ◌≤◌, ◌<◌, ◌++◌, List, [], ◌∷◌, Option, Some, None, option_map, Bool, true, false, Result, Ok, Err}
-use Rattle.std.proofs.Common.{ℤ, pos}
+use Rattle.std.proofs.Common.{ℤ}
 use Rattle.ckc_io.specs.Files.{Files}
 use Rattle.act_words.specs.declared.ending.Ending.{Ending}
 use Rattle.act_words.specs.declared.settings.Settings.{Settings}
@@ -105,11 +105,6 @@ pub record Steps (old new : Play) : Type 0 where
   pub leads : Leads old.machine old.inputs.now event new.machine new.inputs.now
   pub tells : Tells event old new
   pub ended : new.ended ≡ old.ended
-
--- the next input number, and 0 behind the last
-abbrev pub TakesInput : List ℤ → ℤ → List ℤ → Type 0
-TakesInput [] number after = (number ≡ pos 0) × (after ≡ [])
-TakesInput (next ∷ left) number after = (number ≡ next) × (after ≡ left)
 
 -- an act was taken, and what came of it was told
 pub record Takes (act : Act) (old new : Play) : Type 0 where

@@ -10,7 +10,8 @@ ghost use Rattle.code_words.specs.Left.{LeavesTurn};
 ghost use Rattle.two_memory_machine.specs.Machines.{IsStart, waiting_of, turn_of, moves_left};
 ghost use Rattle.run_transcript.specs.Texts.{dump_text};
 ghost use Rattle.run_interaction.specs.Asked.{AskAnswers, AskLowers, PlayCounts};
-ghost use Rattle.run_core.specs.Progress.{Played, PlayGoes, PlayEnds, IsAsked, Steps, TakesInput, Takes, TakesNone, Tells, NearsBy, Nears, FallsUnless, IsOnward, ending_in, moment_in, blocks_of};
+ghost use Rattle.run_interaction.specs.Inputs.{TakesInput};
+ghost use Rattle.run_core.specs.Progress.{Played, PlayGoes, PlayEnds, IsAsked, Steps, Takes, TakesNone, Tells, NearsBy, Nears, FallsUnless, IsOnward, ending_in, moment_in, blocks_of};
 
 use crate::dump::add_blocks;
 use act_words::act::{Act, Seen, Turn};
@@ -23,6 +24,7 @@ use instruction_steps::running;
 use machine_interaction::acts;
 use machine_interaction::ending::ending_of;
 use run_interaction::ask::ask;
+use run_interaction::input::next_input;
 use run_interaction::touch::touch;
 use run_transcript::fault::RunFault;
 use run_transcript::transcript;
@@ -191,13 +193,9 @@ impl<'a> Play<'a> {
         ensures number { TakesInput self.old.inputs.now result self.new.inputs.now }
         ensures rest { self.new ≡ record self.old { inputs = self.new.inputs } }
     {
-        match self.inputs {
-            [] => 0,
-            [number, left @ ..] => {
-                self.inputs = left;
-                *number
-            }
-        }
+        let (number, left) = next_input(self.inputs);
+        self.inputs = left;
+        number
     }
 
     // Takes acts until the side that has the turn loses it, or the run ends.

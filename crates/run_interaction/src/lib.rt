@@ -1,5 +1,6 @@
-// What a run exchanges with its actor: acts that the actor is asked for, and touches that it is told of.
+// What a run takes and tells: acts that its actor is asked for, input numbers, and touches.
 #![tactic(auto)]
 
 pub mod ask;
+pub mod input;
 pub mod touch;

@@ -31,7 +31,7 @@ returns-in-Ok-start g c =
 pub returns-in-Err-Missing : goal.returns-in-Err-Missing
 returns-in-Err-Missing g c =
     let h = rw c.in-Err-Missing.field-0-is at c.in-Err-Missing.ensures in
-    line_gives _ 3 (λ files told. acts_missing c.in-Some.name.now (ap (option_map (λ (n : Bor (List ℕ)). n.now)) c.in-Some.is) (h.content files told)) (h.counts.1, inl (refl, h.counts.0)) h.counts.0.no_less (c.give_line.ensures _ c.missing_line.ensures)
+    line_gives _ 3 (λ files told. acts_missing c.in-Some.name.now (ap (option_map (λ (n : Bor (List ℕ)). n.now)) c.in-Some.is) (h.content files told)) (h.counts.1, inl (refl, h.counts.0)) h.counts.0.no_less c.give_missing.ensures
 
 pub returns-in-Err-Failed : goal.returns-in-Err-Failed
 returns-in-Err-Failed g c =

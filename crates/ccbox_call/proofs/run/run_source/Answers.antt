@@ -1,6 +1,6 @@
 use Rattle.std.proofs.Common.{refl, sym, ap, subst, inl, inr, arith}
 use Rattle.ckc_core.specs.Core.{core}
-use Rattle.ccbox_call.specs.Texts.{refused_text}
+use Rattle.run_transcript.specs.Diagnostics.{refused_text}
 use Rattle.command_words.specs.Requested.{options as options_view}
 use Rattle.ccbox_call.specs.Answers.{SourceAnswer, refused, accepted}
 use Rattle.ccbox_call.specs.Calls.{no_memory}
@@ -15,8 +15,7 @@ returns-in-Err-Source g c =
     let h = rw c.in-Err-Source.field-0-is at c.in-Err-Source.ensures in
     let f = c.in-Err-Source.fault in
     let is = ap (refused_text f.code) c.place_of_fault-place.ensures in
-    line_gives _ 1 (λ files told. subst (λ t. SourceAnswer files (options_view c.args.options.now) c.args.src.now t 1) (sym is) (refused f h)) (refl, inr (inr (inl refl), refl)) (omega arith)
-    (c.give_line.ensures _ c.refused_line.ensures)
+    line_gives _ 1 (λ files told. subst (λ t. SourceAnswer files (options_view c.args.options.now) c.args.src.now t 1) (sym is) (refused f h)) (refl, inr (inr (inl refl), refl)) (omega arith) c.give_refused.ensures
 
 pub returns-in-Err-NoMemory : goal.returns-in-Err-NoMemory
 returns-in-Err-NoMemory g c = no_memory refl (omega arith) refl refl

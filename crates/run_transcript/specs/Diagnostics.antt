@@ -1,4 +1,4 @@
--- The texts that are printed beside those of runs. Each line ends with a line feed.
+-- The lines that say why a program wasn't run, or why its run broke off. Each ends with a line feed.
 use Rattle.std.specs.Prelude.{ℕ, List, ◌++◌, codes, decimal}
 use Rattle.ckc_text.specs.declared.place.Place.{Place}
 use Rattle.ckc_text.specs.declared.code.Code.{Code}

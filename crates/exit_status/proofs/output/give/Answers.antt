@@ -1,5 +1,5 @@
-use Rattle.ccbox_call.specs.Calls.{all, failed}
-use Rattle.ccbox_call.proofs.output.give.Goals as goal
+use Rattle.exit_status.specs.Given.{all, failed}
+use Rattle.exit_status.proofs.output.give.Goals as goal
 
 pub returns-in-Ok : goal.returns-in-Ok
 returns-in-Ok g c = all c.in-Ok.ensures.all c.in-Ok.ensures.counts
