@@ -1,4 +1,4 @@
-use Rattle.std.proofs.Common.{◌≡◌, Some, None, true, nat_lt, length, suc, refl, sym, ap, subst, ◌∙◌, arith}
+use Rattle.std.proofs.Common.{◌≡◌, Some, None, true, nat_lt, length, suc, ◌+◌, refl, sym, ap, subst, ◌∙◌, arith}
 use Rattle.std.specs.Prelude.{slice_get, ◌==◌}
 use Rattle.std.proofs.lemmas.Bool.Decides.{nat_tests}
 use Rattle.code_words.specs.Marshalling.{arguments_fault}
@@ -24,7 +24,7 @@ early c = grind (arith, nat_tests, c.if-self.false)
 shallow : (c : After-fault_of) → nat_lt (suc (length (callers_in (doing_of c.self.inside.phase) c.self.inside.calls.frame (callers_of c.self.inside.calls.behind)))) 1000 ≡ true
 shallow c =
     let a = away c.self.inside.phase (subst IsSuspended (ap (λ (m : Machine). m.doing) (sym c.self.view_is)) c.requires.suspended) in
-    rw a.is (grind (arith, nat_tests, c.self.invariant.depth, sym c.may_call.ensures ∙ c.if-not-may_call.false))
+    rw a.is (grind (arith, nat_tests, c.self.invariant.depth, sym c.may_call-may_call.ensures ∙ c.if-not-may_call.false))
 
 same_fault : (c : After-fault_of) → c.fault_of.result ≡ fault_ending c.in-Some.callback.now.signature (arguments_fault c.in-Some.callback.now.signature c.args.words.now (length c.self.inside.sandbox.items))
 same_fault c =
@@ -41,7 +41,7 @@ returns-in-Some-fault_of c = λ acts inputs events.
     let words = c.args.words.now in
     let fault = arguments_fault callback.signature words (length i.sandbox.items) in
     let ends : Some c.in-Some-fault_of.ending ≡ fault_ending callback.signature fault = sym c.in-Some-fault_of.is ∙ same_fault b in
-    rw (← c.self.view_is, there b, count b, early b, shallow b, tested_ends i.image.now c.args.k callback fault words _ c.in-Some-fault_of.ending ends) (c.end_move-in-Some-fault_of.ensures.line acts inputs events)
+    rw (← c.self.view_is, there b, count b, early b, shallow b, tested_ends i.image.now c.args.k callback fault words _ c.in-Some-fault_of.ending ends) ((rw (c.set_ticks.ensures, ← c.self.view_is) at c.end_move-in-Some-fault_of.ensures.line) acts inputs events)
 
 pub returns-in-None : goal.returns-in-None
 returns-in-None c = λ acts inputs events.
@@ -52,4 +52,4 @@ returns-in-None c = λ acts inputs events.
     let fault = arguments_fault callback.signature words (length i.sandbox.items) in
     let passes : None ≡ fault_ending callback.signature fault = sym c.in-None.is ∙ same_fault b in
     rw (← c.self.view_is, there b, count b, early b, shallow b, tested_passes i.image.now c.args.k callback fault words _ passes)
-    (gives_at TellsAct acts inputs events _ (machine i) _ c.run_callback.new.self c.run_callback.result refl refl (c.run_callback.ensures acts inputs events))
+    (gives_at TellsAct acts inputs events _ (machine i) (record (machine i) { ticks = i.ticks + 1 }) c.run_callback.new.self c.run_callback.result refl refl ((rw (c.set_ticks.ensures, ← c.self.view_is) at c.run_callback.ensures) acts inputs events))

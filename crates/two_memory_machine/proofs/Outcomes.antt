@@ -1,0 +1,27 @@
+-- From what an instruction's last part does to the instruction's line of the table.
+use Rattle.std.proofs.Common.{◌≡◌, ℕ, ℤ, pos, Bool, true, false, Some, List, [], ◌∷◌, drop, refl, ◌∙◌, arith}
+use Rattle.std.specs.Prelude.{slice_get, int_le}
+use Rattle.std.proofs.lemmas.Int.{ints}
+use Rattle.act_words.specs.Acts.{Act}
+use Rattle.act_words.specs.World
+use Rattle.code_words.specs.Table.{State, Step, Goes, Over, pop, is_positive}
+use Rattle.two_memory_machine.specs.declared.outcome.Outcome.{Outcome}
+use Rattle.two_memory_machine.specs.Machines.{Machine}
+use Rattle.two_memory_machine.specs.Steps.{Brings}
+
+-- a machine of the same image
+pub brings_at : (acts : List Act) (inputs : List ℤ) (events : List World.Event) (step : Step) (old mid new : Machine) (outcome : Outcome) → mid.image ≡ old.image → mid.settings ≡ old.settings → Brings acts inputs events step mid outcome new → Brings acts inputs events step old outcome new
+brings_at acts inputs events (Goes s) old mid new outcome e h b = (b.0, b.1, b.2, (b.3.0 ∙ e, b.3.1 ∙ h))
+brings_at acts inputs events (Over ending s) old mid new outcome e h b = (b.0, b.1, b.2, b.3, b.4, (b.5.0 ∙ e, b.5.1 ∙ h))
+
+-- a word that was found is popped
+pub pop_found : (stack : List ℕ) (w : ℕ) (next : ℕ → List ℕ → Step) (s : State) → Some w ≡ slice_get stack 0 → pop stack next s ≡ next w (drop 1 stack)
+pop_found [] w next s e = absurd (cc)
+pop_found (v ∷ stack) w next s e = let same : v ≡ w = cc in rw same refl
+
+pub above_zero : (number : ℤ) → int_le number (pos 0) ≡ false → is_positive number ≡ true
+above_zero number h = by (is_positive number) refl
+  where
+    by : (b : Bool) → is_positive number ≡ b → b ≡ true
+    by true e = refl
+    by false e = absurd (omega (arith, ints))
