@@ -1,5 +1,5 @@
 -- From what an instruction's last part does to the instruction's line of the table.
-use Rattle.std.proofs.Common.{◌≡◌, ℕ, ℤ, pos, Bool, true, false, Some, List, [], ◌∷◌, drop, refl, ◌∙◌, arith}
+use Rattle.std.proofs.Common.{◌≡◌, ℕ, ℤ, pos, nat_le, if◌then◌else◌, Bool, true, false, Some, None, List, [], ◌∷◌, length, take, drop, reverse, refl, ◌∙◌, arith}
 use Rattle.std.specs.Prelude.{slice_get, int_le}
 use Rattle.std.proofs.lemmas.Int.{ints}
 use Rattle.act_words.specs.Acts.{Act}
@@ -7,7 +7,7 @@ use Rattle.act_words.specs.World
 use Rattle.code_words.specs.Table.{State, Step, Goes, Over, pop, is_positive}
 use Rattle.two_memory_machine.specs.declared.outcome.Outcome.{Outcome}
 use Rattle.two_memory_machine.specs.Machines.{Machine}
-use Rattle.two_memory_machine.specs.Steps.{Brings}
+use Rattle.two_memory_machine.specs.Steps.{Brings, top_words_of}
 
 -- a machine of the same image
 pub brings_at : (acts : List Act) (inputs : List ℤ) (events : List World.Event) (step : Step) (old mid new : Machine) (outcome : Outcome) → mid.image ≡ old.image → mid.settings ≡ old.settings → Brings acts inputs events step mid outcome new → Brings acts inputs events step old outcome new
@@ -25,3 +25,11 @@ above_zero number h = by (is_positive number) refl
     by : (b : Bool) → is_positive number ≡ b → b ≡ true
     by true e = refl
     by false e = absurd (omega (arith, ints))
+
+-- so many words are not there
+pub none_on_top : (n : ℕ) (stack : List ℕ) → None ≡ top_words_of n stack → nat_le n (length stack) ≡ false
+none_on_top n stack h = by (nat_le n (length stack)) h
+  where
+    by : (b : Bool) → None ≡ (if b then Some (reverse (take n stack)) else None) → b ≡ false
+    by true f = absurd (cc)
+    by false f = refl

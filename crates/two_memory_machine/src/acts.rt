@@ -224,8 +224,8 @@ impl<'a> Machine<'a> {
         requires runs { self.old.doing ≡ Running }
         ensures { (f : FuncData) → IsIn self.old f
             → MovesBy
-                (λ s. reply_if (fits_kind kind value) self.old.image self.old.frame place kind value (record s { control = Away }))
-                self.old result self.new }
+            (λ s. reply_if (fits_kind kind value) self.old.image self.old.frame place kind value (record s { control = Away }))
+            self.old result self.new }
     {
         match kind {
             WordKind::Void => return Event::Ran,

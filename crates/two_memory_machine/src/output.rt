@@ -102,7 +102,6 @@ impl<'a> Machine<'a> {
     }
 
     // Makes a block of trusted memory, and gives its address, or 0 where it is refused.
-    #[tactic(auto, using(crate::proofs::Refusals::refused_large))]
     fn make_block(&mut self, bytes: u64) -> u32
         ensures address { result ≡ address_made self.old.memory bytes }
         ensures after { self.new
