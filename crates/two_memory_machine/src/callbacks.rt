@@ -51,7 +51,6 @@ impl<'a> Machine<'a> {
     }
 
     // Runs the function of a callback, if it is there and takes as many arguments.
-    #[tactic(auto, using(std::proofs::lemmas::Bool::Decides::nat_tests))]
     fn run_callback(&mut self, k: u32, callback: &Callback, words: &[u32]) -> Event
         requires going { self.old.over ≡ None }
         requires suspended { IsSuspended self.old.doing }
