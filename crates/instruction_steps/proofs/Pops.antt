@@ -1,15 +1,8 @@
 -- Pops from a stack on which the words were found.
 use Rattle.std.proofs.Common.{◌≡◌, ℕ, ◌≤◌, Some, List, [], ◌∷◌, drop, length, ap, sym, arith}
 use Rattle.std.proofs.lemmas.Option.{same_Some}
-use Rattle.code_words.specs.Table.{State, Step, pop_2, pop_3, pop_5, pop_6, peek}
-use Rattle.two_memory_machine.specs.Steps.{two_topmost, four_topmost, five_topmost, seven_topmost}
-
-pub pop_2_found : (stack : List ℕ) (a b : ℕ) (next : ℕ → ℕ → List ℕ → Step) (s : State) → Some (a, b) ≡ two_topmost stack → pop_2 stack next s ≡ next a b (drop 2 stack)
-pop_2_found [] a b next s h = absurd (cc)
-pop_2_found (_ ∷ []) a b next s h = absurd (cc)
-pop_2_found (b' ∷ a' ∷ stack) a b next s h =
-    let all : (a, b) ≡ (a', b') = same_Some _ _ h in
-    ap (λ (t : ℕ × ℕ). next t.0 t.1 stack) (sym all)
+use Rattle.code_words.specs.Table.{State, Step, pop_3, pop_5, pop_6, peek}
+use Rattle.two_memory_machine.specs.Steps.{four_topmost, five_topmost, seven_topmost}
 
 pub pop_5_found : (stack : List ℕ) (a b c d e : ℕ) (next : ℕ → ℕ → ℕ → ℕ → ℕ → List ℕ → Step) (s : State) → Some (a, b, c, d, e) ≡ five_topmost stack → pop_5 stack next s ≡ next a b c d e (drop 5 stack)
 pop_5_found [] a b c d e next s h = absurd (cc)
