@@ -1,15 +1,8 @@
 -- Pops from a stack on which the words were found.
-use Rattle.std.proofs.Common.{◌≡◌, ℕ, ◌≤◌, Some, List, [], ◌∷◌, drop, length, refl, ap, sym, arith}
-use Rattle.std.specs.Prelude.{slice_get}
+use Rattle.std.proofs.Common.{◌≡◌, ℕ, ◌≤◌, Some, List, [], ◌∷◌, drop, length, ap, sym, arith}
 use Rattle.std.proofs.lemmas.Option.{same_Some}
-use Rattle.code_words.specs.Table.{State, Step, pop, pop_3, pop_5, pop_6, peek}
+use Rattle.code_words.specs.Table.{State, Step, pop_3, pop_5, pop_6, peek}
 use Rattle.two_memory_machine.specs.Steps.{four_topmost, five_topmost, seven_topmost}
-
-pub pop_found : (stack : List ℕ) (w : ℕ) (next : ℕ → List ℕ → Step) (s : State) → Some w ≡ slice_get stack 0 → pop stack next s ≡ next w (drop 1 stack)
-pop_found [] w next s e = absurd (cc)
-pop_found (v ∷ stack) w next s e = let same : v ≡ w = cc in rw same refl
-
--- ---- more words
 
 pub pop_5_found : (stack : List ℕ) (a b c d e : ℕ) (next : ℕ → ℕ → ℕ → ℕ → ℕ → List ℕ → Step) (s : State) → Some (a, b, c, d, e) ≡ five_topmost stack → pop_5 stack next s ≡ next a b c d e (drop 5 stack)
 pop_5_found [] a b c d e next s h = absurd (cc)

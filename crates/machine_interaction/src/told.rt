@@ -1,9 +1,9 @@
 // Instructions that write, or wait for a number.
 
-ghost use Rattle.std.specs.Prelude.{◌≡◌, ◌<◌};
+ghost use Rattle.std.specs.Prelude.{◌≡◌, ◌<◌, Some};
 ghost use Rattle.two_memory_machine.specs.Machines.{Steps, waiting_of, next_op_of, ending_given, moves_left};
-ghost use Rattle.two_memory_machine.specs.Steps.{TellsSomething};
-ghost use Rattle.machine_interaction.specs.Told.{IsTold};
+ghost use Rattle.two_memory_machine.specs.Steps.{IsReady, Performs, TellsSomething};
+ghost use Rattle.machine_interaction.specs.Told.{Exchanges, IsTold};
 
 use code_words::op::Op;
 use two_memory_machine::event::{Event, Waiting};
@@ -22,6 +22,17 @@ pub fn told_step(machine: &mut Machine) -> Event
     let Some(op) = machine.op() else {
         unreachable!();
     };
+    exchange(machine, op)
+}
+
+// Does what an instruction says that writes or waits for a number.
+fn exchange(machine: &mut Machine, op: &Op) -> Event
+    requires ready { IsReady machine.old }
+    requires next { next_op_of machine.old ≡ Some op.now }
+    requires exchanges { Exchanges op.now }
+    ensures line { Performs op.now machine.old result machine.new }
+    ensures told { TellsSomething result }
+{
     match op {
         Op::NextInput => machine.next_input(),
         Op::Print => machine.print(),

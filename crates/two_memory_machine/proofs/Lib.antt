@@ -2,3 +2,4 @@ mod Callers
 mod Refusals
 pub mod Moving
 pub mod Ends
+pub mod Outcomes

@@ -1,3 +1,4 @@
 pub mod Machines
 pub mod Insides
 pub mod Steps
+pub mod Pushes

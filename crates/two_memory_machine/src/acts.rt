@@ -1,14 +1,17 @@
 // Acts of the sandbox, before touches and in its turn.
 
-ghost use Rattle.std.specs.Prelude.{◌≡◌, ◌≤◌, length, Some, None};
+ghost use Rattle.std.specs.Prelude.{◌≡◌, ◌≤◌, length, nat_lt, Some, None};
 ghost use Rattle.act_words.specs.Acts.{Passed, Replied, Looked, Wrote};
 ghost use Rattle.act_words.specs.Acting.{shown, written, lies_in, stopped_by_act};
 ghost use Rattle.act_words.specs.World.{in_turn};
 ghost use Rattle.act_words.specs.declared.act.Turn.TheVariants as turns;
-ghost use Rattle.code_words.specs.Table.{Touch, Loads, Stores, Passes, Replies, Over};
-ghost use Rattle.code_words.specs.Moves.{make_touch, answer, in_world};
-ghost use Rattle.two_memory_machine.specs.Machines.{Touching};
-ghost use Rattle.two_memory_machine.specs.Steps.{MovesBy, IsSuspended, moved_if, bytes_if, EndsBy, EventBy};
+ghost use Rattle.code_words.specs.Table.{Touch, Away, Loads, Stores, Passes, Replies, Over};
+ghost use Rattle.code_words.specs.Marshalling.{fits_kind};
+ghost use Rattle.code_words.specs.Moves.{make_touch, answer, in_world, reply_if};
+ghost use Rattle.code_words.specs.declared.image.Func.{Func as FuncData};
+ghost use Rattle.two_memory_machine.specs.Machines.{Running, Touching};
+ghost use Rattle.two_memory_machine.specs.Pushes.{HasPushed};
+ghost use Rattle.two_memory_machine.specs.Steps.{MovesBy, IsIn, IsSuspended, moved_if, bytes_if, EndsBy, EventBy};
 
 use crate::event::Event;
 use crate::machine::{Machine, Pending, Phase};
@@ -198,7 +201,6 @@ impl<'a> Machine<'a> {
     }
 
     /// Takes the reply of a tainted function, and goes on with it (C9).
-    #[tactic(auto, using(std::proofs::lemmas::Bool::Decides::nat_tests))]
     pub fn answer(&mut self, value: u32) -> Event
         requires going { self.old.over ≡ None }
         requires suspended { IsSuspended self.old.doing }
@@ -207,11 +209,25 @@ impl<'a> Machine<'a> {
         let Phase::Suspended { import, place } = self.phase else {
             return Event::Ran;
         };
+        let tainted = self.image.layout.imports.as_slice().get(import as usize);
         self.phase = Phase::Running;
-        let Some(tainted) = self.image.layout.imports.as_slice().get(import as usize) else {
-            return self.end_move(WILD);
-        };
-        match tainted.result {
+        match tainted {
+            Some(tainted) => self.take_reply(tainted.result, place, value),
+            None => self.end_move(WILD),
+        }
+    }
+
+    // Takes the reply of a tainted function that has such a result.
+    #[tactic(auto, using(std::proofs::lemmas::Bool::Decides::nat_tests))]
+    fn take_reply(&mut self, kind: WordKind, place: Place, value: u32) -> Event
+        requires going { self.old.over ≡ None }
+        requires runs { self.old.doing ≡ Running }
+        ensures { (f : FuncData) → IsIn self.old f
+            → MovesBy
+            (λ s. reply_if (fits_kind kind value) self.old.image self.old.frame place kind value (record s { control = Away }))
+            self.old result self.new }
+    {
+        match kind {
             WordKind::Void => return Event::Ran,
             WordKind::Char => {
                 if value >= 256 {
@@ -223,9 +239,18 @@ impl<'a> Machine<'a> {
             }
             WordKind::Int | WordKind::Pointer => {}
         }
-        if !self.calls.push(0, value) {
+        if !self.push_word(value) {
             return self.end_move(WILD);
         }
         Event::Ran
+    }
+
+    // Pushes a word if there is room for it, and tells whether there is. If not, all stays.
+    pub(crate) fn push_word(&mut self, word: u32) -> bool
+        requires { self.old.doing ≡ Running }
+        ensures { (f : FuncData) → IsIn self.old f
+            → HasPushed (nat_lt (length self.old.frame.stack) f.stack) word self.old result self.new }
+    {
+        self.calls.push(0, word)
     }
 }

@@ -34,14 +34,16 @@ impl<'a> Machine<'a> {
                 act: None,
             });
         }
-        self.ticks += 1;
-        if !limits::may_call(self.depth + 1) {
+        let may_call = limits::may_call(self.depth + 1);
+        let size = self.sandbox.len() as u32;
+        let spent = self.ticks + 1;
+        self.set_ticks(spent);
+        if !may_call {
             return self.end_move(Ending::Stop {
                 code: Code::S2,
                 act: None,
             });
         }
-        let size = self.sandbox.len() as u32;
         match callbacks::fault_of(signature, words, size) {
             Some(ending) => self.end_move(ending),
             None => self.run_callback(k, callback, words),
@@ -49,7 +51,6 @@ impl<'a> Machine<'a> {
     }
 
     // Runs the function of a callback, if it is there and takes as many arguments.
-    #[tactic(auto, using(std::proofs::lemmas::Bool::Decides::nat_tests))]
     fn run_callback(&mut self, k: u32, callback: &Callback, words: &[u32]) -> Event
         requires going { self.old.over ≡ None }
         requires suspended { IsSuspended self.old.doing }

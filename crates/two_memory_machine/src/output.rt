@@ -98,15 +98,10 @@ impl<'a> Machine<'a> {
             return self.push(1, 0);
         }
         let address = self.make_block(byte_count(count, more, size));
-        if !self.calls.push(1, address) {
-            return self.end_wild();
-        }
-        self.calls.advance();
-        Outcome::Ran
+        self.push(1, address)
     }
 
     // Makes a block of trusted memory, and gives its address, or 0 where it is refused.
-    #[tactic(auto, using(crate::proofs::Refusals::refused_large))]
     fn make_block(&mut self, bytes: u64) -> u32
         ensures address { result ≡ address_made self.old.memory bytes }
         ensures after { self.new
@@ -137,11 +132,7 @@ impl<'a> Machine<'a> {
             return self.push(1, 0);
         }
         let offset = self.make_sandbox_block(byte_count(count, 0, size));
-        if !self.calls.push(1, offset) {
-            return self.end_wild();
-        }
-        self.calls.advance();
-        Outcome::Ran
+        self.push(1, offset)
     }
 
     /// Pops an address, and pushes how many bytes stand before the first 0 from there; each spends a tick (S1).
@@ -153,22 +144,19 @@ impl<'a> Machine<'a> {
             return self.end_wild();
         };
         let walk = texts::walk_text(&self.memory, start, self.ticks, self.settings.budget);
-        self.ticks += walk.count;
+        let spent = self.ticks + walk.count;
         if let TextEnd::NoTick = walk.end {
+            self.set_ticks(spent);
             return self.end(Ending::Stop {
                 code: Code::S1,
                 act: None,
             });
         }
-        self.ticks += 1;
-        if let TextEnd::Outside = walk.end {
-            return self.end_wild();
+        self.set_ticks(spent + 1);
+        match walk.end {
+            TextEnd::Zero => self.push(1, walk.count),
+            TextEnd::Outside | TextEnd::NoTick => self.end_wild(),
         }
-        if !self.calls.push(1, walk.count) {
-            return self.end_wild();
-        }
-        self.calls.advance();
-        Outcome::Ran
     }
 
     // Makes a block of the sandbox's memory, and gives its offset, or 0 where it is refused.

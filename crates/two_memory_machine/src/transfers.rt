@@ -91,7 +91,7 @@ impl<'a> Machine<'a> {
                 let Some(word) = value else {
                     return Outcome::Ran;
                 };
-                if !self.calls.push(0, word) {
+                if !self.push_word(word) {
                     return self.end_wild();
                 }
                 Outcome::Ran

@@ -1,4 +1,4 @@
-use Rattle.instruction_steps.proofs.Pops.{pop_found}
+use Rattle.two_memory_machine.proofs.Outcomes.{pop_found}
 use Rattle.instruction_steps.proofs.operations.discard.Goals as goal
 
 pub returns : goal.returns

@@ -1,7 +1,7 @@
 use Rattle.std.proofs.Common.{◌≡◌, false, arith}
 use Rattle.std.specs.Prelude.{◌==◌}
 use Rattle.std.proofs.lemmas.Bool.Decides.{nat_tests}
-use Rattle.instruction_steps.proofs.Pops.{pop_found}
+use Rattle.two_memory_machine.proofs.Outcomes.{pop_found}
 use Rattle.instruction_steps.proofs.stack.jump_if_zero.Goals as goal
 
 pub returns-then-word-ne0 : goal.returns-then-word-ne0

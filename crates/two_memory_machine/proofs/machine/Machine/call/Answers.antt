@@ -1,4 +1,4 @@
-use Rattle.std.proofs.Common.{◌≡◌, ℕ, ◌+◌, ◌<◌, Some, None, true, nat_lt, length, drop, suc, refl, sym, ap, ◌∙◌, arith}
+use Rattle.std.proofs.Common.{◌≡◌, ℕ, ◌+◌, ◌<◌, Some, None, true, false, nat_le, nat_lt, length, drop, suc, refl, sym, ap, ◌∙◌, arith}
 use Rattle.std.specs.Prelude.{slice_get}
 use Rattle.std.proofs.lemmas.Bool.Decides.{nat_tests}
 use Rattle.code_words.specs.declared.image.Func.{Func}
@@ -8,6 +8,7 @@ use Rattle.two_memory_machine.specs.declared.machine.Phase.TheVariants as phases
 use Rattle.machine_memory.specs.CallStacks.{CallStack, entered, at_next, with_stack, callers_of}
 use Rattle.two_memory_machine.specs.Machines.{Machine}
 use Rattle.two_memory_machine.proofs.Callers.{item_found, one_found, all_found, running, length-callers, AreTop, are_top}
+use Rattle.two_memory_machine.proofs.Outcomes.{none_on_top}
 use Rattle.two_memory_machine.proofs.machine.Machine.call.Goals as goal
 use Rattle.two_memory_machine.proofs.machine.Machine.call.Goals.{After-as_slice-2}
 
@@ -79,3 +80,28 @@ returns c = λ f here acts inputs events.
     let top : AreTop g.args i.calls.frame.stack c.in-Some-top_words.words = are_top g.args i.calls.frame.stack c.in-Some-top_words.words (rw (← c.self.view_is) at c.in-Some-top_words.ensures) in
     let deep : nat_lt (suc (length (callers_of i.calls.behind))) 1000 ≡ true = grind (arith, nat_tests, c.self.invariant.depth, shallow b) in
     rw (← c.self.view_is, there b, p, top.enough, ← top.same, deep, e) (refl, refl, going, (refl, refl))
+
+pub returns-in_default : goal.returns-in_default
+returns-in_default c = rw (← c.self.view_is)
+    (λ f here acts inputs events.
+    let none : slice_get c.self.inside.image.now.trusted.funs c.args.k ≡ None = rw c.as_slice.ensures at (sym (item_found c.as_slice.result.now c.args.k None c.in_default.ensures.lookup)) in
+    rw none ((rw (← c.self.view_is) at c.end_wild.ensures.line) acts inputs events))
+
+pub returns-in_default-top_words : goal.returns-in_default-top_words
+returns-in_default-top_words c = rw (← c.self.view_is)
+    (λ f here acts inputs events.
+    let i = c.self.inside in
+    let named : slice_get i.image.now.trusted.funs c.args.k ≡ Some c.in-Some.fun.now = rw c.as_slice.ensures at (sym (item_found c.as_slice.result.now c.args.k (Some c.in-Some.fun) c.in-Some.ensures.lookup)) in
+    let few : nat_le c.in-Some.fun.now.args (length i.calls.frame.stack) ≡ false = none_on_top c.in-Some.fun.now.args i.calls.frame.stack (rw (← c.self.view_is) at c.in_default-top_words.ensures) in
+    rw (named, few) ((rw (← c.self.view_is) at c.end_wild-in_default-top_words.ensures.line) acts inputs events))
+
+pub returns-then-not-may_call : goal.returns-then-not-may_call
+returns-then-not-may_call c = rw (← c.self.view_is)
+    (λ f here acts inputs events.
+    let i = c.self.inside in
+    let g = c.in-Some.fun.now in
+    let named : slice_get i.image.now.trusted.funs c.args.k ≡ Some g = rw c.as_slice.ensures at (sym (item_found c.as_slice.result.now c.args.k (Some c.in-Some.fun) c.in-Some.ensures.lookup)) in
+    let top = are_top g.args i.calls.frame.stack c.in-Some-top_words.words (rw (← c.self.view_is) at c.in-Some-top_words.ensures) in
+    let deep : nat_lt (suc (length (callers_of i.calls.behind))) 1000 ≡ false = grind (arith, nat_tests, c.self.invariant.depth, sym c.may_call.ensures ∙ c.if-not-may_call.true) in
+    let p : i.phase ≡ phases.Running = running i.phase (ap (λ (m : Machine). m.doing) c.self.view_is ∙ c.requires.runs) in
+    rw (named, top.enough, p, deep) (rw p at ((rw (← c.self.view_is) at c.end.ensures.line) acts inputs events)))

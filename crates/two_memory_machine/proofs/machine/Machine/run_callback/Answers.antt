@@ -1,4 +1,4 @@
-use Rattle.std.proofs.Common.{◌≡◌, Some, None, true, length, refl, sym, ap, ◌∙◌, arith}
+use Rattle.std.proofs.Common.{◌≡◌, Some, None, true, false, length, refl, sym, ap, ◌∙◌, arith}
 use Rattle.std.specs.Prelude.{slice_get, ◌==◌}
 use Rattle.std.proofs.lemmas.Bool.Decides.{nat_tests}
 use Rattle.code_words.specs.declared.image.Func.{Func}
@@ -65,3 +65,16 @@ returns c = λ acts inputs events.
     let e = c.enter.ensures g (found b) in
     let same : (g.args == length c.args.words.now) ≡ true = grind (arith, nat_tests, c.if-fun-words.false) in
     rw (← c.self.view_is, there b, same, c.in-Suspended.is, e) (refl, _, going, (refl, refl))
+
+pub returns-in_default-get : goal.returns-in_default-get
+returns-in_default-get c = rw (← c.self.view_is)
+    (λ acts inputs events.
+    let none : slice_get c.self.inside.image.now.trusted.funs c.args.callback.now.fun ≡ None = rw c.as_slice.ensures at (sym (item_found c.as_slice.result.now c.args.callback.now.fun None c.in_default-get.ensures.lookup)) in
+    rw none ((rw (← c.self.view_is) at c.end_move.ensures.line) acts inputs events))
+
+pub returns-then-fun-words : goal.returns-then-fun-words
+returns-then-fun-words c = rw (← c.self.view_is)
+    (λ acts inputs events.
+    let named : slice_get c.self.inside.image.now.trusted.funs c.args.callback.now.fun ≡ Some c.in-Some.fun.now = rw c.as_slice.ensures at (sym (item_found c.as_slice.result.now c.args.callback.now.fun (Some c.in-Some.fun) c.in-Some.ensures.lookup)) in
+    let other : (c.in-Some.fun.now.args == length c.args.words.now) ≡ false = grind (arith, nat_tests, c.if-fun-words.true) in
+    rw (named, other) ((rw (← c.self.view_is) at c.end_move-then-fun-words.ensures.line) acts inputs events))

@@ -21,6 +21,30 @@ main_there image settings fits function named =
     let same : fits.main.0 ≡ function = cc in
     ap (slice_get image.trusted.funs) (sym same) ∙ m.there
 
+pub memory_with-requires : goal.memory_with-requires
+memory_with-requires c = rw c.as_slice-blocks.ensures c.requires.trusted.blocks
+
+pub counter_of-counter-requires : goal.counter_of-counter-requires
+counter_of-counter-requires c = rw c.as_slice-blocks.ensures (omega (arith, c.requires.trusted.blocks, c.requires.allowed.most_trusted))
+
+pub rows_with-requires-clause-fits : goal.rows_with-requires-clause-fits
+rows_with-requires-clause-fits c = rw c.as_slice-blocks.ensures c.requires.trusted.blocks
+
+pub rows_with-requires-clause-not_empty : goal.rows_with-requires-clause-not_empty
+rows_with-requires-clause-not_empty c = rw c.as_slice-blocks.ensures c.requires.trusted.not_empty
+
+pub offsets_with-requires-2 : goal.offsets_with-requires-2
+offsets_with-requires-2 c = rw c.as_slice-statics.ensures (omega (arith, c.requires.sandbox.blocks, c.requires.allowed.most_sandbox))
+
+pub start-requires-clause-frames : goal.start-requires-clause-frames
+start-requires-clause-frames c = rw c.as_slice.ensures c.requires.trusted.frames
+
+pub memory_with-requires-2 : goal.memory_with-requires-2
+memory_with-requires-2 c = rw c.as_slice-statics.ensures c.requires.sandbox.blocks
+
+pub counter_of-requires : goal.counter_of-requires
+counter_of-requires c = rw c.as_slice-statics.ensures (omega (arith, c.requires.sandbox.blocks, c.requires.allowed.most_sandbox))
+
 pub offsets_with-requires : goal.offsets_with-requires
 offsets_with-requires c =
     rw c.as_slice-blocks.ensures (omega (arith, counter_at_base c.args.settings.now.base 16 c.args.image.now.trusted.blocks, c.requires.trusted.blocks, c.requires.allowed.most_base, c.requires.allowed.most_trusted))
