@@ -12,10 +12,10 @@ use Rattle.two_memory_machine.specs.declared.outcome.Outcome.{Outcome}
 use Rattle.two_memory_machine.specs.declared.outcome.Outcome.TheVariants as outcomes
 use Rattle.act_words.specs.declared.ending.Ending.{Ending}
 use Rattle.two_memory_machine.specs.Machines.{Machine, Gives, TellsStep, Steps, StepsIf, is_input, next_op_of, state_of, waiting_of}
-use Rattle.instruction_steps.specs.Families.{family}
+use Rattle.instruction_steps.specs.Families.{ActsUnlessTold}
 use Rattle.two_memory_machine.specs.Steps.{EventBy, GoesBy, Brings, Acts, Performs, TellsSomething, event_of}
 use Rattle.machine_interaction.specs.Told.{IsStep}
-use Rattle.instruction_steps.specs.Running.{IsEndedIf}
+use Rattle.instruction_steps.specs.Running.{IsEndedIf, TriesStep}
 use Rattle.two_memory_machine.proofs.Moving.{stands_in, runs_of, steps_wild, step_over, gives_told, event_told}
 use Rattle.two_memory_machine.proofs.Ends.{step_sooner}
 use Rattle.machine_interaction.proofs.Stepped.{stepped}
@@ -32,20 +32,9 @@ runs_again old new steps = by (is_input (next_op_of old)) steps
     by true h = absurd (let no : Ran ≡ Input = h.0 in cc)
     by false h = next _ (h [] [] [])
 
--- an instruction of another family takes no input number
-no_input : (op : Op) → 1 ≤ family op → is_input (Some op) ≡ false
-no_input ops.NextInput h = absurd (omega arith)
-no_input _ h = refl
-
-pub other_family : (op : Op) → (op ≡ ops.NextInput → ⊥) → (op ≡ ops.Print → ⊥) → (op ≡ ops.PutByte → ⊥) → 1 ≤ family op
-other_family ops.NextInput input line byte = absurd (input refl)
-other_family ops.Print input line byte = absurd (line refl)
-other_family ops.PutByte input line byte = absurd (byte refl)
-other_family _ input line byte = omega arith
-
-pub performs_told : (old new : Machine) (event : Event) (outcome : Outcome) (op : Op) → 1 ≤ family op → event ≡ event_of outcome new.over → Acts op old outcome new → Performs op old event new
+pub performs_told : (old new : Machine) (event : Event) (outcome : Outcome) (op : Op) → is_input (Some op) ≡ false → event ≡ event_of outcome new.over → Acts op old outcome new → Performs op old event new
 performs_told old new event outcome op other told acts =
-    rw (no_input op other, told) (λ f here all inputs events. gives_told all inputs events _ old new outcome (acts f here all inputs events))
+    rw (other, told) (λ f here all inputs events. gives_told all inputs events _ old new outcome (acts f here all inputs events))
 
 -- a step where no instruction stands
 pub stepped_wild : (old new : Machine) (event : Event) → IsTrue (is_paced old.image) → waiting_of old ≡ waiting.Runs → next_op_of old ≡ None → EventBy wild old event new → IsStep old event new
@@ -67,10 +56,14 @@ told_by None ends = absurd ends
 told_by (Some ending) ends = _
 
 -- what an instruction did that isn't told is a step
-pub tried : (old new : Machine) (outcome : Outcome) (op : Op) → IsTrue (is_paced old.image) → waiting_of old ≡ waiting.Runs → next_op_of old ≡ Some op → 1 ≤ family op → Acts op old outcome new → IsStep old (event_of outcome new.over) new × IsEndedIf outcome new.over
+tried : (old new : Machine) (outcome : Outcome) (op : Op) → IsTrue (is_paced old.image) → waiting_of old ≡ waiting.Runs → next_op_of old ≡ Some op → is_input (Some op) ≡ false → Acts op old outcome new → IsStep old (event_of outcome new.over) new × IsEndedIf outcome new.over
 tried old new outcome op paced waits next other acts =
     let s = stands_in old op next in
     (stepped old new (event_of outcome new.over) op paced waits next (performs_told old new (event_of outcome new.over) outcome op other refl acts), ended _ old new outcome (acts s.f s.here [] [] []))
+
+pub tried_unless_told : (old new : Machine) (result : Option Outcome) (op : Op) → IsTrue (is_paced old.image) → waiting_of old ≡ waiting.Runs → next_op_of old ≡ Some op → ActsUnlessTold op old result new → TriesStep old result new
+tried_unless_told old new None op paced waits next acts = (acts.0, rw next acts.1)
+tried_unless_told old new (Some outcome) op paced waits next acts = tried old new outcome op paced waits next acts.0 acts.1
 
 pub tried_wild : (old new : Machine) (outcome : Outcome) → IsTrue (is_paced old.image) → waiting_of old ≡ waiting.Runs → next_op_of old ≡ None → GoesBy wild old outcome new → IsStep old (event_of outcome new.over) new × IsEndedIf outcome new.over
 tried_wild old new outcome paced waits next goes =

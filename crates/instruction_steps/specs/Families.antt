@@ -1,13 +1,19 @@
 -- Instructions in families, in the order in which the machine asks for them.
-use Rattle.std.specs.Prelude.{ℕ}
+use Rattle.std.specs.Prelude.{◌≡◌, ℕ, false, Option, Some, None}
 use Rattle.code_words.specs.declared.op.Op.{Op}
 use Rattle.code_words.specs.declared.op.Op.TheVariants as ops
+use Rattle.two_memory_machine.specs.declared.outcome.Outcome.{Outcome}
+use Rattle.two_memory_machine.specs.Machines.{Machine, is_input}
+use Rattle.two_memory_machine.specs.Steps.{Acts}
+use Rattle.machine_interaction.specs.Told.{IsTold}
 
--- the number of an instruction's family: 0 where it writes, or waits for a number
+-- an instruction takes no input number, and its step was made; or it writes or waits for a number, and nothing was done
+abbrev pub ActsUnlessTold : Op → Machine → Option Outcome → Machine → Type 0
+ActsUnlessTold op old None new = (new ≡ old) × IsTold (Some op)
+ActsUnlessTold op old (Some outcome) new = (is_input (Some op) ≡ false) × Acts op old outcome new
+
+-- the number of an instruction's family
 abbrev pub family : Op → ℕ
-family ops.NextInput = 0
-family ops.Print = 0
-family ops.PutByte = 0
 family (ops.Const n) = 1
 family (ops.Local k) = 1
 family (ops.Set k) = 1

@@ -1,8 +1,8 @@
 // Which function makes the step of which instruction.
 
 ghost use Rattle.std.specs.Prelude.{◌≤◌};
-ghost use Rattle.instruction_steps.specs.Families.{family};
-ghost use Rattle.two_memory_machine.specs.Steps.{Acts, IsReady};
+ghost use Rattle.instruction_steps.specs.Families.{family, ActsUnlessTold};
+ghost use Rattle.two_memory_machine.specs.Steps.{IsReady};
 
 use crate::{bounds, memory, operations, stack};
 use code_words::op::Op;
@@ -10,142 +10,142 @@ use machine_interaction::touches;
 use two_memory_machine::machine::Machine;
 use two_memory_machine::outcome::Outcome;
 
-/// Makes the step of an instruction that neither writes nor waits for a number: words, and what comes next.
-pub fn perform(machine: &mut Machine, op: &Op) -> Outcome
+/// Makes the step of an instruction, unless it writes or waits for a number: words, and what comes next. The others are
+/// left to the functions below, and those that write or wait come last, so that no other one is asked for first.
+pub fn perform(machine: &mut Machine, op: &Op) -> Option<Outcome>
     requires ready { IsReady machine.old }
-    requires family { 1 ≤ family op.now }
-    ensures { Acts op.now machine.old result machine.new }
+    ensures { ActsUnlessTold op.now machine.old result machine.new }
 {
     match op {
-        Op::Const(number) => machine.push(0, number.cast_unsigned()),
-        Op::Local(slot) => machine.local(*slot),
-        Op::Set(slot) => machine.set(*slot),
-        Op::Discard => operations::discard(machine),
-        Op::Duplicate => operations::duplicate(machine),
-        Op::BlockAddress(k) => machine.block_address(*k),
-        Op::BlockOffset(k) => machine.block_offset(*k),
-        Op::Jump(target) => stack::jump(machine, *target),
-        Op::JumpIfZero(target) => stack::jump_if_zero(machine, *target),
-        Op::Call(k) => machine.call(*k),
-        Op::TaintedCall { import, place } => machine.call_tainted(*import, *place),
-        Op::CallBack(_) => machine.end_wild(),
-        Op::Return => memory::return_word(machine),
-        Op::ReturnNothing => memory::return_nothing(machine),
-        Op::Tick => stack::tick(machine),
+        Op::Const(number) => Some(machine.push(0, number.cast_unsigned())),
+        Op::Local(slot) => Some(machine.local(*slot)),
+        Op::Set(slot) => Some(machine.set(*slot)),
+        Op::Discard => Some(operations::discard(machine)),
+        Op::Duplicate => Some(operations::duplicate(machine)),
+        Op::BlockAddress(k) => Some(machine.block_address(*k)),
+        Op::BlockOffset(k) => Some(machine.block_offset(*k)),
+        Op::Jump(target) => Some(stack::jump(machine, *target)),
+        Op::JumpIfZero(target) => Some(stack::jump_if_zero(machine, *target)),
+        Op::Call(k) => Some(machine.call(*k)),
+        Op::TaintedCall { import, place } => Some(machine.call_tainted(*import, *place)),
+        Op::CallBack(_) => Some(machine.end_wild()),
+        Op::Return => Some(memory::return_word(machine)),
+        Op::ReturnNothing => Some(memory::return_nothing(machine)),
+        Op::Tick => Some(stack::tick(machine)),
         _ => calculate(machine, op),
     }
 }
 
 // Makes the step of an instruction with a number or an address of its own.
-fn calculate(machine: &mut Machine, op: &Op) -> Outcome
+fn calculate(machine: &mut Machine, op: &Op) -> Option<Outcome>
     requires ready { IsReady machine.old }
     requires family { 2 ≤ family op.now }
-    ensures { Acts op.now machine.old result machine.new }
+    ensures { ActsUnlessTold op.now machine.old result machine.new }
 {
     match op {
-        Op::Add { place } => operations::add(machine, *place),
-        Op::Sub { place } => operations::subtract(machine, *place),
-        Op::Mul { place } => operations::multiply(machine, *place),
-        Op::Div { place } => operations::divide(machine, *place),
-        Op::Rem { place } => operations::remainder(machine, *place),
-        Op::Neg { place } => operations::negate(machine, *place),
-        Op::Shl { place } => operations::shift_left(machine, *place),
-        Op::Shr { place } => operations::shift_right(machine, *place),
-        Op::Index { size } => operations::index(machine, *size),
+        Op::Add { place } => Some(operations::add(machine, *place)),
+        Op::Sub { place } => Some(operations::subtract(machine, *place)),
+        Op::Mul { place } => Some(operations::multiply(machine, *place)),
+        Op::Div { place } => Some(operations::divide(machine, *place)),
+        Op::Rem { place } => Some(operations::remainder(machine, *place)),
+        Op::Neg { place } => Some(operations::negate(machine, *place)),
+        Op::Shl { place } => Some(operations::shift_left(machine, *place)),
+        Op::Shr { place } => Some(operations::shift_right(machine, *place)),
+        Op::Index { size } => Some(operations::index(machine, *size)),
         _ => combine(machine, op),
     }
 }
 
 // Makes the step of an instruction on bits, or modulo 2^32.
-fn combine(machine: &mut Machine, op: &Op) -> Outcome
+fn combine(machine: &mut Machine, op: &Op) -> Option<Outcome>
     requires ready { IsReady machine.old }
     requires family { 3 ≤ family op.now }
-    ensures { Acts op.now machine.old result machine.new }
+    ensures { ActsUnlessTold op.now machine.old result machine.new }
 {
     match op {
-        Op::WrapAdd => operations::wrapping_add(machine),
-        Op::WrapSub => operations::wrapping_subtract(machine),
-        Op::WrapMul => operations::wrapping_multiply(machine),
-        Op::WrapNeg => operations::wrapping_negate(machine),
-        Op::WrapShl => operations::wrapping_shift_left(machine),
-        Op::WrapShr => operations::wrapping_shift_right(machine),
-        Op::WrapDiv | Op::WrapRem => machine.end_wild(),
-        Op::And => operations::and(machine),
-        Op::Or => operations::or(machine),
-        Op::Xor => operations::xor(machine),
-        Op::Not => operations::complement(machine),
+        Op::WrapAdd => Some(operations::wrapping_add(machine)),
+        Op::WrapSub => Some(operations::wrapping_subtract(machine)),
+        Op::WrapMul => Some(operations::wrapping_multiply(machine)),
+        Op::WrapNeg => Some(operations::wrapping_negate(machine)),
+        Op::WrapShl => Some(operations::wrapping_shift_left(machine)),
+        Op::WrapShr => Some(operations::wrapping_shift_right(machine)),
+        Op::WrapDiv | Op::WrapRem => Some(machine.end_wild()),
+        Op::And => Some(operations::and(machine)),
+        Op::Or => Some(operations::or(machine)),
+        Op::Xor => Some(operations::xor(machine)),
+        Op::Not => Some(operations::complement(machine)),
         _ => compare(machine, op),
     }
 }
 
 // Makes the step of a comparison.
-fn compare(machine: &mut Machine, op: &Op) -> Outcome
+fn compare(machine: &mut Machine, op: &Op) -> Option<Outcome>
     requires ready { IsReady machine.old }
     requires family { 4 ≤ family op.now }
-    ensures { Acts op.now machine.old result machine.new }
+    ensures { ActsUnlessTold op.now machine.old result machine.new }
 {
     match op {
-        Op::Equal => operations::equal(machine),
-        Op::NotEqual => operations::not_equal(machine),
-        Op::Less => operations::less(machine),
-        Op::LessEqual => operations::less_equal(machine),
-        Op::Greater => operations::greater(machine),
-        Op::GreaterEqual => operations::greater_equal(machine),
-        Op::UnsignedLess => operations::unsigned_less(machine),
-        Op::UnsignedLessEqual => operations::unsigned_less_equal(machine),
-        Op::UnsignedGreater => operations::unsigned_greater(machine),
-        Op::UnsignedGreaterEqual => operations::unsigned_greater_equal(machine),
-        Op::Zero => operations::is_zero(machine),
-        Op::Byte => operations::low_byte(machine),
+        Op::Equal => Some(operations::equal(machine)),
+        Op::NotEqual => Some(operations::not_equal(machine)),
+        Op::Less => Some(operations::less(machine)),
+        Op::LessEqual => Some(operations::less_equal(machine)),
+        Op::Greater => Some(operations::greater(machine)),
+        Op::GreaterEqual => Some(operations::greater_equal(machine)),
+        Op::UnsignedLess => Some(operations::unsigned_less(machine)),
+        Op::UnsignedLessEqual => Some(operations::unsigned_less_equal(machine)),
+        Op::UnsignedGreater => Some(operations::unsigned_greater(machine)),
+        Op::UnsignedGreaterEqual => Some(operations::unsigned_greater_equal(machine)),
+        Op::Zero => Some(operations::is_zero(machine)),
+        Op::Byte => Some(operations::low_byte(machine)),
         _ => reach(machine, op),
     }
 }
 
 // Makes the step of an instruction that reaches memory.
-fn reach(machine: &mut Machine, op: &Op) -> Outcome
+fn reach(machine: &mut Machine, op: &Op) -> Option<Outcome>
     requires ready { IsReady machine.old }
     requires family { 5 ≤ family op.now }
-    ensures { Acts op.now machine.old result machine.new }
+    ensures { ActsUnlessTold op.now machine.old result machine.new }
 {
     match op {
-        Op::Load1 => memory::load_1(machine),
-        Op::Load4 => memory::load_4(machine),
-        Op::Store1 => memory::store_1(machine),
-        Op::Store4 => memory::store_4(machine),
-        Op::TouchLoad1 => touches::touch_load_1(machine),
-        Op::TouchLoad4 => touches::touch_load_4(machine),
-        Op::TouchStore1 => touches::touch_store_1(machine),
-        Op::TouchStore4 => touches::touch_store_4(machine),
-        Op::Alloc { size } => memory::alloc(machine, *size),
-        Op::AllocTerminated { size } => memory::alloc_terminated(machine, *size),
-        Op::SandboxAlloc { size } => machine.sandbox_alloc(*size),
-        Op::TextLength => machine.text_length(),
+        Op::Load1 => Some(memory::load_1(machine)),
+        Op::Load4 => Some(memory::load_4(machine)),
+        Op::Store1 => Some(memory::store_1(machine)),
+        Op::Store4 => Some(memory::store_4(machine)),
+        Op::TouchLoad1 => Some(touches::touch_load_1(machine)),
+        Op::TouchLoad4 => Some(touches::touch_load_4(machine)),
+        Op::TouchStore1 => Some(touches::touch_store_1(machine)),
+        Op::TouchStore4 => Some(touches::touch_store_4(machine)),
+        Op::Alloc { size } => Some(memory::alloc(machine, *size)),
+        Op::AllocTerminated { size } => Some(memory::alloc_terminated(machine, *size)),
+        Op::SandboxAlloc { size } => Some(machine.sandbox_alloc(*size)),
+        Op::TextLength => Some(machine.text_length()),
         _ => check_operands(machine, op),
     }
 }
 
-// Makes the step of a check.
+// Makes the step of a check, and none of an instruction that writes or waits for a number.
 #[inline(never)]
-fn check_operands(machine: &mut Machine, op: &Op) -> Outcome
+fn check_operands(machine: &mut Machine, op: &Op) -> Option<Outcome>
     requires ready { IsReady machine.old }
     requires family { 6 ≤ family op.now }
-    ensures { Acts op.now machine.old result machine.new }
+    ensures { ActsUnlessTold op.now machine.old result machine.new }
 {
     match op {
-        Op::NonNull { place } => bounds::non_null(machine, *place),
+        Op::NonNull { place } => Some(bounds::non_null(machine, *place)),
         Op::In {
             low,
             high,
             size,
             place,
-        } => bounds::check_in(machine, *low, *high, *size, *place),
+        } => Some(bounds::check_in(machine, *low, *high, *size, *place)),
         Op::UpTo {
             low,
             high,
             size,
             place,
-        } => bounds::check_up_to(machine, *low, *high, *size, *place),
-        Op::Term { high, size, place } => bounds::check_term(machine, *high, *size, *place),
+        } => Some(bounds::check_up_to(machine, *low, *high, *size, *place)),
+        Op::Term { high, size, place } => Some(bounds::check_term(machine, *high, *size, *place)),
         Op::Contain {
             old_low,
             old_high,
@@ -153,17 +153,20 @@ fn check_operands(machine: &mut Machine, op: &Op) -> Outcome
             new_high,
             size,
             place,
-        } => bounds::check_contain(
+        } => Some(bounds::check_contain(
             machine, *old_low, *old_high, *new_low, *new_high, *size, *place,
-        ),
+        )),
         Op::Lies {
             low,
             high,
             size,
             more,
             place,
-        } => bounds::check_lies(machine, *low, *high, *size, *more, *place),
-        Op::Range { offset, len, place } => bounds::check_range(machine, *offset, *len, *place),
+        } => Some(bounds::check_lies(machine, *low, *high, *size, *more, *place)),
+        Op::Range { offset, len, place } => Some(bounds::check_range(
+            machine, *offset, *len, *place,
+        )),
+        Op::NextInput | Op::Print | Op::PutByte => None,
         _ => unreachable!(),
     }
 }

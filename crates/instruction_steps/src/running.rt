@@ -6,7 +6,6 @@ ghost use Rattle.two_memory_machine.specs.Steps.{TellsSomething};
 ghost use Rattle.instruction_steps.specs.Running.{StepsOn, TriesStep};
 
 use crate::families;
-use code_words::op::Op;
 use machine_interaction::told::told_step;
 use two_memory_machine::event::{Event, Waiting};
 use two_memory_machine::machine::Machine;
@@ -51,8 +50,5 @@ fn try_step(machine: &mut Machine) -> Option<Outcome>
     let Some(op) = machine.op() else {
         return Some(machine.end_wild());
     };
-    match op {
-        Op::NextInput | Op::Print | Op::PutByte => None,
-        _ => Some(families::perform(machine, op)),
-    }
+    families::perform(machine, op)
 }

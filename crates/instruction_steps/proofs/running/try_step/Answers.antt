@@ -1,6 +1,6 @@
-use Rattle.std.proofs.Common.{◌≡◌, Some, None, sym}
+use Rattle.std.proofs.Common.{◌≡◌, None, sym}
 use Rattle.two_memory_machine.specs.Machines.{next_op_of}
-use Rattle.instruction_steps.proofs.Tries.{other_family, tried, tried_wild}
+use Rattle.instruction_steps.proofs.Tries.{tried_unless_told, tried_wild}
 use Rattle.instruction_steps.proofs.running.try_step.Goals as goal
 
 pub returns-in_default : goal.returns-in_default
@@ -8,8 +8,6 @@ returns-in_default c =
     let next : next_op_of c.args.machine.now ≡ None = sym c.in_default.ensures.op in
     tried_wild c.args.machine.now c.end_wild.new.self c.end_wild.result c.in_default.ensures.paced c.requires next c.end_wild.ensures.line
 
-pub returns-in_default-op : goal.returns-in_default-op
-returns-in_default-op c =
-    let next : next_op_of c.args.machine.now ≡ Some c.in-Some.op.now = sym c.in-Some.ensures.op in
-    let other = other_family c.in-Some.op.now c.in_default-op.not-NextInput c.in_default-op.not-Print c.in_default-op.not-PutByte in
-    tried c.args.machine.now c.perform.new.machine c.perform.result c.in-Some.op.now c.in-Some.ensures.paced c.requires next other c.perform.ensures
+pub returns : goal.returns
+returns c =
+    tried_unless_told c.args.machine.now c.perform.new.machine c.perform.result c.in-Some.op.now c.in-Some.ensures.paced c.requires (sym c.in-Some.ensures.op) c.perform.ensures
