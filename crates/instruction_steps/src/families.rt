@@ -10,8 +10,7 @@ use machine_interaction::touches;
 use two_memory_machine::machine::Machine;
 use two_memory_machine::outcome::Outcome;
 
-/// Makes the step of an instruction, unless it writes or waits for a number: words, and what comes next. The others are
-/// left to the functions below, and those that write or wait come last, so that no other one is asked for first.
+/// Makes the step of an instruction, unless it writes or waits for a number.
 pub fn perform(machine: &mut Machine, op: &Op) -> Option<Outcome>
     requires ready { IsReady machine.old }
     ensures { ActsUnlessTold op.now machine.old result machine.new }
@@ -32,17 +31,6 @@ pub fn perform(machine: &mut Machine, op: &Op) -> Option<Outcome>
         Op::Return => Some(memory::return_word(machine)),
         Op::ReturnNothing => Some(memory::return_nothing(machine)),
         Op::Tick => Some(stack::tick(machine)),
-        _ => calculate(machine, op),
-    }
-}
-
-// Makes the step of an instruction with a number or an address of its own.
-fn calculate(machine: &mut Machine, op: &Op) -> Option<Outcome>
-    requires ready { IsReady machine.old }
-    requires family { 2 ≤ family op.now }
-    ensures { ActsUnlessTold op.now machine.old result machine.new }
-{
-    match op {
         Op::Add { place } => Some(operations::add(machine, *place)),
         Op::Sub { place } => Some(operations::subtract(machine, *place)),
         Op::Mul { place } => Some(operations::multiply(machine, *place)),
@@ -52,17 +40,6 @@ fn calculate(machine: &mut Machine, op: &Op) -> Option<Outcome>
         Op::Shl { place } => Some(operations::shift_left(machine, *place)),
         Op::Shr { place } => Some(operations::shift_right(machine, *place)),
         Op::Index { size } => Some(operations::index(machine, *size)),
-        _ => combine(machine, op),
-    }
-}
-
-// Makes the step of an instruction on bits, or modulo 2^32.
-fn combine(machine: &mut Machine, op: &Op) -> Option<Outcome>
-    requires ready { IsReady machine.old }
-    requires family { 3 ≤ family op.now }
-    ensures { ActsUnlessTold op.now machine.old result machine.new }
-{
-    match op {
         Op::WrapAdd => Some(operations::wrapping_add(machine)),
         Op::WrapSub => Some(operations::wrapping_subtract(machine)),
         Op::WrapMul => Some(operations::wrapping_multiply(machine)),
@@ -74,17 +51,6 @@ fn combine(machine: &mut Machine, op: &Op) -> Option<Outcome>
         Op::Or => Some(operations::or(machine)),
         Op::Xor => Some(operations::xor(machine)),
         Op::Not => Some(operations::complement(machine)),
-        _ => compare(machine, op),
-    }
-}
-
-// Makes the step of a comparison.
-fn compare(machine: &mut Machine, op: &Op) -> Option<Outcome>
-    requires ready { IsReady machine.old }
-    requires family { 4 ≤ family op.now }
-    ensures { ActsUnlessTold op.now machine.old result machine.new }
-{
-    match op {
         Op::Equal => Some(operations::equal(machine)),
         Op::NotEqual => Some(operations::not_equal(machine)),
         Op::Less => Some(operations::less(machine)),
@@ -97,17 +63,6 @@ fn compare(machine: &mut Machine, op: &Op) -> Option<Outcome>
         Op::UnsignedGreaterEqual => Some(operations::unsigned_greater_equal(machine)),
         Op::Zero => Some(operations::is_zero(machine)),
         Op::Byte => Some(operations::low_byte(machine)),
-        _ => reach(machine, op),
-    }
-}
-
-// Makes the step of an instruction that reaches memory.
-fn reach(machine: &mut Machine, op: &Op) -> Option<Outcome>
-    requires ready { IsReady machine.old }
-    requires family { 5 ≤ family op.now }
-    ensures { ActsUnlessTold op.now machine.old result machine.new }
-{
-    match op {
         Op::Load1 => Some(memory::load_1(machine)),
         Op::Load4 => Some(memory::load_4(machine)),
         Op::Store1 => Some(memory::store_1(machine)),
@@ -128,7 +83,7 @@ fn reach(machine: &mut Machine, op: &Op) -> Option<Outcome>
 #[inline(never)]
 fn check_operands(machine: &mut Machine, op: &Op) -> Option<Outcome>
     requires ready { IsReady machine.old }
-    requires family { 6 ≤ family op.now }
+    requires family { 2 ≤ family op.now }
     ensures { ActsUnlessTold op.now machine.old result machine.new }
 {
     match op {
