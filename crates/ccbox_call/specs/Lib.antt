@@ -1,3 +1,4 @@
 pub mod Acceptance
 pub mod Answers
 pub mod Calls
+pub mod Process

@@ -68,8 +68,8 @@ pub fn ccbox<F: Shelf, K: Sink>(
     }
 }
 
-// The status of a call.
-fn status_of_call<F: Shelf, K: Sink>(
+/// The status of a call.
+pub(crate) fn status_of_call<F: Shelf, K: Sink>(
     alloc: Global,
     words: &[&str],
     shelf: &mut F,

@@ -4,4 +4,5 @@
 pub mod call;
 pub mod front;
 pub mod laws;
+pub mod process;
 mod run;

@@ -5,5 +5,6 @@ pub mod Files
 pub mod MemShelf
 pub mod MemSink
 pub mod StoredFiles
+pub mod System
 pub mod Whole
 pub mod Written

@@ -1,13 +1,15 @@
 // The files of the operating system. What they hold is not told to proofs.
 
 ghost use Rattle.std.specs.Prelude.{◌≡◌, ◌≤◌, length, IfOk};
+ghost use Rattle.ckc_io.specs.Counts.{ShelfCounts};
 
 use crate::shelf::{Shelf, ShelfFault};
+use crate::system::{opened, read_count};
+use std::fs;
 use std::fs::File;
 use std::marker::Model;
 use std::os::unix::fs::FileExt;
 use std::rt::Files;
-use std::{fs, io};
 
 /// The files of the operating system, by their paths. Each read opens its file.
 #[derive(Drop)]
@@ -48,28 +50,33 @@ impl<'a, R: Files<File = File>> Shelf for FileShelf<'a, R> {
     ghost faults = { λ s. s.faults };
 
     fn read_at(&mut self, name: &str, from: u64, into: &mut [u8]) -> Result<usize, ShelfFault> {
-        match read_file_at(self.rt, name, from, into) {
-            Ok(count) => Ok(count),
-            Err(error) if error.kind() == io::ErrorKind::NotFound => {
-                self.misses = self.misses.saturating_add(1);
-                Err(ShelfFault::Missing)
-            }
-            Err(_) => {
-                self.faults = self.faults.saturating_add(1);
-                Err(ShelfFault::Failed)
-            }
-        }
+        let answer = self.answer_at(name, from, into);
+        self.counted(answer)
     }
 }
 
-/// Reads bytes of a file from an offset.
-fn read_file_at<R: Files<File = File>>(
-    rt: &R,
-    name: &str,
-    from: u64,
-    into: &mut [u8],
-) -> io::Result<usize>
-    ensures { IfOk result (λ count. count ≤ length into.new) }
-{
-    fs::open(rt, name)?.read_at(into, from)
+impl<'a, R: Files<File = File>> FileShelf<'a, R> {
+    // What the system answers.
+    fn answer_at(&self, name: &str, from: u64, into: &mut [u8]) -> Result<usize, ShelfFault>
+        ensures { IfOk result (λ count. count ≤ length into.new) }
+    {
+        let file = opened(fs::open(self.rt, name))?;
+        read_count(file.read_at(into, from))
+    }
+}
+
+impl<'a, R> FileShelf<'a, R> {
+    // Counts an answer, if it is a fault, and hands it on.
+    fn counted(&mut self, answer: Result<usize, ShelfFault>) -> Result<usize, ShelfFault>
+        ensures same { result ≡ answer }
+        ensures counts { ShelfCounts result
+            self.old.misses self.new.misses self.old.faults self.new.faults }
+    {
+        match answer {
+            Ok(_) => {}
+            Err(ShelfFault::Missing) => self.misses = self.misses.saturating_add(1),
+            Err(ShelfFault::Failed) => self.faults = self.faults.saturating_add(1),
+        }
+        answer
+    }
 }

@@ -8,4 +8,5 @@ pub mod mem_sink;
 pub mod out_sink;
 pub mod shelf;
 pub mod sink;
+pub mod system;
 pub mod whole;

@@ -1,0 +1,36 @@
+-- What the answers of an operating system mean.
+use Rattle.std.specs.Prelude.{ℕ, zero, suc, Bool, true, false, Result, Ok, Err}
+use Rattle.std.specs.declared.io.Error.{Error}
+use Rattle.std.specs.IoError.{error_kind}
+use Rattle.std.specs.declared.io.ErrorKind.{ErrorKind}
+use Rattle.std.specs.declared.io.ErrorKind.TheVariants.{NotFound}
+use Rattle.ckc_io.specs.declared.shelf.ShelfFault.{ShelfFault}
+use Rattle.ckc_io.specs.declared.shelf.ShelfFault.TheVariants as shelf
+use Rattle.ckc_io.specs.declared.sink.SinkFault.{SinkFault}
+use Rattle.ckc_io.specs.declared.sink.SinkFault.TheVariants as sink
+
+-- a file that isn't opened is missing exactly where the system finds none of its name
+abbrev pub open_fault : ErrorKind → ShelfFault
+open_fault NotFound = shelf.Missing
+open_fault _ = shelf.Failed
+
+-- what opening a file answers
+abbrev pub opened : {F : Type 0} → Result F Error → Result F ShelfFault
+opened (Ok file) = Ok file
+opened (Err error) = Err (open_fault (error_kind error))
+
+-- what reading from an open file answers: the count of bytes that the system tells
+abbrev pub read_count : Result ℕ Error → Result ℕ ShelfFault
+read_count (Ok count) = Ok count
+read_count (Err error) = Err shelf.Failed
+
+-- a write may take nothing of an empty piece alone
+abbrev pub taken_of : ℕ → ℕ → Result ℕ SinkFault
+taken_of zero count = Ok count
+taken_of (suc len) zero = Err sink.Failed
+taken_of (suc len) (suc count) = Ok (suc count)
+
+-- what writing a piece of so many bytes answers: the count of bytes that the system took
+abbrev pub written_count : ℕ → Result ℕ Error → Result ℕ SinkFault
+written_count len (Ok count) = taken_of len count
+written_count len (Err error) = Err sink.Failed
