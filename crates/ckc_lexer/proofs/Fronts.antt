@@ -46,7 +46,7 @@ pair_within : (bs : List ℕ) → pair_width bs ≤ suc (length bs)
 pair_within [] = omega arith
 pair_within (c ∷ cs) = choice _ 0 2 _ (omega arith) (omega arith)
 
-width_within : (run : Run) (text : List ℕ) → width run text ≤ length text
+pub width_within : (run : Run) (text : List ℕ) → width run text ≤ length text
 width_within Comment [] = omega arith
 width_within Comment (b ∷ bs) = choice _ 0 1 _ (omega arith) (omega arith)
 width_within Directive [] = omega arith

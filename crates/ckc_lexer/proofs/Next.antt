@@ -1,5 +1,8 @@
 -- What a piece leads to stands behind it, with the tokens in order.
-use Rattle.std.proofs.Common.{◌≡◌, ℕ, ◌+◌, ◌<◌, ◌≤◌, Bool, true, false, cond, List, [], ◌∷◌, ◌++◌, length, drop, Option, Some, None, Result, Ok, Err, IfOk, refl, sym, ap, ◌∙◌, subst, arith, length-drop}
+use Rattle.std.proofs.Common.{◌≡◌, ℕ, ◌+◌, ◌<◌, ◌≤◌, Bool, true, false, cond, List, [], ◌∷◌, ◌++◌, length, drop, Option, Some, None, Result, Ok, Err, IfOk, nat_lt, refl, sym, ap, ◌∙◌, subst, arith, length-drop}
+use Rattle.std.proofs.lemmas.Bool.{ltb-true}
+use Rattle.std.proofs.lemmas.List.{length-append}
+use Rattle.ckc_text.specs.declared.code.Code.TheVariants.{E08}
 use Rattle.ckc_text.specs.declared.fault.SourceFault.{SourceFault}
 use Rattle.ckc_lexer.specs.declared.line.Line.{Line}
 use Rattle.ckc_lexer.specs.declared.line.Line.TheVariants.{Fresh, Marked, Behind}
@@ -13,7 +16,7 @@ use Rattle.ckc_tokens.specs.declared.token.CheckedScope.TheVariants as scope
 use Rattle.ckc_tokens.specs.declared.token.Token.{Token}
 use Rattle.ckc_tokens.specs.declared.token.TokenKind.{TokenKind}
 use Rattle.ckc_tokens.specs.declared.token.TokenKind.TheVariants as kind
-use Rattle.ckc_lexer.specs.Tokens.{State, Step, Cut, ends, stops, goes, Lexes, great, cut, token_at, go_on, push, push_after, number_tokens, name_tokens, definition_for, behind_mark, define, scope_from, pop_scope, change_scope, is_first, next, InOrder, none, token, again}
+use Rattle.ckc_lexer.specs.Tokens.{State, Step, Cut, ends, stops, goes, Lexes, great, cut, token_at, fault_at, go_on, push, push_after, number_tokens, name_tokens, definition_for, behind_mark, define, scope_from, pop_scope, change_scope, is_first, next, InOrder, none, token, again}
 use Rattle.ckc_lexer.proofs.Fronts.{piece_within}
 
 widen : {tokens : List Token} {a b : ℕ} → InOrder tokens a → a ≤ b → InOrder tokens b
@@ -25,11 +28,13 @@ widen (again ts t u o m e) h = again ts t u (widen o h) m e
 record Kept (s : State) (n : ℕ) (t : State) : Type 0 where
   at : t.at ≡ s.at
   order : InOrder s.tokens s.at → 0 < n → InOrder t.tokens (s.at + n)
+  few : length s.tokens ≤ 200000 → length t.tokens ≤ 200000
 
 -- behind the n bytes that stand there
 pub record Further (s : State) (n : ℕ) (t : State) : Type 0 where
   pub at : t.at ≡ s.at + n
   pub order : InOrder s.tokens s.at → 0 < n → InOrder t.tokens t.at
+  pub few : length s.tokens ≤ 200000 → length t.tokens ≤ 200000
 
 same_ok : {r q : State} → ◌≡◌ {A = Result State SourceFault} (Ok r) (Ok q) → r ≡ q
 same_ok e = cc
@@ -39,16 +44,34 @@ chosen true r q f e = same_ok e
 chosen false r q f e = cc
 
 kept_same : (s : State) (n : ℕ) → Kept s n s
-kept_same s n = record { at = refl; order = λ o some. widen o (omega arith) }
+kept_same s n = record { at = refl; order = λ o some. widen o (omega arith); few = λ f. f }
 
-kept_push : (s t : State) (k : TokenKind) (n : ℕ) → push s k n ≡ Ok t → Kept s n t
+-- behind one token more
+abbrev pushed : State → TokenKind → ℕ → State
+pushed s k n = record { at = s.at; line = s.line; tokens = s.tokens ++ token_at s.at (s.at + n) k ∷ []; definitions = s.definitions; scope = s.scope; kept = s.kept }
+
+pushed_few : (s t : State) (k : TokenKind) (n : ℕ) → push s k n ≡ Ok t → length t.tokens ≤ 200000
 unfolding push
-kept_push s t k n e =
-    subst (λ u. Kept s n u) (chosen _ _ t _ e) (record { at = refl; order = λ o some. token s.tokens (token_at s.at (s.at + n) k) o (omega arith) (omega arith) })
+pushed_few s t k n e = by (nat_lt (length s.tokens) 200000) refl e
+  where
+    by : (c : Bool) → nat_lt (length s.tokens) 200000 ≡ c → ◌≡◌ {A = Result State SourceFault} (cond c (Ok (pushed s k n)) (Err (fault_at E08 s.at))) (Ok t) → length t.tokens ≤ 200000
+    by true room e =
+        subst (λ (x : State). length x.tokens ≤ 200000) (same_ok e) (omega (arith, ltb-true (length s.tokens) 200000 room, length-append s.tokens (token_at s.at (s.at + n) k ∷ [])))
+    by false full e = cc
 
 pushed_is : (s t : State) (k : TokenKind) (n : ℕ) → push s k n ≡ Ok t → (t.at ≡ s.at) × (t.tokens ≡ s.tokens ++ token_at s.at (s.at + n) k ∷ [])
 unfolding push
 pushed_is s t k n e = let same = chosen _ _ t _ e in (sym (ap (λ (u : State). u.at) same), sym (ap (λ (u : State). u.tokens) same))
+
+kept_push : (s t : State) (k : TokenKind) (n : ℕ) → push s k n ≡ Ok t → Kept s n t
+unfolding push
+kept_push s t k n e =
+    let is = pushed_is s t k n e in
+    record {
+      at = is.0;
+      order = λ o some. subst (λ x. InOrder x (s.at + n)) (sym is.1) (token s.tokens (token_at s.at (s.at + n) k) o (omega arith) (omega arith));
+      few = λ f. pushed_few s t k n e;
+    }
 
 -- a minus and a token of the same bytes
 kept_twice : (s t : State) (r : Result State SourceFault) (l : TokenKind) (n : ℕ) → push s kind.Minus n ≡ r → push_after r l n ≡ Ok t → Kept s n t
@@ -64,6 +87,7 @@ kept_twice s t (Ok u) l n d e =
     record {
       at = second.0 ∙ at;
       order = λ o some. subst (λ x. InOrder x (s.at + n)) (sym tokens) (again s.tokens a b (token s.tokens a o (omega arith) (omega arith)) refl refl);
+      few = λ f. pushed_few u t l n e;
     }
 
 kept_number : (negative : Bool) (value : ℕ) (s t : State) (n : ℕ) → number_tokens negative value s n ≡ Ok t → Kept s n t
@@ -75,13 +99,13 @@ kept_name name None s t n e = kept_push s t (kind.Name name) n e
 kept_name name (Some (negative, value)) s t n e = kept_number negative value s t n e
 
 kept_define : (found : Option (Bool × ℕ)) (d : Definition) (s t : State) (n : ℕ) → define found d s ≡ Ok t → Kept s n t
-kept_define None d s t n e = subst (λ u. Kept s n u) (same_ok e) (record { at = refl; order = λ o some. widen o (omega arith) })
+kept_define None d s t n e = subst (λ u. Kept s n u) (same_ok e) (record { at = refl; order = λ o some. widen o (omega arith); few = λ f. f })
 kept_define (Some (negative, value)) d s t n e = subst (λ u. Kept s n u) (chosen _ s t _ e) (kept_same s n)
 
 kept_scope : (s t : State) (c : CheckedScope) (kept : List CheckedScope) (n : ℕ) → scope_from s c kept n ≡ Ok t → Kept s n t
 kept_scope s t c kept n e =
     let k = kept_push (record { at = s.at; line = s.line; tokens = s.tokens; definitions = s.definitions; scope = c; kept = kept }) t (kind.Scope c) n e in
-    record { at = k.at; order = k.order }
+    record { at = k.at; order = k.order; few = k.few }
 
 kept_pop : (kept : List CheckedScope) (s t : State) (n : ℕ) → pop_scope kept s n ≡ Ok t → Kept s n t
 kept_pop [] s t n e = cc
@@ -102,6 +126,7 @@ gone_on (Ok u) line s t n h e =
     record {
       at = at;
       order = λ o some. subst (λ x. InOrder x t.at) (ap (λ (x : State). x.tokens) same) (subst (λ x. InOrder u.tokens x) (sym at) (k.order o some));
+      few = λ f. subst (λ (x : State). length x.tokens ≤ 200000) same (k.few f);
     }
 
 behind_further : (line : Line) (r : Result State SourceFault) (s t : State) (n : ℕ) → ((u : State) → r ≡ Ok u → Kept s n u) → behind_mark line r n ≡ Ok t → Further s n t
@@ -125,6 +150,7 @@ pub record Advances (src : List ℕ) (s t : State) : Type 0 where
   pub more : s.at < t.at
   pub within : t.at ≤ length src
   pub order : InOrder s.tokens s.at → InOrder t.tokens t.at
+  pub few : length s.tokens ≤ 200000 → length t.tokens ≤ 200000
 
 pub step_advances : {src : List ℕ} {s t : State} → Step src s (Ok t) → Advances src s t
 step_advances {src} {s} {t} a =
@@ -134,6 +160,7 @@ step_advances {src} {s} {t} a =
       more = omega (arith, f.at, w.some);
       within = omega (arith, f.at, w.within, a.within, length-drop s.at src);
       order = λ o. f.order o w.some;
+      few = f.few;
     }
 
 ordered_cut : {src : List ℕ} {s : State} {r : Result (List Token) SourceFault} → Cut src s r → InOrder s.tokens s.at → IfOk r (λ tokens. InOrder tokens (length src))
@@ -144,3 +171,12 @@ ordered_cut (goes a c) o = ordered_cut c ((step_advances a).order o)
 pub ordered : {src : List ℕ} {r : Result (List Token) SourceFault} → Lexes src r → IfOk r (λ tokens. InOrder tokens (length src))
 ordered (great h) = tt
 ordered (cut h c) = ordered_cut c none
+
+few_cut : {src : List ℕ} {s : State} {r : Result (List Token) SourceFault} → Cut src s r → length s.tokens ≤ 200000 → IfOk r (λ tokens. length tokens ≤ 200000)
+few_cut (ends e) f = f
+few_cut (stops a) f = tt
+few_cut (goes a c) f = few_cut c ((step_advances a).few f)
+
+pub few_tokens : {src : List ℕ} {r : Result (List Token) SourceFault} → Lexes src r → IfOk r (λ tokens. length tokens ≤ 200000)
+few_tokens (great h) = tt
+few_tokens (cut h c) = few_cut c (omega arith)

@@ -4,4 +4,5 @@ pub mod Quoted
 pub mod Directives
 pub mod Pieces
 pub mod Tokens
+pub mod Defined
 pub mod Progress

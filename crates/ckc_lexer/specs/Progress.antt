@@ -9,7 +9,7 @@ use Rattle.ckc_lexer.specs.declared.lexer.Lexer.{Lexer}
 -- the scopes that are kept stand in a stack with the last one at its end
 abbrev pub state_of : Lexer → State
 state_of l =
-    record { at = l.at; line = l.line; tokens = l.tokens.items; definitions = l.definitions.items; scope = l.scope; kept = reverse l.kept.items }
+    record { at = l.at; line = l.line; tokens = l.tokens.items; definitions = l.definitions; scope = l.scope; kept = reverse l.kept.items }
 
 -- the state that is to come has come, or the fault; memory may run out
 abbrev pub Gives : Result (Unit {0}) Refused → Lexer → Result State SourceFault → Type 0

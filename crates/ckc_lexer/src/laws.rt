@@ -1,16 +1,17 @@
 // What the definitions of tokens say: a source has one list of tokens or one fault, the tokens stand in order,
 // and worked examples.
 
-ghost use Rattle.std.specs.Prelude.{◌≡◌, ℕ, List, ◌∷◌, ◌++◌, [], codes, length, Result};
+ghost use Rattle.std.specs.Prelude.{◌≡◌, ◌≤◌, ℕ, List, ◌∷◌, ◌++◌, [], codes, length, Result};
 ghost use Rattle.ckc_text.specs.declared.code.Code.TheVariants.{E02, E03, E04, E05};
 ghost use Rattle.ckc_text.specs.declared.fault.SourceFault.{SourceFault};
 ghost use Rattle.ckc_lexer.specs.Tokens.{Lexes, AreTokens, HasFault, InOrder, token_at, fault_at};
 ghost use Rattle.ckc_tokens.specs.declared.token.Token.{Token};
 ghost use Rattle.ckc_tokens.specs.declared.token.TokenKind.TheVariants.{Name, Number, Minus, LessEqual, Greater, GreaterEqual};
 
-/// A source has one list of tokens, or one fault, and never both.
+/// A source has one list of tokens or one fault, and never both.
 pub fn one_cut()
-    ensures { (src : List ℕ) (answer other : Result (List Token) SourceFault)
+    ensures some_cut { (src : List ℕ) → (answer : Result (List Token) SourceFault) × Lexes src answer }
+    ensures one_cut { (src : List ℕ) (answer other : Result (List Token) SourceFault)
         → Lexes src answer → Lexes src other → answer ≡ other }
 {}
 
@@ -18,6 +19,11 @@ pub fn one_cut()
 /// a minus may one stand on the same bytes, as the number of a definition does.
 pub fn in_order()
     ensures { (src : List ℕ) (tokens : List Token) → AreTokens src tokens → InOrder tokens (length src) }
+{}
+
+/// A source has 200,000 tokens at most.
+pub fn few_tokens()
+    ensures { (src : List ℕ) (tokens : List Token) → AreTokens src tokens → length tokens ≤ 200000 }
 {}
 
 /// The longest mark is taken, but a right shift is two marks that touch. A name that is defined stands for

@@ -6,6 +6,7 @@ ghost use Rattle.ckc_lexer.specs.Tokens.{fault_at, push, definition_for, number_
 ghost use Rattle.ckc_tokens.specs.declared.piece.Piece.TheVariants.{Gap};
 ghost use Rattle.ckc_lexer.specs.Progress.{state_of, Gives, Steps};
 
+use crate::definitions::Definitions;
 use crate::line::Line;
 use crate::pieces::piece_at;
 use ckc_text::code::Code;
@@ -25,7 +26,7 @@ struct Lexer {
     at: usize,
     line: Line,
     tokens: Vec<Token>,
-    definitions: Vec<Definition>,
+    definitions: Definitions,
     scope: CheckedScope,
     kept: Vec<CheckedScope>,
 }
@@ -36,18 +37,6 @@ fn fault_at(code: Code, at: u32) -> Refused
 {
     let span = Span { from: at, to: at };
     Refused::Source(SourceFault { code, span })
-}
-
-/// The sign and the number of what a name stands for.
-fn definition_for(name: &[u8], definitions: &[Definition]) -> Option<(bool, u32)>
-    ensures { result ≡ definition_for name.now definitions.now }
-{
-    for definition in definitions {
-        if definition.name.as_bytes() == name {
-            return Some((definition.negative, definition.value));
-        }
-    }
-    None
 }
 
 impl Lexer {
@@ -91,10 +80,10 @@ impl Lexer {
     /// A name, or what it stands for.
     fn push_name(&mut self, name: Name, len: usize) -> Result<(), Refused>
         requires { self.old.at + len ≤ 1048576 }
-        ensures gives { Gives result self.new (name_tokens name (definition_for name self.old.definitions.items) (state_of self.old) len) }
+        ensures gives { Gives result self.new (name_tokens name (definition_for name self.old.definitions) (state_of self.old) len) }
         ensures place { self.new.at ≡ self.old.at }
     {
-        match definition_for(name.as_bytes(), &self.definitions) {
+        match self.definitions.get(name.as_bytes()) {
             None => self.push(TokenKind::Name(name), len),
             Some((negative, value)) => self.push_number(negative, value, len),
         }
@@ -103,12 +92,12 @@ impl Lexer {
     /// One more definition, unless it stands already.
     fn define(&mut self, definition: Definition) -> Result<(), Refused>
         requires { self.old.at ≤ 1048576 }
-        ensures gives { Gives result self.new (define (definition_for definition.name self.old.definitions.items) definition (state_of self.old)) }
+        ensures gives { Gives result self.new (define (definition_for definition.name self.old.definitions) definition (state_of self.old)) }
         ensures place { self.new.at ≡ self.old.at }
     {
-        match definition_for(definition.name.as_bytes(), &self.definitions) {
+        match self.definitions.get(definition.name.as_bytes()) {
             None => {
-                self.definitions.push(definition)?;
+                self.definitions.add(definition)?;
                 Ok(())
             }
             Some((negative, value)) if is_same_number(negative, value, &definition) => Ok(()),
@@ -185,7 +174,7 @@ impl Lexer {
     /// A name.
     fn named(&mut self, name: Name, len: usize) -> Result<(), Refused>
         requires { self.old.at + len ≤ 1048576 }
-        ensures { Gives result self.new (behind_mark self.old.line (name_tokens name (definition_for name self.old.definitions.items) (state_of self.old) len) len) }
+        ensures { Gives result self.new (behind_mark self.old.line (name_tokens name (definition_for name self.old.definitions) (state_of self.old) len) len) }
     {
         if let Line::Behind(directive) = self.line {
             return Err(fault_at(Code::E05, directive));
@@ -265,7 +254,7 @@ pub fn lex(alloc: Global, src: &[u8]) -> Result<Vec<Token>, Refused>
         at: 0,
         line: Line::Fresh,
         tokens: Vec::new(alloc),
-        definitions: Vec::new(alloc),
+        definitions: Definitions::new(alloc),
         scope: CheckedScope::On,
         kept: Vec::new(alloc),
     };

@@ -1,6 +1,7 @@
 // From the bytes of a source to its tokens.
 #![tactic(auto)]
 
+mod definitions;
 mod directive;
 mod front;
 mod keywords;

@@ -36,6 +36,13 @@ impl Name {
         Ok(Name { bytes })
     }
 
+    /// The bytes of the name, which takes no memory.
+    pub fn into_bytes(self) -> Vec<u8>
+        ensures { result.items ≡ self }
+    {
+        self.bytes
+    }
+
     /// The bytes of the name.
     pub fn as_bytes(&self) -> &[u8]
         ensures { result.now ≡ self.now }
