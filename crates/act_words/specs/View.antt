@@ -73,3 +73,7 @@ pub record ViewIsFold (start : List ℕ) (all : List Act) (w : World) : Type 0 w
   pub taken : List Act
   pub are : all ≡ taken ++ w.acts
   pub view : view_of w.events ≡ view_fold start taken (releases_of w.events)
+
+-- the second view begins with the first
+abbrev pub IsFront : List Seen → List Seen → Type 0
+IsFront first second = (more : List Seen) × (second ≡ first ++ more)

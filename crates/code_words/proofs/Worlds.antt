@@ -9,8 +9,7 @@ use Rattle.act_words.specs.Acts.{Act, Go, Read, Write, Call, Return, Stop, Relea
 use Rattle.act_words.specs.World.{World, Event, Output, Released, Showed, NoAct, telling, taken_one, in_turn, with_inputs}
 use Rattle.act_words.specs.Acting.{BeforeTouch, InSandbox, lies_in, bytes_at, shown_if, written_if, waits_or_ends, keeps_or_ends, act_before_touch, act_in_sandbox}
 use Rattle.act_words.specs.Touches.{released}
-use Rattle.act_words.specs.View.{ViewIsFold}
-use Rattle.act_words.proofs.Views.{Told, Ready, BeforeTold, InTold, told_at_start, shown, none_left, at_the_end, released_told, act_before_told, act_in_told, told_in, write_told, ready_turn, view_in_turn}
+use Rattle.act_words.proofs.Views.{Told, Ready, HasFolded, BeforeTold, InTold, told_at_start, shown, none_left, at_the_end, released_told, act_before_told, act_in_told, told_in, write_told, ready_turn, view_in_turn}
 use Rattle.code_words.specs.declared.image.Image.{Image}
 use Rattle.code_words.specs.Table.{State, Step, Goes, Over, Control, Runs, Touches, Away}
 use Rattle.code_words.specs.Moves.{move}
@@ -32,24 +31,24 @@ module _ (start : List ℕ) (all : List Act) where
   abbrev BehindCall : World → Type 0
   BehindCall w = Told start all (in_turn turns.Trusted w)
 
-  before_told : (r : BeforeTouch) → BeforeTold start all r → BeforeKeeps OwnTurn (Ready start all) OtherTurn BehindCall (ViewIsFold start all) r
+  before_told : (r : BeforeTouch) → BeforeTold start all r → BeforeKeeps OwnTurn (Ready start all) OtherTurn BehindCall (HasFolded start all) r
   before_told (BeforeTouch.Waits w) told = told
   before_told (BeforeTouch.Touches w) told = told
   before_told (BeforeTouch.Ends ending w) told = told
 
-  in_told : (r : InSandbox) → InTold start all r → InKeeps OwnTurn (Ready start all) OtherTurn BehindCall (ViewIsFold start all) r
+  in_told : (r : InSandbox) → InTold start all r → InKeeps OwnTurn (Ready start all) OtherTurn BehindCall (HasFolded start all) r
   in_told (InSandbox.Keeps w) told = told
   in_told (InSandbox.Answers word w) told = told
   in_told (InSandbox.Calls fun words w) told = told
   in_told (InSandbox.Ends ending w) told = told
 
-  release_told : (release : Release) (w : World) → Ready start all w → ReleaseKeeps OwnTurn (Ready start all) OtherTurn BehindCall (ViewIsFold start all) release (released release w)
+  release_told : (release : Release) (w : World) → Ready start all w → ReleaseKeeps OwnTurn (Ready start all) OtherTurn BehindCall (HasFolded start all) release (released release w)
   release_told Looked w ready = (released_told start all Looked w ready, ready_turn start all w ready)
   release_told (Wrote at bytes) w ready = (released_told start all (Wrote at bytes) w ready, ready_turn start all w ready)
   release_told (Passed fun args) w ready = (released_told start all (Passed fun args) w ready, refl)
   release_told (Replied value) w ready = (released_told start all (Replied value) w ready, refl)
 
-  view_kept : AreKept OwnTurn (Ready start all) OtherTurn BehindCall (ViewIsFold start all)
+  view_kept : AreKept OwnTurn (Ready start all) OtherTurn BehindCall (HasFolded start all)
   view_kept =
       record {
         ticks = λ w n d. (told_in start all w (record w { ticks = n }) d.0 refl refl refl refl, d.1);
@@ -67,12 +66,12 @@ module _ (start : List ℕ) (all : List Act) where
         ends = λ w d. shown start all w d.0;
       }
 
-pub view : (image : Image) (settings : Settings) (inputs : List ℤ) (acts : List Act) (ending : Ending) (t : State) → CodeRun image settings inputs acts ending t → ViewIsFold (started image settings inputs acts).world.sandbox acts t.world
-view image settings inputs acts ending t run =
+pub folded : (image : Image) (settings : Settings) (inputs : List ℤ) (acts : List Act) (ending : Ending) (t : State) → CodeRun image settings inputs acts ending t → HasFolded (started image settings inputs acts).world.sandbox acts t.world
+folded image settings inputs acts ending t run =
     let s = started image settings inputs acts in
     let start = s.world.sandbox in
-    subst (RunKeeps (OwnTurn start acts) (Ready start acts) (OtherTurn start acts) (BehindCall start acts) (ViewIsFold start acts)) run.1
-    (run-keeps (OwnTurn start acts) (Ready start acts) (OtherTurn start acts) (BehindCall start acts) (ViewIsFold start acts) (view_kept start acts) image settings run.0 s (told_at_start start s.world.room inputs acts, refl))
+    subst (RunKeeps (OwnTurn start acts) (Ready start acts) (OtherTurn start acts) (BehindCall start acts) (HasFolded start acts)) run.1
+    (run-keeps (OwnTurn start acts) (Ready start acts) (OtherTurn start acts) (BehindCall start acts) (HasFolded start acts) (view_kept start acts) image settings run.0 s (told_at_start start s.world.room inputs acts, refl))
 
 -- ---- events
 

@@ -7,3 +7,4 @@ pub mod Paced
 pub mod Left
 pub mod Fitting
 pub mod Dumps
+pub mod Examples

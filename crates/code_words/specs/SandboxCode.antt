@@ -285,10 +285,14 @@ step image budget f s = step_in image budget (function_of image f.function) f s
 
 -- ---- the actor
 
--- a tainted function is entered, where it has a body
+-- a tainted function is entered, where it has a body that takes as many words
+abbrev entered_if : Bool → Func → List ℕ → State → Step
+entered_if true fun words s = enter fun words (Entered ∷ s.held) s
+entered_if false fun words s = stop s
+
 abbrev entered : Option Func → List ℕ → State → Step
 entered None words s = stop s
-entered (Some fun) words s = enter fun words (Entered ∷ s.held) s
+entered (Some fun) words s = entered_if (fun.args == length words) fun words s
 
 abbrev returns_nothing : Option Callback → Bool
 returns_nothing None = false
@@ -339,7 +343,11 @@ abbrev pub runs_for : Image → ℕ → ℕ → State → Option (Act × State)
 runs_for image budget zero s = None
 runs_for image budget (suc n) s = until_act (stepped image budget s.doing s) (runs_for image budget n)
 
+-- what the code answers to what was shown last, after at most n instructions
+abbrev pub answered : Image → ℕ → ℕ → State → Option Seen → Option (Act × State)
+answered image budget n s seen = until_act (shown image s.doing seen s) (runs_for image budget n)
+
 -- the sandbox's code answers this act, and goes on as this: it lets touches through, and acts in its own turn
 abbrev pub Answers : Image → ℕ → State → Turn → Option Seen → Act → State → Type 0
 Answers image budget s turns.Trusted seen act after = (act ≡ Go) × (after ≡ s)
-Answers image budget s turns.Sandbox seen act after = (n : ℕ) × (until_act (shown image s.doing seen s) (runs_for image budget n) ≡ Some (act, after))
+Answers image budget s turns.Sandbox seen act after = (n : ℕ) × (answered image budget n s seen ≡ Some (act, after))

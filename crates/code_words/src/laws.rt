@@ -7,7 +7,7 @@ ghost use Rattle.act_words.specs.declared.ending.Ending.{Ending};
 ghost use Rattle.act_words.specs.declared.settings.Settings.{Settings};
 ghost use Rattle.act_words.specs.Acts.{Act};
 ghost use Rattle.act_words.specs.World.{Event};
-ghost use Rattle.act_words.specs.View.{ViewIsFold};
+ghost use Rattle.act_words.specs.View.{ViewIsFold, IsFront, releases_of, view_of};
 ghost use Rattle.code_words.specs.declared.image.Image.{Image};
 ghost use Rattle.code_words.specs.Table.{Frame, Touch, State, Runs, Touches, Away, Goes};
 ghost use Rattle.code_words.specs.Moves.{move};
@@ -20,6 +20,23 @@ ghost use Rattle.code_words.specs.Runs.{CodeRun, exec, started, events_of};
 pub fn view_is_fold()
     ensures { (image : Image) (settings : Settings) (inputs : List ℤ) (acts : List Act) (ending : Ending) (t : State)
         → CodeRun image settings inputs acts ending t → ViewIsFold (started image settings inputs acts).world.sandbox acts t.world }
+{}
+
+/// Two runs, of whichever images, inputs and settings, whose sandbox memories begin with the same bytes and whose releases
+/// are the same: over one list of acts, the one view begins with the other. Where both took the same acts, whichever were
+/// left behind them, the views are the same.
+pub fn views_agree()
+    ensures one_list { (first second : Image) (settings others : Settings) (inputs more : List ℤ) (acts : List Act) (ending end : Ending) (t u : State)
+        → CodeRun first settings inputs acts ending t → CodeRun second others more acts end u
+        → (started first settings inputs acts).world.sandbox ≡ (started second others more acts).world.sandbox
+        → releases_of t.world.events ≡ releases_of u.world.events
+        → IsFront (view_of t.world.events) (view_of u.world.events) ⊎ IsFront (view_of u.world.events) (view_of t.world.events) }
+    ensures same_acts { (first second : Image) (settings others : Settings) (inputs more : List ℤ) (acts also taken : List Act) (ending end : Ending) (t u : State)
+        → CodeRun first settings inputs acts ending t → CodeRun second others more also end u
+        → (started first settings inputs acts).world.sandbox ≡ (started second others more also).world.sandbox
+        → acts ≡ taken ++ t.world.acts → also ≡ taken ++ u.world.acts
+        → releases_of t.world.events ≡ releases_of u.world.events
+        → view_of t.world.events ≡ view_of u.world.events }
 {}
 
 /// What happened after some moves has happened when the run ends, and more may have happened behind it.

@@ -10,7 +10,7 @@ use Rattle.code_words.specs.Table.{Touch}
 use Rattle.code_words.specs.Moves.{before_touch_by, in_sandbox_by}
 use Rattle.two_memory_machine.specs.declared.event.Event.{Event}
 use Rattle.two_memory_machine.specs.declared.event.Waiting.TheVariants as waiting
-use Rattle.two_memory_machine.specs.Machines.{Machine, Doing, Running, NeedsNumber, Touching, Suspended, TakesAct, turn_of, waiting_for, waiting_of, with_one}
+use Rattle.two_memory_machine.specs.Machines.{Machine, Doing, Running, NeedsNumber, HasNumber, Touching, Suspended, TakesAct, turn_of, waiting_for, waiting_of, with_one}
 use Rattle.two_memory_machine.specs.Steps.{MovesBy}
 use Rattle.two_memory_machine.proofs.Moving.{takes_before, takes_in_sandbox}
 
@@ -24,6 +24,7 @@ pub touching : (over : Option Ending) (doing : Doing) → waiting_for over doing
 touching (Some ending) doing waits turn = absurd (cc)
 touching None Running waits turn = absurd (cc)
 touching None NeedsNumber waits turn = absurd (cc)
+touching None (HasNumber number) waits turn = absurd (cc)
 touching None (Touching touch) waits turn = record { going = refl; touch = touch; is = refl }
 touching None (Suspended import place) waits turn = absurd (cc)
 
@@ -38,6 +39,7 @@ pub suspended : (over : Option Ending) (doing : Doing) → waiting_for over doin
 suspended (Some ending) doing waits turn = absurd (cc)
 suspended None Running waits turn = absurd (cc)
 suspended None NeedsNumber waits turn = absurd (cc)
+suspended None (HasNumber number) waits turn = absurd (cc)
 suspended None (Touching touch) waits turn = absurd (cc)
 suspended None (Suspended import place) waits turn = record { going = refl; import = import; place = place; is = refl }
 

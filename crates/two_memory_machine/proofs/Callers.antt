@@ -1,5 +1,5 @@
 -- The open calls, and the lines of the table that begin and end them.
-use Rattle.std.proofs.Common.{◌≡◌, ℕ, suc, ◌≤◌, Bool, true, false, nat_le, if◌then◌else◌, List, [], ◌∷◌, Option, Some, None, length, take, reverse, refl, sym, ap, ◌∙◌, arith}
+use Rattle.std.proofs.Common.{◌≡◌, ℕ, ℤ, suc, ◌≤◌, Bool, true, false, nat_le, if◌then◌else◌, List, [], ◌∷◌, Option, Some, None, length, take, reverse, refl, sym, ap, ◌∙◌, arith}
 use Rattle.std.specs.Prelude.{slice_get, All}
 use Rattle.std.specs.Option.{option_copied}
 use Rattle.std.specs.Slice.{IsItemAt}
@@ -24,7 +24,7 @@ use Rattle.two_memory_machine.specs.declared.machine.Phase.{Phase}
 use Rattle.two_memory_machine.specs.declared.machine.Phase.TheVariants as phases
 use Rattle.machine_memory.specs.CallStacks.{Behind, callers_with, callers_of}
 use Rattle.two_memory_machine.specs.Insides.{doing_of}
-use Rattle.two_memory_machine.specs.Machines.{Running, NeedsNumber}
+use Rattle.two_memory_machine.specs.Machines.{Running, NeedsNumber, HasNumber}
 use Rattle.two_memory_machine.specs.Steps.{top_words_of, IsSuspended}
 use Rattle.machine_memory.specs.Faults.{ending_at, fault_ending}
 
@@ -42,6 +42,7 @@ all_found P xs k x all e = rw (get_or_from_slice_get xs k x x e) at (all k x (sl
 pub running : (phase : Phase) → doing_of phase ≡ Running → phase ≡ phases.Running
 running phases.Running h = refl
 running phases.NeedsNumber h = absurd (cc)
+running (phases.HasNumber number) h = absurd (cc)
 running (phases.Touching touch) h = absurd (cc)
 running (phases.Suspended import place) h = absurd (cc)
 
@@ -81,6 +82,7 @@ pub record IsAway (phase : Phase) : Type 0 where
 pub away : (phase : Phase) → IsSuspended (doing_of phase) → IsAway phase
 away phases.Running h = absurd h
 away phases.NeedsNumber h = absurd h
+away (phases.HasNumber number) h = absurd h
 away (phases.Touching touch) h = absurd h
 away (phases.Suspended import place) h = record { import = import; place = place; is = refl }
 
@@ -111,5 +113,13 @@ tested_passes image k callback (Some (OutOfRange param)) words s e = absurd (no_
 pub needs : (phase : Phase) → doing_of phase ≡ NeedsNumber → phase ≡ phases.NeedsNumber
 needs phases.Running h = absurd (cc)
 needs phases.NeedsNumber h = refl
+needs (phases.HasNumber number) h = absurd (cc)
 needs (phases.Touching touch) h = absurd (cc)
 needs (phases.Suspended import place) h = absurd (cc)
+
+pub has : (phase : Phase) (number : ℤ) → doing_of phase ≡ HasNumber number → phase ≡ phases.HasNumber number
+has phases.Running number h = absurd (cc)
+has phases.NeedsNumber number h = absurd (cc)
+has (phases.HasNumber given) number h = let same : given ≡ number = cc in ap phases.HasNumber same
+has (phases.Touching touch) number h = absurd (cc)
+has (phases.Suspended import place) number h = absurd (cc)

@@ -19,10 +19,10 @@ use Rattle.code_words.specs.Moves.{move, make_touch, before_touch_by, in_sandbox
 use Rattle.two_memory_machine.specs.declared.event.Event.{Event}
 use Rattle.two_memory_machine.specs.declared.event.Event.TheVariants.{Ran, Asks, Input, Out, Showed, Touched, Ended}
 use Rattle.two_memory_machine.specs.declared.event.Waiting.TheVariants as waiting
-use Rattle.two_memory_machine.specs.Machines.{Machine, with_one, Doing, Running, NeedsNumber, Touching, Suspended, Gives, TellsStep, TellsAct, StepsIf, Steps, TakesAct, TakesEnd, is_input, next_op_of, state_of, world_of, turn_of, waiting_for, TakesNumber, TakesNoNumber, ending_given}
+use Rattle.two_memory_machine.specs.Machines.{Machine, with_one, Doing, Running, NeedsNumber, HasNumber, Touching, Suspended, Gives, TellsStep, TellsAct, StepsIf, Steps, TakesAct, TakesEnd, TakesNoNumber, is_input, waits_for_number, next_op_of, state_of, world_of, turn_of, waiting_for, ending_given}
 use Rattle.two_memory_machine.specs.declared.outcome.Outcome.{Outcome}
 use Rattle.two_memory_machine.specs.declared.outcome.Outcome.TheVariants as outcomes
-use Rattle.two_memory_machine.specs.Steps.{EventBy, GoesBy, Brings, IsIn, event_of, PerformsIf, Performs, MovesBy}
+use Rattle.two_memory_machine.specs.Steps.{EventBy, GoesBy, Brings, IsIn, IsGivenTo, Tells, event_of, MovesBy}
 
 -- a machine of the same image
 pub gives_at : (Tells : Event → Doing → Type 0) (acts : List Act) (inputs : List ℤ) (events : List World.Event) (step : Step) (old mid new : Machine) (event : Event) → mid.image ≡ old.image → mid.settings ≡ old.settings → Gives Tells acts inputs events step mid event new → Gives Tells acts inputs events step old event new
@@ -75,14 +75,29 @@ stands_in m op e = by (slice_get m.image.trusted.funs m.frame.function) refl
 line_moves : (m : Machine) (f : Func) (op : Op) (acts : List Act) (inputs : List ℤ) (events : List World.Event) → m.doing ≡ Running → IsIn m f → slice_get f.ops m.frame.next ≡ Some op → move m.image m.settings (state_of m acts inputs events) ≡ act m.image m.settings f op m.frame (state_of m acts inputs events)
 line_moves m f op acts inputs events runs here stands = rw (runs, here, stands) refl
 
-pub steps_from : (old new : Machine) (event : Event) (op : Op) → old.doing ≡ Running → next_op_of old ≡ Some op → Performs op old event new → Steps old event new
-steps_from old new event op runs next performs = subst (λ o. StepsIf (is_input o) old event new) (sym next) (by (is_input (Some op)) performs)
-  where
-    by : (b : Bool) → PerformsIf b op old event new → StepsIf b old event new
-    by true h = h
-    by false h = λ acts inputs events.
-        let s = stands_in old op next in
-        subst (λ line. Gives TellsStep acts inputs events line old event new) (sym (line_moves old s.f op acts inputs events runs s.here s.stands)) (h s.f s.here acts inputs events)
+-- the step is of this kind
+of_kind : (old new : Machine) (event : Event) (b : Bool) → waits_for_number old.doing (next_op_of old) ≡ b → StepsIf b old event new → StepsIf (waits_for_number old.doing (next_op_of old)) old event new
+of_kind old new event b e h = subst (λ c. StepsIf c old event new) (sym e) h
+
+kind_of : (old : Machine) (op : Option Op) → old.doing ≡ Running → next_op_of old ≡ op → waits_for_number old.doing (next_op_of old) ≡ is_input op
+kind_of old op runs next = ap (λ doing. waits_for_number doing (next_op_of old)) runs ∙ ap is_input next
+
+no_number : (old new : Machine) (event : Event) → old.doing ≡ Running → old.doing ≡ HasNumber (pos 0) → TakesNoNumber old event new
+no_number old new event runs given = absurd (let no : Running ≡ HasNumber (pos 0) = sym runs ∙ given in cc)
+
+pub steps_from : (old new : Machine) (event : Event) (op : Op) → old.doing ≡ Running → next_op_of old ≡ Some op → is_input (Some op) ≡ false → Tells op old event new → Steps old event new
+steps_from old new event op runs next other tells =
+    record {
+      makes = of_kind old new event false (kind_of old (Some op) runs next ∙ other) (λ acts inputs events.
+          let s = stands_in old op next in
+          subst (λ line. Gives TellsStep acts inputs events line old event new) (sym (line_moves old s.f op acts inputs events runs s.here s.stands)) (tells s.f s.here acts inputs events));
+      none_left = no_number old new event runs;
+    }
+
+-- an instruction that waits for a number
+pub steps_waits : (old new : Machine) (event : Event) → old.doing ≡ Running → next_op_of old ≡ Some ops.NextInput → event ≡ Input → new ≡ record old { doing = NeedsNumber } → Steps old event new
+steps_waits old new event runs next told is =
+    record { makes = of_kind old new event true (kind_of old (Some ops.NextInput) runs next) (told, is); none_left = no_number old new event runs }
 
 -- an outcome told by its event
 pub gives_told : (acts : List Act) (inputs : List ℤ) (events : List World.Event) (step : Step) (old new : Machine) (outcome : Outcome) → Brings acts inputs events step old outcome new → Gives TellsStep acts inputs events step old (event_of outcome new.over) new
@@ -97,16 +112,16 @@ gives_told acts inputs events (Over ending s) old new outcome brings = rw (bring
 pub event_told : (line : State → Step) (old new : Machine) (event : Event) (outcome : Outcome) → event ≡ event_of outcome new.over → GoesBy line old outcome new → EventBy line old event new
 event_told line old new event outcome told goes = rw told (λ acts inputs events. gives_told acts inputs events _ old new outcome (goes acts inputs events))
 
-pub performs_over : (old new : Machine) (event : Event) (op : Op) → old.over ≡ None → next_op_of old ≡ Some op → Performs op old event new → new.over ≡ ending_given event
-performs_over old new event op going next performs = by (is_input (Some op)) performs
-  where
-    by : (b : Bool) → PerformsIf b op old event new → new.over ≡ ending_given event
-    by true h = ap (λ (m : Machine). m.over) h.1 ∙ going ∙ sym (ap ending_given h.0)
-    by false h = let s = stands_in old op next in step_over [] [] [] _ old new event (h s.f s.here [] [] [])
+pub tells_over : (old new : Machine) (event : Event) (op : Op) → next_op_of old ≡ Some op → Tells op old event new → new.over ≡ ending_given event
+tells_over old new event op next tells = let s = stands_in old op next in step_over [] [] [] _ old new event (tells s.f s.here [] [] [])
 
 -- where no instruction stands, the step is wild
 pub steps_wild : (old new : Machine) (event : Event) → old.doing ≡ Running → next_op_of old ≡ None → EventBy wild old event new → Steps old event new
-steps_wild old new event runs next goes = subst (λ o. StepsIf (is_input o) old event new) (sym next) (λ acts inputs events. by (slice_get old.image.trusted.funs old.frame.function) refl acts inputs events)
+steps_wild old new event runs next goes =
+    record {
+      makes = of_kind old new event false (kind_of old None runs next) (λ acts inputs events. by (slice_get old.image.trusted.funs old.frame.function) refl acts inputs events);
+      none_left = no_number old new event runs;
+    }
   where
     by : (f : Option Func) → slice_get old.image.trusted.funs old.frame.function ≡ f → EventBy (move old.image old.settings) old event new
     by None here = λ acts inputs events.
@@ -164,10 +179,16 @@ takes_sandbox_end old new event import place e moves = λ inputs events.
 
 -- ---- what a machine waits for
 
-pub runs_of : (over : Option Ending) (doing : Doing) → waiting_for over doing ≡ waiting.Runs → (over ≡ None) × (doing ≡ Running)
+-- an instruction is next, and a number was given if it takes one
+pub data IsNext : Doing → Type 0 where
+  at_run : IsNext Running
+  at_number : (number : ℤ) → IsNext (HasNumber number)
+
+pub runs_of : (over : Option Ending) (doing : Doing) → waiting_for over doing ≡ waiting.Runs → (over ≡ None) × IsNext doing
 runs_of (Some ending) doing h = absurd (cc)
-runs_of None Running h = (refl, refl)
+runs_of None Running h = (refl, IsNext.at_run)
 runs_of None NeedsNumber h = absurd (cc)
+runs_of None (HasNumber number) h = (refl, IsNext.at_number number)
 runs_of None (Touching touch) h = absurd (cc)
 runs_of None (Suspended import place) h = absurd (cc)
 
@@ -175,22 +196,30 @@ pub number_of : (over : Option Ending) (doing : Doing) → waiting_for over doin
 number_of (Some ending) doing h = absurd (cc)
 number_of None Running h = absurd (cc)
 number_of None NeedsNumber h = (refl, refl)
+number_of None (HasNumber number) h = absurd (cc)
 number_of None (Touching touch) h = absurd (cc)
 number_of None (Suspended import place) h = absurd (cc)
+
+-- no number was given where another instruction is next
+pub runs_other : (doing : Doing) (op : Option Op) → IsNext doing → IsGivenTo doing op → is_input op ≡ false → doing ≡ Running
+runs_other Running op next given other = refl
+runs_other (HasNumber number) op next given other = absurd (let no : true ≡ false = rw given at other in cc)
+runs_other NeedsNumber op next given other = absurd (elim next [ ])
+runs_other (Touching touch) op next given other = absurd (elim next [ ])
+runs_other (Suspended import place) op next given other = absurd (elim next [ ])
 
 -- ---- input numbers
 
 -- the instruction takes the number that was given
-pub takes_number : (old new : Machine) (event : Event) (f : Func) (number : ℤ) → old.doing ≡ NeedsNumber → IsIn old f → slice_get f.ops old.frame.next ≡ Some ops.NextInput →
-    EventBy (push f (word number) old.frame.stack old.frame) (record old { doing = Running }) event new → TakesNumber old number event new
-takes_number old new event f number waits here stands goes = λ acts inputs events.
-    let s = state_of old acts (number ∷ inputs) events in
-    let line : move old.image old.settings s ≡ push f (word number) old.frame.stack old.frame (state_of (record old { doing = Running }) acts inputs events) = rw (waits, here, stands) refl in
-    subst (λ step. Gives TellsStep acts inputs events step old event new) (sym line) (gives_at TellsStep acts inputs events _ old (record old { doing = Running }) new event refl refl (goes acts inputs events))
-
-pub takes_no_number : (old new : Machine) (event : Event) (f : Func) (number : ℤ) → number ≡ pos 0 → old.doing ≡ NeedsNumber → IsIn old f → slice_get f.ops old.frame.next ≡ Some ops.NextInput →
-    EventBy (push f (word number) old.frame.stack old.frame) (record old { doing = Running }) event new → TakesNoNumber old event new
-takes_no_number old new event f number zero waits here stands goes = λ acts events.
-    let s = state_of old acts [] events in
-    let line : move old.image old.settings s ≡ push f (word number) old.frame.stack old.frame (state_of (record old { doing = Running }) acts [] events) = rw (waits, here, stands, zero) refl in
-    subst (λ step. Gives TellsStep acts [] events step old event new) (sym line) (gives_at TellsStep acts [] events _ old (record old { doing = Running }) new event refl refl (goes acts [] events))
+pub takes_number : (old new : Machine) (event : Event) (f : Func) (number : ℤ) → old.doing ≡ HasNumber number → IsIn old f → slice_get f.ops old.frame.next ≡ Some ops.NextInput →
+    EventBy (push f (word number) old.frame.stack old.frame) (record old { doing = Running }) event new → Steps old event new
+takes_number old new event f number holds here stands goes =
+    record {
+      makes = of_kind old new event false (ap (λ doing. waits_for_number doing (next_op_of old)) holds) (λ acts inputs events.
+          let line : move old.image old.settings (state_of old acts inputs events) ≡ push f (word number) old.frame.stack old.frame (state_of (record old { doing = Running }) acts inputs events) = rw (holds, here, stands) refl in
+          subst (λ step. Gives TellsStep acts inputs events step old event new) (sym line) (gives_at TellsStep acts inputs events _ old (record old { doing = Running }) new event refl refl (goes acts inputs events)));
+      none_left = λ given acts events.
+          let zero : number ≡ pos 0 = let same : HasNumber number ≡ HasNumber (pos 0) = sym holds ∙ given in cc in
+          let line : move old.image old.settings (state_of (record old { doing = NeedsNumber }) acts [] events) ≡ push f (word number) old.frame.stack old.frame (state_of (record old { doing = Running }) acts [] events) = rw (here, stands, zero) refl in
+          subst (λ step. Gives TellsStep acts [] events step old event new) (sym line) (gives_at TellsStep acts [] events _ old (record old { doing = Running }) new event refl refl (goes acts [] events));
+    }

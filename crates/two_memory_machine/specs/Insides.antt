@@ -12,7 +12,7 @@ use Rattle.two_memory_machine.specs.declared.machine.Phase.TheVariants as phases
 use Rattle.two_memory_machine.specs.declared.machine.Machine.TheInside.{Inside}
 use Rattle.machine_memory.specs.Places.{block_row}
 use Rattle.machine_memory.specs.CallStacks.{CallStack, callers_of, link_of}
-use Rattle.two_memory_machine.specs.Machines.{Doing, Running, NeedsNumber, Touching, Suspended, Machine}
+use Rattle.two_memory_machine.specs.Machines.{Doing, Running, NeedsNumber, HasNumber, Touching, Suspended, Machine}
 
 abbrev pub touch_of : Pending → Touch
 touch_of (pending.Loads at len) = Loads at len
@@ -23,6 +23,7 @@ touch_of (pending.Replies value) = Replies value
 abbrev pub doing_of : Phase → Doing
 doing_of phases.Running = Running
 doing_of phases.NeedsNumber = NeedsNumber
+doing_of (phases.HasNumber number) = HasNumber number
 doing_of (phases.Touching touch) = Touching (touch_of touch)
 doing_of (phases.Suspended import place) = Suspended import place
 
@@ -48,6 +49,7 @@ machine m =
 abbrev pub waiting_calls : Phase → ℕ
 waiting_calls phases.Running = 0
 waiting_calls phases.NeedsNumber = 0
+waiting_calls (phases.HasNumber number) = 0
 waiting_calls (phases.Touching touch) = 0
 waiting_calls (phases.Suspended import place) = 1
 
@@ -65,9 +67,14 @@ IsTouchOf (pending.Stores at bytes) c size depth = (at + length bytes ≤ size) 
 IsTouchOf (pending.Passes import words place) c size depth = (depth < 1000) × (c.frame.next + 1 < 2 ^ 64)
 IsTouchOf (pending.Replies value) c size depth = IsCallback (link_of c.behind)
 
+-- the next instruction takes an input number
+abbrev pub TakesInput : CallStack → Type 0
+TakesInput c = (slice_get c.fun.ops c.frame.next ≡ Some NextInput) × (c.frame.next + 1 < 2 ^ 64)
+
 abbrev pub IsPhaseOf : Phase → CallStack → ℕ → ℕ → Type 0
 IsPhaseOf phases.Running c size depth = Unit {0}
-IsPhaseOf phases.NeedsNumber c size depth = (slice_get c.fun.ops c.frame.next ≡ Some NextInput) × (c.frame.next + 1 < 2 ^ 64)
+IsPhaseOf phases.NeedsNumber c size depth = TakesInput c
+IsPhaseOf (phases.HasNumber number) c size depth = TakesInput c
 IsPhaseOf (phases.Touching touch) c size depth = IsTouchOf touch c size depth
 IsPhaseOf (phases.Suspended import place) c size depth = depth < 1000
 

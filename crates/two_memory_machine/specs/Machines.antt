@@ -1,6 +1,6 @@
 -- A running image, as its callers see it, and what its calls do by the instruction table.
 use Rattle.std.specs.Prelude.{◌≡◌, ℕ, ◌+◌, ◌*◌, ◌<◌, ◌⊎◌, Bool, true, false, List, [], ◌∷◌, ◌++◌, Option, Some, None, slice_get}
-use Rattle.std.proofs.Common.{ℤ}
+use Rattle.std.proofs.Common.{ℤ, pos}
 use Rattle.ckc_text.specs.declared.place.Place.{Place}
 use Rattle.act_words.specs.declared.act.Turn.{Turn}
 use Rattle.act_words.specs.declared.act.Turn.TheVariants as turns
@@ -31,6 +31,8 @@ pub data Doing : Type 0 where
   Running : Doing
   -- the instruction that is next waits for an input number
   NeedsNumber : Doing
+  -- it has the number, and takes it in the next step
+  HasNumber : (number : ℤ) → Doing
   -- a touch waits for its acts
   Touching : (touch : Touch) → Doing
   -- it called a tainted function at a place, and the sandbox has the turn
@@ -58,12 +60,14 @@ pub record Machine : Type 0 where
 abbrev pub turn_of : Doing → Turn
 turn_of Running = turns.Trusted
 turn_of NeedsNumber = turns.Trusted
+turn_of (HasNumber number) = turns.Trusted
 turn_of (Touching touch) = turns.Trusted
 turn_of (Suspended import place) = turns.Sandbox
 
 abbrev pub control_of : Doing → Frame → Control
 control_of Running frame = Runs frame
 control_of NeedsNumber frame = Runs frame
+control_of (HasNumber number) frame = Runs frame
 control_of (Touching touch) frame = Touches frame touch
 control_of (Suspended import place) frame = Away
 
@@ -71,13 +75,22 @@ control_of (Suspended import place) frame = Away
 abbrev pub callers_in : Doing → Frame → List Caller → List Caller
 callers_in Running frame callers = callers
 callers_in NeedsNumber frame callers = callers
+callers_in (HasNumber number) frame callers = callers
 callers_in (Touching touch) frame callers = callers
 callers_in (Suspended import place) frame callers = Waits frame import place ∷ callers
+
+-- a number that was given stands before the input numbers that are left
+abbrev pub inputs_in : Doing → List ℤ → List ℤ
+inputs_in Running inputs = inputs
+inputs_in NeedsNumber inputs = inputs
+inputs_in (HasNumber number) inputs = number ∷ inputs
+inputs_in (Touching touch) inputs = inputs
+inputs_in (Suspended import place) inputs = inputs
 
 -- the machine's world where these acts and these input numbers are left, and these events happened, none of which it keeps
 abbrev pub world_of : Machine → List Act → List ℤ → List World.Event → World
 world_of m acts inputs events =
-    record { sandbox = m.sandbox; room = m.room; turn = turn_of m.doing; acts = acts; taken = m.taken; inputs = inputs; ticks = m.ticks; events = events }
+    record { sandbox = m.sandbox; room = m.room; turn = turn_of m.doing; acts = acts; taken = m.taken; inputs = inputs_in m.doing inputs; ticks = m.ticks; events = events }
 
 abbrev pub state_of : Machine → List Act → List ℤ → List World.Event → State
 state_of m acts inputs events =
@@ -97,6 +110,7 @@ abbrev pub waiting_for : Option Ending → Doing → Waiting
 waiting_for (Some ending) doing = waiting.Over
 waiting_for None Running = waiting.Runs
 waiting_for None NeedsNumber = waiting.Number
+waiting_for None (HasNumber number) = waiting.Runs
 waiting_for None (Touching touch) = waiting.Act
 waiting_for None (Suspended import place) = waiting.Act
 
@@ -172,27 +186,32 @@ Gives Tells acts inputs events (Goes s) old event new =
 Gives Tells acts inputs events (Over ending s) old event new =
     (event ≡ Ended ending) × (new.over ≡ Some ending) × (s.memory ≡ new.memory) × (s.blocks ≡ new.blocks) × (s.world ≡ world_of new acts inputs events) × IsOfSame old new
 
--- the machine's step is the table's move, whichever acts and inputs are left and whatever came before. An instruction that
--- takes an input number waits for it
+-- the instruction that is next takes an input number, and none was given yet
+abbrev pub waits_for_number : Doing → Option Op → Bool
+waits_for_number Running op = is_input op
+waits_for_number NeedsNumber op = is_input op
+waits_for_number (HasNumber number) op = false
+waits_for_number (Touching touch) op = is_input op
+waits_for_number (Suspended import place) op = is_input op
+
+-- the machine's step is the table's move, whichever acts and inputs are left and whatever came before: a number that was
+-- given is the first of the inputs. An instruction that takes an input number waits for it
 abbrev pub StepsIf : Bool → Machine → Event → Machine → Type 0
 StepsIf true old event new = (event ≡ Input) × (new ≡ record old { doing = NeedsNumber })
 StepsIf false old event new =
     (acts : List Act) (inputs : List ℤ) (events : List World.Event) →
     Gives TellsStep acts inputs events (move old.image old.settings (state_of old acts inputs events)) old event new
 
-abbrev pub Steps : Machine → Event → Machine → Type 0
-Steps old event new = StepsIf (is_input (next_op_of old)) old event new
-
--- with the number that it waited for, the machine makes the move that takes it
-abbrev pub TakesNumber : Machine → ℤ → Event → Machine → Type 0
-TakesNumber old number event new =
-    (acts : List Act) (inputs : List ℤ) (events : List World.Event) →
-    Gives TellsStep acts inputs events (move old.image old.settings (state_of old acts (number ∷ inputs) events)) old event new
-
--- with 0, it makes the move where no number is left
+-- the move of a machine that has a number, where none is left
 abbrev pub TakesNoNumber : Machine → Event → Machine → Type 0
 TakesNoNumber old event new =
-    (acts : List Act) (events : List World.Event) → Gives TellsStep acts [] events (move old.image old.settings (state_of old acts [] events)) old event new
+    (acts : List Act) (events : List World.Event) →
+    Gives TellsStep acts [] events (move old.image old.settings (state_of (record old { doing = NeedsNumber }) acts [] events)) old event new
+
+pub record Steps (old : Machine) (event : Event) (new : Machine) : Type 0 where
+  pub makes : StepsIf (waits_for_number old.doing (next_op_of old)) old event new
+  -- with 0, it is also the move where no number is left
+  pub none_left : old.doing ≡ HasNumber (pos 0) → TakesNoNumber old event new
 
 -- one more act is taken
 abbrev pub with_one : Machine → Machine
@@ -212,13 +231,14 @@ TakesEnd old event new =
 
 -- ---- the end of a run
 
--- an instruction may be begun before its number is given
+-- an instruction may be begun before its number is given, and waits once more behind that
 abbrev pub left_for : Option Ending → Doing → ℕ → ℕ
 left_for (Some ending) doing moves = 0
-left_for None Running moves = 2 * moves + 1
-left_for None NeedsNumber moves = 2 * moves
-left_for None (Touching touch) moves = 2 * moves
-left_for None (Suspended import place) moves = 2 * moves
+left_for None Running moves = 3 * moves + 2
+left_for None NeedsNumber moves = 3 * moves + 1
+left_for None (HasNumber number) moves = 3 * moves
+left_for None (Touching touch) moves = 3 * moves
+left_for None (Suspended import place) moves = 3 * moves
 
 -- how many calls of the machine can still change it at most, until its run is over
 unfoldable pub moves_left : Machine → ℕ

@@ -7,14 +7,15 @@ use Rattle.act_words.specs.declared.ending.Ending.{Ending}
 use Rattle.ckc_text.specs.declared.code.Code.TheVariants.{S4}
 use Rattle.act_words.specs.Acting.{bytes_at, stopped_by_act}
 use Rattle.code_words.specs.declared.op.Op.{Op}
+use Rattle.code_words.specs.declared.op.Op.TheVariants as ops
 use Rattle.code_words.specs.declared.image.Func.{Func}
 use Rattle.code_words.specs.Table.{Touch, State, Step, Goes, Over, act}
 use Rattle.code_words.specs.Moves.{in_world}
 use Rattle.two_memory_machine.specs.declared.event.Event.{Event}
 use Rattle.two_memory_machine.specs.declared.outcome.Outcome.{Outcome}
 use Rattle.two_memory_machine.specs.declared.outcome.Outcome.TheVariants as outcomes
-use Rattle.two_memory_machine.specs.declared.event.Event.TheVariants.{Ran, Asks, Input, Ended}
-use Rattle.two_memory_machine.specs.Machines.{Machine, Doing, Running, NeedsNumber, Touching, Suspended, Gives, TellsStep, TellsAct, IsOfSame, state_of, world_of, is_input}
+use Rattle.two_memory_machine.specs.declared.event.Event.TheVariants.{Ran, Asks, Ended}
+use Rattle.two_memory_machine.specs.Machines.{Machine, Doing, Running, NeedsNumber, HasNumber, Touching, Suspended, Gives, TellsStep, TellsAct, IsOfSame, state_of, world_of}
 
 -- the step goes as a line of the table, and an event tells it
 abbrev pub EventBy : (State → Step) → Machine → Event → Machine → Type 0
@@ -63,13 +64,13 @@ Tells op old event new = (f : Func) → IsIn old f → EventBy (act old.image ol
 abbrev pub Acts : Op → Machine → Outcome → Machine → Type 0
 Acts op old outcome new = (f : Func) → IsIn old f → GoesBy (act old.image old.settings f op old.frame) old outcome new
 
--- the same, but where the instruction takes an input number, which it waits for
-abbrev pub PerformsIf : Bool → Op → Machine → Event → Machine → Type 0
-PerformsIf true op old event new = (event ≡ Input) × (new ≡ record old { doing = NeedsNumber })
-PerformsIf false op old event new = Tells op old event new
-
-abbrev pub Performs : Op → Machine → Event → Machine → Type 0
-Performs op old event new = PerformsIf (is_input (Some op)) op old event new
+-- a number was given only to an instruction that takes one
+abbrev pub IsGivenTo : Doing → Option Op → Type 0
+IsGivenTo Running op = Unit {0}
+IsGivenTo NeedsNumber op = Unit {0}
+IsGivenTo (HasNumber number) op = op ≡ Some ops.NextInput
+IsGivenTo (Touching touch) op = Unit {0}
+IsGivenTo (Suspended import place) op = Unit {0}
 
 -- the run isn't over, an instruction is next, and the one behind it can be numbered
 pub record IsReady (m : Machine) : Type 0 where
@@ -126,5 +127,6 @@ bytes_if false at len memory = None
 abbrev pub IsSuspended : Doing → Type 0
 IsSuspended Running = ⊥
 IsSuspended NeedsNumber = ⊥
+IsSuspended (HasNumber number) = ⊥
 IsSuspended (Touching touch) = ⊥
 IsSuspended (Suspended import place) = Unit {0}

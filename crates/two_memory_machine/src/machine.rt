@@ -1,6 +1,6 @@
 // Running an image over flat memory.
 
-ghost use Rattle.std.specs.Prelude.{◌≡◌, ◌+◌, ◌-◌, ◌^◌, ◌<◌, ◌≤◌, ◌⊎◌, List, length, drop, IfOk, IfSome, IsTrue, OnSome, None, Some, is_some, slice_get, pos};
+ghost use Rattle.std.specs.Prelude.{◌≡◌, ◌+◌, ◌-◌, ◌^◌, ◌<◌, ◌≤◌, ◌⊎◌, List, length, drop, IfOk, IfSome, IsTrue, OnSome, None, Some, is_some, slice_get};
 ghost use Rattle.std.specs.Option.{option_copied};
 ghost use Rattle.std.proofs.Common.{ℤ};
 ghost use Rattle.trusted_memory.specs.Memories.{byte_of};
@@ -8,8 +8,8 @@ ghost use Rattle.code_words.specs.Fitting.{Fits};
 ghost use Rattle.code_words.specs.Paced.{is_paced};
 ghost use Rattle.code_words.specs.declared.image.Func.{Func as FuncData};
 ghost use Rattle.code_words.specs.Table.{Over, wild, pop, pop_2, on_with, push, push_some, jump, load, store};
-ghost use Rattle.two_memory_machine.specs.Machines.{IsStart, waiting_of, turn_of, next_op_of, with_one, TakesEnd, TakesNumber, TakesNoNumber, ending_given, moves_left, block_of};
-ghost use Rattle.two_memory_machine.specs.Steps.{GoesBy, IsIn, Acts, IsReady, StopsBy, event_of, two_topmost, four_topmost, five_topmost, seven_topmost, top_words_of};
+ghost use Rattle.two_memory_machine.specs.Machines.{IsStart, waiting_of, turn_of, next_op_of, with_one, HasNumber, TakesEnd, ending_given, moves_left, block_of};
+ghost use Rattle.two_memory_machine.specs.Steps.{GoesBy, IsIn, Acts, IsGivenTo, IsReady, StopsBy, event_of, two_topmost, four_topmost, five_topmost, seven_topmost, top_words_of};
 
 use crate::acts::SANDBOX_ENDED;
 use crate::event::{Event, Waiting};
@@ -57,6 +57,7 @@ pub(crate) enum Pending {
 pub(crate) enum Phase {
     Running,
     NeedsNumber,
+    HasNumber { number: i32 },
     Touching { touch: Pending },
     Suspended { import: u32, place: Place },
 }
@@ -140,7 +141,7 @@ impl<'a> Machine<'a> {
             return Waiting::Over;
         }
         match &self.phase {
-            Phase::Running => Waiting::Runs,
+            Phase::Running | Phase::HasNumber { number: _ } => Waiting::Runs,
             Phase::NeedsNumber => Waiting::Number,
             Phase::Touching { touch: _ }
             | Phase::Suspended {
@@ -155,7 +156,10 @@ impl<'a> Machine<'a> {
         ensures { result ≡ turn_of self.now.doing }
     {
         match self.phase {
-            Phase::Running | Phase::NeedsNumber | Phase::Touching { touch: _ } => Turn::Trusted,
+            Phase::Running
+            | Phase::NeedsNumber
+            | Phase::HasNumber { number: _ }
+            | Phase::Touching { touch: _ } => Turn::Trusted,
             Phase::Suspended {
                 import: _,
                 place: _,
@@ -206,21 +210,18 @@ impl<'a> Machine<'a> {
                 import: _,
                 place: _,
             } => self.end_move(SANDBOX_ENDED),
-            Phase::Running | Phase::NeedsNumber => Event::Ran,
+            Phase::Running | Phase::NeedsNumber | Phase::HasNumber { number: _ } => Event::Ran,
         }
     }
 
-    /// Takes the input number that the next instruction waits for, and 0 where none is left.
-    pub fn give(&mut self, number: i32) -> Event
+    /// Gives the input number that the next instruction waits for, and 0 where none is left. The next step takes it.
+    pub fn give(&mut self, number: i32)
         requires { waiting_of self.old ≡ Waiting.Number }
-        ensures takes { TakesNumber self.old number result self.new }
-        ensures none { number ≡ pos 0 → TakesNoNumber self.old result self.new }
-        ensures over { self.new.over ≡ ending_given result }
+        ensures given { self.new ≡ record self.old { doing = HasNumber number } }
+        ensures runs { waiting_of self.new ≡ Waiting.Runs }
         ensures sooner { moves_left self.new < moves_left self.old }
     {
-        self.phase = Phase::Running;
-        let outcome = self.push(0, number.cast_unsigned());
-        self.event(outcome)
+        self.phase = Phase::HasNumber { number };
     }
 
     /// The address and the length of a block of trusted memory, or None past the last.
@@ -251,6 +252,7 @@ impl<'a> Machine<'a> {
     pub fn op(&self) -> Option<&'a Op>
         ensures op { option_copied result ≡ next_op_of self.now }
         ensures within { IfSome result (λ _. self.now.frame.next + 1 < 2 ^ 64) }
+        ensures given { IsGivenTo self.now.doing (next_op_of self.now) }
         ensures paced { IsTrue (is_paced self.now.image) }
     {
         self.calls.op()

@@ -1,17 +1,17 @@
 // Input, output, and blocks that are made while a program runs.
 
-ghost use Rattle.std.specs.Prelude.{◌≡◌, ◌+◌, ◌*◌, ◌%◌, ◌^◌, ◌<◌, ◌≤◌, ◌∷◌, [], length, Some};
+ghost use Rattle.std.specs.Prelude.{◌≡◌, ◌+◌, ◌*◌, ◌%◌, ◌^◌, ◌<◌, ◌≤◌, ◌∷◌, [], length, Some, None};
 ghost use Rattle.act_words.specs.Numbers.{number_line};
 ghost use Rattle.flat_bytes.specs.Blocks.{is_refused, counter_after};
 ghost use Rattle.trusted_memory.specs.Memories.{made, address_made};
 ghost use Rattle.act_words.specs.Touches.{offset_unless};
 ghost use Rattle.code_words.specs.Table.{pop, allocate, blocks_made};
 ghost use Rattle.code_words.specs.declared.image.Func.{Func as FuncData};
-ghost use Rattle.two_memory_machine.specs.Machines.{next_op_of};
-ghost use Rattle.two_memory_machine.specs.Steps.{Acts, Tells, TellsSomething, Performs, IsReady, IsIn, GoesBy};
+ghost use Rattle.two_memory_machine.specs.Machines.{HasNumber, Running, Steps, waiting_of, next_op_of, ending_given};
+ghost use Rattle.two_memory_machine.specs.Steps.{Acts, Tells, TellsSomething, IsReady, IsIn, GoesBy};
 
 use crate::acts::WILD;
-use crate::event::Event;
+use crate::event::{Event, Waiting};
 use crate::machine::{Machine, Phase};
 use crate::outcome::Outcome;
 use act_words::ending::Ending;
@@ -73,15 +73,34 @@ impl<'a> Machine<'a> {
         Event::Out { bytes }
     }
 
-    /// Waits for the next input number.
+    /// Takes the input number that was given, or waits for one.
     pub fn next_input(&mut self) -> Event
-        requires ready { IsReady self.old }
+        requires waits { waiting_of self.old ≡ Waiting.Runs }
         requires there { next_op_of self.old ≡ Some Op.NextInput }
-        ensures line { Performs Op.NextInput self.old result self.new }
-        ensures told { TellsSomething result }
+        requires next_fits { self.old.frame.next + 1 < 2 ^ 64 }
+        ensures steps { Steps self.old result self.new }
+        ensures over { self.new.over ≡ ending_given result }
+        ensures told { self.old.doing ≡ Running → TellsSomething result }
     {
+        if let Phase::HasNumber { number } = self.phase {
+            return self.take_number(number);
+        }
         self.phase = Phase::NeedsNumber;
         Event::Input
+    }
+
+    // Pushes the number that was given.
+    fn take_number(&mut self, number: i32) -> Event
+        requires going { self.old.over ≡ None }
+        requires given { self.old.doing ≡ HasNumber number }
+        requires there { next_op_of self.old ≡ Some Op.NextInput }
+        requires next_fits { self.old.frame.next + 1 < 2 ^ 64 }
+        ensures steps { Steps self.old result self.new }
+        ensures over { self.new.over ≡ ending_given result }
+    {
+        self.phase = Phase::Running;
+        let outcome = self.push(0, number.cast_unsigned());
+        self.event(outcome)
     }
 
     /// Pops a count, and pushes the address of a block of so many elements and some more, or 0 where there are none.

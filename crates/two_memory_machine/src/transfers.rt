@@ -2,8 +2,7 @@
 
 ghost use Rattle.std.specs.Prelude.{◌≡◌, ◌≤◌, drop, length, slice_get, IfSome};
 ghost use Rattle.code_words.specs.Table.{return_to, reply_of, exit_with};
-ghost use Rattle.two_memory_machine.specs.Machines.{next_op_of};
-ghost use Rattle.two_memory_machine.specs.Steps.{Acts, Performs, IsReady, GoesBy};
+ghost use Rattle.two_memory_machine.specs.Steps.{Acts, IsReady, GoesBy};
 
 use crate::machine::{Machine, Pending, Phase};
 use crate::outcome::Outcome;
