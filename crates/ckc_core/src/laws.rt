@@ -1,5 +1,11 @@
-// What the meaning says of small programs, by computation.
+// What the meaning says of small programs, by computation, and that it says something of every one.
 
+ghost use Rattle.std.specs.Prelude.{◌≡◌, ℤ, List};
+ghost use Rattle.act_words.specs.declared.settings.Settings.{Settings};
+ghost use Rattle.act_words.specs.Acts.{Act};
+ghost use Rattle.act_words.specs.Outcome.{Short};
+ghost use Rattle.ckc_core.specs.Core.{Core};
+ghost use Rattle.ckc_core.specs.Meaning.{meaning};
 ghost use Rattle.ckc_core.specs.Examples as examples;
 
 /// Small programs with what they mean.
@@ -10,4 +16,9 @@ pub fn examples()
     ensures budget { examples.loop_budget }
     ensures depth { examples.depth_and_budget }
     ensures members { examples.struct_ends }
+{}
+
+/// What a program means is told: it has as many ticks as its budget, and is never short of them.
+pub fn never_short()
+    ensures { (program : Core) (settings : Settings) (inputs : List ℤ) (acts : List Act) → meaning program settings inputs acts ≡ Short → ⊥ }
 {}

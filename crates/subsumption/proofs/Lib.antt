@@ -2,12 +2,14 @@ mod Lists
 mod Gaps
 mod Raising
 mod Valuations
+mod Ones
 mod Closures
 mod Rows
 mod Settling
 mod Tables
 mod Shifts
 mod Eliminations
+mod Narrow
 mod Joins
 mod Pruning
 mod Rounds

@@ -58,7 +58,7 @@ row_least F G n y D E B t u long x lt =
 unmet : (F G : List Fact) → CanBeMet F → BothEntail F G (fact_at None None (negsuc 0)) → ⊥
 unmet F G f h = let low = none_below F None (negsuc 0) f h.0 in omega (arith, ints, low)
 
-below_of : (vars : ℕ) (x : Option ℕ) → node_of x < vars + 1 → IsBelow vars x
+pub below_of : (vars : ℕ) (x : Option ℕ) → node_of x < vars + 1 → IsBelow vars x
 below_of vars None lt = tt
 below_of vars (Some x) lt = omega arith
 
@@ -129,13 +129,13 @@ within_abs (negsuc n) h = record { low = omega (arith, ints, h); high = omega (a
 within_near : (d : ℤ) → is_near (Some d) ≡ true → IsWithin (2 ^ 100) d
 within_near d h = within_abs d (near_is d h)
 
-new_sound : (F G : List Fact) (y : Option ℕ) (n : ℕ) (B : List (Option ℤ)) (f : Fact) → IsRowOf (BothEntail F G) n y B → IsOfRow y B f → BothEntail F G f
+new_sound : (F G : List Fact) (y : Option ℕ) (n : ℕ) (B : List (Option ℤ)) (f : Fact) → IsRowOf (BothEntail F G) n y B → IsOfRow y B (length B) f → BothEntail F G f
 new_sound F G y n B f row of =
     let P : Option ℤ → Type 0 = λ o. IsLeastOf (BothEntail F G) f.left y o in
     let here : IsLeastOf (BothEntail F G) f.left y (Some f.plus) = subst P of.plus (row.least f.left (omega (arith, of.room, row.size))) in
     subst (λ r. BothEntail F G (fact_at f.left r f.plus)) (sym of.right_is) here.0
 
-new_kept : (F G : List Fact) (y : Option ℕ) (n : ℕ) (B : List (Option ℤ)) (f : Fact) → IsRowOf (BothEntail F G) n y B → node_of y < n → IsOfRow y B f → IsKept n f
+new_kept : (F G : List Fact) (y : Option ℕ) (n : ℕ) (B : List (Option ℤ)) (f : Fact) → IsRowOf (BothEntail F G) n y B → node_of y < n → IsOfRow y B (length B) f → IsKept n f
 new_kept F G y n B f row lt of = record {
   left = omega (arith, of.room, row.size);
   right = (let e : node_of f.right ≡ node_of y = ap node_of of.right_is in omega (arith, e, lt));
@@ -166,6 +166,12 @@ rows_more F G n i y B before after f row here lt adds rows = record {
       near = old.near;
     })
   ];
+  rights = λ k d in'. elim (adds.new k d in') [
+    | inl old ↦ (let lt : node_of (get_or after k d).right < i = All-contains (λ f. node_of f.right < i) before (get_or after k d) rows.rights old in omega (arith, lt))
+    | inr new ↦ (let e : node_of (get_or after k d).right ≡ node_of y = ap node_of new.right_is in omega (arith, e, here))
+  ];
+  one = adds.one (λ k d in' same. (let lt : node_of (get_or before k d).right < i = rows.rights k d in' in
+      let e : node_of (get_or before k d).right ≡ node_of y = ap node_of same in absurd (omega (arith, lt, e, here)))) rows.one;
 }
 
 pub row_is : (F G : List Fact) (vars : ℕ) (y : Option ℕ) (r : Option (Vec (Option ℤ) Global)) (v : Vec (Option ℤ) Global) → r ≡ Some v

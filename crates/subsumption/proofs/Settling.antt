@@ -152,7 +152,7 @@ outside_is : (k : ℤ) → 2 ^ 100 < unsigned_abs k → (pos (2 ^ 100) <ℤ k) �
 outside_is (pos n) h = inl (omega (arith, ints, h))
 outside_is (negsuc n) h = inr (omega (arith, ints, h))
 
-modest_narrow : (vars : ℕ) (F : List Fact) → vars ≤ 4096 → AreEdges (vars + 1) F → list_all is_modest F ≡ true → IsWide vars (Entails F) → ⊥
+pub modest_narrow : (vars : ℕ) (F : List Fact) → vars ≤ 4096 → AreEdges (vars + 1) F → list_all is_modest F ≡ true → IsWide vars (Entails F) → ⊥
 modest_narrow vars F few edges modest w =
     let l = w.left in
     let r = w.right in

@@ -5,7 +5,7 @@ use Rattle.std.specs.List.{All, Contains, list_all}
 use Rattle.difference_constraints.specs.declared.fact.Fact.{Fact}
 use Rattle.difference_constraints.specs.Graphs.{fact_at, node_of, distance, IsWithin}
 use Rattle.difference_constraints.specs.Distances.{is_near}
-use Rattle.subsumption.specs.Facts.{Entails, IsLeastConstant, IsWide}
+use Rattle.subsumption.specs.Facts.{Entails, HasOneEach, IsLeastConstant, IsWide}
 
 -- both entail it
 abbrev pub BothEntail : List Fact → List Fact → Fact → Type 0
@@ -21,17 +21,18 @@ abbrev pub entry_of : Option ℕ → Option ℤ → ℕ → List Fact
 entry_of right None i = []
 entry_of right (Some d) i = cond (i == node_of right) [] (fact_at (at_index i) right d ∷ [])
 
--- the fact is one of a row: its right is that of the row, and its constant is its left's distance
-pub record IsOfRow (right : Option ℕ) (distances : List (Option ℤ)) (f : Fact) : Type 0 where
+-- the fact is one of a row up to the i-th: its right is that of the row, and its constant is its left's distance
+pub record IsOfRow (right : Option ℕ) (distances : List (Option ℤ)) (i : ℕ) (f : Fact) : Type 0 where
   pub right_is : f.right ≡ right
   pub plus : distance distances f.left ≡ Some f.plus
-  pub room : node_of f.left < length distances
+  pub room : node_of f.left < i
 
 -- the row of a node up to the i-th: a fact for each node with a distance, but for the node itself
 pub record AddsRow (right : Option ℕ) (distances : List (Option ℤ)) (i : ℕ) (before after : List Fact) : Type 0 where
   pub more : All (Contains after) before
-  pub new : All (λ f. Contains before f ⊎ IsOfRow right distances f) after
+  pub new : All (λ f. Contains before f ⊎ IsOfRow right distances i f) after
   pub row : (x : Option ℕ) (d : ℤ) → node_of x < i → node_of x ≢ node_of right → distance distances x ≡ Some d → Contains after (fact_at x right d)
+  pub one : All (λ f. f.right ≢ right) before → HasOneEach before → HasOneEach after
 
 -- both nodes of the fact are among the first n, and the constant isn't outside -2^100 to 2^100
 pub record IsKept (n : ℕ) (f : Fact) : Type 0 where
@@ -74,6 +75,8 @@ pub record AreRows (entailed : Fact → Type 0) (n i : ℕ) (facts : List Fact) 
   pub sound : All entailed facts
   pub kept : All (IsKept n) facts
   pub rows : (right : Option ℕ) → node_of right < i → IsRow entailed n facts right
+  pub rights : All (λ f. node_of f.right < i) facts
+  pub one : HasOneEach facts
 
 -- the rows of all nodes, or none where a least constant is too large
 abbrev pub ShowsClosure : (Fact → Type 0) → ℕ → Option (List Fact) → Type 0

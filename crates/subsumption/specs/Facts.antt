@@ -60,6 +60,15 @@ pub record IsAbout (vars : ℕ) (f : Fact) : Type 0 where
   pub left : IsBelow vars f.left
   pub right : IsBelow vars f.right
 
+-- the facts are about the same two, in the same order
+pub record IsAlike (f g : Fact) : Type 0 where
+  pub left : f.left ≡ g.left
+  pub right : f.right ≡ g.right
+
+-- no two of the facts are about the same two
+pub record HasOneEach (facts : List Fact) : Type 0 where
+  pub apart : (i j : ℕ) (d : Fact) → i < j → j < length facts → IsAlike (slice_index_or facts i d) (slice_index_or facts j d) → ⊥
+
 -- of the facts that are entailed, the one with the least constant for these two
 pub record IsLeastConstant (entailed : Fact → Type 0) (left right : Option ℕ) (plus : ℤ) : Type 0 where
   pub holds : entailed (fact_at left right plus)

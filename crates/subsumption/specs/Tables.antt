@@ -1,11 +1,12 @@
 -- What a table of facts is seen as, and what its calls do.
-use Rattle.std.specs.Prelude.{ℕ, ◌+◌, ◌≤◌, ◌≡◌, ◌≢◌, ℤ, Some, List, length}
+use Rattle.std.specs.Prelude.{ℕ, ◌+◌, ◌≤◌, ◌≡◌, ◌≢◌, ◌↔◌, ℤ, Some, List, length}
 use Rattle.std.specs.List.{All, Contains}
 use Rattle.bounds_exprs.specs.declared.term.Term.{Term}
 use Rattle.difference_constraints.specs.declared.fact.Fact.{Fact}
 use Rattle.subsumption.specs.declared.fact.Answer.{Answer}
 use Rattle.subsumption.specs.declared.fact.Answer.TheVariants.{Yes, No}
-use Rattle.subsumption.specs.Facts.{Meets, Entails, Holds, TermsHold, numbers_of, Leaves}
+use Rattle.subsumption.specs.Facts.{Meets, Entails, Holds, TermsHold, numbers_of, IsAbout, HasOneEach, IsWide, Leaves}
+use Rattle.subsumption.specs.Closures.{BothEntail, IsKept}
 
 -- the number of variables, and the facts
 pub record Table : Type 0 where
@@ -22,6 +23,18 @@ AnswersTerms table a b (No valuation) = Meets (numbers_of valuation.values.items
 pub record Becomes (before : Table) (entailed : Fact → Type 0) (after : Table) : Type 0 where
   pub vars : after.vars ≡ before.vars
   pub facts : Leaves before.vars entailed after.facts
+
+-- after two ways have met: of the facts about the variables both entailed what is entailed now
+pub record Joins (first second after : Table) : Type 0 where
+  pub vars : after.vars ≡ first.vars
+  pub same : (goal : Fact) → IsAbout first.vars goal → Entails after.facts goal ↔ BothEntail first.facts second.facts goal
+
+-- what holds of each table: one fact at most for each two in their order, and no least constant outside -2^100 to 2^100
+pub record IsNarrow (table : Table) : Type 0 where
+  pub few : table.vars ≤ 4096
+  pub kept : All (IsKept (table.vars + 1)) table.facts
+  pub one_each : HasOneEach table.facts
+  pub narrow : IsWide table.vars (Entails table.facts) → ⊥
 
 -- the fact doesn't name x
 pub record IsWithout (x : ℕ) (f : Fact) : Type 0 where

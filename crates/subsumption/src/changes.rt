@@ -3,7 +3,7 @@
 ghost use Rattle.std.specs.Prelude.{◌≤◌, ◌+◌, IfOk};
 ghost use Rattle.std.specs.List.{All};
 ghost use Rattle.difference_constraints.specs.Shifts.{moved};
-ghost use Rattle.subsumption.specs.Facts.{Entails, Leaves};
+ghost use Rattle.subsumption.specs.Facts.{Entails, HasOneEach, Leaves};
 ghost use Rattle.subsumption.specs.Closures.{BothEntail, IsKept};
 ghost use Rattle.subsumption.specs.Models.{CanBeMet};
 ghost use Rattle.subsumption.specs.Tables.{FollowsWithout};
@@ -26,7 +26,9 @@ pub fn shifted(
 ) -> Result<Vec<Fact>, NoMemory>
     requires few { vars ≤ 4096 }
     requires kept { All (IsKept (vars + 1)) facts.now }
+    requires one { HasOneEach facts.now }
     ensures kept { IfOk result (λ v. All (IsKept (vars + 1)) v.items) }
+    ensures one { IfOk result (λ v. HasOneEach v.items) }
     ensures leaves { IfOk result (λ v. Leaves vars (λ goal. Entails facts.now (moved var c goal)) v.items) }
 {
     let due = moved_back(alloc, facts, var, c)?;
@@ -39,6 +41,7 @@ pub fn killed(alloc: Global, vars: u32, facts: &[Fact], var: u32) -> Result<Vec<
     requires few { vars ≤ 4096 }
     requires kept { All (IsKept (vars + 1)) facts.now }
     ensures kept { IfOk result (λ v. All (IsKept (vars + 1)) v.items) }
+    ensures one { IfOk result (λ v. HasOneEach v.items) }
     ensures leaves { IfOk result (λ v. Leaves vars (FollowsWithout var facts.now) v.items) }
 {
     let due = eliminated(alloc, facts, var)?;
@@ -58,6 +61,7 @@ fn joined_met(
     requires met { CanBeMet first.now }
     requires second { All (IsKept (vars + 1)) second.now }
     ensures kept { IfOk result (λ v. All (IsKept (vars + 1)) v.items) }
+    ensures one { IfOk result (λ v. HasOneEach v.items) }
     ensures leaves { IfOk result (λ v. Leaves vars (BothEntail first.now second.now) v.items) }
 {
     match find_distances(alloc, second, vars as usize + 1, None)? {
@@ -83,6 +87,7 @@ pub fn joined(
     requires first { All (IsKept (vars + 1)) first.now }
     requires second { All (IsKept (vars + 1)) second.now }
     ensures kept { IfOk result (λ v. All (IsKept (vars + 1)) v.items) }
+    ensures one { IfOk result (λ v. HasOneEach v.items) }
     ensures leaves { IfOk result (λ v. Leaves vars (BothEntail first.now second.now) v.items) }
 {
     match find_distances(alloc, first, vars as usize + 1, None)? {

@@ -1,13 +1,13 @@
 // A table of facts.
 
-ghost use Rattle.std.specs.Prelude.{◌≡◌, ◌≤◌, ◌+◌, ◌<◌, ◌^◌, ◌++◌, ◌∷◌, [], IfOk, OnOk, OnErr};
+ghost use Rattle.std.specs.Prelude.{◌≡◌, ◌≤◌, ◌<◌, ◌^◌, ◌++◌, ◌∷◌, [], IfOk, OnOk, OnErr};
 ghost use Rattle.std.specs.List.{All};
 ghost use Rattle.bounds_exprs.specs.declared.term.Term.{Term};
 ghost use Rattle.difference_constraints.specs.Graphs.{IsWithin};
 ghost use Rattle.difference_constraints.specs.Shifts.{moved};
-ghost use Rattle.subsumption.specs.Facts.{Entails, IsBelow, fact_of};
-ghost use Rattle.subsumption.specs.Closures.{BothEntail, IsKept};
-ghost use Rattle.subsumption.specs.Tables.{AnswersTerms, Becomes, FollowsWithout};
+ghost use Rattle.subsumption.specs.Facts.{Entails, HasOneEach, IsAbout, IsBelow, IsWide, fact_of};
+ghost use Rattle.subsumption.specs.Closures.{BothEntail};
+ghost use Rattle.subsumption.specs.Tables.{AnswersTerms, Becomes, FollowsWithout, Joins, Table};
 
 use crate::changes::{joined, killed, shifted};
 use crate::fact::Answer;
@@ -28,16 +28,13 @@ pub struct Facts {
 }
 
 impl Model for Facts {
-    ghost use Rattle.std.specs.Prelude.{◌+◌, ◌≤◌};
-    ghost use Rattle.std.specs.List.{All};
-    ghost use Rattle.subsumption.specs.Closures.{BothEntail, IsKept};
-    ghost use Rattle.subsumption.specs.Tables.{Table};
+    ghost use Rattle.subsumption.specs.Tables.{Table, IsNarrow};
 
     ghost Value = { Table };
 
     ghost view = { λ f. record { vars = f.vars; facts = f.facts.items } };
 
-    ghost invariant = { λ f. (f.vars ≤ 4096) × All (IsKept (f.vars + 1)) f.facts.items };
+    ghost invariant = { λ f. IsNarrow (record { vars = f.vars; facts = f.facts.items }) };
 }
 
 /// The fact that the one term is at most the other.
@@ -121,10 +118,10 @@ impl Facts {
         Ok(())
     }
 
-    /// Keeps what both entail.
+    /// Keeps what both entail, exactly.
     pub fn join(&mut self, other: &Facts) -> Result<(), NoMemory>
         requires { other.now.vars ≡ self.old.vars }
-        ensures ok { OnOk result (Becomes self.old (BothEntail self.old.facts other.now.facts) self.new) }
+        ensures ok { OnOk result (Joins self.old other.now self.new) }
         ensures err { OnErr result (self.new ≡ self.old) }
     {
         let facts = joined(
@@ -135,5 +132,27 @@ impl Facts {
         )?;
         self.facts = facts;
         Ok(())
+    }
+
+    /// What holds of each table: at most 4,096 variables, facts about them alone, one at most for each two in their order,
+    /// and no least constant outside -2^100 to 2^100.
+    pub fn is_narrow(&self)
+        ensures few { self.now.vars ≤ 4096 }
+        ensures about { All (IsAbout self.now.vars) self.now.facts }
+        ensures one_each { HasOneEach self.now.facts }
+        ensures narrow { IsWide self.now.vars (Entails self.now.facts) → ⊥ }
+    {
+        let _ = &self.vars;
+    }
+
+    /// What two tables about the same variables both entail has no least constant outside -2^100 to 2^100 either. So a
+    /// join is a step as the others are, and never leaves none of its facts for that.
+    pub fn join_is_narrow(&self, other: &Facts)
+        requires { other.now.vars ≡ self.now.vars }
+        ensures narrow { IsWide self.now.vars (BothEntail self.now.facts other.now.facts) → ⊥ }
+        ensures step { (after : Table) → Joins self.now other.now after → Becomes self.now (BothEntail self.now.facts other.now.facts) after }
+    {
+        let _ = &self.vars;
+        let _ = &other.vars;
     }
 }

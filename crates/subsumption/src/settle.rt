@@ -1,12 +1,13 @@
 // What is left of facts whose least constants are too large.
 
-ghost use Rattle.std.specs.Prelude.{◌≡◌, ◌≤◌, ◌+◌, ◌^◌, IfOk, OnOk, None, negsuc, ℕ, ℤ, IsTrue, [], ◌∷◌, ◌++◌};
+ghost use Rattle.std.specs.Prelude.{◌≡◌, ◌<◌, ◌≤◌, ◌+◌, ◌^◌, IfOk, OnOk, None, negsuc, true, false, [], ◌∷◌, ◌++◌, length, slice_index_or};
 ghost use Rattle.std.specs.List.{All, list_all};
 ghost use Rattle.difference_constraints.specs.Graphs.{IsEdge};
-ghost use Rattle.subsumption.specs.Facts.{Entails, Leaves, Holds, Meets};
+ghost use Rattle.difference_constraints.specs.declared.fact.Fact.{Fact};
+ghost use Rattle.subsumption.specs.Facts.{Entails, Leaves, IsAlike, HasOneEach};
 ghost use Rattle.subsumption.specs.Closures.{BothEntail, IsKept};
 ghost use Rattle.subsumption.specs.Models.{AreEdges, CanBeMet};
-ghost use Rattle.subsumption.specs.Settling.{is_modest, AreSpared, IsPruned, Keeps, Spares};
+ghost use Rattle.subsumption.specs.Settling.{is_modest, FindsAlike, IsPruned, Keeps};
 
 use crate::closure::common;
 use crate::relaxation::{Outcome, find_distances};
@@ -55,6 +56,7 @@ pub fn shared(
     requires first_met { CanBeMet first.now }
     requires second_met { CanBeMet second.now }
     ensures kept { IfOk result (λ v. All (IsKept (vars + 1)) v.items) }
+    ensures one { IfOk result (λ v. HasOneEach v.items) }
     ensures leaves { IfOk result (λ v. Leaves vars (BothEntail first.now second.now) v.items) }
 {
     match common(alloc, vars, first, second)? {
@@ -68,6 +70,7 @@ fn closed(alloc: Global, vars: u32, facts: &[Fact]) -> Result<Vec<Fact>, NoMemor
     requires few { vars ≤ 4096 }
     requires edges { AreEdges (vars + 1) facts.now }
     ensures kept { IfOk result (λ v. All (IsKept (vars + 1)) v.items) }
+    ensures one { IfOk result (λ v. HasOneEach v.items) }
     ensures leaves { IfOk result (λ v. Leaves vars (Entails facts.now) v.items) }
 {
     match find_distances(alloc, facts, vars as usize + 1, None)? {
@@ -82,42 +85,60 @@ fn closed(alloc: Global, vars: u32, facts: &[Fact]) -> Result<Vec<Fact>, NoMemor
     }
 }
 
-/// Whether the one fact says as much as the other, about the same two.
-fn implies(strong: &Fact, weak: &Fact) -> bool
-    ensures { IsTrue result → (v : ℕ → ℤ) → Holds v strong.now → Holds v weak.now }
+/// Whether both facts are about the same two.
+fn alike(a: &Fact, b: &Fact) -> bool
+    ensures yes { result ≡ true → IsAlike a.now b.now }
+    ensures no { result ≡ false → IsAlike a.now b.now → ⊥ }
 {
-    strong.left == weak.left && strong.right == weak.right && strong.plus <= weak.plus
+    a.left == b.left && a.right == b.right
 }
 
-/// Whether one of the facts says as much.
-fn is_implied(facts: &[Fact], fact: &Fact) -> bool
-    ensures { IsTrue result → (v : ℕ → ℤ) → Meets v facts.now → Holds v fact.now }
+/// Where a fact about the same two stands.
+fn place_of(facts: &[Fact], fact: &Fact) -> Option<usize>
+    ensures { FindsAlike facts.now fact.now result }
 {
-    for strong in facts {
-        if implies(strong, fact) {
-            return true;
+    for i in 0..facts.len() {
+        if alike(&facts[i], fact) {
+            return Some(i);
         }
     }
-    false
+    None
 }
 
-/// Adds the fact, unless it is implied.
+/// Puts the stronger of two facts about the same two where the one stands.
+fn strengthen(kept: &mut Vec<Fact>, i: usize, fact: &Fact)
+    requires within { i < length kept.old.items }
+    requires alike { (d : Fact) → IsAlike (slice_index_or kept.old.items i d) fact.now }
+    ensures { Keeps kept.old.items fact.now kept.new.items }
+{
+    if fact.plus < kept[i].plus {
+        kept[i] = *fact;
+    }
+}
+
+/// Adds the fact, where none stands about the same two. Else the stronger of both stays.
 fn keep(kept: &mut Vec<Fact>, fact: &Fact) -> Result<(), NoMemory>
     ensures { OnOk result (Keeps kept.old.items fact.now kept.new.items) }
 {
-    if !is_implied(kept.as_slice(), fact) {
-        kept.push(*fact)?;
+    match place_of(kept.as_slice(), fact) {
+        None => {
+            kept.push(*fact)?;
+            Ok(())
+        }
+        Some(i) => {
+            strengthen(kept, i, fact);
+            Ok(())
+        }
     }
-    Ok(())
 }
 
-/// The facts in reverse, without those that one behind them implies. Twice, it leaves one fact for each two nodes.
+/// The strongest of the facts about each two.
 fn pruned(alloc: Global, facts: &[Fact]) -> Result<Vec<Fact>, NoMemory>
     ensures { IfOk result (λ v. IsPruned facts.now v.items) }
 {
     let mut kept = Vec::new(alloc);
-    for i in 0..facts.len() {
-        keep(&mut kept, &facts[facts.len() - 1 - i])?;
+    for fact in facts {
+        keep(&mut kept, fact)?;
     }
     Ok(kept)
 }
@@ -127,11 +148,11 @@ pub fn settled(alloc: Global, vars: u32, facts: Vec<Fact>) -> Result<Vec<Fact>, 
     requires few { vars ≤ 4096 }
     requires edges { AreEdges (vars + 1) facts.items }
     ensures kept { IfOk result (λ v. All (IsKept (vars + 1)) v.items) }
+    ensures one { IfOk result (λ v. HasOneEach v.items) }
     ensures leaves { IfOk result (λ v. Leaves vars (Entails facts.items) v.items) }
 {
-    let once = pruned(alloc, facts.as_slice())?;
-    let twice = pruned(alloc, once.as_slice())?;
-    let facts = checked(alloc, vars, twice)?;
+    let due = pruned(alloc, facts.as_slice())?;
+    let facts = checked(alloc, vars, due)?;
     Ok(facts)
 }
 
@@ -139,7 +160,9 @@ pub fn settled(alloc: Global, vars: u32, facts: Vec<Fact>) -> Result<Vec<Fact>, 
 pub fn checked(alloc: Global, vars: u32, facts: Vec<Fact>) -> Result<Vec<Fact>, NoMemory>
     requires few { vars ≤ 4096 }
     requires edges { AreEdges (vars + 1) facts.items }
+    requires one { HasOneEach facts.items }
     ensures kept { IfOk result (λ v. All (IsKept (vars + 1)) v.items) }
+    ensures one { IfOk result (λ v. HasOneEach v.items) }
     ensures leaves { IfOk result (λ v. Leaves vars (Entails facts.items) v.items) }
 {
     if all_modest(facts.as_slice()) {
@@ -148,45 +171,24 @@ pub fn checked(alloc: Global, vars: u32, facts: Vec<Fact>) -> Result<Vec<Fact>, 
     closed(alloc, vars, facts.as_slice())
 }
 
-/// Keeps a fact that stands already, unless the new one implies it.
-fn spare(kept: &mut Vec<Fact>, old: &Fact, new: &Fact) -> Result<(), NoMemory>
-    ensures { OnOk result (Spares kept.old.items old.now new.now kept.new.items) }
-{
-    if !implies(new, old) {
-        kept.push(*old)?;
-    }
-    Ok(())
-}
-
-/// The facts that a new one doesn't imply.
-fn spared(alloc: Global, facts: &[Fact], new: &Fact) -> Result<Vec<Fact>, NoMemory>
-    ensures { IfOk result (λ v. AreSpared facts.now new.now v.items) }
-{
-    let mut kept = Vec::new(alloc);
-    for old in facts {
-        spare(&mut kept, old, new)?;
-    }
-    Ok(kept)
-}
-
-/// The facts and a new one, without those that it implies, or without it where it is implied.
+/// The facts and a new one, of which the stronger stays where one stands about the same two.
 fn with_fact(alloc: Global, facts: &[Fact], new: &Fact) -> Result<Vec<Fact>, NoMemory>
+    requires { HasOneEach facts.now }
     ensures { IfOk result (λ v. IsPruned (facts.now ++ new.now ∷ []) v.items) }
 {
-    if is_implied(facts, new) {
-        return Ok(Vec::from_slice(alloc, facts)?);
-    }
-    let mut kept = spared(alloc, facts, new)?;
-    kept.push(*new)?;
-    Ok(kept)
+    let mut due = Vec::from_slice(alloc, facts)?;
+    keep(&mut due, new)?;
+    Ok(due)
 }
 
 /// The facts with one more.
 pub fn added(alloc: Global, vars: u32, facts: &[Fact], new: &Fact) -> Result<Vec<Fact>, NoMemory>
     requires few { vars ≤ 4096 }
     requires old { All (IsKept (vars + 1)) facts.now }
+    requires one { HasOneEach facts.now }
     requires new { IsEdge (vars + 1) new.now }
     ensures kept { IfOk result (λ v. All (IsKept (vars + 1)) v.items) }
+    ensures one { IfOk result (λ v. HasOneEach v.items) }
     ensures leaves { IfOk result (λ v. Leaves vars (Entails (facts.now ++ new.now ∷ [])) v.items) }
 {
     let due = with_fact(alloc, facts, new)?;

@@ -5,4 +5,4 @@ pub loop-i-init : goal.loop-i-init
 loop-i-init c = row_start _ _ _
 
 pub loop-i-preserved : goal.loop-i-preserved
-loop-i-preserved c = rw c.in_ok-add_entry.ensures (row_more _ _ _ _ _ c.loop-i-test.true c.loop-i.invariant)
+loop-i-preserved c = rw c.in_ok-add_entry.ensures (row_more _ _ _ _ _ c.loop-i.invariant)

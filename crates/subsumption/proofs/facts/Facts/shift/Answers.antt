@@ -5,7 +5,11 @@ use Rattle.difference_constraints.specs.declared.fact.Fact.{Fact}
 use Rattle.difference_constraints.specs.Shifts.{moved}
 use Rattle.subsumption.specs.Facts.{Entails, Leaves}
 use Rattle.subsumption.specs.Tables.{Table}
+use Rattle.subsumption.proofs.Narrow.{narrow_left}
 use Rattle.subsumption.proofs.facts.Facts.shift.Goals as goal
+
+pub invariant_of-self : goal.invariant_of-self
+invariant_of-self c = narrow_left _ _ _ c.self.invariant.few c.in_ok-facts.ensures.kept c.in_ok-facts.ensures.one c.in_ok-facts.ensures.leaves
 
 pub returns-clause-ok : goal.returns-clause-ok
 returns-clause-ok c =

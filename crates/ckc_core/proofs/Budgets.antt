@@ -1,0 +1,385 @@
+-- A meaning with as many ticks as its budget is never short of them: an induction over the meaning, with the ticks spent.
+use Rattle.std.proofs.Common.{◌≡◌, ℕ, zero, suc, ◌+◌, ◌≤◌, Bool, true, false, ℤ, List, [], length, replicate, Option, Some, None, refl, arith}
+use Rattle.std.specs.Prelude.{◌==◌, ◌&&◌, nat_lt, slice_get}
+use Rattle.flat_bytes.specs.Blocks.{first_offset}
+use Rattle.act_words.specs.declared.settings.Settings.{Settings}
+use Rattle.act_words.specs.Acts.{Act}
+use Rattle.act_words.specs.Outcome.{Gives, Ends, Stuck, Short, and_then}
+use Rattle.act_words.specs.Checks.{Checked, Holds, Fails, is_word_number}
+use Rattle.act_words.specs.Arithmetic as arithmetic
+use Rattle.act_words.specs.World.{new_world}
+use Rattle.act_words.specs.Touches.{Asked, Got, Ended, spend_tick, enter_call, next_input, tainted_call}
+use Rattle.pointer_modes.specs.Types.{CType, Int, Char, Struct, Pointer}
+use Rattle.ckc_core.specs.declared.program.Site.{Site}
+use Rattle.ckc_core.specs.declared.program.Operator.{Operator}
+use Rattle.ckc_core.specs.declared.program.Comparison.{Comparison}
+use Rattle.ckc_core.specs.Core as core
+use Rattle.ckc_core.specs.States.{Value, Number, Null, At, Cell, State, in_world, cell_at, stands_at, stands_behind, same_type, has_type}
+use Rattle.ckc_core.specs.Meaning.{Result, Flow, Next, Broke, Continued, Returned, Knot, Setting, given, checked, value_if, value_in, place_where, place_in, place_through, load_at, place_if, pointer_to, truth, same_place, test_given, result_of, arithmetic_of, compared, negated, complemented, low_byte_of, asked, words_of, reply_as, cross, cross_if, call_tainted, takes, enter_if, call_trusted, result_given, choose, value, values, place, store_if, store_over, store_at, set_local_if, set_local, pointer_of, place_from, kept_if, is_char, printed, put, on_next, behind_turn, no_result, effect, effects, answer, locals_for, back, body_if, body_of, knot, exit, initial, meaning}
+use Rattle.ckc_core.proofs.Ticks.{HasSpent, Answers, tick_answers, enter_answers, call_answers, next_answers}
+
+-- from a state in which so many ticks were spent at least: no fewer were in the state behind a value, and it isn't short
+abbrev pub Goes : ℕ → {A : Type 0} → ℕ → Result A → Type 0
+Goes budget low (Gives v s) = HasSpent budget low s.world
+Goes budget low (Ends ending s) = Unit {0}
+Goes budget low Stuck = Unit {0}
+Goes budget low Short = ⊥
+
+module _ (budget : ℕ) where
+  goes_on : {A B : Type 0} (low : ℕ) (o : Result A) (next : A → State → Result B) → Goes budget low o → ((v : A) (s : State) → HasSpent budget low s.world → Goes budget low (next v s)) → Goes budget low (and_then o next)
+  goes_on low (Gives v s) next h more = more v s h
+  goes_on low (Ends ending s) next h more = tt
+  goes_on low Stuck next h more = tt
+  goes_on low Short next h more = h
+
+  asked_goes : {A B : Type 0} (low : ℕ) (o : Asked A) (s : State) (next : A → State → Result B) → Answers budget low o → ((v : A) (t : State) → HasSpent budget low t.world → Goes budget low (next v t)) → Goes budget low (asked o s next)
+  asked_goes low (Got v w) s next h more = more v (in_world w s) h
+  asked_goes low (Ended ending w) s next h more = tt
+
+  -- behind a tick more ticks were spent at least
+  lowered : {A : Type 0} (low : ℕ) (o : Result A) → Goes budget (suc low) o → Goes budget low o
+  lowered low (Gives v s) h = record { least = omega (arith, h.least); most = h.most }
+  lowered low (Ends ending s) h = tt
+  lowered low Stuck h = tt
+  lowered low Short h = h
+
+  chosen_goes : {A : Type 0} (low : ℕ) (test : Bool) (first second : Result A) → Goes budget low first → Goes budget low second → Goes budget low (choose test first second)
+  chosen_goes low true first second h other = h
+  chosen_goes low false first second h other = other
+
+  -- ---- what is no recursion on the tree
+
+  module _ (low : ℕ) (s : State) (spent : HasSpent budget low s.world) where
+    given_goes : (o : Option Value) → Goes budget low (given o s)
+    given_goes None = tt
+    given_goes (Some v) = spent
+
+    checked_goes : (o : Checked ℤ) → Goes budget low (checked o s)
+    checked_goes (Holds z) = spent
+    checked_goes (Fails ending) = tt
+
+    value_goes_if : (test : Bool) (v : Value) → Goes budget low (value_if test v s)
+    value_goes_if true v = spent
+    value_goes_if false v = tt
+
+    cell_goes : (type : CType) (o : Option Cell) → Goes budget low (value_in type o s)
+    cell_goes type None = tt
+    cell_goes type (Some cell) = value_goes_if (same_type type cell.type) cell.value
+
+    where_goes : (test : Bool) (block cell : ℕ) → Goes budget low (place_where test block cell s)
+    where_goes true block cell = spent
+    where_goes false block cell = tt
+
+    through_goes : (cell offset : ℕ) (site : Site) (v : Value) → Goes budget low (place_through cell offset site v s)
+    through_goes cell offset site (Number z) = tt
+    through_goes cell offset site Null = tt
+    through_goes cell offset site (At block first) = where_goes (stands_behind (slice_get s.blocks block) first cell offset) block (first + cell)
+
+    direct_goes : (object cell offset : ℕ) → Goes budget low (place_in object cell offset s)
+    direct_goes object cell offset = where_goes (stands_at (slice_get s.blocks object) cell offset) object cell
+
+    there_goes : (o : Option Cell) (block cell : ℕ) → Goes budget low (place_if o block cell s)
+    there_goes None block cell = tt
+    there_goes (Some there) block cell = spent
+
+    test_goes : (o : Option Bool) → Goes budget low (test_given o s)
+    test_goes None = tt
+    test_goes (Some test) = spent
+
+    arithmetic_goes : (operator : Operator) (site : Site) (v w : Value) → Goes budget low (arithmetic_of operator site v w s)
+    arithmetic_goes operator site (Number a) (Number b) = checked_goes (result_of operator site a b)
+    arithmetic_goes operator site (Number a) Null = tt
+    arithmetic_goes operator site (Number a) (At block cell) = tt
+    arithmetic_goes operator site Null w = tt
+    arithmetic_goes operator site (At block cell) w = tt
+
+    compared_goes : (comparison : Comparison) (v w : Value) → Goes budget low (compared comparison v w s)
+    compared_goes comparison (Number a) (Number b) = spent
+    compared_goes comparison (Number a) Null = tt
+    compared_goes comparison (Number a) (At block cell) = tt
+    compared_goes comparison Null w = tt
+    compared_goes comparison (At block cell) w = tt
+
+    negated_goes : (site : Site) (v : Value) → Goes budget low (negated site v s)
+    negated_goes site (Number a) = checked_goes (arithmetic.negation site.place a)
+    negated_goes site Null = tt
+    negated_goes site (At block cell) = tt
+
+    complemented_goes : (v : Value) → Goes budget low (complemented v s)
+    complemented_goes (Number a) = spent
+    complemented_goes Null = tt
+    complemented_goes (At block cell) = tt
+
+    byte_goes : (v : Value) → Goes budget low (low_byte_of v s)
+    byte_goes (Number a) = spent
+    byte_goes Null = tt
+    byte_goes (At block cell) = tt
+
+    result_goes : (o : Option Value) → Goes budget low (result_given o s)
+    result_goes None = tt
+    result_goes (Some v) = spent
+
+    reply_goes : (type : Option CType) (site : Site) (reply : ℕ) → Goes budget low (reply_as type site reply s)
+    reply_goes None site reply = spent
+    reply_goes (Some Int) site reply = spent
+    reply_goes (Some Char) site reply = by_size (nat_lt reply 256) refl
+      where
+        by_size : (test : Bool) → nat_lt reply 256 ≡ test → Goes budget low (reply_as (Some Char) site reply s)
+        by_size true test = rw test spent
+        by_size false test = rw test tt
+    reply_goes (Some (Struct number)) site reply = tt
+    reply_goes (Some (Pointer mode kind target)) site reply = tt
+
+    stored_goes : (test : Bool) (new : Cell) (block cell : ℕ) → Goes budget low (store_if test new block cell s)
+    stored_goes true new block cell = spent
+    stored_goes false new block cell = tt
+
+    over_goes : (o : Option Cell) (type : CType) (v : Value) (block cell : ℕ) → Goes budget low (store_over o type v block cell s)
+    over_goes None type v block cell = tt
+    over_goes (Some old) type v block cell = stored_goes (same_type type old.type && has_type type v) (record old { value = v }) block cell
+
+    set_goes_if : (test : Bool) (local : ℕ) (v : Value) → Goes budget low (set_local_if test local v s)
+    set_goes_if true local v = spent
+    set_goes_if false local v = tt
+
+    kept_goes : (char : Bool) (v : Value) → Goes budget low (kept_if char v s)
+    kept_goes true v = byte_goes v
+    kept_goes false v = spent
+
+    printed_goes : (v : Value) → Goes budget low (printed v s)
+    printed_goes (Number z) = record { least = spent.least; most = spent.most }
+    printed_goes Null = tt
+    printed_goes (At block cell) = tt
+
+    put_goes : (v : Value) → Goes budget low (put v s)
+    put_goes (Number z) = record { least = spent.least; most = spent.most }
+    put_goes Null = tt
+    put_goes (At block cell) = tt
+
+    nothing_goes : (o : Option Value) → Goes budget low (no_result o s)
+    nothing_goes None = spent
+    nothing_goes (Some v) = tt
+
+    next_goes : (rest : State → Result Flow) (flow : Flow) → Goes budget low (rest s) → Goes budget low (on_next rest flow s)
+    next_goes rest Next h = h
+    next_goes rest Broke h = spent
+    next_goes rest Continued h = spent
+    next_goes rest (Returned v) h = spent
+
+    turned_goes : (further : State → Result Flow) (flow : Flow) → Goes budget low (further s) → Goes budget low (behind_turn further flow s)
+    turned_goes further Next h = h
+    turned_goes further Continued h = h
+    turned_goes further Broke h = spent
+    turned_goes further (Returned v) h = spent
+
+    answer_goes : (result : Option CType) (flow : Flow) → Goes budget low (answer result flow s)
+    answer_goes result Next = spent
+    answer_goes result (Returned v) = spent
+    answer_goes result Broke = tt
+    answer_goes result Continued = tt
+
+    place_from_goes : (p : core.Place) (v : Value) → Goes budget low (place_from p v s)
+    place_from_goes (core.Direct object cell offset) v = direct_goes object cell offset
+    place_from_goes (core.Through pointer cell offset site) v = through_goes cell offset site v
+
+  module _ (program : core.Core) (n : ℕ) where
+    abbrev g : Setting
+    g = record { program = program; budget = budget }
+
+    -- calls and turns that aren't short behind a tick, where so many are left at most
+    pub record IsKnot (k : Knot) : Type 0 where
+      pub call : (low function : ℕ) (vs : List Value) (s : State) → suc budget ≤ low + n → HasSpent budget low s.world → Goes budget low (k.call function vs s)
+      pub turn : (low : ℕ) (e : core.Expression) (x y : core.Statement) (s : State) → suc budget ≤ low + n → HasSpent budget low s.world → Goes budget low (k.turn e x y s)
+
+    module _ (k : Knot) (is : IsKnot k) where
+      enter_goes : (low : ℕ) (enough : budget ≤ low + n) (test : Bool) (function : ℕ) (vs : List Value) (s : State) → HasSpent budget low s.world → Goes budget low (enter_if test g k function vs s)
+      enter_goes low enough false function vs s spent = tt
+      enter_goes low enough true function vs s spent =
+          lowered low _ (asked_goes (suc low) (spend_tick budget s.world) s _ (tick_answers budget low s.world spent)
+          (λ _ t t_spent. asked_goes (suc low) (enter_call t.depth t.world) t _ (enter_answers budget (suc low) t.depth t.world t_spent)
+          (λ _ u u_spent. is.call (suc low) function vs u (omega (arith, enough)) u_spent)))
+
+      call_goes : (low : ℕ) (enough : budget ≤ low + n) (function : ℕ) (vs : List Value) (s : State) → HasSpent budget low s.world → Goes budget low (call_trusted g k function vs s)
+      call_goes low enough function vs s spent = enter_goes low enough (takes (slice_get program.functions function) (length vs)) function vs s spent
+
+      cross_goes : (low import : ℕ) (i : core.Import) (site : Site) (o : Option (List ℕ)) (s : State) → HasSpent budget low s.world → Goes budget low (cross g import i site o s)
+      cross_goes low import i site None s spent = tt
+      cross_goes low import i site (Some words) s spent =
+          lowered low _ (asked_goes (suc low) (spend_tick budget s.world) s _ (tick_answers budget low s.world spent)
+          (λ _ t t_spent. asked_goes (suc low) (tainted_call t.depth import words t.world) t _ (call_answers budget (suc low) t.depth import words t.world t_spent)
+          (λ reply u u_spent. reply_goes (suc low) u u_spent i.result site reply)))
+
+      crossed_goes : (low : ℕ) (test : Bool) (import : ℕ) (i : core.Import) (site : Site) (vs : List Value) (s : State) → HasSpent budget low s.world → Goes budget low (cross_if test g import i site vs s)
+      crossed_goes low true import i site vs s spent = cross_goes low import i site (words_of vs) s spent
+      crossed_goes low false import i site vs s spent = tt
+
+      tainted_goes : (low import : ℕ) (o : Option core.Import) (site : Site) (vs : List Value) (s : State) → HasSpent budget low s.world → Goes budget low (call_tainted g import o site vs s)
+      tainted_goes low import None site vs s spent = tt
+      tainted_goes low import (Some i) site vs s spent = crossed_goes low (i.parameters == length vs) import i site vs s spent
+
+      -- ---- expressions
+
+      mutual
+        value_goes : (e : core.Expression) (low : ℕ) (enough : budget ≤ low + n) (s : State) → HasSpent budget low s.world → Goes budget low (value g k e s)
+        value_goes (core.Number z) low enough s spent = value_goes_if low s spent (is_word_number z) (Number z)
+        value_goes core.Null low enough s spent = spent
+        value_goes (core.Local i) low enough s spent = given_goes low s spent (slice_get s.locals i)
+        value_goes (core.Load type p) low enough s spent =
+            goes_on low (place g k p s) (load_at type) (place_goes p low enough s spent) (λ at t t_spent. cell_goes low t t_spent type (cell_at t.blocks at.0 at.1))
+        value_goes (core.AddressOf object cell offset) low enough s spent =
+            goes_on low (place_in object cell offset s) pointer_to (direct_goes low s spent object cell offset) (λ at t t_spent. there_goes low t t_spent (cell_at t.blocks at.0 at.1) at.0 at.1)
+        value_goes (core.AddressThrough pointer cell offset site) low enough s spent =
+            goes_on low (value g k pointer s) _ (value_goes pointer low enough s spent)
+            (λ p t t_spent. goes_on low (place_through cell offset site p t) pointer_to (through_goes low t t_spent cell offset site p)
+            (λ at u u_spent. there_goes low u u_spent (cell_at u.blocks at.0 at.1) at.0 at.1))
+        value_goes (core.Negate operand site) low enough s spent =
+            goes_on low (value g k operand s) (negated site) (value_goes operand low enough s spent) (λ v t t_spent. negated_goes low t t_spent site v)
+        value_goes (core.Complement operand) low enough s spent =
+            goes_on low (value g k operand s) complemented (value_goes operand low enough s spent) (λ v t t_spent. complemented_goes low t t_spent v)
+        value_goes (core.Not operand) low enough s spent = goes_on low (value g k operand s) _ (value_goes operand low enough s spent) (λ v t t_spent. t_spent)
+        value_goes (core.Arithmetic operator left right site) low enough s spent =
+            goes_on low (value g k left s) _ (value_goes left low enough s spent)
+            (λ a t t_spent. goes_on low (value g k right t) _ (value_goes right low enough t t_spent) (λ b u u_spent. arithmetic_goes low u u_spent operator site a b))
+        value_goes (core.Compare comparison left right) low enough s spent =
+            goes_on low (value g k left s) _ (value_goes left low enough s spent)
+            (λ a t t_spent. goes_on low (value g k right t) _ (value_goes right low enough t t_spent) (λ b u u_spent. compared_goes low u u_spent comparison a b))
+        value_goes (core.Same left right) low enough s spent =
+            goes_on low (value g k left s) _ (value_goes left low enough s spent)
+            (λ a t t_spent. goes_on low (value g k right t) _ (value_goes right low enough t t_spent) (λ b u u_spent. test_goes low u u_spent (same_place a b)))
+        value_goes (core.AndAlso left right) low enough s spent =
+            goes_on low (value g k left s) _ (value_goes left low enough s spent)
+            (λ a t t_spent. chosen_goes low (truth a) _ _ (goes_on low (value g k right t) _ (value_goes right low enough t t_spent) (λ b u u_spent. u_spent)) t_spent)
+        value_goes (core.OrElse left right) low enough s spent =
+            goes_on low (value g k left s) _ (value_goes left low enough s spent)
+            (λ a t t_spent. chosen_goes low (truth a) _ _ t_spent (goes_on low (value g k right t) _ (value_goes right low enough t t_spent) (λ b u u_spent. u_spent)))
+        value_goes (core.LowByte operand) low enough s spent =
+            goes_on low (value g k operand s) low_byte_of (value_goes operand low enough s spent) (λ v t t_spent. byte_goes low t t_spent v)
+        value_goes (core.Call function arguments) low enough s spent =
+            goes_on low (values g k arguments s) _ (values_go arguments low enough s spent)
+            (λ vs t t_spent. goes_on low (call_trusted g k function vs t) result_given (call_goes low enough function vs t t_spent) (λ v u u_spent. result_goes low u u_spent v))
+        value_goes (core.TaintedCall import arguments site) low enough s spent =
+            goes_on low (values g k arguments s) _ (values_go arguments low enough s spent)
+            (λ vs t t_spent. goes_on low (call_tainted g import (slice_get program.imports import) site vs t) result_given
+            (tainted_goes low import (slice_get program.imports import) site vs t t_spent) (λ v u u_spent. result_goes low u u_spent v))
+        value_goes core.NextInput low enough s spent = asked_goes low (next_input s.world) s _ (next_answers budget low s.world spent) (λ z t t_spent. t_spent)
+
+        values_go : (es : core.Arguments) (low : ℕ) (enough : budget ≤ low + n) (s : State) → HasSpent budget low s.world → Goes budget low (values g k es s)
+        values_go core.Done low enough s spent = spent
+        values_go (core.More first rest) low enough s spent =
+            goes_on low (value g k first s) _ (value_goes first low enough s spent)
+            (λ v t t_spent. goes_on low (values g k rest t) _ (values_go rest low enough t t_spent) (λ vs u u_spent. u_spent))
+
+        place_goes : (p : core.Place) (low : ℕ) (enough : budget ≤ low + n) (s : State) → HasSpent budget low s.world → Goes budget low (place g k p s)
+        place_goes (core.Direct object cell offset) low enough s spent = direct_goes low s spent object cell offset
+        place_goes (core.Through pointer cell offset site) low enough s spent =
+            goes_on low (value g k pointer s) (place_through cell offset site) (value_goes pointer low enough s spent) (λ v t t_spent. through_goes low t t_spent cell offset site v)
+
+      pointer_goes : (p : core.Place) (low : ℕ) (enough : budget ≤ low + n) (s : State) → HasSpent budget low s.world → Goes budget low (pointer_of g k p s)
+      pointer_goes (core.Direct object cell offset) low enough s spent = goes_on low (place_in object cell offset s) _ (direct_goes low s spent object cell offset) (λ at t t_spent. t_spent)
+      pointer_goes (core.Through pointer cell offset site) low enough s spent = value_goes pointer low enough s spent
+
+      -- ---- statements
+
+      set_goes : (low local : ℕ) (v : Value) (s : State) → HasSpent budget low s.world → Goes budget low (set_local local v s)
+      set_goes low local v s spent = set_goes_if low s spent (nat_lt local (length s.locals)) local v
+
+      store_goes : (low : ℕ) (type : CType) (at : ℕ × ℕ) (v : Value) (s : State) → HasSpent budget low s.world → Goes budget low (store_at type at v s)
+      store_goes low type at v s spent = over_goes low s spent (cell_at s.blocks at.0 at.1) type v at.0 at.1
+
+      mutual
+        effect_goes : (x : core.Statement) (low : ℕ) (enough : budget ≤ low + n) (s : State) → HasSpent budget low s.world → Goes budget low (effect g k x s)
+        effect_goes core.Nothing low enough s spent = spent
+        effect_goes (core.SetLocal local e) low enough s spent =
+            goes_on low (value g k e s) (set_local local) (value_goes e low enough s spent) (λ v t t_spent. set_goes low local v t t_spent)
+        effect_goes (core.Store type p e) low enough s spent =
+            goes_on low (pointer_of g k p s) _ (pointer_goes p low enough s spent)
+            (λ q t t_spent. goes_on low (value g k e t) _ (value_goes e low enough t t_spent)
+            (λ v u u_spent. goes_on low (place_from p q u) _ (place_from_goes low u u_spent p q) (λ at w w_spent. store_goes low type at v w w_spent)))
+        effect_goes (core.UpdateLocal char local operator e site) low enough s spent =
+            goes_on low (given (slice_get s.locals local) s) _ (given_goes low s spent (slice_get s.locals local))
+            (λ old t t_spent. goes_on low (value g k e t) _ (value_goes e low enough t t_spent)
+            (λ v u u_spent. goes_on low (arithmetic_of operator site old v u) _ (arithmetic_goes low u u_spent operator site old v)
+            (λ new w w_spent. goes_on low (kept_if char new w) (set_local local) (kept_goes low w w_spent char new) (λ last x x_spent. set_goes low local last x x_spent))))
+        effect_goes (core.Update type p operator e site) low enough s spent =
+            goes_on low (place g k p s) _ (place_goes p low enough s spent)
+            (λ at t t_spent. goes_on low (load_at type at t) _ (cell_goes low t t_spent type (cell_at t.blocks at.0 at.1))
+            (λ old u u_spent. goes_on low (value g k e u) _ (value_goes e low enough u u_spent)
+            (λ v w w_spent. goes_on low (arithmetic_of operator site old v w) _ (arithmetic_goes low w w_spent operator site old v)
+            (λ new x x_spent. goes_on low (kept_if (is_char type) new x) (store_at type at) (kept_goes low x x_spent (is_char type) new) (λ last y y_spent. store_goes low type at last y y_spent)))))
+        effect_goes (core.Evaluate e) low enough s spent = goes_on low (value g k e s) _ (value_goes e low enough s spent) (λ v t t_spent. t_spent)
+        effect_goes (core.CallAlone function arguments) low enough s spent =
+            goes_on low (values g k arguments s) _ (values_go arguments low enough s spent)
+            (λ vs t t_spent. goes_on low (call_trusted g k function vs t) no_result (call_goes low enough function vs t t_spent) (λ v u u_spent. nothing_goes low u u_spent v))
+        effect_goes (core.TaintedAlone import arguments site) low enough s spent =
+            goes_on low (values g k arguments s) _ (values_go arguments low enough s spent)
+            (λ vs t t_spent. goes_on low (call_tainted g import (slice_get program.imports import) site vs t) no_result
+            (tainted_goes low import (slice_get program.imports import) site vs t t_spent) (λ v u u_spent. nothing_goes low u u_spent v))
+        effect_goes (core.Print e) low enough s spent = goes_on low (value g k e s) printed (value_goes e low enough s spent) (λ v t t_spent. printed_goes low t t_spent v)
+        effect_goes (core.PutByte e) low enough s spent = goes_on low (value g k e s) put (value_goes e low enough s spent) (λ v t t_spent. put_goes low t t_spent v)
+        effect_goes (core.Block xs) low enough s spent = effects_go xs low enough s spent
+        effect_goes (core.If condition consequent alternative) low enough s spent =
+            goes_on low (value g k condition s) _ (value_goes condition low enough s spent)
+            (λ v t t_spent. chosen_goes low (truth v) _ _ (effect_goes consequent low enough t t_spent) (effect_goes alternative low enough t t_spent))
+        effect_goes (core.Loop condition body step) low enough s spent =
+            goes_on low (value g k condition s) _ (value_goes condition low enough s spent)
+            (λ v t t_spent. chosen_goes low (truth v) _ _
+            (lowered low _ (asked_goes (suc low) (spend_tick budget t.world) t _ (tick_answers budget low t.world t_spent)
+            (λ _ u u_spent. goes_on (suc low) (effect g k body u) _ (effect_goes body (suc low) (omega (arith, enough)) u u_spent)
+            (λ flow w w_spent. turned_goes (suc low) w w_spent _ flow
+            (goes_on (suc low) (effect g k step w) _ (effect_goes step (suc low) (omega (arith, enough)) w w_spent)
+            (λ flow' x x_spent. next_goes (suc low) x x_spent (k.turn condition body step) flow' (is.turn (suc low) condition body step x (omega (arith, enough)) x_spent)))))))
+            t_spent)
+        effect_goes (core.Return e) low enough s spent = goes_on low (value g k e s) _ (value_goes e low enough s spent) (λ v t t_spent. t_spent)
+        effect_goes core.ReturnNothing low enough s spent = spent
+        effect_goes core.Break low enough s spent = spent
+        effect_goes core.Continue low enough s spent = spent
+
+        effects_go : (xs : core.Statements) (low : ℕ) (enough : budget ≤ low + n) (s : State) → HasSpent budget low s.world → Goes budget low (effects g k xs s)
+        effects_go core.NoMore low enough s spent = spent
+        effects_go (core.Then first others) low enough s spent =
+            goes_on low (effect g k first s) _ (effect_goes first low enough s spent)
+            (λ flow t t_spent. next_goes low t t_spent (effects g k others) flow (effects_go others low enough t t_spent))
+
+      -- ---- functions
+
+      body_goes_if : (low : ℕ) (enough : budget ≤ low + n) (test : Bool) (f : core.Function) (vs : List Value) (s : State) → HasSpent budget low s.world → Goes budget low (body_if test g k f vs s)
+      body_goes_if low enough false f vs s spent = tt
+      body_goes_if low enough true f vs s spent =
+          let inside : State = record s { locals = locals_for f vs; depth = s.depth + 1 } in
+          goes_on low (and_then (effects g k f.body inside) (answer f.result)) (back s)
+          (goes_on low (effects g k f.body inside) (answer f.result) (effects_go f.body low enough inside spent) (λ flow t t_spent. answer_goes low t t_spent f.result flow))
+          (λ v t t_spent. t_spent)
+
+      body_goes : (low : ℕ) (enough : budget ≤ low + n) (o : Option core.Function) (vs : List Value) (s : State) → HasSpent budget low s.world → Goes budget low (body_of g k o vs s)
+      body_goes low enough None vs s spent = tt
+      body_goes low enough (Some f) vs s spent = body_goes_if low enough (f.parameters == length vs) f vs s spent
+
+  knots : (program : core.Core) (n : ℕ) → IsKnot program n (knot (record { program = program; budget = budget }) n)
+  knots program zero = record {
+    call = λ low function vs s enough spent. absurd (omega (arith, spent.least, spent.most));
+    turn = λ low e x y s enough spent. absurd (omega (arith, spent.least, spent.most));
+  }
+  knots program (suc n) = record {
+    call = λ low function vs s enough spent. body_goes program n _ (knots program n) low (omega (arith, enough)) (slice_get program.functions function) vs s spent;
+    turn = λ low e x y s enough spent. effect_goes program n _ (knots program n) (core.Loop e x y) low (omega (arith, enough)) s spent;
+  }
+
+  exit_goes : (low : ℕ) (v : Option Value) (s : State) → Goes budget low (exit v s)
+  exit_goes low (Some (Number z)) s = tt
+  exit_goes low (Some Null) s = tt
+  exit_goes low (Some (At block cell)) s = tt
+  exit_goes low None s = tt
+
+not_short : (budget low : ℕ) {A : Type 0} (o : Result A) → Goes budget low o → o ≡ Short → ⊥
+not_short budget low (Gives v s) h e = absurd (cc)
+not_short budget low (Ends ending s) h e = absurd (cc)
+not_short budget low Stuck h e = absurd (cc)
+not_short budget low Short h e = h
+
+pub never_short : (program : core.Core) (settings : Settings) (inputs : List ℤ) (acts : List Act) → meaning program settings inputs acts ≡ Short → ⊥
+never_short program settings inputs acts =
+    let n = settings.budget in
+    let start : State = initial program (new_world (replicate settings.sandbox 0) first_offset inputs acts) in
+    let spent : HasSpent n 0 start.world = record { least = omega arith; most = omega arith } in
+    not_short n 0 _ (goes_on n 0 (body_of _ _ (slice_get program.functions program.main) [] start) exit
+    (body_goes n program n _ (knots n program n) 0 (omega arith) (slice_get program.functions program.main) [] start spent) (λ v s s_spent. exit_goes n 0 v s))
