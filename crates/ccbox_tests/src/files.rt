@@ -1,13 +1,14 @@
 // Files and the output of the operating system, and calls whose files or outputs fail.
 
 use crate::calls::{Call, answers, answers_over, files};
-use crate::lines::add_number;
+use crate::lines::{add, add_number};
 use crate::rows::expect;
 use ckc_io::file_shelf::FileShelf;
 use ckc_io::mem_shelf::MemShelf;
 use ckc_io::out_sink::OutSink;
 use ckc_io::shelf::{Shelf, ShelfFault};
 use ckc_io::sink::Sink;
+use ckc_io::whole::read_whole;
 use std::alloc::Global;
 use std::test::Fail;
 use std::{fs, process};
@@ -39,11 +40,35 @@ fn has_faults(rt: &HostRuntime, missing: &str) -> bool {
         && matches!(fault(rt, "/", 0), Some(ShelfFault::Failed))
 }
 
-// Whether a file of the system is read while it is there.
+// Whether a file of ten thousand bytes, each of its pieces another one, is read whole.
+fn reads_large(rt: &HostRuntime, path: &str) -> bool {
+    let mut text = String::new(rt.alloc());
+    for number in 10_000..12_000 {
+        add_number(&mut text, "", number);
+    }
+    let written = fs::write(rt, path, text.as_str()).is_ok();
+    let read = match read_whole(rt.alloc(), &mut FileShelf::new(rt), path, 20_000) {
+        Ok(bytes) => bytes.as_slice() == text.as_bytes(),
+        Err(_) => false,
+    };
+    let removed = fs::remove_file(rt, path).is_ok();
+    written && read && removed
+}
+
+// Whether a file of the system is read while it is there. A blank at the end of its name is a part of the name.
 fn reads_file_of_system(rt: &HostRuntime) -> bool {
     let mut path = String::new(rt.alloc());
     add_number(&mut path, "/tmp/file_shelf_", process::id(rt.process()));
-    reads_written(rt, path.as_str()) && has_faults(rt, path.as_str())
+    let mut other = String::new(rt.alloc());
+    add(&mut other, path.as_str());
+    add(&mut other, " ");
+    reads_written(rt, path.as_str())
+        && has_faults(rt, path.as_str())
+        && reads_large(rt, path.as_str())
+        && fs::write(rt, other.as_str(), "0123456789").is_ok()
+        && has_faults(rt, path.as_str())
+        && reads(rt, other.as_str())
+        && fs::remove_file(rt, other.as_str()).is_ok()
 }
 
 // Whether the output of the system takes a piece.
@@ -187,9 +212,40 @@ fn answers_all_by_bytes(alloc: Global) -> bool {
     true
 }
 
-// Whether calls answer as their files and outputs let them.
+// What stands before the blanks of a source.
+const PADDED: &str = "int main(void) { return 7; }";
+
+// A call that reads a source of so many bytes, and answers so where the read of a number fails.
+fn answers_padded(alloc: Global, bytes: usize, read: u64, text: &[u8], status: u8) -> bool {
+    let mut source = String::new(alloc);
+    add(&mut source, PADDED);
+    if let Ok(blanks) = " ".repeat(alloc, bytes.saturating_sub(PADDED.len())) {
+        add(&mut source, blanks.as_str());
+    }
+    let call = Call {
+        source: source.as_str(),
+        text,
+        status,
+        read,
+        ..SOURCE_ALONE
+    };
+    source.len() == bytes && answers(alloc, &call)
+}
+
+// Whether a source of so many bytes takes so many reads.
+fn takes_reads(alloc: Global, bytes: usize, reads: u64) -> bool {
+    answers_padded(alloc, bytes, reads, b"", 4)
+        && answers_padded(alloc, bytes, reads + 1, b"[exit 7]\n", 0)
+}
+
+// Whether calls answer as their files and outputs let them. A file is read in pieces of 4,096 bytes, and once more.
 fn answers_so(alloc: Global) -> bool {
-    fails_so(alloc) && answers_all_by_bytes(alloc)
+    fails_so(alloc)
+        && answers_all_by_bytes(alloc)
+        && takes_reads(alloc, 100, 2)
+        && takes_reads(alloc, 4096, 2)
+        && takes_reads(alloc, 4097, 3)
+        && takes_reads(alloc, 8193, 4)
 }
 
 /// Fails unless files and outputs that fail are answered as they must be.

@@ -12,6 +12,8 @@ mod calls;
 #[cfg(test)]
 mod cores;
 #[cfg(test)]
+mod corners;
+#[cfg(test)]
 mod facts;
 #[cfg(test)]
 mod files;

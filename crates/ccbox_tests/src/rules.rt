@@ -126,7 +126,6 @@ const ITEMS: &str =
 [refused E13 1:1 type]@int g = sizeof(int); int main(void) { return 0; }
 [refused E13 1:1 type]@int g = {1}; int main(void) { return 0; }
 [refused E13 1:1 type]@int g = (2 - 1); int main(void) { return 0; }
-[refused E13 1:1 type]@int g = - NULL; int main(void) { return 0; }
 [refused E13 1:1 type]@int g = ~1; int main(void) { return 0; }
 [refused E13 1:1 type]@ptr<int> g = 1; int main(void) { return 0; }
 [refused E13 1:8 type]@int h; ptr<int> g = &h; int main(void) { return 0; }
@@ -242,7 +241,7 @@ const STATEMENTS: &str = "[refused E15 3:1 unchecked in a checked region]@int *p
 [refused E13 3:13 type]@return f(0, 1);
 [refused E13 3:22 type]@return f(NULL + f(1, 2), 0);
 [refused E13 3:26 type]@ptr<int> p = 0; return f(p, p);
-[refused E13 3:26 type]@ptr<int> p = 0; return t(p);
+[refused E24 3:26 checked pointer to tainted code]@ptr<int> p = 0; return t(p);
 [refused E13 3:27 type]@ptr<int> p = 0; print_int(p);
 [refused E13 3:8 type]@return h();
 [refused E13 3:9 type]@return -h();

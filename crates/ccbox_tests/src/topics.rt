@@ -1,6 +1,7 @@
 // The tests, each of several topics, since each test is a program of its own.
 
 use crate::acts::acts;
+use crate::corners::corners;
 use crate::facts::entailment;
 use crate::files::files_and_outputs;
 use crate::limits::limits;
@@ -29,6 +30,7 @@ fn programs(rt: HostRuntime) -> Result<(), Fail> {
     runs(alloc)?;
     dumps(alloc)?;
     limits(alloc)?;
+    corners(alloc)?;
     options(alloc)
 }
 

@@ -61,7 +61,7 @@ const CALLS: &str =
 [refused E11 1:14 name twice]@run a.c --acts=f --releases@@_Tainted int putchar(int x); int main(void) { return 0; }
 [exit 0]@run a.c --acts=f --releases@@_Tainted int t(); int main(void) { return 0; }
 {"args":[1],"fun":0,"release":"passed"}¶[stop S3 sandbox ended]@run a.c --acts=f --releases@@_Tainted int t(int x); int main(void) { t(1); return 0; }
-[refused E13 1:66 type]@run a.c --acts=f --releases@@_Tainted int t(int x); int main(void) { ptr<int> p = 0; return t(p); }
+[refused E24 1:66 checked pointer to tainted code]@run a.c --acts=f --releases@@_Tainted int t(int x); int main(void) { ptr<int> p = 0; return t(p); }
 [refused E10 1:48 unknown name]@run a.c --acts=f --releases@@_Tainted int t(int x); int main(void) { return t; }
 [exit 0]@run a.c --acts=f --releases@@_Tainted void t(int x); int main(void) { return 0; }
 [refused E06 1:22 syntax]@run a.c --acts=f --releases@@_Tainted int t(int x,); int main(void) { return 0; }
