@@ -1,5 +1,5 @@
 -- What the sandbox is shown, from its starting memory, the acts that were taken and the releases alone.
-use Rattle.std.specs.Prelude.{◌≡◌, ℕ, Bool, true, false, List, [], ◌∷◌, ◌++◌, length}
+use Rattle.std.specs.Prelude.{◌≡◌, ℕ, Bool, true, false, List, [], ◌∷◌, ◌++◌, length, Option, Some, None, option_map}
 use Rattle.act_words.specs.declared.act.Turn.{Turn}
 use Rattle.act_words.specs.declared.act.Turn.TheVariants as turns
 use Rattle.act_words.specs.Acts.{Act, Go, Read, Write, Call, Return, Stop, Seen, SeenBytes, SeenCall, SeenReply, Release, Looked, Wrote, Passed, Replied}
@@ -66,6 +66,14 @@ view_of (Output bytes ∷ events) = view_of events
 view_of (Released release ∷ events) = view_of events
 view_of (Showed seen ∷ events) = seen ∷ view_of events
 view_of (NoAct turn ∷ events) = view_of events
+
+-- the events before the first moment at which an act was due and none was left, if there was one
+abbrev pub due_front : List Event → Option (List Event)
+due_front [] = None
+due_front (Output bytes ∷ events) = option_map (λ front. Output bytes ∷ front) (due_front events)
+due_front (Released release ∷ events) = option_map (λ front. Released release ∷ front) (due_front events)
+due_front (Showed seen ∷ events) = option_map (λ front. Showed seen ∷ front) (due_front events)
+due_front (NoAct turn ∷ events) = Some []
 
 -- acts of the list were taken up to those that are left, and what the sandbox was shown is the fold over its starting memory,
 -- the acts that were taken, and the releases

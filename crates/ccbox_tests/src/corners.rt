@@ -127,19 +127,27 @@ fn sources(alloc: Global) -> Result<(), Fail> {
     expect_tables(alloc, &TABLES_OF_SOURCES)
 }
 
-static TABLES_OF_SIZES: [Table; 4] = [
+static TABLES_OF_LIMITS: [Table; 2] = [
     Table(Question::Run, LIMITS_FIRST),
-    Table(Question::Run, LARGE),
-    Table(Question::Call, LARGE_RUNS),
     Table(Question::Call, TWO_BASES),
 ];
 
-fn sizes(alloc: Global) -> Result<(), Fail> {
-    expect_tables(alloc, &TABLES_OF_SIZES)
+fn limits_and_runs(alloc: Global) -> Result<(), Fail> {
+    expect_tables(alloc, &TABLES_OF_LIMITS)
 }
 
 /// Fails unless corners of the language are as they must be.
 pub fn corners(alloc: Global) -> Result<(), Fail> {
     sources(alloc)?;
-    sizes(alloc)
+    limits_and_runs(alloc)
+}
+
+static TABLES_OF_SIZES: [Table; 2] = [
+    Table(Question::Run, LARGE),
+    Table(Question::Call, LARGE_RUNS),
+];
+
+/// Fails unless large inputs are taken.
+pub fn large_inputs(alloc: Global) -> Result<(), Fail> {
+    expect_tables(alloc, &TABLES_OF_SIZES)
 }

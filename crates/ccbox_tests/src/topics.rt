@@ -1,7 +1,7 @@
 // The tests, each of several topics, since each test is a program of its own.
 
 use crate::acts::acts;
-use crate::corners::corners;
+use crate::corners::{corners, large_inputs};
 use crate::facts::entailment;
 use crate::files::files_and_outputs;
 use crate::limits::limits;
@@ -21,7 +21,8 @@ fn front_end(rt: HostRuntime) -> Result<(), Fail> {
     lexing(alloc)?;
     parsing(alloc)?;
     printing(alloc)?;
-    names_and_types(alloc)
+    names_and_types(alloc)?;
+    corners(alloc)
 }
 
 #[test]
@@ -30,7 +31,6 @@ fn programs(rt: HostRuntime) -> Result<(), Fail> {
     runs(alloc)?;
     dumps(alloc)?;
     limits(alloc)?;
-    corners(alloc)?;
     options(alloc)
 }
 
@@ -45,4 +45,9 @@ fn sandbox_acts(rt: HostRuntime) -> Result<(), Fail> {
 fn libraries(rt: HostRuntime) -> Result<(), Fail> {
     entailment(rt.alloc())?;
     memories_and_layouts(rt.alloc())
+}
+
+#[test]
+fn sizes(rt: HostRuntime) -> Result<(), Fail> {
+    large_inputs(rt.alloc())
 }

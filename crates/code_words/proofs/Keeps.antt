@@ -1,9 +1,8 @@
 -- What ticks, touches, acts and output keep of the world, a run keeps.
-use Rattle.std.proofs.Common.{◌≡◌, ℕ, zero, suc, ◌+◌, ◌*◌, Bool, true, false, Option, None, Some, List, [], ◌∷◌, ◌++◌, ℤ, refl}
+use Rattle.std.proofs.Common.{◌≡◌, ℕ, zero, suc, ◌+◌, ◌*◌, Bool, true, false, Option, None, Some, List, [], ◌∷◌, ℤ, refl}
 use Rattle.std.specs.Prelude.{slice_get, nat_lt, nat_le, length, ◌==◌}
 use Rattle.ckc_text.specs.declared.place.Place.{Place}
 use Rattle.ckc_text.specs.declared.code.Code.{Code}
-use Rattle.flat_bytes.specs.Blocks.{Block}
 use Rattle.act_words.specs.declared.act.Turn.TheVariants as turns
 use Rattle.act_words.specs.declared.settings.Settings.{Settings}
 use Rattle.act_words.specs.Acts.{Act, Release, Looked, Wrote, Passed, Replied}
@@ -12,7 +11,7 @@ use Rattle.act_words.specs.Acting.{BeforeTouch, InSandbox, act_before_touch, act
 use Rattle.act_words.specs.Checks.{Checked, Holds, Fails}
 use Rattle.act_words.specs.Numbers.{signed}
 use Rattle.act_words.specs.Arithmetic as arithmetic
-use Rattle.act_words.specs.Touches.{Asked, Got, Ended, released, spend_tick, spent_if, enter_call, entered_if, input_from, next_input, write, make_block}
+use Rattle.act_words.specs.Touches.{Asked, Got, Ended, released, spend_tick, spent_if, enter_call, entered_if, input_from, next_input, write}
 use Rattle.code_words.specs.declared.op.Op.{Op}
 use Rattle.code_words.specs.declared.op.Op.TheVariants as ops
 use Rattle.code_words.specs.declared.image.WordKind.{WordKind}
@@ -22,7 +21,7 @@ use Rattle.code_words.specs.declared.image.Callback.{Callback}
 use Rattle.code_words.specs.declared.image.Param.{Param}
 use Rattle.code_words.specs.declared.image.Image.{Image}
 use Rattle.code_words.specs.Marshalling.{Fault, Count, TooLarge, OutOfRange, arguments_fault, fits_kind}
-use Rattle.code_words.specs.Table.{Frame, Caller, Calls, Waits, CalledBack, Touch, Loads, Stores, Passes, Replies, Control, Runs, Touches, Away, State, Step, Goes, Over, wild, holds, depth, is_positive, asked, push, push_if, push_some, push_checked, pop, pop_2, pop_3, pop_5, pop_6, pop_if, pop_words, peek, set_if, load_if, load, store_if, store, check, touch_if, enter, call_function, call_tainted, push_result, reply_of, reply_with, exit_with, return_to, allocate_if, allocate, allocate_sandbox_if, byte_at, by_byte, count_from, jump_if, jump, jump_if_zero, of_two, of_one, checked_of_two, act, act_next, step_in, step}
+use Rattle.code_words.specs.Table.{Frame, Caller, Calls, Waits, CalledBack, Touch, Loads, Stores, Passes, Replies, Control, Runs, Touches, Away, State, Step, Goes, Over, wild, holds, depth, is_positive, asked, push, push_if, push_some, push_checked, pop, pop_2, pop_3, pop_5, pop_6, pop_if, pop_words, peek, set_if, load_if, load, store_if, store, check, touch_if, call_function, call_tainted, push_result, reply_of, reply_with, exit_with, return_to, allocate_if, allocate, allocate_sandbox_if, byte_at, by_byte, count_from, jump_if, jump, jump_if_zero, of_two, of_one, checked_of_two, act, act_next, step_in, step}
 use Rattle.code_words.specs.Moves.{in_world, make_touch, before_touch_by, run_if, run_callback, at_place_of, tested, call_back_if, call_back, reply_if, reply_to, answer, in_sandbox_by, before_touch, in_sandbox, move, move_by}
 use Rattle.code_words.specs.Runs.{Run, Unfinished, Finished, exec, go_on}
 

@@ -3,3 +3,4 @@ pub mod Runs
 pub mod Worlds
 mod Paces
 pub mod Left
+pub mod Due

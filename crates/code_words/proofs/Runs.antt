@@ -1,11 +1,11 @@
 -- A run of code has one end.
-use Rattle.std.proofs.Common.{◌≡◌, ℕ, zero, suc, ◌+◌, ◌≤◌, ◌<◌, refl, sym, ap, ◌∙◌, subst, ⊎_elim, arith}
+use Rattle.std.proofs.Common.{◌≡◌, ℕ, zero, suc, ◌≤◌, sym, ◌∙◌, ⊎_elim, arith}
 use Rattle.std.proofs.lemmas.Bool.{cases_lt}
 use Rattle.act_words.specs.declared.ending.Ending.{Ending}
 use Rattle.act_words.specs.declared.settings.Settings.{Settings}
 use Rattle.code_words.specs.Table.{State, Step, Goes, Over}
 use Rattle.code_words.specs.Moves.{move}
-use Rattle.code_words.specs.Runs.{Run, Unfinished, Finished, exec, go_on}
+use Rattle.code_words.specs.Runs.{Run, Finished, exec, go_on}
 use Rattle.code_words.specs.declared.image.Image.{Image}
 
 module _ (image : Image) (settings : Settings) where

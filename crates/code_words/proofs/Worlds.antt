@@ -6,7 +6,7 @@ use Rattle.act_words.specs.declared.act.Turn.TheVariants as turns
 use Rattle.act_words.specs.declared.ending.Ending.{Ending}
 use Rattle.act_words.specs.declared.settings.Settings.{Settings}
 use Rattle.act_words.specs.Acts.{Act, Go, Read, Write, Call, Return, Stop, Release, Looked, Wrote, Passed, Replied, SeenBytes, SeenCall, SeenReply}
-use Rattle.act_words.specs.World.{World, Event, Output, Released, Showed, NoAct, telling, taken_one, in_turn, with_inputs}
+use Rattle.act_words.specs.World.{World, Event, Output, Released, Showed, NoAct, taken_one, in_turn, with_inputs}
 use Rattle.act_words.specs.Acting.{BeforeTouch, InSandbox, lies_in, bytes_at, shown_if, written_if, waits_or_ends, keeps_or_ends, act_before_touch, act_in_sandbox}
 use Rattle.act_words.specs.Touches.{released}
 use Rattle.act_words.proofs.Views.{Told, Ready, HasFolded, BeforeTold, InTold, told_at_start, shown, none_left, at_the_end, released_told, act_before_told, act_in_told, told_in, write_told, ready_turn, view_in_turn}
@@ -21,14 +21,14 @@ use Rattle.code_words.proofs.Keeps.{AreKept, BeforeKeeps, InKeeps, ReleaseKeeps,
 
 module _ (start : List ℕ) (all : List Act) where
   -- the fold goes on from here, and this side has the turn
-  abbrev OwnTurn : World → Type 0
+  abbrev pub OwnTurn : World → Type 0
   OwnTurn w = Told start all w × (w.turn ≡ turns.Trusted)
 
-  abbrev OtherTurn : World → Type 0
+  abbrev pub OtherTurn : World → Type 0
   OtherTurn w = Told start all w × (w.turn ≡ turns.Sandbox)
 
   -- behind a call of a callback the trusted side gets the turn
-  abbrev BehindCall : World → Type 0
+  abbrev pub BehindCall : World → Type 0
   BehindCall w = Told start all (in_turn turns.Trusted w)
 
   before_told : (r : BeforeTouch) → BeforeTold start all r → BeforeKeeps OwnTurn (Ready start all) OtherTurn BehindCall (HasFolded start all) r
@@ -48,7 +48,7 @@ module _ (start : List ℕ) (all : List Act) where
   release_told (Passed fun args) w ready = (released_told start all (Passed fun args) w ready, refl)
   release_told (Replied value) w ready = (released_told start all (Replied value) w ready, refl)
 
-  view_kept : AreKept OwnTurn (Ready start all) OtherTurn BehindCall (HasFolded start all)
+  pub view_kept : AreKept OwnTurn (Ready start all) OtherTurn BehindCall (HasFolded start all)
   view_kept =
       record {
         ticks = λ w n d. (told_in start all w (record w { ticks = n }) d.0 refl refl refl refl, d.1);

@@ -1,5 +1,5 @@
 -- Words that cross between the sides.
-use Rattle.std.specs.Prelude.{ℕ, zero, suc, ◌+◌, ◌*◌, Bool, true, false, ◌&&◌, ◌||◌, ◌==◌, nat_lt, nat_le, int_lt, int_le, List, [], ◌∷◌, length, Option, Some, None, slice_get, unwrap_or, pos}
+use Rattle.std.specs.Prelude.{ℕ, suc, Bool, true, false, ◌&&◌, ◌||◌, ◌==◌, nat_lt, int_lt, int_le, List, [], ◌∷◌, length, Option, Some, None, slice_get, unwrap_or, pos}
 use Rattle.std.proofs.Common.{ℤ, ◌+ℤ◌, ◌*ℤ◌}
 use Rattle.act_words.specs.Numbers.{signed}
 use Rattle.code_words.specs.declared.image.WordKind.{WordKind}

@@ -4,10 +4,9 @@ use Rattle.std.proofs.Common.{ℤ}
 use Rattle.act_words.specs.declared.ending.Ending.{Ending}
 use Rattle.act_words.specs.declared.settings.Settings.{Settings}
 use Rattle.act_words.specs.Acts.{Act}
-use Rattle.flat_bytes.specs.Blocks.{Block, first_offset, rounded_up, grown, blocks_of}
-use Rattle.trusted_memory.specs.Memories.{Memory}
+use Rattle.flat_bytes.specs.Blocks.{first_offset, rounded_up, grown, blocks_of}
 use Rattle.act_words.specs.World.{Event, new_world}
-use Rattle.code_words.specs.Table.{Frame, Control, Runs, State, Step, Goes, Over, frame_for}
+use Rattle.code_words.specs.Table.{Frame, Runs, State, Step, Goes, Over, frame_for}
 use Rattle.code_words.specs.Moves.{move}
 use Rattle.code_words.specs.declared.image.Func.{Func}
 use Rattle.code_words.specs.declared.image.Image.{Image}

@@ -1,11 +1,11 @@
 -- The instruction table: what each instruction does, over one memory at a base address, words of 32 bits, and the world
 -- that the sandbox shares. A run goes in moves: an instruction, or an act of the sandbox.
-use Rattle.std.specs.Prelude.{ℕ, zero, suc, ◌+◌, ◌-◌, ◌*◌, ◌/◌, ◌%◌, ◌^◌, Bool, true, false, not, ◌&&◌, ◌||◌, ◌==◌, nat_lt, nat_le, int_lt, int_le, bit_and, bit_or, bit_xor, List, [], ◌∷◌, ◌++◌, length, replicate, reverse, take, drop, Option, Some, None, slice_get, slice_index, slice_set, pos}
+use Rattle.std.specs.Prelude.{ℕ, zero, suc, ◌+◌, ◌-◌, ◌*◌, ◌%◌, Bool, true, false, not, ◌&&◌, ◌||◌, ◌==◌, nat_lt, nat_le, int_lt, int_le, bit_and, bit_or, bit_xor, List, [], ◌∷◌, ◌++◌, length, replicate, reverse, take, drop, Option, Some, None, slice_get, slice_index, slice_set, pos}
 use Rattle.std.proofs.Common.{ℤ, ◌+ℤ◌, ◌*ℤ◌}
 use Rattle.std.specs.Int.{to_le_bytes, w8, w32}
 use Rattle.ckc_text.specs.declared.place.Place.{Place}
 use Rattle.ckc_text.specs.declared.code.Code.{Code}
-use Rattle.ckc_text.specs.declared.code.Code.TheVariants.{C1, C2, C3, C4, C5, C9, S6}
+use Rattle.ckc_text.specs.declared.code.Code.TheVariants.{C1, C2, C3, C4, C5, S6}
 use Rattle.act_words.specs.declared.ending.Ending.{Ending}
 use Rattle.act_words.specs.declared.ending.Ending.TheVariants.{Exit, Check, Stop}
 use Rattle.act_words.specs.declared.settings.Settings.{Settings}
@@ -16,7 +16,7 @@ use Rattle.flat_bytes.specs.Blocks.{Block, first_offset, grown, is_refused}
 use Rattle.trusted_memory.specs.Memories.{Memory, made, address_made}
 use Rattle.act_words.specs.World.{World}
 use Rattle.act_words.specs.Touches.{Asked, Got, Ended, spend_tick, enter_call, next_input, write, make_block}
-use Rattle.code_words.specs.Marshalling.{fits_kind, end_at, lie_in}
+use Rattle.code_words.specs.Marshalling.{end_at, lie_in}
 use Rattle.act_words.specs.Arithmetic as arithmetic
 use Rattle.act_words.specs.Arithmetic.{bit}
 use Rattle.code_words.specs.declared.op.Op.{Op}

@@ -1,13 +1,13 @@
 // What holds of the runs of all images.
 
-ghost use Rattle.std.specs.Prelude.{◌≡◌, ◌++◌, ◌∷◌, ◌<◌, ◌⊎◌, ℕ, IsTrue, List};
+ghost use Rattle.std.specs.Prelude.{◌≡◌, ◌++◌, ◌∷◌, ◌<◌, ◌⊎◌, ℕ, IsTrue, List, Some};
 ghost use Rattle.std.proofs.Common.{ℤ};
 ghost use Rattle.act_words.specs.declared.act.Turn.TheVariants as turns;
 ghost use Rattle.act_words.specs.declared.ending.Ending.{Ending};
 ghost use Rattle.act_words.specs.declared.settings.Settings.{Settings};
 ghost use Rattle.act_words.specs.Acts.{Act};
 ghost use Rattle.act_words.specs.World.{Event};
-ghost use Rattle.act_words.specs.View.{ViewIsFold, IsFront, releases_of, view_of};
+ghost use Rattle.act_words.specs.View.{ViewIsFold, IsFront, releases_of, view_of, due_front, view_fold};
 ghost use Rattle.code_words.specs.declared.image.Image.{Image};
 ghost use Rattle.code_words.specs.Table.{Frame, Touch, State, Runs, Touches, Away, Goes};
 ghost use Rattle.code_words.specs.Moves.{move};
@@ -37,6 +37,14 @@ pub fn views_agree()
         → acts ≡ taken ++ t.world.acts → also ≡ taken ++ u.world.acts
         → releases_of t.world.events ≡ releases_of u.world.events
         → view_of t.world.events ≡ view_of u.world.events }
+{}
+
+/// The same up to the moment at which an act was due and none was left, if there was one: over all the acts, and the releases
+/// up to there.
+pub fn view_is_fold_before()
+    ensures { (image : Image) (settings : Settings) (inputs : List ℤ) (acts : List Act) (ending : Ending) (t : State) (front : List Event)
+        → CodeRun image settings inputs acts ending t → due_front t.world.events ≡ Some front
+        → view_of front ≡ view_fold (started image settings inputs acts).world.sandbox acts (releases_of front) }
 {}
 
 /// What happened after some moves has happened when the run ends, and more may have happened behind it.
