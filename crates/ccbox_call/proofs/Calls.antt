@@ -14,7 +14,7 @@ use Rattle.ckc_core.specs.Core.{Core}
 use Rattle.ckc_core.specs.States.{State}
 use Rattle.sandbox_actor.specs.ActLists.{ActList, RefusedLine}
 use Rattle.run_core.specs.Runs.{Counts}
-use Rattle.command_words.specs.Requests.{Run, Options, settings_of, inputs_of, request_of}
+use Rattle.command_words.specs.Requests.{Request, Run, Options, settings_of, inputs_of, request_of}
 use Rattle.run_transcript.specs.Diagnostics.{usage_text, missing_text}
 use Rattle.exit_status.specs.Given.{TextGiven, all, failed, LineGiven, given, unmade}
 use Rattle.ccbox_call.specs.Acceptance.{Accepts, IsRefused}
@@ -22,7 +22,7 @@ use Rattle.ccbox_call.specs.Answers.{RunsTo, needed_line, text_of, status_with, 
 use Rattle.ccbox_call.specs.Answers as answers
 use Rattle.ccbox_call.specs.Calls.{StatusCounts, Gives, answered, output_failed, files_failed, no_memory, no_memory_behind, CallEnds, usage, asked}
 use Rattle.ccbox_call.proofs.OneAnswer.{one_answer}
-use Rattle.ccbox_call.proofs.Runs.{ends_over, view_over}
+use Rattle.ccbox_call.proofs.Runs.{ends_over, view_over, view_before_over}
 
 -- ---- from what is asked for to its Answer
 
@@ -206,6 +206,7 @@ module _ (words : List (List ℕ)) (told : Option Files) (old new : Option (List
           last = e.1;
           runs = e.2;
           view = view_over files words options list c e.0 e.1 a e.2;
+          view_before = view_before_over files words options list c e.0 e.1 a e.2;
           printed = is_given result (settled result h) (run_answer files words options list c e.0 e.1 a e.2);
         }
 
@@ -289,3 +290,14 @@ module _ (words : List (List ℕ)) (told : Option Files) (old new : Option (List
   pub untouched : (result : ℕ) → CallEnds words told old new before after result → request_of words ≡ None → IsUntouched before.misses after.misses before.faults after.faults
   untouched result (usage e line still quiet) none = record { misses_stay = still; faults_stay = quiet }
   untouched result (asked (Run name options) e gives) none = absurd (cc)
+
+  -- they get the line of usage
+  pub usage_line : (result : ℕ) → CallEnds words told old new before after result → request_of words ≡ None → LineGiven usage_text 2 old new before.sink after.sink result
+  usage_line result (usage e line still quiet) none = line
+  usage_line result (asked (Run name options) e gives) none = absurd (cc)
+
+  -- words of a call whose memory ran out before anything was read
+  pub unmade_ends : (o : Option Request) → request_of words ≡ o → new ≡ old → after ≡ before → CallEnds words told old new before after 9
+  unmade_ends None e same still = usage e (unmade refl same (ap (λ (c : Counts). c.sink) still)) (ap (λ (c : Counts). c.misses) still) (ap (λ (c : Counts). c.faults) still)
+  unmade_ends (Some (Run name options)) e same still =
+      asked (Run name options) e (no_memory same (subst (λ (c : Counts). before.misses ≤ c.misses) (sym still) (omega arith)) (ap (λ (c : Counts). c.faults) still) (ap (λ (c : Counts). c.sink) still))

@@ -6,14 +6,18 @@ use Rattle.std.proofs.lemmas.List.Elements.{All-nil}
 use Rattle.ckc_text.specs.Places.{place_at}
 use Rattle.ckc_io.specs.Files.{Files, file_at}
 use Rattle.act_words.specs.declared.ending.Ending.{Ending}
-use Rattle.act_words.specs.Acts.{IsAct}
-use Rattle.act_words.specs.View.{ViewIsFold}
+use Rattle.act_words.specs.Acts.{IsAct, Seen}
+use Rattle.act_words.specs.World.{World, Event, Output, Released, Showed, NoAct}
+use Rattle.act_words.specs.View.{ViewIsFold, due_front}
 use Rattle.ckc_core.specs.Core.{Core}
 use Rattle.ckc_core.specs.States.{State}
-use Rattle.sandbox_actor.specs.ActLists.{ActList, no_acts, acts_of_file, lines_of}
+use Rattle.sandbox_actor.specs.Answers.{Moment}
+use Rattle.sandbox_actor.specs.ActLists.{ActList, RefusedLine, no_acts, acts_of_file, lines_of}
+use Rattle.run_core.specs.Moments.{due_in, due_from, before_due}
 use Rattle.sandbox_actor.proofs.Acts.{are_acts}
 use Rattle.code_words.specs.Runs.{memory_of}
-use Rattle.code_words.proofs.Worlds.{view}
+use Rattle.code_words.proofs.Worlds.{folded}
+use Rattle.code_words.proofs.Due.{shown_before}
 use Rattle.lowered_code.specs.Images.{image_of}
 use Rattle.lowered_code.specs.Correct.{IsLowerable}
 use Rattle.lowered_code.proofs.Programs.{keeps_meaning}
@@ -23,7 +27,7 @@ use Rattle.typing_rules.proofs.Programs.{never_stuck}
 use Rattle.command_words.specs.Requests.{Run, Options, settings_of, inputs_of, request_of}
 use Rattle.command_words.proofs.Allowed.{settings_allowed, inputs_are_words}
 use Rattle.ccbox_call.specs.Acceptance.{IsAcceptedCore}
-use Rattle.ccbox_call.specs.Answers.{acts_at, RunsTo, AsksFor}
+use Rattle.ccbox_call.specs.Answers.{acts_at, RunsTo, AsksFor, needed_from, needed_line, ViewIsFoldOf}
 use Rattle.ccbox_call.specs.Calls.{MayRun}
 use Rattle.ccbox_call.proofs.Lowering.{small_is_lowerable}
 
@@ -54,6 +58,21 @@ no_blocks size le =
     let whole : 16 + (size - 16) ≡ size = omega arith in
     replicate-append-replicate 16 (size - 16) 0 ∙ ap (λ n. replicate n 0) whole
 
+-- the events before the first moment at which no act was left are the front that is told
+due_front_of : (last : Option Seen) (events : List Event) (moment : Moment) → due_from last events ≡ Some moment → due_front events ≡ Some (before_due events)
+due_front_of last [] moment h = absurd (cc)
+due_front_of last (Output bytes ∷ events) moment h = ap (option_map (λ front. Output bytes ∷ front)) (due_front_of last events moment h)
+due_front_of last (Released release ∷ events) moment h = ap (option_map (λ front. Released release ∷ front)) (due_front_of last events moment h)
+due_front_of last (Showed seen ∷ events) moment h = ap (option_map (λ front. Showed seen ∷ front)) (due_front_of (Some seen) events moment h)
+due_front_of last (NoAct turn ∷ events) moment h = refl
+
+needed_front : (list : ActList) (events : List Event) (refused : RefusedLine) → needed_line list events ≡ Some refused → due_front events ≡ Some (before_due events)
+needed_front list events refused = by (due_in events) refl
+  where
+    by : (o : Option Moment) → due_in events ≡ o → needed_from o list ≡ Some refused → due_front events ≡ Some (before_due events)
+    by None h needed = absurd (cc)
+    by (Some moment) h needed = due_front_of None events moment h
+
 module _ (files : Files) (words : List (List ℕ)) (options : Options) (list : ActList) (c : Core) where
   pub ends_over : AsksFor files words options list c → (ending : Ending) × (s : State) × RunsTo c (settings_of options) (inputs_of options) list ending s
   ends_over a =
@@ -66,5 +85,17 @@ module _ (files : Files) (words : List (List ℕ)) (options : Options) (list : A
       let inputs = inputs_of options in
       let may = may_run words a.asks.name options a.asks.request in
       let r = keeps_meaning c (lowerable c (a.src, a.accepted)) settings inputs list.acts ending s may.settings may.inputs (acts_there files options.acts list a.acts) runs in
-      let shown = view (image_of c) settings inputs list.acts ending r.0 r.1 in
+      let shown = (folded (image_of c) settings inputs list.acts ending r.0 r.1).fold in
       subst (ViewIsFold (replicate settings.sandbox 0) list.acts) (r.2).world (subst (λ start. ViewIsFold start list.acts (r.0).world) (no_blocks settings.sandbox may.settings.least_sandbox) shown)
+
+  -- and so is what it shows up to a refused line that it needs
+  pub view_before_over : (ending : Ending) (s : State) → AsksFor files words options list c → RunsTo c (settings_of options) (inputs_of options) list ending s
+      → (refused : RefusedLine) → needed_line list s.world.events ≡ Some refused → ViewIsFoldOf (replicate (settings_of options).sandbox 0) list.acts (before_due s.world.events)
+  view_before_over ending s a runs refused needed =
+      let settings = settings_of options in
+      let inputs = inputs_of options in
+      let may = may_run words a.asks.name options a.asks.request in
+      let r = keeps_meaning c (lowerable c (a.src, a.accepted)) settings inputs list.acts ending s may.settings may.inputs (acts_there files options.acts list a.acts) runs in
+      let front = needed_front list s.world.events refused needed in
+      subst (λ (start : List ℕ). ViewIsFoldOf start list.acts (before_due s.world.events)) (no_blocks settings.sandbox may.settings.least_sandbox)
+      (shown_before (image_of c) settings inputs list.acts ending r.0 r.1 (before_due s.world.events) (ap (λ (w : World). due_front w.events) (r.2).world ∙ front))

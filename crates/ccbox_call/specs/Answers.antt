@@ -14,7 +14,8 @@ use Rattle.act_words.specs.declared.settings.Settings.{Settings}
 use Rattle.act_words.specs.Outcome.{Ends}
 use Rattle.act_words.specs.World.{Event}
 use Rattle.act_words.specs.Shown.{Shown}
-use Rattle.act_words.specs.View.{ViewIsFold}
+use Rattle.act_words.specs.Acts.{Act}
+use Rattle.act_words.specs.View.{ViewIsFold, view_fold, view_of, releases_of}
 use Rattle.ckc_core.specs.Core.{Core}
 use Rattle.ckc_core.specs.States.{State}
 use Rattle.ckc_core.specs.Meaning.{meaning}
@@ -168,13 +169,19 @@ pub record Tells (status n old new : ℕ) (Among : Type 0) : Type 0 where
   pub cause : status ≡ n → Rose old new
   pub told : old < new → Among
 
+-- what the sandbox is shown by these events is the fold of its starting memory, these acts and the releases
+abbrev pub ViewIsFoldOf : List ℕ → List Act → List Event → Type 0
+ViewIsFoldOf start acts events = view_of events ≡ view_fold start acts (releases_of events)
+
 -- the run of an accepted source is never stuck; what the sandbox is shown is the fold of its starting memory, the acts that
--- were taken and the releases; and the text of the run is printed, unless something fails
+-- were taken and the releases, and so is what it is shown up to a refused line that the run needs; and the text of the run is
+-- printed, unless something fails
 pub record PrintsRun (options : Options) (list : ActList) (c : Core) (old new : Option (List ℕ)) (status : ℕ) : Type 0 where
   pub ending : Ending
   pub last : State
   pub runs : RunsTo c (settings_of options) (inputs_of options) list ending last
   pub view : ViewIsFold (replicate (settings_of options).sandbox 0) list.acts last.world
+  pub view_before : (refused : RefusedLine) → needed_line list last.world.events ≡ Some refused → ViewIsFoldOf (replicate (settings_of options).sandbox 0) list.acts (before_due last.world.events)
   pub printed : ((status ≡ status_with (needed_line list last.world.events) ending) × (new ≡ grown old (text_of (settings_of options) list ending last))) ⊎ IsFailure status
 
 abbrev pub PrintedRun : Files → List (List ℕ) → Option (List ℕ) → Option (List ℕ) → ℕ → Type 0

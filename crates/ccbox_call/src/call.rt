@@ -4,6 +4,8 @@ ghost use Rattle.std.specs.Prelude.{◌≡◌, ◌⊎◌, ℕ, List, map, None};
 ghost use Rattle.ckc_io.specs.Files.{Told};
 ghost use Rattle.command_words.specs.Requests.{request_of};
 ghost use Rattle.ccbox_call.specs.Answers.{GivesFront, GivesWhole, IsFailure, IsStatus, Exactly, Tells, SourceIsRefused, FileIsMissing, RunExits, CheckFails, RunStops, LineIsRefused, PrintedRun, IsComplete, IsQuiet, IsUntouched};
+ghost use Rattle.exit_status.specs.Given.{LineGiven};
+ghost use Rattle.run_transcript.specs.Diagnostics.{usage_text};
 ghost use Rattle.ccbox_call.specs.Calls.{CallEnds};
 
 use crate::run::run_file;
@@ -49,6 +51,8 @@ pub fn ccbox<F: Shelf, K: Sink>(
     ensures exits { Told (F.files shelf.old) (λ files. Exactly 0 result.number (RunExits files (map (λ word. word.now) words.now))) }
     ensures refused { Told (F.files shelf.old) (λ files. Exactly 1 result.number (SourceIsRefused files (map (λ word. word.now) words.now))) }
     ensures usage { Exactly 2 result.number (request_of (map (λ word. word.now) words.now) ≡ None) }
+    ensures usage_line { request_of (map (λ word. word.now) words.now) ≡ None
+        → LineGiven usage_text 2 (K.written sink.old) (K.written sink.new) (K.faults sink.old) (K.faults sink.new) result.number }
     ensures missing { Told (F.files shelf.old) (λ files. Exactly 3 result.number (FileIsMissing files (map (λ word. word.now) words.now))) }
     ensures checks { Told (F.files shelf.old) (λ files. Exactly 6 result.number (CheckFails files (map (λ word. word.now) words.now))) }
     ensures stops { Told (F.files shelf.old) (λ files. Exactly 7 result.number (RunStops files (map (λ word. word.now) words.now))) }

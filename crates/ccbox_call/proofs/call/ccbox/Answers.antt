@@ -1,4 +1,4 @@
-use Rattle.ccbox_call.proofs.Calls.{front, whole, printed_run, complete, exits, refuses, misses, checks, stops, acts_refused, untouched}
+use Rattle.ccbox_call.proofs.Calls.{front, whole, printed_run, complete, exits, refuses, misses, checks, stops, acts_refused, untouched, usage_line}
 use Rattle.ccbox_call.proofs.call.ccbox.Goals as goal
 
 pub returns-clause-front : goal.returns-clause-front
@@ -33,3 +33,6 @@ returns-clause-acts_refused g c = λ files told. acts_refused _ _ _ _ _ _ files 
 
 pub returns-clause-untouched : goal.returns-clause-untouched
 returns-clause-untouched g c = untouched _ _ _ _ _ _ _ c.status_of_call.ensures
+
+pub returns-clause-usage_line : goal.returns-clause-usage_line
+returns-clause-usage_line g c = usage_line _ _ _ _ _ _ _ c.status_of_call.ensures
