@@ -10,8 +10,8 @@ use Rattle.ckc_tokens.specs.declared.token.Token.{Token}
 use Rattle.ckc_lexer.proofs.Cuts.{same_answer}
 use Rattle.ckc_tree.specs.Items.{Tree}
 use Rattle.ckc_grammar.specs.Parsing.{IsTree, IsFault, ParseAnswers}
-use Rattle.ckc_grammar.proofs.OneItem.{one_tree}
-use Rattle.ckc_grammar.proofs.OneFault.{one_fault, fault_or_tree}
+use Rattle.ckc_grammar.proofs.OneItem.{at_most_one_tree}
+use Rattle.ckc_grammar.proofs.OneFault.{at_most_one_fault, never_both}
 use Rattle.built_forms.specs.Built.{is_built}
 use Rattle.ckc_names.specs.Naming.{NamedTree, naming_fault, Names}
 use Rattle.typing_rules.specs.Verdicts.{Verdict, Passes, Breaks}
@@ -34,13 +34,13 @@ module _ {src : List ℕ} where
 
   module _ {tokens others : List Token} (read : AreTokens src tokens) (again : AreTokens src others) where
     tree_or_fault : {t : Tree} {fault : SourceFault} → IsTree (length src) tokens t → IsFault (length src) others fault → ⊥
-    tree_or_fault {t} {fault} a b = fault_or_tree (length src) tokens fault t (subst (λ ts. IsFault (length src) ts fault) (same_tokens again read) b) a
+    tree_or_fault {t} {fault} a b = never_both (length src) tokens fault t (subst (λ ts. IsFault (length src) ts fault) (same_tokens again read) b) a
 
     same_tree_faults : {fault other : SourceFault} → IsFault (length src) tokens fault → IsFault (length src) others other → fault ≡ other
-    same_tree_faults {fault} {other} a b = one_fault (length src) tokens fault other a (subst (λ ts. IsFault (length src) ts other) (same_tokens again read) b)
+    same_tree_faults {fault} {other} a b = at_most_one_fault (length src) tokens fault other a (subst (λ ts. IsFault (length src) ts other) (same_tokens again read) b)
 
   same_trees : {t u : Tree} → HasTree src t → HasTree src u → t ≡ u
-  same_trees {t} {u} a b = one_tree (length src) a.tokens t u (a.is_tree).spelled (subst (λ ts. IsTree (length src) ts u) (same_tokens b.are_tokens a.are_tokens) b.is_tree).spelled
+  same_trees {t} {u} a b = at_most_one_tree (length src) a.tokens t u (a.is_tree).spelled (subst (λ ts. IsTree (length src) ts u) (same_tokens b.are_tokens a.are_tokens) b.is_tree).spelled
 
 -- ---- of a tree, what the rest of the front end says is computed
 

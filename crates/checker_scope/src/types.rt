@@ -154,7 +154,7 @@ fn kind_of(kind: PointerKind) -> Kind
 }
 
 /// A type where no stars stand behind it: stars make a raw pointer.
-pub fn without_stars(base: &TypeForm, stars: u32, t: CType) -> Result<CType, Refused>
+pub fn without_stars(base: &TypeForm, stars: usize, t: CType) -> Result<CType, Refused>
     ensures { Answers ctype (starless (type_tree base.now) stars (ctype t)) result }
 {
     needs(stars == 0, Code::E15, base.span())?;
@@ -190,7 +190,7 @@ pub fn starred_type(
     alloc: Global,
     scope: &Scope,
     base: &TypeForm,
-    stars: u32,
+    stars: usize,
 ) -> Result<CType, Refused>
     ensures { Answers ctype (starred_from (scope_of scope.now) (type_tree base.now) stars) result }
 {

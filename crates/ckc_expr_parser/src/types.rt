@@ -1,6 +1,6 @@
 // Reading types.
 
-ghost use Rattle.std.specs.Prelude.{◌≡◌, ◌≤◌, ◌<◌, ◌∷◌, ℕ, length, IfOk};
+ghost use Rattle.std.specs.Prelude.{◌≡◌, ◌≤◌, ◌<◌, ◌∷◌, ℕ, length};
 ghost use Rattle.ckc_tree.specs.Heights.{node, type_reach};
 ghost use Rattle.ckc_tree.specs.Types.{type_tree, type_span, type_name as type_name_of};
 ghost use Rattle.ckc_grammar.specs.TypeGrammar.{SpellsStars};
@@ -17,7 +17,6 @@ use crate::operand::Reach;
 use ckc_cursor::memory::boxed;
 use ckc_cursor::stuck::Stuck;
 use ckc_cursor::tokens::{greater, identifier, less, open_paren, star};
-use ckc_text::fault::NoMemory;
 use ckc_text::place::Span;
 use ckc_tokens::token::{Token, TokenKind};
 use ckc_tree::type_form::{PointerKind, PointerMode, PointerWord, TypeForm, TypeName};
@@ -91,13 +90,6 @@ pub fn stars(tokens: &mut &[Token]) -> usize
     count
 }
 
-/// The number of stars as a tree holds it. A source has far fewer; for more there is no room.
-pub fn star_count(count: usize) -> Result<u32, NoMemory>
-    ensures { IfOk result (λ stars. stars ≡ count) }
-{
-    u32::try_from(count).or(Err(NoMemory))
-}
-
 /// The first token of a type with at most `depth` nodes around it.
 fn type_word<'t>(depth: u32, tokens: &mut &'t [Token]) -> Result<&'t Token, Stuck>
     ensures { Opens type_word (StuckType depth tokens.old.now) depth tokens.old.now result tokens.new.now }
@@ -168,7 +160,7 @@ fn pointer_type(
 {
     less(tokens)?;
     let element = type_form(alloc, depth + 1, tokens)?;
-    let stars = star_count(stars(tokens))?;
+    let stars = stars(tokens);
     let end = greater(tokens)?;
     let reach = element.reach.around(start.from);
     let element = boxed(alloc, element.form)?;
@@ -189,7 +181,7 @@ pub fn type_name(alloc: Global, depth: u32, tokens: &mut &[Token]) -> Result<Rea
     ensures shorter { TakesTokens tokens.old.now result tokens.new.now }
 {
     let base = type_form(alloc, depth, tokens)?;
-    let stars = star_count(stars(tokens))?;
+    let stars = stars(tokens);
     let span = base.span;
     let reach = base.reach;
     let base = base.form;

@@ -1,5 +1,5 @@
 -- Bounds as a form that is built of others, by their first word.
-use Rattle.std.proofs.Common.{◌≡◌, ◌<◌, ℕ, zero, suc, length, List, ◌∷◌, codes, refl, sym, ap, subst, ◌∙◌}
+use Rattle.std.proofs.Common.{◌≡◌, ◌<◌, ℕ, zero, suc, length, List, ◌∷◌, codes, refl, sym, ap, subst, ◌∙◌, arith}
 use Rattle.ckc_text.specs.declared.place.Span.{Span}
 use Rattle.ckc_tokens.specs.declared.token.Token.{Token}
 use Rattle.ckc_tokens.specs.declared.token.TokenKind.{TokenKind}
@@ -13,7 +13,7 @@ use Rattle.ckc_grammar.specs.ExpressionBeginnings as b
 use Rattle.ckc_grammar.specs.ExpressionBeginnings.{BeginsBinary, BeginsBounds}
 use Rattle.ckc_grammar.proofs.OneExpression.{first_kind}
 use Rattle.ckc_grammar.proofs.ExpressionPaths.{no_binary}
-use Rattle.ckc_grammar.proofs.Forms.{◌ends◌, all, later, end_trans, Is, it, Read, ExactBelow, tokens_same, within, SeqS, SeqB, seq, in_first, in_second, seq_exact, EndedS, EndedB, before_end, end, ended_exact, AfterS, AfterB, not_yet, after, after_exact, HeadS, HeadB, none_yet, headed, head_exact, OneHead, same_exact}
+use Rattle.ckc_grammar.proofs.Forms.{◌ends◌, all, later, end_length, end_trans, Is, it, Read, ExactBelow, tokens_same, within, SeqS, SeqB, seq, in_first, in_second, seq_exact, EndedS, EndedB, before_end, end, ended_exact, AfterS, AfterB, not_yet, after, after_exact, HeadS, HeadB, none_yet, headed, head_exact, OneHead, same_exact}
 use Rattle.ckc_grammar.proofs.Failing.{beside_nowhere}
 use Rattle.ckc_grammar.proofs.ExpressionLinks.{BinaryS, binary}
 use Rattle.ckc_grammar.proofs.PrimaryForms.{BoundsS, written}
@@ -55,7 +55,7 @@ end_tail all = all
 end_tail (later e) = end_trans (later all) e
 
 pub range_below : {n : ℕ} → ExactBelow n nowhere (BinaryS 10) (BeginsBinary 10) → ExactBelow n nowhere RangeS RangeB
-range_below {n} e = record { one = one; spelled = spelled; longest = longest; nothing = nothing; ended = ended }
+range_below {n} e = record { one = one; spelled = spelled; longest = longest; whole = whole; nothing = nothing; ended = ended }
   where
     p : ExactBelow n nowhere PairS PairB
     p = pair_below e
@@ -78,8 +78,8 @@ range_below {n} e = record { one = one; spelled = spelled; longest = longest; no
     spelled less (unknown y) = unknown y
     spelled less (range a) = range (p.spelled less a)
 
-    before_paren : {y : List ℕ} {q t : Span} {m rest : List Token} {r : Reach} → length (token (kinds.Name y) q ∷ token kinds.CloseParen t ∷ m) < n → PairB (token (kinds.Name y) q ∷ token kinds.CloseParen t ∷ m) rest r → m ends rest
-    before_paren less (before_end (in_first (before_end c))) = end_trans (later all) (e.longest less (binary (name_spells 10)) c)
+    before_paren : {y : List ℕ} {q t : Span} {m rest : List Token} {r : Reach} → length (token (kinds.Name y) q ∷ token kinds.CloseParen t ∷ m) < n → PairB (token (kinds.Name y) q ∷ token kinds.CloseParen t ∷ m) rest r → (token kinds.CloseParen t ∷ m) ends rest
+    before_paren less (before_end (in_first (before_end c))) = e.longest less (binary (name_spells 10)) c
     before_paren less (before_end (in_first (end (binary d) it))) = not_comma less d
     before_paren less (before_end (in_second (end (binary d) it) c)) = not_comma less d
     before_paren less (end (seq (end (binary d) it) x) i) = not_comma less d
@@ -90,10 +90,24 @@ range_below {n} e = record { one = one; spelled = spelled; longest = longest; no
     longest : {ts m rest : List Token} {r q : Reach} → length ts < n → RangeS ts m r → RangeB ts rest q → m ends rest
     longest less (unknown y) (word y') = later all
     longest less (unknown y) (unknown y') = all
-    longest less (unknown y) (range c) = before_paren less c
+    longest less (unknown y) (range c) = end_trans (later all) (before_paren less c)
     longest less (range a) (word y) = behind_first less a
     longest less (range a) (unknown y) = not_pair less a
     longest less (range a) (range c) = p.longest less a c
+
+    -- a comma and a parenthesis stand behind the first token
+    more_than_first : {t : Token} {rest m : List Token} {r : Reach} → length (t ∷ rest) < n → PairS (t ∷ rest) m r → length m < length rest
+    more_than_first less (end (seq (end a i) x) j) =
+        let first = end_length (e.ended less (e.spelled less a)) in
+        omega (arith, first, end_length (e.ended (omega (arith, less, first)) (e.spelled (omega (arith, less, first)) x)))
+
+    whole : {ts m rest : List Token} {r q : Reach} → length ts < n → RangeS ts m r → RangeB ts rest q → rest ≡ m → q ≡ r
+    whole less (unknown y) (word y') is = refl
+    whole less (unknown y) (unknown y') is = refl
+    whole less (unknown y) (range c) is = absurd (omega (arith, end_length (before_paren less c), ap length is))
+    whole less (range a) (word y) is = absurd (omega (arith, more_than_first less a, ap length is))
+    whole less (range a) (unknown y) is = not_pair less a
+    whole less (range a) (range c) is = p.whole less a c is
 
     nothing : {ts rest : List Token} {q : Reach} → length ts < n → RangeB ts rest q → rest ≡ ts → q ≡ nowhere
     nothing less (word y) is = refl

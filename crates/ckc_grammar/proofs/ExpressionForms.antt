@@ -68,7 +68,7 @@ some_node (trees.Binary w e i s) = around_some s.from (expression_reach e beside
 -- expressions are values where their spellings are one and exact
 value_below : {n : ℕ} {S : Value → List Token → List Token → Type 0} {X B : List Token → List Token → Reach → Type 0} → ExactBelow n nowhere X B
     → ((v : Value) (ts m : List Token) → S v ts m → X ts m (reach v)) → ((v w : Value) (ts m m' : List Token) → S v ts m → S w ts m' → ◌≡◌ {A = Value × List Token} (v, m) (w, m')) → ExactValueBelow n nowhere reach S B
-value_below {n} {S} {X} {B} e to only = record { one = λ less a a'. only _ _ _ _ _ a a'; spelled = λ less a. e.spelled less (to _ _ _ a); longest = λ less a c. e.longest less (to _ _ _ a) c; nothing = λ less c. e.nothing less c; ended = λ less c. e.ended less c; shrinks = shrinks }
+value_below {n} {S} {X} {B} e to only = record { one = λ less a a'. only _ _ _ _ _ a a'; spelled = λ less a. e.spelled less (to _ _ _ a); longest = λ less a c. e.longest less (to _ _ _ a) c; whole = λ less a c same. e.whole less (to _ _ _ a) c same; nothing = λ less c. e.nothing less c; ended = λ less c. e.ended less c; shrinks = shrinks }
   where
     by_end : (v : Value) {ts m : List Token} → m ends ts → (m ≡ ts → reach v ≡ nowhere) → length m < length ts
     by_end v all none = absurd (omega (arith, some_node v.0, ap (λ (x : Reach). x.height) (none refl)))

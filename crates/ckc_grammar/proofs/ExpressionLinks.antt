@@ -1,14 +1,15 @@
 -- What goes on with an expression so far: an index or a member, and an operator with its right operand.
-use Rattle.std.proofs.Common.{◌≡◌, ◌<◌, ℕ, suc, length, List, ◌∷◌, Some, refl, ap, subst, arith}
+use Rattle.std.proofs.Common.{◌≡◌, ◌<◌, ℕ, suc, length, nat_eq, Bool, true, false, List, [], ◌∷◌, Option, Some, None, refl, ap, subst, arith}
 use Rattle.ckc_text.specs.declared.place.Span.{Span}
 use Rattle.ckc_tokens.specs.declared.token.Token.{Token}
+use Rattle.ckc_tokens.specs.declared.token.TokenKind.{TokenKind}
 use Rattle.ckc_tokens.specs.declared.token.TokenKind.TheVariants as kinds
 use Rattle.ckc_tree.specs.declared.expr.BinaryOperator.{BinaryOperator}
-use Rattle.ckc_tree.specs.declared.expr.BinaryOperator.TheVariants.{ShiftRight}
+use Rattle.ckc_tree.specs.declared.expr.BinaryOperator.TheVariants.{Greater, ShiftRight}
 use Rattle.ckc_tree.specs.Expressions as trees
 use Rattle.ckc_tree.specs.Expressions.{Expression}
 use Rattle.ckc_tree.specs.Heights.{Reach, nowhere, around, ◌beside◌, expression_reach}
-use Rattle.ckc_grammar.specs.Tokens.{token, join, identifier, operator_at, level}
+use Rattle.ckc_grammar.specs.Tokens.{token, join, identifier, operator_at, right_shift, greater_or_shift, level}
 use Rattle.ckc_grammar.specs.ExpressionGrammar.{SpellsBinary}
 use Rattle.ckc_grammar.specs.ExpressionBeginnings.{BeginsBinary}
 use Rattle.ckc_grammar.proofs.OneExpression.{found_same, binary_same, move_binary, behind, typed, after}
@@ -43,7 +44,7 @@ pub data Selecting (v : Value) : List Token → List Token → Reach → Type 0 
   pointed : {x : List ℕ} {s t : Span} {rest : List Token} → Selecting v (token kinds.Arrow s ∷ token (kinds.Name x) t ∷ rest) rest (around v.1.from (reach v))
 
 pub selected_below : {n : ℕ} {v : Value} → ExactBelow n nowhere (BinaryS 10) (BeginsBinary 10) → ExactValueBelow (suc n) (reach v) reach (Selected v) (Selecting v)
-selected_below {n} {v} e = record { one = one; spelled = spelled; longest = longest; nothing = nothing; ended = ended; shrinks = shrinks }
+selected_below {n} {v} e = record { one = one; spelled = spelled; longest = longest; whole = whole; nothing = nothing; ended = ended; shrinks = shrinks }
   where
     inner : {ts mid : List Token} {i : Expression} {p : Span} → length ts < n → SpellsBinary 10 ts i p mid → mid ends ts
     inner less d = e.ended less (e.spelled less (binary d))
@@ -75,6 +76,17 @@ selected_below {n} {v} e = record { one = one; spelled = spelled; longest = long
     longest less dot dotted = all
     longest less arrow arrow = later all
     longest less arrow pointed = all
+
+    whole : {a : Value} {ts m rest : List Token} {q : Reach} → length ts < suc n → Selected v a ts m → Selecting v ts rest q → rest ≡ m → q ≡ reach a
+    whole less (index d) unselected is = absurd (omega (arith, end_length (inner (omega (arith, less)) d), ap length is))
+    whole less (index d) (index c) is = absurd (omega (arith, end_length (e.longest (omega (arith, less)) (binary d) c), ap length is))
+    whole less (index d) (indexed d') is = ap (λ (x : Expression × Span × List Token). around v.1.from (reach v beside expression_reach x.0)) (binary_same d' d)
+    whole less dot unselected is = absurd (omega (arith, ap length is))
+    whole less dot dot is = refl
+    whole less dot dotted is = refl
+    whole less arrow unselected is = absurd (omega (arith, ap length is))
+    whole less arrow arrow is = refl
+    whole less arrow pointed is = refl
 
     nothing : {ts rest : List Token} {q : Reach} → length ts < suc n → Selecting v ts rest q → rest ≡ ts → q ≡ reach v
     nothing less unselected is = refl
@@ -108,12 +120,39 @@ pub operator_shrinks : {w : BinaryOperator} {ts us : List Token} → Marks ts w 
 operator_shrinks mark = omega arith
 operator_shrinks shift = omega arith
 
+-- what stands behind an operator that is found
+abbrev rest_found : Option (BinaryOperator × List Token) → List Token
+rest_found None = []
+rest_found (Some found) = found.1
+
 pub behind_half : {w : BinaryOperator} {t : Token} {rest us : List Token} → Marks (t ∷ rest) w us → us ends rest
 behind_half mark = all
 behind_half shift = later all
 
+abbrev operator_found : Option (BinaryOperator × List Token) → BinaryOperator
+operator_found None = ShiftRight
+operator_found (Some found) = found.0
+
+no_shift : {ts us : List Token} {A : Type 0} → ◌≡◌ {A = Option (BinaryOperator × List Token)} (Some (Greater, ts)) (Some (ShiftRight, us)) → A
+no_shift found = let same : Greater ≡ ShiftRight = ap operator_found found in absurd cc
+
+-- both marks of a right shift are read
+touch_shrinks : (b : Bool) (t : Token) (ts us : List Token) → right_shift b (t ∷ ts) ts ≡ Some (ShiftRight, us) → length us < length (t ∷ ts)
+touch_shrinks true t ts us found =
+    let same : ts ≡ us = ap rest_found found in
+    omega (arith, ap length same)
+touch_shrinks false t ts us found = no_shift found
+
+next_shrinks : (k : TokenKind) (to from : ℕ) (t : Token) (ts us : List Token) → greater_or_shift to (t ∷ ts) ts k from ≡ Some (ShiftRight, us) → length us < length (t ∷ ts)
+next_shrinks kinds.Greater to from t ts us found = touch_shrinks (nat_eq to from) t ts us found
+next_shrinks _ to from t ts us found = no_shift found
+
+half_shrinks : (s : Span) (rest us : List Token) → operator_at (token kinds.Greater s ∷ rest) ≡ Some (ShiftRight, us) → length us < length rest
+half_shrinks s [] us found = no_shift found
+half_shrinks s (t ∷ ts) us found = next_shrinks t.kind s.to t.span.from t ts us found
+
 pub operated_below : {m n : ℕ} {v : Value} → ExactBelow m nowhere (BinaryS n) (BeginsBinary n) → ExactValueBelow (suc m) (reach v) reach (Operated n v) (Operating n v)
-operated_below {m} {n} {v} e = record { one = one; spelled = spelled; longest = longest; nothing = nothing; ended = ended; shrinks = shrinks }
+operated_below {m} {n} {v} e = record { one = one; spelled = spelled; longest = longest; whole = whole; nothing = nothing; ended = ended; shrinks = shrinks }
   where
     short : {w : BinaryOperator} (ts : List Token) {us : List Token} → length ts < suc m → operator_at ts ≡ Some (w, us) → length us < m
     short ts less found = omega (arith, less, operator_shrinks (marks_at ts found))
@@ -145,6 +184,14 @@ operated_below {m} {n} {v} e = record { one = one; spelled = spelled; longest = 
     longest less a alone = ended less (spelled less a)
     longest {rest} less (operated f l d) (half {s} f' l') = longest_half (token kinds.Greater s) rest (short (token kinds.Greater s ∷ rest) less f) f d
     longest {ts} less (operated f l d) (right f' l' c) = e.longest (short ts less f) (binary d) (move (BeginsBinary n) (after (found_same ts f f')) c)
+
+    whole : {a : Value} {ts k rest : List Token} {q : Reach} → length ts < suc m → Operated n v a ts k → Operating n v ts rest q → rest ≡ k → q ≡ reach a
+    whole {ts} less (operated f l d) alone is = absurd (omega (arith, end_length (inner (short ts less f) d), operator_shrinks (marks_at ts f), ap length is))
+    whole {rest} less (operated f l d) (half {s} f' l') is =
+        let same = after (found_same (token kinds.Greater s ∷ rest) f f') in
+        absurd (omega (arith, end_length (inner (short (token kinds.Greater s ∷ rest) less f) d), half_shrinks s rest _ f', ap length same, ap length is))
+    whole {ts} less (operated f l d) (right f' l' c) is =
+        ap (λ (x : Reach). around v.1.from (reach v beside x)) (e.whole (short ts less f) (binary d) (move (BeginsBinary n) (after (found_same ts f f')) c) is)
 
     nothing : {ts rest : List Token} {q : Reach} → length ts < suc m → Operating n v ts rest q → rest ≡ ts → q ≡ reach v
     nothing less alone is = refl

@@ -1,6 +1,6 @@
 -- Where reading a form fails, for forms that are built of others.
 use Rattle.std.proofs.Common.{◌≡◌, ◌≤◌, ◌<◌, ◌+◌, ℕ, zero, suc, length, Bool, true, false, List, ◌∷◌, refl, sym, ap, subst, ◌∙◌, arith}
-use Rattle.std.proofs.lemmas.Bool.{lt-ltb, le-ltb}
+use Rattle.std.proofs.lemmas.Bool.{lt-ltb}
 use Rattle.ckc_text.specs.declared.place.Span.{Span}
 use Rattle.ckc_tokens.specs.declared.token.Token.{Token}
 use Rattle.ckc_tokens.specs.declared.token.TokenKind.{TokenKind}
@@ -12,6 +12,7 @@ use Rattle.ckc_grammar.specs.Failures.{Failure, IsLow}
 use Rattle.ckc_grammar.proofs.Paths.{around_height, beside_height}
 use Rattle.ckc_grammar.proofs.Forms.{◌ends◌, all, later, end_length, end_trans, end_same, Read, Exact, ExactValue, tokens_same, reach_same, move, never, SeqS, SeqB, seq, in_first, in_second, EndedS, EndedB, before_end, AfterS, AfterB, not_yet, NodeS, node, EitherS, yes, no, ChainS, ChainB, chain, in_link, behind_link, HeadS, HeadB, none_yet, OneHead, move_head}
 use Rattle.ckc_grammar.proofs.Forms as forms
+pub use Rattle.ckc_grammar.proofs.Forms.{beside_nowhere}
 
 -- with d nodes around it, these tokens begin the form low up to the failure, nothing begins further or all that does is too deep
 pub data Fails (d : ℕ) (S B : List Token → List Token → Reach → Type 0) (ts : List Token) : Failure → Type 0 where
@@ -20,9 +21,6 @@ pub data Fails (d : ℕ) (S B : List Token → List Token → Reach → Type 0) 
   no_memory : Fails d S B ts failures.no_memory
 
 -- ---- reaches side by side
-
-pub beside_nowhere : (p : Reach) → p beside nowhere ≡ p
-beside_nowhere p = rw (le-ltb p.height 0 (omega arith)) refl
 
 pub beside_higher : (p q : Reach) → p.height < q.height → p beside q ≡ q
 beside_higher p q less = rw (lt-ltb p.height q.height less) refl

@@ -10,7 +10,7 @@ use Rattle.ckc_tree.specs.declared.item.FunctionKind.{FunctionKind}
 use Rattle.ckc_tree.specs.declared.type_form.PointerWord.{PointerWord}
 use Rattle.ckc_tree.specs.Types.{TypeTree}
 use Rattle.ckc_tree.specs.Statements.{Declarator}
-use Rattle.ckc_tree.specs.Items.{ResultForm, Item}
+use Rattle.ckc_tree.specs.Items.{ResultForm, Body, Item}
 use Rattle.ckc_tree.specs.Heights.{Reach, nowhere, type_reach, result_reach, item_reach}
 use Rattle.ckc_grammar.specs.Tokens as words
 use Rattle.ckc_grammar.specs.Tokens.{token, next_is, open_paren, star, IsPointerWord}
@@ -32,7 +32,7 @@ use Rattle.ckc_grammar.specs.StuckItems.{void_word, scope_word, struct_word, is_
 use Rattle.ckc_grammar.proofs.Roles.{type_role}
 use Rattle.ckc_grammar.proofs.OneItem.{item_same, plain, names, names_at, declarators_name, not_call}
 use Rattle.ckc_grammar.proofs.Whole.{item_begins}
-use Rattle.ckc_grammar.proofs.Forms.{◌ends◌, all, later, end_length, end_trans, Is, it, name, Read, Exact, never, SeqS, SeqB, seq, in_first, in_second, end, AfterB, not_yet, after}
+use Rattle.ckc_grammar.proofs.Forms.{◌ends◌, all, later, end_length, end_trans, Is, it, name, Read, Exact, never, SeqS, SeqB, seq, in_first, in_second, EndedS, end, AfterB, not_yet, after}
 use Rattle.ckc_grammar.proofs.Failing as failing
 use Rattle.ckc_grammar.proofs.Failing.{Fails, fails_first, fails_second, fails_before_end, fails_at_end, fails_as}
 use Rattle.ckc_grammar.proofs.TypeForms.{stars, stars_exact, TypeS, type, type_exact, type_fails}
@@ -40,10 +40,11 @@ use Rattle.ckc_grammar.proofs.MoreForms.{is_it, by_next, lead, in_lead, behind_l
 use Rattle.ckc_grammar.proofs.Starting.{type_at, type_starts}
 use Rattle.ckc_grammar.proofs.DeclarationForms.{named_exact, name_is, declarators, declarators_exact, declarators_fails, bounded, optional_bounds_exact, optional_bounds_fails}
 use Rattle.ckc_grammar.proofs.HeadForms.{semicolon_is}
-use Rattle.ckc_grammar.proofs.MemberForms.{zero_low, members, members_exact, members_fails, taken, parameters_exact, parameters_fails, body_exact, body_fails}
+use Rattle.ckc_grammar.proofs.MemberForms.{zero_low, members, members_exact, members_fails, taken, parameters_exact, parameters_fails, body, body_exact, body_fails}
+use Rattle.ckc_grammar.proofs.StatementForms.{listed, statements_exact}
 use Rattle.ckc_grammar.proofs.Pasts.{lead_past, lead_whole, longest_past, fails_opening}
 use Rattle.ckc_grammar.proofs.ItemForms as forms
-use Rattle.ckc_grammar.proofs.ItemForms.{tainted, tainted_exact, kinded, kind_exact, marked, unmarked, word, mark_exact, returned, result_exact, void, value, opened_exact, inside_exact, ending_exact, called_exact, variables_exact, closed_exact, InsideS, InsideB, CalledS, CalledB, GivingS, GivingB, VariablesS, VariablesB, TypedS, TypedB, ClosedS, ClosedB, TaggedS, TaggedB, GlobalB, StructureB, ItemS, item, FunctionS, FunctionB, GlobalS, StructureS, SortedS, SortedB, region, item_to, item_into, item_from, sorted_ended, sorted_nothing}
+use Rattle.ckc_grammar.proofs.ItemForms.{tainted, tainted_exact, kinded, kind_exact, marked, unmarked, word, mark_exact, returned, result_exact, void, value, opened_exact, inside_exact, ending_exact, called_exact, typed_exact, variables_exact, closed_exact, InsideS, InsideB, CalledS, CalledB, GivingS, GivingB, VariablesS, VariablesB, TypedS, TypedB, ClosedS, ClosedB, TaggedS, TaggedB, GlobalB, StructureB, ItemS, item, FunctionS, FunctionB, GlobalS, StructureS, SortedS, SortedB, region, item_to, item_into, item_from, sorted_ended, sorted_nothing}
 use Rattle.ckc_grammar.proofs.ItemPasts.{type_less, tainted_less, mark_less, result_less, typed_none, tainted_long, typed_role, structure_into, structure_all, structure_back, variables_into, variables_all, variables_back, alone_into, alone_all, alone_back, call_into, call_all, call_back}
 
 -- ---- which item it is
@@ -128,8 +129,43 @@ sorted_longest (forms.function (lead (kinded k) (lead (marked m) (seq (returned 
     let led = mark_exact.ended (mark_exact.spelled (marked m)) in
     longest_past _ (side_all inside_exact) (end_trans named (end_trans given (end_trans led (kind_exact.ended (kinded k))))) (side a) (call_into k m d e c) (sorted_ended c)
 
+-- of a directive there is one beginning that reads it
+scope_whole : {x : CheckedScope} {s : Span} {m rest : List Token} {q : Reach} → SortedB (token (kinds.Scope x) s ∷ m) rest q → q ≡ nowhere
+scope_whole region = refl
+scope_whole (forms.structure (in_lead (tainted t))) = refl
+scope_whole (forms.structure (behind_lead (tainted (g.absent f)) not_yet)) = refl
+scope_whole (forms.structure (behind_lead (tainted (g.absent f)) (after w c))) = elim w [ ]
+scope_whole (forms.global (in_lead (tainted t))) = refl
+scope_whole (forms.global (behind_lead (tainted (g.absent f)) c)) = typed_exact.nothing c (typed_none c refl)
+scope_whole (forms.function (in_lead (kinded k))) = refl
+scope_whole (forms.function (behind_lead (kinded (g.trusted f)) (in_lead unmarked))) = refl
+scope_whole (forms.function (behind_lead (kinded (g.trusted f)) (in_lead (word w)))) = refl
+scope_whole (forms.function (behind_lead (kinded (g.trusted f)) (behind_lead (marked (g.present w)) c))) = elim w [ ]
+scope_whole (forms.function (behind_lead (kinded (g.trusted f)) (behind_lead (marked (g.absent h)) (in_first (value c))))) = type_exact.nothing c (type_starts.none c refl)
+scope_whole (forms.function (behind_lead (kinded (g.trusted f)) (behind_lead (marked (g.absent h)) (in_second (returned (g.value d)) c)))) = never (type_at d) refl
+
+-- what ends an item is a token at least
+ended_less : {K : TokenKind → Type 0} {base : Reach} {S B : List Token → List Token → Reach → Type 0} {ts m : List Token} {r : Reach} → Exact base S B → EndedS K S ts m r → length m < length ts
+ended_less e (end a t) = omega (arith, end_length (e.ended (e.spelled a)))
+
+body_less : {x : Option Body} {t : Span} {ts m : List Token} → g.SpellsBody ts x t m → length m < length ts
+body_less g.absent = omega arith
+body_less (g.present m d) = omega (arith, mark_less m, end_length (statements_exact.ended (statements_exact.spelled (listed d))))
+
+inside_less : {ts m : List Token} {r : Reach} → InsideS ts m r → length m < length ts
+inside_less (seq a (seq w (body d))) = omega (arith, body_less d, end_length (parameters_exact.ended (parameters_exact.spelled a)), end_length (optional_bounds_exact.ended (optional_bounds_exact.spelled w)))
+
+sorted_whole : {ts m rest : List Token} {r q : Reach} → SortedS ts m r → SortedB ts rest q → rest ≡ m → q ≡ r
+sorted_whole region c same = scope_whole c
+sorted_whole (forms.structure (lead (tainted t) (after it (after name (after it a))))) c same = closed_exact.whole a (structure_into t c (omega (arith, ended_less members_exact a, ap length same))) same
+sorted_whole (forms.global (lead (tainted t) (seq (type d) (end (declarators l) it)))) c same =
+    let less = ended_less {K = Is kinds.Semicolon} declarators_exact (end (declarators l) it) in
+    (side_all variables_exact).whole (side (end (declarators l) it)) (variables_into t (no_structure d (brace_free _ (declarators_name l))) d (no_function l) c (omega (arith, less, ap length same))) same
+sorted_whole (forms.function (lead (kinded k) (lead (marked m) (seq (returned d) (lead (end (end (stars e) name) it) a))))) c same =
+    (side_all inside_exact).whole (side a) (call_into k m d e c (omega (arith, inside_less a, ap length same))) same
+
 pub item_exact : Exact nowhere ItemS BeginsItem
-item_exact = record { one = one; spelled = spelled; longest = λ a c. sorted_longest (item_to _ _ _ a) (item_into _ _ _ c); nothing = λ c same. sorted_nothing (item_into _ _ _ c) same; ended = λ c. sorted_ended (item_into _ _ _ c) }
+item_exact = record { one = one; spelled = spelled; longest = λ a c. sorted_longest (item_to _ _ _ a) (item_into _ _ _ c); whole = λ a c same. sorted_whole (item_to _ _ _ a) (item_into _ _ _ c) same; nothing = λ c same. sorted_nothing (item_into _ _ _ c) same; ended = λ c. sorted_ended (item_into _ _ _ c) }
   where
     one : {ts m m' : List Token} {r r' : Reach} → ItemS ts m r → ItemS ts m' r' → ◌≡◌ {A = Read} (m, r) (m', r')
     one (item d) (item d') = ap (λ (x : Item × List Token). (x.1, item_reach x.0)) (item_same d d')

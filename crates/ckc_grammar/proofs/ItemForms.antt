@@ -56,13 +56,16 @@ kind_rest : {x y : FunctionKind} {ts m n : List Token} → SpellsKind ts x m →
 kind_rest d e = ap (λ (x : FunctionKind × List Token). x.1) (kind_same d e)
 
 pub tainted_exact : Exact nowhere TaintedS TaintedS
-tainted_exact = record { one = one; spelled = λ a. a; longest = longest; nothing = nothing; ended = ended }
+tainted_exact = record { one = one; spelled = λ a. a; longest = longest; whole = whole; nothing = nothing; ended = ended }
   where
     one : {ts m m' : List Token} {r r' : Reach} → TaintedS ts m r → TaintedS ts m' r' → ◌≡◌ {A = Read} (m, r) (m', r')
     one (tainted d) (tainted e) = ap (λ (x : List Token). (x, nowhere)) (tainted_rest d e)
 
     longest : {ts m rest : List Token} {r q : Reach} → TaintedS ts m r → TaintedS ts rest q → m ends rest
     longest {m} (tainted d) (tainted e) = subst (λ (x : List Token). m ends x) (tainted_rest d e) all
+
+    whole : {ts m rest : List Token} {r q : Reach} → TaintedS ts m r → TaintedS ts rest q → rest ≡ m → q ≡ r
+    whole (tainted d) (tainted e) same = refl
 
     nothing : {ts rest : List Token} {q : Reach} → TaintedS ts rest q → rest ≡ ts → q ≡ nowhere
     nothing (tainted d) same = refl
@@ -71,13 +74,16 @@ tainted_exact = record { one = one; spelled = λ a. a; longest = longest; nothin
     ended (tainted d) = tainted_ends d
 
 pub kind_exact : Exact nowhere KindS KindS
-kind_exact = record { one = one; spelled = λ a. a; longest = longest; nothing = nothing; ended = ended }
+kind_exact = record { one = one; spelled = λ a. a; longest = longest; whole = whole; nothing = nothing; ended = ended }
   where
     one : {ts m m' : List Token} {r r' : Reach} → KindS ts m r → KindS ts m' r' → ◌≡◌ {A = Read} (m, r) (m', r')
     one (kinded d) (kinded e) = ap (λ (x : List Token). (x, nowhere)) (kind_rest d e)
 
     longest : {ts m rest : List Token} {r q : Reach} → KindS ts m r → KindS ts rest q → m ends rest
     longest {m} (kinded d) (kinded e) = subst (λ (x : List Token). m ends x) (kind_rest d e) all
+
+    whole : {ts m rest : List Token} {r q : Reach} → KindS ts m r → KindS ts rest q → rest ≡ m → q ≡ r
+    whole (kinded d) (kinded e) same = refl
 
     nothing : {ts rest : List Token} {q : Reach} → KindS ts rest q → rest ≡ ts → q ≡ nowhere
     nothing (kinded d) same = refl

@@ -43,3 +43,4 @@ mod ItemForms
 mod ItemPasts
 mod ItemFailing
 pub mod WholeForms
+pub mod Neither

@@ -11,7 +11,7 @@ use Rattle.ckc_grammar.specs.TypeBeginnings.{begun}
 use Rattle.ckc_grammar.specs.Failures as failures
 use Rattle.ckc_grammar.specs.Failures.{Failure, IsLow}
 use Rattle.ckc_grammar.proofs.Paths.{around_height, beside_height}
-use Rattle.ckc_grammar.proofs.Forms.{Is, it, HeadS, HeadB, OneHead, head_exact, ◌ends◌, all, later, end_length, end_trans, end_same, end_within, Read, ExactBelow, Exact, exact_on_all, below, within, tokens_same, reach_same, move, never, SeqS, SeqB, seq, in_first, in_second, AfterS, AfterB, not_yet, EitherS, yes, no, DoneS, done}
+use Rattle.ckc_grammar.proofs.Forms.{Is, it, HeadS, HeadB, OneHead, head_exact, ◌ends◌, all, later, end_length, end_trans, end_same, end_within, Read, ExactBelow, Exact, exact_on_all, below, within, tokens_same, reach_same, move, beside_same, never, SeqS, SeqB, seq, in_first, in_second, AfterS, AfterB, not_yet, EitherS, yes, no, DoneS, done}
 use Rattle.ckc_grammar.proofs.Forms as forms
 use Rattle.ckc_grammar.proofs.Failing.{Fails, unexpected, too_deep, no_memory, beside_nowhere, beside_higher, low_beside, low_around, deep_around, inner_start, longer, fails_after}
 
@@ -138,7 +138,7 @@ pub data OptionalS (K : TokenKind → Type 0) (is : TokenKind → Bool) (S : Lis
   present : {k : TokenKind} {s : Span} {ts m : List Token} {r : Reach} → K k → S ts m r → OptionalS K is S (token k s ∷ ts) m r
 
 pub optional_exact : {n : ℕ} {K : TokenKind → Type 0} {is : TokenKind → Bool} {base : Reach} {S B : List Token → List Token → Reach → Type 0} → ((k : TokenKind) → K k → is k ≡ true) → ExactBelow n base S B → ExactBelow (suc n) nowhere (OptionalS K is S) (AfterB K B)
-optional_exact {n} {K} {is} {base} {S} {B} known e = record { one = one; spelled = spelled; longest = longest; nothing = nothing; ended = ended }
+optional_exact {n} {K} {is} {base} {S} {B} known e = record { one = one; spelled = spelled; longest = longest; whole = whole; nothing = nothing; ended = ended }
   where
     one : {ts m m' : List Token} {r r' : Reach} → length ts < suc n → OptionalS K is S ts m r → OptionalS K is S ts m' r' → ◌≡◌ {A = Read} (m, r) (m', r')
     one less (absent f) (absent f') = refl
@@ -159,6 +159,12 @@ optional_exact {n} {K} {is} {base} {S} {B} known e = record { one = one; spelled
     longest less (absent f) (forms.after t c) = never (known _ t) f
     longest less (present t a) not_yet = later (e.ended (omega (arith, less)) (e.spelled (omega (arith, less)) a))
     longest less (present t a) (forms.after t' c) = e.longest (omega (arith, less)) a c
+
+    whole : {ts m rest : List Token} {r q : Reach} → length ts < suc n → OptionalS K is S ts m r → AfterB K B ts rest q → rest ≡ m → q ≡ r
+    whole less (absent f) not_yet same = refl
+    whole less (absent f) (forms.after t c) same = never (known _ t) f
+    whole less (present t a) not_yet same = absurd (omega (arith, end_length (e.ended (omega (arith, less)) (e.spelled (omega (arith, less)) a)), ap length same))
+    whole less (present t a) (forms.after t' c) same = e.whole (omega (arith, less)) a c same
 
     nothing : {ts rest : List Token} {q : Reach} → length ts < suc n → AfterB K B ts rest q → rest ≡ ts → q ≡ nowhere
     nothing less not_yet same = refl
@@ -190,7 +196,7 @@ pub data LeadB (S B C : List Token → List Token → Reach → Type 0) : List T
   behind_lead : {ts mid rest : List Token} {q : Reach} → S ts mid nowhere → C mid rest q → LeadB S B C ts rest q
 
 pub lead_exact : {n : ℕ} {S B T C : List Token → List Token → Reach → Type 0} → ExactBelow n nowhere S B → ExactBelow n nowhere T C → ExactBelow n nowhere (LeadS S T) (LeadB S B C)
-lead_exact {n} {S} {B} {T} {C} e f = record { one = one; spelled = spelled; longest = longest; nothing = nothing; ended = ended }
+lead_exact {n} {S} {B} {T} {C} e f = record { one = one; spelled = spelled; longest = longest; whole = whole; nothing = nothing; ended = ended }
   where
     short : {ts mid : List Token} → length ts < n → S ts mid nowhere → length mid < n
     short less a = omega (arith, less, end_length (e.ended less (e.spelled less a)))
@@ -204,6 +210,13 @@ lead_exact {n} {S} {B} {T} {C} e f = record { one = one; spelled = spelled; long
     longest : {ts m rest : List Token} {r q : Reach} → length ts < n → LeadS S T ts m r → LeadB S B C ts rest q → m ends rest
     longest less (lead a b) (in_lead c) = end_trans (f.ended (short less a) (f.spelled (short less a) b)) (e.longest less a c)
     longest less (lead a b) (behind_lead a' c) = f.longest (short less a) b (move C (tokens_same (e.one less a a')) c)
+
+    whole : {ts m rest : List Token} {r q : Reach} → length ts < n → LeadS S T ts m r → LeadB S B C ts rest q → rest ≡ m → q ≡ r
+    whole {m} less (lead {mid} a b) (in_lead c) same =
+        let begun = f.spelled (short less a) b in
+        let here : m ≡ mid = end_same (f.ended (short less a) begun) (omega (arith, end_length (e.longest less a c), ap length same)) in
+        e.whole less a c (same ∙ here) ∙ sym (f.nothing (short less a) begun here)
+    whole less (lead a b) (behind_lead a' c) same = f.whole (short less a) b (move C (tokens_same (e.one less a a')) c) same
 
     nothing : {ts rest : List Token} {q : Reach} → length ts < n → LeadB S B C ts rest q → rest ≡ ts → q ≡ nowhere
     nothing less (in_lead c) same = e.nothing less c same
@@ -258,7 +271,7 @@ pub data SideS (p : Reach) (S : List Token → List Token → Reach → Type 0) 
   side : {ts m : List Token} {q : Reach} → S ts m q → SideS p S ts m (p beside q)
 
 pub side_exact : {p : Reach} {n : ℕ} {S B : List Token → List Token → Reach → Type 0} → ExactBelow n nowhere S B → ExactBelow n p (SideS p S) (SideS p B)
-side_exact {p} {n} {S} {B} e = record { one = one; spelled = spelled; longest = longest; nothing = nothing; ended = ended }
+side_exact {p} {n} {S} {B} e = record { one = one; spelled = spelled; longest = longest; whole = whole; nothing = nothing; ended = ended }
   where
     one : {ts m m' : List Token} {r r' : Reach} → length ts < n → SideS p S ts m r → SideS p S ts m' r' → ◌≡◌ {A = Read} (m, r) (m', r')
     one less (side a) (side a') = ap (λ (x : Read). (x.0, p beside x.1)) (e.one less a a')
@@ -268,6 +281,9 @@ side_exact {p} {n} {S} {B} e = record { one = one; spelled = spelled; longest = 
 
     longest : {ts m rest : List Token} {r q : Reach} → length ts < n → SideS p S ts m r → SideS p B ts rest q → m ends rest
     longest less (side a) (side c) = e.longest less a c
+
+    whole : {ts m rest : List Token} {r q : Reach} → length ts < n → SideS p S ts m r → SideS p B ts rest q → rest ≡ m → q ≡ r
+    whole less (side a) (side c) same = ap (λ (x : Reach). p beside x) (e.whole less a c same)
 
     nothing : {ts rest : List Token} {q : Reach} → length ts < n → SideS p B ts rest q → rest ≡ ts → q ≡ p
     nothing less (side c) same = ap (λ (x : Reach). p beside x) (e.nothing less c same) ∙ beside_nowhere p
@@ -302,7 +318,7 @@ pub data PutS (S : List Token → List Token → Reach → Type 0) : List Token 
   put : {ts m : List Token} {r : Reach} → S ts m r → PutS S ts m (begun ts m r)
 
 pub put_exact : {n : ℕ} {base : Reach} {S B : List Token → List Token → Reach → Type 0} → ExactBelow n base S B → ExactBelow n nowhere (PutS S) (PutS B)
-put_exact {n} {base} {S} {B} e = record { one = one; spelled = spelled; longest = longest; nothing = nothing; ended = ended }
+put_exact {n} {base} {S} {B} e = record { one = one; spelled = spelled; longest = longest; whole = whole; nothing = nothing; ended = ended }
   where
     one : {ts m m' : List Token} {r r' : Reach} → length ts < n → PutS S ts m r → PutS S ts m' r' → ◌≡◌ {A = Read} (m, r) (m', r')
     one {ts} less (put a) (put a') = ap (λ (x : Read). (x.0, begun ts x.0 x.1)) (e.one less a a')
@@ -312,6 +328,9 @@ put_exact {n} {base} {S} {B} e = record { one = one; spelled = spelled; longest 
 
     longest : {ts m rest : List Token} {r q : Reach} → length ts < n → PutS S ts m r → PutS B ts rest q → m ends rest
     longest less (put a) (put c) = e.longest less a c
+
+    whole : {ts m rest : List Token} {r q : Reach} → length ts < n → PutS S ts m r → PutS B ts rest q → rest ≡ m → q ≡ r
+    whole {ts} {m} less (put a) (put {r} c) same = ap (λ (x : List Token). begun ts x r) same ∙ ap (begun ts m) (e.whole less a c same)
 
     nothing : {ts rest : List Token} {q : Reach} → length ts < n → PutS B ts rest q → rest ≡ ts → q ≡ nowhere
     nothing {ts} less (put {r} c) same = ap (λ (x : List Token). begun ts x r) same ∙ begun_nothing ts r
@@ -398,7 +417,7 @@ seq_first {is} {S} {B} {T} {C} e f shorter first = record { one = one; start = s
 -- ---- a form that takes a token, and one behind it that may begin with it again
 
 pub list_exact : {n : ℕ} {S B T C : List Token → List Token → Reach → Type 0} → ((ts m : List Token) (r : Reach) → S ts m r → 0 < r.height) → ExactBelow (suc n) nowhere S B → ExactBelow n nowhere T C → ExactBelow (suc n) nowhere (SeqS S T) (SeqB S B C)
-list_exact {n} {S} {B} {T} {C} high e f = record { one = one; spelled = spelled; longest = longest; nothing = nothing; ended = ended }
+list_exact {n} {S} {B} {T} {C} high e f = record { one = one; spelled = spelled; longest = longest; whole = whole; nothing = nothing; ended = ended }
   where
     shorter : {ts mid : List Token} {p : Reach} → length ts < suc n → S ts mid p → length mid < length ts
     shorter less a = takes_below e less (e.spelled less a) (high _ _ _ a)
@@ -418,6 +437,15 @@ list_exact {n} {S} {B} {T} {C} high e f = record { one = one; spelled = spelled;
     longest : {ts m rest : List Token} {r q : Reach} → length ts < suc n → SeqS S T ts m r → SeqB S B C ts rest q → m ends rest
     longest less (seq a b) (in_first c) = end_trans (f.ended (short less a) (f.spelled (short less a) b)) (e.longest less a c)
     longest less (seq a b) (in_second a' c) = f.longest (short less a) b (move C (tokens_same (e.one less a a')) c)
+
+    whole : {ts m rest : List Token} {r q : Reach} → length ts < suc n → SeqS S T ts m r → SeqB S B C ts rest q → rest ≡ m → q ≡ r
+    whole {m} less (seq {mid} {p} a b) (in_first c) is =
+        let begun = f.spelled (short less a) b in
+        let here : m ≡ mid = end_same (f.ended (short less a) begun) (omega (arith, end_length (e.longest less a c), ap length is)) in
+        e.whole less a c (is ∙ here) ∙ sym (ap (λ (x : Reach). p beside x) (f.nothing (short less a) begun here) ∙ beside_nowhere p)
+    whole less (seq a b) (in_second a' c) is =
+        let first = e.one less a a' in
+        beside_same (sym (reach_same first)) (f.whole (short less a) b (move C (tokens_same first) c) is)
 
     nothing : {ts rest : List Token} {q : Reach} → length ts < suc n → SeqB S B C ts rest q → rest ≡ ts → q ≡ nowhere
     nothing less (in_first c) same = e.nothing less c same

@@ -46,8 +46,8 @@ no_fault d low (too_deep b r deep) = too_low (ahead (items_path d) (path_of b)) 
 no_fault_of : {length : ℕ} {tokens : List Token} {f : SourceFault} {t : Tree} → SpellsProgram length tokens t → (items_reach t.items).height ≤ 200 → IsFault length tokens f → ⊥
 no_fault_of (program d) low fault = no_fault d low fault
 
-pub fault_or_tree : (length : ℕ) (tokens : List Token) (f : SourceFault) (t : Tree) → IsFault length tokens f → IsTree length tokens t → ⊥
-fault_or_tree length tokens f t fault known = no_fault_of known.spelled known.low fault
+pub never_both : (length : ℕ) (tokens : List Token) (f : SourceFault) (t : Tree) → IsFault length tokens f → IsTree length tokens t → ⊥
+never_both length tokens f t fault known = no_fault_of known.spelled known.low fault
 
 -- ---- one refusal
 
@@ -67,21 +67,21 @@ not_both b none b' r deep =
       | inr (inr a) ↦ none a.reach a.begins
     ]
 
-pub one_fault : (length : ℕ) (tokens : List Token) (f g : SourceFault) → IsFault length tokens f → IsFault length tokens g → f ≡ g
-one_fault length tokens f g (unexpected b none) (unexpected b' none') =
+pub at_most_one_fault : (length : ℕ) (tokens : List Token) (f g : SourceFault) → IsFault length tokens f → IsFault length tokens g → f ≡ g
+at_most_one_fault length tokens f g (unexpected b none) (unexpected b' none') =
     elim (meet (path_of b) (path_of b')) [
       | inl same ↦ ap (λ (ts : List Token). record { code = E06; span = first_span ts }) same
       | inr (inl a) ↦ absurd (none' a.reach a.begins)
       | inr (inr a) ↦ absurd (none a.reach a.begins)
     ]
-one_fault length tokens f g (unexpected b none) (ended b' none') = let a = ahead (path_of b') (path_of b) in absurd (none a.reach a.begins)
-one_fault length tokens f g (ended b' none') (unexpected b none) = let a = ahead (path_of b') (path_of b) in absurd (none a.reach a.begins)
-one_fault length tokens f g (ended b none) (ended b' none') = refl
-one_fault length tokens f g (ended b' none) (too_deep b r deep) = absurd (too_low (ahead (path_of b') (path_of b)) b'.low deep)
-one_fault length tokens f g (too_deep b r deep) (ended b' none) = absurd (too_low (ahead (path_of b') (path_of b)) b'.low deep)
-one_fault length tokens f g (unexpected b none) (too_deep b' r deep) = absurd (not_both b none b' r deep)
-one_fault length tokens f g (too_deep b' r deep) (unexpected b none) = absurd (not_both b none b' r deep)
-one_fault length tokens f g (too_deep b r deep) (too_deep b' r' deep') =
+at_most_one_fault length tokens f g (unexpected b none) (ended b' none') = let a = ahead (path_of b') (path_of b) in absurd (none a.reach a.begins)
+at_most_one_fault length tokens f g (ended b' none') (unexpected b none) = let a = ahead (path_of b') (path_of b) in absurd (none a.reach a.begins)
+at_most_one_fault length tokens f g (ended b none) (ended b' none') = refl
+at_most_one_fault length tokens f g (ended b' none) (too_deep b r deep) = absurd (too_low (ahead (path_of b') (path_of b)) b'.low deep)
+at_most_one_fault length tokens f g (too_deep b r deep) (ended b' none) = absurd (too_low (ahead (path_of b') (path_of b)) b'.low deep)
+at_most_one_fault length tokens f g (unexpected b none) (too_deep b' r deep) = absurd (not_both b none b' r deep)
+at_most_one_fault length tokens f g (too_deep b' r deep) (unexpected b none) = absurd (not_both b none b' r deep)
+at_most_one_fault length tokens f g (too_deep b r deep) (too_deep b' r' deep') =
     elim (meet (path_of b) (path_of b')) [
       | inl same ↦ ap (λ (at : ℕ). record { code = E07; span = point at }) (one_place (ap rest_of same) r deep r' deep')
       | inr (inl a) ↦ absurd (too_low a b.low deep')

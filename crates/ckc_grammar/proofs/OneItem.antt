@@ -306,5 +306,5 @@ items_same (g.more d m) (g.more {item} {items} d' m') =
     let first_is = item_same d d' in
     rw (typed first_is) (ap (λ (x : List Item). item ∷ x) (items_same m (subst (λ (x : List Token). SpellsItems x items) (sym (after first_is)) m')))
 
-pub one_tree : (length : ℕ) (tokens : List Token) (t u : Tree) → SpellsProgram length tokens t → SpellsProgram length tokens u → t ≡ u
-one_tree length tokens t u (g.program d) (g.program d') = rw (items_same d d') refl
+pub at_most_one_tree : (length : ℕ) (tokens : List Token) (t u : Tree) → SpellsProgram length tokens t → SpellsProgram length tokens u → t ≡ u
+at_most_one_tree length tokens t u (g.program d) (g.program d') = rw (items_same d d') refl

@@ -50,7 +50,7 @@ stars_one (g.more d) (g.none f) = absurd cc
 stars_one (g.more d) (g.more d') = stars_one d d'
 
 pub stars_below : {n : ℕ} → ExactBelow n nowhere StarsS StarsB
-stars_below {n} = record { one = one; spelled = spelled; longest = longest; nothing = nothing; ended = ended }
+stars_below {n} = record { one = one; spelled = spelled; longest = longest; whole = whole; nothing = nothing; ended = ended }
   where
     one : {ts m m' : List Token} {r r' : Reach} → length ts < n → StarsS ts m r → StarsS ts m' r' → ◌≡◌ {A = forms.Read} (m, r) (m', r')
     one less (stars d) (stars d') = ap (λ (x : List Token). (x, nowhere)) (stars_one d d')
@@ -60,6 +60,9 @@ stars_below {n} = record { one = one; spelled = spelled; longest = longest; noth
 
     longest : {ts m rest : List Token} {r q : Reach} → length ts < n → StarsS ts m r → StarsB ts rest q → m ends rest
     longest less (stars d) (stars c) = stars_longest d c
+
+    whole : {ts m rest : List Token} {r q : Reach} → length ts < n → StarsS ts m r → StarsB ts rest q → rest ≡ m → q ≡ r
+    whole less (stars d) (stars c) same = refl
 
     nothing : {ts rest : List Token} {q : Reach} → length ts < n → StarsB ts rest q → rest ≡ ts → q ≡ nowhere
     nothing less (stars c) is = refl

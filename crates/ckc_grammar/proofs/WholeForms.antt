@@ -1,11 +1,11 @@
 -- A whole source: reading it goes one way, and where it is stuck stands its refusal.
-use Rattle.std.proofs.Common.{◌≡◌, ◌<◌, ℕ, length, List, [], ◌∷◌, refl, sym, ap, subst, arith}
+use Rattle.std.proofs.Common.{◌≡◌, ◌∙◌, ◌<◌, ℕ, length, List, [], ◌∷◌, refl, sym, ap, subst, arith}
 use Rattle.ckc_text.specs.declared.code.Code.TheVariants.{E07}
 use Rattle.ckc_tokens.specs.declared.token.Token.{Token}
 use Rattle.ckc_tree.specs.Items.{Item, Tree}
-use Rattle.ckc_tree.specs.Heights.{Reach, nowhere, items_reach}
+use Rattle.ckc_tree.specs.Heights.{Reach, nowhere, ◌beside◌, item_reach, items_reach}
 use Rattle.ckc_grammar.specs.ItemGrammar as g
-use Rattle.ckc_grammar.specs.ItemGrammar.{SpellsItems, SpellsProgram}
+use Rattle.ckc_grammar.specs.ItemGrammar.{SpellsItem, SpellsItems, SpellsProgram}
 use Rattle.ckc_grammar.specs.ItemBeginnings as b
 use Rattle.ckc_grammar.specs.ItemBeginnings.{BeginsItem, BeginsItems}
 use Rattle.ckc_grammar.specs.Parsing as parsing
@@ -14,9 +14,9 @@ use Rattle.ckc_grammar.specs.Failures.{Failure}
 use Rattle.ckc_grammar.specs.StuckItems as stuck
 use Rattle.ckc_grammar.specs.StuckItems.{StuckItems}
 use Rattle.ckc_grammar.specs.Refusals.{FaultIs}
-use Rattle.ckc_grammar.proofs.OneItem.{items_same}
+use Rattle.ckc_grammar.proofs.OneItem.{item_same, items_same}
 use Rattle.ckc_grammar.proofs.Whole.{items_begin}
-use Rattle.ckc_grammar.proofs.Forms.{◌ends◌, all, later, end_length, end_trans, Read, Exact, seq_all, SeqS, SeqB, seq, in_first, in_second}
+use Rattle.ckc_grammar.proofs.Forms.{◌ends◌, all, later, end_length, end_trans, end_same, move, beside_same, beside_nowhere, Read, Exact, seq_all, SeqS, SeqB, seq, in_first, in_second}
 use Rattle.ckc_grammar.proofs.Failing as failing
 use Rattle.ckc_grammar.proofs.Failing.{Fails, fails_first, fails_second}
 use Rattle.ckc_grammar.proofs.MoreForms.{fails_past}
@@ -35,8 +35,31 @@ items_ended b.nothing = all
 items_ended (b.first c) = item_exact.ended c
 items_ended (b.others d c) = end_trans (items_ended c) (item_exact.ended (item_exact.spelled (item d)))
 
+some_item : {x : Item} {ts mid : List Token} → SpellsItem ts x mid → ts ≡ [] → ⊥
+some_item {mid} d same = absurd (omega (arith, item_shorter d, ap length same))
+
+no_items : {ts : List Token} {x : List Item} → SpellsItems ts x → ts ≡ [] → items_reach x ≡ nowhere
+no_items g.none same = refl
+no_items (g.more d l) same = absurd (some_item d same)
+
+-- what begins up to the end of a source that is spelled has put its nodes and no others
+pub items_whole : {ts rest : List Token} {x : List Item} {q : Reach} → SpellsItems ts x → BeginsItems ts rest q → rest ≡ [] → q ≡ items_reach x
+items_whole g.none b.nothing same = refl
+items_whole g.none (b.first c) same = item_exact.nothing c same
+items_whole g.none (b.others d c) same = absurd (some_item d refl)
+items_whole (g.more d l) b.nothing same = absurd (some_item d same)
+items_whole (g.more {mid} {item = x} d l) (b.first c) same =
+    let here : mid ≡ [] = end_same (subst (λ (ts : List Token). mid ends ts) same (item_exact.longest (item d) c)) (omega arith) in
+    item_exact.whole (item d) c (same ∙ sym here) ∙ sym (ap (λ (r : Reach). item_reach x beside r) (no_items l here) ∙ beside_nowhere (item_reach x))
+items_whole (g.more d l) (b.others d' c) same =
+    let is = item_same d d' in
+    beside_same (sym (ap (λ (x : Item × List Token). item_reach x.0) is)) (items_whole l (move BeginsItems (ap (λ (x : Item × List Token). x.1) is) c) same)
+
+pub program_whole : (length : ℕ) (tokens : List Token) (t : Tree) (r : Reach) → SpellsProgram length tokens t → BeginsItems tokens [] r → r ≡ items_reach t.items
+program_whole length tokens t r (g.program d) c = items_whole d c refl
+
 pub items_exact : Exact nowhere ItemsS BeginsItems
-items_exact = record { one = one; spelled = spelled; longest = longest; nothing = nothing; ended = items_ended }
+items_exact = record { one = one; spelled = spelled; longest = longest; whole = whole; nothing = nothing; ended = items_ended }
   where
     one : {ts m m' : List Token} {r r' : Reach} → ItemsS ts m r → ItemsS ts m' r' → ◌≡◌ {A = Read} (m, r) (m', r')
     one (items d) (items d') = ap (λ (x : List Item). ([], items_reach x)) (items_same d d')
@@ -46,6 +69,9 @@ items_exact = record { one = one; spelled = spelled; longest = longest; nothing 
 
     longest : {ts m rest : List Token} {r q : Reach} → ItemsS ts m r → BeginsItems ts rest q → m ends rest
     longest {rest} (items d) c = none_ends rest
+
+    whole : {ts m rest : List Token} {r q : Reach} → ItemsS ts m r → BeginsItems ts rest q → rest ≡ m → q ≡ r
+    whole (items d) c same = items_whole d c same
 
     nothing : {ts rest : List Token} {q : Reach} → BeginsItems ts rest q → rest ≡ ts → q ≡ nowhere
     nothing b.nothing same = refl
@@ -77,9 +103,6 @@ more_of ts m r some (items (g.more d l)) = seq (item d) (items l)
 
 more_fails : {ts : List Token} {f : Failure} → (ts ≡ [] → ⊥) → Fails 0 MoreS MoreB ts f → Fails 0 ItemsS BeginsItems ts f
 more_fails {ts} some f = fails_past (λ rest q c. more_exact.ended c) (λ m r a. more_of ts m r some a) (more_into ts) (more_from ts) f
-
-some_item : {x : Item} {ts mid : List Token} → g.SpellsItem ts x mid → ts ≡ [] → ⊥
-some_item {mid} d same = absurd (omega (arith, item_shorter d, ap length same))
 
 pub items_fails : {ts : List Token} {f : Failure} → StuckItems ts f → Fails 0 ItemsS BeginsItems ts f
 items_fails stuck.no_room = failing.no_memory

@@ -1,5 +1,5 @@
 -- What reading a tree from tokens answers.
-use Rattle.std.specs.Prelude.{◌≡◌, ◌≤◌, ◌<◌, ℕ, List, [], ◌∷◌, Result, Ok, Err}
+use Rattle.std.specs.Prelude.{◌≡◌, ◌≤◌, ◌<◌, ℕ, List, [], ◌∷◌, ◌++◌, Result, Ok, Err}
 use Rattle.ckc_text.specs.declared.code.Code.TheVariants.{E06, E07}
 use Rattle.ckc_text.specs.declared.fault.Refused.{Refused}
 use Rattle.ckc_text.specs.declared.fault.Refused.TheVariants.{Source, NoMemory}
@@ -46,19 +46,32 @@ ParseAnswers length tokens (Err (Source fault)) = IsFault length tokens fault
 ParseAnswers length tokens (Err NoMemory) = Unit {0}
 
 -- no list of tokens spells two trees
-abbrev pub OneTree : Type 0
-OneTree = (length : ℕ) (tokens : List Token) (t u : Tree) → SpellsProgram length tokens t → SpellsProgram length tokens u → t ≡ u
+abbrev pub AtMostOneTree : Type 0
+AtMostOneTree = (length : ℕ) (tokens : List Token) (t u : Tree) → SpellsProgram length tokens t → SpellsProgram length tokens u → t ≡ u
 
--- a list of tokens has one refusal at most, and none if it spells a tree that is low enough
-abbrev pub OneFault : Type 0
-OneFault = (length : ℕ) (tokens : List Token) (f g : SourceFault) → IsFault length tokens f → IsFault length tokens g → f ≡ g
+-- a list of tokens has one refusal at most
+abbrev pub AtMostOneFault : Type 0
+AtMostOneFault = (length : ℕ) (tokens : List Token) (f g : SourceFault) → IsFault length tokens f → IsFault length tokens g → f ≡ g
 
-abbrev pub FaultOrTree : Type 0
-FaultOrTree = (length : ℕ) (tokens : List Token) (f : SourceFault) (t : Tree) → IsFault length tokens f → IsTree length tokens t → ⊥
+-- a list of tokens that spells a tree that is low enough has no refusal
+abbrev pub NeverBoth : Type 0
+NeverBoth = (length : ℕ) (tokens : List Token) (f : SourceFault) (t : Tree) → IsFault length tokens f → IsTree length tokens t → ⊥
+
+-- it has such a tree or a refusal: the two can't both be missing. Which of them it has is not decided here, so the law says no more
+abbrev pub NeverNeither : Type 0
+NeverNeither = (length : ℕ) (tokens : List Token) → ((t : Tree) → IsTree length tokens t → ⊥) → ((f : SourceFault) → IsFault length tokens f → ⊥) → ⊥
 
 -- what is spelled begins, and the tokens have put the nodes of the tree and no others
 abbrev pub SpelledBegins : Type 0
 SpelledBegins = (length : ℕ) (tokens : List Token) (t : Tree) → SpellsProgram length tokens t → BeginsItems tokens [] (items_reach t.items)
+
+-- so do the tokens up to each of them, and have put no node deeper than the tree's
+abbrev pub PrefixBegins : Type 0
+PrefixBegins = (length : ℕ) (front rest : List Token) (t : Tree) → SpellsProgram length (front ++ rest) t → (r : Reach) × BeginsItems (front ++ rest) rest r × (r.height ≤ height t)
+
+-- what begins up to the end of tokens that spell a tree has put its nodes and no others
+abbrev pub WholeBegins : Type 0
+WholeBegins = (length : ℕ) (tokens : List Token) (t : Tree) (r : Reach) → SpellsProgram length tokens t → BeginsItems tokens [] r → r ≡ items_reach t.items
 
 -- the spans of a tree that is spelled stand in order in the source, where the tokens do
 abbrev pub SpelledPlaced : Type 0

@@ -8,26 +8,41 @@ ghost use Rattle.ckc_grammar.specs.TypeGrammar.{SpellsTypeName};
 ghost use Rattle.ckc_grammar.specs.ExpressionGrammar.{SpellsExpression};
 ghost use Rattle.ckc_grammar.specs.StatementGrammar.{SpellsStatement};
 ghost use Rattle.ckc_grammar.specs.ItemGrammar.{SpellsProgram};
-ghost use Rattle.ckc_grammar.specs.Parsing.{IsFault, point, OneTree, OneFault, FaultOrTree, SpelledBegins, SpelledPlaced};
+ghost use Rattle.ckc_grammar.specs.Parsing.{IsFault, point, AtMostOneTree, AtMostOneFault, NeverBoth, NeverNeither, SpelledBegins, PrefixBegins, WholeBegins, SpelledPlaced};
 
 /// No list of tokens spells two trees.
-pub fn one_tree()
-    ensures { OneTree }
+pub fn at_most_one_tree()
+    ensures { AtMostOneTree }
 {}
 
 /// A list of tokens has one refusal at most.
-pub fn one_fault()
-    ensures { OneFault }
+pub fn at_most_one_fault()
+    ensures { AtMostOneFault }
 {}
 
 /// Tokens that spell a tree that is low enough have no refusal.
-pub fn fault_or_tree()
-    ensures { FaultOrTree }
+pub fn never_both()
+    ensures { NeverBoth }
+{}
+
+/// Tokens spell a tree that is low enough, or have a refusal.
+pub fn never_neither()
+    ensures { NeverNeither }
 {}
 
 /// What spells a tree begins, and has put its nodes.
 pub fn spelled_begins()
     ensures { SpelledBegins }
+{}
+
+/// So does each prefix of what spells a tree.
+pub fn prefix_begins()
+    ensures { PrefixBegins }
+{}
+
+/// What begins up to the end of what spells a tree has put the nodes of the tree, in whichever way it is read.
+pub fn whole_begins()
+    ensures { WholeBegins }
 {}
 
 /// The spans of a tree that tokens spell lie in one another and in the source, and stand in order, where the tokens stand

@@ -22,7 +22,7 @@ use ckc_cursor::words::{
 use ckc_expr_parser::bounds::bounds;
 use ckc_expr_parser::expressions::{expression, starts_unary, unary};
 use ckc_expr_parser::operand::Operand;
-use ckc_expr_parser::types::{star_count, stars, type_form};
+use ckc_expr_parser::types::{stars, type_form};
 use ckc_text::place::Span;
 use ckc_tokens::token::{Token, TokenKind};
 use ckc_tree::expr::{BoundsText, Expr};
@@ -174,7 +174,7 @@ fn declarator(alloc: Global, depth: u32, tokens: &mut &[Token]) -> Result<Declar
     ensures { Reads (λ x rest. SpellsDeclarator tokens.old.now (views.declarator x) rest × IsLow depth (declarator_reach (views.declarator x))) (StuckDeclarator depth tokens.old.now) result tokens.new.now }
 {
     let whole: &[Token] = *tokens;
-    let stars = star_count(stars(tokens))?;
+    let stars = stars(tokens);
     let name = identifier(alloc, tokens)?;
     let so_far = from_first(whole, name.span);
     let array = optional_array(so_far, tokens)?;

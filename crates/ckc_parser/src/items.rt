@@ -27,7 +27,7 @@ use ckc_cursor::tokens::{
     close_brace, close_paren, comma, copied, identifier, name, open_brace, open_paren, semicolon,
 };
 use ckc_cursor::words::mark;
-use ckc_expr_parser::types::{star_count, stars, type_form, type_name};
+use ckc_expr_parser::types::{stars, type_form, type_name};
 use ckc_text::name::Name;
 use ckc_text::place::Span;
 use ckc_tokens::token::{CheckedScope, Token, TokenKind};
@@ -350,7 +350,6 @@ fn function(
     requires { IsHead whole.now kind mark (views.result_form returned) named.stars named.name.now named.span tokens.old.now }
     ensures { Reads (λ x rest. SpellsItem whole.now (views.item x) rest × IsLow 0 (item_reach (views.item x))) (StuckItem whole.now) result tokens.new.now }
 {
-    let stars = star_count(named.stars)?;
     let name = copied(alloc, named.name, named.span)?;
     let parameters = parameters(alloc, tokens)?;
     let so_far = from_first(whole, parameters.span);
@@ -360,7 +359,7 @@ fn function(
         kind,
         mark,
         result: returned,
-        stars,
+        stars: named.stars,
         name,
         parameters: parameters.form,
         bounds: bounds.form,

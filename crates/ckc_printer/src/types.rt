@@ -26,7 +26,7 @@ fn pointer_text(word: PointerWord) -> &'static [u8]
 }
 
 /// So many stars.
-pub fn stars(out: &mut Output, count: u32)
+pub fn stars(out: &mut Output, count: usize)
     ensures { Puts out.old out.new (spaced_text (stars_pieces count)) }
 {
     for _ in 0..count {

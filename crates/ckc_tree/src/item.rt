@@ -90,7 +90,7 @@ pub struct Function {
     pub kind: FunctionKind,
     pub mark: Option<Mark>,
     pub result: ResultForm,
-    pub stars: u32,
+    pub stars: usize,
     pub name: Identifier,
     pub parameters: Parameters,
     pub bounds: Option<BoundsText>,

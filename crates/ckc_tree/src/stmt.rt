@@ -61,7 +61,7 @@ pub enum Initializer {
 /// One variable of a declaration.
 #[derive(Drop)]
 pub struct Declarator {
-    pub stars: u32,
+    pub stars: usize,
     pub name: Identifier,
     pub array: Option<ArrayForm>,
     pub bounds: Option<BoundsText>,

@@ -45,7 +45,7 @@ pub enum TypeForm {
     Pointer {
         word: PointerWord,
         element: Box<TypeForm>,
-        stars: u32,
+        stars: usize,
         span: Span,
     },
 }
@@ -54,7 +54,7 @@ pub enum TypeForm {
 #[derive(Drop)]
 pub struct TypeName {
     pub base: TypeForm,
-    pub stars: u32,
+    pub stars: usize,
 }
 
 impl TypeForm {

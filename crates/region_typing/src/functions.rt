@@ -85,7 +85,7 @@ pub fn result_type(
     alloc: Global,
     scope: &Scope,
     written: &ResultForm,
-    stars: u32,
+    stars: usize,
 ) -> Result<Option<CType>, Refused>
     ensures { Answers (λ t. option_map ctype_of t) (result_type_of (scope_of scope.now) (result_tree written.now) stars) result }
 {

@@ -10,21 +10,18 @@ pointer_type-returns-in_err-less-clause-reads t c = λ k word. rw (err _ _ c.fro
 pub pointer_type-returns-in_err-element-clause-reads : goal.pointer_type-returns-in_err-element-clause-reads
 pointer_type-returns-in_err-element-clause-reads t c = λ k word. rw (err _ _ c.from_residual-in_err-element.ensures.1, c.in_ok-less.ensures) ((stuck.element c.requires word (rw add-one at c.in_err-element.ensures.reads)))
 
-pub pointer_type-returns-in_err-stars-clause-reads : goal.pointer_type-returns-in_err-stars-clause-reads
-pointer_type-returns-in_err-stars-clause-reads t c = λ k word. rw (err _ _ c.from_residual-in_err-stars.ensures.1) stuck.no_room
-
 pub pointer_type-returns-in_err-end-clause-reads : goal.pointer_type-returns-in_err-end-clause-reads
 pointer_type-returns-in_err-end-clause-reads t c = λ k word.
-    rw (err _ _ c.from_residual-in_err-end.ensures.1, c.in_err-end.ensures.reason, c.in_err-end.ensures.left) (rw c.in_ok-less.ensures (stuck.close word c.in_ok-element.ensures.reads.0 (rw add-one at c.in_ok-element.ensures.reads.1) c.stars.ensures.spelled c.in_err-end.ensures.other))
+    rw (err _ _ c.from_residual-in_err-end.ensures.1, c.in_err-end.ensures.reason, c.in_err-end.ensures.left) (rw c.in_ok-less.ensures (stuck.close word c.in_ok-element.ensures.reads.0 (rw add-one at c.in_ok-element.ensures.reads.1) c.stars-stars.ensures.spelled c.in_err-end.ensures.other))
 
 pub pointer_type-returns-in_err-element-2-clause-reads : goal.pointer_type-returns-in_err-element-2-clause-reads
 pointer_type-returns-in_err-element-2-clause-reads t c = λ k word. rw (err _ _ c.from_residual-in_err-element-2.ensures.1) stuck.no_room
 
 pub pointer_type-returns-clause-reads : goal.pointer_type-returns-clause-reads
 pointer_type-returns-clause-reads t c = λ k word.
-    let closed = rw c.in_ok-end.ensures at c.stars.ensures.spelled in
+    let closed = rw c.in_ok-end.ensures at c.stars-stars.ensures.spelled in
     let low = low_around _ c.args.start.from _ c.requires (rw add-one at c.in_ok-element.ensures.reads.1) in
-    rw (c.in_ok-less.ensures, c.in_ok-element-2.ensures, c.in_ok-stars.ensures, c.join-span.ensures) (grammar.pointer word c.in_ok-element.ensures.reads.0 closed, low)
+    rw (c.in_ok-less.ensures, c.in_ok-element-2.ensures, c.join-span.ensures) (grammar.pointer word c.in_ok-element.ensures.reads.0 closed, low)
 
 pub type_form-returns-in_err-token-clause-reads : goal.type_form-returns-in_err-token-clause-reads
 type_form-returns-in_err-token-clause-reads t c = rw (err _ _ c.from_residual.ensures.1) c.in_err-token.ensures

@@ -6,8 +6,5 @@ use Rattle.ckc_expr_parser.proofs.types.type_name.Goals as goal
 pub returns-in_err-base-clause-reads : goal.returns-in_err-base-clause-reads
 returns-in_err-base-clause-reads c = rw (err _ _ c.from_residual.ensures.1) (stuck.base c.in_err-base.ensures.reads)
 
-pub returns-in_err-stars-clause-reads : goal.returns-in_err-stars-clause-reads
-returns-in_err-stars-clause-reads c = rw (err _ _ c.from_residual-in_err-stars.ensures.1) (stuck.base stuck.no_room)
-
 pub returns-clause-reads : goal.returns-clause-reads
-returns-clause-reads c = rw c.in_ok-stars.ensures (grammar.type_name c.in_ok-base.ensures.reads.0 c.stars.ensures.spelled, c.in_ok-base.ensures.reads.1)
+returns-clause-reads c = (grammar.type_name c.in_ok-base.ensures.reads.0 c.stars-stars.ensures.spelled, c.in_ok-base.ensures.reads.1)
