@@ -9,6 +9,7 @@ use Rattle.act_words.specs.Acts.{Act, Go, Read, Write, Call, Return, Stop, Relea
 use Rattle.act_words.specs.World.{World, Event, Output, Released, Showed, NoAct, taken_one, in_turn, with_inputs}
 use Rattle.act_words.specs.Acting.{BeforeTouch, InSandbox, lies_in, bytes_at, shown_if, written_if, waits_or_ends, keeps_or_ends, act_before_touch, act_in_sandbox}
 use Rattle.act_words.specs.Touches.{released}
+use Rattle.act_words.specs.View.{ViewIsFold}
 use Rattle.act_words.proofs.Views.{Told, Ready, HasFolded, BeforeTold, InTold, told_at_start, shown, none_left, at_the_end, released_told, act_before_told, act_in_told, told_in, write_told, ready_turn, view_in_turn}
 use Rattle.code_words.specs.declared.image.Image.{Image}
 use Rattle.code_words.specs.Table.{State, Step, Goes, Over, Control, Runs, Touches, Away}
@@ -72,6 +73,9 @@ folded image settings inputs acts ending t run =
     let start = s.world.sandbox in
     subst (RunKeeps (OwnTurn start acts) (Ready start acts) (OtherTurn start acts) (BehindCall start acts) (HasFolded start acts)) run.1
     (run-keeps (OwnTurn start acts) (Ready start acts) (OtherTurn start acts) (BehindCall start acts) (HasFolded start acts) (view_kept start acts) image settings run.0 s (told_at_start start s.world.room inputs acts, refl))
+
+pub view : (image : Image) (settings : Settings) (inputs : List ℤ) (acts : List Act) (ending : Ending) (t : State) → CodeRun image settings inputs acts ending t → ViewIsFold (started image settings inputs acts).world.sandbox acts t.world
+view image settings inputs acts ending t run = (folded image settings inputs acts ending t run).fold
 
 -- ---- events
 

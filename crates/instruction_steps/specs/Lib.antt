@@ -1,3 +1,2 @@
 pub mod Families
 pub mod Running
-pub mod Examples

@@ -20,7 +20,7 @@ abbrev pub IsEndedIf : Outcome → Option Ending → Type 0
 IsEndedIf outcomes.Ended None = ⊥
 IsEndedIf _ over = Unit {0}
 
--- the step was made, or it writes or waits for a number, and nothing was done
+-- the step was made, or it writes or takes an input number, and nothing was done
 abbrev pub TriesStep : Machine → Option Outcome → Machine → Type 0
 TriesStep old None new = (new ≡ old) × IsTold (next_op_of old)
 TriesStep old (Some outcome) new = IsStep old (event_of outcome new.over) new × IsEndedIf outcome new.over

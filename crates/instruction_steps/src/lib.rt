@@ -3,7 +3,6 @@
 
 mod bounds;
 mod families;
-pub mod laws;
 mod memory;
 mod operations;
 pub mod running;

@@ -6,6 +6,7 @@ ghost use Rattle.two_memory_machine.specs.Steps.{TellsSomething};
 ghost use Rattle.instruction_steps.specs.Running.{StepsOn, TriesStep};
 
 use crate::families;
+use code_words::op::Op;
 use machine_interaction::told::told_step;
 use two_memory_machine::event::{Event, Waiting};
 use two_memory_machine::machine::Machine;
@@ -37,12 +38,15 @@ pub fn run_on(machine: &mut Machine) -> Event
             Some(Outcome::Ran) => {}
             Some(Outcome::Asks) => return Event::Asks,
             Some(Outcome::Ended) => return machine.event(Outcome::Ended),
-            None => return told_step(machine),
+            None => match told_step(machine) {
+                Event::Ran => {}
+                event => return event,
+            },
         }
     }
 }
 
-// Makes the next step, unless it writes or waits for a number. An `Outcome` goes from hand to hand in a register.
+// Makes the next step, unless it writes or takes an input number. An `Outcome` goes from hand to hand in a register.
 fn try_step(machine: &mut Machine) -> Option<Outcome>
     requires { waiting_of machine.old ≡ Waiting.Runs }
     ensures { TriesStep machine.old result machine.new }
@@ -50,5 +54,8 @@ fn try_step(machine: &mut Machine) -> Option<Outcome>
     let Some(op) = machine.op() else {
         return Some(machine.end_wild());
     };
-    families::perform(machine, op)
+    match op {
+        Op::NextInput => None,
+        _ => families::perform(machine, op),
+    }
 }

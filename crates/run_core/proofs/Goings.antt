@@ -16,7 +16,7 @@ use Rattle.code_words.specs.Runs.{Run, Unfinished, Finished, CodeRun, exec, go_o
 use Rattle.two_memory_machine.specs.declared.event.Event.{Event as MachineEvent}
 use Rattle.two_memory_machine.specs.declared.event.Event.TheVariants as told_by
 use Rattle.two_memory_machine.specs.declared.event.Waiting.TheVariants as waiting
-use Rattle.two_memory_machine.specs.Machines.{Machine, Doing, Running, NeedsNumber, Touching, Suspended, IsStart, TakesAct, TakesEnd, TellsAct, state_of, turn_of, waiting_of, told_behind}
+use Rattle.two_memory_machine.specs.Machines.{Machine, Doing, Running, NeedsNumber, HasNumber, Touching, Suspended, IsStart, TakesAct, TakesEnd, TellsAct, state_of, turn_of, waiting_of, told_behind}
 use Rattle.run_core.specs.Moments.{due_from, due_in, before_due, IsDue}
 use Rattle.run_core.specs.Runs.{EndsBefore}
 use Rattle.run_interaction.specs.Touched.{last_of}
@@ -135,6 +135,7 @@ due_next m left events waits = by m.doing refl
     by : (doing : Doing) → m.doing ≡ doing → (more : List Event) × (events_of (go_on (move m.image m.settings (state_of m [] left events)) Unfinished) ≡ (events ++ NoAct (turn_of m.doing) ∷ []) ++ more)
     by Running e = absurd (let no : waiting.Runs ≡ waiting.Act = rw (unended m waits, e) at waits in cc)
     by NeedsNumber e = absurd (let no : waiting.Number ≡ waiting.Act = rw (unended m waits, e) at waits in cc)
+    by (HasNumber number) e = absurd (let no : waiting.Runs ≡ waiting.Act = rw (unended m waits, e) at waits in cc)
     by (Touching (Loads at len)) e = (Released Looked ∷ [], rw e (pushes_quietly (slice_get m.image.trusted.funs m.frame.function) _ _ _))
     by (Touching (Stores at bytes)) e = (Released (Wrote at bytes) ∷ [], rw e refl)
     by (Touching (Passes import words place)) e = (Released (Passed import words) ∷ Showed (SeenCall import words) ∷ [], rw e refl)

@@ -16,7 +16,7 @@ use Rattle.run_core.specs.declared.play.Play.{Play}
 use Rattle.run_transcript.specs.Texts.{event_text, events_text, ending_text, dump_text, with_last_line}
 use Rattle.run_interaction.specs.Asked.{Answering, HasEnded, AskAnswers}
 use Rattle.run_core.specs.Chains.{Chain}
-use Rattle.run_core.specs.Runs.{Comes, Ends}
+use Rattle.run_core.specs.Runs.{Comes, Ends, ShelfFault, CameTo}
 use Rattle.run_core.specs.Progress.{Progress, Played, moment_in, Tells, Steps, Takes, TakesNone, IsAsked, Stops, told, blocks_of}
 use Rattle.run_core.proofs.Reaching.{unended}
 use Rattle.run_core.proofs.Goings.{going_first, going_step, out_step, going_act, out_end, out_of_going, ends_before, is_due, run_out}
@@ -108,9 +108,41 @@ module _ {S : Type 0} (answers : Answering S) (files : Option Files) (image : Im
       by ended e (Progress.going acts events chain far text_is) =
           rw text_is (Comes.missing acts events chain (is_due image settings inputs acts events _ p.inputs.now p.machine far asked.waits) answered.1)
       by ended e (Progress.out_of_acts acts events chain due ended_so out text_is) = absurd (cc)
-  played_stops before now p faults.ShelfFailed asked answered played = tt
+  played_stops before now p faults.ShelfFailed asked answered played = rw answered.1 (by p.ended answered.0 played.1)
+    where
+      by : (ended : Bool) → ended ≡ false → Progress answers files image settings inputs first before p.machine p.inputs.now p.text.items (option_map seen_view p.last) ended → ShelfFault answers files image settings inputs first before
+      by ended e (Progress.going acts events chain far text_is) =
+          record { acts = acts; moment = moment_in p; events = events; chain = chain; due = is_due image settings inputs acts events _ p.inputs.now p.machine far asked.waits }
+      by ended e (Progress.out_of_acts acts events chain due ended_so out text_is) = absurd (cc)
   played_stops before now p faults.SinkFailed asked answered played = absurd answered
-  played_stops before now p faults.NoMemory asked answered played = tt
+  played_stops before now p faults.NoMemory asked answered played = by p.ended answered played.1
+    where
+      by : (ended : Bool) → ended ≡ false → Progress answers files image settings inputs first before p.machine p.inputs.now p.text.items (option_map seen_view p.last) ended → CameTo answers files image settings inputs first now
+      by ended e (Progress.going acts events chain far text_is) = CameTo.unanswered acts chain (is_due image settings inputs acts events _ p.inputs.now p.machine far asked.waits)
+      by ended e (Progress.out_of_acts acts events chain due ended_so out text_is) = absurd (cc)
+
+  -- memory ran out behind an act, and behind the last one
+  pub act_short : (before now : S) (p : Play) (act : Act) → IsAsked p.machine → p.ended ≡ false → answers before files (moment_in p) (Gives act) now → Played answers files image settings inputs first before p → CameTo answers files image settings inputs first now
+  act_short before now p act asked not_ended answered played = by p.ended not_ended played.1
+    where
+      by : (ended : Bool) → ended ≡ false → Progress answers files image settings inputs first before p.machine p.inputs.now p.text.items (option_map seen_view p.last) ended → CameTo answers files image settings inputs first now
+      by ended e (Progress.going acts events chain far text_is) = CameTo.given (acts ++ act ∷ []) (Chain.more chain (is_due image settings inputs acts events _ p.inputs.now p.machine far asked.waits) answered)
+      by ended e (Progress.out_of_acts acts events chain due ended_so out text_is) = absurd (cc)
+
+  pub none_short : (before now : S) (p : Play) → IsAsked p.machine → HasEnded answers files (moment_in p) before now p.ended → Played answers files image settings inputs first before p → CameTo answers files image settings inputs first now
+  none_short before now p asked ended played = by p.ended ended played.1
+    where
+      by : (was : Bool) → HasEnded answers files (moment_in p) before now was → Progress answers files image settings inputs first before p.machine p.inputs.now p.text.items (option_map seen_view p.last) was → CameTo answers files image settings inputs first now
+      by was h (Progress.going acts events chain far text_is) = CameTo.answered acts chain (is_due image settings inputs acts events _ p.inputs.now p.machine far asked.waits) h
+      by was h (Progress.out_of_acts acts events chain due ended_so out text_is) = rw h (CameTo.answered acts chain due ended_so)
+
+  -- memory ran out between acts
+  pub played_short : (now : S) (p : Play) → Played answers files image settings inputs first now p → CameTo answers files image settings inputs first now
+  played_short now p played = by (option_map seen_view p.last) p.ended played.1
+    where
+      by : (last : Option Seen) (ended : Bool) → Progress answers files image settings inputs first now p.machine p.inputs.now p.text.items last ended → CameTo answers files image settings inputs first now
+      by last ended (Progress.going acts events chain far text_is) = CameTo.given acts chain
+      by last ended (Progress.out_of_acts acts events chain due ended_so out text_is) = CameTo.answered acts chain due ended_so
 
   pub played_ends : (now : S) (p : Play) (ending : Ending) → p.machine.over ≡ Some ending → Played answers files image settings inputs first now p → Comes answers files image settings inputs first now (Ends ending) (with_last_line p.text.items (ending_text ending) ++ dump_text settings (blocks_of p.machine))
   played_ends now p ending over played = by (option_map seen_view p.last) p.ended played.1

@@ -11,7 +11,8 @@ use Rattle.code_words.specs.Runs.{Run, Unfinished, Finished, exec, go_on}
 use Rattle.two_memory_machine.specs.declared.event.Event.{Event as MachineEvent}
 use Rattle.two_memory_machine.specs.declared.event.Event.TheVariants as told_by
 use Rattle.two_memory_machine.specs.declared.event.Waiting.TheVariants as waiting
-use Rattle.two_memory_machine.specs.Machines.{Machine, Doing, Running, NeedsNumber, Touching, Suspended, Gives, TellsStep, Steps as MachineSteps, StepsIf, TakesNumber, TakesNoNumber, IsOfSame, state_of, waiting_of, waiting_for, told_behind, is_input, next_op_of}
+use Rattle.two_memory_machine.specs.Machines.{Machine, Doing, Running, NeedsNumber, HasNumber, Touching, Suspended, Gives, TellsStep, Steps as MachineSteps, StepsIf, IsOfSame, state_of, waiting_of, waiting_for, waits_for_number, told_behind, next_op_of}
+use Rattle.two_memory_machine.proofs.Moving.{gives_at, number_of}
 use Rattle.instruction_steps.specs.Running.{StepsOn}
 use Rattle.run_interaction.specs.Inputs.{TakesInput}
 use Rattle.run_core.specs.Progress.{IsAt, Reaches, Leads, told}
@@ -60,15 +61,12 @@ gives_same Tells acts inputs events (Over ending t) old new event gives = gives.
 
 -- ---- what a machine waits for
 
-runs_of : (m : Machine) → waiting_of m ≡ waiting.Runs → (m.over ≡ None) × (m.doing ≡ Running)
-runs_of m = by m.over m.doing
+pub not_over_at : (m : Machine) → waiting_of m ≡ waiting.Runs → m.over ≡ None
+not_over_at m = by m.over
   where
-    by : (over : Option Ending) (doing : Doing) → waiting_for over doing ≡ waiting.Runs → (over ≡ None) × (doing ≡ Running)
-    by (Some ending) doing h = absurd (cc)
-    by None Running h = (refl, refl)
-    by None NeedsNumber h = absurd (cc)
-    by None (Touching touch) h = absurd (cc)
-    by None (Suspended import place) h = absurd (cc)
+    by : (over : Option Ending) → waiting_for over m.doing ≡ waiting.Runs → over ≡ None
+    by (Some ending) h = absurd (cc)
+    by None h = refl
 
 pub not_over : (m : Machine) → waiting_of m ≡ waiting.Number → m.over ≡ None
 not_over m = by m.over
@@ -98,44 +96,76 @@ leads_on first mid last inputs event a b =
     }
 
 -- the step waits for a number: the table makes no move
-leads_needs : (old : Machine) (inputs : List ℤ) → old.over ≡ None → old.doing ≡ Running → Leads old inputs told_by.Input (record old { doing = NeedsNumber }) inputs
-leads_needs old inputs going runs =
+leads_needs : (old : Machine) (inputs : List ℤ) → waiting_of old ≡ waiting.Runs → waits_for_number old.doing (next_op_of old) ≡ true → Leads old inputs told_by.Input (record old { doing = NeedsNumber }) inputs
+leads_needs old inputs waits needs =
     record {
       same = (refl, refl);
-      goes = λ s acts events r. record { moves = r.moves; there = by (exec old.image old.settings r.moves s) acts events r.there };
+      goes = λ s acts events r. record { moves = r.moves; there = by old.doing refl (exec old.image old.settings r.moves s) acts events r.there };
     }
   where
-    by : (run : Run) (acts : List Act) (events : List Event) → IsAt run old acts inputs events → IsAt run (record old { doing = NeedsNumber }) acts inputs events
-    by (Unfinished u) acts events here = rw runs at here
-    by (Finished ending t) acts events here = rw runs at here
+    at : (run : Run) (acts : List Act) (events : List Event) → old.doing ≡ Running → IsAt run old acts inputs events → IsAt run (record old { doing = NeedsNumber }) acts inputs events
+    at (Unfinished u) acts events runs here = rw runs at here
+    at (Finished ending t) acts events runs here = rw runs at here
 
-step_leads : (old new : Machine) (event : MachineEvent) (inputs : List ℤ) → old.over ≡ None → old.doing ≡ Running → MachineSteps old event new → Leads old inputs event new inputs
-step_leads old new event inputs going runs steps = by (is_input (next_op_of old)) steps
+    by : (doing : Doing) → old.doing ≡ doing → (run : Run) (acts : List Act) (events : List Event) → IsAt run old acts inputs events → IsAt run (record old { doing = NeedsNumber }) acts inputs events
+    by Running is run acts events here = at run acts events is here
+    by NeedsNumber is run acts events here = absurd (let no : waiting.Number ≡ waiting.Runs = rw (not_over_at old waits, is) at waits in cc)
+    by (HasNumber number) is run acts events here = absurd (let no : false ≡ true = rw is at needs in cc)
+    by (Touching touch) is run acts events here = absurd (let no : waiting.Act ≡ waiting.Runs = rw (not_over_at old waits, is) at waits in cc)
+    by (Suspended import place) is run acts events here = absurd (let no : waiting.Act ≡ waiting.Runs = rw (not_over_at old waits, is) at waits in cc)
+
+step_leads : (old new : Machine) (event : MachineEvent) (inputs : List ℤ) → waiting_of old ≡ waiting.Runs → MachineSteps old event new → Leads old inputs event new inputs
+step_leads old new event inputs waits steps = by (waits_for_number old.doing (next_op_of old)) refl steps.makes
   where
-    by : (input : Bool) → StepsIf input old event new → Leads old inputs event new inputs
-    by true h = rw (h.0, h.1) (leads_needs old inputs going runs)
-    by false h = record {
+    by : (input : Bool) → waits_for_number old.doing (next_op_of old) ≡ input → StepsIf input old event new → Leads old inputs event new inputs
+    by true is h = rw (h.0, h.1) (leads_needs old inputs waits is)
+    by false is h = record {
       same = gives_same TellsStep [] inputs [] _ old new event (h [] inputs []);
-      goes = λ s acts events r. reached TellsStep s old new event acts acts inputs inputs events events going (h acts inputs events) r;
+      goes = λ s acts events r. reached TellsStep s old new event acts acts inputs inputs events events (not_over_at old waits) (h acts inputs events) r;
     }
 
-pub give_leads : (old new : Machine) (event : MachineEvent) (inputs : List ℤ) (number : ℤ) (after : List ℤ) → old.over ≡ None → TakesInput inputs number after → TakesNumber old number event new → (number ≡ pos 0 → TakesNoNumber old event new) → Leads old inputs event new after
-give_leads old new event [] number after going taken takes none =
-    rw taken.1
-    (record {
-      same = gives_same TellsStep [] [] [] _ old new event (none taken.0 [] []);
-      goes = λ s acts events r. reached TellsStep s old new event acts acts [] [] events events going (none taken.0 acts events) r;
-    })
-give_leads old new event (next ∷ left) number after going taken takes none =
-    rw (taken.1, ← taken.0)
-    (record {
-      same = gives_same TellsStep [] left [] _ old new event (takes [] left []);
-      goes = λ s acts events r. reached TellsStep s old new event acts acts (number ∷ left) left events events going (takes acts left events) r;
-    })
+-- a number is given, and taken
+pub give_leads : (old given new : Machine) (event : MachineEvent) (inputs : List ℤ) (number : ℤ) (after : List ℤ) → waiting_of old ≡ waiting.Number → TakesInput inputs number after → given ≡ record old { doing = HasNumber number } → MachineSteps given event new → Leads old inputs event new after
+give_leads old given new event inputs number after waits taken is steps = by inputs taken
+  where
+    going : old.over ≡ None
+    going = not_over old waits
+
+    needs : old.doing ≡ NeedsNumber
+    needs = (number_of old.over old.doing waits).1
+
+    held : Machine
+    held = record old { doing = HasNumber number }
+
+    steps_held : MachineSteps held event new
+    steps_held = subst (λ (m : Machine). MachineSteps m event new) is steps
+
+    takes : (acts : List Act) (inputs : List ℤ) (events : List Event) → Gives TellsStep acts inputs events (move old.image old.settings (state_of old acts (number ∷ inputs) events)) old event new
+    takes acts inputs events =
+        let same : state_of old acts (number ∷ inputs) events ≡ state_of held acts inputs events = rw needs refl in
+        subst (λ s. Gives TellsStep acts inputs events (move old.image old.settings s) old event new) (sym same) (gives_at TellsStep acts inputs events _ old held new event refl refl (steps_held.makes acts inputs events))
+
+    takes_none : number ≡ pos 0 → (acts : List Act) (events : List Event) → Gives TellsStep acts [] events (move old.image old.settings (state_of old acts [] events)) old event new
+    takes_none none acts events =
+        let same : state_of old acts [] events ≡ state_of (record held { doing = NeedsNumber }) acts [] events = rw needs refl in
+        subst (λ s. Gives TellsStep acts [] events (move old.image old.settings s) old event new) (sym same) (gives_at TellsStep acts [] events _ old held new event refl refl (steps_held.none_left (ap HasNumber none) acts events))
+
+    by : (inputs : List ℤ) → TakesInput inputs number after → Leads old inputs event new after
+    by [] taken =
+        rw taken.1
+        (record {
+          same = gives_same TellsStep [] [] [] _ old new event (takes_none taken.0 [] []);
+          goes = λ s acts events r. reached TellsStep s old new event acts acts [] [] events events going (takes_none taken.0 acts events) r;
+        })
+    by (next ∷ left) taken =
+        rw (taken.1, ← taken.0)
+        (record {
+          same = gives_same TellsStep [] left [] _ old new event (takes [] left []);
+          goes = λ s acts events r. reached TellsStep s old new event acts acts (number ∷ left) left events events going (takes acts left events) r;
+        })
 
 -- steps that tell nothing, and one more
 pub steps_lead : (old new : Machine) (event : MachineEvent) (inputs : List ℤ) → waiting_of old ≡ waiting.Runs → StepsOn old event new → Leads old inputs event new inputs
-steps_lead old new event inputs waits (StepsOn.last steps) = let runs = runs_of old waits in step_leads old new event inputs runs.0 runs.1 steps
+steps_lead old new event inputs waits (StepsOn.last steps) = step_leads old new event inputs waits steps
 steps_lead old new event inputs waits (StepsOn.more {mid = mid} steps again rest) =
-    let runs = runs_of old waits in
-    leads_on old mid new inputs event (step_leads old mid told_by.Ran inputs runs.0 runs.1 steps) (steps_lead mid new event inputs again rest)
+    leads_on old mid new inputs event (step_leads old mid told_by.Ran inputs waits steps) (steps_lead mid new event inputs again rest)

@@ -27,7 +27,7 @@ use Rattle.run_core.specs.Moments.{due_in, IsDue}
 use Rattle.run_interaction.specs.Asked.{Answering}
 use Rattle.run_interaction.specs.Touched.{last_of, touched}
 use Rattle.run_core.specs.Chains.{Chain}
-use Rattle.run_core.specs.Runs.{Ends, LineRefused, FileMissing, Comes}
+use Rattle.run_core.specs.Runs.{Ends, LineRefused, FileMissing, Comes, ShelfFault, CameTo}
 
 -- ---- where a machine stands
 
@@ -128,9 +128,9 @@ pub record TakesNone (old new : Play) : Type 0 where
 abbrev pub Stops : {S : Type 0} → Answering S → Option Files → Image → Settings → List ℤ → S → S → List ℕ → RunFault → Type 0
 Stops answers files image settings inputs first now text (faults.Line line code) = Comes answers files image settings inputs first now (LineRefused line code) (with_last_line text [])
 Stops answers files image settings inputs first now text faults.Missing = Comes answers files image settings inputs first now FileMissing (with_last_line text [])
-Stops answers files image settings inputs first now text faults.ShelfFailed = Unit {0}
+Stops answers files image settings inputs first now text faults.ShelfFailed = ShelfFault answers files image settings inputs first now
 Stops answers files image settings inputs first now text faults.SinkFailed = ⊥
-Stops answers files image settings inputs first now text faults.NoMemory = Unit {0}
+Stops answers files image settings inputs first now text faults.NoMemory = CameTo answers files image settings inputs first now
 
 -- the run goes on, or stops
 abbrev pub PlayGoes : {S A : Type 0} → Answering S → Option Files → Image → Settings → List ℤ → S → S → Play → Result A RunFault → Type 0

@@ -10,7 +10,7 @@ use Rattle.act_words.specs.declared.settings.Settings.{Settings}
 use Rattle.act_words.specs.Acts.{Act}
 use Rattle.act_words.specs.World.{Event}
 use Rattle.act_words.specs.Shown.{Shown}
-use Rattle.sandbox_actor.specs.Answers.{Moment, Ended, Refused, Missing}
+use Rattle.sandbox_actor.specs.Answers.{Moment, Answer, Ended, Refused, Missing}
 use Rattle.code_words.specs.declared.image.Image.{Image}
 use Rattle.code_words.specs.Table.{State}
 use Rattle.code_words.specs.Runs.{CodeRun}
@@ -46,6 +46,31 @@ pub data Comes {S : Type 0} (answers : Answering S) (files : Option Files) (imag
   -- the run needed an act from a file that isn't there
   missing : {mid last : S} {moment : Moment} (acts : List Act) (events : List Event) → Chain answers files image settings inputs first acts mid → IsDue image settings inputs acts moment events → answers mid files moment Missing last → Comes answers files image settings inputs first last FileMissing (front_text settings events)
 
+-- the actor's shelf failed: the acts that it had given, and the moment at which it was asked for one more; its state stays
+pub record ShelfFault {S : Type 0} (answers : Answering S) (files : Option Files) (image : Image) (settings : Settings) (inputs : List ℤ) (first last : S) : Type 0 where
+  pub acts : List Act
+  pub moment : Moment
+  pub events : List Event
+  pub chain : Chain answers files image settings inputs first acts last
+  pub due : IsDue image settings inputs acts moment events
+
+-- how far an actor had come where the run broke off: it had given its last act, or answered that it had none to give; or it
+-- was asked for one more, and hadn't the memory to answer
+pub data CameTo {S : Type 0} (answers : Answering S) (files : Option Files) (image : Image) (settings : Settings) (inputs : List ℤ) (first : S) : S → Type 0 where
+  given : {last : S} (acts : List Act) → Chain answers files image settings inputs first acts last → CameTo answers files image settings inputs first last
+  answered : {mid last : S} {moment : Moment} {events : List Event} {answer : Answer} (acts : List Act) → Chain answers files image settings inputs first acts mid → IsDue image settings inputs acts moment events → answers mid files moment answer last → CameTo answers files image settings inputs first last
+  unanswered : {mid last : S} {moment : Moment} {events : List Event} (acts : List Act) → Chain answers files image settings inputs first acts mid → IsDue image settings inputs acts moment events → CameTo answers files image settings inputs first last
+
+-- the actor's shelf failed where an act was due behind those that it had given, and nothing was written
+pub record WritesToShelfFault {S : Type 0} (answers : Answering S) (files : Option Files) (image : Image) (settings : Settings) (inputs : List ℤ) (first last : S) (old new : Option (List ℕ)) : Type 0 where
+  pub due : ShelfFault answers files image settings inputs first last
+  pub nothing : new ≡ old
+
+-- memory ran out, behind the acts that the actor had given, and nothing was written
+pub record WritesToWant {S : Type 0} (answers : Answering S) (files : Option Files) (image : Image) (settings : Settings) (inputs : List ℤ) (first last : S) (old new : Option (List ℕ)) : Type 0 where
+  pub came : CameTo answers files image settings inputs first last
+  pub nothing : new ≡ old
+
 -- the whole text of what the run comes to was written
 abbrev pub WritesAll : {S : Type 0} → Answering S → Option Files → Image → Settings → List ℤ → S → S → Outcome → (old new : Option (List ℕ)) → Type 0
 WritesAll answers files image settings inputs first last outcome old new = (text : List ℕ) × Comes answers files image settings inputs first last outcome text × (new ≡ grown old text)
@@ -64,9 +89,9 @@ abbrev pub RunWrites : {S : Type 0} → Answering S → Option Files → Image �
 RunWrites answers files image settings inputs first last old new (Ok ending) = WritesAll answers files image settings inputs first last (Ends ending) old new
 RunWrites answers files image settings inputs first last old new (Err (faults.Line line code)) = WritesAll answers files image settings inputs first last (LineRefused line code) old new
 RunWrites answers files image settings inputs first last old new (Err faults.Missing) = WritesAll answers files image settings inputs first last FileMissing old new
-RunWrites answers files image settings inputs first last old new (Err faults.ShelfFailed) = new ≡ old
+RunWrites answers files image settings inputs first last old new (Err faults.ShelfFailed) = WritesToShelfFault answers files image settings inputs first last old new
 RunWrites answers files image settings inputs first last old new (Err faults.SinkFailed) = WritesFront answers files image settings inputs first last old new
-RunWrites answers files image settings inputs first last old new (Err faults.NoMemory) = new ≡ old
+RunWrites answers files image settings inputs first last old new (Err faults.NoMemory) = WritesToWant answers files image settings inputs first last old new
 
 -- ---- counts of failures
 

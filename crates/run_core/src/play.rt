@@ -174,7 +174,7 @@ impl<'a> Play<'a> {
         Ok(ending_of(&event))
     }
 
-    // Gives the machine the number that it waits for.
+    // Gives the machine the number that it waits for, which it takes.
     fn give(&mut self, alloc: Global) -> Result<Option<Ending>, NoMemory>
         requires { waiting_of self.old.machine ≡ Waiting.Number }
         ensures steps { OnOk result (Steps self.old self.new) }
@@ -183,7 +183,8 @@ impl<'a> Play<'a> {
         ensures settings { self.new.settings ≡ self.old.settings }
     {
         let number = self.next_input();
-        let event = self.machine.give(number);
+        self.machine.give(number);
+        let event = running::step(&mut self.machine);
         self.tell(alloc, &event)?;
         Ok(ending_of(&event))
     }

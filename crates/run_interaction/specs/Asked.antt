@@ -18,15 +18,15 @@ abbrev pub HasEnded : {S : Type 0} → Answering S → Option Files → Moment �
 HasEnded answers files moment before after true = after ≡ before
 HasEnded answers files moment before after false = answers before files moment Ended after
 
--- what an actor answers, if it is asked: it isn't once it has ended
+-- what an actor answers, if it is asked: it isn't once it has ended. A failed shelf leaves its state
 abbrev pub AskAnswers : {S : Type 0} → Answering S → Option Files → Moment → Bool → S → S → Result (Option code.Act.Act) RunFault → Type 0
 AskAnswers answers files moment ended before after (Ok (Some act)) = (ended ≡ false) × answers before files moment (Gives (act_view act)) after
 AskAnswers answers files moment ended before after (Ok None) = HasEnded answers files moment before after ended
 AskAnswers answers files moment ended before after (Err (faults.Line line code)) = (ended ≡ false) × answers before files moment (Refused line code) after
 AskAnswers answers files moment ended before after (Err faults.Missing) = (ended ≡ false) × answers before files moment Missing after
-AskAnswers answers files moment ended before after (Err faults.ShelfFailed) = Unit {0}
+AskAnswers answers files moment ended before after (Err faults.ShelfFailed) = (ended ≡ false) × (after ≡ before)
 AskAnswers answers files moment ended before after (Err faults.SinkFailed) = ⊥
-AskAnswers answers files moment ended before after (Err faults.NoMemory) = Unit {0}
+AskAnswers answers files moment ended before after (Err faults.NoMemory) = ended ≡ false
 
 -- an act that is given lowers the actor's measure, where it leaves the turn and makes no touch
 abbrev pub AskLowers : Turn → Result (Option code.Act.Act) RunFault → ℕ → ℕ → Type 0

@@ -1,18 +1,18 @@
-use Rattle.std.proofs.Common.{arith}
+use Rattle.std.proofs.Common.{◌<◌, arith}
 use Rattle.two_memory_machine.specs.declared.event.Event.TheVariants.{Ran, Asks}
-use Rattle.two_memory_machine.specs.Machines.{Steps}
+use Rattle.two_memory_machine.specs.Machines.{Steps, moves_left}
 use Rattle.two_memory_machine.specs.declared.outcome.Outcome.TheVariants as outcomes
 use Rattle.two_memory_machine.specs.Steps.{event_of}
 use Rattle.machine_interaction.specs.Told.{IsStep}
 use Rattle.instruction_steps.specs.Running.{StepsOn, IsEndedIf}
-use Rattle.instruction_steps.proofs.Tries.{runs_again, told_by}
+use Rattle.instruction_steps.proofs.Tries.{runs_again, tells_other, told_by}
 use Rattle.instruction_steps.proofs.running.run_on.Goals as goal
 
 pub steps-init : goal.steps-init
 steps-init c = record { waits = c.requires; leads = λ event new steps. steps; moves = omega arith }
 
-pub steps-preserved : goal.steps-preserved
-steps-preserved c =
+pub steps-preserved-in-Some-Ran : goal.steps-preserved-in-Some-Ran
+steps-preserved-in-Some-Ran c =
     let at = c.steps.invariant in
     let now = c.in-Some-Ran.ensures.0 in
     let ran : Steps c.steps.machine Ran c.try_step.new.machine = rw c.in-Some-Ran.field-0-is at now.steps in
@@ -43,6 +43,24 @@ returns-in-Some-Ended c =
       sooner = omega (arith, at.moves, now.sooner);
     }
 
-pub returns-in-None-clause-steps : goal.returns-in-None-clause-steps
-returns-in-None-clause-steps c =
-    c.steps.invariant.leads c.told_step.result c.told_step.new.machine (StepsOn.last (rw c.in-None.ensures.0 at c.told_step.ensures.steps))
+-- a number that was given was taken
+pub steps-preserved : goal.steps-preserved
+steps-preserved c =
+    let at = c.steps.invariant in
+    let same = c.in-None.ensures.0 in
+    let ran : Steps c.steps.machine Ran c.told_step.new.machine = rw same at c.in-Ran.ensures.steps in
+    let sooner : moves_left c.told_step.new.machine < moves_left c.steps.machine = rw same at c.in-Ran.ensures.sooner in
+    let again = runs_again c.steps.machine c.told_step.new.machine ran in
+    record { waits = again; leads = λ event new rest. at.leads event new (StepsOn.more ran again rest); moves = omega (arith, at.moves, sooner) }
+
+pub returns-in_default : goal.returns-in_default
+returns-in_default c =
+    let at = c.steps.invariant in
+    let same = c.in-None.ensures.0 in
+    let sooner : moves_left c.told_step.new.machine < moves_left c.steps.machine = rw same at c.told_step.ensures.sooner in
+    record {
+      steps = at.leads _ c.told_step.new.machine (StepsOn.last (rw same at c.told_step.ensures.steps));
+      over = c.told_step.ensures.over;
+      told = tells_other _ c.in_default.not-Ran;
+      sooner = omega (arith, at.moves, sooner);
+    }

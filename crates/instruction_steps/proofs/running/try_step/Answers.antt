@@ -1,4 +1,4 @@
-use Rattle.std.proofs.Common.{◌≡◌, None, sym}
+use Rattle.std.proofs.Common.{◌≡◌, None, Some, sym}
 use Rattle.two_memory_machine.specs.Machines.{next_op_of}
 use Rattle.instruction_steps.proofs.Tries.{tried_unless_told, tried_wild}
 use Rattle.instruction_steps.proofs.running.try_step.Goals as goal
@@ -6,8 +6,9 @@ use Rattle.instruction_steps.proofs.running.try_step.Goals as goal
 pub returns-in_default : goal.returns-in_default
 returns-in_default c =
     let next : next_op_of c.args.machine.now ≡ None = sym c.in_default.ensures.op in
-    tried_wild c.args.machine.now c.end_wild.new.self c.end_wild.result c.in_default.ensures.paced c.requires next c.end_wild.ensures.line
+    tried_wild c.args.machine.now c.end_wild.new.self c.end_wild.result c.in_default.ensures.paced c.requires next c.in_default.ensures.given c.end_wild.ensures.line
 
-pub returns : goal.returns
-returns c =
-    tried_unless_told c.args.machine.now c.perform.new.machine c.perform.result c.in-Some.op.now c.in-Some.ensures.paced c.requires (sym c.in-Some.ensures.op) c.perform.ensures
+pub returns-in_default-op : goal.returns-in_default-op
+returns-in_default-op c =
+    let next : next_op_of c.args.machine.now ≡ Some c.in-Some.op.now = sym c.in-Some.ensures.op in
+    tried_unless_told c.args.machine.now c.perform.new.machine c.perform.result c.in-Some.op.now c.in-Some.ensures.paced c.requires next c.in-Some.ensures.given c.perform.ensures

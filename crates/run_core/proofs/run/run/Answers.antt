@@ -1,5 +1,8 @@
-use Rattle.std.proofs.Common.{◌∙◌, subst}
+use Rattle.std.proofs.Common.{[], refl, ◌∙◌, subst}
+use Rattle.std.proofs.lemmas.Result.{err_from_is_err_and}
 use Rattle.run_transcript.specs.Finishes.{Finishes}
+use Rattle.run_core.specs.Chains.{Chain}
+use Rattle.run_core.specs.Runs.{CameTo}
 use Rattle.run_core.specs.Progress.{blocks_of}
 use Rattle.run_core.proofs.Playing.{played_first}
 use Rattle.run_core.proofs.Ending.{run_writes, run_counts}
@@ -21,3 +24,8 @@ pub returns-clause-counts : goal.returns-clause-counts
 returns-clause-counts g c =
     let play = c.to_end-outcome.new.self in
     run_counts play.text.items play.settings (blocks_of play.machine) c.to_end-outcome.result c.finish.result _ _ _ _ _ _ _ _ c.to_end-outcome.ensures.counts c.finish.ensures
+
+pub returns-in_err-play-clause-writes : goal.returns-in_err-play-clause-writes
+returns-in_err-play-clause-writes g c =
+    let p = err_from_is_err_and c.from_residual.result c.from_residual.ensures.1 in
+    rw (p.1, p.2) (record { came = CameTo.given [] Chain.none; nothing = refl })

@@ -4,7 +4,7 @@ use Rattle.act_words.specs.Acts.{act_view}
 use Rattle.two_memory_machine.specs.Machines.{turn_of}
 use Rattle.run_interaction.specs.Asked.{AskAnswers, AskLowers}
 use Rattle.run_core.specs.Progress.{moment_in}
-use Rattle.run_core.proofs.Playing.{played_take, played_none, played_stops}
+use Rattle.run_core.proofs.Playing.{played_take, played_none, played_stops, act_short, none_short}
 use Rattle.run_core.proofs.Nearing.{act_nears, none_nears}
 use Rattle.run_core.proofs.play.Play.take_next.Goals as goal
 
@@ -32,3 +32,15 @@ returns-in_ok-take_none-in-None-clause-goes g c = λ image settings inputs first
 pub returns-in_ok-take_none-in-None-clause-nears : goal.returns-in_ok-take_none-in-None-clause-nears
 returns-in_ok-take_none-in-None-clause-nears g c =
     none_nears _ c.args.self.now.machine c.take_none.new.self.machine _ _ c.in_ok-take_none-in-None.ensures.moves c.in_ok-take_none-in-None.ensures.nears
+
+pub returns-in_err-take-in-Some-clause-goes : goal.returns-in_err-take-in-Some-clause-goes
+returns-in_err-take-in-Some-clause-goes g c = λ image settings inputs first played.
+    let p = err_from_is_err_and c.from_residual-in_err-take-in-Some.result c.from_residual-in_err-take-in-Some.ensures.1 in
+    let answered = subst (λ o. AskAnswers g.A.Actor.answers (g.F.Shelf.files c.args.shelf.now) (moment_in c.args.self.now) c.args.self.now.ended (g.A.Actor.state_of c.args.actor.now) (g.A.Actor.state_of c.ask.new.actor) (Ok o)) c.in-Some.is c.in_ok-act.ensures.answer in
+    rw (p.1, p.2) (act_short g.A.Actor.answers _ image settings inputs first _ _ c.args.self.now (act_view c.in-Some.act) c.requires answered.0 answered.1 played)
+
+pub returns-in_err-take_none-in-None-clause-goes : goal.returns-in_err-take_none-in-None-clause-goes
+returns-in_err-take_none-in-None-clause-goes g c = λ image settings inputs first played.
+    let p = err_from_is_err_and c.from_residual-in_err-take_none-in-None.result c.from_residual-in_err-take_none-in-None.ensures.1 in
+    let answered = subst (λ o. AskAnswers g.A.Actor.answers (g.F.Shelf.files c.args.shelf.now) (moment_in c.args.self.now) c.args.self.now.ended (g.A.Actor.state_of c.args.actor.now) (g.A.Actor.state_of c.ask.new.actor) (Ok o)) c.in-None.is c.in_ok-act.ensures.answer in
+    rw (p.1, p.2) (none_short g.A.Actor.answers _ image settings inputs first _ _ c.args.self.now c.requires answered played)
