@@ -20,3 +20,4 @@ pub mod NamedVerdicts
 pub mod NamedMentions
 pub mod NamedScopes
 pub mod NamedExpressions
+pub mod NamedStatements
