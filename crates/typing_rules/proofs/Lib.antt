@@ -21,3 +21,4 @@ pub mod NamedMentions
 pub mod NamedScopes
 pub mod NamedExpressions
 pub mod NamedStatements
+pub mod NamedLists

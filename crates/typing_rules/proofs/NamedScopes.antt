@@ -109,7 +109,7 @@ type_some : (o : Option CType) (k : ℕ) → is_some (local_if o k) ≡ true →
 type_some None k h = absurd (cc)
 type_some (Some t) k h = (t, refl)
 
-local_later : (types types' : List CType) (seen : List Visible) (x : List ℕ) → Extends types types' → is_some (local_named types seen x) ≡ true → is_some (local_named types' seen x) ≡ true
+pub local_later : (types types' : List CType) (seen : List Visible) (x : List ℕ) → Extends types types' → is_some (local_named types seen x) ≡ true → is_some (local_named types' seen x) ≡ true
 local_later types types' [] x ext h = absurd (cc)
 local_later types types' (v ∷ seen) x ext h = by (bytes_eq x v.name) h (λ h'. local_later types types' seen x ext h')
   where
@@ -134,18 +134,19 @@ pub entry_value : (name : List ℕ) (meaning : Meaning) (blocks : List Block) (x
 entry_value name meaning [] x e = refl
 entry_value name meaning (block ∷ blocks) x e = rw e refl
 
-pub entry_function : (name : List ℕ) (meaning : Meaning) → is_function (Some meaning) ≡ false → (blocks : List Block) (x : List ℕ) → is_function (visible (with_entry name meaning blocks) x) ≡ true → is_function (visible blocks x) ≡ true
-entry_function name meaning other blocks x h = by (bytes_eq x name) refl blocks h
+-- what isn't so of the new entry was so before
+pub entry_without : (test : Option Meaning → Bool) (name : List ℕ) (meaning : Meaning) → test (Some meaning) ≡ false → (blocks : List Block) (x : List ℕ) → test (visible (with_entry name meaning blocks) x) ≡ true → test (visible blocks x) ≡ true
+entry_without test name meaning other blocks x h = by (bytes_eq x name) refl blocks h
   where
-    by : (b : Bool) → bytes_eq x name ≡ b → (blocks : List Block) → is_function (visible (with_entry name meaning blocks) x) ≡ true → is_function (visible blocks x) ≡ true
-    by false e blocks h' = subst (λ o. is_function o ≡ true) (entry_value name meaning blocks x e) h'
+    by : (b : Bool) → bytes_eq x name ≡ b → (blocks : List Block) → test (visible (with_entry name meaning blocks) x) ≡ true → test (visible blocks x) ≡ true
+    by false e blocks h' = subst (λ o. test o ≡ true) (entry_value name meaning blocks x e) h'
     by true e [] h' = h'
-    by true e (block ∷ blocks) h' = let now : is_function (Some meaning) ≡ true = rw e at h' in absurd (cc)
+    by true e (block ∷ blocks) h' = let now : test (Some meaning) ≡ true = rw e at h' in absurd (cc)
 
 pub local_agrees : (name : Identifier) (t : CType) (n : Scopes) (g : Scope) → Agrees n g → Agrees (standing_for name Variable n) (with_local name.name t g)
 local_agrees name t n g h = record {
   value = λ x v. by x (bytes_eq x name.name) refl v;
-  function = λ x f. h.function x (entry_function name.name Variable refl n.blocks x f);
+  function = λ x f. h.function x (entry_without is_function name.name Variable refl n.blocks x f);
   tag = h.tag;
 }
   where

@@ -45,6 +45,11 @@ pub needs_named : {A : Type 0} (Q : A → Type 0) (test : Bool) (code : Code) (s
 needs_named Q true code span next h = h
 needs_named Q false code span next h = tt
 
+pub named_so : {A : Type 0} (P Q : A → Type 0) (v : Verdict A) → ((x : A) → P x → Q x) → IsNamed P v → IsNamed Q v
+named_so P Q (Passes value) more h = more value h
+named_so P Q (Stops (Broken fault)) more h = tt
+named_so P Q (Stops Nameless) more h = h
+
 -- what is asked of a value of which nothing is
 abbrev pub Any : {A : Type 0} → A → Type 0
 Any x = Unit {0}
