@@ -22,3 +22,4 @@ pub mod NamedScopes
 pub mod NamedExpressions
 pub mod NamedStatements
 pub mod NamedLists
+pub mod NamedItems

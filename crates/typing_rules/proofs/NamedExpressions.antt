@@ -1,6 +1,6 @@
 -- In an expression each name stands for something.
-use Rattle.std.proofs.Common.{◌≡◌, ℕ, ◌^◌, Bool, true, false, List, [], ◌∷◌, length, Option, Some, None, refl, sym, ◌∙◌}
-use Rattle.std.specs.Prelude.{◌==◌, ◌&&◌, ◌||◌, not, bytes_eq, codes, nat_lt, is_some, position}
+use Rattle.std.proofs.Common.{◌≡◌, ℕ, ◌^◌, Bool, true, false, List, length, Option, Some, None, refl, sym, ◌∙◌}
+use Rattle.std.specs.Prelude.{◌==◌, ◌||◌, not, bytes_eq, codes, nat_lt}
 use Rattle.std.specs.List.{list_any}
 use Rattle.std.proofs.lemmas.Bool.{and_parts}
 use Rattle.ckc_text.specs.declared.place.Span.{Span}
@@ -8,16 +8,15 @@ use Rattle.ckc_text.specs.declared.code.Code.TheVariants.{E04, E14}
 use Rattle.ckc_tree.specs.Expressions as e
 use Rattle.ckc_tree.specs.Expressions.{Expression, Expressions}
 use Rattle.built_forms.specs.Built.{built_expression, built_expressions}
-use Rattle.ckc_names.specs.Mentions.{Call, type_mentions, expression_mentions, expressions_mentions}
+use Rattle.ckc_names.specs.Mentions.{expression_mentions, expressions_mentions}
 use Rattle.ckc_names.specs.Scopes.{Scopes, visible, is_among, predefined, is_function}
 use Rattle.ckc_core.specs.declared.program.Site.{Site}
 use Rattle.ckc_core.specs.Core as core
-use Rattle.typing_rules.specs.Verdicts.{passing}
 use Rattle.typing_rules.specs.Scopes.{Scope, Signature, named, function_named}
 use Rattle.typing_rules.specs.Types.{type_named}
-use Rattle.typing_rules.specs.Expressions.{Places, Typed, site_at, writes, predefined_call, called, typed, all_typed, call_typed}
+use Rattle.typing_rules.specs.Expressions.{Places, Typed, site_at, predefined_call, called, typed, all_typed, call_typed}
 use Rattle.typing_rules.proofs.NamedVerdicts.{AllNamed, Any, then_named, needs_named, dotted_named, arrowed_named, unary_named, binary_named, indexed_named, declared_named, writes_named, result_named}
-use Rattle.typing_rules.proofs.NamedMentions.{IsFound, AreFound, found_append}
+use Rattle.typing_rules.proofs.NamedMentions.{AreFound, found_append}
 use Rattle.typing_rules.proofs.NamedScopes.{Agrees, among_any, call_function, name_meant, found_tags, type_named_named}
 
 -- ---- calls

@@ -1,16 +1,16 @@
 -- Members of a struct and parameters of a function: which names naming enters for them, and what the rules make of them.
-use Rattle.std.proofs.Common.{◌≡◌, ℕ, Bool, true, false, List, [], ◌∷◌, ◌++◌, length, map, Option, Some, None, refl, sym, ap, ◌∙◌, subst, ◌⊎◌, inl, inr}
-use Rattle.std.specs.Prelude.{◌||◌, bytes_eq, nat_lt, is_some, is_none, Ok, flat_map}
+use Rattle.std.proofs.Common.{◌≡◌, ℕ, Bool, true, false, List, [], ◌∷◌, ◌++◌, length, map, Some, refl, sym, subst, ◌⊎◌, inl, inr}
+use Rattle.std.specs.Prelude.{◌||◌, bytes_eq, nat_lt, is_some, is_none, position, Ok, flat_map}
 use Rattle.std.specs.List.{AllByRecursion, list_any}
 use Rattle.ckc_text.specs.declared.code.Code.TheVariants.{E08}
 use Rattle.ckc_tree.specs.declared.identifier.Identifier.{Identifier}
-use Rattle.ckc_tree.specs.Types.{TypeTree, type_span}
+use Rattle.ckc_tree.specs.Types.{type_span}
 use Rattle.ckc_tree.specs.Items.{Member}
 use Rattle.ckc_names.specs.Mentions.{Mention, Reveal, Declare, type_mentions, bounds_mentions, optional_mentions, member_mentions, listed_mentions}
 use Rattle.ckc_names.specs.Scopes.{Meaning, Coming, Variable, Scopes, visible, innermost, with_entry, standing_for, revealed_if, is_value, is_function, is_among, all_mentioned}
 use Rattle.pointer_modes.specs.Types as types
 use Rattle.pointer_modes.specs.Types.{CType}
-use Rattle.typing_rules.specs.Scopes.{Scope, Variable as FileVariable, local_named, object_named, or_else, function_named, struct_named}
+use Rattle.typing_rules.specs.Scopes.{Scope, Variable as FileVariable, local_named, object_named, function_named}
 use Rattle.typing_rules.specs.Types.{type_named}
 use Rattle.typing_rules.specs.Statements.{with_local}
 use Rattle.typing_rules.specs.Items.{member_types, parameter_types, with_parameters}
@@ -57,7 +57,7 @@ module _ (P : List ℕ → Type 0) where
     pub function : (x : List ℕ) → is_function (visible m.blocks x) ≡ true → is_function (visible n.blocks x) ≡ true
     pub keeps : Keeps n m
 
-  adds_same : (n : Scopes) → Adds n n
+  pub adds_same : (n : Scopes) → Adds n n
   adds_same n = record { value = λ x v. inr v; function = λ x f. f; keeps = keeps_same n n refl }
 
   adds_further : (n k m : Scopes) → Adds n k → Adds k m → Adds n m
@@ -189,18 +189,15 @@ parameters_local (p ∷ ps) g x (inl listed) = elim (or_cases (bytes_eq x p.name
 parameters_local (p ∷ ps) g x (inr old) = parameters_local ps (with_local p.name p.type g) x (inr (local_here p.name p.type g x (inr old)))
 
 -- the scopes inside a function, where these are its parameters and naming has entered their names
-pub inside_agrees : (n k : Scopes) (g before : Scope) (ps : List FileVariable) → AgreesFile n g → Later g before → Adds (λ x. is_variable ps x ≡ true) n k → Agrees k (with_parameters ps before)
-inside_agrees n k g before ps agrees same adds =
-    let after = with_parameters ps before in
-    let later = later_further g before after same (parameters_later ps before) in
+pub inside_agrees : (n k : Scopes) (g : Scope) (ps : List FileVariable) → AgreesFile n g → Adds (λ x. is_variable ps x ≡ true) n k → Agrees k (with_parameters ps g)
+inside_agrees n k g ps agrees adds =
+    let after = with_parameters ps g in
+    let later = parameters_later ps g in
     record {
       value = λ x v. elim (adds.value x v) [
-        | inl new ↦ first_some (local_named after.locals after.visible x) (object_named 0 after.variables x) (parameters_local ps before x (inl new))
+        | inl new ↦ first_some (local_named after.locals after.visible x) (object_named 0 after.variables x) (parameters_local ps g x (inl new))
         | inr old ↦ second_some (local_named after.locals after.visible x) (object_named 0 after.variables x) (subst (λ vs. is_some (object_named 0 vs x) ≡ true) later.variables (agrees.value x old))
       ];
       function = λ x f. subst (λ fs. is_some (function_named fs x) ≡ true) later.functions (agrees.function x (adds.function x f));
-      tag = λ x t. knows x later (agrees.tag x (subst (λ ts. is_among ts x ≡ true) adds.keeps.tags t));
+      tag = λ x t. subst (λ ts. is_some (position (bytes_eq x) ts) ≡ true) later.tags (agrees.tag x (subst (λ ts. is_among ts x ≡ true) adds.keeps.tags t));
     }
-  where
-    knows : (x : List ℕ) → Later g (with_parameters ps before) → is_some (struct_named g x) ≡ true → is_some (struct_named (with_parameters ps before) x) ≡ true
-    knows x later h = subst (λ ts. is_some (struct_named (record g { tags = ts }) x) ≡ true) later.tags h

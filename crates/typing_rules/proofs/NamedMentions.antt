@@ -1,6 +1,6 @@
 -- What naming goes through: mentions in a row, those that leave the scopes as they are, and blocks.
 use Rattle.std.proofs.Common.{◌≡◌, ℕ, Bool, true, false, List, [], ◌∷◌, ◌++◌, append-nil, Option, Some, None, refl, sym, ap, ◌∙◌, subst}
-use Rattle.std.specs.Prelude.{bytes_eq, Result, Ok, Err, flat_map, map, is_none}
+use Rattle.std.specs.Prelude.{Result, Ok, Err, flat_map}
 use Rattle.std.specs.List.{AllByRecursion}
 use Rattle.ckc_text.specs.declared.code.Code.{Code}
 use Rattle.ckc_text.specs.declared.fault.SourceFault.{SourceFault}
@@ -10,9 +10,8 @@ use Rattle.ckc_tree.specs.Expressions as e
 use Rattle.ckc_tree.specs.Expressions.{Expression, Expressions, Bounds}
 use Rattle.ckc_tree.specs.Statements as s
 use Rattle.ckc_tree.specs.Statements.{Initializer, Declarator, Declaration, Assignment, ForInitial, Statement, Statements}
-use Rattle.ckc_tree.specs.Items.{Member}
-use Rattle.ckc_names.specs.Mentions.{Mention, Open, Close, Reveal, Declare, DeclareFunction, DeclareTag, Use, Call, UseTag, Select, type_mentions, expression_mentions, expressions_mentions, bounds_mentions, optional_mentions, initializer_mentions, declarator_mentions, declaration_mentions, assignment_mentions, for_initial_mentions, in_block, statement_mentions, statements_mentions, member_mentions, listed_mentions}
-use Rattle.ckc_names.specs.Scopes.{Meaning, Coming, Variable, Block, Scopes, outside, innermost, with_entry, standing_for, unless_refused, revealed_if, mentioned, then_mentioned, all_mentioned}
+use Rattle.ckc_names.specs.Mentions.{Mention, Open, Close, Reveal, Declare, DeclareFunction, DeclareTag, Use, Call, UseTag, Select, type_mentions, expression_mentions, expressions_mentions, bounds_mentions, optional_mentions, initializer_mentions, declarator_mentions, declaration_mentions, assignment_mentions, for_initial_mentions, in_block, statement_mentions, statements_mentions}
+use Rattle.ckc_names.specs.Scopes.{Meaning, Variable, Block, Scopes, outside, with_entry, standing_for, unless_refused, mentioned, then_mentioned, all_mentioned}
 
 -- ---- mentions in a row
 
@@ -223,7 +222,7 @@ declarator_keeps d =
     (quiet_keeps (optional_mentions bounds_mentions d.bounds ++ optional_mentions initializer_mentions d.initializer)
     (quiet_append (optional_mentions bounds_mentions d.bounds) _ (optional_quiet bounds_mentions bounds_quiet d.bounds) (optional_quiet initializer_mentions initializer_quiet d.initializer)))
 
-nothing_keeps : KeepsOutside []
+pub nothing_keeps : KeepsOutside []
 nothing_keeps = quiet_keeps [] tt
 
 declarators_keep : (ds : List Declarator) → KeepsOutside (flat_map declarator_mentions ds)

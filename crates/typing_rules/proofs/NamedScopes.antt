@@ -1,5 +1,5 @@
 -- How the scopes of naming and of the rules agree: what naming finds is known in the rules.
-use Rattle.std.proofs.Common.{◌≡◌, ℕ, zero, suc, ◌+◌, Bool, true, false, List, [], ◌∷◌, ◌++◌, length, Option, Some, None, refl, sym, ap, ◌∙◌, subst, arith}
+use Rattle.std.proofs.Common.{◌≡◌, ℕ, suc, ◌+◌, Bool, true, false, List, [], ◌∷◌, ◌++◌, length, Option, Some, None, refl, ◌∙◌, subst, arith}
 use Rattle.std.specs.Prelude.{◌==◌, ◌||◌, cond, bytes_eq, nat_lt, is_some, position, slice_get}
 use Rattle.std.specs.List.{list_any, position_or_len}
 use Rattle.std.proofs.lemmas.Bool.Decides.{nat_tests}
@@ -7,10 +7,10 @@ use Rattle.ckc_text.specs.declared.code.Code.TheVariants.{E15}
 use Rattle.ckc_tree.specs.declared.identifier.Identifier.{Identifier}
 use Rattle.ckc_tree.specs.Types.{TypeTree, IntType, CharType, StructType, PointerType, TypeName, type_span}
 use Rattle.ckc_names.specs.Mentions.{Use, Call, UseTag, type_mentions}
-use Rattle.ckc_names.specs.Scopes.{Meaning, Coming, Variable, Function, Block, Scopes, visible, is_among, predefined, null, with_entry, standing_for, is_value, is_function, mentioned}
+use Rattle.ckc_names.specs.Scopes.{Meaning, Variable, Block, Scopes, visible, is_among, predefined, null, with_entry, standing_for, is_value, is_function}
 use Rattle.pointer_modes.specs.Types.{CType}
-use Rattle.typing_rules.specs.Verdicts.{passing, meant, picked}
-use Rattle.typing_rules.specs.Scopes.{Scope, Signature, Variable as FileVariable, Visible, Named, Local, Object, Nothing, local_if, found_if, local_named, object_named, or_else, null_named, named, function_named, struct_named}
+use Rattle.typing_rules.specs.Verdicts.{passing, meant}
+use Rattle.typing_rules.specs.Scopes.{Scope, Visible, Named, local_if, found_if, local_named, object_named, or_else, null_named, named, function_named, struct_named}
 use Rattle.typing_rules.specs.Types.{without_stars, base_type, type_named}
 use Rattle.typing_rules.specs.Statements.{with_local, behind_block, in_loop}
 use Rattle.typing_rules.proofs.Verdicts.{Extends, extends_append, extends_last}

@@ -1,5 +1,5 @@
 -- In a statement each name stands for something, and the scopes behind it agree again.
-use Rattle.std.proofs.Common.{◌≡◌, ℕ, Bool, true, false, List, [], ◌∷◌, ◌++◌, length, Option, Some, None, refl, sym, ap, ◌∙◌, subst}
+use Rattle.std.proofs.Common.{◌≡◌, ℕ, true, List, [], ◌∷◌, ◌++◌, length, Option, Some, None, sym, subst}
 use Rattle.std.specs.Prelude.{◌&&◌, ◌||◌, not, nat_lt, flat_map, Ok}
 use Rattle.std.specs.List.{list_all}
 use Rattle.std.proofs.lemmas.Bool.{and_parts}
@@ -14,14 +14,14 @@ use Rattle.ckc_names.specs.Mentions.{type_mentions, expression_mentions, bounds_
 use Rattle.ckc_names.specs.Scopes.{Variable, Scopes, standing_for, all_mentioned}
 use Rattle.pointer_modes.specs.Types.{CType}
 use Rattle.ckc_core.specs.Core as core
-use Rattle.typing_rules.specs.Verdicts.{Passes, passing}
+use Rattle.typing_rules.specs.Verdicts.{Passes}
 use Rattle.typing_rules.specs.Scopes.{Scope}
 use Rattle.typing_rules.specs.Types.{is_scalar, without_stars, base_type}
-use Rattle.typing_rules.specs.Expressions.{Places, Typed, typed, call_typed}
+use Rattle.typing_rules.specs.Expressions.{Places, typed, call_typed}
 use Rattle.typing_rules.specs.Statements.{step_of, one, assignment, with_local, initialised, declarator, declarators, declaration, behind_block, in_loop, is_unchecked, condition, optional_condition, optional_step, first_part, return, statement, statements}
 use Rattle.typing_rules.proofs.NamedVerdicts.{IsNamed, AllNamed, Any, passing_named, then_named, needs_named, scalar_named, converted_named, updated_named, stored_named, returned_named, nothing_named}
-use Rattle.typing_rules.proofs.NamedMentions.{AreFound, mentioned_append, quiet_front, quiet_all, quiet_append, found_append, type_quiet, expression_quiet, bounds_quiet, optional_quiet, initializer_quiet, assignment_quiet, declared_front, opened, block_mentioned, block_front, for_mentions, for_keeps, statement_keeps, statements_keep}
-use Rattle.typing_rules.proofs.NamedScopes.{Agrees, opened_agrees, loop_agrees, Later, later_same, later_further, later_block, later_loop, later_local, behind_agrees, local_agrees, HasTags, found_tags, base_named, stars_named}
+use Rattle.typing_rules.proofs.NamedMentions.{AreFound, mentioned_append, quiet_front, quiet_all, found_append, type_quiet, expression_quiet, bounds_quiet, optional_quiet, initializer_quiet, assignment_quiet, declared_front, opened, block_mentioned, block_front, for_mentions, for_keeps, statement_keeps, statements_keep}
+use Rattle.typing_rules.proofs.NamedScopes.{Agrees, opened_agrees, loop_agrees, Later, later_same, later_further, later_block, later_loop, later_local, behind_agrees, local_agrees, found_tags, base_named, stars_named}
 use Rattle.typing_rules.proofs.NamedExpressions.{typed_named, call_named}
 
 -- the scopes of naming agree with these, which are those before with locals entered
@@ -88,10 +88,10 @@ module _ (at : Places) where
       needs_named (Behind {A = core.Statement} m g) (nat_lt (length g.locals) 256) E08 span _
       (then_named (Behind {A = core.Statement} m g) (without_stars base d.stars type) _ (stars_named base d.stars type)
       (λ t. (let now = local_agrees d.name t n g agrees in
-          then_named (Behind {A = core.Statement} m g) (initialised at (with_local d.name.name t g) d.initializer t (length g.locals) span) _
-          (initialised_named inner (with_local d.name.name t g) now d.initializer t (length g.locals) span forms last.0)
-          (λ x. needs_named (Behind {A = core.Statement} m g) (is_scalar t) E13 span _
-          (record { agrees = subst (λ k. Agrees k (with_local d.name.name t g)) (sym last.1) now; later = later_local d.name.name t g })))))
+      then_named (Behind {A = core.Statement} m g) (initialised at (with_local d.name.name t g) d.initializer t (length g.locals) span) _
+      (initialised_named inner (with_local d.name.name t g) now d.initializer t (length g.locals) span forms last.0)
+      (λ x. needs_named (Behind {A = core.Statement} m g) (is_scalar t) E13 span _
+      (record { agrees = subst (λ k. Agrees k (with_local d.name.name t g)) (sym last.1) now; later = later_local d.name.name t g })))))
 
   declarators_named : (n m : Scopes) (g : Scope) (base : TypeTree) (type : CType) (span : Span) (ds : List Declarator) → Agrees n g → list_all built_declarator ds ≡ true → all_mentioned (flat_map declarator_mentions ds) n ≡ Ok m
       → IsNamed (Behind {A = core.Statement} m g) (declarators at g base type span ds)
@@ -165,10 +165,10 @@ module _ (at : Places) where
         then_named (Behind {A = core.Statement} m g) (condition at g test) _ (condition_named n g agrees test parts.0 front.0)
         (λ c. passing_named (Behind {A = core.Statement} first.0 g) (Behind {A = core.Statement} m g) (statement at g consequent) _ (statement_named consequent (opened n) first.0 g (opened_agrees n g agrees) both.0 first.1)
         (λ x b. (let between = behind_block g x.1 in
-            let now = behind_agrees n g x.1 agrees b.later in
-            passing_named (Behind {A = core.Statement} second.0 between) (Behind {A = core.Statement} m g) (statement at between alternative) _
-            (statement_named alternative (opened n) second.0 between (opened_agrees n between now) both.1 second.1)
-            (λ y b'. behind_block_is n m g y.1 second.2 agrees (later_further g between y.1 (later_block g x.1 b.later) b'.later)))))
+        let now = behind_agrees n g x.1 agrees b.later in
+        passing_named (Behind {A = core.Statement} second.0 between) (Behind {A = core.Statement} m g) (statement at between alternative) _
+        (statement_named alternative (opened n) second.0 between (opened_agrees n between now) both.1 second.1)
+        (λ y b'. behind_block_is n m g y.1 second.2 agrees (later_further g between y.1 (later_block g x.1 b.later) b'.later)))))
     statement_named (s.While test body span) n m g agrees built h =
         let parts = and_parts (built_expression test) (built_statement body) built in
         let front = quiet_front (expression_mentions test) _ (expression_quiet test) n m h in
@@ -189,9 +189,9 @@ module _ (at : Places) where
         (λ c. passing_named (Behind {A = core.Statement} parts.inside (in_loop first.1)) (Behind {A = core.Statement} m g) (statement at (in_loop first.1) body) _
         (statement_named body (opened split.0) parts.inside (in_loop first.1) (opened_agrees split.0 (in_loop first.1) (loop_agrees split.0 first.1 b.agrees)) rest.1 parts.body_is)
         (λ x b'. (let later = later_loop first.1 x.1 b'.later in
-            then_named (Behind {A = core.Statement} m g) (optional_step at (behind_block first.1 x.1) step) _
-            (step_named split.0 (behind_block first.1 x.1) (behind_agrees split.0 first.1 x.1 b.agrees later) step rest.0 parts.step_found)
-            (λ y. behind_block_is n m g x.1 block.2 agrees (later_further g first.1 x.1 b.later later))))))
+        then_named (Behind {A = core.Statement} m g) (optional_step at (behind_block first.1 x.1) step) _
+        (step_named split.0 (behind_block first.1 x.1) (behind_agrees split.0 first.1 x.1 b.agrees later) step rest.0 parts.step_found)
+        (λ y. behind_block_is n m g x.1 block.2 agrees (later_further g first.1 x.1 b.later later))))))
     statement_named (s.Return value span) n m g agrees built h =
         let all = quiet_all (optional_mentions expression_mentions value) (optional_quiet expression_mentions expression_quiet value) n m h in
         then_named (Behind {A = core.Statement} m g) (return at g value span) _ (return_named n g agrees value span built all.0) (λ x. behind_same n m g all.1 agrees)

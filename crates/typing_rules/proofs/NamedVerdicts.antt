@@ -1,9 +1,9 @@
 -- Verdicts that aren't that a name stands for nothing: rules that speak of no name give no other ones.
-use Rattle.std.proofs.Common.{◌≡◌, ℕ, ◌+◌, ◌^◌, Bool, true, false, ℤ, List, [], ◌∷◌, length, Option, Some, None, refl}
-use Rattle.std.specs.Prelude.{◌==◌, ◌&&◌, ◌||◌, not, nat_lt}
+use Rattle.std.proofs.Common.{◌≡◌, ℕ, Bool, true, false, List, [], ◌∷◌, length, Option, Some, None, refl}
+use Rattle.std.specs.Prelude.{◌==◌, ◌&&◌, ◌||◌, not}
 use Rattle.ckc_text.specs.declared.place.Span.{Span}
 use Rattle.ckc_text.specs.declared.code.Code.{Code}
-use Rattle.ckc_text.specs.declared.code.Code.TheVariants.{E04, E13, E14, E15, E19, E24}
+use Rattle.ckc_text.specs.declared.code.Code.TheVariants.{E13, E14, E19, E24}
 use Rattle.ckc_tree.specs.declared.expr.UnaryOperator.{UnaryOperator}
 use Rattle.ckc_tree.specs.declared.expr.UnaryOperator.TheVariants as unary
 use Rattle.ckc_tree.specs.declared.expr.BinaryOperator.{BinaryOperator}
@@ -20,8 +20,8 @@ use Rattle.ckc_core.specs.Core as core
 use Rattle.typing_rules.specs.Verdicts.{Verdict, Passes, Stops, Broken, Nameless, passing, needs}
 use Rattle.typing_rules.specs.Scopes.{Scope, Signature}
 use Rattle.typing_rules.specs.Types.{is_number, is_pointer, are_comparable, converts}
-use Rattle.typing_rules.specs.Expressions.{Places, Lvalue, OfLocal, OfCell, Typed, Value, AStruct, Called, Gives, GivesNothing, site_at, number, member_from, member_at, dotted, struct_place, pointed_by, arrowed, pointed_at, dereferenced, address_at, address, number_of, scalar_of, unary_typed, is_pointer_value, without_ptr, two_numbers, two_scalars, summands, equated_values, equated, ordered_values, ordered, arithmetic, binary_typed, indexed, in_type, converted, arguments_as, is_import, is_checked_argument, without_checked, crossing, declared_call, writes, with_result}
-use Rattle.typing_rules.specs.Statements.{assigned, set_to, updated, stored, is_unchecked, is_checked, returned, returned_nothing}
+use Rattle.typing_rules.specs.Expressions.{Places, Lvalue, OfLocal, OfCell, Typed, Value, AStruct, Called, Gives, GivesNothing, number, member_from, member_at, dotted, struct_place, pointed_by, arrowed, pointed_at, dereferenced, address_at, address, number_of, scalar_of, unary_typed, is_pointer_value, two_numbers, two_scalars, summands, equated_values, equated, ordered_values, ordered, arithmetic, binary_typed, indexed, in_type, converted, arguments_as, is_import, is_checked_argument, without_checked, crossing, declared_call, writes, with_result}
+use Rattle.typing_rules.specs.Statements.{assigned, updated, stored, returned, returned_nothing}
 
 -- no name stands for nothing, and this is so of the value where no rule is broken
 abbrev pub IsNamed : {A : Type 0} → (A → Type 0) → Verdict A → Type 0
