@@ -1,5 +1,5 @@
 -- Tables of which no least constant is too large.
-use Rattle.std.proofs.Common.{ℕ, ◌+◌, ◌^◌, ◌<◌, ◌≤◌, ◌≡◌, ℤ, pos, negsuc, ◌-ℤ◌, Option, None, List, [], get_or, refl, subst, arith}
+use Rattle.std.proofs.Common.{ℕ, ◌+◌, ◌^◌, ◌<◌, ◌≤◌, ◌≡◌, ℤ, pos, negsuc, ◌-ℤ◌, Option, None, List, [], refl, subst, arith}
 use Rattle.std.proofs.lemmas.Int.{ints}
 use Rattle.std.specs.Prelude.{unsigned_abs}
 use Rattle.std.specs.List.{All}
@@ -9,7 +9,6 @@ use Rattle.subsumption.specs.Facts.{Holds, Entails, IsAbout, IsWide, Leaves, Has
 use Rattle.subsumption.specs.Closures.{BothEntail, IsKept}
 use Rattle.subsumption.specs.Tables.{Table, Becomes, Joins, IsNarrow}
 use Rattle.subsumption.proofs.Ones.{one_none}
-use Rattle.subsumption.proofs.Rows.{below_of}
 use Rattle.subsumption.proofs.Settling.{modest_narrow, wide_along}
 
 none_narrow : (vars : ℕ) → vars ≤ 4096 → IsWide vars (Entails []) → ⊥
@@ -43,9 +42,6 @@ both_narrow : (vars : ℕ) (F G : List Fact) → (IsWide vars (Entails F) → �
 both_narrow vars F G first second w =
     none_outside vars F w.left w.right w.plus first w.about w.outside w.least.holds.0
     (λ f. none_outside vars G w.left w.right w.plus second w.about w.outside w.least.holds.1 (λ g. w.least.least (f, g)))
-
-pub about_kept : (vars : ℕ) (F : List Fact) → All (IsKept (vars + 1)) F → All (IsAbout vars) F
-about_kept vars F kept i d lt = let at = kept i d lt in record { left = below_of vars (get_or F i d).left at.left; right = below_of vars (get_or F i d).right at.right }
 
 pub narrow_none : (vars : ℕ) → vars ≤ 4096 → IsNarrow (record { vars = vars; facts = [] })
 narrow_none vars few = record { few = few; kept = λ i d lt. absurd (omega arith); one_each = one_none; narrow = none_narrow vars few }

@@ -10,24 +10,14 @@ use Rattle.difference_constraints.specs.Graphs.{IsEdge}
 use Rattle.subsumption.specs.Facts.{Holds, Meets, Entails, Leaves, IsAlike, HasOneEach}
 use Rattle.subsumption.specs.Models.{AreEdges}
 use Rattle.subsumption.specs.Settling.{Keeps, IsPruned}
-use Rattle.subsumption.proofs.Lists.{All_front, All_last}
 use Rattle.subsumption.specs.Closures.{IsKept}
 use Rattle.subsumption.proofs.Joins.{kept_edges}
-use Rattle.subsumption.proofs.Ones.{alike_along, one_none, one_push, one_along}
+use Rattle.subsumption.proofs.Ones.{alike_along, one_none, one_along}
 use Rattle.subsumption.proofs.Settling.{leaves_same}
-
-pub kept_more : (before : List Fact) (fact : Fact) → All (λ f. IsAlike f fact → ⊥) before → Keeps before fact (before ++ fact ∷ [])
-kept_more before fact new = record {
-  among = All-push (λ f. Contains before f ⊎ (f ≡ fact)) before fact (λ k d lt. inl (All-contains_itself before k d lt)) (inr refl);
-  old = λ v meets. All_front (Holds v) before (fact ∷ []) meets;
-  new = λ v meets. All_last (Holds v) before fact meets;
-  one = λ one. one_push before fact one new;
-}
 
 -- of two facts about the same two the one with the smaller constant says more
 holds_more : (v : ℕ → ℤ) (f g : Fact) → IsAlike f g → f.plus ≤ℤ g.plus → Holds v f → Holds v g
 holds_more v f g alike le h =
-    let P : Fact → Type 0 = λ x. Holds v x in
     let at : Holds v (record { left = g.left; right = g.right; plus = f.plus }) = rw (← alike.left, ← alike.right) h in
     omega (arith, ints, at)
 

@@ -58,7 +58,7 @@ row_least F G n y D E B t u long x lt =
 unmet : (F G : List Fact) → CanBeMet F → BothEntail F G (fact_at None None (negsuc 0)) → ⊥
 unmet F G f h = let low = none_below F None (negsuc 0) f h.0 in omega (arith, ints, low)
 
-pub below_of : (vars : ℕ) (x : Option ℕ) → node_of x < vars + 1 → IsBelow vars x
+below_of : (vars : ℕ) (x : Option ℕ) → node_of x < vars + 1 → IsBelow vars x
 below_of vars None lt = tt
 below_of vars (Some x) lt = omega arith
 

@@ -44,9 +44,6 @@ leaves_same vars E E' facts same leaves = record {
       ((λ h. (same g about).0 (old.0 h)), (λ h. old.1 ((same g about).1 h))));
 }
 
-pub wide_leaves : (vars : ℕ) (E : Fact → Type 0) → IsWide vars E → Leaves vars E []
-wide_leaves vars E w = record { none = λ _. refl; same = λ narrow. absurd (narrow w) }
-
 -- facts that nothing meets entail everything
 pub broken_leaves : (vars n : ℕ) (F path : List Fact) → IsContradiction F n path → Leaves vars (Entails F) (fact_at None None (negsuc 0) ∷ [])
 broken_leaves vars n F path broken =

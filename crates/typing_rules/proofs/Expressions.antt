@@ -30,7 +30,7 @@ use Rattle.typing_rules.specs.Typed as rules
 use Rattle.typing_rules.specs.Typed.{Frame, Stands, slots, IsPlace, HasType, HaveTypes, HasPlace, IsStatement, IsScalar, IsScalarResult}
 use Rattle.typing_rules.proofs.Values.{scalar_stands, of_element}
 use Rattle.typing_rules.proofs.Verdicts.{Promises, passing_promises, needs_promises, anything_promised}
-use Rattle.typing_rules.proofs.Knowledge.{IsNumberType, IsNumberResult, IsTrusted, IsTainted, Knows, same_equal, StandsFor, name_stands, HasMember, IfMember, member_there, member_slot}
+use Rattle.typing_rules.proofs.Knowledge.{IsNumberType, IsNumberResult, IsTrusted, IsTainted, Knows, same_equal, StandsFor, name_stands, crossing_promises, HasMember, IfMember, member_there, member_slot}
 use Rattle.typing_rules.proofs.Sizes.{size_fits}
 
 pub number_scalar : (t : CType) → is_number t ≡ true → IsScalar t
@@ -55,8 +55,8 @@ module _ (g : Frame) (types : List CType) where
   -- what an expression is has a type
   abbrev pub Fits : Typed → Type 0
   Fits (Value type zero value place) = FitsValue type zero value place
-  Fits (AStruct number None) = ⊥
-  Fits (AStruct number (Some p)) = HasPlace g types p (Struct number)
+  Fits (AStruct number (OfLocal k)) = ⊥
+  Fits (AStruct number (OfCell p)) = HasPlace g types p (Struct number)
 
   -- and so has what a call is
   abbrev pub FitsCall : Called → Type 0
@@ -116,8 +116,8 @@ module _ (g : Frame) (types : List CType) where
   address_promises (Value type zero value None) site span h = tt
   address_promises (Value type zero value (Some (OfLocal k))) site span h = tt
   address_promises (Value type zero value (Some (OfCell p))) site span h = pointer_fits h.stands site
-  address_promises (AStruct number None) site span h = absurd h
-  address_promises (AStruct number (Some p)) site span h = pointer_fits h site
+  address_promises (AStruct number (OfLocal k)) site span h = tt
+  address_promises (AStruct number (OfCell p)) site span h = pointer_fits h site
 
   pointed_promises : (type : CType) (value : core.Expression) (site : Site) (span : Span) → HasType g types value type → Promises Fits (pointed_at type value site span)
   pointed_promises Int value site span h = tt
@@ -302,12 +302,13 @@ module _ (g : Frame) (types : List CType) where
       (λ one. passing_promises (λ values. HaveTypes g types values (Int ∷ [])) FitsCall (arguments_as arguments (Int ∷ [])) _ (arguments_promise arguments (Int ∷ []) (sym (eqb-true (length arguments) 1 one)) all) (λ values typed. first_fits of h typed))
 
   predefined_promises : (name : List ℕ) (arguments : List (Typed × Span)) (span : Span) → AllFit arguments → Promises FitsCall (predefined_call name arguments span)
-  predefined_promises name arguments span all = by (bytes_eq name (codes "next_input")) (bytes_eq name (codes "print_int")) refl refl
+  predefined_promises name arguments span all = by (bytes_eq name (codes "next_input")) (bytes_eq name (codes "print_int")) (bytes_eq name (codes "putchar")) refl refl refl
     where
-      by : (input print : Bool) → bytes_eq name (codes "next_input") ≡ input → bytes_eq name (codes "print_int") ≡ print → Promises FitsCall (predefined_call name arguments span)
-      by true print e e1 = rw e (needs_promises FitsCall (length arguments == 0) E14 span (Passes (Gives Int core.NextInput)) (λ none. (rules.next_input, refl)))
-      by false true e e1 = rw (e, e1) (writes_promise core.Print (λ v result loop h. rules.print h) arguments span all)
-      by false false e e1 = rw (e, e1) (writes_promise core.PutByte (λ v result loop h. rules.put_byte h) arguments span all)
+      by : (input print put : Bool) → bytes_eq name (codes "next_input") ≡ input → bytes_eq name (codes "print_int") ≡ print → bytes_eq name (codes "putchar") ≡ put → Promises FitsCall (predefined_call name arguments span)
+      by true print put e e1 e2 = rw e (needs_promises FitsCall (length arguments == 0) E14 span (Passes (Gives Int core.NextInput)) (λ none. (rules.next_input, refl)))
+      by false true put e e1 e2 = rw (e, e1) (writes_promise core.Print (λ v result loop h. rules.print h) arguments span all)
+      by false false true e e1 e2 = rw (e, e1, e2) (writes_promise core.PutByte (λ v result loop h. rules.put_byte h) arguments span all)
+      by false false false e e1 e2 = rw (e, e1, e2) tt
 
   with_result_promises : (c : Called) (span : Span) → FitsCall c → Promises Fits (with_result c span)
   with_result_promises (Gives type value) span h = plain_fits type value h.1 h.0
@@ -334,8 +335,8 @@ module _ (g : Frame) (types : List CType) where
 
     dotted_promises : (a : Typed) (name : List ℕ) (site : Site) (span : Span) → Fits a → Promises Fits (dotted s a name site span)
     dotted_promises (Value type zero value place) name site span h = tt
-    dotted_promises (AStruct n None) name site span h = absurd h
-    dotted_promises (AStruct n (Some p)) name site span h = member_at_promises n p name site span h
+    dotted_promises (AStruct n (OfLocal k)) name site span h = absurd h
+    dotted_promises (AStruct n (OfCell p)) name site span h = member_at_promises n p name site span h
 
     pointed_by_promises : (type : CType) (value : core.Expression) (name : List ℕ) (site : Site) (span : Span) → HasType g types value type → Promises Fits (pointed_by s type value name site span)
     pointed_by_promises Int value name site span h = tt
@@ -360,8 +361,9 @@ module _ (g : Frame) (types : List CType) where
     called_promises None name arguments site span e all = predefined_promises name arguments span all
     called_promises (Some f) name arguments site span e all =
         needs_promises FitsCall (length f.parameters == length arguments) E14 span _
-        (λ many. passing_promises (λ values. HaveTypes g types values f.parameters) FitsCall (arguments_as arguments f.parameters) _ (arguments_promise arguments f.parameters (eqb-true (length f.parameters) (length arguments) many) all)
-        (λ values typed. side_fits name f site values (is_import f) refl e typed))
+        (λ many. crossing_promises FitsCall (is_import f) arguments _
+        (passing_promises (λ values. HaveTypes g types values f.parameters) FitsCall (arguments_as arguments f.parameters) _ (arguments_promise arguments f.parameters (eqb-true (length f.parameters) (length arguments) many) all)
+        (λ values typed. side_fits name f site values (is_import f) refl e typed)))
 
     -- ---- the walk
 
@@ -374,7 +376,7 @@ module _ (g : Frame) (types : List CType) where
       typed_promises at (e.Number value span) = constant_promises value (value == 0) span
       typed_promises at (e.Character value span) = constant_promises value false span
       typed_promises at (e.Text bytes span) = tt
-      typed_promises at (e.Name name) = name_fits knows.scalar (named s name.name) (name_stands g types s knows name.name)
+      typed_promises at (e.Name name) = passing_promises (StandsFor g types) Fits (named s name.name) _ (name_stands g types s knows name.name) (name_fits knows.scalar)
       typed_promises at (e.Call callee arguments span) =
           passing_promises AllFit Fits (all_typed at s arguments) _ (all_promise at arguments)
           (λ ts all. passing_promises FitsCall Fits (called s (function_named s.functions callee.name) callee.name ts (site_at at span) span) _ (called_promises (function_named s.functions callee.name) callee.name ts (site_at at span) span refl all)

@@ -100,7 +100,8 @@ declarators_grow at g base type span (d ∷ ds) =
 
 pub declaration_grows : (at : Places) (g : Scope) (d : Declaration) → Promises (GrowsTo {A = core.Statement} g) (declaration at g d)
 declaration_grows at g d =
-    passing_promises (λ (t : CType). Unit {0}) (GrowsTo {A = core.Statement} g) (base_type g d.base) _ (anything_promised (base_type g d.base)) (λ type _. declarators_grow at g d.base type d.span d.declarators)
+    needs_promises (GrowsTo {A = core.Statement} g) (nat_lt (length g.locals) 256) E08 d.span _
+    (λ few. passing_promises (λ (t : CType). Unit {0}) (GrowsTo {A = core.Statement} g) (base_type g d.base) _ (anything_promised (base_type g d.base)) (λ type _. declarators_grow at g d.base type d.span d.declarators))
 
 pub first_grows : (at : Places) (g : Scope) (initial : ForInitial) → Promises (GrowsTo {A = core.Statement} g) (first_part at g initial)
 first_grows at g s.Nothing = stays g

@@ -2,7 +2,7 @@
 use Rattle.std.proofs.Common.{◌≡◌, ℕ, suc, ◌+◌, ◌*◌, ◌<◌, ◌≤◌, Bool, true, false, List, [], ◌∷◌, ◌++◌, map, take, length, Option, Some, None, refl, sym, ap, ◌∙◌, subst, append_assoc, ⊎_elim, arith}
 use Rattle.std.specs.Prelude.{bytes_eq, codes, nat_lt, nat_le, not, ◌&&◌, ◌||◌, ◌==◌, is_some, is_none}
 use Rattle.std.specs.List.{AllByRecursion, list_all, list_any}
-use Rattle.std.proofs.lemmas.Bool.{and_parts, or_cases, ltb-true, leb-true}
+use Rattle.std.proofs.lemmas.Bool.{and_parts, or_cases, eqb-true, ltb-true, leb-true}
 use Rattle.std.proofs.lemmas.List.{length-append, length-map, append-nil}
 use Rattle.ckc_text.specs.declared.place.Span.{Span}
 use Rattle.ckc_text.specs.declared.code.Code.TheVariants.{E08, E10, E13, E15, E27}
@@ -23,13 +23,13 @@ use Rattle.pointer_modes.specs.Layout.{size_of}
 use Rattle.pointer_modes.specs.Types.{CType, Int, Char, Struct, Pointer, Member, Structure}
 use Rattle.ckc_core.specs.Core as core
 use Rattle.ckc_core.specs.Stacks.{statements_stack}
-use Rattle.typing_rules.specs.Verdicts.{Verdict, Passes, Breaks, passing, picked}
-use Rattle.typing_rules.specs.Scopes.{Scope, Signature, Variable, function_named}
+use Rattle.typing_rules.specs.Verdicts.{Verdict, Passes, Stops, passing, meant, picked}
+use Rattle.typing_rules.specs.Scopes.{Scope, Signature, Variable, struct_named, function_named}
 use Rattle.typing_rules.specs.Types.{base_type, without_stars, type_named}
 use Rattle.typing_rules.specs.Expressions.{Places, typed, is_import, is_tainted}
 use Rattle.typing_rules.specs.Statements.{statements, with_local, is_unchecked}
 use Rattle.typing_rules.specs.Items as items
-use Rattle.typing_rules.specs.Items.{Walk, in_checked_region, is_struct, member_types, scalar_members, with_struct, structure, Walked, Missing, Written, Constants, initializer, object_cells, with_variable, block_bytes, WalkedVariable, variables, with_objects, global, listed, parameter_types, result_type, with_function, with_parameters, inside, core_function, function_body, is_trusted, is_defined, agrees, all_scalar, scalar_result, function_rules, signature_of, function, item}
+use Rattle.typing_rules.specs.Items.{Walk, in_checked_region, is_struct, member_types, scalar_members, with_struct, structure, Walked, Missing, Written, Constants, initializer, object_cells, with_variable, WalkedVariable, written_size, few_bytes, room_for, room_for_first, variables, with_objects, global, listed, parameter_types, result_type, with_function, with_parameters, inside, core_function, function_body, is_defined, agrees, all_scalar, scalar_result, function_rules, signature_of, function, item}
 use Rattle.typing_rules.specs.Typed.{Frame, slots, Stands, IsScalar, IsScalarResult, AreStatements}
 use Rattle.typing_rules.specs.Lowerable.{cells_size, objects_size, IsRoomy}
 use Rattle.typing_rules.proofs.Verdicts.{Promises, passing_promises, needs_promises, anything_promised, promised_so, both_promise, later_promises, all_promised, Extends, extends_append}
@@ -146,8 +146,55 @@ module _ (height : ℕ) where
     grows : FileGrows a.scope x.0.scope
     bytes : objects_size x.0.objects + waiting_size x.0.scope.structs waiting_ones ≤ x.0.taken
 
-  with_variable_waits : (a w : Walk) (walked : List WalkedVariable) (name : List ℕ) (t : CType) (initial : Walked) → w.taken + block_bytes w.scope t ≤ 32768 → Waits a (w, walked) → IsWalked initial → Waits a (record w { scope = with_variable name t w.scope; taken = w.taken + block_bytes w.scope t }, walked ++ record { type = t; initial = initial } ∷ [])
-  with_variable_waits a w walked name t initial within h is =
+  -- the bytes of a type as it is written are those that it has
+  abbrev IsSized : Scope → TypeTree → CType → Type 0
+  IsSized g base type = (size : ℕ) → written_size g base 0 ≡ Passes size → size ≡ size_of g.structs type
+
+  base_sized : (g : Scope) (base : TypeTree) → Promises (IsSized g base) (base_type g base)
+  base_sized g (IntType span) = λ size h. let same : size_of g.structs Int ≡ size = cc in sym same
+  base_sized g (CharType span) = λ size h. let same : size_of g.structs Char ≡ size = cc in sym same
+  base_sized g (PointerType word element stars span) =
+      let target = passing (base_type g element) (without_stars element stars) in
+      passing_promises (λ (t : CType). Unit {0}) (IsSized g (PointerType word element stars span)) target _ (anything_promised target) (λ t _ size h. let same : 4 ≡ size = cc in sym same)
+  base_sized g (StructType tag span) = by (struct_named g tag.name) refl
+    where
+      by : (o : Option ℕ) → struct_named g tag.name ≡ o → Promises (IsSized g (StructType tag span)) (passing (meant o) (λ n. Passes (Struct n)))
+      by None e = tt
+      by (Some n) e = λ size h. let h' = rw e at h in let same : size_of g.structs (Struct n) ≡ size = cc in sym same
+
+  sized_later : (g : Scope) (name : List ℕ) (t : CType) (base : TypeTree) (type : CType) → IsSized g base type → IsSized (with_variable name t g) base type
+  sized_later g name t (IntType span) type h = h
+  sized_later g name t (CharType span) type h = h
+  sized_later g name t (StructType tag span) type h = h
+  sized_later g name t (PointerType word element stars span) type h = h
+
+  -- a variable more has room, by its type as it is written
+  record HasRoom (w : Walk) (base : TypeTree) (stars taken : ℕ) : Type 0 where
+    size : ℕ
+    written : written_size w.scope base stars ≡ Passes size
+    bytes : taken ≡ w.taken + (rounded_up size + 16)
+    within : taken ≤ 32768
+
+  room_promises : (w : Walk) (base : TypeTree) (span : Span) (d : Declarator) → Promises (HasRoom w base d.stars) (room_for w base span d)
+  room_promises w base span d = needs_promises (HasRoom w base d.stars) (nat_lt (length w.scope.variables) 4096) E08 span _ (λ few. by (written_size w.scope base d.stars) refl)
+    where
+      by : (v : Verdict ℕ) → written_size w.scope base d.stars ≡ v → Promises (HasRoom w base d.stars) (passing v (λ size. few_bytes (w.taken + (rounded_up size + 16)) span))
+      by (Passes size) e =
+          let taken = w.taken + (rounded_up size + 16) in
+          needs_promises (HasRoom w base d.stars) (nat_le taken 32768) E08 span (Passes taken) (λ room. record { size = size; written = e; bytes = refl; within = leb-true taken 32768 room })
+      by (Stops stop) e = tt
+
+  -- a type behind which no stars stand
+  starless : (base : TypeTree) (stars : ℕ) (type : CType) → Promises (λ (t : CType). (stars ≡ 0) × (t ≡ type)) (without_stars base stars type)
+  starless base stars type = needs_promises (λ (t : CType). (stars ≡ 0) × (t ≡ type)) (stars == 0) E15 (type_span base) (Passes type) (λ none. (eqb-true stars 0 none, refl))
+
+  taken_by : (w : Walk) (base : TypeTree) (type t : CType) (stars taken : ℕ) → IsSized w.scope base type → HasRoom w base stars taken → stars ≡ 0 → t ≡ type → taken ≡ w.taken + (rounded_up (size_of w.scope.structs t) + 16)
+  taken_by w base type t stars taken sized room none same =
+      let size = sized room.size (subst (λ n. written_size w.scope base n ≡ Passes room.size) none room.written) ∙ ap (size_of w.scope.structs) (sym same) in
+      room.bytes ∙ ap (λ n. w.taken + (rounded_up n + 16)) size
+
+  with_variable_waits : (a w : Walk) (walked : List WalkedVariable) (name : List ℕ) (t : CType) (initial : Walked) (taken : ℕ) → taken ≡ w.taken + (rounded_up (size_of w.scope.structs t) + 16) → taken ≤ 32768 → Waits a (w, walked) → IsWalked initial → Waits a (record w { scope = with_variable name t w.scope; taken = taken }, walked ++ record { type = t; initial = initial } ∷ [])
+  with_variable_waits a w walked name t initial taken bytes within h is =
       let v : Variable = record { name = name; type = t } in
       let after = with_variable name t w.scope in
       let more : FileGrows w.scope after = record { structs = λ k x e. e; variables = extends_append w.scope.variables (v ∷ []); functions = λ n f e. e; numbers = λ side n f e. refl } in
@@ -155,21 +202,21 @@ module _ (height : ℕ) where
         settled_ones = h.settled_ones;
         waiting_ones = h.waiting_ones ++ v ∷ [];
         all = ap (λ vs. vs ++ v ∷ []) h.all ∙ append_assoc h.settled_ones h.waiting_ones (v ∷ []);
-        well = record { few = h.well.few; scalars = h.well.scalars; start = h.well.start; declared = h.well.declared; bodies = bodies_later height w.scope after w.bodies more h.well.bodies; roomy = h.well.roomy; bytes = omega (arith, h.well.bytes); room = within };
+        well = record { few = h.well.few; scalars = h.well.scalars; start = h.well.start; declared = h.well.declared; bodies = bodies_later height w.scope after w.bodies more h.well.bodies; roomy = h.well.roomy; bytes = omega (arith, h.well.bytes, bytes); room = within };
         settled = h.settled;
         waiting = waiting_append h.waiting_ones walked v (record { type = t; initial = initial }) h.waiting refl is;
         grows = file_further a.scope w.scope after h.grows more;
-        bytes = omega (arith, h.bytes, waiting_more w.scope.structs h.waiting_ones v);
+        bytes = omega (arith, h.bytes, bytes, waiting_more w.scope.structs h.waiting_ones v);
       }
 
-  variables_promise : (at : Places) (a w : Walk) (base : TypeTree) (type : CType) (span : Span) (ds : List Declarator) (walked : List WalkedVariable) → Waits a (w, walked) → Promises (Waits a) (variables at w base type span ds walked)
-  variables_promise at a w base type span [] walked h = h
-  variables_promise at a w base type span (d ∷ ds) walked h =
-      needs_promises (Waits a) (nat_lt (length w.scope.variables) 4096) E08 span _
-      (λ few. passing_promises (λ (t : CType). Unit {0}) (Waits a) (without_stars base d.stars type) _ (anything_promised (without_stars base d.stars type))
-      (λ t _. needs_promises (Waits a) (nat_le (w.taken + block_bytes w.scope t) 32768) E08 span _
-      (λ room. passing_promises IsWalked (Waits a) (initializer at (with_variable d.name.name t w.scope) d.initializer) _ (initializer_promises at (with_variable d.name.name t w.scope) d.initializer)
-      (λ initial is. variables_promise at a (record w { scope = with_variable d.name.name t w.scope; taken = w.taken + block_bytes w.scope t }) base type span ds (walked ++ record { type = t; initial = initial } ∷ []) (with_variable_waits a w walked d.name.name t initial (leb-true (w.taken + block_bytes w.scope t) 32768 room) h is)))))
+  variables_promise : (at : Places) (a w : Walk) (base : TypeTree) (type : CType) (span : Span) (ds : List Declarator) (walked : List WalkedVariable) → IsSized w.scope base type → Waits a (w, walked) → Promises (Waits a) (variables at w base type span ds walked)
+  variables_promise at a w base type span [] walked sized h = h
+  variables_promise at a w base type span (d ∷ ds) walked sized h =
+      passing_promises (HasRoom w base d.stars) (Waits a) (room_for w base span d) _ (room_promises w base span d)
+      (λ taken room. passing_promises (λ (t : CType). (d.stars ≡ 0) × (t ≡ type)) (Waits a) (without_stars base d.stars type) _ (starless base d.stars type)
+      (λ t plain. passing_promises IsWalked (Waits a) (initializer at (with_variable d.name.name t w.scope) d.initializer) _ (initializer_promises at (with_variable d.name.name t w.scope) d.initializer)
+      (λ initial is. variables_promise at a (record w { scope = with_variable d.name.name t w.scope; taken = taken }) base type span ds (walked ++ record { type = t; initial = initial } ∷ []) (sized_later w.scope d.name.name t base type sized)
+      (with_variable_waits a w walked d.name.name t initial taken (taken_by w base type t d.stars taken sized room plain.0 plain.1) room.within h is))))
 
   settled_append : (structs : List Structure) (vs : List Variable) (objects : List (List core.Initial)) (v : Variable) (cells : List core.Initial) → AreSettled structs vs objects → Stands cells 0 (slots structs v.type) → AreSettled structs (vs ++ v ∷ []) (objects ++ cells ∷ [])
   settled_append structs [] [] v cells h stands = (stands, tt)
@@ -229,10 +276,11 @@ module _ (height : ℕ) where
 
   global_promises : (at : Places) (w : Walk) (d : i.Global) → IsWell height w → AreSettled w.scope.structs w.scope.variables w.objects → Promises (Follows w) (global at w d)
   global_promises at w d well settled =
-      passing_promises (λ (t : CType). Unit {0}) (Follows w) (base_type w.scope d.base) _ (anything_promised (base_type w.scope d.base))
-      (λ type _. passing_promises (Waits w) (Follows w) (variables at w d.base type d.span d.declarators []) _ (variables_promise at w w d.base type d.span d.declarators [] (nothing_waits w well settled))
+      passing_promises (λ (n : ℕ). Unit {0}) (Follows w) (room_for_first w d d.declarators) _ (anything_promised (room_for_first w d d.declarators))
+      (λ taken _. passing_promises (IsSized w.scope d.base) (Follows w) (base_type w.scope d.base) _ (base_sized w.scope d.base)
+      (λ type sized. passing_promises (Waits w) (Follows w) (variables at w d.base type d.span d.declarators []) _ (variables_promise at w w d.base type d.span d.declarators [] sized (nothing_waits w well settled))
       (λ x h. passing_promises (Follows w) (Follows w) (with_objects x.0 d.span x.1) _ (with_objects_promises w x.0 d.span x.1 h)
-      (λ v follows. region_promises (Follows w) v.scope d.span v follows)))
+      (λ v follows. region_promises (Follows w) v.scope d.span v follows))))
 
   -- ---- functions
 
@@ -456,7 +504,7 @@ module _ (height : ℕ) where
       (λ ruled.
       let first = and_parts (agrees known f) (all_scalar f.parameters && scalar_result f.result) ruled in
       let second = and_parts (all_scalar f.parameters) (scalar_result f.result) first.1 in
-      needs_promises P (picked (is_trusted d.kind) (is_defined all d.name.name) true) E10 d.span _
+      needs_promises P (picked (is_tainted d.kind) true (is_defined all d.name.name)) E10 d.span _
       (λ defined. needs_promises P (not (is_unchecked d.mark)) E15 d.span _
       (λ on. region_promises P x.scope d.span x (h (record { agreed = first.0; scalars = second.0; scalar = second.1 })))))
 
@@ -601,7 +649,7 @@ module _ (height : ℕ) where
 
     no_main : (v : Verdict Walk) → Promises (Follows w) v → Promises (Passed w false) v
     no_main (Passes v) h = record { follows = h; main = λ e. absurd (cc) }
-    no_main (Breaks fault) h = tt
+    no_main (Stops stop) h = tt
 
     item_promises : (at : Places) (all : List Item) (x : Item) → built_item x ≡ true → (item_reach x).height ≤ height → Promises (Passed w (is_main x)) (item at all w x)
     item_promises at all (i.RegionItem region span) built low = record {

@@ -1,22 +1,25 @@
 -- What a walk knows of the program that it leads to, and what names stand for there.
 use Rattle.std.proofs.Common.{◌≡◌, ℕ, zero, suc, ◌+◌, ◌≤◌, Bool, true, false, List, [], ◌∷◌, take, length, Option, Some, None, refl, ap, subst, arith}
-use Rattle.std.specs.Prelude.{bytes_eq, slice_get, ◌&&◌}
+use Rattle.std.specs.Prelude.{bytes_eq, slice_get, not, ◌&&◌}
 use Rattle.std.proofs.lemmas.Bool.{eqb-true, and_parts}
 use Rattle.std.specs.List.{AllByRecursion}
+use Rattle.ckc_text.specs.declared.place.Span.{Span}
+use Rattle.ckc_text.specs.declared.code.Code.TheVariants.{E24}
 use Rattle.pointer_modes.specs.declared.ctype.Mode.{Mode}
 use Rattle.pointer_modes.specs.declared.ctype.Mode.TheVariants as modes
 use Rattle.pointer_modes.specs.declared.ctype.Kind.{Kind}
 use Rattle.pointer_modes.specs.declared.ctype.Kind.TheVariants as kinds
 use Rattle.pointer_modes.specs.Types.{CType, Int, Char, Struct, Pointer, Member, Structure, members_of}
 use Rattle.pointer_modes.specs.Layout.{placed_from, member_sizes, cells_of, aligned_up, scalar_size}
+use Rattle.ckc_names.specs.Scopes.{null}
 use Rattle.ckc_core.specs.Core as core
 use Rattle.ckc_core.specs.States.{same_mode, same_kind, same_type}
-use Rattle.typing_rules.specs.Verdicts.{picked}
-use Rattle.typing_rules.specs.Scopes.{Scope, Signature, Variable, Visible, Named, Local, Object, Nothing, local_if, found_if, local_named, object_named, or_else, or_nothing, named, function_named}
+use Rattle.typing_rules.specs.Verdicts.{Verdict, meant, picked}
+use Rattle.typing_rules.specs.Scopes.{Scope, Signature, Variable, Visible, Named, Local, Object, Nothing, local_if, found_if, local_named, object_named, or_else, null_named, named, function_named}
 use Rattle.typing_rules.specs.Types.{is_number}
-use Rattle.typing_rules.specs.Expressions.{is_import, side_number, member_from, offset_among}
+use Rattle.typing_rules.specs.Expressions.{Typed, is_checked_argument, without_checked, crossing, is_import, side_number, member_from, offset_among}
 use Rattle.typing_rules.specs.Typed.{Frame, slots_from, slots, IsPlace, IsScalar, IsScalarResult}
-use Rattle.typing_rules.proofs.Verdicts.{Extends}
+use Rattle.typing_rules.proofs.Verdicts.{Promises, needs_promises, Extends}
 
 abbrev pub IsNumberType : CType → Type 0
 IsNumberType t = is_number t ≡ true
@@ -105,6 +108,17 @@ same_equal (Pointer m k t) (Pointer m' k' t') h =
     let c = same_equal t t' second.1 in
     cc
 
+-- ---- what crosses the boundary
+
+without_checked_promises : {A : Type 0} (Q : A → Type 0) (arguments : List (Typed × Span)) (next : Verdict A) → Promises Q next → Promises Q (without_checked arguments next)
+without_checked_promises Q [] next h = h
+without_checked_promises Q (argument ∷ arguments) next h =
+    needs_promises Q (not (is_checked_argument argument.0)) E24 argument.1 (without_checked arguments next) (λ yes. without_checked_promises Q arguments next h)
+
+pub crossing_promises : {A : Type 0} (Q : A → Type 0) (tainted : Bool) (arguments : List (Typed × Span)) (next : Verdict A) → Promises Q next → Promises Q (crossing tainted arguments next)
+crossing_promises Q true arguments next h = without_checked_promises Q arguments next h
+crossing_promises Q false arguments next h = h
+
 -- ---- names
 
 -- what a name stands for is there
@@ -138,15 +152,21 @@ module _ (g : Frame) (types : List CType) where
       found_stands (bytes_eq name v.name) (Some (Object number v.type)) (object_named (suc number) variables name) (subst (λ k. IsPlace g v.type k 0) first (h 0 v refl))
       (objects_stand (suc number) variables name (λ k w e. let same : number + suc k ≡ suc number + k = omega arith in subst (λ j. IsPlace g w.type j 0) same (h (suc k) w e)))
 
-  either_stands : (this other : Option Named) → IfNamed g types this → IfNamed g types other → StandsFor g types (or_nothing (or_else this other))
+  either_stands : (this other : Option Named) → IfNamed g types this → IfNamed g types other → IfNamed g types (or_else this other)
   either_stands (Some n) other h h' = h
-  either_stands None (Some n) h h' = h'
-  either_stands None None h h' = tt
+  either_stands None other h h' = h'
 
-  pub name_stands : (s : Scope) → Knows g types s → (name : List ℕ) → StandsFor g types (named s name)
+  meant_stands : (o : Option Named) → IfNamed g types o → Promises (StandsFor g types) (meant o)
+  meant_stands None h = tt
+  meant_stands (Some n) h = h
+
+  pub name_stands : (s : Scope) → Knows g types s → (name : List ℕ) → Promises (StandsFor g types) (named s name)
   name_stands s knows name =
-      either_stands (local_named s.locals s.visible name) (object_named 0 s.variables name) (locals_stand s.locals knows.locals s.visible name)
+      meant_stands (or_else (local_named s.locals s.visible name) (or_else (object_named 0 s.variables name) (null_named name)))
+      (either_stands (local_named s.locals s.visible name) (or_else (object_named 0 s.variables name) (null_named name)) (locals_stand s.locals knows.locals s.visible name)
+      (either_stands (object_named 0 s.variables name) (null_named name)
       (objects_stand 0 s.variables name (λ k v e. let same : k ≡ 0 + k = omega arith in subst (λ j. IsPlace g v.type j 0) same (knows.file.variables k v e)))
+      (found_stands (bytes_eq name null) (Some Nothing) None tt tt)))
 
 -- ---- members
 

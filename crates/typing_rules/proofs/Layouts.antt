@@ -1,6 +1,6 @@
 -- The cells of a file-level variable stand as the slots of its type.
 use Rattle.std.proofs.Common.{◌≡◌, ℕ, zero, suc, ◌+◌, ◌-◌, ◌<◌, ◌≤◌, ◌^◌, ◌%◌, Bool, true, false, ℤ, pos, List, [], ◌∷◌, ◌++◌, map, length, Option, Some, None, refl, sym, ap, subst, ◌⊎◌, inl, inr, ⊎_elim, arith}
-use Rattle.std.specs.Prelude.{nat_lt, slice_get, ◌==◌}
+use Rattle.std.specs.Prelude.{bytes_eq, nat_lt, slice_get, ◌==◌}
 use Rattle.std.specs.List.{AllByRecursion}
 use Rattle.std.proofs.lemmas.Bool.Decides.{nat_tests}
 use Rattle.act_words.specs.Checks.{is_word_number}
@@ -8,6 +8,7 @@ use Rattle.act_words.specs.Numbers.{word}
 use Rattle.ckc_text.specs.declared.place.Span.{Span}
 use Rattle.ckc_text.specs.declared.code.Code.TheVariants.{E04, E13}
 use Rattle.ckc_tree.specs.declared.expr.UnaryOperator.TheVariants as unary
+use Rattle.ckc_names.specs.Scopes as names
 use Rattle.ckc_tree.specs.Expressions as e
 use Rattle.ckc_tree.specs.Expressions.{Expression}
 use Rattle.pointer_modes.specs.Types.{CType, Int, Char, Struct, Pointer, Member, Structure, members_of}
@@ -16,10 +17,9 @@ use Rattle.ckc_core.specs.Core as core
 use Rattle.ckc_core.specs.States.{has_type, initial_value, object_block, byte_place}
 use Rattle.ckc_core.specs.States as states
 use Rattle.ckc_core.specs.Meaning.{low_byte}
-use Rattle.typing_rules.specs.Verdicts.{picked}
 use Rattle.typing_rules.specs.Scopes.{Scope}
 use Rattle.typing_rules.specs.Expressions.{Places, Typed, typed, constant, offset_among, unary_typed, site_at}
-use Rattle.typing_rules.specs.Items.{negative, unsigned_constant, negated_of, signed_constant, strides_from, strides_of, cell_types, numbered_cells, cells_with, Walked, Missing, Written, Constants, is_zero, initial_number, number_or_break, written_cells, object_cells}
+use Rattle.typing_rules.specs.Items.{negative, null_number, unsigned_constant, negated_of, positive_of, signed_constant, strides_from, strides_of, cell_types, numbered_cells, cells_with, Walked, Missing, Written, Constants, is_zero, number_or_break, written_cells, object_cells}
 use Rattle.typing_rules.specs.Typed.{Frame, Slot, slots_from, slots, Stands, HasValue, IsScalar}
 use Rattle.typing_rules.specs.Lowerable.{cells_size, IsRoomy}
 use Rattle.typing_rules.proofs.Numbers.{low_byte_small}
@@ -266,10 +266,6 @@ negative_fits : (n : ℕ) → nat_lt n (2 ^ 31) ≡ true → is_word_number (neg
 negative_fits zero h = refl
 negative_fits (suc n) h = grind (arith, nat_tests)
 
-initial_fits : (zero_value : Bool) (o : Option ℤ) → ConstantFits o → ConstantFits (picked zero_value (Some (pos 0)) o)
-initial_fits true o h = refl
-initial_fits false o h = h
-
 int_cells : (structs : List Structure) (o : Option ℤ) (span : Span) → ConstantFits o → Promises (AreCellsOf structs Int) (number_or_break o span (cells_with structs Int))
 int_cells structs None span h = tt
 int_cells structs (Some z) span h = cells_of_number structs Int z h ((λ null. absurd (cc)), tt) ((λ g. h), tt)
@@ -283,8 +279,8 @@ char_cells structs (Some z) span =
     cells_of_number structs Char (low_byte z) word ((λ null. absurd (cc)), tt) ((λ g. test), tt)
 
 written_promises : (structs : List Structure) (t : CType) (value : Expression) (x : Typed) (span : Span) → ConstantFits (signed_constant value) → Promises (AreCellsOf structs t) (written_cells structs t value x span)
-written_promises structs Int value x span h = int_cells structs (initial_number value x) span (initial_fits (is_zero x) (signed_constant value) h)
-written_promises structs Char value x span h = char_cells structs (initial_number value x) span
+written_promises structs Int value x span h = int_cells structs (signed_constant value) span h
+written_promises structs Char value x span h = char_cells structs (signed_constant value) span
 written_promises structs (Struct n) value x span h = tt
 written_promises structs (Pointer m k t) value x span h =
     needs_promises (AreCellsOf structs (Pointer m k t)) (is_zero x) E13 span _ (λ yes. cells_of_number structs (Pointer m k t) (pos 0) refl (zero_null (Pointer m k t ∷ [])) (zero_start (Pointer m k t) refl, tt))
@@ -299,11 +295,19 @@ module _ (at : Places) (s : Scope) where
   number_fits : (value : ℕ) (zero_value : Bool) (span : Span) → Promises (λ (t : Typed). nat_lt value (2 ^ 31) ≡ true) (constant value zero_value span)
   number_fits value zero_value span = needs_promises (λ (t : Typed). nat_lt value (2 ^ 31) ≡ true) (nat_lt value (2 ^ 31)) E04 span _ (λ low. low)
 
+  negated_null : (test : Bool) → ConstantFits (negated_of (null_number test))
+  negated_null true = refl
+  negated_null false = tt
+
+  positive_null : (test : Bool) → ConstantFits (positive_of (null_number test))
+  positive_null true = refl
+  positive_null false = tt
+
   negated_promises : (x : Expression) → Promises (λ (t : Typed). ConstantFits (negated_of (unsigned_constant x))) (typed at s x)
   negated_promises (e.Number value span) = needs_promises (λ (t : Typed). is_word_number (negative value) ≡ true) (nat_lt value (2 ^ 31)) E04 span _ (λ low. negative_fits value low)
   negated_promises (e.Character value span) = needs_promises (λ (t : Typed). is_word_number (negative value) ≡ true) (nat_lt value (2 ^ 31)) E04 span _ (λ low. negative_fits value low)
   negated_promises (e.Text bytes span) = tt
-  negated_promises (e.Name name) = anything_promised (typed at s (e.Name name))
+  negated_promises (e.Name name) = always_promised (typed at s (e.Name name)) (negated_null (bytes_eq name.name names.null))
   negated_promises (e.Call callee arguments span) = anything_promised (typed at s (e.Call callee arguments span))
   negated_promises (e.SizeOf type span) = anything_promised (typed at s (e.SizeOf type span))
   negated_promises (e.Cast word type operand span) = tt
@@ -320,7 +324,7 @@ module _ (at : Places) (s : Scope) where
   constant_promises (e.Number value span) = number_fits value (value == 0) span
   constant_promises (e.Character value span) = number_fits value false span
   constant_promises (e.Text bytes span) = tt
-  constant_promises (e.Name name) = anything_promised (typed at s (e.Name name))
+  constant_promises (e.Name name) = always_promised (typed at s (e.Name name)) (positive_null (bytes_eq name.name names.null))
   constant_promises (e.Call callee arguments span) = anything_promised (typed at s (e.Call callee arguments span))
   constant_promises (e.SizeOf type span) = anything_promised (typed at s (e.SizeOf type span))
   constant_promises (e.Cast word type operand span) = tt

@@ -16,3 +16,10 @@ pub mod Items
 pub mod Typing
 pub mod Stacks
 pub mod StatementStacks
+pub mod NamedVerdicts
+pub mod NamedMentions
+pub mod NamedScopes
+pub mod NamedExpressions
+pub mod NamedStatements
+pub mod NamedLists
+pub mod NamedItems

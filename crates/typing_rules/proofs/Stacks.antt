@@ -25,6 +25,7 @@ use Rattle.typing_rules.specs.Verdicts.{Verdict, Passes, breaks}
 use Rattle.typing_rules.specs.Scopes.{Scope, Signature, Named, Local, Object, Nothing, named, function_named}
 use Rattle.typing_rules.specs.Types.{type_named, is_number, is_pointer, are_comparable, converts}
 use Rattle.typing_rules.specs.Expressions.{Places, Lvalue, OfLocal, OfCell, Typed, Value, AStruct, Called, Gives, GivesNothing, site_at, number, at_place, local_typed, name_typed, member_place, member_from, offset_among, member_at, dotted, pointed_by, arrowed, pointed_at, dereferenced, pointer_to, address, number_of, scalar_of, unary_typed, is_pointer_value, two_numbers, two_scalars, summands, as_pointer, equated_values, equated, ordered_values, ordered, arithmetic, binary_typed, indexed, in_type, converted, arguments_as, is_import, side_number, call_of, first_of, writes, predefined_call, called, with_result, typed, all_typed, call_typed}
+use Rattle.typing_rules.proofs.Knowledge.{crossing_promises}
 use Rattle.typing_rules.proofs.Verdicts.{Promises, passing_promises, needs_promises, anything_promised, promised_so}
 use Rattle.typing_rules.proofs.Signatures.{named_has}
 
@@ -60,8 +61,7 @@ LowPlace n (Some (OfCell p)) = place_stack p ≤ n
 
 abbrev pub Low : ℕ → Typed → Type 0
 Low n (Value type zero value place) = (expression_stack value ≤ n) × LowPlace n place
-Low n (AStruct number None) = Unit {0}
-Low n (AStruct number (Some p)) = place_stack p ≤ n
+Low n (AStruct number place) = LowPlace n (Some place)
 
 abbrev pub LowCall : ℕ → Called → Type 0
 LowCall n (Gives type value) = expression_stack value ≤ n
@@ -77,8 +77,7 @@ low_place_more n m (Some (OfCell p)) le h = omega arith
 
 pub low_more : (n m : ℕ) (t : Typed) → n ≤ m → Low n t → Low m t
 low_more n m (Value type zero value place) le h = let first = h.0 in (omega arith, low_place_more n m place le h.1)
-low_more n m (AStruct number None) le h = tt
-low_more n m (AStruct number (Some p)) le h = omega arith
+low_more n m (AStruct number place) le h = low_place_more n m (Some place) le h
 
 offset_low : (k : ℕ) → offset_stack k ≤ 2
 offset_low ℕ.zero = omega arith
@@ -115,8 +114,8 @@ address_low : (n : ℕ) (a : Typed) (site : Site) (span : Span) → Low n a → 
 address_low n (Value type zero value None) site span h = tt
 address_low n (Value type zero value (Some (OfLocal k))) site span h = tt
 address_low n (Value type zero value (Some (OfCell p))) site span h = pointer_low n type p site h.1
-address_low n (AStruct number None) site span h = tt
-address_low n (AStruct number (Some p)) site span h = pointer_low n (Struct number) p site h
+address_low n (AStruct number (OfLocal k)) site span h = tt
+address_low n (AStruct number (OfCell p)) site span h = pointer_low n (Struct number) p site h
 
 pointed_low : (n : ℕ) (t : CType) (value : core.Expression) (site : Site) (span : Span) → 2 ≤ n → IsLow n value → Promises (Low n) (pointed_at t value site span)
 pointed_low n Int value site span two h = tt
@@ -137,8 +136,8 @@ member_at_low n s struct p name site span two h = by (member_from 0 (members_of 
 
 dotted_low : (n : ℕ) (s : Scope) (a : Typed) (name : List ℕ) (site : Site) (span : Span) → 2 ≤ n → Low n a → Promises (Low n) (dotted s a name site span)
 dotted_low n s (Value type zero value place) name site span two h = tt
-dotted_low n s (AStruct number None) name site span two h = member_at_low n s number (core.Direct 0 0 0) name site span two (omega arith)
-dotted_low n s (AStruct number (Some p)) name site span two h = member_at_low n s number p name site span two h
+dotted_low n s (AStruct number (OfLocal k)) name site span two h = member_at_low n s number (core.Through (core.Local k) 0 0 site) name site span two (omega arith)
+dotted_low n s (AStruct number (OfCell p)) name site span two h = member_at_low n s number p name site span two h
 
 pointed_by_low : (n : ℕ) (s : Scope) (t : CType) (value : core.Expression) (name : List ℕ) (site : Site) (span : Span) → 2 ≤ n → IsLow n value → Promises (Low n) (pointed_by s t value name site span)
 pointed_by_low n s Int value name site span two h = tt
@@ -284,12 +283,13 @@ writes_low n of arguments span same one all =
     (λ x. passing_promises (λ (values : core.Arguments). arguments_stack values ≤ n + 1) (LowCall (n + 16)) (arguments_as arguments (Int ∷ [])) _ (arguments_low n arguments (Int ∷ []) one all) (λ values h. first_low (n + 16) of values same (omega arith)))
 
 predefined_low : (n : ℕ) (name : List ℕ) (arguments : List (Typed × Span)) (span : Span) → 1 ≤ n → AllLow n arguments → Promises (LowCall (n + 16)) (predefined_call name arguments span)
-predefined_low n name arguments span one all = by (bytes_eq name (codes "next_input")) (bytes_eq name (codes "print_int")) refl refl
+predefined_low n name arguments span one all = by (bytes_eq name (codes "next_input")) (bytes_eq name (codes "print_int")) (bytes_eq name (codes "putchar")) refl refl refl
   where
-    by : (input print : Bool) → bytes_eq name (codes "next_input") ≡ input → bytes_eq name (codes "print_int") ≡ print → Promises (LowCall (n + 16)) (predefined_call name arguments span)
-    by true print h0 h1 = rw h0 (needs_promises (LowCall (n + 16)) (length arguments == 0) E14 span (Passes (Gives Int core.NextInput)) (λ none. omega arith))
-    by false true h0 h1 = rw (h0, h1) (writes_low n core.Print arguments span (λ v. refl) one all)
-    by false false h0 h1 = rw (h0, h1) (writes_low n core.PutByte arguments span (λ v. refl) one all)
+    by : (input print put : Bool) → bytes_eq name (codes "next_input") ≡ input → bytes_eq name (codes "print_int") ≡ print → bytes_eq name (codes "putchar") ≡ put → Promises (LowCall (n + 16)) (predefined_call name arguments span)
+    by true print put h0 h1 h2 = rw h0 (needs_promises (LowCall (n + 16)) (length arguments == 0) E14 span (Passes (Gives Int core.NextInput)) (λ none. omega arith))
+    by false true put h0 h1 h2 = rw (h0, h1) (writes_low n core.Print arguments span (λ v. refl) one all)
+    by false false true h0 h1 h2 = rw (h0, h1, h2) (writes_low n core.PutByte arguments span (λ v. refl) one all)
+    by false false false h0 h1 h2 = rw (h0, h1, h2) tt
 
 call_more : (n m : ℕ) (c : Called) → n ≤ m → LowCall n c → LowCall m c
 call_more n m (Gives type value) le h = omega arith
@@ -308,8 +308,9 @@ module _ (s : Scope) (few : AllByRecursion HasFew s.functions) where
   called_low n None name arguments site span found one all = predefined_low n name arguments span one all
   called_low n (Some f) name arguments site span found one all =
       needs_promises (LowCall (n + 16)) (length f.parameters == length arguments) E14 span _
-      (λ many. passing_promises (λ (values : core.Arguments). arguments_stack values ≤ n + length f.parameters) (LowCall (n + 16)) (arguments_as arguments f.parameters) _ (arguments_low n arguments f.parameters one all)
-      (λ values h. let least = named_has HasFew s.functions name f few found in call_low (n + 16) (side_number (is_import f) s.functions f.name 0) (is_import f) f.result site values (omega arith) (omega arith)))
+      (λ many. crossing_promises (LowCall (n + 16)) (is_import f) arguments _
+      (passing_promises (λ (values : core.Arguments). arguments_stack values ≤ n + length f.parameters) (LowCall (n + 16)) (arguments_as arguments f.parameters) _ (arguments_low n arguments f.parameters one all)
+      (λ values h. let least = named_has HasFew s.functions name f few found in call_low (n + 16) (side_number (is_import f) s.functions f.name 0) (is_import f) f.result site values (omega arith) (omega arith))))
 
   -- ---- the walk
 
@@ -319,7 +320,7 @@ module _ (s : Scope) (few : AllByRecursion HasFew s.functions) where
     typed_low at (e.Number value span) n h = needs_promises (Low n) (nat_lt value (2 ^ 31)) E04 span _ (λ low. (omega arith, tt))
     typed_low at (e.Character value span) n h = needs_promises (Low n) (nat_lt value (2 ^ 31)) E04 span _ (λ low. (omega arith, tt))
     typed_low at (e.Text bytes span) n h = tt
-    typed_low at (e.Name name) n h = name_low n (named s name.name) (omega arith)
+    typed_low at (e.Name name) n h = passing_promises (λ (x : Named). Unit {0}) (Low n) (named s name.name) _ (anything_promised (named s name.name)) (λ x _. name_low n x (omega arith))
     typed_low at (e.Call callee arguments span) n h =
         let parts = expressions_reach arguments in
         let higher = around_higher span.from parts in

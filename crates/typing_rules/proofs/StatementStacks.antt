@@ -135,7 +135,8 @@ module _ (at : Places) where
   declaration_low : (s : Scope) → HaveFew s → (d : Declaration) (n : ℕ) → 17 * (declared_reach d).height + 1 ≤ n → Promises (BecomesLow n) (declaration at s d)
   declaration_low s few d n h =
       let two = beside_second (type_reach d.base) (declarators_reach d.declarators) in
-      passing_promises (λ (t : CType). Unit {0}) (BecomesLow n) (base_type s d.base) _ (anything_promised (base_type s d.base)) (λ type _. declarators_low s few d.base type d.span d.declarators n (omega arith))
+      needs_promises (BecomesLow n) (nat_lt (length s.locals) 256) E08 d.span _
+      (λ room. passing_promises (λ (t : CType). Unit {0}) (BecomesLow n) (base_type s d.base) _ (anything_promised (base_type s d.base)) (λ type _. declarators_low s few d.base type d.span d.declarators n (omega arith)))
 
   first_low : (s : Scope) → HaveFew s → (initial : ForInitial) (n : ℕ) → 17 * (for_initial_reach initial).height ≤ n → Promises (BecomesLow n) (first_part at s initial)
   first_low s few trees.Nothing n h = omega arith

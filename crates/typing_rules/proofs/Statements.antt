@@ -16,7 +16,7 @@ use Rattle.ckc_core.specs.declared.program.Operator.{Operator}
 use Rattle.ckc_core.specs.declared.program.Operator.TheVariants as operators
 use Rattle.ckc_core.specs.Core as core
 use Rattle.ckc_core.specs.Meaning as meaning
-use Rattle.typing_rules.specs.Verdicts.{Verdict, Passes, Breaks}
+use Rattle.typing_rules.specs.Verdicts.{Verdict, Passes, Stops}
 use Rattle.typing_rules.specs.Scopes.{Scope}
 use Rattle.typing_rules.specs.Types.{is_number, is_pointer, is_scalar, without_stars, base_type}
 use Rattle.typing_rules.specs.Expressions.{Places, Typed, Value, AStruct, Called, Gives, GivesNothing, Lvalue, OfLocal, OfCell, site_at, typed, call_typed, is_pointer_value}
@@ -189,7 +189,8 @@ module _ (g : Frame) (types : List CType) (all_scalar : AllByRecursion IsScalar 
 
   declaration_promises : (at : Places) (s : Scope) → KnowsFile g s → (d : Declaration) → Promises (Becomes IsAny) (declaration at s d)
   declaration_promises at s file d =
-      passing_promises (λ (t : CType). Unit {0}) (Becomes IsAny) (base_type s d.base) _ (anything_promised (base_type s d.base)) (λ type _. declarators_promise at s file d.base type d.span d.declarators)
+      needs_promises (Becomes IsAny) (nat_lt (length s.locals) 256) E08 d.span _
+      (λ few. passing_promises (λ (t : CType). Unit {0}) (Becomes IsAny) (base_type s d.base) _ (anything_promised (base_type s d.base)) (λ type _. declarators_promise at s file d.base type d.span d.declarators))
 
   first_promises : (at : Places) (s : Scope) → KnowsFile g s → (initial : ForInitial) → Promises (Becomes IsAny) (first_part at s initial)
   first_promises at s file trees.Nothing = λ reaches result loop. rules.nothing
@@ -221,7 +222,7 @@ module _ (g : Frame) (types : List CType) (all_scalar : AllByRecursion IsScalar 
 
   in_scope : (s : Scope) (v : Verdict Walked) → Promises (Becomes IsAny) v → Promises (Becomes (IsIn s)) v
   in_scope s (Passes w) h = λ reaches. h reaches s.result s.in_loop
-  in_scope s (Breaks fault) h = tt
+  in_scope s (Stops stop) h = tt
 
   looped : (s : Scope) (first : core.Statement) (c : core.Expression) (x y : core.Statement) → IsAny first → (t : CType) → HasType g types c t → IsStatement g types s.result true x → IsAny y → IsIn s (both first (core.Loop c x y))
   looped s first c x y hf t hc hx hy = rules.block (rules.then_more (hf s.result s.in_loop) (rules.then_more (rules.repeat hc hx (hy s.result false)) rules.no_more))

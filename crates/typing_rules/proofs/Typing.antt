@@ -12,7 +12,7 @@ use Rattle.ckc_names.specs.Scopes.{Scopes, all_mentioned, at_file_level}
 use Rattle.ckc_names.specs.Naming.{has_main, naming_fault}
 use Rattle.ckc_core.specs.Core as core
 use Rattle.ckc_core.specs.Core.{Core}
-use Rattle.typing_rules.specs.Verdicts.{Verdict, Passes, Breaks, passing}
+use Rattle.typing_rules.specs.Verdicts.{Verdict, Passes, Stops, passing}
 use Rattle.typing_rules.specs.Scopes.{function_named}
 use Rattle.typing_rules.specs.Expressions.{Places, side_number}
 use Rattle.typing_rules.specs.Items.{Walk, walked, start}
@@ -63,7 +63,7 @@ start_well height = record { few = λ n. omega arith; scalars = λ n. tt; start 
 
 walked_typed : (height : ℕ) (v : Verdict Walk) (c : Core) → Promises (Passed height start true) v → passing v (λ w. Passes (core_of w)) ≡ Passes c → IsTyped c
 walked_typed height (Passes w) c h e = let same : core_of w ≡ c = cc in subst IsTyped same (typed_walk height w h)
-walked_typed height (Breaks fault) c h e = absurd (cc)
+walked_typed height (Stops stop) c h e = absurd (cc)
 
 -- what the walk over a whole program leads to
 pub whole_walk : (at : Places) (t : Tree) (c : Core) → HasCore at t c → Promises (Passed (height t) start true) (walked at t)
@@ -101,7 +101,7 @@ small_walk h le w passed =
 
 small_walked : (h : ℕ) → h ≤ 200 → (v : Verdict Walk) (c : Core) → Promises (Passed h start true) v → passing v (λ w. Passes (core_of w)) ≡ Passes c → IsSmallCore c
 small_walked h le (Passes w) c passed e = let same : core_of w ≡ c = cc in subst IsSmallCore same (small_walk h le w passed)
-small_walked h le (Breaks fault) c passed e = absurd (cc)
+small_walked h le (Stops stop) c passed e = absurd (cc)
 
 pub small : (at : Places) (t : Tree) (c : Core) → HasCore at t c → height t ≤ 200 → IsSmallCore c
 small at t c h le = small_walked (height t) le (walked at t) c (whole_walk at t c h) h.rules

@@ -3,16 +3,16 @@ use Rattle.std.proofs.Common.{◌≡◌, ℕ, zero, suc, Bool, true, false, List
 use Rattle.std.specs.Prelude.{slice_get}
 use Rattle.ckc_text.specs.declared.code.Code.{Code}
 use Rattle.ckc_text.specs.declared.place.Span.{Span}
-use Rattle.typing_rules.specs.Verdicts.{Verdict, Passes, Breaks, passing, needs}
+use Rattle.typing_rules.specs.Verdicts.{Verdict, Passes, Stops, passing, needs}
 
 -- what is so of the value where no rule is broken
 abbrev pub Promises : {A : Type 0} → (A → Type 0) → Verdict A → Type 0
 Promises P (Passes value) = P value
-Promises P (Breaks fault) = Unit {0}
+Promises P (Stops stop) = Unit {0}
 
 pub passing_promises : {A B : Type 0} (P : A → Type 0) (Q : B → Type 0) (v : Verdict A) (next : A → Verdict B) → Promises P v → ((x : A) → P x → Promises Q (next x)) → Promises Q (passing v next)
 passing_promises P Q (Passes value) next h more = more value h
-passing_promises P Q (Breaks fault) next h more = tt
+passing_promises P Q (Stops stop) next h more = tt
 
 pub needs_promises : {A : Type 0} (Q : A → Type 0) (test : Bool) (code : Code) (span : Span) (next : Verdict A) → (test ≡ true → Promises Q next) → Promises Q (needs test code span next)
 needs_promises Q true code span next h = h refl
@@ -20,20 +20,20 @@ needs_promises Q false code span next h = tt
 
 pub anything_promised : {A : Type 0} (v : Verdict A) → Promises (λ (x : A). Unit {0}) v
 anything_promised (Passes value) = tt
-anything_promised (Breaks fault) = tt
+anything_promised (Stops stop) = tt
 
 pub always_promised : {A P : Type 0} (v : Verdict A) → P → Promises (λ (x : A). P) v
 always_promised (Passes value) h = h
-always_promised (Breaks fault) h = tt
+always_promised (Stops stop) h = tt
 
 -- two promises at once, and one that is kept later
 pub both_promise : {A : Type 0} (P Q : A → Type 0) (v : Verdict A) → Promises P v → Promises Q v → Promises (λ (x : A). P x × Q x) v
 both_promise P Q (Passes value) p q = (p, q)
-both_promise P Q (Breaks fault) p q = tt
+both_promise P Q (Stops stop) p q = tt
 
 pub later_promises : {A : Type 0} (K : Type 0) (P : A → Type 0) (v : Verdict A) → (K → Promises P v) → Promises (λ (x : A). K → P x) v
 later_promises K P (Passes value) h = h
-later_promises K P (Breaks fault) h = tt
+later_promises K P (Stops stop) h = tt
 
 -- each element of the first list stands at its place in the second one
 abbrev pub Extends : {X : Type 0} → List X → List X → Type 0
@@ -50,9 +50,9 @@ extends_last (y ∷ xs) x = extends_last xs x
 
 pub promised_so : {A : Type 0} (P Q : A → Type 0) (v : Verdict A) → Promises P v → ((x : A) → P x → Q x) → Promises Q v
 promised_so P Q (Passes value) h more = more value h
-promised_so P Q (Breaks fault) h more = tt
+promised_so P Q (Stops stop) h more = tt
 
 -- a promise under each premise
 pub all_promised : {A K : Type 0} (P : K → A → Type 0) (v : Verdict A) → ((k : K) → Promises (P k) v) → Promises (λ (x : A). (k : K) → P k x) v
 all_promised P (Passes value) h = h
-all_promised P (Breaks fault) h = tt
+all_promised P (Stops stop) h = tt

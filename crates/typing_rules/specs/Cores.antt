@@ -10,7 +10,7 @@ use Rattle.typing_rules.specs.Scopes.{Signature}
 use Rattle.typing_rules.specs.Expressions.{Places, is_import, side_number}
 use Rattle.typing_rules.specs.Items.{Walk, walked}
 
--- a function without a body that is called nowhere; no trusted function of a program that breaks no rule is one
+-- a function without a body; in a program that breaks no rule there is none (body-unless-tainted)
 abbrev pub without_body : Signature → core.Function
 without_body f = record { name = f.name; parameters = length f.parameters; locals = f.parameters; result = f.result; body = core.NoMore }
 
@@ -19,7 +19,7 @@ abbrev pub body_of : List core.Function → Signature → core.Function
 body_of [] f = without_body f
 body_of (b ∷ bodies) f = picked (bytes_eq f.name b.name) b (body_of bodies f)
 
--- trusted functions in the order in which their names are first declared
+-- functions that aren't tainted in the order in which their names are first declared
 abbrev pub trusted_functions : List core.Function → List Signature → List core.Function
 trusted_functions bodies [] = []
 trusted_functions bodies (f ∷ functions) = picked (is_import f) (trusted_functions bodies functions) (body_of bodies f ∷ trusted_functions bodies functions)
@@ -29,6 +29,7 @@ abbrev pub tainted_functions : List Signature → List core.Import
 tainted_functions [] = []
 tainted_functions (f ∷ functions) = picked (is_import f) (record { name = f.name; parameters = length f.parameters; result = f.result } ∷ tainted_functions functions) (tainted_functions functions)
 
+-- `main` is there where naming finds no fault
 abbrev pub core_of : Walk → Core
 core_of w =
     record {

@@ -25,7 +25,7 @@ use Rattle.pointer_modes.specs.Types.{Int, Pointer}
 use Rattle.ckc_core.specs.declared.program.Site.{Site}
 use Rattle.ckc_core.specs.declared.program.Operator.TheVariants as operators
 use Rattle.ckc_core.specs.Core as core
-use Rattle.typing_rules.specs.Verdicts.{Verdict, Passes, Breaks}
+use Rattle.typing_rules.specs.Verdicts.{Verdict, Passes, Stops, Broken, Nameless}
 use Rattle.ckc_core.specs.Core.{Core}
 use Rattle.typing_rules.specs.Cores.{checked}
 
@@ -80,11 +80,12 @@ at n = record { line = 1; col = n }
 
 abbrev becomes : Verdict Core → Core → Type 0
 becomes (Passes c) expected = c ≡ expected
-becomes (Breaks fault) expected = ⊥
+becomes (Stops stop) expected = ⊥
 
 abbrev pub breaks_at : Verdict Core → Code → ℕ → Type 0
 breaks_at (Passes c) code from = ⊥
-breaks_at (Breaks fault) code from = (fault.code ≡ code) × (fault.span.from ≡ from)
+breaks_at (Stops (Broken fault)) code from = (fault.code ≡ code) × (fault.span.from ≡ from)
+breaks_at (Stops Nameless) code from = ⊥
 
 abbrev place : Site
 place = record { place = at 0 }

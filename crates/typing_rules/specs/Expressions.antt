@@ -2,7 +2,7 @@
 use Rattle.std.specs.Prelude.{ℕ, suc, ◌+◌, ◌^◌, nat_lt, Bool, true, false, not, ◌&&◌, ◌||◌, ◌==◌, bytes_eq, codes, List, [], ◌∷◌, length, Option, Some, None, pos}
 use Rattle.ckc_text.specs.declared.place.Place.{Place}
 use Rattle.ckc_text.specs.declared.place.Span.{Span}
-use Rattle.ckc_text.specs.declared.code.Code.TheVariants.{E04, E10, E12, E13, E14, E19, E22, E26}
+use Rattle.ckc_text.specs.declared.code.Code.TheVariants.{E04, E10, E12, E13, E14, E19, E22, E24, E26}
 use Rattle.ckc_tree.specs.declared.expr.UnaryOperator.{UnaryOperator}
 use Rattle.ckc_tree.specs.declared.expr.UnaryOperator.TheVariants as unary
 use Rattle.ckc_tree.specs.declared.expr.BinaryOperator.{BinaryOperator}
@@ -21,9 +21,9 @@ use Rattle.ckc_core.specs.declared.program.Operator.TheVariants as operators
 use Rattle.ckc_core.specs.declared.program.Comparison.{Comparison}
 use Rattle.ckc_core.specs.declared.program.Comparison.TheVariants as comparisons
 use Rattle.ckc_core.specs.Core as core
-use Rattle.typing_rules.specs.Verdicts.{Verdict, Passes, passing, needs, breaks, picked}
+use Rattle.typing_rules.specs.Verdicts.{Verdict, Passes, Unnamed, passing, needs, breaks, picked}
 use Rattle.typing_rules.specs.Scopes.{Scope, Signature, Named, Local, Object, Nothing, named, function_named}
-use Rattle.typing_rules.specs.Types.{type_named, is_number, is_pointer, are_comparable, converts}
+use Rattle.typing_rules.specs.Types.{type_named, is_number, is_pointer, is_checked_pointer, are_comparable, converts}
 
 -- where a value may be stored: a local, or a cell
 pub data Lvalue : Type 0 where
@@ -35,7 +35,7 @@ pub data Typed : Type 0 where
   -- a value of a scalar type, which may be the constant 0, and may stand for a place
   Value : (type : CType) (zero : Bool) (value : core.Expression) (place : Option Lvalue) → Typed
   -- a struct, which is a parameter, or stands at a place
-  AStruct : (number : ℕ) (place : Option core.Place) → Typed
+  AStruct : (number : ℕ) (place : Lvalue) → Typed
 
 -- what a call is: a value of a type, or a statement where it has no result
 pub data Called : Type 0 where
@@ -62,13 +62,13 @@ abbrev pub at_place : CType → core.Place → Typed
 at_place Int place = Value Int false (core.Load Int place) (Some (OfCell place))
 at_place Char place = Value Char false (core.Load Char place) (Some (OfCell place))
 at_place (Pointer mode kind target) place = Value (Pointer mode kind target) false (core.Load (Pointer mode kind target) place) (Some (OfCell place))
-at_place (Struct number) place = AStruct number (Some place)
+at_place (Struct number) place = AStruct number (OfCell place)
 
 abbrev pub local_typed : ℕ → CType → Typed
 local_typed local Int = Value Int false (core.Local local) (Some (OfLocal local))
 local_typed local Char = Value Char false (core.Local local) (Some (OfLocal local))
 local_typed local (Pointer mode kind target) = Value (Pointer mode kind target) false (core.Local local) (Some (OfLocal local))
-local_typed local (Struct number) = AStruct number None
+local_typed local (Struct number) = AStruct number (OfLocal local)
 
 abbrev pub name_typed : Named → Typed
 name_typed (Local local type) = local_typed local type
@@ -80,10 +80,11 @@ abbrev pub member_place : core.Place → (cell offset : ℕ) → Site → core.P
 member_place (core.Direct object first place) cell offset site = core.Direct object (first + cell) (place + offset)
 member_place (core.Through pointer first place before) cell offset site = core.Through pointer (first + cell) (place + offset) site
 
--- a parameter that is a struct has no place: its function is refused behind its body
-abbrev pub struct_place : Option core.Place → core.Place
-struct_place None = core.Direct 0 0 0
-struct_place (Some place) = place
+-- the place of a struct. A parameter that is one stands in no memory, and its function is refused behind its body (E13): until
+-- then it stands behind a pointer that is none, which no core that has types holds
+abbrev pub struct_place : Lvalue → Site → core.Place
+struct_place (OfLocal local) site = core.Through (core.Local local) 0 0 site
+struct_place (OfCell place) site = place
 
 -- a member of a struct: its number, and its type
 abbrev pub member_from : ℕ → List Member → List ℕ → Option (ℕ × CType)
@@ -107,7 +108,7 @@ member_at s struct place name site span = found (member_from 0 (members_of s.str
 -- member-of-struct: the left side of a dot is a struct (E13)
 abbrev pub dotted : Scope → Typed → List ℕ → Site → Span → Verdict Typed
 dotted s (Value type zero value place) name site span = breaks E13 span
-dotted s (AStruct number place) name site span = member_at s number (struct_place place) name site span
+dotted s (AStruct number place) name site span = member_at s number (struct_place place site) name site span
 
 abbrev pub pointed_by : Scope → CType → core.Expression → List ℕ → Site → Span → Verdict Typed
 pointed_by s (Pointer mode kind (Struct number)) value name site span = member_at s number (core.Through value 0 0 site) name site span
@@ -137,14 +138,10 @@ address_at type None site span = breaks E12 span
 address_at type (Some (OfLocal local)) site span = breaks E22 span
 address_at type (Some (OfCell place)) site span = Passes (pointer_to type place site)
 
-abbrev pub struct_address : ℕ → Option core.Place → Site → Span → Verdict Typed
-struct_address number None site span = breaks E22 span
-struct_address number (Some place) site span = Passes (pointer_to (Struct number) place site)
-
 -- address-of-place: a variable, an element or a member (E12). address-allowed: no local (E22)
 abbrev pub address : Typed → Site → Span → Verdict Typed
 address (Value type zero value place) site span = address_at type place site span
-address (AStruct number place) site span = struct_address number place site span
+address (AStruct number place) site span = address_at (Struct number) (Some place) site span
 
 -- ---- operators
 
@@ -269,7 +266,7 @@ arguments_as (argument ∷ arguments) [] = Passes core.Done
 arguments_as (argument ∷ arguments) (type ∷ types) =
     converted argument.0 type argument.1 (λ v. passing (arguments_as arguments types) (λ others. Passes (core.More v others)))
 
--- the number of a trusted function among those that aren't tainted, and of a tainted one among the tainted, in the order in
+-- the number of a function that isn't tainted among those that aren't, and of a tainted one among the tainted, in the order in
 -- which their names are first declared
 abbrev pub is_tainted : FunctionKind → Bool
 is_tainted function_kinds.Trusted = false
@@ -291,17 +288,32 @@ abbrev pub side_number : Bool → List Signature → List ℕ → ℕ → ℕ
 side_number side [] name number = number
 side_number side (f ∷ functions) name number = picked (bytes_eq name f.name) number (side_number side functions name (counted (same_side side (is_import f)) number))
 
+-- no-checked-pointer-to-tainted: E24, at the argument. The constant 0 and `NULL` are numbers
+abbrev pub is_checked_argument : Typed → Bool
+is_checked_argument (Value type zero value place) = is_checked_pointer type
+is_checked_argument (AStruct number place) = false
+
+abbrev pub without_checked : {A : Type 0} → List (Typed × Span) → Verdict A → Verdict A
+without_checked [] next = next
+without_checked (argument ∷ arguments) next = needs (not (is_checked_argument argument.0)) E24 argument.1 (without_checked arguments next)
+
+-- the rule is asked of all arguments of a tainted function, from left to right
+abbrev pub crossing : {A : Type 0} → Bool → List (Typed × Span) → Verdict A → Verdict A
+crossing true arguments next = without_checked arguments next
+crossing false arguments next = next
+
 abbrev pub call_of : Bool → ℕ → Option CType → Site → core.Arguments → Called
 call_of true number (Some type) site arguments = Gives type (core.TaintedCall number arguments site)
 call_of true number None site arguments = GivesNothing (core.TaintedAlone number arguments site)
 call_of false number (Some type) site arguments = Gives type (core.Call number arguments)
 call_of false number None site arguments = GivesNothing (core.CallAlone number arguments)
 
--- argument-count: E14
+-- argument-count: E14. Then what crosses the boundary is asked of all arguments, and then their conversions
 abbrev pub declared_call : Scope → Signature → List (Typed × Span) → Site → Span → Verdict Called
 declared_call s f arguments site span =
     needs (length f.parameters == length arguments) E14 span
-    (passing (arguments_as arguments f.parameters) (λ values. Passes (call_of (is_import f) (side_number (is_import f) s.functions f.name 0) f.result site values)))
+    (crossing (is_import f) arguments
+    (passing (arguments_as arguments f.parameters) (λ values. Passes (call_of (is_import f) (side_number (is_import f) s.functions f.name 0) f.result site values))))
 
 abbrev pub first_of : (core.Expression → core.Statement) → core.Arguments → core.Statement
 first_of of core.Done = core.Nothing
@@ -311,13 +323,15 @@ first_of of (core.More v others) = of v
 abbrev pub writes : (core.Expression → core.Statement) → List (Typed × Span) → Span → Verdict Called
 writes of arguments span = needs (length arguments == 1) E14 span (passing (arguments_as arguments (Int ∷ [])) (λ values. Passes (GivesNothing (first_of of values))))
 
+-- a call of a name that isn't declared. `strlen` isn't a form of which rules speak here
 abbrev pub predefined_call : List ℕ → List (Typed × Span) → Span → Verdict Called
-predefined_call name arguments span = by_name (bytes_eq name (codes "next_input")) (bytes_eq name (codes "print_int"))
+predefined_call name arguments span = by_name (bytes_eq name (codes "next_input")) (bytes_eq name (codes "print_int")) (bytes_eq name (codes "putchar"))
   where
-    by_name : Bool → Bool → Verdict Called
-    by_name true print = needs (length arguments == 0) E14 span (Passes (Gives Int core.NextInput))
-    by_name false true = writes core.Print arguments span
-    by_name false false = writes core.PutByte arguments span
+    by_name : Bool → Bool → Bool → Verdict Called
+    by_name true print put = needs (length arguments == 0) E14 span (Passes (Gives Int core.NextInput))
+    by_name false true put = writes core.Print arguments span
+    by_name false false true = writes core.PutByte arguments span
+    by_name false false false = Unnamed
 
 abbrev pub called : Scope → Option Signature → List ℕ → List (Typed × Span) → Site → Span → Verdict Called
 called s None name arguments site span = predefined_call name arguments span
@@ -336,12 +350,12 @@ constant value zero span = needs (nat_lt value (2 ^ 31)) E04 span (Passes (Value
 
 abbrev mutual
   -- an expression: its children from left to right, and then its own rules. Strings, casts and allocations aren't forms of
-  -- which rules speak here
+  -- which rules speak here: no tree that is built has them
   pub typed : Places → Scope → Expression → Verdict Typed
   typed at s (e.Number value span) = constant value (value == 0) span
   typed at s (e.Character value span) = constant value false span
   typed at s (e.Text bytes span) = breaks E13 span
-  typed at s (e.Name name) = Passes (name_typed (named s name.name))
+  typed at s (e.Name name) = passing (named s name.name) (λ n. Passes (name_typed n))
   typed at s (e.Call callee arguments span) = passing (all_typed at s arguments) (λ ts. passing (called s (function_named s.functions callee.name) callee.name ts (site_at at span) span) (λ c. with_result c span))
   typed at s (e.SizeOf type span) = passing (type_named s type) (λ t. number (core.Number (pos (size_of s.structs t))))
   typed at s (e.Cast word type operand span) = breaks E13 span
@@ -359,7 +373,7 @@ abbrev mutual
   all_typed at s e.NoMore = Passes []
   all_typed at s (e.Then first others) = passing (typed at s first) (λ t. passing (all_typed at s others) (λ ts. Passes ((t, expression_span first) ∷ ts)))
 
--- a call that stands alone
+-- a call that stands alone, as the grammar has nothing else there
 abbrev pub call_typed : Places → Scope → Expression → Verdict Called
 call_typed at s (e.Call callee arguments span) = passing (all_typed at s arguments) (λ ts. called s (function_named s.functions callee.name) callee.name ts (site_at at span) span)
 call_typed at s _ = breaks E13 (record { from = 0; to = 0 })

@@ -8,7 +8,8 @@ use Rattle.ckc_tree.specs.declared.item.FunctionKind.{FunctionKind}
 use Rattle.ckc_tree.specs.declared.item.FunctionKind.TheVariants as function_kinds
 use Rattle.ckc_tree.specs.declared.item.Region.{Region}
 use Rattle.ckc_tree.specs.declared.item.Region.TheVariants as regions
-use Rattle.ckc_tree.specs.Types.{TypeTree, type_span}
+use Rattle.ckc_names.specs.Scopes.{null}
+use Rattle.ckc_tree.specs.Types.{TypeTree, IntType, CharType, StructType, PointerType, type_span}
 use Rattle.ckc_tree.specs.Expressions as e
 use Rattle.ckc_tree.specs.Expressions.{Expression}
 use Rattle.ckc_tree.specs.Statements as s
@@ -22,10 +23,10 @@ use Rattle.pointer_modes.specs.Layout.{Cell, cells_of, size_of}
 use Rattle.ckc_core.specs.Core as core
 use Rattle.ckc_core.specs.States.{same_type}
 use Rattle.ckc_core.specs.Meaning.{low_byte}
-use Rattle.typing_rules.specs.Verdicts.{Verdict, Passes, passing, needs, breaks, picked}
-use Rattle.typing_rules.specs.Scopes.{Scope, Signature, Variable, function_named}
+use Rattle.typing_rules.specs.Verdicts.{Verdict, Passes, passing, needs, breaks, meant, picked}
+use Rattle.typing_rules.specs.Scopes.{Scope, Signature, Variable, struct_named, function_named}
 use Rattle.typing_rules.specs.Types.{base_type, without_stars, type_named, is_scalar}
-use Rattle.typing_rules.specs.Expressions.{Places, Typed, Value, AStruct, typed}
+use Rattle.typing_rules.specs.Expressions.{Places, Typed, Value, AStruct, is_tainted, typed}
 use Rattle.typing_rules.specs.Statements.{statements, with_local, is_unchecked, is_checked}
 
 -- what is known behind an item: what stands at file level, the cells of the file-level variables with the bytes that their
@@ -77,9 +78,15 @@ abbrev pub negative : ℕ → ℤ
 negative zero = pos 0
 negative (suc n) = negsuc n
 
+abbrev pub null_number : Bool → Option ℕ
+null_number true = Some 0
+null_number false = None
+
+-- `NULL`, which no variable is called, is the number 0 in every respect
 abbrev pub unsigned_constant : Expression → Option ℕ
 unsigned_constant (e.Number value span) = Some value
 unsigned_constant (e.Character value span) = Some value
+unsigned_constant (e.Name name) = null_number (bytes_eq name.name null)
 unsigned_constant _ = None
 
 abbrev pub negated_of : Option ℕ → Option ℤ
@@ -90,7 +97,7 @@ abbrev pub positive_of : Option ℕ → Option ℤ
 positive_of None = None
 positive_of (Some n) = Some (pos n)
 
--- a number with or without a minus
+-- a number with or without a minus, so that `-NULL` is 0 as `-0` is
 abbrev pub signed_constant : Expression → Option ℤ
 signed_constant (e.Unary unary.Negate operand span) = negated_of (unsigned_constant operand)
 signed_constant a = positive_of (unsigned_constant a)
@@ -135,21 +142,17 @@ abbrev pub is_zero : Typed → Bool
 is_zero (Value type null value place) = null
 is_zero (AStruct number place) = false
 
--- `NULL` is the number 0 in every respect
-abbrev pub initial_number : Expression → Typed → Option ℤ
-initial_number value t = picked (is_zero t) (Some (pos 0)) (signed_constant value)
-
 abbrev pub number_or_break : Option ℤ → Span → (ℤ → List core.Initial) → Verdict (List core.Initial)
 number_or_break None span cells = breaks E13 span
 number_or_break (Some number) span cells = Passes (cells number)
 
 abbrev pub written_cells : List Structure → CType → Expression → Typed → Span → Verdict (List core.Initial)
-written_cells structs Int value t span = number_or_break (initial_number value t) span (cells_with structs Int)
-written_cells structs Char value t span = number_or_break (initial_number value t) span (λ n. cells_with structs Char (low_byte n))
+written_cells structs Int value t span = number_or_break (signed_constant value) span (cells_with structs Int)
+written_cells structs Char value t span = number_or_break (signed_constant value) span (λ n. cells_with structs Char (low_byte n))
 written_cells structs (Struct number) value t span = breaks E13 span
 written_cells structs (Pointer mode kind target) value t span = needs (is_zero t) E13 span (Passes (cells_with structs (Pointer mode kind target) (pos 0)))
 
--- constant-initialiser: a signed number for a number, 0 for a pointer, and nothing for a struct; a list for an array alone (E13,
+-- constant-initialiser: a signed number for a number, 0 or `NULL` for a pointer, and nothing for a struct; a list for an array alone (E13,
 -- at the item)
 abbrev pub object_cells : List Structure → CType → Walked → Span → Verdict (List core.Initial)
 object_cells structs type Missing span = Passes (cells_with structs type (pos 0))
@@ -159,24 +162,41 @@ object_cells structs type Constants span = breaks E13 span
 abbrev pub with_variable : List ℕ → CType → Scope → Scope
 with_variable name type g = record g { variables = g.variables ++ record { name = name; type = type } ∷ [] }
 
--- what a block takes with its gap
-abbrev pub block_bytes : Scope → CType → ℕ
-block_bytes g type = rounded_up (size_of g.structs type) + 16
+-- the bytes of a variable of a type as it is written: a pointer takes a word, whether its rules are kept or not
+abbrev pub written_size : Scope → TypeTree → (stars : ℕ) → Verdict ℕ
+written_size g base (suc stars) = Passes 4
+written_size g (IntType span) zero = Passes (size_of g.structs Int)
+written_size g (CharType span) zero = Passes (size_of g.structs Char)
+written_size g (StructType tag span) zero = passing (meant (struct_named g tag.name)) (λ number. Passes (size_of g.structs (Struct number)))
+written_size g (PointerType word element starred span) zero = Passes 4
+
+-- few-static-bytes: at most 32,768 with the gap behind each block (E08, at the item)
+abbrev pub few_bytes : ℕ → Span → Verdict ℕ
+few_bytes taken span = needs (nat_le taken 32768) E08 span (Passes taken)
+
+-- few-variables: at most 4,096 (E08, at the item). The bytes that are taken with one variable more
+abbrev pub room_for : Walk → TypeTree → Span → Declarator → Verdict ℕ
+room_for w base span d =
+    needs (nat_lt (length w.scope.variables) 4096) E08 span
+    (passing (written_size w.scope base d.stars) (λ size. few_bytes (w.taken + (rounded_up size + 16)) span))
 
 -- a variable whose children were walked
 pub record WalkedVariable : Type 0 where
   pub type : CType
   pub initial : Walked
 
--- few-variables: at most 4,096 (E08, at the item). few-static-bytes: at most 32,768 with gaps (E08, at the item)
 abbrev pub variables : Places → Walk → TypeTree → CType → Span → List Declarator → List WalkedVariable → Verdict (Walk × List WalkedVariable)
 variables at w base type span [] done = Passes (w, done)
 variables at w base type span (d ∷ ds) done =
-    needs (nat_lt (length w.scope.variables) 4096) E08 span
-    (passing (without_stars base d.stars type) (λ t.
-    needs (nat_le (w.taken + block_bytes w.scope t) 32768) E08 span
-    (passing (initializer at (with_variable d.name.name t w.scope) d.initializer) (λ initial.
-    variables at (record w { scope = with_variable d.name.name t w.scope; taken = w.taken + block_bytes w.scope t }) base type span ds (done ++ record { type = t; initial = initial } ∷ [])))))
+    passing (room_for w base span d) (λ taken.
+    passing (without_stars base d.stars type) (λ t.
+    passing (initializer at (with_variable d.name.name t w.scope) d.initializer) (λ initial.
+    variables at (record w { scope = with_variable d.name.name t w.scope; taken = taken }) base type span ds (done ++ record { type = t; initial = initial } ∷ []))))
+
+-- whether there is room for the first variable is asked before the type that all share is walked
+abbrev pub room_for_first : Walk → i.Global → List Declarator → Verdict ℕ
+room_for_first w g [] = Passes w.taken
+room_for_first w g (d ∷ ds) = room_for w g.base g.span d
 
 -- the initialisers are judged behind the children of all. variable-has-cells: a struct is declared, and has members (E10); those
 -- of a source whose names have a meaning are
@@ -188,8 +208,8 @@ with_objects w span (v ∷ vs) =
 
 abbrev pub global : Places → Walk → i.Global → Verdict Walk
 global at w g =
-    passing (base_type w.scope g.base) (λ type. passing (variables at w g.base type g.span g.declarators []) (λ x.
-    passing (with_objects x.0 g.span x.1) (λ v. in_checked_region v.scope g.span v)))
+    passing (room_for_first w g g.declarators) (λ taken. passing (base_type w.scope g.base) (λ type.
+    passing (variables at w g.base type g.span g.declarators []) (λ x. passing (with_objects x.0 g.span x.1) (λ v. in_checked_region v.scope g.span v))))
 
 -- ---- functions
 
@@ -261,11 +281,6 @@ function_body at w f parameters (Some body) =
     passing (statements at (inside f parameters w.scope) body.statements) (λ x.
     is_checked w.scope body.mark body.span (Passes (record w { bodies = w.bodies ++ core_function f parameters x.0 x.1 ∷ [] })))
 
-abbrev pub is_trusted : FunctionKind → Bool
-is_trusted function_kinds.Trusted = true
-is_trusted function_kinds.Tainted = false
-is_trusted function_kinds.Callback = false
-
 abbrev pub defines : List ℕ → Item → Bool
 defines name (i.RegionItem region span) = false
 defines name (i.StructureItem structure) = false
@@ -276,11 +291,11 @@ abbrev pub is_defined : List Item → List ℕ → Bool
 is_defined [] name = false
 is_defined (x ∷ items) name = picked (defines name x) true (is_defined items name)
 
--- declarations-agree and signature-is-scalar: E13. trusted-has-body: E10. region-is-checked: E15
+-- declarations-agree and signature-is-scalar: E13. body-unless-tainted: E10. region-is-checked: E15
 abbrev pub function_rules : List Item → i.Function → Signature → Option Signature → Walk → Verdict Walk
 function_rules all d f known w =
     needs (agrees known f && (all_scalar f.parameters && scalar_result f.result)) E13 d.span
-    (needs (picked (is_trusted d.kind) (is_defined all d.name.name) true) E10 d.span
+    (needs (picked (is_tainted d.kind) true (is_defined all d.name.name)) E10 d.span
     (needs (not (is_unchecked d.mark)) E15 d.span (in_checked_region w.scope d.span w)))
 
 abbrev pub signature_of : i.Function → Option CType → List Variable → Signature

@@ -3,7 +3,8 @@
 use Rattle.std.specs.Prelude.{ℕ, suc, Bool, true, false, bytes_eq, List, [], ◌∷◌, Option, Some, None, position, slice_get}
 use Rattle.ckc_tree.specs.declared.item.FunctionKind.{FunctionKind}
 use Rattle.pointer_modes.specs.Types.{CType, Structure}
-use Rattle.typing_rules.specs.Verdicts.{picked}
+use Rattle.ckc_names.specs.Scopes.{null}
+use Rattle.typing_rules.specs.Verdicts.{Verdict, meant, picked}
 
 -- a declared function: its kind, its parameters, and what it returns
 pub record Signature : Type 0 where
@@ -66,13 +67,12 @@ abbrev pub or_else : Option Named → Option Named → Option Named
 or_else (Some this) other = Some this
 or_else None other = other
 
-abbrev pub or_nothing : Option Named → Named
-or_nothing (Some this) = this
-or_nothing None = Nothing
+abbrev pub null_named : List ℕ → Option Named
+null_named name = found_if (bytes_eq name null) (Some Nothing) None
 
--- what a name stands for, where naming has found that it is visible
-abbrev pub named : Scope → List ℕ → Named
-named s name = or_nothing (or_else (local_named s.locals s.visible name) (object_named 0 s.variables name))
+-- what a name stands for: a local, else a file-level variable, else `NULL`
+abbrev pub named : Scope → List ℕ → Verdict Named
+named s name = meant (or_else (local_named s.locals s.visible name) (or_else (object_named 0 s.variables name) (null_named name)))
 
 abbrev pub function_named : List Signature → List ℕ → Option Signature
 function_named [] name = None

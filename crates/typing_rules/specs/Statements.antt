@@ -99,11 +99,14 @@ initialised at g None type local span = Passes core.Nothing
 initialised at g (Some (s.Value value)) type local span = passing (typed at g value) (λ t. converted t type span (λ v. Passes (core.SetLocal local v)))
 initialised at g (Some (s.Constants constants list)) type local span = breaks E13 span
 
--- few-locals: at most 256 with the parameters (E08, at the declaration). no-struct-local: E13. At each entry of its
--- declaration a local is zero or null before its initial value is evaluated
+-- few-locals: at most 256 with the parameters (E08, at the declaration)
+abbrev pub few_locals : {A : Type 0} → Scope → Span → Verdict A → Verdict A
+few_locals g span next = needs (nat_lt (length g.locals) 256) E08 span next
+
+-- no-struct-local: E13. At each entry of its declaration a local is zero or null before its initial value is evaluated
 abbrev pub declarator : Places → Scope → TypeTree → CType → Span → Declarator → Verdict Walked
 declarator at g base type span d =
-    needs (nat_lt (length g.locals) 256) E08 span
+    few_locals g span
     (passing (without_stars base d.stars type) (λ t.
     passing (initialised at (with_local d.name.name t g) d.initializer t (length g.locals) span) (λ initial.
     needs (is_scalar t) E13 span (Passes (both (core.SetLocal (length g.locals) (zero_value t)) initial, with_local d.name.name t g)))))
@@ -112,8 +115,9 @@ abbrev pub declarators : Places → Scope → TypeTree → CType → Span → Li
 declarators at g base type span [] = Passes (core.Nothing, g)
 declarators at g base type span (d ∷ ds) = passing (declarator at g base type span d) (λ first. passing (declarators at first.1 base type span ds) (λ rest. Passes (both first.0 rest.0, rest.1)))
 
+-- whether there is room for the first local is asked before the type that all share is walked
 abbrev pub declaration : Places → Scope → Declaration → Verdict Walked
-declaration at g d = passing (base_type g d.base) (λ type. declarators at g d.base type d.span d.declarators)
+declaration at g d = few_locals g d.span (passing (base_type g d.base) (λ type. declarators at g d.base type d.span d.declarators))
 
 -- ---- statements
 

@@ -1,5 +1,5 @@
 -- The types that are written in a source, and what converts to what.
-use Rattle.std.specs.Prelude.{ℕ, Bool, true, false, ◌&&◌, ◌||◌, ◌==◌, unwrap_or}
+use Rattle.std.specs.Prelude.{ℕ, Bool, true, false, ◌&&◌, ◌||◌, ◌==◌}
 use Rattle.ckc_text.specs.declared.code.Code.TheVariants.{E15}
 use Rattle.ckc_tree.specs.declared.type_form.PointerMode.{PointerMode}
 use Rattle.ckc_tree.specs.declared.type_form.PointerMode.TheVariants as written_modes
@@ -12,7 +12,7 @@ use Rattle.pointer_modes.specs.declared.ctype.Kind.{Kind}
 use Rattle.pointer_modes.specs.declared.ctype.Kind.TheVariants as kinds
 use Rattle.pointer_modes.specs.Types.{CType, Int, Char, Struct, Pointer}
 use Rattle.ckc_core.specs.States.{same_mode, same_type}
-use Rattle.typing_rules.specs.Verdicts.{Verdict, Passes, passing, needs}
+use Rattle.typing_rules.specs.Verdicts.{Verdict, Passes, passing, needs, meant}
 use Rattle.typing_rules.specs.Scopes.{Scope, struct_named}
 
 abbrev pub mode_of : PointerMode → Mode
@@ -32,7 +32,7 @@ without_stars base stars t = needs (stars == 0) E15 (type_span base) (Passes t)
 abbrev pub base_type : Scope → TypeTree → Verdict CType
 base_type s (IntType span) = Passes Int
 base_type s (CharType span) = Passes Char
-base_type s (StructType tag span) = Passes (Struct (unwrap_or (struct_named s tag.name) 0))
+base_type s (StructType tag span) = passing (meant (struct_named s tag.name)) (λ number. Passes (Struct number))
 base_type s (PointerType word element stars span) =
     passing (passing (base_type s element) (without_stars element stars)) (λ t. Passes (Pointer (mode_of word.mode) (kind_of word.kind) t))
 
@@ -54,6 +54,15 @@ is_pointer (Pointer mode kind target) = true
 is_pointer Int = false
 is_pointer Char = false
 is_pointer (Struct number) = false
+
+-- a pointer into trusted memory
+abbrev pub is_checked_pointer : CType → Bool
+is_checked_pointer (Pointer modes.Checked kind target) = true
+is_checked_pointer (Pointer modes.Tainted kind target) = false
+is_checked_pointer (Pointer modes.Raw kind target) = false
+is_checked_pointer Int = false
+is_checked_pointer Char = false
+is_checked_pointer (Struct number) = false
 
 abbrev pub is_scalar : CType → Bool
 is_scalar t = is_number t || is_pointer t

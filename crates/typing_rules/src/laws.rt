@@ -1,10 +1,14 @@
 // Worked examples of the rules, and what holds of all programs that keep them.
 
-ghost use Rattle.std.specs.Prelude.{◌≤◌};
+ghost use Rattle.std.specs.Prelude.{◌≡◌, ◌≤◌, true, None};
 ghost use Rattle.ckc_tree.specs.Items.{Tree};
 ghost use Rattle.ckc_tree.specs.Heights.{height};
+ghost use Rattle.ckc_names.specs.Naming.{naming_fault};
+ghost use Rattle.built_forms.specs.Built.{is_built};
 ghost use Rattle.ckc_core.specs.Core.{Core};
+ghost use Rattle.typing_rules.specs.Verdicts.{Unnamed};
 ghost use Rattle.typing_rules.specs.Expressions.{Places};
+ghost use Rattle.typing_rules.specs.Cores.{checked};
 ghost use Rattle.typing_rules.specs.NeverStuck.{HasCore, NeverStuck};
 ghost use Rattle.typing_rules.specs.Typed.{IsTyped};
 ghost use Rattle.typing_rules.specs.Lowerable.{IsSmallCore};
@@ -28,4 +32,9 @@ pub fn never_stuck()
 /// The core of a program that breaks no rule and whose tree isn't too high is small enough to be lowered.
 pub fn lowerable()
     ensures { (at : Places) (t : Tree) (c : Core) → HasCore at t c → height t ≤ 200 → IsSmallCore c }
+{}
+
+/// Where naming finds no fault, each name stands for something in the rules too.
+pub fn named()
+    ensures { (at : Places) (t : Tree) → is_built t ≡ true → naming_fault t ≡ None → checked at t ≡ Unnamed → ⊥ }
 {}

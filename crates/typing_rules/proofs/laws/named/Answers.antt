@@ -1,0 +1,5 @@
+use Rattle.typing_rules.proofs.NamedItems.{all_named}
+use Rattle.typing_rules.proofs.laws.named.Goals as goal
+
+pub returns : goal.returns
+returns c = all_named
