@@ -5,3 +5,5 @@ pub mod Runs
 pub mod ListRuns
 pub mod Giving
 pub mod Calls
+pub mod SomeAnswer
+pub mod Process

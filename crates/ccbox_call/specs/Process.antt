@@ -13,6 +13,7 @@ use Rattle.run_core.specs.Runs.{Counts}
 use Rattle.run_transcript.specs.Diagnostics.{usage_text}
 use Rattle.exit_status.specs.Given.{LineGiven}
 use Rattle.command_words.specs.Requests.{request_of}
+use Rattle.ccbox_call.specs.Calls.{CallEnds}
 use Rattle.ccbox_call.specs.Answers.{GivesFront, GivesWhole, IsFailure, IsStatus, Exactly, Tells, SourceIsRefused, FileIsMissing, RunExits, CheckFails, RunStops, LineIsRefused, PrintedRun, IsComplete, IsQuiet, IsUntouched}
 
 -- the words of an outcome without any: memory ran out, or one of them is no text, and then they count as none
@@ -50,3 +51,8 @@ pub record IsUnmade (old new : Option (List ℕ)) (before after : Counts) (statu
   pub status_is : status ≡ 9
   pub unwritten : new ≡ old
   pub uncounted : after ≡ before
+
+-- Inside: how a process ends, by the words that it was given
+abbrev pub ProcessEnds : Option (List (List ℕ)) → (told : Option Files) (old new : Option (List ℕ)) (before after : Counts) (status : ℕ) → Type 0
+ProcessEnds None told old new before after status = IsUnmade old new before after status
+ProcessEnds (Some words) told old new before after status = CallEnds words told old new before after status

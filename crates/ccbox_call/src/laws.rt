@@ -7,11 +7,18 @@ ghost use Rattle.ckc_core.specs.Core.{Core};
 ghost use Rattle.ccbox_call.specs.Acceptance.{Accepts, IsRefused};
 ghost use Rattle.ccbox_call.specs.Answers.{Answer};
 
-/// A source has one core, or one fault and no core. Words have one text and one status.
-pub fn one_answer()
+/// A source has one core at most, or one fault at most and no core; and words have one text and one status at most.
+pub fn at_most_one_answer()
     ensures core { (src : List ℕ) (c d : Core) → Accepts src c → Accepts src d → c ≡ d }
     ensures fault { (src : List ℕ) (f g : SourceFault) → IsRefused src f → IsRefused src g → f ≡ g }
     ensures core_or_fault { (src : List ℕ) (c : Core) (f : SourceFault) → Accepts src c → IsRefused src f → ⊥ }
     ensures text { (files : Files) (words : List (List ℕ)) (t u : List ℕ) (m n : ℕ) → Answer files words t m → Answer files words u n → t ≡ u }
     ensures status { (files : Files) (words : List (List ℕ)) (t u : List ℕ) (m n : ℕ) → Answer files words t m → Answer files words u n → m ≡ n }
+{}
+
+/// A source has a core or a fault, and words have an Answer over every map of files: it can't be that they have none. Which
+/// it is, isn't decided by the law.
+pub fn some_answer()
+    ensures core_or_fault { (src : List ℕ) → ((c : Core) → Accepts src c → ⊥) → ((f : SourceFault) → IsRefused src f → ⊥) → ⊥ }
+    ensures answer { (files : Files) (words : List (List ℕ)) → ((text : List ℕ) (status : ℕ) → Answer files words text status → ⊥) → ⊥ }
 {}

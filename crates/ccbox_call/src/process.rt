@@ -5,7 +5,7 @@ ghost use Rattle.std.specs.Process.{exit_status};
 ghost use Rattle.std.specs.String.{string_bytes};
 ghost use Rattle.std.specs.Vec.Iter.{into_iter_items};
 ghost use Rattle.ccbox_call.specs.Calls.{CallEnds};
-ghost use Rattle.ccbox_call.specs.Process.{Answers, IsUnmade, words_given};
+ghost use Rattle.ccbox_call.specs.Process.{Answers, IsUnmade, ProcessEnds, words_given};
 
 use crate::call::status_of_call;
 use ckc_io::shelf::Shelf;
@@ -37,12 +37,27 @@ pub fn process<F: Shelf, K: Sink>(
         (record { misses = F.misses shelf.old; faults = F.faults shelf.old; sink = K.faults sink.old })
         (record { misses = F.misses shelf.new; faults = F.faults shelf.new; sink = K.faults sink.new }) (exit_status result) }
 {
-    let status = match arguments {
+    let status = status_by_words(alloc, arguments, shelf, sink);
+    ExitCode::from(status)
+}
+
+// The status of a call with the words that were read, if they were.
+fn status_by_words<F: Shelf, K: Sink>(
+    alloc: Global,
+    arguments: io::Result<Args>,
+    shelf: &mut F,
+    sink: &mut K,
+) -> u8
+    ensures { ProcessEnds (words_given arguments) (F.files shelf.old) (K.written sink.old) (K.written sink.new)
+        (record { misses = F.misses shelf.old; faults = F.faults shelf.old; sink = K.faults sink.old })
+        (record { misses = F.misses shelf.new; faults = F.faults shelf.new; sink = K.faults sink.new }) result }
+{
+    match arguments {
         Ok(arguments) => status_of_arguments(alloc, arguments, shelf, sink),
         Err(error) if error.kind() == io::ErrorKind::OutOfMemory => NO_MEMORY,
+        // A word that is no text spells no request.
         Err(_) => status_of_call(alloc, &[], shelf, sink),
-    };
-    ExitCode::from(status)
+    }
 }
 
 // The status of a call with the arguments behind the first one.

@@ -1,6 +1,6 @@
 use Rattle.ccbox_call.proofs.Fronts.{one_core, one_refusal, core_or_fault}
 use Rattle.ccbox_call.proofs.OneAnswer.{one_answer}
-use Rattle.ccbox_call.proofs.laws.one_answer.Goals as goal
+use Rattle.ccbox_call.proofs.laws.at_most_one_answer.Goals as goal
 
 pub returns-clause-core : goal.returns-clause-core
 returns-clause-core c = one_core

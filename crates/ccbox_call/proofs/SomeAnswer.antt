@@ -1,0 +1,78 @@
+-- Words have an Answer over every map of files.
+use Rattle.std.proofs.Common.{◌≡◌, ℕ, Bool, true, false, List, length, Option, Some, None, option_map, Result, Ok, Err, refl}
+use Rattle.ckc_text.specs.declared.fault.SourceFault.{SourceFault}
+use Rattle.ckc_text.specs.Places.{place_at}
+use Rattle.ckc_tokens.specs.declared.token.Token.{Token}
+use Rattle.ckc_lexer.specs.Tokens.{Lexes, AreTokens}
+use Rattle.ckc_lexer.proofs.Cutting.{some_answer as some_cut}
+use Rattle.ckc_tree.specs.Items.{Tree}
+use Rattle.ckc_grammar.proofs.Neither.{never_neither}
+use Rattle.ckc_io.specs.Files.{Files, file_at}
+use Rattle.built_forms.specs.Built.{is_built}
+use Rattle.ckc_names.specs.Naming.{naming_fault}
+use Rattle.typing_rules.specs.Verdicts.{Verdict, Passes, Stops, Broken, Nameless}
+use Rattle.typing_rules.specs.Cores.{checked}
+use Rattle.typing_rules.proofs.NamedItems.{all_named}
+use Rattle.ckc_core.specs.Core.{Core}
+use Rattle.sandbox_actor.specs.ActLists.{ActList, acts_of_file}
+use Rattle.command_words.specs.Requests.{Request, Run, Options, request_of}
+use Rattle.ccbox_call.specs.Acceptance.{HasTree, Accepts, IsRefused, no_tokens, no_tree, not_built, misnamed, breaks}
+use Rattle.ccbox_call.specs.Answers.{acts_at, AsksToRun, ran, CoreAnswer, acts_missing, acts, SourceAnswer, refused, accepted, FileAnswer, missing, source, Answer, usage, asked}
+use Rattle.ccbox_call.proofs.Runs.{ends_over}
+
+-- ---- a source has a core or a fault
+
+module _ (src : List ℕ) (no_core : (c : Core) → Accepts src c → ⊥) (no_fault : (f : SourceFault) → IsRefused src f → ⊥) where
+  by_rules : (tree : Tree) → HasTree src tree → is_built tree ≡ true → naming_fault tree ≡ None → (v : Verdict Core) → checked (place_at src) tree ≡ v → ⊥
+  by_rules tree has built named (Passes c) e = no_core c (record { tree = tree; has_tree = has; forms = built; has_core = record { forms = built; names = named; rules = e } })
+  by_rules tree has built named (Stops (Broken fault)) e = no_fault fault (breaks tree has built named e)
+  by_rules tree has built named (Stops Nameless) e = all_named (place_at src) tree built named e
+
+  by_names : (tree : Tree) → HasTree src tree → is_built tree ≡ true → (o : Option SourceFault) → naming_fault tree ≡ o → ⊥
+  by_names tree has built (Some fault) e = no_fault fault (misnamed tree has built e)
+  by_names tree has built None e = by_rules tree has built e (checked (place_at src) tree) refl
+
+  by_forms : (tree : Tree) → HasTree src tree → (b : Bool) → is_built tree ≡ b → ⊥
+  by_forms tree has true e = by_names tree has e (naming_fault tree) refl
+  by_forms tree has false e = no_fault _ (not_built tree has e)
+
+  by_cut : (answer : Result (List Token) SourceFault) → Lexes src answer → ⊥
+  by_cut (Err fault) h = no_fault fault (no_tokens h)
+  by_cut (Ok tokens) h =
+      never_neither (length src) tokens
+      (λ tree is. by_forms tree (record { tokens = tokens; are_tokens = h; is_tree = is }) (is_built tree) refl)
+      (λ fault is. no_fault fault (no_tree tokens h is))
+
+pub some_core_or_fault : (src : List ℕ) → ((c : Core) → Accepts src c → ⊥) → ((f : SourceFault) → IsRefused src f → ⊥) → ⊥
+some_core_or_fault src no_core no_fault = let cut = some_cut src in by_cut src no_core no_fault cut.0 cut.1
+
+-- ---- words have an Answer
+
+module _ (files : Files) (words : List (List ℕ)) (none : (text : List ℕ) (status : ℕ) → Answer files words text status → ⊥) where
+  by_acts : (name : List ℕ) (options : Options) (src : List ℕ) (c : Core) → request_of words ≡ Some (Run name options) → file_at files name ≡ Some src → Accepts src c
+      → (o : Option (List ℕ)) → options.acts ≡ o → (list : Option ActList) → acts_at files o ≡ list → ⊥
+  by_acts name options src c request there is None e None acts_are = absurd (cc)
+  by_acts name options src c request there is (Some file) e None acts_are = by_file (file_at files file) refl
+    where
+      by_file : (o : Option (List ℕ)) → file_at files file ≡ o → ⊥
+      by_file None gone = none _ _ (asked (Run name options) request (source src there (accepted c is (acts_missing file e gone))))
+      by_file (Some text) found = absurd (cc)
+  by_acts name options src c request there is o e (Some list) acts_are =
+      let at : acts_at files options.acts ≡ Some list = cc in
+      let asks : AsksToRun files words options src = record { name = name; request = request; there = there } in
+      let end = ends_over files words options list c (record { src = src; asks = asks; accepted = is; acts = at }) in
+      none _ _ (asked (Run name options) request (source src there (accepted c is (acts list at (ran end.0 end.1 end.2)))))
+
+  by_source : (name : List ℕ) (options : Options) → request_of words ≡ Some (Run name options) → (o : Option (List ℕ)) → file_at files name ≡ o → ⊥
+  by_source name options request None gone = none _ _ (asked (Run name options) request (missing gone))
+  by_source name options request (Some src) there =
+      some_core_or_fault src
+      (λ c is. by_acts name options src c request there is options.acts refl (acts_at files options.acts) refl)
+      (λ fault is. none _ _ (asked (Run name options) request (source src there (refused fault is))))
+
+  by_request : (o : Option Request) → request_of words ≡ o → ⊥
+  by_request None e = none _ _ (usage e)
+  by_request (Some (Run name options)) e = by_source name options e (file_at files name) refl
+
+pub some_answer : (files : Files) (words : List (List ℕ)) → ((text : List ℕ) (status : ℕ) → Answer files words text status → ⊥) → ⊥
+some_answer files words none = by_request files words none (request_of words) refl

@@ -1,0 +1,8 @@
+use Rattle.ccbox_call.proofs.SomeAnswer.{some_core_or_fault, some_answer}
+use Rattle.ccbox_call.proofs.laws.some_answer.Goals as goal
+
+pub returns-clause-core_or_fault : goal.returns-clause-core_or_fault
+returns-clause-core_or_fault c = some_core_or_fault
+
+pub returns-clause-answer : goal.returns-clause-answer
+returns-clause-answer c = some_answer
