@@ -1,2 +1,2 @@
-mod Ticks
-mod Budgets
+pub mod Ticks
+pub mod Budgets

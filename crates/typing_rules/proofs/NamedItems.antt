@@ -79,9 +79,6 @@ variable_agrees name t n g h = record {
   tag = h.tag;
 }
   where
-    new : FileVariable
-    new = record { name = name.name; type = t }
-
     by : (x : List ℕ) (b : Bool) → bytes_eq x name.name ≡ b → is_value (visible (with_entry name.name Variable n.blocks) x) ≡ true → is_some (object_named 0 (with_variable name.name t g).variables x) ≡ true
     by x true e v = object_last 0 g.variables (record { name = name.name; type = t }) x e
     by x false e v = object_more 0 g.variables (record { name = name.name; type = t } ∷ []) x (h.value x (subst (λ o. is_value o ≡ true) (entry_value name.name Variable n.blocks x e) v))
