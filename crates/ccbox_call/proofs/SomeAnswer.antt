@@ -1,7 +1,8 @@
 -- Words have an Answer over every map of files.
-use Rattle.std.proofs.Common.{◌≡◌, ℕ, Bool, true, false, List, length, Option, Some, None, option_map, Result, Ok, Err, refl}
+use Rattle.std.proofs.Common.{◌≡◌, ℕ, Bool, true, false, List, length, Option, Some, None, option_map, Result, Ok, Err, refl, ◌⊎◌, inl, inr, ⊎_elim}
 use Rattle.ckc_text.specs.declared.fault.SourceFault.{SourceFault}
 use Rattle.ckc_text.specs.Places.{place_at}
+use Rattle.ckc_text.specs.Refusals.{not_built as not_built_fault}
 use Rattle.ckc_tokens.specs.declared.token.Token.{Token}
 use Rattle.ckc_lexer.specs.Tokens.{Lexes, AreTokens}
 use Rattle.ckc_lexer.proofs.Cutting.{some_answer as some_cut}
@@ -16,31 +17,36 @@ use Rattle.typing_rules.proofs.NamedItems.{all_named}
 use Rattle.ckc_core.specs.Core.{Core}
 use Rattle.sandbox_actor.specs.ActLists.{ActList, acts_of_file}
 use Rattle.command_words.specs.Requests.{Request, Run, Options, request_of}
-use Rattle.ccbox_call.specs.Acceptance.{HasTree, Accepts, IsRefused, no_tokens, no_tree, not_built, misnamed, breaks}
+use Rattle.ccbox_call.specs.Acceptance.{HasTree, Accepts, IsRefused, CoreOrFault, no_tokens, no_tree, not_built, misnamed, breaks}
 use Rattle.ccbox_call.specs.Answers.{acts_at, AsksToRun, ran, CoreAnswer, acts_missing, acts, SourceAnswer, refused, accepted, FileAnswer, missing, source, Answer, usage, asked}
 use Rattle.ccbox_call.proofs.Runs.{ends_over}
 
 -- ---- a source has a core or a fault
 
-module _ (src : List ℕ) (no_core : (c : Core) → Accepts src c → ⊥) (no_fault : (f : SourceFault) → IsRefused src f → ⊥) where
-  by_rules : (tree : Tree) → HasTree src tree → is_built tree ≡ true → naming_fault tree ≡ None → (v : Verdict Core) → checked (place_at src) tree ≡ v → ⊥
-  by_rules tree has built named (Passes c) e = no_core c (record { tree = tree; has_tree = has; forms = built; has_core = record { forms = built; names = named; rules = e } })
-  by_rules tree has built named (Stops (Broken fault)) e = no_fault fault (breaks tree has built named e)
-  by_rules tree has built named (Stops Nameless) e = all_named (place_at src) tree built named e
+module _ (src : List ℕ) where
+  by_rules : (tree : Tree) → HasTree src tree → is_built tree ≡ true → naming_fault tree ≡ None → (v : Verdict Core) → checked (place_at src) tree ≡ v → CoreOrFault src
+  by_rules tree has built named (Passes c) e = inl (c, record { tree = tree; has_tree = has; forms = built; has_core = record { forms = built; names = named; rules = e } })
+  by_rules tree has built named (Stops (Broken fault)) e = inr (fault, breaks tree has built named e)
+  by_rules tree has built named (Stops Nameless) e = absurd (all_named (place_at src) tree built named e)
 
-  by_names : (tree : Tree) → HasTree src tree → is_built tree ≡ true → (o : Option SourceFault) → naming_fault tree ≡ o → ⊥
-  by_names tree has built (Some fault) e = no_fault fault (misnamed tree has built e)
+  by_names : (tree : Tree) → HasTree src tree → is_built tree ≡ true → (o : Option SourceFault) → naming_fault tree ≡ o → CoreOrFault src
+  by_names tree has built (Some fault) e = inr (fault, misnamed tree has built e)
   by_names tree has built None e = by_rules tree has built e (checked (place_at src) tree) refl
 
-  by_forms : (tree : Tree) → HasTree src tree → (b : Bool) → is_built tree ≡ b → ⊥
+  by_forms : (tree : Tree) → HasTree src tree → (b : Bool) → is_built tree ≡ b → CoreOrFault src
   by_forms tree has true e = by_names tree has e (naming_fault tree) refl
-  by_forms tree has false e = no_fault _ (not_built tree has e)
+  by_forms tree has false e = inr (not_built_fault, not_built tree has e)
 
+-- a source with a tree has the one or the other
+pub core_or_fault_of : (src : List ℕ) (tree : Tree) → HasTree src tree → CoreOrFault src
+core_or_fault_of src tree has = by_forms src tree has (is_built tree) refl
+
+module _ (src : List ℕ) (no_core : (c : Core) → Accepts src c → ⊥) (no_fault : (f : SourceFault) → IsRefused src f → ⊥) where
   by_cut : (answer : Result (List Token) SourceFault) → Lexes src answer → ⊥
   by_cut (Err fault) h = no_fault fault (no_tokens h)
   by_cut (Ok tokens) h =
       never_neither (length src) tokens
-      (λ tree is. by_forms tree (record { tokens = tokens; are_tokens = h; is_tree = is }) (is_built tree) refl)
+      (λ tree is. ⊎_elim (λ x. no_core x.0 x.1) (λ x. no_fault x.0 x.1) (core_or_fault_of src tree (record { tokens = tokens; are_tokens = h; is_tree = is })))
       (λ fault is. no_fault fault (no_tree tokens h is))
 
 pub some_core_or_fault : (src : List ℕ) → ((c : Core) → Accepts src c → ⊥) → ((f : SourceFault) → IsRefused src f → ⊥) → ⊥

@@ -1,5 +1,5 @@
 -- Which sources are accepted, with which core, and which are refused, with which fault.
-use Rattle.std.specs.Prelude.{◌≡◌, ℕ, true, false, List, length, None, Some, Result, Ok, Err}
+use Rattle.std.specs.Prelude.{◌≡◌, ◌⊎◌, ℕ, true, false, List, length, None, Some, Result, Ok, Err}
 use Rattle.ckc_text.specs.declared.fault.Refused.{Refused}
 use Rattle.ckc_text.specs.declared.fault.Refused.TheVariants.{Source, NoMemory}
 use Rattle.ckc_text.specs.declared.fault.SourceFault.{SourceFault}
@@ -37,6 +37,10 @@ pub data IsRefused (src : List ℕ) : SourceFault → Type 0 where
   not_built : (tree : Tree) → HasTree src tree → is_built tree ≡ false → IsRefused src refusals.not_built
   misnamed : {fault : SourceFault} (tree : Tree) → HasTree src tree → is_built tree ≡ true → naming_fault tree ≡ Some fault → IsRefused src fault
   breaks : {fault : SourceFault} (tree : Tree) → HasTree src tree → is_built tree ≡ true → naming_fault tree ≡ None → checked (place_at src) tree ≡ Breaks fault → IsRefused src fault
+
+-- the source has a core, or a fault
+abbrev pub CoreOrFault : List ℕ → Type 0
+CoreOrFault src = ((c : Core) × Accepts src c) ⊎ ((fault : SourceFault) × IsRefused src fault)
 
 -- what the front end answers
 abbrev pub FrontAnswers : List ℕ → Result code.Core.Core Refused → Type 0

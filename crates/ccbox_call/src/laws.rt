@@ -4,7 +4,8 @@ ghost use Rattle.std.specs.Prelude.{◌≡◌, ℕ, List};
 ghost use Rattle.ckc_text.specs.declared.fault.SourceFault.{SourceFault};
 ghost use Rattle.ckc_io.specs.Files.{Files};
 ghost use Rattle.ckc_core.specs.Core.{Core};
-ghost use Rattle.ccbox_call.specs.Acceptance.{Accepts, IsRefused};
+ghost use Rattle.ckc_tree.specs.Items.{Tree};
+ghost use Rattle.ccbox_call.specs.Acceptance.{Accepts, IsRefused, HasTree, CoreOrFault};
 ghost use Rattle.ccbox_call.specs.Answers.{Answer};
 
 /// A source has one core at most, or one fault at most and no core; and words have one text and one status at most.
@@ -16,9 +17,10 @@ pub fn at_most_one_answer()
     ensures status { (files : Files) (words : List (List ℕ)) (t u : List ℕ) (m n : ℕ) → Answer files words t m → Answer files words u n → m ≡ n }
 {}
 
-/// A source has a core or a fault, and words have an Answer over every map of files: it can't be that they have none. Which
-/// it is, isn't decided by the law.
+/// A source with a tree has a core or a fault. A source has a core or a fault, and words have an Answer over every map of
+/// files: it can't be that they have none. Which it is, isn't decided by these two.
 pub fn some_answer()
+    ensures tree { (src : List ℕ) (tree : Tree) → HasTree src tree → CoreOrFault src }
     ensures core_or_fault { (src : List ℕ) → ((c : Core) → Accepts src c → ⊥) → ((f : SourceFault) → IsRefused src f → ⊥) → ⊥ }
     ensures answer { (files : Files) (words : List (List ℕ)) → ((text : List ℕ) (status : ℕ) → Answer files words text status → ⊥) → ⊥ }
 {}
