@@ -2,3 +2,4 @@ pub mod Going
 pub mod Searches
 pub mod FileLevel
 pub mod Tables
+pub mod Steps

@@ -1,4 +1,5 @@
 pub mod Answering
+pub mod Errors
 pub mod Names
 pub mod Signatures
 pub mod Tables

@@ -14,10 +14,11 @@ ghost use Rattle.checker_scope.specs.Views.{scope as scope_of, signature};
 ghost use Rattle.checker_scope.specs.Filling.{struct_added};
 
 use crate::name_table::NameTable;
+use crate::refusals::CheckError;
 use crate::scope::{Scope, Variable};
 use crate::sides::is_import;
 use crate::signature::Signature;
-use ckc_text::fault::{NoMemory, Refused};
+use ckc_text::fault::NoMemory;
 use ckc_text::name::Name;
 use ckc_text::place::Span;
 use pointer_modes::ctype::{CType, Member};
@@ -62,7 +63,7 @@ impl Scope {
         tag: &[u8],
         tainted: bool,
         span: Span,
-    ) -> Result<u32, Refused>
+    ) -> Result<u32, CheckError>
         ensures { Answers (λ number. (number, scope_of self.new)) (struct_added tag.now tainted span (scope_of self.old)) result }
     {
         let name = Name::copied(alloc, tag)?;

@@ -4,14 +4,14 @@ ghost use Rattle.std.specs.Prelude.{◌≡◌, ◌&&◌, IfOk};
 ghost use Rattle.pointer_modes.specs.Types.{ctype};
 ghost use Rattle.ckc_core.specs.States.{same_mode as same_mode_of, same_kind as same_kind_of, same_type as same_type_of};
 ghost use Rattle.ckc_tree.specs.Types.{type_tree, type_name};
-ghost use Rattle.typing_rules.specs.Types.{mode_of as mode_from, kind_of as kind_from, without_stars as starless, base_type as base_from, starred_type as starred_from, type_named as named_from, is_number as number_type, is_pointer as pointer_type, is_scalar as scalar_type, are_comparable as comparable_types, converts as converts_to};
+ghost use Rattle.typing_rules.specs.Types.{mode_of as mode_from, kind_of as kind_from, without_stars as starless, base_type as base_from, starred_type as starred_from, type_named as named_from, is_number as number_type, is_pointer as pointer_type, is_checked_pointer as checked_pointer, is_scalar as scalar_type, are_comparable as comparable_types, converts as converts_to};
 ghost use Rattle.checker_scope.specs.Answering.{Answers};
 ghost use Rattle.checker_scope.specs.Views.{scope as scope_of};
 
-use crate::refusals::needs;
+use crate::refusals::{CheckError, meant, needs};
 use crate::scope::Scope;
 use ckc_text::code::Code;
-use ckc_text::fault::{NoMemory, Refused};
+use ckc_text::fault::NoMemory;
 use ckc_tree::type_form::{PointerKind, PointerMode, TypeForm, TypeName};
 use pointer_modes::ctype::{CType, Kind, Mode};
 use std::alloc::Global;
@@ -101,6 +101,16 @@ pub fn is_pointer(t: &CType) -> bool
     }
 }
 
+/// Whether a type is that of pointers into trusted memory.
+pub fn is_checked_pointer(t: &CType) -> bool
+    ensures { result ≡ checked_pointer (ctype t.now) }
+{
+    match t {
+        CType::Pointer(mode, ..) => matches!(mode, Mode::Checked),
+        CType::Int | CType::Char | CType::Struct(_) => false,
+    }
+}
+
 /// Whether a type has one cell.
 pub fn is_scalar(t: &CType) -> bool
     ensures { result ≡ scalar_type (ctype t.now) }
@@ -154,7 +164,7 @@ fn kind_of(kind: PointerKind) -> Kind
 }
 
 /// A type where no stars stand behind it: stars make a raw pointer.
-pub fn without_stars(base: &TypeForm, stars: usize, t: CType) -> Result<CType, Refused>
+pub fn without_stars(base: &TypeForm, stars: usize, t: CType) -> Result<CType, CheckError>
     ensures { Answers ctype (starless (type_tree base.now) stars (ctype t)) result }
 {
     needs(stars == 0, Code::E15, base.span())?;
@@ -162,14 +172,15 @@ pub fn without_stars(base: &TypeForm, stars: usize, t: CType) -> Result<CType, R
 }
 
 /// A type that is written without stars behind it.
-pub fn base_type(alloc: Global, scope: &Scope, base: &TypeForm) -> Result<CType, Refused>
+pub fn base_type(alloc: Global, scope: &Scope, base: &TypeForm) -> Result<CType, CheckError>
     ensures { Answers ctype (base_from (scope_of scope.now) (type_tree base.now)) result }
 {
     match base {
         TypeForm::Int { .. } => Ok(CType::Int),
         TypeForm::Char { .. } => Ok(CType::Char),
         TypeForm::Struct { tag, .. } => {
-            Ok(CType::Struct(scope.struct_number(tag.name.as_bytes()).unwrap_or(0)))
+            let number = meant(scope.struct_number(tag.name.as_bytes()))?;
+            Ok(CType::Struct(number))
         }
         TypeForm::Pointer {
             word,
@@ -191,7 +202,7 @@ pub fn starred_type(
     scope: &Scope,
     base: &TypeForm,
     stars: usize,
-) -> Result<CType, Refused>
+) -> Result<CType, CheckError>
     ensures { Answers ctype (starred_from (scope_of scope.now) (type_tree base.now) stars) result }
 {
     let written = base_type(alloc, scope, base)?;
@@ -199,7 +210,7 @@ pub fn starred_type(
 }
 
 /// A type as it is written.
-pub fn type_named(alloc: Global, scope: &Scope, t: &TypeName) -> Result<CType, Refused>
+pub fn type_named(alloc: Global, scope: &Scope, t: &TypeName) -> Result<CType, CheckError>
     ensures { Answers ctype (named_from (scope_of scope.now) (type_name t.now)) result }
 {
     starred_type(alloc, scope, &t.base, t.stars)

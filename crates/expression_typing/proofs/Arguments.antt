@@ -3,12 +3,11 @@ use Rattle.std.proofs.Common.{◌≡◌, ℕ, ◌+◌, ◌<◌, ◌≤◌, List,
 use mathlib.Core.Former.{Count}
 use Rattle.std.proofs.lemmas.List.{append-nil, drop_more, drop_all, map-append}
 use Rattle.ckc_text.specs.declared.place.Span.{Span}
-use Rattle.ckc_text.specs.declared.fault.SourceFault.{SourceFault}
 use Rattle.ckc_tree.specs.declared.identifier.Identifier.{Identifier}
 use Rattle.ckc_tree.specs.declared.expr.Expr.{Expr, Row_of-Expr, end_of-Expr, more_of-Expr, items-the_row-Expr, items_hidden-the_row-Expr-0}
 use Rattle.ckc_tree.specs.declared.expr.Expr.TheVariants as exprs
 use Rattle.ckc_tree.specs.Expressions.{Call, Then, expression, expressions, expression_span}
-use Rattle.typing_rules.specs.Verdicts.{Verdict, Passes, Breaks, passing}
+use Rattle.typing_rules.specs.Verdicts.{Stop, Verdict, Passes, Stops, passing}
 use Rattle.typing_rules.specs.Scopes.{Scope}
 use Rattle.typing_rules.specs.Expressions.{Places, Typed, typed, all_typed, with_result}
 use Rattle.expression_typing.specs.declared.calls.Argument as code
@@ -33,7 +32,7 @@ call_tree x callee arguments span slice is same =
 
 passing_twice : {A B C : Type 0} (v : Verdict A) (f : A → Verdict B) (g : B → Verdict C) → passing v (λ x. passing (f x) g) ≡ passing (passing v f) g
 passing_twice (Passes x) f g = refl
-passing_twice (Breaks fault) f g = refl
+passing_twice (Stops stop) f g = refl
 
 -- the value of a call
 pub call_parts : (at : Places) (s : Scope) (x : Expr) (callee : Identifier) (arguments : Vec Expr Global) (span : Span) (slice : List Expr) → x ≡ exprs.Call callee arguments span → slice ≡ arguments.items
@@ -47,7 +46,7 @@ behind done rest = passing rest (λ ts. Passes (done ++ ts))
 
 behind_all : (v : Verdict (List (Typed × Span))) → v ≡ behind [] v
 behind_all (Passes ts) = refl
-behind_all (Breaks fault) = refl
+behind_all (Stops stop) = refl
 
 pub from_start : (at : Places) (s : Scope) (xs : List Expr) → all_typed at s (expression_list xs) ≡ behind [] (all_typed at s (expression_list (drop 0 xs)))
 from_start at s xs = behind_all (all_typed at s (expression_list xs))
@@ -57,7 +56,7 @@ left_at xs i x less is = ap expression_list (drop_more xs i x less ∙ ap (λ y.
 
 one_behind : (done : List (Typed × Span)) (t : Typed × Span) (rest : Verdict (List (Typed × Span))) → behind done (passing rest (λ ts. Passes (t ∷ ts))) ≡ behind (done ++ t ∷ []) rest
 one_behind done t (Passes ts) = ap Passes (sym (append_assoc done (t ∷ []) ts))
-one_behind done t (Breaks fault) = refl
+one_behind done t (Stops stop) = refl
 
 -- an argument more
 pub argument_more : (at : Places) (s : Scope) (xs : List Expr) (i : ℕ) (x : Expr) (done : List (Typed × Span)) (t : Typed) (span : Span) → i < length xs → x ≡ get_or xs i x → span ≡ expression_span (expression x)
@@ -68,9 +67,9 @@ argument_more at s xs i x done t span less is span_is so_far passes =
     ∙ rw (passes, ← span_is) (one_behind done (t, span) (all_typed at s (expression_list (drop (i + 1) xs))))
 
 -- an argument that breaks a rule
-pub argument_breaks : (at : Places) (s : Scope) (xs : List Expr) (i : ℕ) (x : Expr) (done : List (Typed × Span)) (fault : SourceFault) → i < length xs → x ≡ get_or xs i x
-    → all_typed at s (expression_list xs) ≡ behind done (all_typed at s (expression_list (drop i xs))) → typed at s (expression x) ≡ Breaks fault → all_typed at s (expression_list xs) ≡ Breaks fault
-argument_breaks at s xs i x done fault less is so_far breaks =
+pub argument_breaks : (at : Places) (s : Scope) (xs : List Expr) (i : ℕ) (x : Expr) (done : List (Typed × Span)) (stop : Stop) → i < length xs → x ≡ get_or xs i x
+    → all_typed at s (expression_list xs) ≡ behind done (all_typed at s (expression_list (drop i xs))) → typed at s (expression x) ≡ Stops stop → all_typed at s (expression_list xs) ≡ Stops stop
+argument_breaks at s xs i x done stop less is so_far breaks =
     so_far ∙ ap (λ es. behind done (all_typed at s es)) (left_at xs i x less is) ∙ rw breaks refl
 
 -- all arguments

@@ -6,7 +6,7 @@ use Rattle.ckc_text.specs.declared.code.Code.TheVariants.{E13, E19}
 use Rattle.pointer_modes.specs.Types.{CType, Int}
 use Rattle.ckc_core.specs.Core as core
 use Rattle.ckc_core.specs.declared.program.Operator.{Operator}
-use Rattle.typing_rules.specs.Verdicts.{Verdict, Passes, Breaks, passing, needs}
+use Rattle.typing_rules.specs.Verdicts.{Verdict, Passes, Stops, passing, needs}
 use Rattle.typing_rules.specs.Types.{is_number, is_pointer, converts}
 use Rattle.typing_rules.specs.Expressions.{Places, Typed, Value, AStruct, GivesNothing, number_of, converted, is_pointer_value, site_at, first_of, writes}
 use Rattle.typing_rules.specs.Statements.{updated, set_to, store}
@@ -38,7 +38,7 @@ updated_parts at operator (AStruct struct place) right span = refl
 
 one_value : {B : Type 0} (v : Verdict core.Expression) (next : core.Arguments → Verdict B) → passing (passing v (λ x. passing (Passes core.Done) (λ others. Passes (core.More x others)))) next ≡ passing v (λ x. next (core.More x core.Done))
 one_value (Passes x) next = refl
-one_value (Breaks fault) next = refl
+one_value (Stops stop) next = refl
 
 -- a predefined function that takes a number
 pub writes_parts : (of : core.Expression → core.Statement) (arguments : List (Typed × Span)) (span : Span) → writes of arguments span ≡ passing (only_number arguments span) (λ v. Passes (GivesNothing (of v)))

@@ -2,7 +2,6 @@
 use Rattle.std.proofs.Common.{◌≡◌, ℕ, ◌+◌, ◌<◌, Bool, false, ◌==◌, List, [], ◌∷◌, ◌++◌, length, map, drop, get_or, arith, refl, ap, sym, ◌∙◌}
 use Rattle.std.proofs.Common.{length-append}
 use Rattle.std.proofs.lemmas.List.{drop_more}
-use Rattle.ckc_text.specs.declared.fault.SourceFault.{SourceFault}
 use Rattle.pointer_modes.specs.declared.ctype.CType as code_type
 use Rattle.pointer_modes.specs.Types.{ctype}
 use Rattle.ckc_core.specs.declared.program.Expr.{Expr}
@@ -10,7 +9,7 @@ use Rattle.ckc_core.specs.Core as core
 use Rattle.ckc_core.specs.Core.{expression, arguments_of}
 use Rattle.ckc_text.specs.declared.place.Span.{Span}
 use Rattle.ckc_text.specs.declared.code.Code.TheVariants.{E14}
-use Rattle.typing_rules.specs.Verdicts.{Verdict, Passes, Breaks, passing, needs}
+use Rattle.typing_rules.specs.Verdicts.{Stop, Broken, Verdict, Passes, Stops, passing, needs}
 use Rattle.typing_rules.specs.Expressions.{arguments_as, converted}
 use Rattle.expression_typing.specs.declared.calls.Argument as code
 use Rattle.value_typing.specs.OnHeap.{typed}
@@ -24,11 +23,11 @@ values_behind built rest = passing rest (λ others. Passes (joined built others)
 
 pub behind_none : (v : Verdict core.Arguments) → v ≡ values_behind [] v
 behind_none (Passes others) = refl
-behind_none (Breaks fault) = refl
+behind_none (Stops stop) = refl
 
 behind_one : (built : List Expr) (v : Expr) (rest : Verdict core.Arguments) → values_behind built (passing rest (λ others. Passes (core.More (expression v) others))) ≡ values_behind (built ++ v ∷ []) rest
 behind_one built v (Passes others) = ap Passes (sym (joined_one built v others))
-behind_one built v (Breaks fault) = refl
+behind_one built v (Stops stop) = refl
 
 types_at : (types : List code_type.CType) (k : ℕ) (t : code_type.CType) → k < length types → t ≡ get_or types k t → map ctype (drop k types) ≡ ctype t ∷ map ctype (drop (k + 1) types)
 types_at types k t less is = ap (map ctype) (drop_more types k t less ∙ ap (λ u. u ∷ drop (k + 1) types) (sym is))
@@ -48,10 +47,10 @@ value_more all a rest types k t items built v are less is so_far passes =
     so_far ∙ ap (values_behind built) (first_value a rest types k t items are less is) ∙ rw passes (behind_one built v (arguments_as (map argument rest) (map ctype (drop (k + 1) types))))
 
 -- a value that breaks a rule
-pub value_breaks : (all : Verdict core.Arguments) (a : code.Argument) (rest : List code.Argument) (types : List code_type.CType) (k : ℕ) (t : code_type.CType) (items : List code.Argument) (built : List Expr) (fault : SourceFault) → items ≡ a ∷ rest → k < length types → t ≡ get_or types k t
-    → all ≡ values_behind built (arguments_as (map argument items) (map ctype (drop k types))) → converted (typed a.typed) (ctype t) a.span Passes ≡ Breaks fault
-    → all ≡ Breaks fault
-value_breaks all a rest types k t items built fault are less is so_far breaks =
+pub value_breaks : (all : Verdict core.Arguments) (a : code.Argument) (rest : List code.Argument) (types : List code_type.CType) (k : ℕ) (t : code_type.CType) (items : List code.Argument) (built : List Expr) (stop : Stop) → items ≡ a ∷ rest → k < length types → t ≡ get_or types k t
+    → all ≡ values_behind built (arguments_as (map argument items) (map ctype (drop k types))) → converted (typed a.typed) (ctype t) a.span Passes ≡ Stops stop
+    → all ≡ Stops stop
+value_breaks all a rest types k t items built stop are less is so_far breaks =
     so_far ∙ ap (values_behind built) (first_value a rest types k t items are less is) ∙ rw breaks refl
 
 -- all values
@@ -76,11 +75,11 @@ none_left [] none = refl
 none_left (a ∷ items) none = absurd (omega arith)
 
 -- more than one argument
-pub one_too_many : (a : code.Argument) (rest items : List code.Argument) (b : Bool) (span : Span) (fault : SourceFault) → items ≡ a ∷ rest → b ≡ (length rest == 0) → needs {A = Unit {0}} b E14 span (Passes tt) ≡ Breaks fault → only_number (map argument items) span ≡ Breaks fault
-one_too_many a [] items b span fault are empty breaks = absurd (cc (rw empty at breaks))
-one_too_many a (x ∷ rest) items b span fault are empty breaks =
+pub one_too_many : (a : code.Argument) (rest items : List code.Argument) (b : Bool) (span : Span) (stop : Stop) → items ≡ a ∷ rest → b ≡ (length rest == 0) → needs {A = Unit {0}} b E14 span (Passes tt) ≡ Stops stop → only_number (map argument items) span ≡ Stops stop
+one_too_many a [] items b span stop are empty breaks = absurd (cc (rw empty at breaks))
+one_too_many a (x ∷ rest) items b span stop are empty breaks =
     let some : (length (x ∷ rest) == 0) ≡ false = grind arith in
     let broken = rw (empty, some) at breaks in
-    let same : SourceFault = record { code = E14; span = span } in
-    let is : same ≡ fault = cc in
-    ap (λ ws. only_number (map argument ws) span) are ∙ ap Breaks is
+    let same : Stop = Broken (record { code = E14; span = span }) in
+    let is : same ≡ stop = cc in
+    ap (λ ws. only_number (map argument ws) span) are ∙ ap Stops is

@@ -1,6 +1,7 @@
-pub mod Comparing
-pub mod MemberCells
+mod Crossing
 pub mod Arguments
+pub mod Comparing
 pub mod Continuing
-pub mod CoreRows
 pub mod Conversions
+pub mod CoreRows
+pub mod MemberCells

@@ -5,11 +5,11 @@ use Rattle.ckc_text.specs.declared.code.Code.TheVariants.{E14}
 use Rattle.ckc_core.specs.declared.program.Site.{Site}
 use Rattle.ckc_core.specs.Core as core
 use Rattle.typing_rules.specs.Verdicts.{Verdict, Passes, passing, breaks}
-use Rattle.typing_rules.specs.Scopes.{Scope, function_named}
+use Rattle.typing_rules.specs.Scopes.{Scope, Signature, named, function_named}
 use Rattle.ckc_tree.specs.Expressions.{Expressions}
 use Rattle.pointer_modes.specs.Types.{Int, ctype}
 use Rattle.ckc_core.specs.Core.{expression, statement}
-use Rattle.typing_rules.specs.Expressions.{Places, Typed, Called, Gives, GivesNothing, converted, all_typed, called as called_in, site_at}
+use Rattle.typing_rules.specs.Expressions.{Places, Typed, Called, Gives, GivesNothing, name_typed, converted, arguments_as, is_import, side_number, call_of, all_typed, called as called_in, site_at}
 use Rattle.expression_typing.specs.declared.calls.Called as code
 use Rattle.expression_typing.specs.declared.calls.Called.TheVariants as calls
 use Rattle.expression_typing.specs.declared.calls.Argument as code_argument
@@ -36,6 +36,15 @@ call_value false number site arguments = core.Call number arguments
 abbrev pub call_statement : Bool → ℕ → Site → core.Arguments → core.Statement
 call_statement true number site arguments = core.TaintedAlone number arguments site
 call_statement false number site arguments = core.CallAlone number arguments
+
+-- a call of a declared function, where the arguments convert (E13)
+abbrev pub converted_call : Scope → Signature → List (Typed × Span) → Site → Verdict Called
+converted_call s f arguments site =
+    passing (arguments_as arguments f.parameters) (λ values. Passes (call_of (is_import f) (side_number (is_import f) s.functions f.name 0) f.result site values))
+
+-- what a name stands for, as an expression
+abbrev pub name_verdict : Scope → List ℕ → Verdict Typed
+name_verdict s name = passing (named s name) (λ n. Passes (name_typed n))
 
 -- a call of a function by its name, with what its arguments are
 abbrev pub called_with : Places → Scope → List ℕ → Expressions → Span → Verdict Called

@@ -15,14 +15,14 @@ ghost use Rattle.expression_typing.specs.Targets.{target as target_view, target_
 
 use crate::expressions::typed;
 use crate::operand_tests::is_pointer_value;
-use checker_scope::refusals::refusal;
+use checker_scope::refusals::{CheckError, refusal};
 use checker_scope::scope::Scope;
 use checker_scope::sites::Sites;
 use checker_scope::types::{is_number, is_pointer};
 use ckc_core::program;
 use ckc_core::program::{CellPlace, Operator, Site, Stmt};
 use ckc_text::code::Code;
-use ckc_text::fault::{NoMemory, Refused};
+use ckc_text::fault::NoMemory;
 use ckc_text::place::Span;
 use ckc_tree::expr::Expr;
 use ckc_tree::stmt::{Assignment, StepOperator, StoreOperator};
@@ -48,14 +48,14 @@ pub struct Target {
 }
 
 // A place of a type.
-fn target_at(alloc: Global, ctype: CType, place: Lvalue) -> Result<Box<Target>, Refused>
+fn target_at(alloc: Global, ctype: CType, place: Lvalue) -> Result<Box<Target>, CheckError>
     ensures { Answers target_on_heap (Passes (target_view (record { ctype = ctype; place = place }))) result }
 {
     Ok(boxed(alloc, Target { ctype, place })?)
 }
 
 /// The place that an expression stands for.
-fn target_of(alloc: Global, t: Box<Typed>, span: Span) -> Result<Box<Target>, Refused>
+fn target_of(alloc: Global, t: Box<Typed>, span: Span) -> Result<Box<Target>, CheckError>
     ensures { Answers target_on_heap (target_in (typed_view t) span) result }
 {
     match Box::into_inner(t) {
@@ -83,7 +83,7 @@ fn set_to(
     left: Box<Typed>,
     right: Box<Typed>,
     span: Span,
-) -> Result<Box<Stmt>, Refused>
+) -> Result<Box<Stmt>, CheckError>
     ensures { Answers statement_on_heap (set_to_of (typed_view left) (typed_view right) span) result }
 {
     let target = target_of(alloc, left, span)?;
@@ -160,7 +160,7 @@ fn update_target(
     right: Box<Typed>,
     site: Site,
     span: Span,
-) -> Result<Box<Stmt>, Refused>
+) -> Result<Box<Stmt>, CheckError>
     ensures { Answers statement_on_heap (updated_target operator (target_on_heap target) (typed_view right) site span) result }
 {
     if is_pointer(&target.ctype) || is_pointer_value(&right) {
@@ -183,7 +183,7 @@ fn updated(
     left: Box<Typed>,
     right: Box<Typed>,
     span: Span,
-) -> Result<Box<Stmt>, Refused>
+) -> Result<Box<Stmt>, CheckError>
     ensures { Answers statement_on_heap (updated_of (place_at sites.now) operator (typed_view left) (typed_view right) span) result }
 {
     let target = target_of(alloc, left, span)?;
@@ -198,7 +198,7 @@ fn stored(
     left: Box<Typed>,
     right: Box<Typed>,
     span: Span,
-) -> Result<Box<Stmt>, Refused>
+) -> Result<Box<Stmt>, CheckError>
     ensures { Answers statement_on_heap (stored_of (place_at sites.now) operator (typed_view left) (typed_view right) span) result }
 {
     match operator {
@@ -230,7 +230,7 @@ pub fn assignment(
     sites: &Sites,
     scope: &Scope,
     written: &Assignment,
-) -> Result<Box<Stmt>, Refused>
+) -> Result<Box<Stmt>, CheckError>
     ensures { Answers statement_on_heap (assignment_of (place_at sites.now) (scope_of scope.now) (assignment_tree written.now)) result }
 {
     match written {
@@ -263,7 +263,7 @@ pub fn condition(
     sites: &Sites,
     scope: &Scope,
     e: &Expr,
-) -> Result<Box<program::Expr>, Refused>
+) -> Result<Box<program::Expr>, CheckError>
     ensures { Answers expression_on_heap (condition_of (place_at sites.now) (scope_of scope.now) (expression_tree e.now)) result }
 {
     let t = typed(alloc, sites, scope, e)?;

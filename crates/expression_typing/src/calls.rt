@@ -4,21 +4,23 @@ ghost use Rattle.std.specs.Prelude.{◌≡◌, length, map, IfOk};
 ghost use Rattle.std.specs.Option.{option_map};
 ghost use Rattle.pointer_modes.specs.Types.{ctype as ctype_of};
 ghost use Rattle.ckc_core.specs.Core.{expression, arguments_of, statement, Print, PutByte};
-ghost use Rattle.typing_rules.specs.Expressions.{with_result as with_result_of, arguments_as as arguments_in, predefined_call as predefined_in, writes, call_of as call_in, declared_call as declared_in, called as called_in};
+ghost use Rattle.typing_rules.specs.Expressions.{with_result as with_result_of, arguments_as as arguments_in, predefined_call as predefined_in, writes, call_of as call_in, is_checked_argument as checked_argument, without_checked as without_checked_in, crossing as crossing_in, declared_call as declared_in, called as called_in};
 ghost use Rattle.typing_rules.specs.Scopes.{function_named};
 ghost use Rattle.checker_scope.specs.Views.{scope as scope_of, signature};
 ghost use Rattle.checker_scope.specs.Answering.{Answers};
+ghost use Rattle.typing_rules.specs.Verdicts.{Passes};
+ghost use Rattle.value_typing.specs.Typed.{typed as inline_typed};
 ghost use Rattle.value_typing.specs.OnHeap.{typed};
-ghost use Rattle.expression_typing.specs.Calls.{argument, called as called_as, only_number, call_value, call_statement};
+ghost use Rattle.expression_typing.specs.Calls.{argument, called as called_as, converted_call, only_number, call_value, call_statement};
 
-use checker_scope::refusals::{needs, refusal};
+use checker_scope::refusals::{CheckError, needs, refusal};
 use checker_scope::scope::Scope;
 use checker_scope::sides::is_import;
 use checker_scope::signature::Signature;
-use checker_scope::types::copied;
+use checker_scope::types::{copied, is_checked_pointer};
 use ckc_core::program::{Expr, Site, Stmt};
 use ckc_text::code::Code;
-use ckc_text::fault::{NoMemory, Refused};
+use ckc_text::fault::NoMemory;
 use ckc_text::place::Span;
 use pointer_modes::ctype::CType;
 use std::alloc::Global;
@@ -46,7 +48,7 @@ fn arguments_as(
     alloc: Global,
     mut arguments: VecDeque<Argument>,
     types: &[CType],
-) -> Result<Vec<Expr>, Refused>
+) -> Result<Vec<Expr>, CheckError>
     requires { length arguments.items ≡ length types.now }
     ensures { Answers (λ v. arguments_of v.items) (arguments_in (map argument arguments.items) (map ctype_of types.now)) result }
 {
@@ -60,7 +62,11 @@ fn arguments_as(
 }
 
 // The only argument of a call, as a number.
-fn one_number(alloc: Global, mut arguments: VecDeque<Argument>, span: Span) -> Result<Expr, Refused>
+fn one_number(
+    alloc: Global,
+    mut arguments: VecDeque<Argument>,
+    span: Span,
+) -> Result<Expr, CheckError>
     ensures { Answers expression (only_number (map argument arguments.items) span) result }
 {
     match arguments.pop_front() {
@@ -73,7 +79,7 @@ fn one_number(alloc: Global, mut arguments: VecDeque<Argument>, span: Span) -> R
 }
 
 // A call of `print_int`.
-fn prints(alloc: Global, arguments: VecDeque<Argument>, span: Span) -> Result<Called, Refused>
+fn prints(alloc: Global, arguments: VecDeque<Argument>, span: Span) -> Result<Called, CheckError>
     ensures { Answers called_as (writes Print (map argument arguments.items) span) result }
 {
     let value = one_number(alloc, arguments, span)?;
@@ -81,8 +87,8 @@ fn prints(alloc: Global, arguments: VecDeque<Argument>, span: Span) -> Result<Ca
     Ok(Called::GivesNothing { call })
 }
 
-// A call of `put_byte`.
-fn puts_byte(alloc: Global, arguments: VecDeque<Argument>, span: Span) -> Result<Called, Refused>
+// A call of `putchar`.
+fn puts_byte(alloc: Global, arguments: VecDeque<Argument>, span: Span) -> Result<Called, CheckError>
     ensures { Answers called_as (writes PutByte (map argument arguments.items) span) result }
 {
     let value = one_number(alloc, arguments, span)?;
@@ -96,7 +102,7 @@ fn predefined(
     name: &[u8],
     arguments: VecDeque<Argument>,
     span: Span,
-) -> Result<Called, Refused>
+) -> Result<Called, CheckError>
     ensures { Answers called_as (predefined_in name.now (map argument arguments.items) span) result }
 {
     if name == b"next_input".as_slice() {
@@ -108,10 +114,12 @@ fn predefined(
         });
     }
     if name == b"print_int".as_slice() {
-        prints(alloc, arguments, span)
-    } else {
-        puts_byte(alloc, arguments, span)
+        return prints(alloc, arguments, span);
     }
+    if name == b"putchar".as_slice() {
+        return puts_byte(alloc, arguments, span);
+    }
+    Err(CheckError::Unnamed)
 }
 
 // A call of a function by its number.
@@ -174,24 +182,77 @@ fn statement_of_call(import: bool, number: u32, site: Site, arguments: Vec<Expr>
     }
 }
 
+// Whether an argument is a pointer into trusted memory.
+fn is_checked_argument(t: &Typed) -> bool
+    ensures { result ≡ checked_argument (inline_typed t.now) }
+{
+    match t {
+        Typed::Value { ctype, .. } | Typed::Local { ctype, .. } | Typed::Cell { ctype, .. } => {
+            is_checked_pointer(ctype)
+        }
+        Typed::Struct { .. } => false,
+    }
+}
+
+// Refuses pointers into trusted memory.
+fn without_checked(arguments: &[Argument]) -> Result<(), CheckError>
+    ensures { Answers (λ x. x) (without_checked_in (map argument arguments.now) (Passes tt)) result }
+{
+    for argument in arguments {
+        needs(
+            !is_checked_argument(&argument.typed),
+            Code::E24,
+            argument.span,
+        )?;
+    }
+    Ok(())
+}
+
+// Refuses arguments that may not cross the boundary, where a function is tainted.
+fn crossing(import: bool, arguments: &[Argument]) -> Result<(), CheckError>
+    ensures { Answers (λ x. x) (crossing_in import (map argument arguments.now) (Passes tt)) result }
+{
+    if import {
+        without_checked(arguments)
+    } else {
+        Ok(())
+    }
+}
+
+// A call of a declared function, where the arguments convert.
+fn call_with(
+    alloc: Global,
+    scope: &Scope,
+    f: &Signature,
+    arguments: Vec<Argument>,
+    site: Site,
+) -> Result<Called, CheckError>
+    requires { length arguments.items ≡ length f.now.parameters.items }
+    ensures { Answers called_as (converted_call (scope_of scope.now) (signature f.now) (map argument arguments.items) site) result }
+{
+    let import = is_import(f);
+    let arguments = VecDeque::from_vec(arguments);
+    let values = arguments_as(alloc, arguments, f.parameters.as_slice())?;
+    let number = scope.side_number(import, f.name.as_bytes());
+    Ok(call_of(alloc, import, number, &f.result, site, values)?)
+}
+
 // A call of a declared function.
 fn declared(
     alloc: Global,
     scope: &Scope,
     f: &Signature,
-    arguments: VecDeque<Argument>,
+    arguments: Vec<Argument>,
     site: Site,
     span: Span,
-) -> Result<Called, Refused>
+) -> Result<Called, CheckError>
     ensures { Answers called_as (declared_in (scope_of scope.now) (signature f.now) (map argument arguments.items) site span) result }
 {
     if f.parameters.len() != arguments.len() {
         return Err(refusal(Code::E14, span));
     }
-    let values = arguments_as(alloc, arguments, f.parameters.as_slice())?;
-    let import = is_import(f);
-    let number = scope.side_number(import, f.name.as_bytes());
-    Ok(call_of(alloc, import, number, &f.result, site, values)?)
+    crossing(is_import(f), arguments.as_slice())?;
+    call_with(alloc, scope, f, arguments, site)
 }
 
 /// A call of a function by its name.
@@ -199,20 +260,20 @@ pub fn call(
     alloc: Global,
     scope: &Scope,
     name: &[u8],
-    arguments: VecDeque<Argument>,
+    arguments: Vec<Argument>,
     site: Site,
     span: Span,
-) -> Result<Called, Refused>
+) -> Result<Called, CheckError>
     ensures { Answers called_as (called_in (scope_of scope.now) (function_named (scope_of scope.now).functions name.now) name.now (map argument arguments.items) site span) result }
 {
     match scope.function(name) {
         Some(f) => declared(alloc, scope, f, arguments, site, span),
-        None => predefined(alloc, name, arguments, span),
+        None => predefined(alloc, name, VecDeque::from_vec(arguments), span),
     }
 }
 
 /// The value of a call that has a result.
-pub fn with_result(alloc: Global, called: Called, span: Span) -> Result<Box<Typed>, Refused>
+pub fn with_result(alloc: Global, called: Called, span: Span) -> Result<Box<Typed>, CheckError>
     ensures { Answers typed (with_result_of (called_as called) span) result }
 {
     match called {

@@ -8,10 +8,10 @@ ghost use Rattle.expression_typing.specs.Comparing.{is_number_value as number_va
 ghost use Rattle.expression_typing.specs.Equality.{equality as equality_in, equated_by as equated_as};
 
 use crate::operand_tests::{are_comparable_values, is_number_value, is_pointer_value};
-use checker_scope::refusals::needs;
+use checker_scope::refusals::{CheckError, needs};
 use ckc_core::program::{Comparison, Expr};
 use ckc_text::code::Code;
-use ckc_text::fault::{NoMemory, Refused};
+use ckc_text::fault::NoMemory;
 use ckc_text::place::Span;
 use std::alloc::Global;
 use value_typing::on_heap::boxed;
@@ -36,7 +36,7 @@ fn are_number_values(left: &Typed, right: &Typed) -> bool
 }
 
 /// How two expressions are compared: numbers, pointers of one mode and element, or a pointer and 0.
-pub fn equality_of(left: &Typed, right: &Typed, span: Span) -> Result<Equality, Refused>
+pub fn equality_of(left: &Typed, right: &Typed, span: Span) -> Result<Equality, CheckError>
     ensures { Answers (λ how. how) (equality_in (typed left.now) (typed right.now) span) result }
 {
     if are_number_values(left, right) {

@@ -6,32 +6,30 @@ ghost use Rattle.ckc_tree.specs.Types.{type_name as type_name_of};
 ghost use Rattle.ckc_tree.specs.Expressions.{expression as expression_of};
 ghost use Rattle.pointer_modes.specs.Types.{Int};
 ghost use Rattle.ckc_core.specs.Core.{Number};
-ghost use Rattle.typing_rules.specs.Scopes.{named as named_in};
 ghost use Rattle.typing_rules.specs.Verdicts.{Passes};
-ghost use Rattle.typing_rules.specs.Expressions.{constant as constant_of, Value, typed as typed_of, all_typed as all_typed_of, call_typed as call_typed_of, name_typed};
+ghost use Rattle.typing_rules.specs.Expressions.{constant as constant_of, Value, typed as typed_of, all_typed as all_typed_of, call_typed as call_typed_of};
 ghost use Rattle.checker_scope.specs.Answering.{Answers};
 ghost use Rattle.checker_scope.specs.Views.{scope as scope_of};
 ghost use Rattle.value_typing.specs.OnHeap.{typed as typed_view};
 ghost use Rattle.value_typing.specs.Typed.{number_typed, size_typed};
-ghost use Rattle.expression_typing.specs.Calls.{argument, called as called_as, called_with};
+ghost use Rattle.expression_typing.specs.Calls.{argument, called as called_as, called_with, name_verdict};
 ghost use Rattle.expression_typing.specs.Slices.{expression_list};
 
 use crate::calls::{Argument, Called, call, with_result};
 use crate::members::{arrowed, dotted};
 use crate::operators::{binary, indexed, unary};
-use checker_scope::refusals::refusal;
+use checker_scope::refusals::{CheckError, refusal};
 use checker_scope::scope::Scope;
 use checker_scope::sites::Sites;
 use checker_scope::types::{copied, type_named};
 use ckc_core::program;
 use ckc_text::code::Code;
-use ckc_text::fault::{NoMemory, Refused};
+use ckc_text::fault::NoMemory;
 use ckc_text::place::Span;
 use ckc_tree::expr::Expr;
 use ckc_tree::type_form::TypeName;
 use pointer_modes::ctype::CType;
 use std::alloc::Global;
-use std::collections::VecDeque;
 use value_typing::on_heap::boxed;
 use value_typing::typed::{Base, Typed, at_base, at_local};
 
@@ -51,7 +49,7 @@ fn constant(alloc: Global, zero: bool, number: i32) -> Result<Box<Typed>, NoMemo
 }
 
 // A number, which has at most 31 bits.
-fn number(alloc: Global, value: u32, span: Span) -> Result<Box<Typed>, Refused>
+fn number(alloc: Global, value: u32, span: Span) -> Result<Box<Typed>, CheckError>
     ensures { Answers typed_view (number_typed value span) result }
 {
     match i32::try_from(value) {
@@ -68,7 +66,7 @@ fn character(alloc: Global, value: u8) -> Result<Box<Typed>, NoMemory>
 }
 
 // The bytes of a type.
-fn size_of(alloc: Global, scope: &Scope, t: &TypeName) -> Result<Box<Typed>, Refused>
+fn size_of(alloc: Global, scope: &Scope, t: &TypeName) -> Result<Box<Typed>, CheckError>
     ensures { Answers typed_view (size_typed (scope_of scope.now) (type_name_of t.now)) result }
 {
     let named = type_named(alloc, scope, t)?;
@@ -77,25 +75,32 @@ fn size_of(alloc: Global, scope: &Scope, t: &TypeName) -> Result<Box<Typed>, Ref
 }
 
 // What a name stands for.
-fn named(alloc: Global, scope: &Scope, name: &[u8]) -> Result<Box<Typed>, NoMemory>
-    ensures { IfOk result (λ t. typed_view t ≡ name_typed (named_in (scope_of scope.now) name.now)) }
+fn named(alloc: Global, scope: &Scope, name: &[u8]) -> Result<Box<Typed>, CheckError>
+    ensures { Answers typed_view (name_verdict (scope_of scope.now) name.now) result }
 {
     if let Some(local) = scope.local(name) {
         let ctype = copied(alloc, local.ctype)?;
-        return boxed(alloc, at_local(ctype, local.number));
+        return Ok(boxed(alloc, at_local(ctype, local.number))?);
     }
-    match scope.object(name) {
-        Some(object) => {
-            let ctype = copied(alloc, object.ctype)?;
-            boxed(alloc, at_base(ctype, Base::Object(object.number)))
-        }
-        None => constant(alloc, true, 0),
+    if let Some(object) = scope.object(name) {
+        let ctype = copied(alloc, object.ctype)?;
+        return Ok(boxed(alloc, at_base(ctype, Base::Object(object.number)))?);
+    }
+    if name == b"NULL".as_slice() {
+        Ok(constant(alloc, true, 0)?)
+    } else {
+        Err(CheckError::Unnamed)
     }
 }
 
 /// What an expression is.
 #[cycle(expressions)]
-pub fn typed(alloc: Global, sites: &Sites, scope: &Scope, e: &Expr) -> Result<Box<Typed>, Refused>
+pub fn typed(
+    alloc: Global,
+    sites: &Sites,
+    scope: &Scope,
+    e: &Expr,
+) -> Result<Box<Typed>, CheckError>
     ensures { Answers typed_view (typed_of (place_at sites.now) (scope_of scope.now) (expression_of e.now)) result }
 {
     match e {
@@ -105,7 +110,7 @@ pub fn typed(alloc: Global, sites: &Sites, scope: &Scope, e: &Expr) -> Result<Bo
         | Expr::Cast { span, .. }
         | Expr::Malloc { span, .. }
         | Expr::Calloc { span, .. } => Err(refusal(Code::E13, *span)),
-        Expr::Name { name } => Ok(named(alloc, scope, name.name.as_bytes())?),
+        Expr::Name { name } => named(alloc, scope, name.name.as_bytes()),
         Expr::Call {
             callee,
             arguments,
@@ -166,13 +171,13 @@ fn all_typed(
     sites: &Sites,
     scope: &Scope,
     arguments: &[Expr],
-) -> Result<VecDeque<Argument>, Refused>
+) -> Result<Vec<Argument>, CheckError>
     ensures { Answers (λ v. map argument v.items) (all_typed_of (place_at sites.now) (scope_of scope.now) (expression_list arguments.now)) result }
 {
-    let mut built = VecDeque::new(alloc);
+    let mut built = Vec::new(alloc);
     for written in arguments {
         let typed = typed(alloc, sites, scope, written)?;
-        built.push_back(Argument {
+        built.push(Argument {
             typed,
             span: written.span(),
         })?;
@@ -189,7 +194,7 @@ fn called(
     name: &[u8],
     arguments: &[Expr],
     span: Span,
-) -> Result<Called, Refused>
+) -> Result<Called, CheckError>
     ensures { Answers called_as (called_with (place_at sites.now) (scope_of scope.now) name.now (expression_list arguments.now) span) result }
 {
     let arguments = all_typed(alloc, sites, scope, arguments)?;
@@ -197,7 +202,12 @@ fn called(
 }
 
 /// A call that stands alone.
-pub fn call_typed(alloc: Global, sites: &Sites, scope: &Scope, e: &Expr) -> Result<Called, Refused>
+pub fn call_typed(
+    alloc: Global,
+    sites: &Sites,
+    scope: &Scope,
+    e: &Expr,
+) -> Result<Called, CheckError>
     ensures { Answers called_as (call_typed_of (place_at sites.now) (scope_of scope.now) (expression_of e.now)) result }
 {
     match e {

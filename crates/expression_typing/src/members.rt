@@ -1,26 +1,26 @@
 // Members of structs.
 
-ghost use Rattle.std.specs.Prelude.{◌≡◌, bytes_eq, position};
+ghost use Rattle.std.specs.Prelude.{◌≡◌, bytes_eq, position, IfOk};
 ghost use Rattle.pointer_modes.specs.Types.{ctype as ctype_of};
 ghost use Rattle.ckc_core.specs.Core.{place as place_of};
-ghost use Rattle.typing_rules.specs.Expressions.{member_at as member_in, member_place as place_in, dotted as dotted_in, arrowed as arrowed_in};
+ghost use Rattle.typing_rules.specs.Expressions.{member_at as member_in, member_place as place_in, struct_place as cell_of_struct, dotted as dotted_in, arrowed as arrowed_in};
 ghost use Rattle.checker_scope.specs.Answering.{Answers};
 ghost use Rattle.checker_scope.specs.Views.{scope as scope_of};
-ghost use Rattle.value_typing.specs.Typed.{base_place, struct_of, struct_behind};
+ghost use Rattle.value_typing.specs.Typed.{base_place, struct_place, struct_of, struct_behind};
 ghost use Rattle.value_typing.specs.OnHeap.{typed};
 
-use checker_scope::refusals::refusal;
+use checker_scope::refusals::{CheckError, refusal};
 use checker_scope::scope::Scope;
 use checker_scope::types::copied;
-use ckc_core::program::{CellPlace, Site};
+use ckc_core::program::{CellPlace, Expr, Site};
 use ckc_text::code::Code;
-use ckc_text::fault::Refused;
+use ckc_text::fault::NoMemory;
 use ckc_text::place::Span;
 use pointer_modes::ctype::{CType, Member};
 use std::alloc::Global;
 use value_typing::on_heap::boxed;
 use value_typing::operands::{Operand, value_of};
-use value_typing::typed::{Base, Typed};
+use value_typing::typed::{Base, StructPlace, Typed};
 
 /// The place of the first of members that has this name.
 fn member_place(members: &[Member], name: &[u8]) -> Option<usize>
@@ -57,7 +57,7 @@ pub fn member_at(
     name: &[u8],
     site: Site,
     span: Span,
-) -> Result<Box<Typed>, Refused>
+) -> Result<Box<Typed>, CheckError>
     ensures { Answers typed (member_in (scope_of scope.now) number (base_place base) name.now site span) result }
 {
     let members = scope.structs.members(number);
@@ -74,6 +74,19 @@ pub fn member_at(
     }
 }
 
+// The first cell of a struct. A parameter that is one stands behind a pointer that is none.
+fn base_of(alloc: Global, place: StructPlace, site: Site) -> Result<Base, NoMemory>
+    ensures { IfOk result (λ base. base_place base ≡ cell_of_struct (struct_place place) site) }
+{
+    match place {
+        StructPlace::Local(local) => {
+            let pointer = boxed(alloc, Expr::Local(local))?;
+            Ok(Base::Behind { pointer, site })
+        }
+        StructPlace::Cell(base) => Ok(base),
+    }
+}
+
 /// A member of a struct.
 pub fn dotted(
     alloc: Global,
@@ -82,12 +95,12 @@ pub fn dotted(
     name: &[u8],
     site: Site,
     span: Span,
-) -> Result<Box<Typed>, Refused>
+) -> Result<Box<Typed>, CheckError>
     ensures { Answers typed (dotted_in (scope_of scope.now) (typed t) name.now site span) result }
 {
     match Box::into_inner(t) {
-        Typed::Struct { number, base } => {
-            let base = base.unwrap_or(Base::Object(0));
+        Typed::Struct { number, place } => {
+            let base = base_of(alloc, place, site)?;
             member_at(alloc, scope, number, base, name, site, span)
         }
         _ => Err(refusal(Code::E13, span)),
@@ -102,7 +115,7 @@ pub fn arrowed(
     name: &[u8],
     site: Site,
     span: Span,
-) -> Result<Box<Typed>, Refused>
+) -> Result<Box<Typed>, CheckError>
     ensures { Answers typed (arrowed_in (scope_of scope.now) (typed t) name.now site span) result }
 {
     let Operand {

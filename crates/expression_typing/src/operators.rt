@@ -12,10 +12,9 @@ ghost use Rattle.expression_typing.specs.Comparing.{compared as comparison_of};
 use crate::equality::{equality_of, equated_by};
 use crate::operand_tests::{are_comparable_values, has_pointer, is_number_value, is_pointer_value};
 use crate::places::{address, pointed_at};
-use checker_scope::refusals::{needs, refusal};
+use checker_scope::refusals::{CheckError, needs, refusal};
 use ckc_core::program::{Comparison, Expr, Operator, Site};
 use ckc_text::code::Code;
-use ckc_text::fault::Refused;
 use ckc_text::place::Span;
 use ckc_tree::expr::{BinaryOperator, UnaryOperator};
 use pointer_modes::ctype::CType;
@@ -25,7 +24,7 @@ use value_typing::operands::{number, scalar};
 use value_typing::typed::{Typed, plain};
 
 // A number.
-fn numeric(alloc: Global, value: Expr) -> Result<Box<Typed>, Refused>
+fn numeric(alloc: Global, value: Expr) -> Result<Box<Typed>, CheckError>
     ensures { Answers typed (number_typed (expression value)) result }
 {
     Ok(plain(alloc, CType::Int, value)?)
@@ -38,7 +37,7 @@ pub fn unary(
     t: Box<Typed>,
     site: Site,
     span: Span,
-) -> Result<Box<Typed>, Refused>
+) -> Result<Box<Typed>, CheckError>
     ensures { Answers typed (unary_of operator (typed t) site span) result }
 {
     match operator {
@@ -67,7 +66,7 @@ fn arithmetic(
     right: Box<Typed>,
     site: Site,
     span: Span,
-) -> Result<Box<Typed>, Refused>
+) -> Result<Box<Typed>, CheckError>
     ensures { Answers typed (two_numbers (typed left) (typed right) span (arithmetic_of operator site)) result }
 {
     let left = number(alloc, left, span)?;
@@ -91,7 +90,7 @@ fn sum(
     right: Box<Typed>,
     site: Site,
     span: Span,
-) -> Result<Box<Typed>, Refused>
+) -> Result<Box<Typed>, CheckError>
     ensures { Answers typed (summands (typed left) (typed right) span (arithmetic_of operator site)) result }
 {
     if has_pointer(&left, &right) {
@@ -106,7 +105,7 @@ fn conjunction(
     left: Box<Typed>,
     right: Box<Typed>,
     span: Span,
-) -> Result<Box<Typed>, Refused>
+) -> Result<Box<Typed>, CheckError>
     ensures { Answers typed (two_scalars (typed left) (typed right) span and_also) result }
 {
     let left = scalar(alloc, left, span)?;
@@ -120,7 +119,7 @@ fn disjunction(
     left: Box<Typed>,
     right: Box<Typed>,
     span: Span,
-) -> Result<Box<Typed>, Refused>
+) -> Result<Box<Typed>, CheckError>
     ensures { Answers typed (two_scalars (typed left) (typed right) span or_else) result }
 {
     let left = scalar(alloc, left, span)?;
@@ -129,7 +128,12 @@ fn disjunction(
 }
 
 // Whether two expressions are equal.
-fn equated(alloc: Global, left: Box<Typed>, right: Box<Typed>, span: Span) -> Result<Expr, Refused>
+fn equated(
+    alloc: Global,
+    left: Box<Typed>,
+    right: Box<Typed>,
+    span: Span,
+) -> Result<Expr, CheckError>
     ensures { Answers expression (equated_in (typed left) (typed right) span) result }
 {
     let how = equality_of(&left, &right, span)?;
@@ -144,7 +148,7 @@ fn equal(
     left: Box<Typed>,
     right: Box<Typed>,
     span: Span,
-) -> Result<Box<Typed>, Refused>
+) -> Result<Box<Typed>, CheckError>
     ensures { Answers typed (passing (equated_in (typed left) (typed right) span) number_typed) result }
 {
     let value = equated(alloc, left, right, span)?;
@@ -157,7 +161,7 @@ fn different(
     left: Box<Typed>,
     right: Box<Typed>,
     span: Span,
-) -> Result<Box<Typed>, Refused>
+) -> Result<Box<Typed>, CheckError>
     ensures { Answers typed (passing (equated_in (typed left) (typed right) span) (λ v. number_typed (Not v))) result }
 {
     let value = equated(alloc, left, right, span)?;
@@ -172,7 +176,7 @@ fn ordered(
     left: Box<Typed>,
     right: Box<Typed>,
     span: Span,
-) -> Result<Box<Typed>, Refused>
+) -> Result<Box<Typed>, CheckError>
     ensures { Answers typed (ordered_in comparison (typed left) (typed right) span) result }
 {
     if are_comparable_values(&left, &right) {
@@ -188,7 +192,7 @@ fn compared(
     left: Box<Typed>,
     right: Box<Typed>,
     span: Span,
-) -> Result<Box<Typed>, Refused>
+) -> Result<Box<Typed>, CheckError>
     ensures { Answers typed (two_numbers (typed left) (typed right) span (comparison_of comparison)) result }
 {
     let left = number(alloc, left, span)?;
@@ -204,7 +208,7 @@ fn compared(
 }
 
 /// An element of what a pointer points to.
-pub fn indexed(left: &Typed, right: &Typed, span: Span) -> Result<Box<Typed>, Refused>
+pub fn indexed(left: &Typed, right: &Typed, span: Span) -> Result<Box<Typed>, CheckError>
     ensures { Answers typed (indexed_in (typed_of left.now) (typed_of right.now) span) result }
 {
     let fits = is_pointer_value(left) && is_number_value(right);
@@ -220,7 +224,7 @@ pub fn binary(
     right: Box<Typed>,
     site: Site,
     span: Span,
-) -> Result<Box<Typed>, Refused>
+) -> Result<Box<Typed>, CheckError>
     ensures { Answers typed (binary_of operator (typed left) (typed right) site span) result }
 {
     match operator {

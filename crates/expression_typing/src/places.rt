@@ -8,16 +8,16 @@ ghost use Rattle.checker_scope.specs.Answering.{Answers};
 ghost use Rattle.value_typing.specs.Typed.{pointer_value};
 ghost use Rattle.value_typing.specs.OnHeap.{typed};
 
-use checker_scope::refusals::refusal;
+use checker_scope::refusals::{CheckError, refusal};
 use ckc_core::program::{CellPlace, Expr, Site};
 use ckc_text::code::Code;
-use ckc_text::fault::{NoMemory, Refused};
+use ckc_text::fault::NoMemory;
 use ckc_text::place::Span;
 use pointer_modes::ctype::{CType, Kind, Mode};
 use std::alloc::Global;
 use value_typing::on_heap::boxed;
 use value_typing::operands::{Operand, value_of};
-use value_typing::typed::{Base, Typed, at_base, first_cell, plain};
+use value_typing::typed::{Base, StructPlace, Typed, at_base, first_cell, plain};
 
 /// What a pointer points to.
 pub fn pointed_at(
@@ -25,7 +25,7 @@ pub fn pointed_at(
     t: Box<Typed>,
     site: Site,
     span: Span,
-) -> Result<Box<Typed>, Refused>
+) -> Result<Box<Typed>, CheckError>
     ensures { Answers typed (dereferenced (typed t) site span) result }
 {
     let Operand {
@@ -85,16 +85,21 @@ fn pointer_of(place: CellPlace, site: Site) -> Expr
 }
 
 /// The address of a place.
-pub fn address(alloc: Global, t: Box<Typed>, site: Site, span: Span) -> Result<Box<Typed>, Refused>
+pub fn address(
+    alloc: Global,
+    t: Box<Typed>,
+    site: Site,
+    span: Span,
+) -> Result<Box<Typed>, CheckError>
     ensures { Answers typed (address_of (typed t) site span) result }
 {
     match Box::into_inner(t) {
         Typed::Value { .. } => Err(refusal(Code::E12, span)),
         Typed::Local { .. } => Err(refusal(Code::E22, span)),
         Typed::Cell { ctype, place } => Ok(pointer_to(alloc, ctype, place, site)?),
-        Typed::Struct { number, base } => match base {
-            None => Err(refusal(Code::E22, span)),
-            Some(base) => {
+        Typed::Struct { number, place } => match place {
+            StructPlace::Local(_) => Err(refusal(Code::E22, span)),
+            StructPlace::Cell(base) => {
                 let place = first_cell(base);
                 Ok(pointer_to(alloc, CType::Struct(number), place, site)?)
             }

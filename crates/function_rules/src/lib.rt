@@ -5,9 +5,8 @@ ghost use Rattle.checker_scope.specs.Answering.{Answers};
 ghost use Rattle.ckc_text.specs.declared.code.Code.TheVariants.{E10, E13, E15};
 ghost use Rattle.typing_rules.specs.Verdicts.{Passes, needs};
 
-use checker_scope::refusals::refusal;
+use checker_scope::refusals::{CheckError, refusal};
 use ckc_text::code::Code;
-use ckc_text::fault::Refused;
 use ckc_text::place::Span;
 
 /// The first rule that a function breaks: its declaration fits the others and has scalars (E13), its body is there where
@@ -17,7 +16,7 @@ pub fn keep_function_rules(
     has_body: bool,
     is_checked: bool,
     span: Span,
-) -> Result<(), Refused>
+) -> Result<(), CheckError>
     ensures { Answers (λ x. x) (needs fits E13 span (needs has_body E10 span (needs is_checked E15 span (Passes tt)))) result }
 {
     if !fits {

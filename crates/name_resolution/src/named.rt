@@ -1,6 +1,8 @@
 // A program in which each name is visible where it stands.
 
-ghost use Rattle.std.specs.Prelude.{◌≡◌};
+ghost use Rattle.std.specs.Prelude.{◌≡◌, None};
+ghost use Rattle.ckc_tree.specs.Items.{tree};
+ghost use Rattle.ckc_names.specs.Naming.{naming_fault};
 
 use crate::name_list::NameList;
 use ckc_tree::item::Program;
@@ -23,11 +25,18 @@ impl Model for Named {
     ghost coded = { Prim.hlevel (codes, e.the_row.coded) };
 
     ghost view = { λ a. record { program = a.program; names = a.names } };
+
+    ghost use Rattle.std.specs.Prelude.{◌≡◌, None};
+    ghost use Rattle.ckc_tree.specs.Items.{tree};
+    ghost use Rattle.ckc_names.specs.Naming.{naming_fault};
+
+    ghost invariant = { λ a. naming_fault (tree a.program) ≡ None };
 }
 
 impl Named {
-    /// The program with its names.
+    /// The program with its names, with which nothing is wrong.
     pub(crate) fn new(program: Program, names: NameList) -> Named
+        requires { naming_fault (tree program) ≡ None }
         ensures { result ≡ record { program = program; names = names } }
     {
         Named { program, names }
@@ -35,7 +44,8 @@ impl Named {
 
     /// The program.
     pub fn program(&self) -> &Program
-        ensures { result.now ≡ self.now.program }
+        ensures value { result.now ≡ self.now.program }
+        ensures named { naming_fault (tree result.now) ≡ None }
     {
         &self.program
     }

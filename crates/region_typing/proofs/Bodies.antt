@@ -6,9 +6,8 @@ use Rattle.std.proofs.lemmas.Result.{err_from_is_err_and}
 use Rattle.std.proofs.lemmas.List.{length-map, length-append, map-append}
 use Rattle.ckc_text.specs.declared.place.Span.{Span}
 use Rattle.ckc_text.specs.declared.code.Code.TheVariants.{E08, E10, E13, E15}
-use Rattle.ckc_text.specs.declared.fault.Refused.{Refused}
-use Rattle.ckc_text.specs.declared.fault.Refused.TheVariants.{Source, NoMemory}
-use Rattle.ckc_text.specs.declared.fault.SourceFault.{SourceFault}
+use Rattle.checker_scope.specs.declared.refusals.CheckError.{CheckError}
+use Rattle.checker_scope.specs.declared.refusals.CheckError.TheVariants.{Source, Unnamed, NoMemory}
 use Rattle.ckc_tree.specs.Items as i
 use Rattle.ckc_tree.specs.Items.{Item}
 use Rattle.ckc_tree.specs.Statements.{Statements}
@@ -17,11 +16,11 @@ use Rattle.pointer_modes.specs.Types.{CType, ctype}
 use Rattle.ckc_core.specs.declared.program.Function as code_function
 use Rattle.ckc_core.specs.declared.program.Stmt.{Stmt}
 use Rattle.ckc_core.specs.Core as core
-use Rattle.typing_rules.specs.Verdicts.{Verdict, Passes, Breaks, passing, needs, picked}
+use Rattle.typing_rules.specs.Verdicts.{Stop, Broken, Nameless, Verdict, Passes, Stops, passing, needs, picked}
 use Rattle.typing_rules.specs.Scopes.{Scope, Signature, Variable, Visible, function_named}
-use Rattle.typing_rules.specs.Expressions.{Places}
+use Rattle.typing_rules.specs.Expressions.{Places, is_tainted}
 use Rattle.typing_rules.specs.Statements.{statements, is_unchecked, with_local}
-use Rattle.typing_rules.specs.Items.{Walk, with_parameters, inside, core_function, function_body, listed, parameter_types, result_type, signature_of, agrees, all_scalar, scalar_result, with_function, is_trusted, is_defined, function_rules, function}
+use Rattle.typing_rules.specs.Items.{Walk, with_parameters, inside, core_function, function_body, listed, parameter_types, result_type, signature_of, agrees, all_scalar, scalar_result, with_function, is_defined, function_rules, function}
 use Rattle.checker_scope.specs.declared.scope as code
 use Rattle.checker_scope.specs.declared.signature.Signature as code_signature
 use Rattle.checker_scope.specs.Views.{scope, signature, variable}
@@ -31,7 +30,7 @@ use Rattle.statement_typing.specs.Walks.{Walks}
 use Rattle.region_typing.specs.Items.{Outside, body_core, kept_rules, behind_declaration}
 use Rattle.region_typing.specs.Signatures.{declared_function}
 use Rattle.statement_typing.proofs.Verdicts.{same_behind, in_parts}
-use Rattle.statement_typing.proofs.Steps.{parts_at, no_parts}
+use Rattle.checker_scope.proofs.Steps.{parts_at, no_parts}
 
 -- ---- a function is left
 
@@ -68,8 +67,8 @@ function_body_parts at w f ps b = sym (in_parts (statements at (inside f ps w.sc
 
 declared_on : {B : Type 0} (v : Verdict (Option CType)) (w : Verdict (List Variable)) (of : Option CType → List Variable → Signature) (next : Signature × List Variable → Verdict B)
     → passing v (λ r. passing w (λ ps. next (of r ps, ps))) ≡ passing (passing v (λ r. passing w (λ ps. Passes (of r ps, ps)))) next
-declared_on (Breaks fault) w of next = refl
-declared_on (Passes r) (Breaks fault) of next = refl
+declared_on (Stops stop) w of next = refl
+declared_on (Passes r) (Stops stop) of next = refl
 declared_on (Passes r) (Passes ps) of next = refl
 
 rules_parts : (fits body marked on : Bool) (span : Span) (w : Walk) → needs fits E13 span (needs body E10 span (needs marked E15 span (needs on E15 span (Passes w)))) ≡ passing (needs fits E13 span (needs body E10 span (needs marked E15 span (needs on E15 span (Passes tt))))) (λ (x : Unit {0}). Passes w)
@@ -93,11 +92,11 @@ function_parts at all w d =
     (declared_on (result_type w.scope d.result d.stars) (parameter_types w.scope (listed d.parameters) []) (λ r ps. signature_of d r ps) behind
     ∙ same_behind (declared_function w.scope d) behind judged
     (λ x. same_behind (function_body at (record w { scope = with_function known x.0 w.scope }) x.0 x.1 d.body) (λ v. function_rules all d x.0 known v) (λ v. passing (kept_rules all d (agrees known x.0 && (all_scalar x.0.parameters && scalar_result x.0.result)) v.scope) (λ u. Passes v))
-    (λ v. rules_parts (agrees known x.0 && (all_scalar x.0.parameters && scalar_result x.0.result)) (picked (is_trusted d.kind) (is_defined all d.name.name) true) (not (is_unchecked d.mark)) (not v.scope.is_off) d.span v)))
+    (λ v. rules_parts (agrees known x.0 && (all_scalar x.0.parameters && scalar_result x.0.result)) (picked (is_tainted d.kind) true (is_defined all d.name.name)) (not (is_unchecked d.mark)) (not v.scope.is_off) d.span v)))
 
 named_so : (v : Verdict (Option CType)) (w : Verdict (List Variable)) (of : Option CType → List Variable → Signature) (name : List ℕ) (x : Signature × List Variable) → ((r : Option CType) (ps : List Variable) → (of r ps).name ≡ name) → passing v (λ r. passing w (λ ps. Passes (of r ps, ps))) ≡ Passes x → x.0.name ≡ name
-named_so (Breaks fault) w of name x named is = absurd (cc)
-named_so (Passes r) (Breaks fault) of name x named is = absurd (cc)
+named_so (Stops stop) w of name x named is = absurd (cc)
+named_so (Passes r) (Stops stop) of name x named is = absurd (cc)
 named_so (Passes r) (Passes ps) of name x named is = let same : (of r ps, ps) ≡ x = cc in ap (λ (y : Signature × List Variable). y.0.name) (sym same) ∙ named r ps
 
 -- a declared function has the name that is written
@@ -105,14 +104,15 @@ pub declared_name : (g : Scope) (d : i.Function) (x : Signature × List Variable
 declared_name g d x is = named_so (result_type g d.result d.stars) (parameter_types g (listed d.parameters) []) (λ r ps. signature_of d r ps) d.name.name x (λ r ps. refl) is
 
 -- a body in which a rule is broken
-broken_body : (at : Places) (f : Signature) (ps : List Variable) (body : Statements) (g : Scope) (h : Scope) (fault : SourceFault) → h ≡ inside f ps g → statements at h body ≡ Breaks fault → body_core at g f ps body ≡ Breaks fault
-broken_body at f ps body g h fault is breaks = ap (λ k. passing (statements at k body) (λ x. Passes (core_function f ps x.0 x.1, g))) (sym is) ∙ rw breaks refl
+broken_body : (at : Places) (f : Signature) (ps : List Variable) (body : Statements) (g : Scope) (h : Scope) (stop : Stop) → h ≡ inside f ps g → statements at h body ≡ Stops stop → body_core at g f ps body ≡ Stops stop
+broken_body at f ps body g h stop is breaks = ap (λ k. passing (statements at k body) (λ x. Passes (core_function f ps x.0 x.1, g))) (sym is) ∙ rw breaks refl
 
-body_refused_so : {C D : Type 0} (view : C → core.Statements) (view' : D → core.Function × Scope) (at : Places) (f : Signature) (ps : List Variable) (body : Statements) (old entered mid : code.Scope.Scope) (e : Refused) → scope entered ≡ inside f ps (scope old) → Walks view (statements at (scope entered) body) entered (Err e) mid → Answers view' (body_core at (scope old) f ps body) (Err e)
-body_refused_so view view' at f ps body old entered mid (Source fault) is first = record { so = broken_body at f ps body (scope old) (scope entered) fault is first.so }
+body_refused_so : {C D : Type 0} (view : C → core.Statements) (view' : D → core.Function × Scope) (at : Places) (f : Signature) (ps : List Variable) (body : Statements) (old entered mid : code.Scope.Scope) (e : CheckError) → scope entered ≡ inside f ps (scope old) → Walks view (statements at (scope entered) body) entered (Err e) mid → Answers view' (body_core at (scope old) f ps body) (Err e)
+body_refused_so view view' at f ps body old entered mid (Source fault) is first = record { so = broken_body at f ps body (scope old) (scope entered) (Broken fault) is first.so }
+body_refused_so view view' at f ps body old entered mid Unnamed is first = record { so = broken_body at f ps body (scope old) (scope entered) Nameless is first.so }
 body_refused_so view view' at f ps body old entered mid NoMemory is first = record { so = tt }
 
-pub body_refused : {C D : Type 0} {view : C → core.Statements} {view' : D → core.Function × Scope} {mid : code.Scope.Scope} {e : Refused} (at : Places) (f : Signature) (ps : List Variable) (body : Statements) (old entered : code.Scope.Scope) (r : Result D Refused) → scope entered ≡ inside f ps (scope old) → IsErrAnd r (λ y. y ≡ e) → Walks view (statements at (scope entered) body) entered (Err e) mid → Answers view' (body_core at (scope old) f ps body) r
+pub body_refused : {C D : Type 0} {view : C → core.Statements} {view' : D → core.Function × Scope} {mid : code.Scope.Scope} {e : CheckError} (at : Places) (f : Signature) (ps : List Variable) (body : Statements) (old entered : code.Scope.Scope) (r : Result D CheckError) → scope entered ≡ inside f ps (scope old) → IsErrAnd r (λ y. y ≡ e) → Walks view (statements at (scope entered) body) entered (Err e) mid → Answers view' (body_core at (scope old) f ps body) r
 body_refused {view = view} {view' = view'} {mid = mid} {e = e} at f ps body old entered r is err first =
     let p = err_from_is_err_and r err in
     rw (p.1, p.2) (body_refused_so view view' at f ps body old entered mid e is first)
@@ -142,7 +142,7 @@ local_counted p a b k known count =
 
 scope_of_core : (v : Verdict (core.Statements × Scope)) (f : Signature) (ps : List Variable) (g : Scope) (b : core.Function) (h : Scope) → passing {B = core.Function × Scope} v (λ x. Passes (core_function f ps x.0 x.1, g)) ≡ Passes (b, h) → h ≡ g
 scope_of_core (Passes x) f ps g b h is = let same : (core_function f ps x.0 x.1, g) ≡ (b, h) = cc in sym (ap (λ (p : core.Function × Scope). p.1) same)
-scope_of_core (Breaks fault) f ps g b h is = absurd (cc)
+scope_of_core (Stops stop) f ps g b h is = absurd (cc)
 
 pub scope_kept : (at : Places) (g : Scope) (f : Signature) (ps : List Variable) (body : Statements) (b : core.Function) (h : Scope) → body_core at g f ps body ≡ Passes (b, h) → h ≡ g
 scope_kept at g f ps body b h is = scope_of_core (statements at (inside f ps g) body) f ps g b h is
@@ -153,12 +153,13 @@ bodies_more w g bs new b same are =
 
 -- ---- a function, step by step
 
-kept_last_so : {B : Type 0} (new : B) (v : Verdict (Unit {0})) (r : Result (Unit {0}) Refused) → Answers {C = Unit {0}} (λ x. x) v r → answers_so {C = Unit {0}} (λ u. new) (passing v (λ u. Passes new)) r
+kept_last_so : {B : Type 0} (new : B) (v : Verdict (Unit {0})) (r : Result (Unit {0}) CheckError) → Answers {C = Unit {0}} (λ x. x) v r → answers_so {C = Unit {0}} (λ u. new) (passing v (λ u. Passes new)) r
 kept_last_so new v (Ok u) first = rw first.so refl
 kept_last_so new v (Err (Source fault)) first = rw first.so refl
+kept_last_so new v (Err Unnamed) first = rw first.so refl
 kept_last_so new v (Err NoMemory) first = tt
 
-pub kept_last : {B : Type 0} (new : B) (v : Verdict (Unit {0})) (r : Result (Unit {0}) Refused) → Answers {C = Unit {0}} (λ x. x) v r → Answers {C = Unit {0}} (λ u. new) (passing v (λ u. Passes new)) r
+pub kept_last : {B : Type 0} (new : B) (v : Verdict (Unit {0})) (r : Result (Unit {0}) CheckError) → Answers {C = Unit {0}} (λ x. x) v r → Answers {C = Unit {0}} (λ u. new) (passing v (λ u. Passes new)) r
 kept_last new v r first = record { so = kept_last_so new v r first }
 
 -- neither a function nor its region is unchecked
@@ -167,7 +168,7 @@ checked_once true off span = refl
 checked_once false off span = refl
 
 -- behind a declaration, by the name that is written
-pub function_walk : {new : Walk} {r : Result (Unit {0}) Refused} (at : Places) (all : List Item) (w : Walk) (d : i.Function) (x : Signature × List Variable) → declared_function w.scope d ≡ Passes x → Answers {C = Unit {0}} (λ u. new) (behind_declaration at all w d x) r
+pub function_walk : {new : Walk} {r : Result (Unit {0}) CheckError} (at : Places) (all : List Item) (w : Walk) (d : i.Function) (x : Signature × List Variable) → declared_function w.scope d ≡ Passes x → Answers {C = Unit {0}} (λ u. new) (behind_declaration at all w d x) r
     → Answers {C = Unit {0}} (λ u. new) (passing (declared_function w.scope d) (λ y. passing (function_body at (record w { scope = with_function (function_named w.scope.functions d.name.name) y.0 w.scope }) y.0 y.1 d.body) (λ v. passing (kept_rules all d (agrees (function_named w.scope.functions d.name.name) y.0 && (all_scalar y.0.parameters && scalar_result y.0.result)) v.scope) (λ u. Passes v)))) r
 function_walk {new = new} {r = r} at all w d x first rest =
     let named = declared_name w.scope d x first in
@@ -175,7 +176,7 @@ function_walk {new = new} {r = r} at all w d x first rest =
     (subst (λ name. Answers {C = Unit {0}} (λ u. new) (passing (function_body at (record w { scope = with_function (function_named w.scope.functions name) x.0 w.scope }) x.0 x.1 d.body) (λ v. passing (kept_rules all d (agrees (function_named w.scope.functions name) x.0 && (all_scalar x.0.parameters && scalar_result x.0.result)) v.scope) (λ u. Passes v))) r) named rest)
 
 -- the scope behind a declaration
-pub behind_scope : {new : Walk} {r : Result (Unit {0}) Refused} (at : Places) (all : List Item) (w : Walk) (d : i.Function) (x : Signature × List Variable) (mid : Scope) → mid ≡ with_function (function_named w.scope.functions x.0.name) x.0 w.scope
+pub behind_scope : {new : Walk} {r : Result (Unit {0}) CheckError} (at : Places) (all : List Item) (w : Walk) (d : i.Function) (x : Signature × List Variable) (mid : Scope) → mid ≡ with_function (function_named w.scope.functions x.0.name) x.0 w.scope
     → Answers {C = Unit {0}} (λ u. new) (passing (function_body at (record w { scope = mid }) x.0 x.1 d.body) (λ v. passing (kept_rules all d (agrees (function_named w.scope.functions x.0.name) x.0 && (all_scalar x.0.parameters && scalar_result x.0.result)) v.scope) (λ u. Passes v))) r
     → Answers {C = Unit {0}} (λ u. new) (behind_declaration at all w d x) r
 behind_scope {new = new} {r = r} at all w d x mid known rest =

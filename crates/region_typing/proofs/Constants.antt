@@ -18,15 +18,15 @@ use Rattle.typing_rules.specs.Verdicts.{Passes, needs, picked}
 use Rattle.typing_rules.specs.Types.{is_scalar}
 use Rattle.typing_rules.specs.Expressions.{Typed}
 use Rattle.typing_rules.specs.Items as rules
-use Rattle.typing_rules.specs.Items.{strides_from, strides_of, cells_with, numbered_cells, is_zero, initial_number, number_or_break, object_cells}
+use Rattle.typing_rules.specs.Items.{strides_from, strides_of, cells_with, numbered_cells, is_zero, signed_constant, number_or_break, object_cells}
 use Rattle.region_typing.specs.Initials.{IsStructOf, constant_cells, judged_as, judged_cells, stride_at}
-use Rattle.statement_typing.proofs.Steps.{parts_at, no_parts}
+use Rattle.checker_scope.proofs.Steps.{parts_at, no_parts}
 
 -- ---- cells by what is judged
 
 written_cells_judged : (structs : List Structure) (t : CType) (value : Expression) (u : Typed) (span : Span) → object_cells structs t (rules.Written value u) span ≡ judged_cells structs t (judged_as (rules.Written value u)) span
 written_cells_judged structs Int value u span = refl
-written_cells_judged structs Char value u span = by (initial_number value u)
+written_cells_judged structs Char value u span = by (signed_constant value)
   where
     by : (number : Option ℤ) → number_or_break number span (λ n. cells_with structs Char (low_byte n)) ≡ constant_cells structs Char (is_zero u) number span
     by None = refl
@@ -34,7 +34,7 @@ written_cells_judged structs Char value u span = by (initial_number value u)
 written_cells_judged structs (Struct number) value u span = refl
 written_cells_judged structs (Pointer mode kind target) value u span = by (is_zero u)
   where
-    by : (zero : Bool) → needs zero E13 span (Passes (cells_with structs (Pointer mode kind target) (pos 0))) ≡ constant_cells structs (Pointer mode kind target) zero (initial_number value u) span
+    by : (zero : Bool) → needs zero E13 span (Passes (cells_with structs (Pointer mode kind target) (pos 0))) ≡ constant_cells structs (Pointer mode kind target) zero (signed_constant value) span
     by true = refl
     by false = refl
 

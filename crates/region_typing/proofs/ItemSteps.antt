@@ -1,7 +1,6 @@
 -- The walks over items, by their steps.
 use Rattle.std.proofs.Common.{◌≡◌, Bool, true, false, List, [], ◌∷◌, ◌++◌, not, nat_lt, length, map, refl, ap, ◌∙◌, sym}
 use Rattle.std.proofs.lemmas.List.{map-append}
-use Rattle.ckc_text.specs.declared.fault.SourceFault.{SourceFault}
 use Rattle.ckc_text.specs.declared.place.Span.{Span}
 use Rattle.ckc_text.specs.declared.code.Code.{Code}
 use Rattle.ckc_text.specs.declared.code.Code.TheVariants.{E08, E27}
@@ -10,7 +9,7 @@ use Rattle.ckc_tree.specs.Items as i
 use Rattle.ckc_tree.specs.Statements.{Declarator}
 use Rattle.pointer_modes.specs.Types as types
 use Rattle.pointer_modes.specs.Types.{CType}
-use Rattle.typing_rules.specs.Verdicts.{Verdict, Passes, Breaks, passing, needs}
+use Rattle.typing_rules.specs.Verdicts.{Stop, Verdict, Passes, Stops, passing, needs}
 use Rattle.typing_rules.specs.Scopes.{Scope, Variable}
 use Rattle.typing_rules.specs.Types.{type_named}
 use Rattle.typing_rules.specs.Expressions.{Places}
@@ -20,7 +19,7 @@ use Rattle.region_typing.specs.Items.{one_member, one_parameter, one_variable, j
 
 needs_on : {A B C : Type 0} (b : Bool) (code : Code) (span : Span) (v : Verdict A) (f : A → B) (next : B → Verdict C) → needs b code span (passing v (λ t. next (f t))) ≡ passing (needs b code span (passing v (λ t. Passes (f t)))) next
 needs_on true code span (Passes t) f next = refl
-needs_on true code span (Breaks fault) f next = refl
+needs_on true code span (Stops stop) f next = refl
 needs_on false code span v f next = refl
 
 pub member_by_step : (g : Scope) (m : i.Member) (ms : List i.Member) (done : List types.Member) → member_types g (m ∷ ms) done ≡ passing (one_member g m done) (λ d. member_types g ms d)
@@ -52,14 +51,14 @@ variable_by_step at base type span d ds x = by (one_variable at x.0 base type sp
   where
     by : (v : Verdict (Walk × JudgedVariable)) → passing v (λ y. judged_variables at base type span ds (y.0, x.1 ++ y.1 ∷ [])) ≡ passing (passing v (λ y. Passes (y.0, x.1 ++ y.1 ∷ []))) (λ y. judged_variables at base type span ds y)
     by (Passes y) = refl
-    by (Breaks fault) = refl
+    by (Stops stop) = refl
 
 pub variable_passes : (at : Places) (base : TypeTree) (type : CType) (span : Span) (d : Declarator) (w v : Walk) (walked new : List code.Judged) (x : code.Judged) → new ≡ walked ++ x ∷ [] → one_variable at w base type span d ≡ Passes (v, judged_variable type x)
     → variable_step at base type span d (w, map (judged_variable type) walked) ≡ Passes (v, map (judged_variable type) new)
 variable_passes at base type span d w v walked new x are passes = rw passes (ap (λ vs. Passes (v, vs)) (sym (ap (map (judged_variable type)) are ∙ map-append (judged_variable type) walked (x ∷ []))))
 
-pub variable_breaks : (at : Places) (base : TypeTree) (type : CType) (span : Span) (d : Declarator) (w : Walk) (walked : List JudgedVariable) (fault : SourceFault) → one_variable at w base type span d ≡ Breaks fault → variable_step at base type span d (w, walked) ≡ Breaks fault
-variable_breaks at base type span d w walked fault breaks = rw breaks refl
+pub variable_breaks : (at : Places) (base : TypeTree) (type : CType) (span : Span) (d : Declarator) (w : Walk) (walked : List JudgedVariable) (stop : Stop) → one_variable at w base type span d ≡ Stops stop → variable_step at base type span d (w, walked) ≡ Stops stop
+variable_breaks at base type span d w walked stop breaks = rw breaks refl
 
 -- one item more
 abbrev pub item_step : Places → List i.Item → i.Item → Walk → Verdict Walk

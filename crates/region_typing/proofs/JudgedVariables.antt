@@ -1,24 +1,24 @@
 -- File-level variables, by what is judged of their initialisers.
-use Rattle.std.proofs.Common.{◌≡◌, ◌+◌, Bool, true, false, nat_lt, nat_le, List, [], ◌∷◌, ◌++◌, length, map, Result, Ok, Err, refl, ap, sym, ◌∙◌, subst}
+use Rattle.std.proofs.Common.{◌≡◌, ℕ, ◌==◌, Bool, true, false, nat_lt, List, [], ◌∷◌, ◌++◌, length, map, Result, Ok, Err, refl, ap, sym, ◌∙◌, subst}
 use Rattle.std.proofs.lemmas.List.{map-append}
 use Rattle.ckc_text.specs.declared.place.Span.{Span}
-use Rattle.ckc_text.specs.declared.code.Code.TheVariants.{E08, E10}
-use Rattle.ckc_text.specs.declared.fault.Refused.{Refused}
-use Rattle.ckc_text.specs.declared.fault.Refused.TheVariants.{Source, NoMemory}
-use Rattle.ckc_tree.specs.Types.{TypeTree}
+use Rattle.ckc_text.specs.declared.code.Code.TheVariants.{E10, E15}
+use Rattle.checker_scope.specs.declared.refusals.CheckError.{CheckError}
+use Rattle.checker_scope.specs.declared.refusals.CheckError.TheVariants.{Source, Unnamed, NoMemory}
+use Rattle.ckc_tree.specs.Types.{TypeTree, type_span}
 use Rattle.ckc_tree.specs.Items as i
 use Rattle.ckc_tree.specs.Statements.{Declarator}
 use Rattle.pointer_modes.specs.Types.{CType}
 use Rattle.ckc_core.specs.Core as core
-use Rattle.typing_rules.specs.Verdicts.{Verdict, Passes, Breaks, passing, needs}
+use Rattle.typing_rules.specs.Verdicts.{Stop, Broken, Verdict, Passes, Stops, passing, needs}
 use Rattle.typing_rules.specs.Types.{base_type, without_stars}
 use Rattle.typing_rules.specs.Expressions.{Places}
 use Rattle.typing_rules.specs.Items as rules
-use Rattle.typing_rules.specs.Items.{Walk, WalkedVariable, with_variable, block_bytes, initializer, variables, with_objects, global, in_checked_region}
+use Rattle.typing_rules.specs.Items.{Walk, WalkedVariable, with_variable, room_for, room_for_first, initializer, variables, with_objects, global, in_checked_region}
 use Rattle.checker_scope.specs.Answering.{Answers, answers_so}
 use Rattle.region_typing.specs.declared.initials.Judged as code
 use Rattle.region_typing.specs.Initials.{Judged, judged, judged_as, judged_cells}
-use Rattle.region_typing.specs.Items.{JudgedVariable, judged_variable, variable_type, with_one, one_variable, judged_variables, judged_initializer, one_object, judged_objects}
+use Rattle.region_typing.specs.Items.{JudgedVariable, judged_variable, with_one, one_variable, judged_variables, judged_initializer, one_object, judged_objects}
 use Rattle.statement_typing.proofs.Verdicts.{same_behind, in_parts}
 use Rattle.region_typing.proofs.Constants.{cells_judged}
 
@@ -28,7 +28,7 @@ as_judged v = record { type = v.type; initial = judged_as v.initial }
 one_by_one : (v : Verdict (List core.Initial)) (span : Span) (w : Walk) (next : Walk → Verdict Walk)
     → passing v (λ cells. needs (nat_lt 0 (length cells)) E10 span (next (record w { objects = w.objects ++ cells ∷ [] })))
     ≡ passing (passing v (λ cells. needs (nat_lt 0 (length cells)) E10 span (Passes (record w { objects = w.objects ++ cells ∷ [] })))) next
-one_by_one (Breaks fault) span w next = refl
+one_by_one (Stops stop) span w next = refl
 one_by_one (Passes cells) span w next = by (nat_lt 0 (length cells))
   where
     by : (b : Bool) → needs b E10 span (next (record w { objects = w.objects ++ cells ∷ [] })) ≡ passing (needs b E10 span (Passes (record w { objects = w.objects ++ cells ∷ [] }))) next
@@ -42,64 +42,71 @@ objects_judged w span (v ∷ vs) =
     ∙ one_by_one (judged_cells w.scope.structs v.type (judged_as v.initial) span) span w (λ x. with_objects x span vs)
     ∙ same_behind (one_object span (as_judged v) w) (λ x. with_objects x span vs) (λ x. judged_objects span (map as_judged vs) x) (λ x. objects_judged x span vs)
 
--- the rules of a variable's type, and then those of its initialiser
-one_typed : {B : Type 0} (few : Bool) (v : Verdict CType) (room : CType → Bool) (span : Span) (next : CType → Verdict B)
-    → needs few E08 span (passing v (λ t. needs (room t) E08 span (next t))) ≡ passing (needs few E08 span (passing v (λ t. needs (room t) E08 span (Passes t)))) next
-one_typed false v room span next = refl
-one_typed true (Breaks fault) room span next = refl
-one_typed true (Passes t) room span next = by (room t)
-  where
-    by : (b : Bool) → needs b E08 span (next t) ≡ passing (needs b E08 span (Passes t)) next
-    by true = refl
-    by false = refl
-
 in_turn : {A B C D : Type 0} (v : Verdict A) (f : A → Verdict B) (g : A → B → C) (next : C → Verdict D) → passing (passing v (λ a. passing (f a) (λ b. Passes (g a b)))) next ≡ passing v (λ a. passing (f a) (λ b. next (g a b)))
-in_turn (Breaks fault) f g next = refl
+in_turn (Stops stop) f g next = refl
 in_turn (Passes a) f g next = by (f a)
   where
     by : (w : _) → passing (passing w (λ b. Passes (g a b))) next ≡ passing w (λ b. next (g a b))
     by (Passes b) = refl
-    by (Breaks fault) = refl
+    by (Stops stop) = refl
 
 judged_next : {B : Type 0} (v : Verdict rules.Walked) (next : rules.Walked → Verdict B) (next' : _ → Verdict B) → ((x : rules.Walked) → next x ≡ next' (judged_as x)) → passing v next ≡ passing (passing v (λ x. Passes (judged_as x))) next'
 judged_next (Passes x) next next' same = same x
-judged_next (Breaks fault) next next' same = refl
+judged_next (Stops stop) next next' same = refl
 
 variables_judged : {B : Type 0} (at : Places) (w : Walk) (base : TypeTree) (t : CType) (span : Span) (ds : List Declarator) (done : List WalkedVariable) (next : Walk × List WalkedVariable → Verdict B) (next' : Walk × List JudgedVariable → Verdict B)
     → ((x : Walk × List WalkedVariable) → next x ≡ next' (x.0, map as_judged x.1)) → passing (variables at w base t span ds done) next ≡ passing (judged_variables at base t span ds (w, map as_judged done)) next'
 variables_judged at w base t span [] done next next' same = same (w, done)
 variables_judged at w base t span (d ∷ ds) done next next' same =
-    let begun = λ (u : CType) (x : rules.Walked). variables at (with_one d.name.name u w) base t span ds (done ++ record { type = u; initial = x } ∷ []) in
-    let of_type = λ (u : CType). passing (initializer at (with_variable d.name.name u w.scope) d.initializer) (begun u) in
+    let room = room_for w base span d in
+    let starless = without_stars base d.stars t in
+    let inside = λ (u : CType). with_variable d.name.name u w.scope in
+    let begun = λ (taken : ℕ) (u : CType) (x : rules.Walked). variables at (with_one d.name.name u taken w) base t span ds (done ++ record { type = u; initial = x } ∷ []) in
+    let of_type = λ (taken : ℕ) (u : CType). passing (initializer at (inside u) d.initializer) (begun taken u) in
     let behind = λ (y : Walk × JudgedVariable). passing (judged_variables at base t span ds (y.0, map as_judged done ++ y.1 ∷ [])) next' in
-    let judged : CType → Judged → Walk × JudgedVariable = λ u j. (with_one d.name.name u w, record { type = u; initial = j }) in
-    ap (λ all. passing all next) (one_typed (nat_lt (length w.scope.variables) 4096) (without_stars base d.stars t) (λ u. nat_le (w.taken + block_bytes w.scope u) 32768) span of_type)
-    ∙ in_parts (variable_type w base t span d) of_type next
-    ∙ same_behind (variable_type w base t span d) _ (λ u. passing (judged_initializer at (with_one d.name.name u w).scope d.initializer) (λ j. behind (judged u j)))
-    (λ u. in_parts (initializer at (with_variable d.name.name u w.scope) d.initializer) (begun u) next
-    ∙ judged_next (initializer at (with_variable d.name.name u w.scope) d.initializer) _ (λ j. behind (judged u j))
-    (λ x. variables_judged at (with_one d.name.name u w) base t span ds (done ++ record { type = u; initial = x } ∷ []) next next' same
-    ∙ ap (λ vs. passing (judged_variables at base t span ds (with_one d.name.name u w, vs)) next') (map-append as_judged done (record { type = u; initial = x } ∷ []))))
-    ∙ sym (in_turn (variable_type w base t span d) (λ u. judged_initializer at (with_one d.name.name u w).scope d.initializer) judged behind)
+    let judged : ℕ → CType → Judged → Walk × JudgedVariable = λ taken u j. (with_one d.name.name u taken w, record { type = u; initial = j }) in
+    in_parts room (λ taken. passing starless (of_type taken)) next
+    ∙ same_behind room _ (λ taken. passing starless (λ u. passing (judged_initializer at (inside u) d.initializer) (λ j. behind (judged taken u j))))
+    (λ taken. in_parts starless (of_type taken) next
+    ∙ same_behind starless _ (λ u. passing (judged_initializer at (inside u) d.initializer) (λ j. behind (judged taken u j)))
+    (λ u. in_parts (initializer at (inside u) d.initializer) (begun taken u) next
+    ∙ judged_next (initializer at (inside u) d.initializer) _ (λ j. behind (judged taken u j))
+    (λ x. variables_judged at (with_one d.name.name u taken w) base t span ds (done ++ record { type = u; initial = x } ∷ []) next next' same
+    ∙ ap (λ vs. passing (judged_variables at base t span ds (with_one d.name.name u taken w, vs)) next') (map-append as_judged done (record { type = u; initial = x } ∷ [])))))
+    ∙ sym (same_behind room _ _ (λ taken. in_turn starless (λ u. judged_initializer at (inside u) d.initializer) (judged taken) behind))
+    ∙ sym (in_parts room (λ taken. passing starless (λ u. passing (judged_initializer at (inside u) d.initializer) (λ j. Passes (judged taken u j)))) behind)
     ∙ sym (in_parts (one_variable at w base t span d) (λ y. judged_variables at base t span ds (y.0, map as_judged done ++ y.1 ∷ [])) next')
 
 -- a declaration of variables, by what is judged
-pub global_judged : (at : Places) (w : Walk) (d : i.Global) → global at w d ≡ passing (base_type w.scope d.base) (λ t. passing (judged_variables at d.base t d.span d.declarators (w, [])) (λ x. passing (judged_objects d.span x.1 x.0) (λ v. in_checked_region v.scope d.span v)))
+pub global_judged : (at : Places) (w : Walk) (d : i.Global) → global at w d ≡ passing (room_for_first w d d.declarators) (λ taken. passing (base_type w.scope d.base) (λ t. passing (judged_variables at d.base t d.span d.declarators (w, [])) (λ x. passing (judged_objects d.span x.1 x.0) (λ v. in_checked_region v.scope d.span v))))
 global_judged at w d =
+    same_behind (room_for_first w d d.declarators) _ _ (λ taken.
     same_behind (base_type w.scope d.base) _ _ (λ t. variables_judged at w d.base t d.span d.declarators [] _ (λ x. passing (judged_objects d.span x.1 x.0) (λ v. in_checked_region v.scope d.span v))
-    (λ x. ap (λ objects. passing objects (λ v. in_checked_region v.scope d.span v)) (objects_judged x.0 d.span x.1)))
+    (λ x. ap (λ objects. passing objects (λ v. in_checked_region v.scope d.span v)) (objects_judged x.0 d.span x.1))))
 
 -- what is made of an answer
-made_of_so : {A B C : Type 0} (view : C → A) (next : A → B) (v : Verdict A) (r : Result C Refused) → Answers view v r → answers_so (λ c. next (view c)) (passing v (λ x. Passes (next x))) r
+made_of_so : {A B C : Type 0} (view : C → A) (next : A → B) (v : Verdict A) (r : Result C CheckError) → Answers view v r → answers_so (λ c. next (view c)) (passing v (λ x. Passes (next x))) r
 made_of_so view next v (Ok c) first = rw first.so refl
 made_of_so view next v (Err (Source fault)) first = rw first.so refl
+made_of_so view next v (Err Unnamed) first = rw first.so refl
 made_of_so view next v (Err NoMemory) first = tt
 
--- a variable more, behind its type
-pub one_more_variable : (at : Places) (base : TypeTree) (span : Span) (d : Declarator) (t : CType) (old new : Walk) (r : Result code.Judged Refused) → new ≡ with_one d.name.name t old → variable_type old base t span d ≡ Passes t
+-- stars behind the type of a variable for which there is room
+pub stars_break : (at : Places) (base : TypeTree) (span : Span) (d : Declarator) (t : CType) (taken : ℕ) (old : Walk) (stop : Stop) → room_for old base span d ≡ Passes taken → needs {A = Unit {0}} (d.stars == 0) E15 (type_span base) (Passes tt) ≡ Stops stop → one_variable at old base t span d ≡ Stops stop
+stars_break at base span d t taken old stop room breaks = by (d.stars == 0) refl breaks
+  where
+    by : (b : Bool) → (d.stars == 0) ≡ b → needs {A = Unit {0}} b E15 (type_span base) (Passes tt) ≡ Stops stop → one_variable at old base t span d ≡ Stops stop
+    by true e breaks = absurd (cc)
+    by false e breaks =
+        let there : Stop = Broken (record { code = E15; span = type_span base }) in
+        let same : there ≡ stop = cc in
+        rw (room, e) (ap Stops same)
+
+-- a variable more, behind its room and its type
+pub one_more_variable : (at : Places) (base : TypeTree) (span : Span) (d : Declarator) (t : CType) (taken : ℕ) (old new : Walk) (r : Result code.Judged CheckError) → new ≡ with_one d.name.name t taken old → room_for old base span d ≡ Passes taken → (d.stars == 0) ≡ true
     → Answers judged (judged_initializer at new.scope d.initializer) r → Answers (λ x. (new, judged_variable t x)) (one_variable at old base t span d) r
-one_more_variable at base span d t old new r is first rest =
+one_more_variable at base span d t taken old new r is room starless rest =
     let view : code.Judged → Walk × JudgedVariable = λ x. (new, judged_variable t x) in
     let next : Judged → Walk × JudgedVariable = λ j. (new, record { type = t; initial = j }) in
     let made : Answers view (passing (judged_initializer at new.scope d.initializer) (λ j. Passes (next j))) r = record { so = made_of_so judged next (judged_initializer at new.scope d.initializer) r rest } in
-    rw first (subst (λ (v : Walk). Answers view (passing (judged_initializer at v.scope d.initializer) (λ j. Passes (v, record { type = t; initial = j }))) r) is made)
+    rw (room, starless) (subst (λ (v : Walk). Answers view (passing (judged_initializer at v.scope d.initializer) (λ j. Passes (v, record { type = t; initial = j }))) r) is made)

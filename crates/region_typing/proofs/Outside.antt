@@ -1,5 +1,5 @@
 -- Behind an item no function is walked, where none was before it.
-use Rattle.std.proofs.Common.{◌≡◌, true, not, ◌&&◌, ◌||◌, nat_lt, nat_le, ◌+◌, List, [], ◌∷◌, ◌++◌, length, is_some, Option, Some, None, ap}
+use Rattle.std.proofs.Common.{◌≡◌, ℕ, true, not, ◌&&◌, ◌||◌, nat_lt, List, [], ◌∷◌, ◌++◌, length, is_some, Option, Some, None, ap}
 use Rattle.ckc_text.specs.declared.place.Span.{Span}
 use Rattle.ckc_text.specs.declared.code.Code.TheVariants.{E08, E10, E13, E15, E27}
 use Rattle.ckc_tree.specs.Types.{TypeTree}
@@ -12,9 +12,9 @@ use Rattle.ckc_core.specs.Core as core
 use Rattle.typing_rules.specs.Verdicts.{Verdict, Passes, picked}
 use Rattle.typing_rules.specs.Scopes.{Scope, Signature, Variable, function_named}
 use Rattle.typing_rules.specs.Types.{base_type, without_stars}
-use Rattle.typing_rules.specs.Expressions.{Places}
+use Rattle.typing_rules.specs.Expressions.{Places, is_tainted}
 use Rattle.typing_rules.specs.Statements.{is_unchecked, statements}
-use Rattle.typing_rules.specs.Items.{Walk, WalkedVariable, is_struct, member_types, scalar_members, with_struct, structure, with_variable, block_bytes, initializer, variables, object_cells, with_objects, global, listed, parameter_types, result_type, agrees, all_scalar, scalar_result, with_function, inside, function_body, is_trusted, is_defined, function_rules, signature_of, function, is_off, item}
+use Rattle.typing_rules.specs.Items.{Walk, WalkedVariable, is_struct, member_types, scalar_members, with_struct, structure, with_variable, room_for, room_for_first, initializer, variables, object_cells, with_objects, global, listed, parameter_types, result_type, agrees, all_scalar, scalar_result, with_function, inside, function_body, is_defined, function_rules, signature_of, function, is_off, item}
 use Rattle.typing_rules.proofs.Verdicts.{Promises, passing_promises, needs_promises, anything_promised}
 use Rattle.region_typing.specs.Items.{Outside}
 
@@ -37,11 +37,10 @@ OutsideBoth x = Outside x.0.scope
 variables_outside : (at : Places) (w : Walk) (base : TypeTree) (t : CType) (span : Span) (ds : List Declarator) (done : List WalkedVariable) → Outside w.scope → Promises OutsideBoth (variables at w base t span ds done)
 variables_outside at w base t span [] done o = o
 variables_outside at w base t span (d ∷ ds) done o =
-    needs_promises OutsideBoth (nat_lt (length w.scope.variables) 4096) E08 span _
-    (λ _. passing_promises (λ (u : CType). Unit {0}) OutsideBoth (without_stars base d.stars t) _ (anything_promised (without_stars base d.stars t))
-    (λ u _. needs_promises OutsideBoth (nat_le (w.taken + block_bytes w.scope u) 32768) E08 span _
-    (λ _. passing_promises (λ _. Unit {0}) OutsideBoth (initializer at (with_variable d.name.name u w.scope) d.initializer) _ (anything_promised (initializer at (with_variable d.name.name u w.scope) d.initializer))
-    (λ initial _. variables_outside at (record w { scope = with_variable d.name.name u w.scope; taken = w.taken + block_bytes w.scope u }) base t span ds (done ++ record { type = u; initial = initial } ∷ []) (ap (with_variable d.name.name u) o)))))
+    passing_promises (λ (n : ℕ). Unit {0}) OutsideBoth (room_for w base span d) _ (anything_promised (room_for w base span d))
+    (λ taken _. passing_promises (λ (u : CType). Unit {0}) OutsideBoth (without_stars base d.stars t) _ (anything_promised (without_stars base d.stars t))
+    (λ u _. passing_promises (λ _. Unit {0}) OutsideBoth (initializer at (with_variable d.name.name u w.scope) d.initializer) _ (anything_promised (initializer at (with_variable d.name.name u w.scope) d.initializer))
+    (λ initial _. variables_outside at (record w { scope = with_variable d.name.name u w.scope; taken = taken }) base t span ds (done ++ record { type = u; initial = initial } ∷ []) (ap (with_variable d.name.name u) o))))
 
 objects_outside : (w : Walk) (span : Span) (vs : List WalkedVariable) → Outside w.scope → Promises OutsideBehind (with_objects w span vs)
 objects_outside w span [] o = o
@@ -51,10 +50,11 @@ objects_outside w span (v ∷ vs) o =
 
 global_outside : (at : Places) (w : Walk) (d : i.Global) → Outside w.scope → Promises OutsideBehind (global at w d)
 global_outside at w d o =
-    passing_promises (λ (t : CType). Unit {0}) OutsideBehind (base_type w.scope d.base) _ (anything_promised (base_type w.scope d.base))
+    passing_promises (λ (n : ℕ). Unit {0}) OutsideBehind (room_for_first w d d.declarators) _ (anything_promised (room_for_first w d d.declarators))
+    (λ taken _. passing_promises (λ (t : CType). Unit {0}) OutsideBehind (base_type w.scope d.base) _ (anything_promised (base_type w.scope d.base))
     (λ t _. passing_promises OutsideBoth OutsideBehind (variables at w d.base t d.span d.declarators []) _ (variables_outside at w d.base t d.span d.declarators [] o)
     (λ x h. passing_promises OutsideBehind OutsideBehind (with_objects x.0 d.span x.1) _ (objects_outside x.0 d.span x.1 h)
-    (λ v h'. needs_promises OutsideBehind (not v.scope.is_off) E15 d.span _ (λ _. h'))))
+    (λ v h'. needs_promises OutsideBehind (not v.scope.is_off) E15 d.span _ (λ _. h')))))
 
 known_outside : (known : Option Signature) (f : Signature) (g : Scope) → Outside g → Outside (with_function known f g)
 known_outside None f g o = ap (with_function None f) o
@@ -73,7 +73,7 @@ body_outside at w f ps (Some body) o =
 rules_outside : (all : List Item) (d : i.Function) (f : Signature) (known : Option Signature) (w : Walk) → Outside w.scope → Promises OutsideBehind (function_rules all d f known w)
 rules_outside all d f known w o =
     needs_promises OutsideBehind (agrees known f && (all_scalar f.parameters && scalar_result f.result)) E13 d.span _
-    (λ _. needs_promises OutsideBehind (picked (is_trusted d.kind) (is_defined all d.name.name) true) E10 d.span _
+    (λ _. needs_promises OutsideBehind (picked (is_tainted d.kind) true (is_defined all d.name.name)) E10 d.span _
     (λ _. needs_promises OutsideBehind (not (is_unchecked d.mark)) E15 d.span _ (λ _. needs_promises OutsideBehind (not w.scope.is_off) E15 d.span _ (λ _. o))))
 
 function_outside : (at : Places) (all : List Item) (w : Walk) (d : i.Function) → Outside w.scope → Promises OutsideBehind (function at all w d)

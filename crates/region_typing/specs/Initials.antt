@@ -12,7 +12,7 @@ use Rattle.ckc_core.specs.Core as core
 use Rattle.ckc_core.specs.Meaning.{low_byte}
 use Rattle.typing_rules.specs.Verdicts.{Verdict, Passes, breaks, picked}
 use Rattle.typing_rules.specs.Items as rules
-use Rattle.typing_rules.specs.Items.{cells_with, is_zero, unsigned_constant, initial_number, number_or_break}
+use Rattle.typing_rules.specs.Items.{cells_with, is_zero, unsigned_constant, signed_constant, number_or_break}
 use Rattle.region_typing.specs.declared.initials.Judged as code
 use Rattle.region_typing.specs.declared.initials.Judged.TheVariants as forms
 
@@ -30,7 +30,7 @@ judged forms.List = Constants
 -- what is judged of an initialiser whose children were walked
 abbrev pub judged_as : rules.Walked → Judged
 judged_as rules.Missing = Missing
-judged_as (rules.Written value t) = Constant (is_zero t) (initial_number value t)
+judged_as (rules.Written value t) = Constant (is_zero t) (signed_constant value)
 judged_as rules.Constants = Constants
 
 -- the number modulo 256

@@ -1,5 +1,5 @@
 -- Inside: what is known behind an item, as the code holds it, and steps of the walks over items.
-use Rattle.std.specs.Prelude.{◌≡◌, ℕ, ◌+◌, Bool, true, false, not, ◌&&◌, List, [], ◌∷◌, ◌++◌, length, map, nat_lt, nat_le, Option, None}
+use Rattle.std.specs.Prelude.{◌≡◌, ℕ, Bool, true, false, not, ◌&&◌, List, [], ◌∷◌, ◌++◌, length, map, nat_lt, Option, None}
 use Rattle.ckc_text.specs.declared.place.Span.{Span}
 use Rattle.ckc_text.specs.declared.code.Code.TheVariants.{E08, E10, E13, E15}
 use Rattle.ckc_tree.specs.Types.{TypeTree, type_span}
@@ -12,9 +12,9 @@ use Rattle.ckc_core.specs.Core.{object, function}
 use Rattle.typing_rules.specs.Verdicts.{Verdict, Passes, passing, needs, picked}
 use Rattle.typing_rules.specs.Scopes.{Scope, Signature, Variable, function_named}
 use Rattle.typing_rules.specs.Types.{type_named, without_stars}
-use Rattle.typing_rules.specs.Expressions.{Places}
+use Rattle.typing_rules.specs.Expressions.{Places, is_tainted}
 use Rattle.typing_rules.specs.Statements.{statements, is_unchecked}
-use Rattle.typing_rules.specs.Items.{Walk, with_variable, block_bytes, initializer, inside, core_function, function_body, with_function, agrees, all_scalar, scalar_result, is_trusted, is_defined, in_checked_region}
+use Rattle.typing_rules.specs.Items.{Walk, with_variable, room_for, initializer, inside, core_function, function_body, with_function, agrees, all_scalar, scalar_result, is_defined, in_checked_region}
 use Rattle.checker_scope.specs.Views.{scope}
 use Rattle.region_typing.specs.declared.walk as code
 use Rattle.region_typing.specs.declared.initials.Judged as code_judged
@@ -47,15 +47,9 @@ pub record JudgedVariable : Type 0 where
 abbrev pub judged_variable : CType → code_judged.Judged → JudgedVariable
 judged_variable t v = record { type = t; initial = judged v }
 
--- the type of a variable that there is room for (E08)
-abbrev pub variable_type : Walk → TypeTree → CType → Span → Declarator → Verdict CType
-variable_type w base type span d =
-    needs (nat_lt (length w.scope.variables) 4096) E08 span
-    (passing (without_stars base d.stars type) (λ t. needs (nat_le (w.taken + block_bytes w.scope t) 32768) E08 span (Passes t)))
-
--- a variable more
-abbrev pub with_one : List ℕ → CType → Walk → Walk
-with_one name t w = record w { scope = with_variable name t w.scope; taken = w.taken + block_bytes w.scope t }
+-- a variable more, with the bytes that are taken then
+abbrev pub with_one : List ℕ → CType → ℕ → Walk → Walk
+with_one name t taken w = record w { scope = with_variable name t w.scope; taken = taken }
 
 -- what a variable is initialised with, where it is known
 abbrev pub judged_initializer : Places → Scope → Option Initializer → Verdict Judged
@@ -64,8 +58,8 @@ judged_initializer at g written = passing (initializer at g written) (λ x. Pass
 -- one variable of a declaration
 abbrev pub one_variable : Places → Walk → TypeTree → CType → Span → Declarator → Verdict (Walk × JudgedVariable)
 one_variable at w base type span d =
-    passing (variable_type w base type span d) (λ t. passing (judged_initializer at (with_one d.name.name t w).scope d.initializer) (λ initial.
-    Passes (with_one d.name.name t w, record { type = t; initial = initial })))
+    passing (room_for w base span d) (λ taken. passing (without_stars base d.stars type) (λ t.
+    passing (judged_initializer at (with_variable d.name.name t w.scope) d.initializer) (λ initial. Passes (with_one d.name.name t taken w, record { type = t; initial = initial }))))
 
 -- the variables of a declaration
 abbrev pub judged_variables : Places → TypeTree → CType → Span → List Declarator → Walk × List JudgedVariable → Verdict (Walk × List JudgedVariable)
@@ -88,7 +82,7 @@ body_core at g f parameters body = passing (statements at (inside f parameters g
 abbrev pub kept_rules : List i.Item → i.Function → Bool → Scope → Verdict (Unit {0})
 kept_rules all d fits g =
     needs fits E13 d.span
-    (needs (picked (is_trusted d.kind) (is_defined all d.name.name) true) E10 d.span
+    (needs (picked (is_tainted d.kind) true (is_defined all d.name.name)) E10 d.span
     (needs (not (is_unchecked d.mark)) E15 d.span (in_checked_region g d.span tt)))
 
 -- what is asked of a function behind its declaration

@@ -1,8 +1,9 @@
 // Whether a program keeps the rules, and what it becomes.
 
-ghost use Rattle.std.specs.Prelude.{◌≤◌, length, map};
+ghost use Rattle.std.specs.Prelude.{◌≡◌, ◌≤◌, true, length, map};
 ghost use Rattle.ckc_text.specs.Places.{place_at};
 ghost use Rattle.ckc_tree.specs.Items.{item as item_tree, tree};
+ghost use Rattle.built_forms.specs.Built.{is_built};
 ghost use Rattle.ckc_core.specs.Core.{core as core_view};
 ghost use Rattle.typing_rules.specs.Verdicts.{Passes, passing};
 ghost use Rattle.typing_rules.specs.Items.{items as items_of};
@@ -14,6 +15,7 @@ ghost use Rattle.region_typing.specs.Items.{walk as walk_of, Outside};
 use crate::cores::core_of;
 use crate::items::items;
 use crate::walk::Walk;
+use checker_scope::refusals::CheckError;
 use checker_scope::sites::Sites;
 use ckc_core::program::Core;
 use ckc_text::fault::Refused;
@@ -27,7 +29,7 @@ fn core_of_items(
     sites: &Sites,
     walk: &mut Walk,
     written: &[Item],
-) -> Result<Core, Refused>
+) -> Result<Core, CheckError>
     requires { Outside (scope_of walk.old.scope) }
     ensures { Answers core_view (passing (items_of (place_at sites.now) (map item_tree written.now) (walk_of walk.old) (map item_tree written.now)) (λ w. Passes (core_of_walk w))) result }
 {
@@ -35,16 +37,23 @@ fn core_of_items(
     core_of(alloc, walk)
 }
 
-/// The core of a program whose names are visible where they stand.
+/// The core of a program that has only forms that are built.
 ///
 /// # Errors
 ///
 /// The first rule that is broken, in the order of the walk over the program.
 pub fn check(alloc: Global, src: &[u8], source: &Named) -> Result<Core, Refused>
-    requires { length src.now ≤ 1048576 }
+    requires short { length src.now ≤ 1048576 }
+    requires forms { is_built (tree source.now.program) ≡ true }
     ensures { CheckAnswers core_view (place_at src.now) (tree source.now.program) result }
 {
     let sites = Sites::new(alloc, src)?;
     let mut walk = Walk::new(alloc)?;
-    core_of_items(alloc, &sites, &mut walk, source.program().items.as_slice())
+    let program = source.program();
+    match core_of_items(alloc, &sites, &mut walk, program.items.as_slice()) {
+        Ok(core) => Ok(core),
+        Err(CheckError::Source(fault)) => Err(Refused::Source(fault)),
+        Err(CheckError::NoMemory) => Err(Refused::NoMemory),
+        Err(CheckError::Unnamed) => unreachable!(),
+    }
 }

@@ -12,11 +12,12 @@ ghost use Rattle.region_typing.specs.CoreParts.{import_as, trusted_place as trus
 use crate::functions::copied_result;
 use crate::signatures::copied_signature;
 use crate::walk::Walk;
+use checker_scope::refusals::CheckError;
 use checker_scope::scope::Scope;
 use checker_scope::sides::is_import;
 use checker_scope::signature::Signature;
 use ckc_core::program::{Core, Function, Import};
-use ckc_text::fault::{NoMemory, Refused};
+use ckc_text::fault::NoMemory;
 use ckc_text::name::Name;
 use std::alloc::Global;
 use std::mem;
@@ -139,7 +140,7 @@ fn functions(
 }
 
 /// The core of what was walked. The cells and the bodies are moved into it.
-pub fn core_of(alloc: Global, walk: &mut Walk) -> Result<Core, Refused>
+pub fn core_of(alloc: Global, walk: &mut Walk) -> Result<Core, CheckError>
     ensures { Answers core_view (Passes (core_of_walk (walk_of walk.old))) result }
 {
     let functions = functions(alloc, &walk.scope, &mut walk.bodies)?;

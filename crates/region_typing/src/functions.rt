@@ -13,14 +13,14 @@ ghost use Rattle.region_typing.specs.Items.{walk as walk_of, Outside, one_parame
 
 use crate::signatures::copied_signature;
 use crate::walk::Walk;
-use checker_scope::refusals::needs;
+use checker_scope::refusals::{CheckError, needs};
 use checker_scope::scope::{Scope, Variable};
 use checker_scope::signature::Signature;
 use checker_scope::sites::Sites;
 use checker_scope::types::{base_type, copied, type_named, without_stars};
 use ckc_core::program::{Function, Stmt};
 use ckc_text::code::Code;
-use ckc_text::fault::{NoMemory, Refused};
+use ckc_text::fault::NoMemory;
 use ckc_text::name::Name;
 use ckc_tree::item::{Block, Parameter, Parameters, ResultForm};
 use ckc_tree::stmt;
@@ -48,7 +48,7 @@ fn push_parameter(
     scope: &Scope,
     written: &Parameter,
     parameters: &mut Vec<Variable>,
-) -> Result<(), Refused>
+) -> Result<(), CheckError>
     ensures types { Answers (λ _. map variable_of parameters.new.items) (one_parameter (scope_of scope.now) (parameter_tree written.now) (map variable_of parameters.old.items)) result }
     ensures few { IfOk result (λ _. length parameters.new.items ≤ 16) }
 {
@@ -69,7 +69,7 @@ pub fn parameter_types(
     alloc: Global,
     scope: &Scope,
     written: &Parameters,
-) -> Result<Vec<Variable>, Refused>
+) -> Result<Vec<Variable>, CheckError>
     ensures types { Answers (λ v. map variable_of v.items) (parameter_types_of (scope_of scope.now) (listed_of (parameters_tree written.now)) []) result }
     ensures few { IfOk result (λ v. length v.items ≤ 16) }
 {
@@ -86,7 +86,7 @@ pub fn result_type(
     scope: &Scope,
     written: &ResultForm,
     stars: usize,
-) -> Result<Option<CType>, Refused>
+) -> Result<Option<CType>, CheckError>
     ensures { Answers (λ t. option_map ctype_of t) (result_type_of (scope_of scope.now) (result_tree written.now) stars) result }
 {
     match written {
@@ -161,7 +161,7 @@ fn body_of(
     f: &Signature,
     parameters: &[Variable],
     body: &[stmt::Stmt],
-) -> Result<Function, Refused>
+) -> Result<Function, CheckError>
     requires few { length parameters.now ≤ 16 }
     requires outside { Outside (scope_of scope.old) }
     ensures { Answers (λ c. (function_of c, scope_of scope.new)) (body_core (place_at sites.now) (scope_of scope.old) (signature f.now) (map variable_of parameters.now) (statement_list body.now)) result }
@@ -181,7 +181,7 @@ fn with_body(
     f: &Signature,
     parameters: &[Variable],
     body: &Block,
-) -> Result<(), Refused>
+) -> Result<(), CheckError>
     requires few { length parameters.now ≤ 16 }
     requires outside { Outside (scope_of walk.old.scope) }
     ensures { Answers (λ _. walk_of walk.new) (function_body_of (place_at sites.now) (walk_of walk.old) (signature f.now) (map variable_of parameters.now) (Some (body_tree body.now))) result }
@@ -201,7 +201,7 @@ pub fn function_body(
     f: &Signature,
     parameters: &[Variable],
     body: &Option<Block>,
-) -> Result<(), Refused>
+) -> Result<(), CheckError>
     requires few { length parameters.now ≤ 16 }
     requires outside { Outside (scope_of walk.old.scope) }
     ensures { Answers (λ _. walk_of walk.new) (function_body_of (place_at sites.now) (walk_of walk.old) (signature f.now) (map variable_of parameters.now) (option_map body_tree body.now)) result }

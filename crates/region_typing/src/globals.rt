@@ -7,21 +7,22 @@ ghost use Rattle.ckc_tree.specs.Types.{type_tree};
 ghost use Rattle.ckc_tree.specs.Statements.{initializer as initializer_tree, declarator as declarator_tree};
 ghost use Rattle.ckc_tree.specs.Items.{global as global_tree};
 ghost use Rattle.pointer_modes.specs.Types.{ctype as ctype_of};
-ghost use Rattle.typing_rules.specs.Items.{block_bytes as bytes_of_block, global as global_of};
+ghost use Rattle.flat_bytes.specs.Blocks.{rounded_up};
+ghost use Rattle.typing_rules.specs.Items.{written_size as written_size_of, room_for as room_in, room_for_first as first_room_in, global as global_of};
 ghost use Rattle.checker_scope.specs.Answering.{Answers};
 ghost use Rattle.checker_scope.specs.Views.{scope as scope_of};
 ghost use Rattle.region_typing.specs.Initials.{judged as judged_view};
-ghost use Rattle.region_typing.specs.Items.{walk as walk_of, variable_type as type_of_variable, with_one, judged_initializer, judged_variable, one_variable, judged_variables, one_object, judged_objects};
+ghost use Rattle.region_typing.specs.Items.{walk as walk_of, with_one, judged_initializer, judged_variable, one_variable, judged_variables, one_object, judged_objects};
 
 use crate::initials::{Judged, cells_of, judged_value};
 use crate::walk::Walk;
-use checker_scope::refusals::needs;
+use checker_scope::refusals::{CheckError, meant, needs};
 use checker_scope::scope::Scope;
 use checker_scope::sites::Sites;
 use checker_scope::types::{base_type, copied};
 use ckc_core::program::Object;
 use ckc_text::code::Code;
-use ckc_text::fault::{NoMemory, Refused};
+use ckc_text::fault::NoMemory;
 use ckc_text::place::Span;
 use ckc_tree::item::Global as Declaration;
 use ckc_tree::stmt::{Declarator, Initializer};
@@ -36,31 +37,58 @@ const MOST_VARIABLES: usize = 4096;
 /// How many bytes they may take, with the gaps between them.
 const MOST_BYTES: u32 = 32768;
 
-// What the block of a variable takes with its gap.
-fn block_bytes(scope: &Scope, t: &CType) -> u32
-    ensures bytes { result ≡ bytes_of_block (scope_of scope.now) (ctype_of t.now) }
-    ensures few { result ≤ 272 }
+/// The bytes of a pointer.
+const POINTER_BYTES: u32 = 4;
+
+// The bytes of a variable of a type as it is written.
+fn written_size(scope: &Scope, base: &TypeForm, stars: u32) -> Result<u32, CheckError>
+    ensures bytes { Answers (λ n. n) (written_size_of (scope_of scope.now) (type_tree base.now) stars) result }
+    ensures few { IfOk result (λ bytes. bytes ≤ 256) }
 {
-    (scope.structs.size_of(t) + 15) / 16 * 16 + 16
+    if stars > 0 {
+        return Ok(POINTER_BYTES);
+    }
+    match base {
+        TypeForm::Int { .. } => Ok(scope.structs.size_of(&CType::Int)),
+        TypeForm::Char { .. } => Ok(scope.structs.size_of(&CType::Char)),
+        TypeForm::Struct { tag, .. } => {
+            let number = meant(scope.struct_number(tag.name.as_bytes()))?;
+            Ok(scope.structs.size_of(&CType::Struct(number)))
+        }
+        TypeForm::Pointer { .. } => Ok(POINTER_BYTES),
+    }
 }
 
-// Accepts the type of a variable: no stars stand behind it, and there is room for the variable.
-fn accept_type(
-    walk: &Walk,
-    base: &TypeForm,
-    t: &CType,
-    span: Span,
-    d: &Declarator,
-) -> Result<(), Refused>
-    ensures known { Answers (λ _. ctype_of t.now) (type_of_variable (walk_of walk.now) (type_tree base.now) (ctype_of t.now) span (declarator_tree d.now)) result }
-    ensures room { IfOk result (λ _. walk.now.taken + bytes_of_block (scope_of walk.now.scope) (ctype_of t.now) ≤ 32768) }
+// What a block takes with its gap.
+fn block_bytes(size: u32) -> u32
+    requires { size ≤ 256 }
+    ensures bytes { result ≡ rounded_up size + 16 }
+    ensures few { result ≤ 272 }
+{
+    (size + 15) / 16 * 16 + 16
+}
+
+// The bytes that are taken with a variable more, where there is room for it.
+fn room_for(walk: &Walk, base: &TypeForm, span: Span, d: &Declarator) -> Result<u32, CheckError>
+    ensures room { Answers (λ n. n) (room_in (walk_of walk.now) (type_tree base.now) span (declarator_tree d.now)) result }
+    ensures few_bytes { IfOk result (λ taken. taken ≤ 32768) }
     ensures few { IfOk result (λ _. length walk.now.scope.variables.items < 4096) }
 {
     needs(walk.scope.variables.len() < MOST_VARIABLES, Code::E08, span)?;
-    needs(d.stars == 0, Code::E15, base.span())?;
-    let fits = walk.taken + block_bytes(&walk.scope, t) <= MOST_BYTES;
-    needs(fits, Code::E08, span)?;
-    Ok(())
+    let size = written_size(&walk.scope, base, d.stars)?;
+    let taken = walk.taken + block_bytes(size);
+    needs(taken <= MOST_BYTES, Code::E08, span)?;
+    Ok(taken)
+}
+
+// The same for the first variable of a declaration.
+fn room_for_first(walk: &Walk, d: &Declaration) -> Result<u32, CheckError>
+    ensures { Answers (λ n. n) (first_room_in (walk_of walk.now) (global_tree d.now) (global_tree d.now).declarators) result }
+{
+    match d.declarators.as_slice() {
+        [] => Ok(walk.taken),
+        [first, ..] => room_for(walk, &d.base, d.span, first),
+    }
 }
 
 // What a variable is initialised with.
@@ -69,7 +97,7 @@ fn initializer(
     sites: &Sites,
     scope: &Scope,
     written: &Option<Initializer>,
-) -> Result<Judged, Refused>
+) -> Result<Judged, CheckError>
     ensures { Answers judged_view (judged_initializer (place_at sites.now) (scope_of scope.now) (option_map initializer_tree written.now)) result }
 {
     match written {
@@ -83,14 +111,19 @@ fn initializer(
 }
 
 // A variable more.
-fn add_variable(alloc: Global, walk: &mut Walk, name: &[u8], t: &CType) -> Result<(), NoMemory>
+fn add_variable(
+    alloc: Global,
+    walk: &mut Walk,
+    name: &[u8],
+    t: &CType,
+    taken: u32,
+) -> Result<(), NoMemory>
     requires few { length walk.old.scope.variables.items < 4096 }
-    requires room { walk.old.taken + bytes_of_block (scope_of walk.old.scope) (ctype_of t.now) ≤ 32768 }
-    ensures { OnOk result (walk_of walk.new ≡ with_one name.now (ctype_of t.now) (walk_of walk.old)) }
+    requires room { taken ≤ 32768 }
+    ensures { OnOk result (walk_of walk.new ≡ with_one name.now (ctype_of t.now) taken (walk_of walk.old)) }
 {
-    let bytes = block_bytes(&walk.scope, t);
     walk.scope.add_variable(alloc, name, copied(alloc, t)?)?;
-    walk.taken += bytes;
+    walk.taken = taken;
     Ok(())
 }
 
@@ -103,11 +136,12 @@ fn variable(
     t: &CType,
     span: Span,
     d: &Declarator,
-) -> Result<Judged, Refused>
+) -> Result<Judged, CheckError>
     ensures { Answers (λ v. (walk_of walk.new, judged_variable (ctype_of t.now) v)) (one_variable (place_at sites.now) (walk_of walk.old) (type_tree base.now) (ctype_of t.now) span (declarator_tree d.now)) result }
 {
-    accept_type(walk, base, t, span, d)?;
-    add_variable(alloc, walk, d.name.name.as_bytes(), t)?;
+    let taken = room_for(walk, base, span, d)?;
+    needs(d.stars == 0, Code::E15, base.span())?;
+    add_variable(alloc, walk, d.name.name.as_bytes(), t, taken)?;
     initializer(alloc, sites, &walk.scope, &d.initializer)
 }
 
@@ -120,7 +154,7 @@ fn variables(
     t: &CType,
     span: Span,
     ds: &[Declarator],
-) -> Result<Vec<Judged>, Refused>
+) -> Result<Vec<Judged>, CheckError>
     ensures { Answers (λ v. (walk_of walk.new, map (judged_variable (ctype_of t.now)) v.items)) (judged_variables (place_at sites.now) (type_tree base.now) (ctype_of t.now) span (map declarator_tree ds.now) (walk_of walk.old, [])) result }
 {
     let mut walked = Vec::new(alloc);
@@ -132,7 +166,13 @@ fn variables(
 }
 
 // The cells of a variable.
-fn object(alloc: Global, walk: &mut Walk, span: Span, t: &CType, v: &Judged) -> Result<(), Refused>
+fn object(
+    alloc: Global,
+    walk: &mut Walk,
+    span: Span,
+    t: &CType,
+    v: &Judged,
+) -> Result<(), CheckError>
     ensures { Answers (λ _. walk_of walk.new) (one_object span (judged_variable (ctype_of t.now) v.now) (walk_of walk.old)) result }
 {
     let cells = cells_of(alloc, &walk.scope.structs, t, *v, span)?;
@@ -148,7 +188,7 @@ fn objects(
     span: Span,
     t: &CType,
     vs: &[Judged],
-) -> Result<(), Refused>
+) -> Result<(), CheckError>
     ensures { Answers (λ _. walk_of walk.new) (judged_objects span (map (judged_variable (ctype_of t.now)) vs.now) (walk_of walk.old)) result }
 {
     for v in vs {
@@ -158,9 +198,15 @@ fn objects(
 }
 
 /// A declaration of file-level variables.
-pub fn global(alloc: Global, sites: &Sites, walk: &mut Walk, d: &Declaration) -> Result<(), Refused>
+pub fn global(
+    alloc: Global,
+    sites: &Sites,
+    walk: &mut Walk,
+    d: &Declaration,
+) -> Result<(), CheckError>
     ensures { Answers (λ _. walk_of walk.new) (global_of (place_at sites.now) (walk_of walk.old) (global_tree d.now)) result }
 {
+    room_for_first(walk, d)?;
     let t = base_type(alloc, &walk.scope, &d.base)?;
     let vs = variables(
         alloc,

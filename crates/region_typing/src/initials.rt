@@ -1,22 +1,23 @@
 // The cells of file-level variables before the run.
 
-ghost use Rattle.std.specs.Prelude.{◌≡◌, ◌<◌, ◌≤◌, true, pos, length, map, IfOk};
+ghost use Rattle.std.specs.Prelude.{◌≡◌, ◌<◌, ◌≤◌, true, pos, bytes_eq, length, map, IfOk, IfSome};
+ghost use Rattle.ckc_names.specs.Scopes.{null};
 ghost use Rattle.ckc_tree.specs.Expressions.{expression as expression_tree};
 ghost use Rattle.pointer_modes.specs.Types.{ctype as ctype_of, member as member_of};
 ghost use Rattle.pointer_modes.specs.Layout.{cells_of as cells_in};
 ghost use Rattle.ckc_core.specs.Core.{initial as initial_of};
 ghost use Rattle.ckc_core.specs.Meaning.{low_byte as low_byte_of};
 ghost use Rattle.typing_rules.specs.Types.{is_scalar};
-ghost use Rattle.typing_rules.specs.Items.{Written, negative as negative_of, unsigned_constant as unsigned_of, signed_constant as signed_of, cells_with as cells_as};
+ghost use Rattle.typing_rules.specs.Items.{Written, negative as negative_of, null_number as null_number_of, unsigned_constant as unsigned_of, signed_constant as signed_of, cells_with as cells_as};
 ghost use Rattle.checker_scope.specs.Answering.{Answers};
 ghost use Rattle.value_typing.specs.Typed.{typed as typed_view};
 ghost use Rattle.region_typing.specs.Initials.{IsSmall, IsStructOf, judged_as, judged_cells, cell_number as cell_number_as, constant_cells as constant_cells_as, judged as judged_of, stride_at};
 
-use checker_scope::refusals::refusal;
+use checker_scope::refusals::{CheckError, refusal};
 use checker_scope::types::copied;
 use ckc_core::program::Initial;
 use ckc_text::code::Code;
-use ckc_text::fault::{NoMemory, Refused};
+use ckc_text::fault::NoMemory;
 use ckc_text::place::Span;
 use ckc_tree::expr::{Expr, UnaryOperator};
 use pointer_modes::ctype::{CType, Member};
@@ -40,8 +41,23 @@ fn unsigned_constant(e: &Expr) -> Option<u32>
     match e {
         Expr::Number { value, .. } => Some(*value),
         Expr::Character { value, .. } => Some(u32::from(*value)),
+        Expr::Name { name } => null_number(name.name.as_bytes()),
         _ => None,
     }
+}
+
+fn is_null(name: &[u8]) -> bool
+    ensures { result ≡ bytes_eq name.now null }
+{
+    name == b"NULL".as_slice()
+}
+
+// The number that `NULL` is.
+fn null_number(name: &[u8]) -> Option<u32>
+    ensures number { result ≡ null_number_of (bytes_eq name.now null) }
+    ensures zero { IfSome result (λ n. n ≡ 0) }
+{
+    if is_null(name) { Some(0) } else { None }
 }
 
 // A number below 2^31.
@@ -68,6 +84,7 @@ fn signed_constant(e: &Expr) -> Option<i32>
     match e {
         Expr::Number { value, .. } => Some(positive(*value)),
         Expr::Character { value, .. } => Some(positive(u32::from(*value))),
+        Expr::Name { name } => Some(positive(null_number(name.name.as_bytes())?)),
         Expr::Unary {
             operator: UnaryOperator::Negate,
             operand,
@@ -82,9 +99,10 @@ pub fn judged_value(e: &Expr, t: &Typed) -> Judged
     requires { IsSmall (expression_tree e.now) }
     ensures { judged_of result ≡ judged_as (Written (expression_tree e.now) (typed_view t.now)) }
 {
-    let zero = is_zero(t);
-    let number = if zero { Some(0) } else { signed_constant(e) };
-    Judged::Constant { zero, number }
+    Judged::Constant {
+        zero: is_zero(t),
+        number: signed_constant(e),
+    }
 }
 
 // The bytes from a cell of a type to the next one, or to the end.
@@ -184,7 +202,7 @@ fn constant_cells(
     zero: bool,
     number: Option<i32>,
     span: Span,
-) -> Result<Vec<Initial>, Refused>
+) -> Result<Vec<Initial>, CheckError>
     ensures { Answers (λ v. map initial_of v.items) (constant_cells_as structs.now (ctype_of t.now) zero number span) result }
 {
     match cell_number(t, zero, number) {
@@ -200,7 +218,7 @@ pub fn cells_of(
     t: &CType,
     initial: Judged,
     span: Span,
-) -> Result<Vec<Initial>, Refused>
+) -> Result<Vec<Initial>, CheckError>
     ensures { Answers (λ v. map initial_of v.items) (judged_cells structs.now (ctype_of t.now) (judged_of initial) span) result }
 {
     match initial {

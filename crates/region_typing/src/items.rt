@@ -4,8 +4,9 @@ ghost use Rattle.std.specs.Prelude.{◌≡◌, ◌<◌, ◌&&◌, ◌||◌, nat_
 ghost use Rattle.ckc_text.specs.Places.{place_at};
 ghost use Rattle.ckc_tree.specs.Items.{function as function_tree, item as item_tree};
 ghost use Rattle.typing_rules.specs.Verdicts.{picked};
+ghost use Rattle.typing_rules.specs.Expressions.{is_tainted as tainted_kind};
 ghost use Rattle.typing_rules.specs.Scopes.{function_named};
-ghost use Rattle.typing_rules.specs.Items.{is_trusted as trusted_kind, is_defined as defined_in, is_off as is_off_of, agrees as agrees_of, all_scalar, scalar_result, function as function_of, item as item_of, items as items_of};
+ghost use Rattle.typing_rules.specs.Items.{is_defined as defined_in, is_off as is_off_of, agrees as agrees_of, all_scalar, scalar_result, function as function_of, item as item_of, items as items_of};
 ghost use Rattle.checker_scope.specs.Answering.{Answers};
 ghost use Rattle.checker_scope.specs.Views.{scope as scope_of, signature};
 ghost use Rattle.region_typing.specs.Items.{walk as walk_of, Outside, kept_rules, behind_declaration};
@@ -18,12 +19,11 @@ use crate::prototype::Prototype;
 use crate::signatures::{agrees, declare, declared, is_scalar_signature};
 use crate::structures::structure;
 use crate::walk::Walk;
-use checker_scope::refusals::needs;
+use checker_scope::refusals::{CheckError, needs};
 use checker_scope::scope::Scope;
 use checker_scope::signature::Signature;
 use checker_scope::sites::Sites;
 use ckc_text::code::Code;
-use ckc_text::fault::Refused;
 use ckc_tree::item::{Function, FunctionKind, Item, Region};
 use function_rules::keep_function_rules;
 use statement_typing::marks::is_checked;
@@ -32,23 +32,15 @@ use std::alloc::Global;
 /// How many functions a program may declare.
 const MOST_FUNCTIONS: usize = 4096;
 
-fn is_trusted(kind: FunctionKind) -> bool
-    ensures { result ≡ trusted_kind kind }
-{
-    match kind {
-        FunctionKind::Trusted => true,
-        FunctionKind::Tainted | FunctionKind::Callback => false,
-    }
-}
-
 // Whether a function has a body where it needs one.
 fn has_body(listing: &Listing, d: &Function) -> bool
-    ensures { result ≡ picked (trusted_kind d.now.kind) (defined_in (map item_tree listing.now.items.now) d.now.name.name) true }
+    ensures { result ≡ picked (tainted_kind d.now.kind) true (defined_in (map item_tree listing.now.items.now) d.now.name.name) }
 {
-    if is_trusted(d.kind) {
-        listing.is_defined(d.name.name.as_bytes())
-    } else {
-        true
+    match d.kind {
+        FunctionKind::Tainted => true,
+        FunctionKind::Trusted | FunctionKind::Callback => {
+            listing.is_defined(d.name.name.as_bytes())
+        }
     }
 }
 
@@ -60,7 +52,7 @@ fn fits(scope: &Scope, f: &Signature) -> bool
 }
 
 // The rules of a function whose body was walked.
-fn keep_rules(listing: &Listing, scope: &Scope, d: &Function, fits: bool) -> Result<(), Refused>
+fn keep_rules(listing: &Listing, scope: &Scope, d: &Function, fits: bool) -> Result<(), CheckError>
     ensures { Answers (λ x. x) (kept_rules (map item_tree listing.now.items.now) (function_tree d.now) fits (scope_of scope.now)) result }
 {
     let has_body = has_body(listing, d);
@@ -83,7 +75,7 @@ fn with_prototype(
     walk: &mut Walk,
     known: &Prototype,
     d: &Function,
-) -> Result<(), Refused>
+) -> Result<(), CheckError>
     requires outside { Outside (scope_of walk.old.scope) }
     requires room { function_named (scope_of walk.old.scope).functions known.now.signature.name ≡ None → length walk.old.scope.functions.items < 4096 }
     ensures { Answers (λ _. walk_of walk.new) (behind_declaration (place_at sites.now) (map item_tree listing.now.items.now) (walk_of walk.old) (function_tree d.now) (declared_view known.now)) result }
@@ -102,7 +94,7 @@ fn function(
     listing: &Listing,
     walk: &mut Walk,
     d: &Function,
-) -> Result<(), Refused>
+) -> Result<(), CheckError>
     requires { Outside (scope_of walk.old.scope) }
     ensures { Answers (λ _. walk_of walk.new) (function_of (place_at sites.now) (map item_tree listing.now.items.now) (walk_of walk.old) (function_tree d.now)) result }
 {
@@ -131,7 +123,7 @@ fn item(
     listing: &Listing,
     walk: &mut Walk,
     written: &Item,
-) -> Result<(), Refused>
+) -> Result<(), CheckError>
     requires { Outside (scope_of walk.old.scope) }
     ensures { Answers (λ _. walk_of walk.new) (item_of (place_at sites.now) (map item_tree listing.now.items.now) (walk_of walk.old) (item_tree written.now)) result }
 {
@@ -152,7 +144,7 @@ fn each_item(
     sites: &Sites,
     listing: &Listing,
     walk: &mut Walk,
-) -> Result<(), Refused>
+) -> Result<(), CheckError>
     requires { Outside (scope_of walk.old.scope) }
     ensures { Answers (λ _. walk_of walk.new) (items_of (place_at sites.now) (map item_tree listing.now.items.now) (walk_of walk.old) (map item_tree listing.now.items.now)) result }
 {
@@ -164,7 +156,12 @@ fn each_item(
 }
 
 /// The items of a source, in their order.
-pub fn items(alloc: Global, sites: &Sites, walk: &mut Walk, written: &[Item]) -> Result<(), Refused>
+pub fn items(
+    alloc: Global,
+    sites: &Sites,
+    walk: &mut Walk,
+    written: &[Item],
+) -> Result<(), CheckError>
     requires { Outside (scope_of walk.old.scope) }
     ensures { Answers (λ _. walk_of walk.new) (items_of (place_at sites.now) (map item_tree written.now) (walk_of walk.old) (map item_tree written.now)) result }
 {

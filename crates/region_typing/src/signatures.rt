@@ -12,10 +12,11 @@ ghost use Rattle.region_typing.specs.Signatures.{declared as declared_view, decl
 
 use crate::functions::{copied_result, parameter_types, result_type};
 use crate::prototype::Prototype;
+use checker_scope::refusals::CheckError;
 use checker_scope::scope::{Scope, Variable};
 use checker_scope::signature::Signature;
 use checker_scope::types::{copied, is_scalar, same_type};
-use ckc_text::fault::{NoMemory, Refused};
+use ckc_text::fault::NoMemory;
 use ckc_text::name::Name;
 use ckc_tree::item::{Function, FunctionKind};
 use pointer_modes::ctype::CType;
@@ -118,7 +119,7 @@ fn types_of(alloc: Global, parameters: &[Variable]) -> Result<Vec<CType>, NoMemo
 }
 
 /// A declaration of a function.
-pub fn declared(alloc: Global, scope: &Scope, d: &Function) -> Result<Prototype, Refused>
+pub fn declared(alloc: Global, scope: &Scope, d: &Function) -> Result<Prototype, CheckError>
     ensures { Answers declared_view (declared_function (scope_of scope.now) (function_tree d.now)) result }
 {
     let result = result_type(alloc, scope, &d.result, d.stars)?;

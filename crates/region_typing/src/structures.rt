@@ -10,11 +10,10 @@ ghost use Rattle.checker_scope.specs.Views.{scope as scope_of};
 ghost use Rattle.region_typing.specs.Items.{walk as walk_of, one_member};
 
 use crate::walk::Walk;
-use checker_scope::refusals::needs;
+use checker_scope::refusals::{CheckError, needs};
 use checker_scope::scope::Scope;
 use checker_scope::types::type_named;
 use ckc_text::code::Code;
-use ckc_text::fault::Refused;
 use ckc_text::name::Name;
 use ckc_tree::item;
 use ckc_tree::item::Structure;
@@ -36,7 +35,7 @@ fn push_member(
     scope: &Scope,
     written: &item::Member,
     members: &mut Vec<Member>,
-) -> Result<(), Refused>
+) -> Result<(), CheckError>
     ensures types { Answers (λ _. map member_of members.new.items) (one_member (scope_of scope.now) (member_tree written.now) (map member_of members.old.items)) result }
     ensures few { IfOk result (λ _. length members.new.items ≤ 64) }
 {
@@ -61,7 +60,7 @@ fn member_types(
     alloc: Global,
     scope: &Scope,
     written: &[item::Member],
-) -> Result<Vec<Member>, Refused>
+) -> Result<Vec<Member>, CheckError>
     ensures types { Answers (λ v. map member_of v.items) (member_types_of (scope_of scope.now) (map member_tree written.now) []) result }
     ensures few { IfOk result (λ v. length v.items ≤ 64) }
 {
@@ -73,7 +72,7 @@ fn member_types(
 }
 
 // No member is a struct.
-fn are_scalar(members: &[Member]) -> Result<(), Refused>
+fn are_scalar(members: &[Member]) -> Result<(), CheckError>
     ensures { Answers (λ x. x) (scalar_members (map member_of members.now) (Passes tt)) result }
 {
     for member in members {
@@ -83,7 +82,7 @@ fn are_scalar(members: &[Member]) -> Result<(), Refused>
 }
 
 /// A struct.
-pub fn structure(alloc: Global, walk: &mut Walk, d: &Structure) -> Result<(), Refused>
+pub fn structure(alloc: Global, walk: &mut Walk, d: &Structure) -> Result<(), CheckError>
     ensures { Answers (λ _. walk_of walk.new) (structure_of (walk_of walk.old) (structure_tree d.now)) result }
 {
     let checked = !walk.scope.is_off;

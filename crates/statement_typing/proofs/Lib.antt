@@ -6,4 +6,3 @@ pub mod Verdicts
 pub mod Locals
 pub mod Loops
 pub mod Sequences
-pub mod Steps

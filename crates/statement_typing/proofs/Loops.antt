@@ -1,7 +1,7 @@
 -- Statements that have statements, by their parts.
 use Rattle.std.proofs.Common.{◌≡◌, Bool, true, false, Option, length, map, reverse, take, Result, Ok, Err, Box, Global, refl, sym, ◌∙◌}
-use Rattle.ckc_text.specs.declared.fault.Refused.{Refused}
-use Rattle.ckc_text.specs.declared.fault.Refused.TheVariants.{Source, NoMemory}
+use Rattle.checker_scope.specs.declared.refusals.CheckError.{CheckError}
+use Rattle.checker_scope.specs.declared.refusals.CheckError.TheVariants.{Source, Unnamed, NoMemory}
 use Rattle.ckc_text.specs.declared.code.Code.TheVariants.{E30}
 use Rattle.ckc_text.specs.declared.place.Span.{Span}
 use Rattle.ckc_tree.specs.Expressions.{Expression}
@@ -57,31 +57,32 @@ for_parts at g initial test step body span = same_behind (first_part at g initia
 
 -- ---- walks by these parts
 
-pub if_walk : {old new : code.Scope.Scope} {r : Result (Box Stmt Global) Refused} (at : Places) (x : Statement) (test : Expression) (consequent : Statement) (span : Span) → x ≡ s.If test consequent span
+pub if_walk : {old new : code.Scope.Scope} {r : Result (Box Stmt Global) CheckError} (at : Places) (x : Statement) (test : Expression) (consequent : Statement) (span : Span) → x ≡ s.If test consequent span
     → Walks on_heap.statement (if_alone at (scope old) test consequent) old r new → Walks on_heap.statement (statement at (scope old) x) old r new
 if_walk {old = old} at x test consequent span is walk = rw (is, if_parts at (scope old) test consequent span) walk
 
-pub if_else_walk : {old new : code.Scope.Scope} {r : Result (Box Stmt Global) Refused} (at : Places) (x : Statement) (test : Expression) (consequent alternative : Statement) (span : Span) → x ≡ s.IfElse test consequent alternative span
+pub if_else_walk : {old new : code.Scope.Scope} {r : Result (Box Stmt Global) CheckError} (at : Places) (x : Statement) (test : Expression) (consequent alternative : Statement) (span : Span) → x ≡ s.IfElse test consequent alternative span
     → Walks on_heap.statement (passing {B = core.Statement × Scope} (then_branch at (scope old) test consequent) (λ b. otherwise at b alternative)) old r new → Walks on_heap.statement (statement at (scope old) x) old r new
 if_else_walk {old = old} at x test consequent alternative span is walk = rw (is, if_else_parts at (scope old) test consequent alternative span) walk
 
-pub while_walk : {old new : code.Scope.Scope} {r : Result (Box Stmt Global) Refused} (at : Places) (x : Statement) (test : Expression) (body : Statement) (span : Span) → x ≡ s.While test body span → Walks on_heap.statement (while_loop at (scope old) test body) old r new → Walks on_heap.statement (statement at (scope old) x) old r new
+pub while_walk : {old new : code.Scope.Scope} {r : Result (Box Stmt Global) CheckError} (at : Places) (x : Statement) (test : Expression) (body : Statement) (span : Span) → x ≡ s.While test body span → Walks on_heap.statement (while_loop at (scope old) test body) old r new → Walks on_heap.statement (statement at (scope old) x) old r new
 while_walk {old = old} at x test body span is walk = rw (is, while_parts at (scope old) test body span) walk
 
-pub for_walk : {old new : code.Scope.Scope} {r : Result (Box Stmt Global) Refused} (at : Places) (x : Statement) (initial : ForInitial) (test : Option Expression) (step : Option Assignment) (body : Statement) (span : Span) → x ≡ s.For initial test step body span → Walks on_heap.statement (for_loop at (scope old) initial test step body) old r new → Walks on_heap.statement (statement at (scope old) x) old r new
+pub for_walk : {old new : code.Scope.Scope} {r : Result (Box Stmt Global) CheckError} (at : Places) (x : Statement) (initial : ForInitial) (test : Option Expression) (step : Option Assignment) (body : Statement) (span : Span) → x ≡ s.For initial test step body span → Walks on_heap.statement (for_loop at (scope old) initial test step body) old r new → Walks on_heap.statement (statement at (scope old) x) old r new
 for_walk {old = old} at x initial test step body span is walk = rw (is, for_parts at (scope old) initial test step body span) walk
 
-nested_so : {before : code.Scope.Scope} (at : Places) (loop : Bool) (start : code.BlockStart.BlockStart) (s : Statement) (r : Result (Box Stmt Global) Refused) (old mid new : code.Scope.Scope) → Walks on_heap.statement (statement at (record (scope old) { in_loop = loop }) s) before r mid → scope before ≡ record (scope old) { in_loop = loop } → before.visible.items ≡ old.visible.items
+nested_so : {before : code.Scope.Scope} (at : Places) (loop : Bool) (start : code.BlockStart.BlockStart) (s : Statement) (r : Result (Box Stmt Global) CheckError) (old mid new : code.Scope.Scope) → Walks on_heap.statement (statement at (record (scope old) { in_loop = loop }) s) before r mid → scope before ≡ record (scope old) { in_loop = loop } → before.visible.items ≡ old.visible.items
     → start ≡ record { visible = length old.visible.items; in_loop = old.in_loop } → scope new ≡ record (scope mid) { visible = reverse (map visible (take start.visible mid.visible.items)); in_loop = start.in_loop } → new.visible.items ≡ take start.visible mid.visible.items
     → Walks on_heap.statement (nested at (scope old) loop s) old r new
 nested_so {before = before} at loop start s (Ok x) old mid new walk inside_is same begins known seen =
     left_walk on_heap.statement (λ y. y) (statement at (record (scope old) { in_loop = loop }) s) (on_heap.statement x) x old mid new walk.so.0
     (left start old mid new begins (grown (other_loop loop old before inside_is same) walk.so.1) known seen) refl
 nested_so at loop start s (Err (Source fault)) old mid new walk inside_is same begins known seen = record { so = rw walk.so refl }
+nested_so at loop start s (Err Unnamed) old mid new walk inside_is same begins known seen = record { so = rw walk.so refl }
 nested_so at loop start s (Err NoMemory) old mid new walk inside_is same begins known seen = record { so = tt }
 
 -- behind a nested statement its locals are gone
-pub nested_walk : {before : code.Scope.Scope} (at : Places) (loop : Bool) (start : code.BlockStart.BlockStart) (s : Statement) (r : Result (Box Stmt Global) Refused) (old mid new : code.Scope.Scope) → Walks on_heap.statement (statement at (scope before) s) before r mid → scope before ≡ record (scope old) { in_loop = loop } → before.visible.items ≡ old.visible.items
+pub nested_walk : {before : code.Scope.Scope} (at : Places) (loop : Bool) (start : code.BlockStart.BlockStart) (s : Statement) (r : Result (Box Stmt Global) CheckError) (old mid new : code.Scope.Scope) → Walks on_heap.statement (statement at (scope before) s) before r mid → scope before ≡ record (scope old) { in_loop = loop } → before.visible.items ≡ old.visible.items
     → start ≡ record { visible = length old.visible.items; in_loop = old.in_loop } → scope new ≡ record (scope mid) { visible = reverse (map visible (take start.visible mid.visible.items)); in_loop = start.in_loop } → new.visible.items ≡ take start.visible mid.visible.items
     → Walks on_heap.statement (nested at (scope old) loop s) old r new
 nested_walk {before = before} at loop start s r old mid new walk inside_is same begins known seen =

@@ -3,11 +3,10 @@ use Rattle.std.proofs.Common.{◌≡◌, ℕ, Bool, List, [], ◌∷◌, ◌++�
 use Rattle.std.specs.Result.{IsErrAnd}
 use Rattle.std.proofs.lemmas.List.{append-nil, take_at}
 use Rattle.std.proofs.lemmas.Result.{err_from_is_err_and}
-use Rattle.ckc_text.specs.declared.fault.Refused.{Refused}
-use Rattle.ckc_text.specs.declared.fault.Refused.TheVariants.{Source, NoMemory}
-use Rattle.ckc_text.specs.declared.fault.SourceFault.{SourceFault}
+use Rattle.checker_scope.specs.declared.refusals.CheckError.{CheckError}
+use Rattle.checker_scope.specs.declared.refusals.CheckError.TheVariants.{Source, Unnamed, NoMemory}
 use Rattle.pointer_modes.specs.Types.{CType}
-use Rattle.typing_rules.specs.Verdicts.{Verdict, Passes, Breaks, passing}
+use Rattle.typing_rules.specs.Verdicts.{Stop, Broken, Nameless, Verdict, Passes, Stops, passing}
 use Rattle.typing_rules.specs.Scopes.{Scope}
 use Rattle.typing_rules.specs.Statements.{behind_block, with_local}
 use Rattle.checker_scope.specs.declared.scope as code
@@ -70,33 +69,35 @@ left start outside inside new begins more known seen =
 -- ---- what comes behind
 
 -- behind a rule that is kept
-pub goes_on : {A B C D : Type 0} {view : C → A} {verdict : Verdict A} {x : C} {view' : D → B} {old new : code.Scope.Scope} {r : Result D Refused} (next : A → Verdict (B × Scope)) → Answers view verdict (Ok x) → Walks view' (next (view x)) old r new → Walks view' (passing verdict next) old r new
+pub goes_on : {A B C D : Type 0} {view : C → A} {verdict : Verdict A} {x : C} {view' : D → B} {old new : code.Scope.Scope} {r : Result D CheckError} (next : A → Verdict (B × Scope)) → Answers view verdict (Ok x) → Walks view' (next (view x)) old r new → Walks view' (passing verdict next) old r new
 goes_on next first rest = record { so = rw first.so rest.so }
 
-walked_so : {B D : Type 0} (view : D → B) (v w : Verdict (B × Scope)) (a b new : code.Scope.Scope) (r : Result D Refused) → v ≡ w → Grows a b → walks_so view w b r new → walks_so view v a r new
+walked_so : {B D : Type 0} (view : D → B) (v w : Verdict (B × Scope)) (a b new : code.Scope.Scope) (r : Result D CheckError) → v ≡ w → Grows a b → walks_so view w b r new → walks_so view v a r new
 walked_so view v w a b new (Ok c) is more rest = (is ∙ rest.0, grown more rest.1)
 walked_so view v w a b new (Err (Source fault)) is more rest = is ∙ rest
+walked_so view v w a b new (Err Unnamed) is more rest = is ∙ rest
 walked_so view v w a b new (Err NoMemory) is more rest = tt
 
 -- from a place with more locals
-pub from_more : {B D : Type 0} (view : D → B) (v w : Verdict (B × Scope)) (a b new : code.Scope.Scope) (r : Result D Refused) → v ≡ w → Grows a b → Walks view w b r new → Walks view v a r new
+pub from_more : {B D : Type 0} (view : D → B) (v w : Verdict (B × Scope)) (a b new : code.Scope.Scope) (r : Result D CheckError) → v ≡ w → Grows a b → Walks view w b r new → Walks view v a r new
 from_more view v w a b new r is more rest = record { so = walked_so view v w a b new r is more rest.so }
 
 -- behind a walk
-pub walks_on : {A B C D : Type 0} {view : C → A} {verdict : Verdict (A × Scope)} {x : C} {view' : D → B} {old mid new : code.Scope.Scope} {r : Result D Refused} (next : A × Scope → Verdict (B × Scope)) → Walks view verdict old (Ok x) mid → Walks view' (next (view x, scope mid)) mid r new → Walks view' (passing verdict next) old r new
+pub walks_on : {A B C D : Type 0} {view : C → A} {verdict : Verdict (A × Scope)} {x : C} {view' : D → B} {old mid new : code.Scope.Scope} {r : Result D CheckError} (next : A × Scope → Verdict (B × Scope)) → Walks view verdict old (Ok x) mid → Walks view' (next (view x, scope mid)) mid r new → Walks view' (passing verdict next) old r new
 walks_on {view = view} {verdict = verdict} {x = x} {view' = view'} {old = old} {mid = mid} {new = new} {r = r} next first rest =
     from_more view' (passing verdict next) (next (view x, scope mid)) old mid new r (rw first.so.0 refl) first.so.1 rest
 
 -- what an answer is that leaves known what was known
-kept_so : {C A : Type 0} (view : C → A) (v : Verdict A) (g : code.Scope.Scope) (r : Result C Refused) → Answers view v r → walks_so view (passing v (λ x. Passes (x, scope g))) g r g
+kept_so : {C A : Type 0} (view : C → A) (v : Verdict A) (g : code.Scope.Scope) (r : Result C CheckError) → Answers view v r → walks_so view (passing v (λ x. Passes (x, scope g))) g r g
 kept_so view v g (Ok c) answer = (rw answer.so refl, none_more g)
 kept_so view v g (Err (Source fault)) answer = rw answer.so refl
+kept_so view v g (Err Unnamed) answer = rw answer.so refl
 kept_so view v g (Err NoMemory) answer = tt
 
-pub kept : {C A : Type 0} {view : C → A} {v : Verdict A} (g : code.Scope.Scope) {r : Result C Refused} → Answers view v r → Walks view (passing v (λ x. Passes (x, scope g))) g r g
+pub kept : {C A : Type 0} {view : C → A} {v : Verdict A} (g : code.Scope.Scope) {r : Result C CheckError} → Answers view v r → Walks view (passing v (λ x. Passes (x, scope g))) g r g
 kept {view = view} {v = v} g {r = r} answer = record { so = kept_so view v g r answer }
 
-pub kept_as : {C A : Type 0} {view : C → A} {v : Verdict A} (w : Verdict (A × Scope)) (g : code.Scope.Scope) {r : Result C Refused} → w ≡ passing v (λ x. Passes (x, scope g)) → Answers view v r → Walks view w g r g
+pub kept_as : {C A : Type 0} {view : C → A} {v : Verdict A} (w : Verdict (A × Scope)) (g : code.Scope.Scope) {r : Result C CheckError} → w ≡ passing v (λ x. Passes (x, scope g)) → Answers view v r → Walks view w g r g
 kept_as w g is answer = rw is (kept g answer)
 
 -- what was built last
@@ -109,29 +110,32 @@ left_walk view f v x y old mid new first gone is = record { so = (ap (λ w. pass
 
 -- ---- rules that are broken
 
-stops : {A B C D : Type 0} (view : C → A) (verdict : Verdict A) (view' : D → B) (next : A → Verdict (B × Scope)) (old new : code.Scope.Scope) (e : Refused) → Answers view verdict (Err e) → Walks view' (passing verdict next) old (Err e) new
+stops : {A B C D : Type 0} (view : C → A) (verdict : Verdict A) (view' : D → B) (next : A → Verdict (B × Scope)) (old new : code.Scope.Scope) (e : CheckError) → Answers view verdict (Err e) → Walks view' (passing verdict next) old (Err e) new
 stops view verdict view' next old new (Source fault) first = record { so = rw first.so refl }
+stops view verdict view' next old new Unnamed first = record { so = rw first.so refl }
 stops view verdict view' next old new NoMemory first = record { so = tt }
 
-pub refused : {A B C D : Type 0} {view : C → A} {verdict : Verdict A} {view' : D → B} {old new : code.Scope.Scope} {e : Refused} (next : A → Verdict (B × Scope)) (r : Result D Refused) → IsErrAnd r (λ y. y ≡ e) → Answers view verdict (Err e) → Walks view' (passing verdict next) old r new
+pub refused : {A B C D : Type 0} {view : C → A} {verdict : Verdict A} {view' : D → B} {old new : code.Scope.Scope} {e : CheckError} (next : A → Verdict (B × Scope)) (r : Result D CheckError) → IsErrAnd r (λ y. y ≡ e) → Answers view verdict (Err e) → Walks view' (passing verdict next) old r new
 refused {view = view} {verdict = verdict} {view' = view'} {old = old} {new = new} {e = e} next r is first =
     let p = err_from_is_err_and r is in
     rw (p.1, p.2) (stops view verdict view' next old new e first)
 
-as_answer : {A C : Type 0} (view : C → A) (verdict : Verdict (A × Scope)) (old mid : code.Scope.Scope) (e : Refused) → Walks view verdict old (Err e) mid → Answers {C = A × Scope} (λ x. x) verdict (Err e)
+as_answer : {A C : Type 0} (view : C → A) (verdict : Verdict (A × Scope)) (old mid : code.Scope.Scope) (e : CheckError) → Walks view verdict old (Err e) mid → Answers {C = A × Scope} (λ x. x) verdict (Err e)
 as_answer view verdict old mid (Source fault) walk = record { so = walk.so }
+as_answer view verdict old mid Unnamed walk = record { so = walk.so }
 as_answer view verdict old mid NoMemory walk = record { so = tt }
 
 -- a walk in which a rule is broken
-pub refused_walk : {A B C D : Type 0} {view : C → A} {verdict : Verdict (A × Scope)} {view' : D → B} {before old mid new : code.Scope.Scope} {e : Refused} (next : A × Scope → Verdict (B × Scope)) (r : Result D Refused) → IsErrAnd r (λ y. y ≡ e) → Walks view verdict before (Err e) mid → Walks view' (passing verdict next) old r new
+pub refused_walk : {A B C D : Type 0} {view : C → A} {verdict : Verdict (A × Scope)} {view' : D → B} {before old mid new : code.Scope.Scope} {e : CheckError} (next : A × Scope → Verdict (B × Scope)) (r : Result D CheckError) → IsErrAnd r (λ y. y ≡ e) → Walks view verdict before (Err e) mid → Walks view' (passing verdict next) old r new
 refused_walk {view = view} {verdict = verdict} {before = before} {mid = mid} {e = e} next r is first = refused next r is (as_answer view verdict before mid e first)
 
-by_part : {A B C D : Type 0} (view : C → A) (v : Verdict (A × Scope)) (view' : D → B) (w : Verdict (B × Scope)) (before mid old new : code.Scope.Scope) (e : Refused) → ((fault : SourceFault) → v ≡ Breaks fault → w ≡ Breaks fault) → Walks view v before (Err e) mid → Walks view' w old (Err e) new
-by_part view v view' w before mid old new (Source fault) breaks part = record { so = breaks fault part.so }
+by_part : {A B C D : Type 0} (view : C → A) (v : Verdict (A × Scope)) (view' : D → B) (w : Verdict (B × Scope)) (before mid old new : code.Scope.Scope) (e : CheckError) → ((stop : Stop) → v ≡ Stops stop → w ≡ Stops stop) → Walks view v before (Err e) mid → Walks view' w old (Err e) new
+by_part view v view' w before mid old new (Source fault) breaks part = record { so = breaks (Broken fault) part.so }
+by_part view v view' w before mid old new Unnamed breaks part = record { so = breaks Nameless part.so }
 by_part view v view' w before mid old new NoMemory breaks part = record { so = tt }
 
 -- what a part is refused for the whole is refused for
-pub refused_by : {A B C D : Type 0} {view : C → A} {v : Verdict (A × Scope)} {view' : D → B} {w : Verdict (B × Scope)} {before mid old new : code.Scope.Scope} {e : Refused} (r : Result D Refused) → IsErrAnd r (λ y. y ≡ e) → ((fault : SourceFault) → v ≡ Breaks fault → w ≡ Breaks fault) → Walks view v before (Err e) mid → Walks view' w old r new
+pub refused_by : {A B C D : Type 0} {view : C → A} {v : Verdict (A × Scope)} {view' : D → B} {w : Verdict (B × Scope)} {before mid old new : code.Scope.Scope} {e : CheckError} (r : Result D CheckError) → IsErrAnd r (λ y. y ≡ e) → ((stop : Stop) → v ≡ Stops stop → w ≡ Stops stop) → Walks view v before (Err e) mid → Walks view' w old r new
 refused_by {view = view} {v = v} {view' = view'} {w = w} {before = before} {mid = mid} {old = old} {new = new} {e = e} r is breaks part =
     let p = err_from_is_err_and r is in
     rw (p.1, p.2) (by_part view v view' w before mid old new e breaks part)

@@ -2,13 +2,13 @@
 use Rattle.std.specs.Prelude.{◌≡◌, ℕ, length, Option, Result, Ok, Err}
 use Rattle.ckc_text.specs.declared.place.Span.{Span}
 use Rattle.ckc_text.specs.declared.code.Code.TheVariants.{E13}
-use Rattle.ckc_text.specs.declared.fault.Refused.{Refused}
-use Rattle.ckc_text.specs.declared.fault.Refused.TheVariants.{Source, NoMemory}
+use Rattle.checker_scope.specs.declared.refusals.CheckError.{CheckError}
+use Rattle.checker_scope.specs.declared.refusals.CheckError.TheVariants as errors
 use Rattle.pointer_modes.specs.Types.{CType}
 use Rattle.ckc_core.specs.Core as core
 use Rattle.ckc_tree.specs.Expressions.{Expression}
 use Rattle.ckc_tree.specs.Statements.{Initializer, Declarator}
-use Rattle.typing_rules.specs.Verdicts.{Verdict, Passes, Breaks, passing, needs}
+use Rattle.typing_rules.specs.Verdicts.{Verdict, Passes, Breaks, Unnamed, passing, needs}
 use Rattle.typing_rules.specs.Expressions.{Places, typed, converted}
 use Rattle.typing_rules.specs.Types.{is_scalar}
 use Rattle.typing_rules.specs.Statements.{both, zero_value, initialised, with_local}
@@ -17,13 +17,15 @@ use Rattle.checker_scope.specs.declared.scope as code
 use Rattle.checker_scope.specs.Views.{scope}
 use Rattle.checker_scope.specs.Locals.{Grows}
 
-abbrev pub walks_so : {C A : Type 0} → (C → A) → Verdict (A × Scope) → code.Scope.Scope → Result C Refused → code.Scope.Scope → Type 0
+abbrev pub walks_so : {C A : Type 0} → (C → A) → Verdict (A × Scope) → code.Scope.Scope → Result C CheckError → code.Scope.Scope → Type 0
 walks_so view verdict old (Ok c) new = (verdict ≡ Passes (view c, scope new)) × Grows old new
-walks_so view verdict old (Err (Source fault)) new = verdict ≡ Breaks fault
-walks_so view verdict old (Err NoMemory) new = Unit {0}
+walks_so view verdict old (Err (errors.Source fault)) new = verdict ≡ Breaks fault
+walks_so view verdict old (Err errors.Unnamed) new = verdict ≡ Unnamed
+walks_so view verdict old (Err errors.NoMemory) new = Unit {0}
 
--- the answer is the verdict's value with what is known behind it, or the fault of the rule that is broken
-pub record Walks {C A : Type 0} (view : C → A) (verdict : Verdict (A × Scope)) (old : code.Scope.Scope) (result : Result C Refused) (new : code.Scope.Scope) : Type 0 where
+-- the answer is the verdict's value with what is known behind it, or the fault of the rule that is broken, or that a name stands
+-- for nothing
+pub record Walks {C A : Type 0} (view : C → A) (verdict : Verdict (A × Scope)) (old : code.Scope.Scope) (result : Result C CheckError) (new : code.Scope.Scope) : Type 0 where
   pub so : walks_so view verdict old result new
 
 -- the value that a local is given

@@ -10,10 +10,10 @@ ghost use Rattle.value_typing.specs.OnHeap.{expression, statement};
 ghost use Rattle.statement_typing.specs.Walks.{Walks};
 
 use crate::declarations::declaration;
+use checker_scope::refusals::CheckError;
 use checker_scope::scope::Scope;
 use checker_scope::sites::Sites;
 use ckc_core::program::{Expr, Stmt};
-use ckc_text::fault::Refused;
 use ckc_tree::expr;
 use ckc_tree::stmt::{Assignment, ForInitial};
 use expression_typing::assignments::{assignment, condition};
@@ -26,7 +26,7 @@ pub fn optional_condition(
     sites: &Sites,
     scope: &Scope,
     written: &Option<Box<expr::Expr>>,
-) -> Result<Box<Expr>, Refused>
+) -> Result<Box<Expr>, CheckError>
     ensures { Answers expression (optional_condition_of (place_at sites.now) (scope_of scope.now) (option_map on_heap written.now)) result }
 {
     match written {
@@ -41,7 +41,7 @@ pub fn optional_step(
     sites: &Sites,
     scope: &Scope,
     written: &Option<Assignment>,
-) -> Result<Box<Stmt>, Refused>
+) -> Result<Box<Stmt>, CheckError>
     ensures { Answers statement (optional_step_of (place_at sites.now) (scope_of scope.now) (option_map assignment_tree written.now)) result }
 {
     match written {
@@ -56,7 +56,7 @@ pub fn first_part(
     sites: &Sites,
     scope: &mut Scope,
     written: &ForInitial,
-) -> Result<Box<Stmt>, Refused>
+) -> Result<Box<Stmt>, CheckError>
     ensures { Walks statement (first_part_of (place_at sites.now) (scope_of scope.old) (initial_tree written.now)) scope.old result scope.new }
 {
     match written {

@@ -12,13 +12,12 @@ ghost use Rattle.value_typing.specs.OnHeap.{statement as statement_of};
 ghost use Rattle.statement_typing.specs.Walks.{initial_value as initial_value_as, from_zero as from_zero_as};
 
 use crate::core_forms::both;
-use checker_scope::refusals::{needs, refusal};
+use checker_scope::refusals::{CheckError, needs, refusal};
 use checker_scope::scope::Scope;
 use checker_scope::sites::Sites;
 use checker_scope::types::is_scalar;
 use ckc_core::program::Stmt;
 use ckc_text::code::Code;
-use ckc_text::fault::Refused;
 use ckc_text::place::Span;
 use ckc_tree::expr::Expr;
 use ckc_tree::stmt::Initializer;
@@ -38,7 +37,7 @@ fn initial_value(
     t: &CType,
     local: u32,
     span: Span,
-) -> Result<Box<Stmt>, Refused>
+) -> Result<Box<Stmt>, CheckError>
     ensures { Answers statement_of (initial_value_as (place_at sites.now) (scope_of scope.now) (expression_tree value.now) (ctype_of t.now) local span) result }
 {
     let given = typed(alloc, sites, scope, value)?;
@@ -55,7 +54,7 @@ fn initialised(
     t: &CType,
     local: u32,
     span: Span,
-) -> Result<Box<Stmt>, Refused>
+) -> Result<Box<Stmt>, CheckError>
     ensures { Answers statement_of (initialised_as (place_at sites.now) (scope_of scope.now) (option_map initializer_tree written.now) (ctype_of t.now) local span) result }
 {
     match written {
@@ -76,7 +75,7 @@ pub fn from_zero(
     t: &CType,
     local: u32,
     span: Span,
-) -> Result<Box<Stmt>, Refused>
+) -> Result<Box<Stmt>, CheckError>
     ensures { Answers statement_of (from_zero_as (place_at sites.now) (scope_of scope.now) (option_map initializer_tree written.now) (ctype_of t.now) local span) result }
 {
     let initial = initialised(alloc, sites, scope, written, t, local, span)?;

@@ -14,12 +14,12 @@ ghost use Rattle.expression_typing.specs.Calls.{called as called_as};
 ghost use Rattle.value_typing.specs.OnHeap.{statement};
 ghost use Rattle.statement_typing.specs.Parts.{call_statement, needs_loop, value_returned as value_returned_in, converted_return, refused_value as refused_value_in};
 
-use checker_scope::refusals::{needs, refusal};
+use checker_scope::refusals::{CheckError, needs, refusal};
 use checker_scope::scope::Scope;
 use checker_scope::sites::Sites;
 use ckc_core::program::Stmt;
 use ckc_text::code::Code;
-use ckc_text::fault::{NoMemory, Refused};
+use ckc_text::fault::NoMemory;
 use ckc_text::place::Span;
 use ckc_tree::expr::Expr;
 use expression_typing::calls::Called;
@@ -48,7 +48,7 @@ pub fn call_alone(
     sites: &Sites,
     scope: &Scope,
     call: &Expr,
-) -> Result<Box<Stmt>, Refused>
+) -> Result<Box<Stmt>, CheckError>
     ensures { Answers statement (call_statement (place_at sites.now) (scope_of scope.now) (expression_tree call.now)) result }
 {
     let call = call_typed(alloc, sites, scope, call)?;
@@ -60,7 +60,7 @@ fn returned_nothing(
     alloc: Global,
     result_type: &Option<CType>,
     span: Span,
-) -> Result<Box<Stmt>, Refused>
+) -> Result<Box<Stmt>, CheckError>
     ensures { Answers statement (nothing_as (option_map ctype_of result_type.now) span) result }
 {
     match result_type {
@@ -76,7 +76,7 @@ fn refused_value(
     scope: &Scope,
     written: &Expr,
     span: Span,
-) -> Result<Box<Stmt>, Refused>
+) -> Result<Box<Stmt>, CheckError>
     ensures { Answers statement (refused_value_in (place_at sites.now) (scope_of scope.now) (expression_tree written.now) span) result }
 {
     typed(alloc, sites, scope, written)?;
@@ -91,7 +91,7 @@ fn return_value(
     t: &CType,
     written: &Expr,
     span: Span,
-) -> Result<Box<Stmt>, Refused>
+) -> Result<Box<Stmt>, CheckError>
     ensures { Answers statement (converted_return (place_at sites.now) (scope_of scope.now) (ctype_of t.now) (expression_tree written.now) span) result }
 {
     let given = typed(alloc, sites, scope, written)?;
@@ -106,7 +106,7 @@ fn value_returned(
     scope: &Scope,
     written: &Expr,
     span: Span,
-) -> Result<Box<Stmt>, Refused>
+) -> Result<Box<Stmt>, CheckError>
     ensures { Answers statement (value_returned_in (place_at sites.now) (scope_of scope.now) (scope_of scope.now).result (expression_tree written.now) span) result }
 {
     match &scope.result {
@@ -122,7 +122,7 @@ pub fn return_from(
     scope: &Scope,
     written: &Option<Box<Expr>>,
     span: Span,
-) -> Result<Box<Stmt>, Refused>
+) -> Result<Box<Stmt>, CheckError>
     ensures { Answers statement (return_of (place_at sites.now) (scope_of scope.now) (option_map on_heap written.now) span) result }
 {
     match written {
@@ -132,7 +132,7 @@ pub fn return_from(
 }
 
 /// A `break`, which stands in a loop.
-pub fn break_from(alloc: Global, scope: &Scope, span: Span) -> Result<Box<Stmt>, Refused>
+pub fn break_from(alloc: Global, scope: &Scope, span: Span) -> Result<Box<Stmt>, CheckError>
     ensures { Answers statement (needs_loop (scope_of scope.now) Break span) result }
 {
     needs(scope.in_loop, Code::E30, span)?;
@@ -140,7 +140,7 @@ pub fn break_from(alloc: Global, scope: &Scope, span: Span) -> Result<Box<Stmt>,
 }
 
 /// A `continue`, which stands in a loop.
-pub fn continue_with(alloc: Global, scope: &Scope, span: Span) -> Result<Box<Stmt>, Refused>
+pub fn continue_with(alloc: Global, scope: &Scope, span: Span) -> Result<Box<Stmt>, CheckError>
     ensures { Answers statement (needs_loop (scope_of scope.now) Continue span) result }
 {
     needs(scope.in_loop, Code::E30, span)?;

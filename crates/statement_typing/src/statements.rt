@@ -18,12 +18,11 @@ use crate::declarations::declaration;
 use crate::heads::{first_part, optional_condition, optional_step};
 use crate::marks::is_checked;
 use crate::simple_statements::{break_from, call_alone, continue_with, return_from};
-use checker_scope::refusals::{needs, refusal};
+use checker_scope::refusals::{CheckError, needs, refusal};
 use checker_scope::scope::Scope;
 use checker_scope::sites::Sites;
 use ckc_core::program::Stmt;
 use ckc_text::code::Code;
-use ckc_text::fault::Refused;
 use ckc_text::place::Span;
 use ckc_tree::stmt::{Assignment, ForInitial, Mark};
 use ckc_tree::{expr, stmt};
@@ -38,7 +37,7 @@ pub fn statement(
     sites: &Sites,
     scope: &mut Scope,
     written: &stmt::Stmt,
-) -> Result<Box<Stmt>, Refused>
+) -> Result<Box<Stmt>, CheckError>
     ensures { Walks statement_of (statement_in (place_at sites.now) (scope_of scope.old) (statement_tree written.now)) scope.old result scope.new }
 {
     match written {
@@ -97,7 +96,7 @@ fn block(
     inner: &[stmt::Stmt],
     mark: Option<Mark>,
     span: Span,
-) -> Result<Box<Stmt>, Refused>
+) -> Result<Box<Stmt>, CheckError>
     ensures { Walks statement_of (statement_in (place_at sites.now) (scope_of scope.old) (Block mark (statement_list inner.now) span)) scope.old result scope.new }
 {
     let start = scope.block_start();
@@ -116,7 +115,7 @@ fn then_branch(
     scope: &mut Scope,
     consequent: &stmt::Stmt,
     test: &expr::Expr,
-) -> Result<Branch, Refused>
+) -> Result<Branch, CheckError>
     ensures { Walks branched (branch_in (place_at sites.now) (scope_of scope.old) (expression_tree test.now) (statement_tree consequent.now)) scope.old result scope.new }
 {
     let condition = condition(alloc, sites, scope, test)?;
@@ -136,7 +135,7 @@ fn if_alone(
     scope: &mut Scope,
     consequent: &stmt::Stmt,
     test: &expr::Expr,
-) -> Result<Box<Stmt>, Refused>
+) -> Result<Box<Stmt>, CheckError>
     ensures { Walks statement_of (if_in (place_at sites.now) (scope_of scope.old) (expression_tree test.now) (statement_tree consequent.now)) scope.old result scope.new }
 {
     let first = then_branch(alloc, sites, scope, consequent, test)?;
@@ -152,7 +151,7 @@ fn otherwise(
     scope: &mut Scope,
     alternative: &stmt::Stmt,
     first: Branch,
-) -> Result<Box<Stmt>, Refused>
+) -> Result<Box<Stmt>, CheckError>
     ensures { Walks statement_of (otherwise_in (place_at sites.now) (branched first, scope_of scope.old) (statement_tree alternative.now)) scope.old result scope.new }
 {
     let around = scope.in_loop;
@@ -168,7 +167,7 @@ fn while_loop(
     scope: &mut Scope,
     body: &stmt::Stmt,
     test: &expr::Expr,
-) -> Result<Box<Stmt>, Refused>
+) -> Result<Box<Stmt>, CheckError>
     ensures { Walks statement_of (while_in (place_at sites.now) (scope_of scope.old) (expression_tree test.now) (statement_tree body.now)) scope.old result scope.new }
 {
     let test = condition(alloc, sites, scope, test)?;
@@ -187,7 +186,7 @@ fn for_loop(
     initial: &ForInitial,
     test: &Option<Box<expr::Expr>>,
     step: &Option<Assignment>,
-) -> Result<Box<Stmt>, Refused>
+) -> Result<Box<Stmt>, CheckError>
     ensures { Walks statement_of (for_in (place_at sites.now) (scope_of scope.old) (initial_tree initial.now) (option_map on_heap test.now) (option_map assignment_tree step.now) (statement_tree body.now)) scope.old result scope.new }
 {
     let start = scope.block_start();
@@ -206,7 +205,7 @@ fn turns(
     body: &stmt::Stmt,
     test: &Option<Box<expr::Expr>>,
     step: &Option<Assignment>,
-) -> Result<Box<Stmt>, Refused>
+) -> Result<Box<Stmt>, CheckError>
     ensures { Walks statement_of (turns_in (place_at sites.now) (scope_of scope.old) (statement_tree body.now) (option_map on_heap test.now) (option_map assignment_tree step.now)) scope.old result scope.new }
 {
     let test = optional_condition(alloc, sites, scope, test)?;
@@ -223,7 +222,7 @@ fn nested(
     scope: &mut Scope,
     in_loop: bool,
     written: &stmt::Stmt,
-) -> Result<Box<Stmt>, Refused>
+) -> Result<Box<Stmt>, CheckError>
     ensures { Walks statement_of (nested_in (place_at sites.now) (scope_of scope.old) in_loop (statement_tree written.now)) scope.old result scope.new }
 {
     let start = scope.block_start();
@@ -240,7 +239,7 @@ pub fn statements(
     sites: &Sites,
     scope: &mut Scope,
     written: &[stmt::Stmt],
-) -> Result<Vec<Stmt>, Refused>
+) -> Result<Vec<Stmt>, CheckError>
     ensures { Walks (λ v. statements_of v.items) (statements_in (place_at sites.now) (scope_of scope.old) (statement_list written.now)) scope.old result scope.new }
 {
     let mut built = Vec::new(alloc);

@@ -1,6 +1,5 @@
 -- Inside: what an expression is, as the code holds it.
 use Rattle.std.specs.Prelude.{ℕ, ◌==◌, pos, false, Option, Some, None}
-use Rattle.std.specs.Option.{option_map}
 use Rattle.ckc_text.specs.declared.place.Span.{Span}
 use Rattle.ckc_tree.specs.Types.{TypeName}
 use Rattle.pointer_modes.specs.Layout.{size_of}
@@ -11,9 +10,11 @@ use Rattle.ckc_core.specs.Core.{expression, place}
 use Rattle.typing_rules.specs.Verdicts.{Verdict, passing}
 use Rattle.typing_rules.specs.Scopes.{Scope}
 use Rattle.typing_rules.specs.Types.{type_named}
-use Rattle.typing_rules.specs.Expressions.{constant, number, Typed, Value, AStruct, OfLocal, OfCell}
+use Rattle.typing_rules.specs.Expressions.{constant, number, Lvalue, OfLocal, OfCell, Typed, Value, AStruct}
 use Rattle.value_typing.specs.declared.typed.Base as code_base
 use Rattle.value_typing.specs.declared.typed.Base.TheVariants as bases
+use Rattle.value_typing.specs.declared.typed.StructPlace as code_place
+use Rattle.value_typing.specs.declared.typed.StructPlace.TheVariants as places
 use Rattle.value_typing.specs.declared.typed.Typed as code
 use Rattle.value_typing.specs.declared.typed.Typed.TheVariants as forms
 
@@ -22,12 +23,17 @@ abbrev pub base_place : code_base.Base → core.Place
 base_place (bases.Object object) = core.Direct object 0 0
 base_place (bases.Behind pointer site) = core.Through (expression pointer.value) 0 0 site
 
+-- where a struct stands
+abbrev pub struct_place : code_place.StructPlace → Lvalue
+struct_place (places.Local local) = OfLocal local
+struct_place (places.Cell base) = OfCell (base_place base)
+
 -- what a value of the code's type stands for
 abbrev pub typed : code.Typed → Typed
 typed (forms.Value type zero value) = Value (ctype type) zero (expression value.value) None
 typed (forms.Local type local) = Value (ctype type) false (core.Local local) (Some (OfLocal local))
 typed (forms.Cell type at) = Value (ctype type) false (core.Load (ctype type) (place at)) (Some (OfCell (place at)))
-typed (forms.Struct struct base) = AStruct struct (option_map base_place base)
+typed (forms.Struct struct at) = AStruct struct (struct_place at)
 
 -- the value of a pointer to a place
 abbrev pub pointer_value : core.Place → Site → core.Expression

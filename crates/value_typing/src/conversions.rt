@@ -10,11 +10,10 @@ ghost use Rattle.value_typing.specs.OnHeap.{typed};
 
 use crate::operands::{Operand, value_of};
 use crate::typed::Typed;
-use checker_scope::refusals::needs;
+use checker_scope::refusals::{CheckError, needs};
 use checker_scope::types::{converts, is_number};
 use ckc_core::program::Expr;
 use ckc_text::code::Code;
-use ckc_text::fault::Refused;
 use ckc_text::place::Span;
 use pointer_modes::ctype::CType;
 use std::alloc::Global;
@@ -42,7 +41,7 @@ fn pointer_value(null: bool, value: Box<Expr>) -> Expr
 }
 
 /// A value as one of a type that it converts to.
-pub fn converted(alloc: Global, t: Box<Typed>, to: &CType, span: Span) -> Result<Expr, Refused>
+pub fn converted(alloc: Global, t: Box<Typed>, to: &CType, span: Span) -> Result<Expr, CheckError>
     ensures { Answers expression (converted_to (typed t) (ctype_of to.now) span Passes) result }
 {
     let Operand { ctype, zero, value } = value_of(alloc, t, span)?;

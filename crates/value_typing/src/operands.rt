@@ -11,11 +11,10 @@ ghost use Rattle.value_typing.specs.Operands.{operand as operand_view, operand_o
 
 use crate::on_heap::boxed;
 use crate::typed::Typed;
-use checker_scope::refusals::{needs, refusal};
+use checker_scope::refusals::{CheckError, needs, refusal};
 use checker_scope::types::{copied, is_number};
 use ckc_core::program::Expr;
 use ckc_text::code::Code;
-use ckc_text::fault::Refused;
 use ckc_text::place::Span;
 use pointer_modes::ctype::CType;
 use std::alloc::Global;
@@ -29,7 +28,7 @@ pub struct Operand {
 }
 
 /// What an expression that is no struct is as a value.
-pub fn value_of(alloc: Global, t: Box<Typed>, span: Span) -> Result<Operand, Refused>
+pub fn value_of(alloc: Global, t: Box<Typed>, span: Span) -> Result<Operand, CheckError>
     ensures { Answers operand_view (operand_of (typed t) span) result }
 {
     match Box::into_inner(t) {
@@ -44,7 +43,7 @@ pub fn value_of(alloc: Global, t: Box<Typed>, span: Span) -> Result<Operand, Ref
 }
 
 // What is read from a place.
-fn read(alloc: Global, ctype: CType, value: Expr) -> Result<Operand, Refused>
+fn read(alloc: Global, ctype: CType, value: Expr) -> Result<Operand, CheckError>
     ensures { Answers operand_view (Passes (record { type = ctype_of ctype; zero = false; value = expression value })) result }
 {
     let value = boxed(alloc, value)?;
@@ -56,7 +55,7 @@ fn read(alloc: Global, ctype: CType, value: Expr) -> Result<Operand, Refused>
 }
 
 /// A number, for an operator that takes numbers.
-pub fn number(alloc: Global, t: Box<Typed>, span: Span) -> Result<Box<Expr>, Refused>
+pub fn number(alloc: Global, t: Box<Typed>, span: Span) -> Result<Box<Expr>, CheckError>
     ensures { Answers boxed_expression (number_of (typed t) span Passes) result }
 {
     let o = value_of(alloc, t, span)?;
@@ -65,7 +64,7 @@ pub fn number(alloc: Global, t: Box<Typed>, span: Span) -> Result<Box<Expr>, Ref
 }
 
 /// A scalar, for a condition and for operators on truth.
-pub fn scalar(alloc: Global, t: Box<Typed>, span: Span) -> Result<Box<Expr>, Refused>
+pub fn scalar(alloc: Global, t: Box<Typed>, span: Span) -> Result<Box<Expr>, CheckError>
     ensures { Answers boxed_expression (scalar_of (typed t) span Passes) result }
 {
     let o = value_of(alloc, t, span)?;

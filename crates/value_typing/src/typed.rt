@@ -14,11 +14,18 @@ use ckc_text::fault::NoMemory;
 use pointer_modes::ctype::CType;
 use std::alloc::Global;
 
-/// The first cell of a struct: that of a file-level variable, or the one that a pointer points to.
+/// The first cell of a struct in memory: that of a file-level variable, or the one that a pointer points to.
 #[derive(Drop)]
 pub enum Base {
     Object(u32),
     Behind { pointer: Box<Expr>, site: Site },
+}
+
+/// Where a struct stands: it is a parameter, or begins at a cell.
+#[derive(Drop)]
+pub enum StructPlace {
+    Local(u32),
+    Cell(Base),
 }
 
 /// What an expression is.
@@ -43,7 +50,7 @@ pub enum Typed {
     /// A struct, which is a parameter, or stands at a place.
     Struct {
         number: u32,
-        base: Option<Base>,
+        place: StructPlace,
     },
 }
 
@@ -79,7 +86,7 @@ pub fn at_base(ctype: CType, base: Base) -> Typed
     match ctype {
         CType::Struct(number) => Typed::Struct {
             number,
-            base: Some(base),
+            place: StructPlace::Cell(base),
         },
         ctype => Typed::Cell {
             ctype,
@@ -112,7 +119,10 @@ pub fn at_local(ctype: CType, local: u32) -> Typed
     ensures { typed result ≡ local_typed local (ctype_of ctype) }
 {
     match ctype {
-        CType::Struct(number) => Typed::Struct { number, base: None },
+        CType::Struct(number) => Typed::Struct {
+            number,
+            place: StructPlace::Local(local),
+        },
         ctype => Typed::Local { ctype, local },
     }
 }

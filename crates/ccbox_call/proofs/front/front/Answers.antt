@@ -1,13 +1,19 @@
-use Rattle.std.proofs.Common.{length, Err, sym, ◌∙◌, subst}
+use Rattle.std.proofs.Common.{◌≡◌, length, Err, sym, ap, ◌∙◌, subst}
 use Rattle.std.proofs.lemmas.Result.{err_from_is_err_and}
 use Rattle.ckc_tree.specs.Items.{tree}
 use Rattle.ckc_grammar.specs.Parsing.{ParseAnswers}
+use Rattle.ckc_names.specs.Naming.{NamedTree}
 use Rattle.name_resolution.specs.Named.{named_tree}
 use Rattle.ccbox_call.proofs.Fronts.{tokens_short, lex_refuses, parse_refuses, has_tree, forms_refuse, names_refuse, check_answers}
 use Rattle.ccbox_call.proofs.front.front.Goals as goal
 
-pub check-requires : goal.check-requires
-check-requires c = tokens_short c.in_ok-tokens.ensures
+pub check-requires-clause-short : goal.check-requires-clause-short
+check-requires-clause-short c = tokens_short c.in_ok-tokens.ensures
+
+pub check-requires-clause-forms : goal.check-requires-clause-forms
+check-requires-clause-forms c =
+    let same : tree c.in_ok-source.source.program ≡ tree c.in_ok-tree.tree = ap (λ (n : NamedTree). n.tree) c.in_ok-source.ensures.1 in
+    rw same (sym c.is_built.ensures ∙ c.if-not-is_built.false)
 
 pub returns-in_err-tokens : goal.returns-in_err-tokens
 returns-in_err-tokens c =

@@ -14,7 +14,7 @@ returns-in_err-value c =
     let less : length built < length types = omega (arith, c.loop-argument.invariant.long, ap length c.in-Some.ensures.items) in
     let at : t ≡ get_or types (length built) t = c.index-types-len.is ∙ ap (λ k. get_or types k t) (c.len.ensures ∙ c.loop-argument.built.ok.0) in
     refused_by c.from_residual.result c.from_residual.ensures.1
-    (λ fault breaks. value_breaks (arguments_as (map argument c.args.arguments.items) (map ctype types)) c.in-Some.argument c.pop_front.new.self.items types (length built) t c.loop-argument.arguments.items built fault c.in-Some.ensures.items less at c.loop-argument.invariant.same breaks)
+    (λ stop breaks. value_breaks (arguments_as (map argument c.args.arguments.items) (map ctype types)) c.in-Some.argument c.pop_front.new.self.items types (length built) t c.loop-argument.arguments.items built stop c.in-Some.ensures.items less at c.loop-argument.invariant.same breaks)
     c.in_err-value.ensures
 
 pub loop-argument-preserved : goal.loop-argument-preserved

@@ -6,5 +6,5 @@ use Rattle.expression_typing.proofs.calls.one_number.Goals as goal
 pub returns-in_err-needs-in-Some : goal.returns-in_err-needs-in-Some
 returns-in_err-needs-in-Some c =
     refused_by c.from_residual.result c.from_residual.ensures.1
-    (λ fault breaks. one_too_many c.in-Some.argument c.pop_front.new.self.items c.args.arguments.items c.is_empty.result c.args.span fault c.in-Some.ensures.items (c.is_empty.ensures ∙ ap (λ n. n == 0) c.pop_front.new.self.ok.0) breaks)
+    (λ stop breaks. one_too_many c.in-Some.argument c.pop_front.new.self.items c.args.arguments.items c.is_empty.result c.args.span stop c.in-Some.ensures.items (c.is_empty.ensures ∙ ap (λ n. n == 0) c.pop_front.new.self.ok.0) breaks)
     c.in_err-needs-in-Some.ensures

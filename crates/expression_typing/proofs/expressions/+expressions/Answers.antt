@@ -30,7 +30,7 @@ all_typed-returns-in_err-typed t c =
     let xs = c.args.arguments.now in
     let less : c.loop-written.written-index < length xs = omega (arith, c.loop-written-test.true) in
     refused_by c.from_residual.result c.from_residual.ensures.1
-    (λ fault breaks. argument_breaks (place_at c.args.sites.now) (scope c.args.scope.now) xs c.loop-written.written-index c.written-item.result (map argument c.loop-written.built.items) fault less c.written-item.is c.loop-written.invariant.so_far breaks)
+    (λ stop breaks. argument_breaks (place_at c.args.sites.now) (scope c.args.scope.now) xs c.loop-written.written-index c.written-item.result (map argument c.loop-written.built.items) stop less c.written-item.is c.loop-written.invariant.so_far breaks)
     c.in_err-typed.ensures
 
 pub all_typed-loop-written-preserved : goal.all_typed-loop-written-preserved
@@ -38,7 +38,7 @@ all_typed-loop-written-preserved t c =
     let xs = c.args.arguments.now in
     let less : c.loop-written.written-index < length xs = omega (arith, c.loop-written-test.true) in
     record {
-      so_far = argument_pushed (place_at c.args.sites.now) (scope c.args.scope.now) xs c.loop-written.written-index c.written-item.result c.loop-written.built.items c.push_back.new.self.items (record { typed = c.in_ok-typed.typed; span = c.span.result }) c.in_ok-push_back.ensures.items less c.written-item.is c.span.ensures c.loop-written.invariant.so_far c.in_ok-typed.ensures.so;
+      so_far = argument_pushed (place_at c.args.sites.now) (scope c.args.scope.now) xs c.loop-written.written-index c.written-item.result c.loop-written.built.items c.push.new.self.items (record { typed = c.in_ok-typed.typed; span = c.span.result }) c.in_ok-push.ensures.items less c.written-item.is c.span.ensures c.loop-written.invariant.so_far c.in_ok-typed.ensures.so;
     }
 
 pub all_typed-returns : goal.all_typed-returns

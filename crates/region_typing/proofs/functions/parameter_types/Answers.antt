@@ -4,7 +4,7 @@ use Rattle.typing_rules.specs.Items.{listed, parameter_types}
 use Rattle.checker_scope.specs.Views.{scope, variable}
 use Rattle.checker_scope.proofs.Going.{refused_by}
 use Rattle.region_typing.specs.Items.{one_parameter}
-use Rattle.statement_typing.proofs.Steps.{part_more, part_breaks, parts_done}
+use Rattle.checker_scope.proofs.Steps.{part_more, part_breaks, parts_done}
 use Rattle.region_typing.proofs.ItemSteps.{parameter_by_step}
 use Rattle.region_typing.proofs.functions.parameter_types.Goals as goal
 
@@ -23,7 +23,7 @@ returns-in_err-push_parameter-clause-types c =
     let xs = c.listed-parameter-items.result.now in
     let less : c.loop-parameter.parameter-index < length xs = omega (arith, c.loop-parameter-test.true) in
     refused_by c.from_residual.result c.from_residual.ensures.1
-    (λ fault breaks. part_breaks (parameter_types g) (one_parameter g) (parameter_by_step g) trees.parameter xs c.loop-parameter.parameter-index c.parameter-item.result (parameter_types g (listed (trees.parameters c.args.written.now)) []) (map variable c.loop-parameter.parameters.items) fault less c.parameter-item.is c.loop-parameter.invariant.so_far breaks)
+    (λ stop breaks. part_breaks (parameter_types g) (one_parameter g) (parameter_by_step g) trees.parameter xs c.loop-parameter.parameter-index c.parameter-item.result (parameter_types g (listed (trees.parameters c.args.written.now)) []) (map variable c.loop-parameter.parameters.items) stop less c.parameter-item.is c.loop-parameter.invariant.so_far breaks)
     c.in_err-push_parameter.ensures.types
 
 pub returns-clause-types : goal.returns-clause-types

@@ -4,7 +4,7 @@ use Rattle.pointer_modes.specs.Types.{ctype}
 use Rattle.checker_scope.proofs.Going.{refused_by}
 use Rattle.region_typing.specs.declared.initials.Judged.TheVariants as forms
 use Rattle.region_typing.specs.Items.{walk, judged_variable, one_object, judged_objects}
-use Rattle.statement_typing.proofs.Steps.{part_more, part_breaks, parts_done}
+use Rattle.checker_scope.proofs.Steps.{part_more, part_breaks, parts_done}
 use Rattle.region_typing.proofs.globals.objects.Goals as goal
 
 pub loop-v-preserved : goal.loop-v-preserved
@@ -20,7 +20,7 @@ returns-in_err-object c =
     let s = c.args.span in
     let less : c.loop-v.v-index < length c.args.vs.now = omega (arith, c.loop-v-test.true) in
     refused_by c.from_residual.result c.from_residual.ensures.1
-    (λ fault breaks. part_breaks (judged_objects s) (one_object s) (λ v vs w. refl) (judged_variable (ctype c.args.t.now)) c.args.vs.now c.loop-v.v-index (get_or c.args.vs.now c.loop-v.v-index forms.Missing) (judged_objects s (map (judged_variable (ctype c.args.t.now)) c.args.vs.now) (walk c.args.walk.now)) (walk c.loop-v.walk) fault less (get_or_default c.args.vs.now c.loop-v.v-index forms.Missing (get_or c.args.vs.now c.loop-v.v-index forms.Missing) less) c.loop-v.invariant.so_far breaks)
+    (λ stop breaks. part_breaks (judged_objects s) (one_object s) (λ v vs w. refl) (judged_variable (ctype c.args.t.now)) c.args.vs.now c.loop-v.v-index (get_or c.args.vs.now c.loop-v.v-index forms.Missing) (judged_objects s (map (judged_variable (ctype c.args.t.now)) c.args.vs.now) (walk c.args.walk.now)) (walk c.loop-v.walk) stop less (get_or_default c.args.vs.now c.loop-v.v-index forms.Missing (get_or c.args.vs.now c.loop-v.v-index forms.Missing) less) c.loop-v.invariant.so_far breaks)
     c.in_err-object.ensures
 
 pub returns : goal.returns

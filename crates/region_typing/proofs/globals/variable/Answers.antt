@@ -2,15 +2,23 @@ use Rattle.ckc_text.specs.Places.{place_at}
 use Rattle.ckc_tree.specs.Types.{type_tree}
 use Rattle.ckc_tree.specs.Statements.{declarator}
 use Rattle.pointer_modes.specs.Types.{ctype}
-use Rattle.checker_scope.proofs.Going.{refused}
+use Rattle.checker_scope.proofs.Going.{refused, refused_by}
+use Rattle.statement_typing.proofs.Testing.{tested}
 use Rattle.region_typing.specs.Items.{walk}
-use Rattle.region_typing.proofs.JudgedVariables.{one_more_variable}
+use Rattle.region_typing.proofs.JudgedVariables.{stars_break, one_more_variable}
 use Rattle.region_typing.proofs.globals.variable.Goals as goal
 
-pub returns-in_err-accept_type : goal.returns-in_err-accept_type
-returns-in_err-accept_type c = refused _ c.from_residual.result c.from_residual.ensures.1 c.in_err-accept_type.ensures.known
+pub returns-in_err-taken : goal.returns-in_err-taken
+returns-in_err-taken c = refused _ c.from_residual.result c.from_residual.ensures.1 c.in_err-taken.ensures.room
+
+pub returns-in_err-needs : goal.returns-in_err-needs
+returns-in_err-needs c =
+    let broken = rw c.span.ensures at c.in_err-needs.ensures in
+    refused_by c.from_residual-in_err-needs.result c.from_residual-in_err-needs.ensures.1
+    (λ stop breaks. stars_break (place_at c.args.sites.now) (type_tree c.args.base.now) c.args.span (declarator c.args.d.now) (ctype c.args.t.now) c.in_ok-taken.taken (walk c.args.walk.now) stop c.in_ok-taken.ensures.room.so breaks)
+    broken
 
 pub returns : goal.returns
 returns c =
     let known = rw c.as_bytes.ensures at c.in_ok-add_variable.ensures in
-    one_more_variable (place_at c.args.sites.now) (type_tree c.args.base.now) c.args.span (declarator c.args.d.now) (ctype c.args.t.now) (walk c.args.walk.now) (walk c.add_variable.new.walk) c.initializer.result known c.in_ok-accept_type.ensures.known.so c.initializer.ensures
+    one_more_variable (place_at c.args.sites.now) (type_tree c.args.base.now) c.args.span (declarator c.args.d.now) (ctype c.args.t.now) c.in_ok-taken.taken (walk c.args.walk.now) (walk c.add_variable.new.walk) c.initializer.result known c.in_ok-taken.ensures.room.so (tested _ _ _ c.in_ok-needs.ensures) c.initializer.ensures

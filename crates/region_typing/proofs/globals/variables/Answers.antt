@@ -5,7 +5,7 @@ use Rattle.ckc_tree.specs.Statements.{declarator}
 use Rattle.pointer_modes.specs.Types.{ctype}
 use Rattle.checker_scope.proofs.Going.{refused_by}
 use Rattle.region_typing.specs.Items.{walk, judged_variable, judged_variables}
-use Rattle.statement_typing.proofs.Steps.{part_more, part_breaks, parts_done}
+use Rattle.checker_scope.proofs.Steps.{part_more, part_breaks, parts_done}
 use Rattle.region_typing.proofs.ItemSteps.{variable_step, variable_by_step, variable_passes, variable_breaks}
 use Rattle.region_typing.proofs.globals.variables.Goals as goal
 
@@ -28,8 +28,8 @@ returns-in_err-next c =
     let s = c.args.span in
     let less : c.loop-d.d-index < length c.args.ds.now = omega (arith, c.loop-d-test.true) in
     refused_by c.from_residual.result c.from_residual.ensures.1
-    (λ fault breaks. part_breaks (judged_variables at base t s) (variable_step at base t s) (variable_by_step at base t s) declarator c.args.ds.now c.loop-d.d-index c.d-item.result (judged_variables at base t s (map declarator c.args.ds.now) (walk c.args.walk.now, [])) (walk c.loop-d.walk, map (judged_variable t) c.loop-d.walked.items) fault less c.d-item.is c.loop-d.invariant.so_far
-    (variable_breaks at base t s (declarator c.d-item.result) (walk c.loop-d.walk) (map (judged_variable t) c.loop-d.walked.items) fault breaks))
+    (λ stop breaks. part_breaks (judged_variables at base t s) (variable_step at base t s) (variable_by_step at base t s) declarator c.args.ds.now c.loop-d.d-index c.d-item.result (judged_variables at base t s (map declarator c.args.ds.now) (walk c.args.walk.now, [])) (walk c.loop-d.walk, map (judged_variable t) c.loop-d.walked.items) stop less c.d-item.is c.loop-d.invariant.so_far
+    (variable_breaks at base t s (declarator c.d-item.result) (walk c.loop-d.walk) (map (judged_variable t) c.loop-d.walked.items) stop breaks))
     c.in_err-next.ensures
 
 pub returns : goal.returns

@@ -4,7 +4,7 @@ use Rattle.ckc_tree.specs.Items as trees
 use Rattle.typing_rules.specs.Items.{items}
 use Rattle.checker_scope.proofs.Going.{refused_by}
 use Rattle.region_typing.specs.Items.{walk}
-use Rattle.statement_typing.proofs.Steps.{part_more, part_breaks, parts_done}
+use Rattle.checker_scope.proofs.Steps.{part_more, part_breaks, parts_done}
 use Rattle.region_typing.proofs.Outside.{stays_outside}
 use Rattle.region_typing.proofs.ItemSteps.{item_step, items_from, item_by_step}
 use Rattle.region_typing.proofs.items.each_item.Goals as goal
@@ -24,7 +24,7 @@ returns-in_err-item c =
     let all = map trees.item c.args.listing.now.items.now in
     let less : c.loop-listed.listed-index < length c.args.listing.now.items.now = omega (arith, c.loop-listed-test.true) in
     refused_by c.from_residual.result c.from_residual.ensures.1
-    (λ fault breaks. part_breaks (items_from at all) (item_step at all) (item_by_step at all) trees.item c.args.listing.now.items.now c.loop-listed.listed-index c.listed-item.result (items at all (walk c.args.walk.now) all) (walk c.loop-listed.walk) fault less c.listed-item.is c.loop-listed.invariant.so_far breaks)
+    (λ stop breaks. part_breaks (items_from at all) (item_step at all) (item_by_step at all) trees.item c.args.listing.now.items.now c.loop-listed.listed-index c.listed-item.result (items at all (walk c.args.walk.now) all) (walk c.loop-listed.walk) stop less c.listed-item.is c.loop-listed.invariant.so_far breaks)
     c.in_err-item.ensures
 
 pub returns : goal.returns

@@ -1,7 +1,7 @@
 use Rattle.std.proofs.Common.{◌<◌, length, map, arith}
 use Rattle.pointer_modes.specs.Types.{member}
 use Rattle.checker_scope.proofs.Going.{refused_by}
-use Rattle.statement_typing.proofs.Steps.{part_more, part_breaks, parts_done}
+use Rattle.checker_scope.proofs.Steps.{part_more, part_breaks, parts_done}
 use Rattle.region_typing.proofs.ItemSteps.{all_scalar_members, scalar_member, scalar_by_step}
 use Rattle.region_typing.proofs.structures.are_scalar.Goals as goal
 
@@ -17,7 +17,7 @@ returns-in_err-needs c =
     let broken = rw c.is_struct.ensures at c.in_err-needs.ensures in
     let less : c.loop-member.member-index < length c.args.members.now = omega (arith, c.loop-member-test.true) in
     refused_by c.from_residual.result c.from_residual.ensures.1
-    (λ fault breaks. part_breaks all_scalar_members scalar_member scalar_by_step member c.args.members.now c.loop-member.member-index c.member-item.result (all_scalar_members (map member c.args.members.now) tt) tt fault less c.member-item.is c.loop-member.invariant.so_far breaks)
+    (λ stop breaks. part_breaks all_scalar_members scalar_member scalar_by_step member c.args.members.now c.loop-member.member-index c.member-item.result (all_scalar_members (map member c.args.members.now) tt) tt stop less c.member-item.is c.loop-member.invariant.so_far breaks)
     broken
 
 pub returns : goal.returns

@@ -5,7 +5,7 @@ use Rattle.typing_rules.specs.Items.{member_types}
 use Rattle.checker_scope.specs.Views.{scope}
 use Rattle.checker_scope.proofs.Going.{refused_by}
 use Rattle.region_typing.specs.Items.{one_member}
-use Rattle.statement_typing.proofs.Steps.{part_more, part_breaks, parts_done}
+use Rattle.checker_scope.proofs.Steps.{part_more, part_breaks, parts_done}
 use Rattle.region_typing.proofs.ItemSteps.{member_by_step}
 use Rattle.region_typing.proofs.structures.member_types.Goals as goal
 
@@ -22,7 +22,7 @@ returns-in_err-push_member-clause-types c =
     let g = scope c.args.scope.now in
     let less : c.loop-member.member-index < length c.args.written.now = omega (arith, c.loop-member-test.true) in
     refused_by c.from_residual.result c.from_residual.ensures.1
-    (λ fault breaks. part_breaks (member_types g) (one_member g) (member_by_step g) trees.member c.args.written.now c.loop-member.member-index c.member-item.result (member_types g (map trees.member c.args.written.now) []) (map member c.loop-member.members.items) fault less c.member-item.is c.loop-member.invariant.so_far breaks)
+    (λ stop breaks. part_breaks (member_types g) (one_member g) (member_by_step g) trees.member c.args.written.now c.loop-member.member-index c.member-item.result (member_types g (map trees.member c.args.written.now) []) (map member c.loop-member.members.items) stop less c.member-item.is c.loop-member.invariant.so_far breaks)
     c.in_err-push_member.ensures.types
 
 pub returns-clause-types : goal.returns-clause-types

@@ -101,7 +101,7 @@ statements-returns-in_err-next t c =
     let xs = c.args.written.now in
     let less : c.loop-listed.listed-index < length xs = omega (arith, c.loop-listed-test.true) in
     refused_by c.from_residual.result c.from_residual.ensures.1
-    (λ fault breaks. statement_breaks (place_at c.args.sites.now) (rules.statements (place_at c.args.sites.now) (scope c.args.scope.now) (statement_list xs)) xs c.loop-listed.listed-index c.listed-item.result (scope c.loop-listed.scope) c.loop-listed.built.items fault less c.listed-item.is c.loop-listed.invariant.so_far breaks)
+    (λ stop breaks. statement_breaks (place_at c.args.sites.now) (rules.statements (place_at c.args.sites.now) (scope c.args.scope.now) (statement_list xs)) xs c.loop-listed.listed-index c.listed-item.result (scope c.loop-listed.scope) c.loop-listed.built.items stop less c.listed-item.is c.loop-listed.invariant.so_far breaks)
     c.in_err-next.ensures
 
 pub statements-loop-listed-preserved : goal.statements-loop-listed-preserved

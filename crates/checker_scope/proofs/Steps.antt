@@ -1,8 +1,7 @@
 -- Rules of the parts of a list, one after another.
 use Rattle.std.proofs.Common.{◌≡◌, ℕ, ◌+◌, ◌<◌, ◌≤◌, List, [], ◌∷◌, length, map, drop, get_or, ap, sym, ◌∙◌}
 use Rattle.std.proofs.lemmas.List.{drop_more, drop_all}
-use Rattle.ckc_text.specs.declared.fault.SourceFault.{SourceFault}
-use Rattle.typing_rules.specs.Verdicts.{Verdict, Passes, Breaks, passing}
+use Rattle.typing_rules.specs.Verdicts.{Stop, Verdict, Passes, Stops, passing}
 
 -- the parts from one on
 pub parts_at : {X Y : Type 0} (view : X → Y) (xs : List X) (i : ℕ) (x : X) → i < length xs → x ≡ get_or xs i x → map view (drop i xs) ≡ view x ∷ map view (drop (i + 1) xs)
@@ -18,8 +17,8 @@ module _ {Y A B : Type 0} (whole : List Y → A → Verdict B) (step : Y → A �
       so_far ∙ ap (λ ys. whole ys a) (parts_at view xs i x less is) ∙ by_step (view x) (map view (drop (i + 1) xs)) a ∙ ap (λ v. passing v (λ c. whole (map view (drop (i + 1) xs)) c)) passes
 
   -- a part that breaks a rule
-  pub part_breaks : {X : Type 0} (view : X → Y) (xs : List X) (i : ℕ) (x : X) (all : Verdict B) (a : A) (fault : SourceFault) → i < length xs → x ≡ get_or xs i x → all ≡ whole (map view (drop i xs)) a → step (view x) a ≡ Breaks fault → all ≡ Breaks fault
-  part_breaks view xs i x all a fault less is so_far breaks =
+  pub part_breaks : {X : Type 0} (view : X → Y) (xs : List X) (i : ℕ) (x : X) (all : Verdict B) (a : A) (stop : Stop) → i < length xs → x ≡ get_or xs i x → all ≡ whole (map view (drop i xs)) a → step (view x) a ≡ Stops stop → all ≡ Stops stop
+  part_breaks view xs i x all a stop less is so_far breaks =
       so_far ∙ ap (λ ys. whole ys a) (parts_at view xs i x less is) ∙ by_step (view x) (map view (drop (i + 1) xs)) a ∙ ap (λ v. passing v (λ c. whole (map view (drop (i + 1) xs)) c)) breaks
 
   -- all parts
