@@ -16,3 +16,4 @@ pub mod Items
 pub mod Typing
 pub mod Stacks
 pub mod StatementStacks
+pub mod Counts

@@ -7,7 +7,7 @@ ghost use Rattle.ckc_core.specs.Core.{Core};
 ghost use Rattle.typing_rules.specs.Expressions.{Places};
 ghost use Rattle.typing_rules.specs.NeverStuck.{HasCore, NeverStuck};
 ghost use Rattle.typing_rules.specs.Typed.{IsTyped};
-ghost use Rattle.typing_rules.specs.Lowerable.{IsSmallCore};
+ghost use Rattle.typing_rules.specs.Lowerable.{HasFewFunctions, IsSmallCore};
 ghost use Rattle.typing_rules.specs.Examples as examples;
 
 /// Programs and what they become, worked out from the rules.
@@ -28,4 +28,9 @@ pub fn never_stuck()
 /// The core of a program that breaks no rule and whose tree isn't too high is small enough to be lowered.
 pub fn lowerable()
     ensures { (at : Places) (t : Tree) (c : Core) → HasCore at t c → height t ≤ 200 → IsSmallCore c }
+{}
+
+/// The core of a program that breaks no rule has few functions of each side.
+pub fn few_functions()
+    ensures { (at : Places) (t : Tree) (c : Core) → HasCore at t c → HasFewFunctions c }
 {}
