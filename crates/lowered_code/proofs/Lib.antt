@@ -19,3 +19,4 @@ pub mod Paces
 pub mod Fits
 pub mod Slices
 pub mod Emitting
+mod Bases

@@ -9,6 +9,7 @@ use Rattle.act_words.specs.Checks.{is_word_number}
 use Rattle.act_words.specs.Limits.{AreAllowed}
 use Rattle.act_words.specs.Numbers.{word}
 use Rattle.act_words.specs.Shown.{Shown}
+use Rattle.act_words.specs.View.{output_of, releases_of, view_of}
 use Rattle.flat_bytes.specs.Blocks.{first_offset, grown}
 use Rattle.flat_bytes.specs.Blocks as flat
 use Rattle.ckc_core.specs.Core.{Core, Initial, Function, Import}
@@ -100,6 +101,9 @@ pub record IsLowerable (program : Core) : Type 0 where
   -- no tainted function has more parameters than can be passed, and none gives a pointer back
   pub imports : All (λ (i : Import). i.parameters ≤ 16) program.imports
   pub functions : All IsFunction program.functions
+  -- functions are numbered
+  pub few_functions : length program.functions ≤ 4096
+  pub few_imports : length program.imports ≤ 4096
   pub main : (f : Function) × (slice_get program.functions program.main ≡ Some f) × (f.parameters ≡ 0)
 
 -- wherever the program's run over inputs and acts ends, so does the image's, at every base address
@@ -107,3 +111,19 @@ pub record KeepsMeaning (program : Core) (image : Image) : Type 0 where
   pub fits : (settings : Settings) → AreAllowed settings → Fits image settings
   pub ends : (settings : Settings) (inputs : List ℤ) (acts : List Act) (ending : Ending) (s : meaning_states.State) → AreAllowed settings → All (λ z. IsTrue (is_word_number z)) inputs → All IsAct acts
       → meaning program settings inputs acts ≡ Ends ending s → (t : State) × CodeRun image settings inputs acts ending t × SameEnd settings.base s t
+
+-- two runs that nobody who sees them can tell apart: they end the same, wrote the same, took the same acts with the same left,
+-- and released and showed the same
+pub record SeenAlike (ending other : Ending) (t u : State) : Type 0 where
+  pub same_ending : ending ≡ other
+  pub output : output_of t.world.events ≡ output_of u.world.events
+  pub taken : t.world.taken ≡ u.world.taken
+  pub left : t.world.acts ≡ u.world.acts
+  pub releases : releases_of t.world.events ≡ releases_of u.world.events
+  pub view : view_of t.world.events ≡ view_of u.world.events
+
+-- over these inputs and acts, each run of the image comes to the same at every two base addresses
+abbrev pub AgreesAtBases : Image → Settings → List ℤ → List Act → Type 0
+AgreesAtBases image settings inputs acts =
+    (base : ℕ) (first second : Ending) (t u : State) → AreAllowed (record settings { base = base })
+    → CodeRun image settings inputs acts first t → CodeRun image (record settings { base = base }) inputs acts second u → SeenAlike first second t u

@@ -41,7 +41,7 @@ const MOST_BYTES: u32 = 32768;
 const POINTER_BYTES: u32 = 4;
 
 // The bytes of a variable of a type as it is written.
-fn written_size(scope: &Scope, base: &TypeForm, stars: u32) -> Result<u32, CheckError>
+fn written_size(scope: &Scope, base: &TypeForm, stars: usize) -> Result<u32, CheckError>
     ensures bytes { Answers (λ n. n) (written_size_of (scope_of scope.now) (type_tree base.now) stars) result }
     ensures few { IfOk result (λ bytes. bytes ≤ 256) }
 {

@@ -23,3 +23,4 @@ pub mod NamedExpressions
 pub mod NamedStatements
 pub mod NamedLists
 pub mod NamedItems
+pub mod Counts

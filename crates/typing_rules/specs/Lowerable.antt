@@ -39,3 +39,8 @@ pub record IsSmallCore (c : Core) : Type 0 where
   pub imports : All (λ (i : Import). i.parameters ≤ 16) c.imports
   pub functions : All (IsSmall 3400) c.functions
   pub main : (f : Function) × (slice_get c.functions c.main ≡ Some f) × (f.parameters ≡ 0)
+
+-- functions are numbered, and there are few of each side
+pub record HasFewFunctions (c : Core) : Type 0 where
+  pub functions : length c.functions ≤ 4096
+  pub imports : length c.imports ≤ 4096

@@ -11,7 +11,7 @@ ghost use Rattle.typing_rules.specs.Expressions.{Places};
 ghost use Rattle.typing_rules.specs.Cores.{checked};
 ghost use Rattle.typing_rules.specs.NeverStuck.{HasCore, NeverStuck};
 ghost use Rattle.typing_rules.specs.Typed.{IsTyped};
-ghost use Rattle.typing_rules.specs.Lowerable.{IsSmallCore};
+ghost use Rattle.typing_rules.specs.Lowerable.{HasFewFunctions, IsSmallCore};
 ghost use Rattle.typing_rules.specs.Examples as examples;
 
 /// Programs and what they become, worked out from the rules.
@@ -37,4 +37,9 @@ pub fn lowerable()
 /// Where naming finds no fault, each name stands for something in the rules too.
 pub fn named()
     ensures { (at : Places) (t : Tree) → is_built t ≡ true → naming_fault t ≡ None → checked at t ≡ Unnamed → ⊥ }
+{}
+
+/// The core of a program that breaks no rule has few functions of each side.
+pub fn few_functions()
+    ensures { (at : Places) (t : Tree) (c : Core) → HasCore at t c → HasFewFunctions c }
 {}
