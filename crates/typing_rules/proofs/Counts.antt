@@ -1,6 +1,6 @@
 -- A program that breaks no rule has few functions.
-use Rattle.std.proofs.Common.{◌≡◌, ℕ, ◌+◌, ◌≤◌, Bool, true, false, List, [], ◌∷◌, ◌++◌, length, Option, Some, None, refl, subst, length-append, arith}
-use Rattle.std.specs.Prelude.{nat_lt, nat_le, not, is_some, ◌&&◌, ◌||◌}
+use Rattle.std.proofs.Common.{◌≡◌, ℕ, ◌≤◌, Bool, true, false, List, [], ◌∷◌, ◌++◌, length, Option, Some, None, subst, length-append, arith}
+use Rattle.std.specs.Prelude.{nat_lt, not, is_some, ◌&&◌, ◌||◌}
 use Rattle.std.proofs.lemmas.Bool.Decides.{nat_tests}
 use Rattle.ckc_text.specs.declared.code.Code.TheVariants.{E08, E10, E13, E15, E27}
 use Rattle.ckc_text.specs.declared.place.Span.{Span}
@@ -12,12 +12,12 @@ use Rattle.pointer_modes.specs.Types as types
 use Rattle.pointer_modes.specs.Types.{CType}
 use Rattle.ckc_core.specs.Core as core
 use Rattle.ckc_core.specs.Core.{Core}
-use Rattle.typing_rules.specs.Verdicts.{Verdict, Passes, Breaks, passing, needs, picked}
+use Rattle.typing_rules.specs.Verdicts.{Verdict, Passes, Stops, passing, needs, picked}
 use Rattle.typing_rules.specs.Scopes.{Scope, Signature, Variable, function_named}
-use Rattle.typing_rules.specs.Expressions.{Places, is_import}
+use Rattle.typing_rules.specs.Expressions.{Places, is_import, is_tainted}
 use Rattle.typing_rules.specs.Statements.{statements, is_unchecked, is_checked}
 use Rattle.typing_rules.specs.Types.{base_type, without_stars}
-use Rattle.typing_rules.specs.Items.{Walk, Walked, WalkedVariable, in_checked_region, is_struct, member_types, with_struct, scalar_members, structure, initializer, object_cells, variables, with_variable, block_bytes, with_objects, global, listed, parameter_types, result_type, with_function, inside, core_function, function_body, agrees, all_scalar, scalar_result, is_trusted, is_defined, function_rules, signature_of, function, item, items, start, walked}
+use Rattle.typing_rules.specs.Items.{Walk, Walked, WalkedVariable, in_checked_region, is_struct, member_types, with_struct, scalar_members, structure, initializer, object_cells, variables, with_variable, room_for, room_for_first, with_objects, global, listed, parameter_types, result_type, with_function, inside, core_function, function_body, agrees, all_scalar, scalar_result, is_defined, function_rules, signature_of, function, item, items, start, walked}
 use Rattle.typing_rules.specs.Cores.{body_of, trusted_functions, tainted_functions, core_of}
 use Rattle.typing_rules.specs.Lowerable.{HasFewFunctions}
 use Rattle.typing_rules.specs.NeverStuck.{HasCore}
@@ -29,7 +29,7 @@ HasFew w = length w.scope.functions ≤ 4096
 -- whatever is passed on
 passing_any : {A B : Type 0} (Q : B → Type 0) (v : Verdict A) (next : A → Verdict B) → ((x : A) → Promises Q (next x)) → Promises Q (passing v next)
 passing_any Q (Passes value) next more = more value
-passing_any Q (Breaks fault) next more = tt
+passing_any Q (Stops stop) next more = tt
 
 -- ---- structs and variables leave the functions
 
@@ -55,24 +55,25 @@ structure_few w d h =
 abbrev FewFirst : Walk × List WalkedVariable → Type 0
 FewFirst x = HasFew x.0
 
-abbrev with_one : Walk → Declarator → CType → Walk
-with_one w d t = record w { scope = with_variable d.name.name t w.scope; taken = w.taken + block_bytes w.scope t }
+abbrev with_one : Walk → Declarator → ℕ → CType → Walk
+with_one w d taken t = record w { scope = with_variable d.name.name t w.scope; taken = taken }
 
-abbrev behind_initial : Places → Walk → TypeTree → CType → Span → Declarator → List Declarator → List WalkedVariable → CType → Walked → Verdict (Walk × List WalkedVariable)
-behind_initial at w base type span d ds done t initial = variables at (with_one w d t) base type span ds (done ++ record { type = t; initial = initial } ∷ [])
+abbrev behind_initial : Places → Walk → TypeTree → CType → Span → Declarator → List Declarator → List WalkedVariable → ℕ → CType → Walked → Verdict (Walk × List WalkedVariable)
+behind_initial at w base type span d ds done taken t initial = variables at (with_one w d taken t) base type span ds (done ++ record { type = t; initial = initial } ∷ [])
 
-abbrev behind_type : Places → Walk → TypeTree → CType → Span → Declarator → List Declarator → List WalkedVariable → CType → Verdict (Walk × List WalkedVariable)
-behind_type at w base type span d ds done t =
-    needs (nat_le (w.taken + block_bytes w.scope t) 32768) E08 span (passing (initializer at (with_variable d.name.name t w.scope) d.initializer) (behind_initial at w base type span d ds done t))
+abbrev behind_type : Places → Walk → TypeTree → CType → Span → Declarator → List Declarator → List WalkedVariable → ℕ → CType → Verdict (Walk × List WalkedVariable)
+behind_type at w base type span d ds done taken t = passing (initializer at (with_variable d.name.name t w.scope) d.initializer) (behind_initial at w base type span d ds done taken t)
+
+abbrev behind_room : Places → Walk → TypeTree → CType → Span → Declarator → List Declarator → List WalkedVariable → ℕ → Verdict (Walk × List WalkedVariable)
+behind_room at w base type span d ds done taken = passing (without_stars base d.stars type) (behind_type at w base type span d ds done taken)
 
 variables_few : (at : Places) (w : Walk) (base : TypeTree) (type : CType) (span : Span) (ds : List Declarator) (done : List WalkedVariable) → HasFew w → Promises FewFirst (variables at w base type span ds done)
 variables_few at w base type span [] done h = h
 variables_few at w base type span (d ∷ ds) done h =
-    needs_promises FewFirst (nat_lt (length w.scope.variables) 4096) E08 span (passing (without_stars base d.stars type) (behind_type at w base type span d ds done)) (λ e.
-    passing_any FewFirst (without_stars base d.stars type) (behind_type at w base type span d ds done) (λ t.
-    needs_promises FewFirst (nat_le (w.taken + block_bytes w.scope t) 32768) E08 span (passing (initializer at (with_variable d.name.name t w.scope) d.initializer) (behind_initial at w base type span d ds done t)) (λ f.
-    passing_any FewFirst (initializer at (with_variable d.name.name t w.scope) d.initializer) (behind_initial at w base type span d ds done t) (λ initial.
-    variables_few at (with_one w d t) base type span ds (done ++ record { type = t; initial = initial } ∷ []) h))))
+    passing_any FewFirst (room_for w base span d) (behind_room at w base type span d ds done) (λ taken.
+    passing_any FewFirst (without_stars base d.stars type) (behind_type at w base type span d ds done taken) (λ t.
+    passing_any FewFirst (initializer at (with_variable d.name.name t w.scope) d.initializer) (behind_initial at w base type span d ds done taken t) (λ initial.
+    variables_few at (with_one w d taken t) base type span ds (done ++ record { type = t; initial = initial } ∷ []) h)))
 
 abbrev behind_cells : Walk → Span → List WalkedVariable → List core.Initial → Verdict Walk
 behind_cells w span vs cells = needs (nat_lt 0 (length cells)) E10 span (with_objects (record w { objects = w.objects ++ cells ∷ [] }) span vs)
@@ -92,11 +93,15 @@ behind_variables g x = passing (with_objects x.0 g.span x.1) (behind_objects g)
 abbrev behind_base : Places → Walk → i.Global → CType → Verdict Walk
 behind_base at w g type = passing (variables at w g.base type g.span g.declarators []) (behind_variables g)
 
+abbrev behind_limits : Places → Walk → i.Global → ℕ → Verdict Walk
+behind_limits at w g taken = passing (base_type w.scope g.base) (behind_base at w g)
+
 global_few : (at : Places) (w : Walk) (g : i.Global) → HasFew w → Promises HasFew (global at w g)
 global_few at w g h =
+    passing_any HasFew (room_for_first w g g.declarators) (behind_limits at w g) (λ taken.
     passing_any HasFew (base_type w.scope g.base) (behind_base at w g) (λ type.
     passing_promises FewFirst HasFew (variables at w g.base type g.span g.declarators []) (behind_variables g) (variables_few at w g.base type g.span g.declarators [] h) (λ x few.
-    passing_promises HasFew HasFew (with_objects x.0 g.span x.1) (behind_objects g) (objects_few x.0 g.span x.1 few) (λ v more. in_region v.scope g.span v more)))
+    passing_promises HasFew HasFew (with_objects x.0 g.span x.1) (behind_objects g) (objects_few x.0 g.span x.1 few) (λ v more. in_region v.scope g.span v more))))
 
 -- ---- functions
 
@@ -117,8 +122,8 @@ body_few at w f parameters (Some body) h =
 rules_few : (all : List Item) (d : i.Function) (f : Signature) (known : Option Signature) (w : Walk) → HasFew w → Promises HasFew (function_rules all d f known w)
 rules_few all d f known w h =
     let checked = in_checked_region w.scope d.span w in
-    needs_promises HasFew (agrees known f && (all_scalar f.parameters && scalar_result f.result)) E13 d.span (needs (picked (is_trusted d.kind) (is_defined all d.name.name) true) E10 d.span (needs (not (is_unchecked d.mark)) E15 d.span checked)) (λ e.
-    needs_promises HasFew (picked (is_trusted d.kind) (is_defined all d.name.name) true) E10 d.span (needs (not (is_unchecked d.mark)) E15 d.span checked) (λ e'.
+    needs_promises HasFew (agrees known f && (all_scalar f.parameters && scalar_result f.result)) E13 d.span (needs (picked (is_tainted d.kind) true (is_defined all d.name.name)) E10 d.span (needs (not (is_unchecked d.mark)) E15 d.span checked)) (λ e.
+    needs_promises HasFew (picked (is_tainted d.kind) true (is_defined all d.name.name)) E10 d.span (needs (not (is_unchecked d.mark)) E15 d.span checked) (λ e'.
     needs_promises HasFew (not (is_unchecked d.mark)) E15 d.span checked (λ e''. in_region w.scope d.span w h)))
 
 abbrev declared_in : Walk → i.Function → Option CType → List Variable → Walk
@@ -173,7 +178,7 @@ few_walked : (v : Verdict Walk) (c : Core) → Promises HasFew v → passing v (
 few_walked (Passes w) c h e =
     let same : core_of w ≡ c = cc in
     subst HasFewFunctions same (record { functions = omega (arith, h, trusted_fewer w.bodies w.scope.functions); imports = omega (arith, h, tainted_fewer w.scope.functions) })
-few_walked (Breaks fault) c h e = absurd (cc)
+few_walked (Stops stop) c h e = absurd (cc)
 
 pub few : (at : Places) (t : Tree) (c : Core) → HasCore at t c → HasFewFunctions c
 few at t c h = few_walked (walked at t) c (items_few at t.items start t.items (omega arith)) h.rules
