@@ -71,7 +71,7 @@ const RULES_IN_ORDER: &str =
 [refused E19 1:92 arithmetic on ptr]@struct s { int a; ptr<struct s> n; }; struct s v; ptr<struct s> p; int main(void) { return p + v; }
 [refused E15 2:25 unchecked in a checked region]@#pragma CHECKED_SCOPE off¶int main(void) { if (1) { } return 0; }
 [refused E15 2:20 unchecked in a checked region]@#pragma CHECKED_SCOPE off¶int main(void) { { { } } { } return 0; }
-[refused E10 1:1 unknown name]@_Callback int f(void); int main(void) { return 0; }"#;
+[refused E09 1:1 not built yet]@_Callback int f(void); int main(void) { return 0; }"#;
 
 // A limit is tested before the type and the value of what is one too many.
 const LIMITS_FIRST: &str =

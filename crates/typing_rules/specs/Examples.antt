@@ -3,8 +3,9 @@ use Rattle.std.specs.Prelude.{◌≡◌, ℕ, false, List, [], ◌∷◌, codes,
 use Rattle.ckc_text.specs.declared.place.Span.{Span}
 use Rattle.ckc_text.specs.declared.place.Place.{Place}
 use Rattle.ckc_text.specs.declared.code.Code.{Code}
-use Rattle.ckc_text.specs.declared.code.Code.TheVariants.{E15, E30}
+use Rattle.ckc_text.specs.declared.code.Code.TheVariants.{E10, E15, E30}
 use Rattle.ckc_tree.specs.declared.identifier.Identifier.{Identifier}
+use Rattle.ckc_tree.specs.declared.item.FunctionKind.{FunctionKind}
 use Rattle.ckc_tree.specs.declared.item.FunctionKind.TheVariants as function_kinds
 use Rattle.ckc_tree.specs.declared.expr.UnaryOperator.TheVariants as unary
 use Rattle.ckc_tree.specs.declared.expr.BinaryOperator.TheVariants as binary
@@ -154,3 +155,29 @@ raw_in_checked =
 -- int main(void) { break; return 0; }
 abbrev pub break_outside : Type 0
 break_outside = breaks_at (checked at (main_with (s.Break (span 17 23) ∷ (s.Return (Some (e.Number 0 (span 31 32))) (span 24 33) ∷ [])))) E30 17
+
+abbrev prototype : FunctionKind → Tree
+prototype kind = record {
+  items = i.FunctionItem (record {
+    kind = kind;
+    mark = None;
+    result = i.Value (types.IntType (span 10 13));
+    stars = 0;
+    name = record { name = codes "f"; span = span 14 15 };
+    parameters = i.VoidAlone;
+    bounds = None;
+    body = None;
+    span = span 7 22;
+  }) ∷ [];
+  span = span 0 22;
+}
+
+abbrev passes : Verdict Core → Type 0
+passes (Passes c) = Unit {0}
+passes (Stops stop) = ⊥
+
+-- int f(void); and the same with _Callback or _Tainted before it: what isn't tainted has a body
+abbrev pub without_bodies : Type 0
+without_bodies =
+    breaks_at (checked at (prototype function_kinds.Trusted)) E10 7
+    × (breaks_at (checked at (prototype function_kinds.Callback)) E10 7 × passes (checked at (prototype function_kinds.Tainted)))

@@ -19,6 +19,7 @@ pub fn examples()
     ensures first_run { examples.first_run }
     ensures raw_in_checked { examples.raw_in_checked }
     ensures break_outside { examples.break_outside }
+    ensures without_bodies { examples.without_bodies }
 {}
 
 /// The core of a program that breaks no rule has types, the run of what has types ends and is never stuck, and so is that of a
