@@ -1,6 +1,6 @@
 // Emitting the image of a program: its static blocks, its functions and the tainted ones.
 
-ghost use Rattle.std.specs.Prelude.{◌≡◌, ◌++◌, map, option_map, IfOk, OnOk, All};
+ghost use Rattle.std.specs.Prelude.{◌≡◌, ◌≤◌, ◌++◌, length, map, option_map, IfOk, OnOk, All};
 ghost use Rattle.pointer_modes.specs.Types.{ctype as type_of};
 ghost use Rattle.ckc_core.specs.Core.{core, function, import_of, object};
 ghost use Rattle.lowered_code.specs.Code as code;
@@ -120,13 +120,13 @@ fn emit_function(alloc: Global, number: u32, f: &Function) -> Result<Func, NoMem
 
 // The functions, which are numbered from 0.
 fn emit_functions(alloc: Global, functions: &[Function]) -> Result<Funs, NoMemory>
-    requires { All IsFunction (map function functions.now) }
+    requires small { All IsFunction (map function functions.now) }
+    requires few { length functions.now ≤ 4096 }
     ensures { IfOk result (λ funs. funs ≡ functions_from 0 (map function functions.now)) }
 {
     let mut funs = Vec::new(alloc);
     for (index, f) in functions.iter().enumerate() {
-        let number = u32::try_from(index).or(Err(NoMemory))?;
-        funs.push(emit_function(alloc, number, f)?)?;
+        funs.push(emit_function(alloc, index as u32, f)?)?;
     }
     Ok(Listed::from_vec(funs))
 }
@@ -145,12 +145,12 @@ fn tainted_import(alloc: Global, number: u32, f: &program::Import) -> Result<Imp
 
 // The tainted functions, which are numbered from 0.
 fn tainted_imports(alloc: Global, functions: &[program::Import]) -> Result<Imports, NoMemory>
+    requires { length functions.now ≤ 4096 }
     ensures { IfOk result (λ imports. imports ≡ imports_from 0 (map import_of functions.now)) }
 {
     let mut imports = Vec::new(alloc);
     for (index, f) in functions.iter().enumerate() {
-        let number = u32::try_from(index).or(Err(NoMemory))?;
-        imports.push(tainted_import(alloc, number, f)?)?;
+        imports.push(tainted_import(alloc, index as u32, f)?)?;
     }
     Ok(Listed::from_vec(imports))
 }
