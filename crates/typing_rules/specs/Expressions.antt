@@ -267,7 +267,7 @@ arguments_as (argument ∷ arguments) (type ∷ types) =
     converted argument.0 type argument.1 (λ v. passing (arguments_as arguments types) (λ others. Passes (core.More v others)))
 
 -- the number of a function that isn't tainted among those that aren't, and of a tainted one among the tainted, in the order in
--- which their names are first declared
+-- which their names are first declared. It is asked of functions that are declared, and of `main`, which naming has found
 abbrev pub is_tainted : FunctionKind → Bool
 is_tainted function_kinds.Trusted = false
 is_tainted function_kinds.Tainted = true
