@@ -57,7 +57,7 @@ AtMostOneFault = (length : ℕ) (tokens : List Token) (f g : SourceFault) → Is
 abbrev pub NeverBoth : Type 0
 NeverBoth = (length : ℕ) (tokens : List Token) (f : SourceFault) (t : Tree) → IsFault length tokens f → IsTree length tokens t → ⊥
 
--- it has such a tree or a refusal: the two can't both be missing. Which of them it has is not decided here, so the law says no more
+-- no list of tokens has neither a tree that is low enough nor a refusal: a double negation, since which of the two it has isn't decided here
 abbrev pub NeverNeither : Type 0
 NeverNeither = (length : ℕ) (tokens : List Token) → ((t : Tree) → IsTree length tokens t → ⊥) → ((f : SourceFault) → IsFault length tokens f → ⊥) → ⊥
 
@@ -67,7 +67,9 @@ SpelledBegins = (length : ℕ) (tokens : List Token) (t : Tree) → SpellsProgra
 
 -- so do the tokens up to each of them, and have put no node deeper than the tree's
 abbrev pub PrefixBegins : Type 0
-PrefixBegins = (length : ℕ) (front rest : List Token) (t : Tree) → SpellsProgram length (front ++ rest) t → (r : Reach) × BeginsItems (front ++ rest) rest r × (r.height ≤ height t)
+PrefixBegins =
+    (length : ℕ) (front rest : List Token) (t : Tree) → SpellsProgram length (front ++ rest) t
+    → (r : Reach) × BeginsItems (front ++ rest) rest r × (r.height ≤ height t)
 
 -- what begins up to the end of tokens that spell a tree has put its nodes and no others
 abbrev pub WholeBegins : Type 0

@@ -25,7 +25,7 @@ pub fn never_both()
     ensures { NeverBoth }
 {}
 
-/// Tokens spell a tree that is low enough, or have a refusal.
+/// No list of tokens has neither a tree that is low enough nor a refusal.
 pub fn never_neither()
     ensures { NeverNeither }
 {}
