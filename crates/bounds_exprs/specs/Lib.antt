@@ -4,3 +4,6 @@ pub mod Normal
 pub mod Examples
 pub mod Parts
 pub mod Places
+pub mod Steps
+pub mod Changes
+pub mod Names

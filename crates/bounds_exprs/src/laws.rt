@@ -1,6 +1,7 @@
 // The definitions on worked examples: each function proves what its contract says, and does nothing.
 
 ghost use Rattle.bounds_exprs.specs.Examples.{TenBytesAreTwo, TwoAreCounted, SizesCountElements, TwiceAVariableIsNone, EndsGoByTheTree, PartsAreLimited, PastTheLimitIsNone};
+ghost use Rattle.bounds_exprs.specs.Steps.{TermsAgree};
 
 /// Counts of elements and of bytes.
 pub fn counts()
@@ -15,4 +16,9 @@ pub fn counts()
 pub fn limits()
     ensures parts { PartsAreLimited }
     ensures terms { PastTheLimitIsNone }
+{}
+
+/// Sums in bounds have the terms that they have as expressions.
+pub fn terms_agree()
+    ensures { TermsAgree }
 {}
