@@ -7,3 +7,5 @@ pub mod Places
 pub mod Steps
 pub mod Changes
 pub mod Names
+pub mod StepExamples
+pub mod Values
