@@ -7,7 +7,7 @@ use Rattle.std.proofs.lemmas.Bool.{cases_eq}
 use Rattle.std.proofs.lemmas.Bool.Decides.{nat_tests}
 use Rattle.std.specs.Int.Signed.{le_z}
 use Rattle.difference_constraints.specs.declared.fact.Fact.{Fact}
-use Rattle.difference_constraints.specs.Distances.{is_near}
+use Rattle.difference_constraints.specs.Distances.{is_near, longer_of}
 use Rattle.difference_constraints.specs.Graphs.{fact_at, node_of}
 use Rattle.difference_constraints.specs.Shifts.{moved, is_variable}
 use Rattle.subsumption.specs.Facts.{value_of, Holds, IsAbout, IsBelow, IsWide, fact_of}
@@ -284,15 +284,26 @@ module _ (vars : ℕ) (entailed : Fact → Type 0) (t : Pairs) (closed : IsClose
   step_left : IsLeft vars entailed (table_of vars t)
   step_left = left_by (are_near (rows_of (vars + 1) t)) refl
 
+  -- where no constant is too large
+  near_says : AreNear (vars + 1) t → SaysExactly vars entailed (table_of vars t)
+  near_says near = by (are_near (rows_of (vars + 1) t)) (near_rows (vars + 1) t near)
+    where
+      by : (b : Bool) → b ≡ true → SaysExactly vars entailed (cond b (Least (rows_of (vars + 1) t)) (no_facts vars))
+      by true e = rows_say
+      by false e = absurd (cc)
+
 -- where everything is entailed
 all_left : (vars : ℕ) (entailed : Fact → Type 0) → ((goal : Fact) → IsAbout vars goal → entailed goal) → IsLeft vars entailed Contradiction
 all_left vars entailed all = inr ((λ wide. wide.met (all (fact_at None None (negsuc 0)) (record { left = tt; right = tt }))), (λ goal about. ((λ x. all goal about), (λ x. refl))))
+
+entries_near : (vars : ℕ) (rows : Rows) → AreClosed (vars + 1) rows → AreNear (vars + 1) (entry rows)
+entries_near vars rows table = rows_near (vars + 1) (entry rows) (ap are_near table.shape ∙ table.near)
 
 -- where a table entails it already
 stays_left : (vars : ℕ) (entailed : Fact → Type 0) (u : ClosedTable) → IsTable vars u → SaysExactly vars entailed u → IsLeft vars entailed u
 stays_left vars entailed Contradiction table says = inr ((λ wide. wide.met ((says (fact_at None None (negsuc 0)) (record { left = tt; right = tt })).0 refl)), says)
 stays_left vars entailed (Least rows) table says =
-    let near = rows_near (vars + 1) (entry rows) (ap are_near table.shape ∙ table.near) in
+    let near = entries_near vars rows table in
     let tells : Tells vars entailed (entry rows) = λ goal about. (
       (λ x. at_most_from (entry rows (node_of goal.left) (node_of goal.right)) goal.plus ((says goal about).1 x)),
       (λ x. (says goal about).0 (at_most_to (entry rows (node_of goal.left) (node_of goal.right)) goal.plus x)),
@@ -407,14 +418,20 @@ module _ (vars : ℕ) (rows : Rows) (table : AreClosed (vars + 1) rows) where
   variable_node : (x : ℕ) (o : Option ℕ) → o ≡ Some x → node_of o ≡ suc x
   variable_node x o e = ap node_of e
 
-  kill_left : (x : ℕ) → x < vars → IsLeft vars (FollowsWithoutNamed vars x (Least rows)) (table_of vars (killed (suc x) (entry rows)))
-  kill_left x lt =
+  near_killed : (x i j : ℕ) (o : Option ℤ) (p q r : Bool) → is_near o ≡ true → is_near (cond p o (cond q None (cond r None o))) ≡ true
+  near_killed x i j o true q r h = h
+  near_killed x i j o false true r h = refl
+  near_killed x i j o false false true h = refl
+  near_killed x i j o false false false h = h
+
+  kill_says : (x : ℕ) → x < vars → SaysExactly vars (FollowsWithoutNamed vars x (Least rows)) (table_of vars (killed (suc x) (entry rows)))
+  kill_says x lt =
       let u = killed (suc x) (entry rows) in
       let closed = killed_closed (vars + 1) (suc x) (entry rows) table.closed in
-      step_left vars (FollowsWithoutNamed vars x (Least rows)) u closed (λ goal about. (
+      near_says vars (FollowsWithoutNamed vars x (Least rows)) u closed (λ goal about. (
         (λ h. known (vars + 1) u closed (node_of goal.left) (node_of goal.right) goal.plus (below_node vars goal.left about.left) (below_node vars goal.right about.right) (λ v met. holds_node v goal (h v (without_holds x v met)))),
         (λ at v all. by goal about v all (killed_is (suc x) (entry rows) (node_of goal.left) (node_of goal.right) goal.plus at)),
-      ))
+      )) (λ i j li lj. near_killed (suc x) i j (entry rows i j) (i == j) (i == suc x) (j == suc x) (entries_near vars rows table i j li lj))
     where
       by : (goal : Fact) → IsAbout vars goal → (v : ℕ → ℤ) → ((f : Fact) → IsAbout vars f → IsWithout x f → entails_fact f (Least rows) ≡ true → Holds v f) → AtMost (entry rows (node_of goal.left) (node_of goal.right)) goal.plus × IsApart (suc x) (node_of goal.left) (node_of goal.right) → Holds v goal
       by goal about v all (at, inr apart) = all goal about (record { left = λ e. apart.0 (variable_node x goal.left e); right = λ e. apart.1 (variable_node x goal.right e) }) (at_most_to (entry rows (node_of goal.left) (node_of goal.right)) goal.plus at)
@@ -426,29 +443,42 @@ module _ (vars : ℕ) (rows : Rows) (table : AreClosed (vars + 1) rows) where
 abbrev Both : ClosedTable → ClosedTable → Fact → Type 0
 Both t u goal = (entails_fact goal t ≡ true) × (entails_fact goal u ≡ true)
 
-join_left : (vars : ℕ) (t u : ClosedTable) → IsTable vars t → IsTable vars u → IsLeft vars (Both t u) (joined vars t u)
-join_left vars Contradiction u a b = stays_left vars (Both Contradiction u) u b (λ goal about. ((λ x. (refl, x)), (λ h. h.1)))
-join_left vars (Least rows) Contradiction a b = stays_left vars (Both (Least rows) Contradiction) (Least rows) a (λ goal about. ((λ x. (x, refl)), (λ h. h.0)))
-join_left vars (Least rows) (Least others) a b =
-    step_left vars (Both (Least rows) (Least others)) (shared (entry rows) (entry others)) (shared_closed (vars + 1) (entry rows) (entry others) a.closed b.closed) (λ goal about.
+near_longer : (o p : Option ℤ) → is_near o ≡ true → is_near p ≡ true → is_near (longer_of o p) ≡ true
+near_longer None p h k = refl
+near_longer (Some d) None h k = refl
+near_longer (Some d) (Some e) h k = by (le_z d e)
+  where
+    by : (b : Bool) → is_near (Some (cond b e d)) ≡ true
+    by true = k
+    by false = h
+
+join_says : (vars : ℕ) (t u : ClosedTable) → IsTable vars t → IsTable vars u → SaysExactly vars (Both t u) (joined vars t u)
+join_says vars Contradiction u a b = λ goal about. ((λ x. (refl, x)), (λ h. h.1))
+join_says vars (Least rows) Contradiction a b = λ goal about. ((λ x. (x, refl)), (λ h. h.0))
+join_says vars (Least rows) (Least others) a b =
+    near_says vars (Both (Least rows) (Least others)) (shared (entry rows) (entry others)) (shared_closed (vars + 1) (entry rows) (entry others) a.closed b.closed) (λ goal about.
     let i = node_of goal.left in let j = node_of goal.right in (
       (λ h. longer_to (entry rows i j) (entry others i j) goal.plus (at_most_from (entry rows i j) goal.plus h.0) (at_most_from (entry others i j) goal.plus h.1)),
       (λ at. let l = longer_from (entry rows i j) (entry others i j) goal.plus at in (at_most_to (entry rows i j) goal.plus l.0, at_most_to (entry others i j) goal.plus l.1)),
-    ))
+    )) (λ i j li lj. near_longer (entry rows i j) (entry others i j) (entries_near vars rows a i j li lj) (entries_near vars others b i j li lj))
+
+-- facts that don't name x, and that nothing meets
+none_unmet : {vars : ℕ} (x : ℕ) (v : ℕ → ℤ) → ((f : Fact) → IsAbout vars f → IsWithout x f → entails_fact f Contradiction ≡ true → Holds v f) → ⊥
+none_unmet x v all =
+    let h = all (fact_at None None (negsuc 0)) (record { left = tt; right = tt }) (record { left = λ e. absurd (cc); right = λ e. absurd (cc) }) refl in omega (arith, ints, h)
 
 pub are_exact : AreExact
 are_exact vars Contradiction table = record {
   add = λ f about. all_left vars (FollowsWith vars f Contradiction) (λ goal ab v met h. met goal ab refl);
-  kill = λ x lt. all_left vars (FollowsWithoutNamed vars x Contradiction) (λ goal ab v all.
-      let h = all (fact_at None None (negsuc 0)) (record { left = tt; right = tt }) (record { left = λ e. absurd (cc); right = λ e. absurd (cc) }) refl in absurd (omega (arith, ints, h)));
+  kill = λ x lt goal ab. ((λ e v all. absurd (none_unmet x v all)), (λ h. refl));
   shift = λ x c lt. all_left vars (λ goal. entails_fact (moved x c goal) Contradiction ≡ true) (λ goal ab. refl);
-  join = λ u other. join_left vars Contradiction u table other;
+  join = λ u other. join_says vars Contradiction u table other;
 }
 are_exact vars (Least rows) table = record {
   add = λ f about. add_left vars rows table f about (is_broken (entry rows (node_of f.right) (node_of f.left)) f.plus) refl;
-  kill = kill_left vars rows table;
+  kill = kill_says vars rows table;
   shift = λ x c lt. shift_left vars rows table x c;
-  join = λ u other. join_left vars (Least rows) u table other;
+  join = λ u other. join_says vars (Least rows) u table other;
 }
 
 -- ---- changes of tables are tables
