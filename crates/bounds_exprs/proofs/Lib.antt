@@ -1,1 +1,3 @@
 pub mod Terms
+pub mod Steps
+pub mod Values

@@ -4,3 +4,8 @@ pub mod Normal
 pub mod Examples
 pub mod Parts
 pub mod Places
+pub mod Steps
+pub mod Changes
+pub mod Names
+pub mod StepExamples
+pub mod Values

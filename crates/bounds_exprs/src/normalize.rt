@@ -4,9 +4,9 @@ ghost use Rattle.std.specs.Prelude.{◌≡◌, ◌*ℤ◌, ◌<◌, ◌^◌, opt
 ghost use Rattle.bounds_exprs.specs.Normal.{NormalAnswers, how, elements_in, elements_of, is_element_size, negated, end_of, pointer_of, end_at, counted, paired, bounds_within, bounds_of};
 ghost use Rattle.bounds_exprs.specs.Places.{end_here};
 ghost use Rattle.bounds_exprs.specs.Terms.{is_within};
-ghost use Rattle.bounds_exprs.specs.Parts.{added, subtracted, multiplied};
 ghost use Rattle.bounds_exprs.specs.Sums.{sum, term_of as sum_term};
 
+use crate::expression::{add, constant, multiply, subtract};
 use crate::form::{BoundsForm, BoundsHow, SumForm};
 use crate::term::{Bounds, Term, limited};
 use ckc_text::code::Code;
@@ -15,71 +15,6 @@ use size_arithmetic::places::elements_in;
 
 /// The largest constant of an end; the smallest is its negative.
 const MAX_END: i64 = 2_147_483_648;
-
-/// The term of a constant.
-fn constant(plus: i64) -> Term
-    ensures { result ≡ record { var = None; plus = plus } }
-{
-    Term { var: None, plus }
-}
-
-fn add(a: Option<Term>, b: Option<Term>) -> Option<Term>
-    ensures { result ≡ added a b }
-{
-    match (a, b) {
-        (Some(a), Some(b)) => {
-            let plus = a.plus as i128 + b.plus as i128;
-            if a.var.is_none() {
-                limited(b.var, plus)
-            } else if b.var.is_none() {
-                limited(a.var, plus)
-            } else {
-                None
-            }
-        }
-        _ => None,
-    }
-}
-
-fn subtract(a: Option<Term>, b: Option<Term>) -> Option<Term>
-    ensures { result ≡ subtracted a b }
-{
-    match (a, b) {
-        (Some(a), Some(b)) => {
-            if b.var.is_none() {
-                limited(a.var, a.plus as i128 - b.plus as i128)
-            } else {
-                None
-            }
-        }
-        _ => None,
-    }
-}
-
-fn product(a: i64, b: i64) -> i128
-    ensures { result ≡ a *ℤ b }
-{
-    a as i128 * b as i128
-}
-
-fn multiply(a: Option<Term>, b: Option<Term>) -> Option<Term>
-    ensures { result ≡ multiplied a b }
-{
-    match (a, b) {
-        (Some(a), Some(b)) => {
-            if a.var.is_none() {
-                if b.var.is_none() {
-                    limited(None, product(a.plus, b.plus))
-                } else {
-                    None
-                }
-            } else {
-                None
-            }
-        }
-        _ => None,
-    }
-}
 
 /// The term that a sum comes to. Each sum in it is asked for the limit of constants.
 fn term_of(s: &SumForm) -> Option<Term>

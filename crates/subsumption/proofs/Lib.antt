@@ -16,3 +16,7 @@ mod Rounds
 mod Circles
 mod Paths
 mod Leasts
+pub mod TableConstants
+pub mod TableNumbers
+pub mod TableChanges
+pub mod TableSteps

@@ -4,3 +4,6 @@ pub mod Relaxation
 pub mod Closures
 pub mod Settling
 pub mod Tables
+pub mod ClosedTables
+pub mod TableLaws
+pub mod TableExamples

@@ -5,6 +5,7 @@ mod changes;
 mod closure;
 pub mod fact;
 pub mod facts;
+pub mod laws;
 mod question;
 mod relaxation;
 mod settle;
