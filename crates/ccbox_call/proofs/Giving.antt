@@ -138,9 +138,9 @@ module _ (c : Core) (image : Image) (settings : Settings) (inputs : List ℤ) (l
   outcome_gives files last old mid new (Ok ending) m m' f f' k j k' status w counts made = rw (made.1, made.2) (run_gives ending status w counts made.0)
   outcome_gives files last old mid new (Err (faults.Line line code)) m m' f f' k j k' status w counts made = line_refused_gives line code m m' f f' k j k' status w counts made
   outcome_gives files last old mid new (Err faults.Missing) m m' f f' k j k' status w counts made = absurd (never_missing old mid w)
-  outcome_gives files last old mid new (Err faults.ShelfFailed) m m' f f' k j k' status w counts made = rw (made.0, made.1, made.2) (files_failed w counts.0 counts.1 counts.2)
+  outcome_gives files last old mid new (Err faults.ShelfFailed) m m' f f' k j k' status w counts made = rw (made.0, made.1, made.2) (files_failed w.nothing counts.0 counts.1 counts.2)
   outcome_gives files last old mid new (Err faults.SinkFailed) m m' f f' k j k' status w counts made = rw (made.0, made.1, made.2) (output_gives w counts.0 counts.1 counts.2)
-  outcome_gives files last old mid new (Err faults.NoMemory) m m' f f' k j k' status w counts made = rw (made.0, made.1, made.2) (no_memory w counts.0 counts.1 counts.2)
+  outcome_gives files last old mid new (Err faults.NoMemory) m m' f f' k j k' status w counts made = rw (made.0, made.1, made.2) (no_memory w.nothing counts.0 counts.1 counts.2)
 
 -- ---- from lists to files
 

@@ -8,7 +8,7 @@ use Rattle.pointer_modes.specs.Layout.{scalar_size}
 use Rattle.ckc_core.specs.Core.{Core, Initial, Function}
 use Rattle.ckc_core.specs.Meaning.{is_char}
 use Rattle.lowered_code.specs.Correct.{width_if, counted_from, IsCell, IsFunction, IsLowerable}
-use Rattle.typing_rules.specs.Lowerable.{cells_size, objects_size, IsRoomy, IsSmall, IsSmallCore}
+use Rattle.typing_rules.specs.Lowerable.{cells_size, objects_size, IsRoomy, IsSmall, HasFewFunctions, IsSmallCore}
 
 width_is : (t : CType) → width_if (is_char t) ≤ scalar_size t
 width_is Int = omega arith
@@ -33,11 +33,13 @@ counted_is (cells ∷ objects) offset =
 function_is : (f : Function) → IsSmall 3400 f → IsFunction f
 function_is f small = record { parameters = small.few_parameters; held = small.held; frame = omega (arith, small.few_locals, small.low) }
 
-pub small_is_lowerable : (c : Core) → IsSmallCore c → IsLowerable c
-small_is_lowerable c small = record {
+pub small_is_lowerable : (c : Core) → IsSmallCore c → HasFewFunctions c → IsLowerable c
+small_is_lowerable c small few = record {
   cells = λ k d lt. let here = small.cells k d lt in ((λ j e less. cell_is _ (here.0 j e less)), here.1);
   objects = omega (arith, counted_is c.objects first_offset, small.objects);
   imports = small.imports;
   functions = λ k d lt. function_is _ (small.functions k d lt);
+  few_functions = few.functions;
+  few_imports = few.imports;
   main = small.main;
 }

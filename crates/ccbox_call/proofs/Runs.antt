@@ -18,6 +18,7 @@ use Rattle.lowered_code.specs.Images.{image_of}
 use Rattle.lowered_code.specs.Correct.{IsLowerable}
 use Rattle.lowered_code.proofs.Programs.{keeps_meaning}
 use Rattle.typing_rules.specs.NeverStuck.{NeverStuck}
+use Rattle.typing_rules.proofs.Counts.{few}
 use Rattle.typing_rules.proofs.Typing.{typed, small}
 use Rattle.typing_rules.proofs.Programs.{never_stuck}
 use Rattle.command_words.specs.Requests.{Run, Options, settings_of, inputs_of, request_of}
@@ -33,7 +34,7 @@ may_run words name options asked = record { settings = settings_allowed words na
 
 -- what is accepted can be lowered
 pub lowerable : (c : Core) → IsAcceptedCore c → IsLowerable c
-lowerable c a = let x = a.1 in small_is_lowerable c (small (place_at a.0) x.tree c x.has_core ((x.has_tree).is_tree).low)
+lowerable c a = let x = a.1 in small_is_lowerable c (small (place_at a.0) x.tree c x.has_core ((x.has_tree).is_tree).low) (few (place_at a.0) x.tree c x.has_core)
 
 -- what is accepted never gets stuck
 pub ends : (c : Core) → IsAcceptedCore c → NeverStuck c

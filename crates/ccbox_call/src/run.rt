@@ -118,8 +118,7 @@ fn run_program<F: Shelf, K: Sink>(
         Err(ActorFault::Failed) => FILES_FAILED,
         Err(ActorFault::NoMemory) => NO_MEMORY,
         // No act is asked for yet.
-        Err(ActorFault::Ended) => NO_MEMORY,
-        Err(ActorFault::Line { line: _, code: _ }) => NO_MEMORY,
+        Err(ActorFault::Ended | ActorFault::Line { line: _, code: _ }) => unreachable!(),
     }
 }
 
