@@ -6,4 +6,4 @@ pub mod ListRuns
 pub mod Giving
 pub mod Calls
 pub mod SomeAnswer
-pub mod Process
+pub mod Processes

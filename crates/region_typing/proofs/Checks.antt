@@ -8,10 +8,11 @@ use Rattle.typing_rules.specs.Expressions.{Places}
 use Rattle.typing_rules.specs.Items.{Walk, start}
 use Rattle.typing_rules.specs.Cores.{checked}
 use Rattle.region_typing.specs.Items.{Outside}
+use Rattle.typing_rules.proofs.NamedItems.{all_named}
 
 -- each name of a program of built forms with which naming finds no fault stands for something
 pub never_unnamed : (at : Places) (t : Tree) → is_built t ≡ true → naming_fault t ≡ None → checked at t ≡ Unnamed → ⊥
-never_unnamed at t forms named unnamed = ?
+never_unnamed = all_named
 
 -- no function is walked at the start
 pub outside_at_start : (w : Walk) → w ≡ start → Outside w.scope

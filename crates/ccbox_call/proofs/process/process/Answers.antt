@@ -1,6 +1,6 @@
 use Rattle.std.proofs.Common.{subst}
 use Rattle.ccbox_call.specs.Process.{ProcessEnds}
-use Rattle.ccbox_call.proofs.Process.{answers}
+use Rattle.ccbox_call.proofs.Processes.{answers}
 use Rattle.ccbox_call.proofs.process.process.Goals as goal
 
 pub returns-clause-answers : goal.returns-clause-answers
