@@ -1,6 +1,6 @@
 -- All that the call ensures of words, from how it ends.
-use Rattle.std.proofs.Common.{◌≡◌, ℕ, ◌<◌, ◌≤◌, ◌⊎◌, inl, inr, ⊎_elim, List, Option, Some, None, refl, sym, ap, subst, arith}
-use Rattle.ckc_io.specs.Counts.{Rose}
+use Rattle.std.proofs.Common.{◌≡◌, ℕ, ◌⊎◌, inl, inr, ⊎_elim, List, [], ◌∷◌, map, drop, Option, Some, None, String, Global, refl, ap, ◌∙◌, subst, arith}
+use Rattle.std.specs.String.{string_bytes}
 use Rattle.ckc_io.specs.Files.{Files}
 use Rattle.run_core.specs.Runs.{Counts}
 use Rattle.command_words.specs.Requests.{Run, request_of}
@@ -8,7 +8,7 @@ use Rattle.run_transcript.specs.Diagnostics.{usage_text}
 use Rattle.exit_status.specs.Given.{all, failed, LineGiven, given, unmade}
 use Rattle.ccbox_call.specs.Answers.{IsFailure, IsStatus, Exactly, Tells}
 use Rattle.ccbox_call.specs.Calls.{IsFoundStatus, StatusCounts, Gives, answered, output_failed, files_failed, no_memory, no_memory_behind, CallEnds, usage, asked}
-use Rattle.ccbox_call.specs.Process.{Answers}
+use Rattle.ccbox_call.specs.Process.{Answers, IsUnmade, ProcessEnds}
 use Rattle.ccbox_call.proofs.Calls.{front, whole, printed_run, complete, exits, refuses, misses, checks, stops, acts_refused, untouched, usage_line}
 
 failure : (n : ℕ) → IsFailure n → IsStatus n
@@ -132,3 +132,25 @@ module _ (words : List (List ℕ)) (told : Option Files) (old new : Option (List
         shelf_faults = tells_faults status h;
         sink_faults = tells_sink status h;
       }
+
+-- what a process answers, by the words that it was given
+pub answers_given : (o : Option (List (List ℕ))) (told : Option Files) (old new : Option (List ℕ)) (before after : Counts) (status : ℕ) → ProcessEnds o told old new before after status
+    → (words : List (List ℕ)) → o ≡ Some words → Answers told words old new before after status
+answers_given None told old new before after status h words same = absurd (cc)
+answers_given (Some taken) told old new before after status h words same =
+    let is : taken ≡ words = cc in
+    subst (λ (ws : List (List ℕ)). Answers told ws old new before after status) is (answers taken told old new before after status h)
+
+pub unmade_without : (o : Option (List (List ℕ))) (told : Option Files) (old new : Option (List ℕ)) (before after : Counts) (status : ℕ) → ProcessEnds o told old new before after status → o ≡ None → IsUnmade old new before after status
+unmade_without None told old new before after status h none = h
+unmade_without (Some taken) told old new before after status h none = absurd (cc)
+
+-- the texts behind the first argument are the words behind the program's own name
+dropped : {A B : Type 0} (f : A → B) (xs : List A) → map f (drop 1 xs) ≡ drop 1 (map f xs)
+dropped f [] = refl
+dropped f (x ∷ xs) = refl
+
+pub behind_first : (texts arguments : List (String Global)) → texts ≡ drop 1 arguments → (told : Option Files) (old new : Option (List ℕ)) (before after : Counts) (status : ℕ)
+    → CallEnds (map string_bytes texts) told old new before after status → CallEnds (drop 1 (map string_bytes arguments)) told old new before after status
+behind_first texts arguments same told old new before after status h =
+    subst (λ (ws : List (List ℕ)). CallEnds ws told old new before after status) (ap (map string_bytes) same ∙ dropped string_bytes arguments) h

@@ -1,10 +1,10 @@
 -- Words have an Answer over every map of files.
-use Rattle.std.proofs.Common.{◌≡◌, ℕ, Bool, true, false, List, length, Option, Some, None, option_map, Result, Ok, Err, refl, ◌⊎◌, inl, inr, ⊎_elim}
+use Rattle.std.proofs.Common.{◌≡◌, ℕ, Bool, true, false, List, length, Option, Some, None, Result, Ok, Err, refl, inl, inr, ⊎_elim}
 use Rattle.ckc_text.specs.declared.fault.SourceFault.{SourceFault}
 use Rattle.ckc_text.specs.Places.{place_at}
 use Rattle.ckc_text.specs.Refusals.{not_built as not_built_fault}
 use Rattle.ckc_tokens.specs.declared.token.Token.{Token}
-use Rattle.ckc_lexer.specs.Tokens.{Lexes, AreTokens}
+use Rattle.ckc_lexer.specs.Tokens.{Lexes}
 use Rattle.ckc_lexer.proofs.Cutting.{some_answer as some_cut}
 use Rattle.ckc_tree.specs.Items.{Tree}
 use Rattle.ckc_grammar.proofs.Neither.{never_neither}
@@ -15,10 +15,10 @@ use Rattle.typing_rules.specs.Verdicts.{Verdict, Passes, Stops, Broken, Nameless
 use Rattle.typing_rules.specs.Cores.{checked}
 use Rattle.typing_rules.proofs.NamedItems.{all_named}
 use Rattle.ckc_core.specs.Core.{Core}
-use Rattle.sandbox_actor.specs.ActLists.{ActList, acts_of_file}
+use Rattle.sandbox_actor.specs.ActLists.{ActList}
 use Rattle.command_words.specs.Requests.{Request, Run, Options, request_of}
 use Rattle.ccbox_call.specs.Acceptance.{HasTree, Accepts, IsRefused, CoreOrFault, no_tokens, no_tree, not_built, misnamed, breaks}
-use Rattle.ccbox_call.specs.Answers.{acts_at, AsksToRun, ran, CoreAnswer, acts_missing, acts, SourceAnswer, refused, accepted, FileAnswer, missing, source, Answer, usage, asked}
+use Rattle.ccbox_call.specs.Answers.{acts_at, AsksToRun, ran, acts_missing, acts, refused, accepted, missing, source, Answer, usage, asked}
 use Rattle.ccbox_call.proofs.Runs.{ends_over}
 
 -- ---- a source has a core or a fault

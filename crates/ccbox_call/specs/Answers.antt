@@ -171,7 +171,7 @@ pub record Tells (status n old new : ℕ) (Among : Type 0) : Type 0 where
 
 -- what the sandbox is shown by these events is the fold of its starting memory, these acts and the releases
 abbrev pub ViewIsFoldOf : List ℕ → List Act → List Event → Type 0
-ViewIsFoldOf start acts events = view_of events ≡ view_fold start acts (releases_of events)
+ViewIsFoldOf start taken events = view_of events ≡ view_fold start taken (releases_of events)
 
 -- the run of an accepted source is never stuck; what the sandbox is shown is the fold of its starting memory, the acts that
 -- were taken and the releases, and so is what it is shown up to a refused line that the run needs; and the text of the run is

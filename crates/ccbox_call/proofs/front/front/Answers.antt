@@ -1,6 +1,7 @@
-use Rattle.std.proofs.Common.{◌≡◌, length, Err, sym, ap, ◌∙◌, subst}
+use Rattle.std.proofs.Common.{◌≡◌, length, true, Err, sym, ap, ◌∙◌, subst}
 use Rattle.std.proofs.lemmas.Result.{err_from_is_err_and}
-use Rattle.ckc_tree.specs.Items.{tree}
+use Rattle.ckc_tree.specs.Items.{Tree, tree}
+use Rattle.built_forms.specs.Built.{is_built}
 use Rattle.ckc_grammar.specs.Parsing.{ParseAnswers}
 use Rattle.ckc_names.specs.Naming.{NamedTree}
 use Rattle.name_resolution.specs.Named.{named_tree}
@@ -13,7 +14,7 @@ check-requires-clause-short c = tokens_short c.in_ok-tokens.ensures
 pub check-requires-clause-forms : goal.check-requires-clause-forms
 check-requires-clause-forms c =
     let same : tree c.in_ok-source.source.program ≡ tree c.in_ok-tree.tree = ap (λ (n : NamedTree). n.tree) c.in_ok-source.ensures.1 in
-    rw same (sym c.is_built.ensures ∙ c.if-not-is_built.false)
+    subst (λ (t : Tree). is_built t ≡ true) (sym same) (sym c.is_built.ensures ∙ c.if-not-is_built.false)
 
 pub returns-in_err-tokens : goal.returns-in_err-tokens
 returns-in_err-tokens c =
