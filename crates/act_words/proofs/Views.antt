@@ -304,6 +304,6 @@ pub views_of_one_list : (start : List ℕ) (all : List Act) (v w : World) → Ha
     IsFront (view_of v.events) (view_of w.events) ⊎ IsFront (view_of w.events) (view_of v.events)
 views_of_one_list start all v w f g same =
     elim (two_fronts f.fold.taken v.acts g.fold.taken w.acts (sym f.fold.are ∙ g.fold.are)) [
-      second_longer more taken left ↦ inl (longer start all more v w f g taken left same)
+      | second_longer more taken left ↦ inl (longer start all more v w f g taken left same)
       | first_longer more taken left ↦ inr (longer start all more w v g f taken left (sym same))
     ]

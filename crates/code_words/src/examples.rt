@@ -1,6 +1,6 @@
 // The instruction tables at work on small images: each function proves what its contract says, and does nothing.
 
-ghost use Rattle.std.specs.Prelude.{◌≡◌, [], ◌∷◌, ◌++◌, map, replicate, Some, None, pos, negsuc};
+ghost use Rattle.std.specs.Prelude.{◌≡◌, [], ◌∷◌, map, replicate, Some, None, pos, negsuc};
 ghost use Rattle.ckc_text.specs.declared.place.Place.{Place};
 ghost use Rattle.ckc_text.specs.declared.code.Code.TheVariants.{C1, C2, C3, C4, C5, C6, C8, C9, S1, S3, S5, S6};
 ghost use Rattle.act_words.specs.declared.ending.Ending.TheVariants.{Exit, Check, Stop as Stops};
