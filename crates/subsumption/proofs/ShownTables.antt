@@ -1,19 +1,20 @@
 -- Lists of facts that show closed tables.
-use Rattle.std.proofs.Common.{ℕ, ◌<◌, ◌≡◌, ℤ, pos, negsuc, ◌-ℤ◌, Bool, true, false, None, List, [], ◌∷◌, ◌++◌, get_or, refl, sym, subst, arith, inl, inr}
+use Rattle.std.proofs.Common.{ℕ, Option, Some, ◌+◌, ◌<◌, ◌≡◌, ℤ, pos, negsuc, ◌-ℤ◌, Bool, true, false, None, List, [], ◌∷◌, ◌++◌, get_or, refl, sym, subst, arith, inl, inr}
 use Rattle.std.specs.Prelude.{◌↔◌}
 use Rattle.std.specs.List.{All, AllByRecursion}
 use Rattle.std.proofs.lemmas.Int.{ints}
 use Rattle.std.proofs.lemmas.List.Elements.{All-from_recursion, recursion_from_All, All-contains}
 use Rattle.bounds_exprs.specs.declared.term.Term.{Term}
 use Rattle.difference_constraints.specs.declared.fact.Fact.{Fact}
-use Rattle.difference_constraints.specs.Graphs.{fact_at}
+use Rattle.difference_constraints.specs.Graphs.{fact_at, node_of}
 use Rattle.difference_constraints.specs.Shifts.{moved}
 use Rattle.subsumption.specs.declared.fact.Answer.TheVariants.{Yes, No}
-use Rattle.subsumption.specs.Facts.{Holds, Meets, Entails, IsAbout, IsWide, Leaves, TermsHold, fact_of, numbers_of}
-use Rattle.subsumption.specs.Tables.{FollowsWithout, Table}
+use Rattle.subsumption.specs.Closures.{IsKept}
+use Rattle.subsumption.specs.Facts.{IsBelow, Holds, Meets, Entails, IsAbout, IsWide, Leaves, TermsHold, fact_of, numbers_of}
+use Rattle.subsumption.specs.Tables.{FollowsWithout, Joins, Table}
 use Rattle.subsumption.specs.ClosedTables.{ClosedTable, no_facts, entails_fact, entails_terms, with_fact, without, shifted, joined}
 use Rattle.subsumption.specs.TableLaws.{IsTable, MeetsTable, SaysExactly, IsLeft, FollowsWith, FollowsWithoutNamed}
-use Rattle.subsumption.specs.ShownTables.{Shows, ShowAll, ShowOne, NewShowsNone, AnswersAreShown}
+use Rattle.subsumption.specs.ShownTables.{Follow, Shows, ShowAll, ShowOne, NewShowsNone, AnswersAreShown}
 use Rattle.subsumption.proofs.TableSteps.{entails_exactly, no_facts_met, have_one_form, are_exact, give_tables, stays_left, met_with_some}
 
 -- ---- what is entailed in two ways
@@ -144,3 +145,28 @@ answers_are_shown table t a b (Yes path) shows la lb h =
     sym ((shows.same (fact_of a b) (record { left = la; right = lb })).1 (λ v m. terms_hold v a b (h.1 v (λ i d lt. All-contains (Holds v) table.facts (get_or path.facts.items i d) m (h.0 i d lt)))))
 answers_are_shown table t a b (No valuation) shows la lb h =
     not_true (entails_terms a b t) (λ e. h.1 (hold_terms (numbers_of valuation.values.items) a b ((shows.same (fact_of a b) (record { left = la; right = lb })).0 e (numbers_of valuation.values.items) h.0)))
+
+-- ---- the calls
+
+kept_about : (vars : ℕ) (facts : List Fact) → All (IsKept (vars + 1)) facts → All (IsAbout vars) facts
+kept_about vars facts kept = λ i d lt. (let h = kept i d lt in let f = get_or facts i d in record { left = below f.left h.left; right = below f.right h.right })
+  where
+    below : (o : Option ℕ) → node_of o < vars + 1 → IsBelow vars o
+    below None h = tt
+    below (Some x) h = omega (arith, h)
+
+module _ (before after : Table) (same : after.vars ≡ before.vars) (kept : All (IsKept (before.vars + 1)) after.facts) where
+  about_after : All (IsAbout after.vars) after.facts
+  about_after = subst (λ n. All (IsAbout n) after.facts) (sym same) (kept_about before.vars after.facts kept)
+
+  pub add_follows : (f : Fact) → IsAbout before.vars f → Leaves before.vars (Entails (before.facts ++ f ∷ [])) after.facts → Follow before (with_fact before.vars f) after
+  add_follows f about leaves t shows = (show_all before t shows).add f after about about_after (record { vars = same; facts = leaves })
+
+  pub kill_follows : (x : ℕ) → x < before.vars → Leaves before.vars (FollowsWithout x before.facts) after.facts → Follow before (without before.vars x) after
+  kill_follows x lt leaves t shows = (show_all before t shows).kill x after lt about_after (record { vars = same; facts = leaves })
+
+  pub shift_follows : (x : ℕ) (c : ℤ) → x < before.vars → Leaves before.vars (λ goal. Entails before.facts (moved x c goal)) after.facts → Follow before (shifted before.vars x c) after
+  shift_follows x c lt leaves t shows = (show_all before t shows).shift x c after lt about_after (record { vars = same; facts = leaves })
+
+  pub join_follows : (other : Table) → other.vars ≡ before.vars → Joins before other after → (u : ClosedTable) → Shows other u → Follow before (λ t. joined before.vars t u) after
+  join_follows other vars joins u others t shows = (show_all before t shows).join other after u vars others about_after joins

@@ -48,3 +48,7 @@ is_yes (No valuation) = false
 abbrev pub AnswersAreShown : Type 0
 AnswersAreShown = (table : Table) (t : ClosedTable) (a b : Term) (answer : Answer) → Shows table t → IsBelow table.vars a.var → IsBelow table.vars b.var
     → AnswersTerms table a b answer → is_yes answer ≡ entails_terms a b t
+
+-- so much is shown after a call: whatever closed table was shown before, what the change makes of it is shown now
+abbrev pub Follow : Table → (ClosedTable → ClosedTable) → Table → Type 0
+Follow before change after = (t : ClosedTable) → Shows before t → Shows after (change t)
