@@ -7,8 +7,8 @@ ghost use Rattle.difference_constraints.specs.Graphs.{IsWithin};
 ghost use Rattle.difference_constraints.specs.Shifts.{moved};
 ghost use Rattle.subsumption.specs.Facts.{Entails, HasOneEach, IsAbout, IsBelow, IsWide, fact_of};
 ghost use Rattle.subsumption.specs.Closures.{BothEntail};
-ghost use Rattle.subsumption.specs.ClosedTables.{ClosedTable, joined, shifted, with_fact, without};
-ghost use Rattle.subsumption.specs.ShownTables.{Follow, Shows};
+ghost use Rattle.subsumption.specs.ClosedTables.{ClosedTable, entails_terms, joined, shifted, with_fact, without};
+ghost use Rattle.subsumption.specs.ShownTables.{Follow, Shows, is_yes};
 ghost use Rattle.subsumption.specs.Tables.{AnswersTerms, Becomes, FollowsWithout, Joins, Table};
 
 use crate::changes::{joined, killed, shifted};
@@ -92,7 +92,8 @@ impl Facts {
     pub fn entails(&self, a: &Term, b: &Term) -> Result<Answer, NoMemory>
         requires a_below { IsBelow self.now.vars a.now.var }
         requires b_below { IsBelow self.now.vars b.now.var }
-        ensures { IfOk result (AnswersTerms self.now a.now b.now) }
+        ensures answers { IfOk result (AnswersTerms self.now a.now b.now) }
+        ensures shows { IfOk result (λ answer. (t : ClosedTable) → Shows self.now t → is_yes answer ≡ entails_terms a.now b.now t) }
     {
         let goal = fact_from(a, b);
         let answer = answer(self.alloc, self.vars, self.facts.as_slice(), &goal)?;
