@@ -52,7 +52,7 @@ ShiftsMoveBack = (moved_back 0 (pos 1) count_n ≡ Some (record { base = None; l
 abbrev pub TermsAreFilledIn : Type 0
 TermsAreFilledIn = let terms = Some m ∷ Some n_plus ∷ None ∷ [] in
     (ends_filled_in terms (record { base = None; lo = n_plus; hi = m })
-        ≡ Some (record { base = None; lo = record { var = Some 1; plus = pos 2 }; hi = n_plus }))
+    ≡ Some (record { base = None; lo = record { var = Some 1; plus = pos 2 }; hi = n_plus }))
     × (filled_in terms (record { var = Some 2; plus = pos 0 }) ≡ None)
     × (filled_in terms (record { var = Some 3; plus = pos 0 }) ≡ None)
     × (filled_in terms (constant (pos 5)) ≡ Some (constant (pos 5)))

@@ -28,10 +28,6 @@ node_unnode : (i : ℕ) → node_of (unnode i) ≡ i
 node_unnode zero = refl
 node_unnode (suc x) = refl
 
-unnode_node : (o : Option ℕ) → unnode (node_of o) ≡ o
-unnode_node None = refl
-unnode_node (Some x) = refl
-
 below_node : (vars : ℕ) (o : Option ℕ) → IsBelow vars o → node_of o < vars + 1
 below_node vars None h = omega arith
 below_node vars (Some x) h = omega (arith, h)

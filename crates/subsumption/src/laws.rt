@@ -34,8 +34,8 @@ pub fn tables_have_one_form()
     ensures { HaveOneForm }
 {}
 
-/// A table of facts shows one closed table: a new one that without facts, after each call what the change makes of it; and
-/// its answers are what that says.
+/// A table of facts shows one closed table at most: a new one that without facts, and after each call what the change makes
+/// of it. Its answers are what that says.
 pub fn facts_show_tables()
     ensures none { NewShowsNone }
     ensures calls { ShowAll }
