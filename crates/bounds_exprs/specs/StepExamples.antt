@@ -22,7 +22,8 @@ count_n = record { base = None; lo = constant (pos 0); hi = record { var = Some 
 
 -- 2 * 3 * 4 is the constant 24
 abbrev pub ProductsAreConstants : Type 0
-ProductsAreConstants = term_at (forms.Times (term_at (forms.Times (Some (constant (pos 2))) (Some (constant (pos 3))))) (Some (constant (pos 4)))) ≡ Some (constant (pos 24))
+ProductsAreConstants = term_at
+    (forms.Times (term_at (forms.Times (Some (constant (pos 2))) (Some (constant (pos 3))))) (Some (constant (pos 4)))) ≡ Some (constant (pos 24))
 
 -- (n + 2) - 1, 1 + (n + 2); not 1 - (n + 2), (n + 2) + m, 2 * m
 abbrev pub ConstantsAreAdded : Type 0
@@ -50,12 +51,14 @@ ShiftsMoveBack = (moved_back 0 (pos 1) count_n ≡ Some (record { base = None; l
 -- m for the first and n + 2 for the second, at once; a third one isn't there
 abbrev pub TermsAreFilledIn : Type 0
 TermsAreFilledIn = let terms = Some m ∷ Some n_plus ∷ None ∷ [] in
-    (ends_filled_in terms (record { base = None; lo = n_plus; hi = m }) ≡ Some (record { base = None; lo = record { var = Some 1; plus = pos 2 }; hi = n_plus }))
+    (ends_filled_in terms (record { base = None; lo = n_plus; hi = m })
+    ≡ Some (record { base = None; lo = record { var = Some 1; plus = pos 2 }; hi = n_plus }))
     × (filled_in terms (record { var = Some 2; plus = pos 0 }) ≡ None)
     × (filled_in terms (record { var = Some 3; plus = pos 0 }) ≡ None)
     × (filled_in terms (constant (pos 5)) ≡ Some (constant (pos 5)))
 
 -- what names are
 abbrev pub NamesStandForSums : Type 0
-NamesStandForSums = (sum_of (names.Int 7 true) ≡ Variable 7) × (sum_of (names.Int 7 false) ≡ Other) × (sum_of (names.Pointer 3 true true) ≡ Pointer (Some 3))
+NamesStandForSums = (sum_of (names.Int 7 true) ≡ Variable 7) × (sum_of (names.Int 7 false) ≡ Other)
+    × (sum_of (names.Pointer 3 true true) ≡ Pointer (Some 3))
     × (sum_of (names.Pointer 3 true false) ≡ Other) × (sum_of names.Itself ≡ Pointer None) × (sum_of names.Other ≡ Other)

@@ -20,3 +20,4 @@ pub mod TableConstants
 pub mod TableNumbers
 pub mod TableChanges
 pub mod TableSteps
+pub mod ShownTables

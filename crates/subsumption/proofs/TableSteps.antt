@@ -28,10 +28,6 @@ node_unnode : (i : ℕ) → node_of (unnode i) ≡ i
 node_unnode zero = refl
 node_unnode (suc x) = refl
 
-unnode_node : (o : Option ℕ) → unnode (node_of o) ≡ o
-unnode_node None = refl
-unnode_node (Some x) = refl
-
 below_node : (vars : ℕ) (o : Option ℕ) → IsBelow vars o → node_of o < vars + 1
 below_node vars None h = omega arith
 below_node vars (Some x) h = omega (arith, h)
@@ -300,7 +296,7 @@ entries_near : (vars : ℕ) (rows : Rows) → AreClosed (vars + 1) rows → AreN
 entries_near vars rows table = rows_near (vars + 1) (entry rows) (ap are_near table.shape ∙ table.near)
 
 -- where a table entails it already
-stays_left : (vars : ℕ) (entailed : Fact → Type 0) (u : ClosedTable) → IsTable vars u → SaysExactly vars entailed u → IsLeft vars entailed u
+pub stays_left : (vars : ℕ) (entailed : Fact → Type 0) (u : ClosedTable) → IsTable vars u → SaysExactly vars entailed u → IsLeft vars entailed u
 stays_left vars entailed Contradiction table says = inr ((λ wide. wide.met ((says (fact_at None None (negsuc 0)) (record { left = tt; right = tt })).0 refl)), says)
 stays_left vars entailed (Least rows) table says =
     let near = entries_near vars rows table in
@@ -409,11 +405,8 @@ module _ (vars : ℕ) (rows : Rows) (table : AreClosed (vars + 1) rows) where
     value_other None ne = refl
     value_other (Some y) ne = put_other x (all (suc x)) v y (λ e. ne (ap Some e))
 
-    without_holds : (f : Fact) → IsAbout vars f → IsWithout x f → entails_fact f (Least rows) ≡ true → Holds v f
-    without_holds f about without e =
-        let h = meets_all f about e in
-        let p = value_other f.left without.left in let q = value_other f.right without.right in
-        omega (arith, ints, h, p, q)
+    keeps : (f : Fact) → IsWithout x f → Holds whole f → Holds v f
+    keeps f without h = (let p = value_other f.left without.left in let q = value_other f.right without.right in omega (arith, ints, h, p, q))
 
   variable_node : (x : ℕ) (o : Option ℕ) → o ≡ Some x → node_of o ≡ suc x
   variable_node x o e = ap node_of e
@@ -424,14 +417,12 @@ module _ (vars : ℕ) (rows : Rows) (table : AreClosed (vars + 1) rows) where
   near_killed x i j o false false true h = refl
   near_killed x i j o false false false h = h
 
-  kill_says : (x : ℕ) → x < vars → SaysExactly vars (FollowsWithoutNamed vars x (Least rows)) (table_of vars (killed (suc x) (entry rows)))
-  kill_says x lt =
-      let u = killed (suc x) (entry rows) in
-      let closed = killed_closed (vars + 1) (suc x) (entry rows) table.closed in
-      near_says vars (FollowsWithoutNamed vars x (Least rows)) u closed (λ goal about. (
-        (λ h. known (vars + 1) u closed (node_of goal.left) (node_of goal.right) goal.plus (below_node vars goal.left about.left) (below_node vars goal.right about.right) (λ v met. holds_node v goal (h v (without_holds x v met)))),
-        (λ at v all. by goal about v all (killed_is (suc x) (entry rows) (node_of goal.left) (node_of goal.right) goal.plus at)),
-      )) (λ i j li lj. near_killed (suc x) i j (entry rows i j) (i == j) (i == suc x) (j == suc x) (entries_near vars rows table i j li lj))
+  kill_tells : (x : ℕ) → Tells vars (FollowsWithoutNamed vars x (Least rows)) (killed (suc x) (entry rows))
+  kill_tells x goal about = (
+    (λ h. known (vars + 1) (killed (suc x) (entry rows)) (killed_closed (vars + 1) (suc x) (entry rows) table.closed) (node_of goal.left) (node_of goal.right) goal.plus (below_node vars goal.left about.left) (below_node vars goal.right about.right)
+        (λ v met. holds_node v goal (h v (λ f ab without e. keeps x v met f without (meets_all x v met f ab e))))),
+    (λ at v all. by goal about v all (killed_is (suc x) (entry rows) (node_of goal.left) (node_of goal.right) goal.plus at)),
+  )
     where
       by : (goal : Fact) → IsAbout vars goal → (v : ℕ → ℤ) → ((f : Fact) → IsAbout vars f → IsWithout x f → entails_fact f (Least rows) ≡ true → Holds v f) → AtMost (entry rows (node_of goal.left) (node_of goal.right)) goal.plus × IsApart (suc x) (node_of goal.left) (node_of goal.right) → Holds v goal
       by goal about v all (at, inr apart) = all goal about (record { left = λ e. apart.0 (variable_node x goal.left e); right = λ e. apart.1 (variable_node x goal.right e) }) (at_most_to (entry rows (node_of goal.left) (node_of goal.right)) goal.plus at)
@@ -439,6 +430,13 @@ module _ (vars : ℕ) (rows : Rows) (table : AreClosed (vars + 1) rows) where
           let le : pos 0 ≤ℤ goal.plus = from_same (Some (pos 0)) (entry rows (node_of goal.left) (node_of goal.right)) goal.plus (ap (λ j. entry rows (node_of goal.left) j) (sym same) ∙ table.closed.diagonal (node_of goal.left) (below_node vars goal.left about.left)) at in
           let p : value_of v goal.left ≡ value_of v goal.right = sym (nodes_value v goal.left) ∙ (ap (nodes v) same ∙ nodes_value v goal.right) in
           omega (arith, ints, le, p)
+
+  kill_rows : (x : ℕ) → SaysExactly vars (FollowsWithoutNamed vars x (Least rows)) (Least (rows_of (vars + 1) (killed (suc x) (entry rows))))
+  kill_rows x = rows_say vars (FollowsWithoutNamed vars x (Least rows)) (killed (suc x) (entry rows)) (killed_closed (vars + 1) (suc x) (entry rows) table.closed) (kill_tells x)
+
+  kill_says : (x : ℕ) → SaysExactly vars (FollowsWithoutNamed vars x (Least rows)) (table_of vars (killed (suc x) (entry rows)))
+  kill_says x = near_says vars (FollowsWithoutNamed vars x (Least rows)) (killed (suc x) (entry rows)) (killed_closed (vars + 1) (suc x) (entry rows) table.closed) (kill_tells x)
+      (λ i j li lj. near_killed (suc x) i j (entry rows i j) (i == j) (i == suc x) (j == suc x) (entries_near vars rows table i j li lj))
 
 abbrev Both : ClosedTable → ClosedTable → Fact → Type 0
 Both t u goal = (entails_fact goal t ≡ true) × (entails_fact goal u ≡ true)
@@ -476,7 +474,7 @@ are_exact vars Contradiction table = record {
 }
 are_exact vars (Least rows) table = record {
   add = λ f about. add_left vars rows table f about (is_broken (entry rows (node_of f.right) (node_of f.left)) f.plus) refl;
-  kill = kill_says vars rows table;
+  kill = λ x lt. kill_says vars rows table x;
   shift = λ x c lt. shift_left vars rows table x c;
   join = λ u other. join_says vars (Least rows) u table other;
 }
@@ -509,3 +507,17 @@ module _ (vars : ℕ) where
 
   pub give_tables : GiveTables vars
   give_tables = record { none = none_table vars; add = add_table; kill = kill_table; shift = shift_table; join = join_table }
+
+-- ---- numbers that meet what a table says without x meet all of it with some number for x
+
+abbrev pub MetWithSome : ℕ → ClosedTable → ℕ → (ℕ → ℤ) → Type 0
+MetWithSome vars t x v = (w : ℕ → ℤ) × MeetsTable vars w t × ((f : Fact) → IsWithout x f → Holds w f → Holds v f)
+
+pub met_with_some : (vars : ℕ) (t : ClosedTable) → IsTable vars t → (x : ℕ) → x < vars → (v : ℕ → ℤ)
+    → ((f : Fact) → IsAbout vars f → IsWithout x f → entails_fact f t ≡ true → Holds v f) → MetWithSome vars t x v
+met_with_some vars Contradiction table x lt v all = absurd (none_unmet x v all)
+met_with_some vars (Least rows) table x lt v all =
+    let u = killed (suc x) (entry rows) in
+    let said : MeetsTable vars v (Least (rows_of (vars + 1) u)) = λ goal about e. (kill_rows vars rows table x goal about).0 e v all in
+    let met : MeetsPairs (vars + 1) (nodes v) u = λ i j c li lj at. to_pairs vars (rows_of (vars + 1) u) v said i j c li lj (to_same (u i j) (entry (rows_of (vars + 1) u) i j) c (entry_is (vars + 1) u i j li lj) at) in
+    (whole vars rows table x v met, meets_all vars rows table x v met, keeps vars rows table x v met)

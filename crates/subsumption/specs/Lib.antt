@@ -7,3 +7,4 @@ pub mod Tables
 pub mod ClosedTables
 pub mod TableLaws
 pub mod TableExamples
+pub mod ShownTables

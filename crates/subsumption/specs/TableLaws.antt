@@ -79,7 +79,8 @@ pub record ChangesExactly (vars : ℕ) (t : ClosedTable) : Type 0 where
   pub add : (f : Fact) → IsAbout vars f → IsLeft vars (FollowsWith vars f t) (with_fact vars f t)
   pub kill : (x : ℕ) → x < vars → SaysExactly vars (FollowsWithoutNamed vars x t) (without vars x t)
   pub shift : (x : ℕ) (c : ℤ) → x < vars → IsLeft vars (λ goal. entails_fact (moved x c goal) t ≡ true) (shifted vars x c t)
-  pub join : (u : ClosedTable) → IsTable vars u → SaysExactly vars (λ goal. (entails_fact goal t ≡ true) × (entails_fact goal u ≡ true)) (joined vars t u)
+  pub join : (u : ClosedTable) → IsTable vars u
+      → SaysExactly vars (λ goal. (entails_fact goal t ≡ true) × (entails_fact goal u ≡ true)) (joined vars t u)
 
 abbrev pub AreExact : Type 0
 AreExact = (vars : ℕ) (t : ClosedTable) → IsTable vars t → ChangesExactly vars t

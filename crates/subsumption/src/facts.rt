@@ -7,6 +7,8 @@ ghost use Rattle.difference_constraints.specs.Graphs.{IsWithin};
 ghost use Rattle.difference_constraints.specs.Shifts.{moved};
 ghost use Rattle.subsumption.specs.Facts.{Entails, HasOneEach, IsAbout, IsBelow, IsWide, fact_of};
 ghost use Rattle.subsumption.specs.Closures.{BothEntail};
+ghost use Rattle.subsumption.specs.ClosedTables.{ClosedTable, entails_terms, joined, shifted, with_fact, without};
+ghost use Rattle.subsumption.specs.ShownTables.{Follow, Shows, is_yes};
 ghost use Rattle.subsumption.specs.Tables.{AnswersTerms, Becomes, FollowsWithout, Joins, Table};
 
 use crate::changes::{joined, killed, shifted};
@@ -77,6 +79,7 @@ impl Facts {
         requires a_below { IsBelow self.old.vars a.var }
         requires b_below { IsBelow self.old.vars b.var }
         ensures ok { OnOk result (Becomes self.old (Entails (self.old.facts ++ fact_of a b ∷ [])) self.new) }
+        ensures shows { OnOk result (Follow self.old (with_fact self.old.vars (fact_of a b)) self.new) }
         ensures err { OnErr result (self.new ≡ self.old) }
     {
         let fact = fact_from(&a, &b);
@@ -89,7 +92,8 @@ impl Facts {
     pub fn entails(&self, a: &Term, b: &Term) -> Result<Answer, NoMemory>
         requires a_below { IsBelow self.now.vars a.now.var }
         requires b_below { IsBelow self.now.vars b.now.var }
-        ensures { IfOk result (AnswersTerms self.now a.now b.now) }
+        ensures answers { IfOk result (AnswersTerms self.now a.now b.now) }
+        ensures shows { IfOk result (λ answer. (t : ClosedTable) → Shows self.now t → is_yes answer ≡ entails_terms a.now b.now t) }
     {
         let goal = fact_from(a, b);
         let answer = answer(self.alloc, self.vars, self.facts.as_slice(), &goal)?;
@@ -100,6 +104,7 @@ impl Facts {
     pub fn shift(&mut self, var: u32, c: i64) -> Result<(), NoMemory>
         requires { var < self.old.vars }
         ensures ok { OnOk result (Becomes self.old (λ goal. Entails self.old.facts (moved var c goal)) self.new) }
+        ensures shows { OnOk result (Follow self.old (shifted self.old.vars var c) self.new) }
         ensures err { OnErr result (self.new ≡ self.old) }
     {
         let facts = shifted(self.alloc, self.vars, self.facts.as_slice(), var, c)?;
@@ -111,6 +116,7 @@ impl Facts {
     pub fn kill(&mut self, var: u32) -> Result<(), NoMemory>
         requires { var < self.old.vars }
         ensures ok { OnOk result (Becomes self.old (FollowsWithout var self.old.facts) self.new) }
+        ensures shows { OnOk result (Follow self.old (without self.old.vars var) self.new) }
         ensures err { OnErr result (self.new ≡ self.old) }
     {
         let facts = killed(self.alloc, self.vars, self.facts.as_slice(), var)?;
@@ -122,6 +128,7 @@ impl Facts {
     pub fn join(&mut self, other: &Facts) -> Result<(), NoMemory>
         requires { other.now.vars ≡ self.old.vars }
         ensures ok { OnOk result (Joins self.old other.now self.new) }
+        ensures shows { OnOk result ((t : ClosedTable) → Shows other.now t → Follow self.old (λ s. joined self.old.vars s t) self.new) }
         ensures err { OnErr result (self.new ≡ self.old) }
     {
         let facts = joined(

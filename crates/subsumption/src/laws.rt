@@ -2,6 +2,7 @@
 
 ghost use Rattle.std.specs.Prelude.{ℕ};
 ghost use Rattle.subsumption.specs.TableExamples.{ChainsEntail, ContradictionsEntailAll, ShiftsMoveFacts};
+ghost use Rattle.subsumption.specs.ShownTables.{AnswersAreShown, NewShowsNone, ShowAll, ShowOne};
 ghost use Rattle.subsumption.specs.TableLaws.{AreExact, EntailsExactly, EntailsTermsExactly, GiveTables, HaveOneForm, NoFactsAreMet};
 
 /// Worked examples.
@@ -31,4 +32,13 @@ pub fn changes_are_exact()
 /// Tables that entail the same are the same.
 pub fn tables_have_one_form()
     ensures { HaveOneForm }
+{}
+
+/// A table of facts shows one closed table at most: a new one that without facts, and after each call what the change makes
+/// of it. Its answers are what that says.
+pub fn facts_show_tables()
+    ensures none { NewShowsNone }
+    ensures calls { ShowAll }
+    ensures answers { AnswersAreShown }
+    ensures one { ShowOne }
 {}
