@@ -1,5 +1,6 @@
 -- How many nodes each part of a tree has. A node is a type, an expression, bounds, a list of constants, a declarator, a
--- declaration, an assignment, a statement, a member, a parameter, a body or an item; a part that is left out has none.
+-- declaration, an assignment, a statement, a member, a parameter, a body, an item, or the void in place of a result; a
+-- part that is left out has none.
 use Rattle.std.specs.Prelude.{ℕ, ◌+◌, suc, List, [], ◌∷◌, Option, Some, None}
 use Rattle.ckc_tree.specs.Types.{TypeTree, IntType, CharType, StructType, PointerType}
 use Rattle.ckc_tree.specs.Expressions as e
