@@ -3,6 +3,7 @@ pub mod Expressions
 pub mod Statements
 pub mod Items
 pub mod Heights
+pub mod Weights
 pub mod Bare
 pub mod Placement
 pub mod Examples
