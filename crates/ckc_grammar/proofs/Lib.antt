@@ -11,6 +11,7 @@ mod PlacedType
 mod PlacedExpression
 mod PlacedStatement
 mod PlacedItem
+pub mod FewNodes
 pub mod Paths
 pub mod TypePaths
 pub mod ExpressionPaths

@@ -1,9 +1,12 @@
 // What holds of the grammar.
 
-ghost use Rattle.std.specs.Prelude.{[], ◌∷◌, codes};
+ghost use Rattle.std.specs.Prelude.{ℕ, ◌≤◌, List, [], ◌∷◌, length, codes};
 ghost use Rattle.ckc_grammar.specs.Examples.{span, at, left_tokens, left_tree, product_tokens, product_tree, paren_tokens, paren_tree, shift_tokens, shift_tree, nested_tokens, nested_type, else_tokens, else_tree, early_tokens, whole_tokens, whole_tree};
 ghost use Rattle.ckc_text.specs.declared.code.Code.TheVariants.{E06};
+ghost use Rattle.ckc_tokens.specs.declared.token.Token.{Token};
 ghost use Rattle.ckc_tokens.specs.declared.token.TokenKind.TheVariants as kinds;
+ghost use Rattle.ckc_tree.specs.Items.{Tree};
+ghost use Rattle.ckc_tree.specs.Weights.{tree_weight};
 ghost use Rattle.ckc_grammar.specs.TypeGrammar.{SpellsTypeName};
 ghost use Rattle.ckc_grammar.specs.ExpressionGrammar.{SpellsExpression};
 ghost use Rattle.ckc_grammar.specs.StatementGrammar.{SpellsStatement};
@@ -49,6 +52,11 @@ pub fn whole_begins()
 /// in order in the source.
 pub fn well_placed()
     ensures { SpelledPlaced }
+{}
+
+/// A tree that tokens spell has no more nodes than there are tokens.
+pub fn few_nodes()
+    ensures { (bytes : ℕ) (tokens : List Token) (t : Tree) → SpellsProgram bytes tokens t → tree_weight t ≤ length tokens }
 {}
 
 /// The tokens of small sources spell the trees that one reads in them.

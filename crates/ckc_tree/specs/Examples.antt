@@ -1,4 +1,4 @@
--- Worked examples: trees whose spans stand in order, or don't.
+-- Worked examples: trees whose spans stand in order, or don't, and which have seven nodes.
 use Rattle.std.specs.Prelude.{ℕ, [], ◌∷◌, codes, Some, None}
 use Rattle.ckc_text.specs.declared.place.Span.{Span}
 use Rattle.ckc_tree.specs.declared.expr.BinaryOperator.TheVariants.{Subtract}

@@ -1,5 +1,6 @@
 -- How many nodes each part of a tree has. A node is a type, an expression, bounds, a list of constants, a declarator, a
--- declaration, an assignment, a statement, a member, a parameter, a body or an item; a part that is left out has none.
+-- declaration, an assignment, a statement, a member, a parameter, a body, an item, or the void in place of a result; a
+-- part that is left out has none.
 use Rattle.std.specs.Prelude.{ℕ, ◌+◌, suc, List, [], ◌∷◌, Option, Some, None}
 use Rattle.ckc_tree.specs.Types.{TypeTree, IntType, CharType, StructType, PointerType}
 use Rattle.ckc_tree.specs.Expressions as e
@@ -97,9 +98,11 @@ abbrev mutual
   statement_weight (s.CallAlone call span) = suc (expression_weight call)
   statement_weight (s.Empty span) = 1
   statement_weight (s.If condition consequent span) = suc (expression_weight condition + statement_weight consequent)
-  statement_weight (s.IfElse condition consequent alternative span) = suc (expression_weight condition + statement_weight consequent + statement_weight alternative)
+  statement_weight (s.IfElse condition consequent alternative span) =
+      suc (expression_weight condition + statement_weight consequent + statement_weight alternative)
   statement_weight (s.While condition body span) = suc (expression_weight condition + statement_weight body)
-  statement_weight (s.For initial condition step body span) = suc (for_initial_weight initial + optional_expression_weight condition + optional_assignment_weight step + statement_weight body)
+  statement_weight (s.For initial condition step body span) =
+      suc (for_initial_weight initial + optional_expression_weight condition + optional_assignment_weight step + statement_weight body)
   statement_weight (s.Return value span) = suc (optional_expression_weight value)
   statement_weight (s.Break span) = 1
   statement_weight (s.Continue span) = 1

@@ -1,8 +1,9 @@
-// What holds of heights, and what the definition of placement says of small trees.
+// What holds of heights, and what the definitions of placement and of weights say of small trees.
 
 ghost use Rattle.std.specs.Prelude.{◌≡◌};
 ghost use Rattle.ckc_tree.specs.Items.{Tree};
 ghost use Rattle.ckc_tree.specs.Heights.{height};
+ghost use Rattle.ckc_tree.specs.Weights.{tree_weight};
 ghost use Rattle.ckc_tree.specs.Bare.{SameTree};
 ghost use Rattle.ckc_tree.specs.Placement.{IsPlaced};
 ghost use Rattle.ckc_tree.specs.Examples.{span, difference};
@@ -14,6 +15,11 @@ pub fn examples_of_placement()
     ensures outside { IsPlaced 32 (difference (span 24 25) (span 29 30)) → ⊥ }
     ensures swapped { IsPlaced 32 (difference (span 28 29) (span 24 25)) → ⊥ }
     ensures longer { IsPlaced 31 (difference (span 24 25) (span 28 29)) → ⊥ }
+{}
+
+/// A function has seven nodes: itself, its result, its body, a statement, and an expression of three.
+pub fn example_of_weights()
+    ensures { tree_weight (difference (span 24 25) (span 28 29)) ≡ 7 }
 {}
 
 /// Trees that are the same but for their spans are equally high.
