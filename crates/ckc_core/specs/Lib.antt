@@ -2,4 +2,5 @@ pub mod Core
 pub mod States
 pub mod Meaning
 pub mod Stacks
+pub mod Weights
 pub mod Examples

@@ -1,6 +1,6 @@
 // Emitting the code of expressions.
 
-ghost use Rattle.std.specs.Prelude.{◌≡◌, ◌<◌, [], ◌∷◌, ◌++◌, length, slice_get, Some, OnOk};
+ghost use Rattle.std.specs.Prelude.{◌≡◌, ◌+◌, ◌^◌, ◌<◌, ◌≤◌, [], ◌∷◌, ◌++◌, length, slice_get, Some, OnOk};
 ghost use Rattle.ckc_core.specs.declared.program.Expr.{Expr};
 ghost use Rattle.ckc_core.specs.Core.{expression, place as place_of, arguments_of};
 ghost use Rattle.code_words.specs.declared.op.Op.TheVariants as ops_of;
@@ -20,6 +20,7 @@ use lowered_code::instructions::{
 #[cycle(expressions)]
 #[tactic(auto, using(lowered_code::proofs::Emitting::right_emitted))]
 pub fn emit_expression(ops: &mut Vec<Op>, expr: &Expr) -> Result<(), NoMemory>
+    requires { length ops.old.items + code.expression_size (expression expr.now) ≤ 2 ^ 31 }
     ensures { OnOk result (ops.new.items ≡ ops.old.items ++ code.expression_code (length ops.old.items) (expression expr.now)) }
 {
     match expr {
@@ -66,13 +67,13 @@ pub fn emit_expression(ops: &mut Vec<Op>, expr: &Expr) -> Result<(), NoMemory>
         }
         Expr::AndAlso { left, right } => {
             emit_expression(ops, left)?;
-            begin_and(ops, expression_size(right)?)?;
+            begin_and(ops, expression_size(right))?;
             emit_expression(ops, right)?;
             end_and(ops)
         }
         Expr::OrElse { left, right } => {
             emit_expression(ops, left)?;
-            begin_or(ops, expression_size(right)?)?;
+            begin_or(ops, expression_size(right))?;
             emit_expression(ops, right)?;
             put_two(ops, Op::Zero, Op::Zero)
         }
@@ -102,6 +103,7 @@ pub fn emit_expression(ops: &mut Vec<Op>, expr: &Expr) -> Result<(), NoMemory>
 /// A value, and what is done with it.
 #[cycle(expressions)]
 pub fn emit_with(ops: &mut Vec<Op>, value: &Expr, op: Op) -> Result<(), NoMemory>
+    requires { length ops.old.items + code.expression_size (expression value.now) ≤ 2 ^ 31 }
     ensures { OnOk result (ops.new.items ≡ ops.old.items ++ (code.expression_code (length ops.old.items) (expression value.now) ++ op ∷ [])) }
 {
     emit_expression(ops, value)?;
@@ -111,7 +113,8 @@ pub fn emit_with(ops: &mut Vec<Op>, value: &Expr, op: Op) -> Result<(), NoMemory
 // The word of the argument at a place.
 #[cycle(expressions)]
 fn emit_argument(ops: &mut Vec<Op>, arguments: &[Expr], place: usize) -> Result<(), NoMemory>
-    requires { place < length arguments.now }
+    requires place { place < length arguments.now }
+    requires room { (argument : Expr) → slice_get arguments.now place ≡ Some argument → length ops.old.items + code.expression_size (expression argument) ≤ 2 ^ 31 }
     ensures { (argument : Expr) → slice_get arguments.now place ≡ Some argument → OnOk result (ops.new.items ≡ ops.old.items ++ code.expression_code (length ops.old.items) (expression argument)) }
 {
     emit_expression(ops, argument_at(arguments, place))
@@ -120,6 +123,7 @@ fn emit_argument(ops: &mut Vec<Op>, arguments: &[Expr], place: usize) -> Result<
 /// The words of arguments, from left to right.
 #[cycle(expressions)]
 pub fn emit_arguments(ops: &mut Vec<Op>, arguments: &[Expr]) -> Result<(), NoMemory>
+    requires { length ops.old.items + code.arguments_size (arguments_of arguments.now) ≤ 2 ^ 31 }
     ensures { OnOk result (ops.new.items ≡ ops.old.items ++ code.arguments_code (length ops.old.items) (arguments_of arguments.now)) }
 {
     for place in 0..arguments.len() {
@@ -131,6 +135,7 @@ pub fn emit_arguments(ops: &mut Vec<Op>, arguments: &[Expr]) -> Result<(), NoMem
 /// A call behind its arguments and its tick.
 #[cycle(expressions)]
 pub fn emit_call(ops: &mut Vec<Op>, arguments: &[Expr], call: Op) -> Result<(), NoMemory>
+    requires { length ops.old.items + code.arguments_size (arguments_of arguments.now) ≤ 2 ^ 31 }
     ensures { OnOk result (ops.new.items ≡ ops.old.items ++ (code.arguments_code (length ops.old.items) (arguments_of arguments.now) ++ ops_of.Tick ∷ call ∷ [])) }
 {
     emit_arguments(ops, arguments)?;
@@ -140,6 +145,7 @@ pub fn emit_call(ops: &mut Vec<Op>, arguments: &[Expr], call: Op) -> Result<(), 
 /// The address of a cell.
 #[cycle(expressions)]
 pub fn emit_place(ops: &mut Vec<Op>, cell: &CellPlace) -> Result<(), NoMemory>
+    requires { length ops.old.items + code.place_size (place_of cell.now) ≤ 2 ^ 31 }
     ensures { OnOk result (ops.new.items ≡ ops.old.items ++ code.place_code (length ops.old.items) (place_of cell.now)) }
 {
     match cell {

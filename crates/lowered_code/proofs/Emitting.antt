@@ -1,5 +1,5 @@
 -- How the code of a part is put together from what is emitted for its parts, one behind another.
-use Rattle.std.proofs.Common.{◌≡◌, ℕ, zero, suc, ◌+◌, ◌<◌, Bool, List, [], ◌∷◌, ◌++◌, length, slice_get, get_or, drop, pos, Some, Result, OnOk, refl, sym, ap, ◌∙◌, append_assoc, length-append, arith}
+use Rattle.std.proofs.Common.{◌≡◌, ℕ, zero, suc, ◌+◌, ◌^◌, ◌<◌, ◌≤◌, Bool, List, [], ◌∷◌, ◌++◌, length, slice_get, get_or, drop, pos, Some, Result, OnOk, refl, sym, ap, ◌∙◌, subst, append_assoc, length-append, arith}
 use Rattle.std.proofs.lemmas.Result.{on_ok_weaker}
 use Rattle.ckc_text.specs.declared.fault.NoMemory.{NoMemory}
 use Rattle.pointer_modes.specs.Types.{CType}
@@ -12,9 +12,9 @@ use Rattle.ckc_core.specs.Meaning.{is_char}
 use Rattle.ckc_core.specs.Core.{expression, arguments_of, statement, statements_of}
 use Rattle.code_words.specs.declared.op.Op.{Op}
 use Rattle.code_words.specs.declared.op.Op.TheVariants as ops
-use Rattle.lowered_code.specs.Code.{Places, operator_code, load_code, store_code, byte_code, expression_size, place_size, before_value_size, statement_size, expression_code, arguments_code, place_code, before_value, behind_value, statement_code, statements_code}
+use Rattle.lowered_code.specs.Code.{Places, operator_code, load_code, store_code, byte_code, expression_size, arguments_size, place_size, before_value_size, statement_size, statements_size, expression_code, arguments_code, place_code, before_value, behind_value, statement_code, statements_code}
 use Rattle.lowered_code.specs.Code.{loop_places}
-use Rattle.lowered_code.proofs.Sizes.{length_expression, length_place, length_before, length_statement}
+use Rattle.lowered_code.proofs.Sizes.{length_expression, length_arguments, length_place, length_before, length_statement, length_statements}
 use Rattle.lowered_code.proofs.Slices.{arguments_drop, statements_drop}
 
 -- a part, and what follows it
@@ -24,6 +24,17 @@ emitted_then old mid new a b first second = second ∙ ap (λ l. l ++ b) first �
 -- the place behind a part
 pub place_after : (old mid a : List Op) (n : ℕ) → length a ≡ n → mid ≡ old ++ a → length mid ≡ length old + n
 place_after old mid a n long first = omega (arith, ap length first, length-append old a)
+
+pub after_expression : (x : core.Expression) (old mid : List Op) → mid ≡ old ++ expression_code (length old) x → length mid ≡ length old + expression_size x
+after_expression x old mid e = place_after old mid (expression_code (length old) x) (expression_size x) (length_expression (length old) x) e
+
+pub after_statement : (p : Places) (x : core.Statement) (old mid : List Op) → mid ≡ old ++ statement_code p (length old) x → length mid ≡ length old + statement_size x
+after_statement p x old mid e = place_after old mid (statement_code p (length old) x) (statement_size x) (length_statement p (length old) x) e
+
+pub after_condition : (x : core.Expression) (op : Op) (old mid : List Op) → mid ≡ old ++ (expression_code (length old) x ++ op ∷ []) → length mid ≡ length old + (expression_size x + 1)
+after_condition x op old mid e =
+    let code = expression_code (length old) x in
+    place_after old mid (code ++ op ∷ []) (expression_size x + 1) (omega (arith, length-append code (op ∷ []), length_expression (length old) x)) e
 
 -- code that stands at a place
 moved_to : (f : ℕ → List Op) (mid new : List Op) (m n : ℕ) → m ≡ n → new ≡ mid ++ f m → new ≡ mid ++ f n
@@ -78,6 +89,17 @@ argument_at [] i low = absurd (omega arith)
 argument_at (x ∷ args) zero low = (x, (refl, refl))
 argument_at (x ∷ args) (suc i) low = argument_at args i (omega arith)
 
+-- there is room for the next argument where there is for all
+pub argument_room : (args : List Expr) (i : ℕ) (x : Expr) (now old : List Op) → i < length args → slice_get args i ≡ Some x → now ++ arguments_code (length now) (arguments_of (drop i args)) ≡ old ++ arguments_code (length old) (arguments_of args) → length old + arguments_size (arguments_of args) ≤ 2 ^ 31 → length now + expression_size (expression x) ≤ 2 ^ 31
+argument_room args i x now old low found so_far room =
+    let at = argument_at args i low in
+    let there = at.1.0 in
+    let same : at.0 ≡ x = cc in
+    let is : x ≡ get_or args i x = subst (λ y. y ≡ get_or args i y) same at.1.1 in
+    let left = arguments_of (drop i args) in
+    let all = arguments_of args in
+    omega (arith, ap length so_far, length-append now (arguments_code (length now) left), length-append old (arguments_code (length old) all), length_arguments (length now) left, length_arguments (length old) all, ap arguments_size (arguments_drop args i x low is))
+
 -- one more argument
 pub arguments_emitted : (args : List Expr) (i : ℕ) (x : Expr) (now next whole : List Op) → i < length args → x ≡ get_or args i x → now ++ arguments_code (length now) (arguments_of (drop i args)) ≡ whole → next ≡ now ++ expression_code (length now) (expression x) → next ++ arguments_code (length next) (arguments_of (drop (i + 1) args)) ≡ whole
 arguments_emitted args i x now next whole low is so_far e =
@@ -111,8 +133,8 @@ local_update_emitted p char local value operator site op old one two new made fi
     let last = λ (o : Op). o ∷ (byte_code char ++ ops.Set local ∷ []) in
     then_expression value 1 old one two new (ops.Local local ∷ []) (last (operator_code operator site)) refl first second (third ∙ ap (λ o. two ++ last o) made)
 
-pub condition_emitted : (condition : core.Expression) (over more other : ℕ) (old one new : List Op) → more ≡ over + 1 → other ≡ length one + more → one ≡ old ++ expression_code (length old) condition → new ≡ one ++ ops.JumpIfZero other ∷ [] → new ≡ old ++ (expression_code (length old) condition ++ ops.JumpIfZero (length old + expression_size condition + 1 + over) ∷ [])
-condition_emitted condition over more other old one new mores others first second =
+pub condition_emitted : (condition : core.Expression) (over other : ℕ) (old one new : List Op) → other ≡ length one + (over + 1) → one ≡ old ++ expression_code (length old) condition → new ≡ one ++ ops.JumpIfZero other ∷ [] → new ≡ old ++ (expression_code (length old) condition ++ ops.JumpIfZero (length old + expression_size condition + 1 + over) ∷ [])
+condition_emitted condition over other old one new others first second =
     let code = expression_code (length old) condition in
     let there : length one ≡ length old + expression_size condition = place_after old one code (expression_size condition) (length_expression (length old) condition) first in
     emitted_then old one new code (ops.JumpIfZero (length old + expression_size condition + 1 + over) ∷ []) first
@@ -162,6 +184,13 @@ loop_emitted p q condition body step turn body_is step_is condition_is old one t
     emitted_then old one new head (statement_code inner inside body ++ steps_code) begun
     (emitted_then one two new (statement_code inner inside body) steps_code turned
     (emitted_then two three new (statement_code p next step) tests_code stepped tested))
+
+-- there is room for the next statement where there is for all
+pub statement_room : (p : Places) (xs : List Stmt) (i : ℕ) (x : Stmt) (now old : List Op) → i < length xs → x ≡ get_or xs i x → now ++ statements_code p (length now) (statements_of (drop i xs)) ≡ old ++ statements_code p (length old) (statements_of xs) → length old + statements_size (statements_of xs) ≤ 2 ^ 31 → length now + statement_size (statement x) ≤ 2 ^ 31
+statement_room p xs i x now old low is so_far room =
+    let left = statements_of (drop i xs) in
+    let all = statements_of xs in
+    omega (arith, ap length so_far, length-append now (statements_code p (length now) left), length-append old (statements_code p (length old) all), length_statements p (length now) left, length_statements p (length old) all, ap statements_size (statements_drop xs i x low is))
 
 -- one more statement
 pub statements_emitted : (p : Places) (xs : List Stmt) (i : ℕ) (x : Stmt) (now next whole : List Op) → i < length xs → x ≡ get_or xs i x → now ++ statements_code p (length now) (statements_of (drop i xs)) ≡ whole → next ≡ now ++ statement_code p (length now) (statement x) → next ++ statements_code p (length next) (statements_of (drop (i + 1) xs)) ≡ whole

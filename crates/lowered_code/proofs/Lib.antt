@@ -6,6 +6,7 @@ pub mod Worlds
 pub mod Executions
 pub mod Steps
 pub mod Sizes
+pub mod Weights
 pub mod Expressions
 pub mod Places
 pub mod Conditions

@@ -1,5 +1,5 @@
 -- What it means that code does what a program means.
-use Rattle.std.specs.Prelude.{◌≡◌, ℕ, zero, suc, ◌+◌, ◌<◌, ◌≤◌, Bool, true, false, IsTrue, List, [], ◌∷◌, length, flat_map, map, sum, take, drop, All, Some, slice_get, unwrap_or, pos}
+use Rattle.std.specs.Prelude.{◌≡◌, ℕ, zero, suc, ◌+◌, ◌^◌, ◌<◌, ◌≤◌, Bool, true, false, IsTrue, List, [], ◌∷◌, length, flat_map, map, sum, take, drop, All, Some, slice_get, unwrap_or, pos}
 use Rattle.std.proofs.Common.{ℤ}
 use Rattle.act_words.specs.declared.ending.Ending.{Ending}
 use Rattle.act_words.specs.declared.settings.Settings.{Settings}
@@ -23,6 +23,7 @@ use Rattle.code_words.specs.Fitting.{Fits}
 use Rattle.code_words.specs.declared.image.Image.{Image}
 use Rattle.lowered_code.specs.Images.{word_bytes_if, padded}
 use Rattle.ckc_core.specs.Stacks.{body_stack}
+use Rattle.ckc_core.specs.Weights.{statements_weight}
 
 -- ---- where blocks stand, and their bytes
 
@@ -88,6 +89,8 @@ pub record IsFunction (f : Function) : Type 0 where
   pub parameters : f.parameters ≤ 16
   pub held : f.parameters ≤ length f.locals
   pub frame : length f.locals + 1 + body_stack f ≤ 4096
+  -- so its code has fewer than 2 ^ 32 instructions
+  pub few_nodes : statements_weight f.body ≤ 2 ^ 26
 
 -- how many bytes static blocks take, from an offset on
 abbrev pub counted_from : ℕ → List (List Initial) → ℕ

@@ -1,12 +1,12 @@
 // Single instructions, and the jumps of `&&` and `||`. The place of the next instruction is the number of those that stand
 // before it.
 
-ghost use Rattle.std.specs.Prelude.{◌≡◌, ◌+◌, [], ◌∷◌, ◌++◌, length, IfOk, OnOk, pos};
+ghost use Rattle.std.specs.Prelude.{◌≡◌, ◌+◌, ◌^◌, ◌≤◌, [], ◌∷◌, ◌++◌, length, OnOk, pos};
 ghost use Rattle.pointer_modes.specs.Types.{ctype as type_of};
 ghost use Rattle.code_words.specs.declared.op.Op.TheVariants as ops_of;
 ghost use Rattle.lowered_code.specs.Code as code;
 
-use crate::code_sizes::{has_one_byte, plus};
+use crate::code_sizes::has_one_byte;
 use ckc_core::program::{Comparison, Operator, Site};
 use ckc_text::fault::NoMemory;
 use code_words::op::Op;
@@ -84,38 +84,39 @@ pub fn put_two(ops: &mut Vec<Op>, first: Op, second: Op) -> Result<(), NoMemory>
 }
 
 /// The place that stands so many instructions behind the next one.
-pub fn place_behind(ops: &Vec<Op>, more: u32) -> Result<u32, NoMemory>
-    ensures { IfOk result (λ place. place ≡ length ops.now.items + more) }
+pub fn place_behind(ops: &Vec<Op>, more: u32) -> u32
+    requires { length ops.now.items + more ≤ 2 ^ 31 }
+    ensures { result ≡ length ops.now.items + more }
 {
-    match u32::try_from(ops.len()) {
-        Ok(next) => plus(next, more),
-        Err(_) => Err(NoMemory),
-    }
+    ops.len() as u32 + more
 }
 
 /// Passes the right side over, of so many instructions, where the left one is 0.
 pub fn begin_and(ops: &mut Vec<Op>, right: u32) -> Result<(), NoMemory>
+    requires { length ops.old.items + (right + 5) ≤ 2 ^ 31 }
     ensures { OnOk result (ops.new.items ≡ ops.old.items ++ ops_of.JumpIfZero (length ops.old.items + 1 + right + 3) ∷ []) }
 {
-    let other = place_behind(ops, plus(right, 4)?)?;
+    let other = place_behind(ops, right + 4);
     put(ops, Op::JumpIfZero(other))
 }
 
 /// The right side as 0 or 1, and a 0 for the left one.
 pub fn end_and(ops: &mut Vec<Op>) -> Result<(), NoMemory>
+    requires { length ops.old.items + 4 ≤ 2 ^ 31 }
     ensures { OnOk result (ops.new.items ≡ ops.old.items ++ ops_of.Zero ∷ ops_of.Zero ∷ ops_of.Jump (length ops.old.items + 4) ∷ ops_of.Const (pos 0) ∷ []) }
 {
-    let end = place_behind(ops, 4)?;
+    let end = place_behind(ops, 4);
     put_two(ops, Op::Zero, Op::Zero)?;
     put_two(ops, Op::Jump(end), Op::Const(0))
 }
 
 /// Passes the right side over, of so many instructions, where the left one isn't 0.
 pub fn begin_or(ops: &mut Vec<Op>, right: u32) -> Result<(), NoMemory>
+    requires { length ops.old.items + (right + 5) ≤ 2 ^ 31 }
     ensures { OnOk result (ops.new.items ≡ ops.old.items ++ ops_of.JumpIfZero (length ops.old.items + 3) ∷ ops_of.Const (pos 1) ∷ ops_of.Jump (length ops.old.items + 3 + right + 2) ∷ []) }
 {
-    let other = place_behind(ops, 3)?;
-    let end = place_behind(ops, plus(right, 5)?)?;
+    let other = place_behind(ops, 3);
+    let end = place_behind(ops, right + 5);
     put(ops, Op::JumpIfZero(other))?;
     put_two(ops, Op::Const(1), Op::Jump(end))
 }

@@ -88,7 +88,7 @@ fn function_ops(alloc: Global, f: &Function) -> Result<Ops, NoMemory>
     ensures { IfOk result (λ ops. ops ≡ code.function_ops (function f.now)) }
 {
     let body = f.body.as_slice();
-    let end = statements_size(body)?;
+    let end = statements_size(body);
     let targets = Targets {
         scratch: f.locals.len() as u32,
         on_break: end,

@@ -1,6 +1,6 @@
 // Emitting the code of statements.
 
-ghost use Rattle.std.specs.Prelude.{◌≡◌, ◌+◌, [], ◌∷◌, ◌++◌, length, OnOk};
+ghost use Rattle.std.specs.Prelude.{◌≡◌, ◌+◌, ◌^◌, ◌≤◌, [], ◌∷◌, ◌++◌, length, OnOk};
 ghost use Rattle.pointer_modes.specs.Types.{ctype as type_of};
 ghost use Rattle.ckc_core.specs.Core.{expression, place as place_of, statement, statements_of};
 ghost use Rattle.ckc_core.specs.Core as cores;
@@ -15,12 +15,13 @@ use code_fragments::addresses::{emit_address, emit_behind_value};
 use code_fragments::loops::{Targets, begin_loop, loop_targets};
 use code_words::op::Op;
 use expression_code::expressions::{emit_call, emit_expression, emit_place, emit_with};
-use lowered_code::code_sizes::{expression_size, has_one_byte, plus, statement_size};
+use lowered_code::code_sizes::{expression_size, has_one_byte, statement_size};
 use lowered_code::instructions::{load_op, operator_op, place_behind, put, put_two, store_op};
 use pointer_modes::ctype::CType;
 
 // The address that a store needs before its value, or its pointer.
 fn emit_before_value(ops: &mut Vec<Op>, cell: &CellPlace) -> Result<(), NoMemory>
+    requires { length ops.old.items + code.before_value_size (place_of cell.now) ≤ 2 ^ 31 }
     ensures { OnOk result (ops.new.items ≡ ops.old.items ++ code.before_value (length ops.old.items) (place_of cell.now)) }
 {
     match cell {
@@ -37,6 +38,7 @@ fn emit_store(
     cell: &CellPlace,
     value: &Expr,
 ) -> Result<(), NoMemory>
+    requires { length ops.old.items + (code.before_value_size (place_of cell.now) + code.expression_size (expression value.now)) ≤ 2 ^ 31 }
     ensures { OnOk result (ops.new.items ≡ ops.old.items ++ code.statement_code (targets_of targets) (length ops.old.items) (cores.Store (type_of ctype.now) (place_of cell.now) (expression value.now))) }
 {
     emit_before_value(ops, cell)?;
@@ -64,6 +66,7 @@ fn emit_update(
     value: &Expr,
     site: Site,
 ) -> Result<(), NoMemory>
+    requires { length ops.old.items + (code.place_size (place_of cell.now) + (2 + code.expression_size (expression value.now))) ≤ 2 ^ 31 }
     ensures { (p : Places) → OnOk result (ops.new.items ≡ ops.old.items ++ code.statement_code p (length ops.old.items) (cores.Update (type_of ctype.now) (place_of cell.now) operator (expression value.now) site)) }
 {
     emit_place(ops, cell)?;
@@ -82,6 +85,7 @@ fn emit_local_update(
     value: &Expr,
     site: Site,
 ) -> Result<(), NoMemory>
+    requires { length ops.old.items + (1 + code.expression_size (expression value.now)) ≤ 2 ^ 31 }
     ensures { (p : Places) → OnOk result (ops.new.items ≡ ops.old.items ++ code.statement_code p (length ops.old.items) (cores.UpdateLocal char local operator (expression value.now) site)) }
 {
     put(ops, Op::Local(local))?;
@@ -92,23 +96,26 @@ fn emit_local_update(
 
 // A condition, and a jump over so many instructions where it doesn't hold.
 fn emit_condition(ops: &mut Vec<Op>, condition: &Expr, over: u32) -> Result<(), NoMemory>
+    requires { length ops.old.items + (code.expression_size (expression condition.now) + (1 + over)) ≤ 2 ^ 31 }
     ensures { OnOk result (ops.new.items ≡ ops.old.items ++ (code.expression_code (length ops.old.items) (expression condition.now) ++ ops_of.JumpIfZero (length ops.old.items + code.expression_size (expression condition.now) + 1 + over) ∷ [])) }
 {
     emit_expression(ops, condition)?;
-    let other = place_behind(ops, plus(over, 1)?)?;
+    let other = place_behind(ops, over + 1);
     put(ops, Op::JumpIfZero(other))
 }
 
 // A jump over so many instructions.
 fn emit_jump(ops: &mut Vec<Op>, over: u32) -> Result<(), NoMemory>
+    requires { length ops.old.items + (1 + over) ≤ 2 ^ 31 }
     ensures { OnOk result (ops.new.items ≡ ops.old.items ++ ops_of.Jump (length ops.old.items + 1 + over) ∷ []) }
 {
-    let end = place_behind(ops, plus(over, 1)?)?;
+    let end = place_behind(ops, over + 1);
     put(ops, Op::Jump(end))
 }
 
 // The end of a loop: its condition, and the jump to its tick where it holds.
 fn end_loop(ops: &mut Vec<Op>, condition: &Expr, end: u32, turn: u32) -> Result<(), NoMemory>
+    requires { length ops.old.items + code.expression_size (expression condition.now) ≤ 2 ^ 31 }
     ensures { OnOk result (ops.new.items ≡ ops.old.items ++ (code.expression_code (length ops.old.items) (expression condition.now) ++ ops_of.JumpIfZero end ∷ ops_of.Jump turn ∷ [])) }
 {
     emit_expression(ops, condition)?;
@@ -118,6 +125,7 @@ fn end_loop(ops: &mut Vec<Op>, condition: &Expr, end: u32, turn: u32) -> Result<
 // The code of a statement.
 #[cycle(statements)]
 fn emit_statement(ops: &mut Vec<Op>, targets: Targets, stmt: &Stmt) -> Result<(), NoMemory>
+    requires { length ops.old.items + code.statement_size (statement stmt.now) ≤ 2 ^ 31 }
     ensures { OnOk result (ops.new.items ≡ ops.old.items ++ code.statement_code (targets_of targets) (length ops.old.items) (statement stmt.now)) }
 {
     match stmt {
@@ -162,9 +170,9 @@ fn emit_statement(ops: &mut Vec<Op>, targets: Targets, stmt: &Stmt) -> Result<()
             consequent,
             alternative,
         } => {
-            emit_condition(ops, condition, plus(statement_size(consequent)?, 1)?)?;
+            emit_condition(ops, condition, statement_size(consequent) + 1)?;
             emit_statement(ops, targets, consequent)?;
-            emit_jump(ops, statement_size(alternative)?)?;
+            emit_jump(ops, statement_size(alternative))?;
             emit_statement(ops, targets, alternative)
         }
         Stmt::Loop {
@@ -172,15 +180,15 @@ fn emit_statement(ops: &mut Vec<Op>, targets: Targets, stmt: &Stmt) -> Result<()
             body,
             step,
         } => {
-            let turn = place_behind(ops, 1)?;
-            let after = statement_size(step)?;
+            let turn = place_behind(ops, 1);
+            let after = statement_size(step);
             let inner = loop_targets(
                 ops,
                 targets.scratch,
-                statement_size(body)?,
+                statement_size(body),
                 after,
-                expression_size(condition)?,
-            )?;
+                expression_size(condition),
+            );
             begin_loop(ops, inner.on_continue, after)?;
             emit_statement(ops, inner, body)?;
             emit_statement(ops, targets, step)?;
@@ -196,6 +204,7 @@ fn emit_statement(ops: &mut Vec<Op>, targets: Targets, stmt: &Stmt) -> Result<()
 /// The code of statements, one after another.
 #[cycle(statements)]
 pub fn emit_statements(ops: &mut Vec<Op>, targets: Targets, stmts: &[Stmt]) -> Result<(), NoMemory>
+    requires { length ops.old.items + code.statements_size (statements_of stmts.now) ≤ 2 ^ 31 }
     ensures { OnOk result (ops.new.items ≡ ops.old.items ++ code.statements_code (targets_of targets) (length ops.old.items) (statements_of stmts.now)) }
 {
     for stmt in stmts {

@@ -23,4 +23,8 @@ pub mod NamedExpressions
 pub mod NamedStatements
 pub mod NamedLists
 pub mod NamedItems
+pub mod Kept
 pub mod Counts
+pub mod Weights
+pub mod StatementWeights
+pub mod BodyWeights

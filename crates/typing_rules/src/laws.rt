@@ -1,11 +1,13 @@
 // Worked examples of the rules, and what holds of all programs that keep them.
 
-ghost use Rattle.std.specs.Prelude.{◌≡◌, ◌≤◌, true, None};
+ghost use Rattle.std.specs.Prelude.{◌≡◌, ◌*◌, ◌≤◌, true, All, None};
 ghost use Rattle.ckc_tree.specs.Items.{Tree};
 ghost use Rattle.ckc_tree.specs.Heights.{height};
+ghost use Rattle.ckc_tree.specs.Weights.{tree_weight};
 ghost use Rattle.ckc_names.specs.Naming.{naming_fault};
 ghost use Rattle.built_forms.specs.Built.{is_built};
 ghost use Rattle.ckc_core.specs.Core.{Core};
+ghost use Rattle.ckc_core.specs.Weights.{statements_weight};
 ghost use Rattle.typing_rules.specs.Verdicts.{Unnamed};
 ghost use Rattle.typing_rules.specs.Expressions.{Places};
 ghost use Rattle.typing_rules.specs.Cores.{checked};
@@ -43,4 +45,9 @@ pub fn named()
 /// The core of a program that breaks no rule has few functions of each side.
 pub fn few_functions()
     ensures { (at : Places) (t : Tree) (c : Core) → HasCore at t c → HasFewFunctions c }
+{}
+
+/// The body of each function of a program that breaks no rule has at most five nodes for each node of its tree.
+pub fn few_nodes()
+    ensures { (at : Places) (t : Tree) (c : Core) → HasCore at t c → All (λ f. statements_weight f.body ≤ 5 * tree_weight t) c.functions }
 {}

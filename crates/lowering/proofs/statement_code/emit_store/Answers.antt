@@ -1,7 +1,10 @@
+use Rattle.std.proofs.Common.{length, arith}
 use Rattle.std.proofs.lemmas.Result.{IfOk-weaker}
 use Rattle.pointer_modes.specs.Types.{ctype}
 use Rattle.ckc_core.specs.Core.{expression, place}
-use Rattle.lowered_code.proofs.Emitting.{store_emitted}
+use Rattle.lowered_code.specs.Code.{before_value_size, before_value}
+use Rattle.lowered_code.proofs.Sizes.{length_before}
+use Rattle.lowered_code.proofs.Emitting.{place_after, store_emitted}
 use Rattle.lowering.proofs.statement_code.emit_store.Goals as goal
 
 pub returns : goal.returns
@@ -10,3 +13,9 @@ returns c =
     store_emitted (ctype c.args.ctype.now) (place c.args.cell.now) (expression c.args.value.now) c.args.targets.scratch c.args.ops.now.items c.emit_before_value.new.ops.items c.emit_expression.new.ops.items c.emit_behind_value.new.ops.items
     c.in_ok-emit_before_value.ensures c.in_ok-emit_expression.ensures e)
     c.emit_behind_value.ensures
+
+pub emit_expression-requires : goal.emit_expression-requires
+emit_expression-requires c =
+    let old = c.args.ops.now.items in
+    let cell = place c.args.cell.now in
+    omega (arith, c.requires, place_after old c.emit_before_value.new.ops.items (before_value (length old) cell) (before_value_size cell) (length_before (length old) cell) c.in_ok-emit_before_value.ensures)

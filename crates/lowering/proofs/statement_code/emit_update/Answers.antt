@@ -1,7 +1,10 @@
+use Rattle.std.proofs.Common.{length, refl, arith}
 use Rattle.std.proofs.lemmas.Result.{IfOk-weaker}
 use Rattle.pointer_modes.specs.Types.{ctype}
 use Rattle.ckc_core.specs.Core.{expression, place}
-use Rattle.lowered_code.proofs.Emitting.{update_emitted}
+use Rattle.lowered_code.specs.Code.{place_size, place_code}
+use Rattle.lowered_code.proofs.Sizes.{length_place}
+use Rattle.lowered_code.proofs.Emitting.{place_after, update_emitted}
 use Rattle.lowering.proofs.statement_code.emit_update.Goals as goal
 
 pub returns : goal.returns
@@ -11,3 +14,11 @@ returns c = λ p.
     c.args.ops.now.items c.emit_place.new.ops.items c.put_two.new.ops.items c.emit_expression.new.ops.items c.emit_result.new.ops.items
     c.operator_op-op.ensures c.load_op.ensures c.has_one_byte.ensures c.store_op.ensures c.in_ok-emit_place.ensures c.in_ok-put_two.ensures c.in_ok-emit_expression.ensures e)
     c.emit_result.ensures
+
+pub emit_expression-requires : goal.emit_expression-requires
+emit_expression-requires c =
+    let old = c.args.ops.now.items in
+    let cell = place c.args.cell.now in
+    let there = place_after old c.emit_place.new.ops.items (place_code (length old) cell) (place_size cell) (length_place (length old) cell) c.in_ok-emit_place.ensures in
+    let loaded = place_after c.emit_place.new.ops.items c.put_two.new.ops.items _ 2 refl c.in_ok-put_two.ensures in
+    omega (arith, c.requires, there, loaded)
