@@ -1,12 +1,13 @@
 -- What is accepted can be lowered.
-use Rattle.std.proofs.Common.{◌≡◌, ℕ, ◌+◌, ◌≤◌, List, [], ◌∷◌, map, refl, ap, ◌∙◌, arith}
-use Rattle.std.specs.Prelude.{sum}
+use Rattle.std.proofs.Common.{◌≡◌, ℕ, ◌+◌, ◌^◌, ◌≤◌, List, [], ◌∷◌, map, refl, ap, ◌∙◌, arith}
+use Rattle.std.specs.Prelude.{sum, All}
 use Rattle.std.proofs.lemmas.List.Sums.{sum_by-cons}
 use Rattle.flat_bytes.specs.Blocks.{first_offset, grown, rounded_up}
 use Rattle.pointer_modes.specs.Types.{CType, Int, Char, Struct, Pointer}
 use Rattle.pointer_modes.specs.Layout.{scalar_size}
 use Rattle.ckc_core.specs.Core.{Core, Initial, Function}
 use Rattle.ckc_core.specs.Meaning.{is_char}
+use Rattle.ckc_core.specs.Weights.{statements_weight}
 use Rattle.lowered_code.specs.Correct.{width_if, counted_from, IsCell, IsFunction, IsLowerable}
 use Rattle.typing_rules.specs.Lowerable.{cells_size, objects_size, IsRoomy, IsSmall, HasFewFunctions, IsSmallCore}
 
@@ -30,15 +31,19 @@ counted_is (cells ∷ objects) offset =
     let size = ap rounded_up (sizes_are cells) in
     behind ∙ omega (arith, size)
 
-function_is : (f : Function) → IsSmall 3400 f → IsFunction f
-function_is f small = record { parameters = small.few_parameters; held = small.held; frame = omega (arith, small.few_locals, small.low) }
+-- the body has few nodes
+abbrev pub IsLight : Function → Type 0
+IsLight f = statements_weight f.body ≤ 2 ^ 26
 
-pub small_is_lowerable : (c : Core) → IsSmallCore c → HasFewFunctions c → IsLowerable c
-small_is_lowerable c small few = record {
+function_is : (f : Function) → IsSmall 3400 f → IsLight f → IsFunction f
+function_is f small light = record { parameters = small.few_parameters; held = small.held; frame = omega (arith, small.few_locals, small.low); few_nodes = light }
+
+pub small_is_lowerable : (c : Core) → IsSmallCore c → HasFewFunctions c → All IsLight c.functions → IsLowerable c
+small_is_lowerable c small few light = record {
   cells = λ k d lt. let here = small.cells k d lt in ((λ j e less. cell_is _ (here.0 j e less)), here.1);
   objects = omega (arith, counted_is c.objects first_offset, small.objects);
   imports = small.imports;
-  functions = λ k d lt. function_is _ (small.functions k d lt);
+  functions = λ k d lt. function_is _ (small.functions k d lt) (light k d lt);
   few_functions = few.functions;
   few_imports = few.imports;
   main = small.main;

@@ -1,10 +1,12 @@
 -- The run of an accepted program ends, and its code ends in the same way.
-use Rattle.std.proofs.Common.{◌≡◌, ℕ, ◌+◌, ◌-◌, ◌≤◌, List, [], ◌∷◌, Option, Some, None, option_map, refl, ap, ◌∙◌, subst, arith}
+use Rattle.std.proofs.Common.{◌≡◌, ℕ, ◌+◌, ◌-◌, ◌≤◌, List, [], ◌∷◌, length, Option, Some, None, option_map, refl, ap, ◌∙◌, subst, arith}
 use Rattle.std.specs.Prelude.{All, replicate}
 use Rattle.std.proofs.lemmas.List.{replicate-append-replicate}
 use Rattle.std.proofs.lemmas.List.Elements.{All-nil}
 use Rattle.ckc_text.specs.Places.{place_at}
 use Rattle.ckc_io.specs.Files.{Files, file_at}
+use Rattle.ckc_lexer.proofs.Next.{few_tokens}
+use Rattle.ckc_grammar.proofs.FewNodes.{few_nodes}
 use Rattle.act_words.specs.declared.ending.Ending.{Ending}
 use Rattle.act_words.specs.Acts.{IsAct, Seen}
 use Rattle.act_words.specs.World.{World, Event, Output, Released, Showed, NoAct}
@@ -23,6 +25,7 @@ use Rattle.lowered_code.specs.Correct.{IsLowerable}
 use Rattle.lowered_code.proofs.Programs.{keeps_meaning}
 use Rattle.typing_rules.specs.NeverStuck.{NeverStuck}
 use Rattle.typing_rules.proofs.Counts.{few}
+use Rattle.typing_rules.proofs.BodyWeights.{light}
 use Rattle.typing_rules.proofs.Typing.{typed, small}
 use Rattle.typing_rules.proofs.Programs.{never_stuck}
 use Rattle.command_words.specs.Requests.{Run, Options, settings_of, inputs_of, request_of}
@@ -30,15 +33,23 @@ use Rattle.command_words.proofs.Allowed.{settings_allowed, inputs_are_words}
 use Rattle.ccbox_call.specs.Acceptance.{IsAcceptedCore}
 use Rattle.ccbox_call.specs.Answers.{acts_at, RunsTo, AsksFor, needed_from, needed_line, ViewIsFoldOf}
 use Rattle.ccbox_call.specs.Calls.{MayRun}
-use Rattle.ccbox_call.proofs.Lowering.{small_is_lowerable}
+use Rattle.ccbox_call.proofs.Lowering.{IsLight, small_is_lowerable}
 
 -- what words ask for may be run with
 pub may_run : (words : List (List ℕ)) (name : List ℕ) (options : Options) → request_of words ≡ Some (Run name options) → MayRun options
 may_run words name options asked = record { settings = settings_allowed words name options asked; inputs = inputs_are_words words name options asked }
 
+-- the bodies of what is accepted have few nodes, since its source has few tokens
+light_bodies : (c : Core) → IsAcceptedCore c → All IsLight c.functions
+light_bodies c a = λ k d lt.
+    let x = a.1 in
+    let t = x.has_tree in
+    let nodes = few_nodes (length a.0) t.tokens x.tree (t.is_tree).spelled in
+    omega (arith, few_tokens t.are_tokens, nodes, light (place_at a.0) x.tree c x.has_core k d lt)
+
 -- what is accepted can be lowered
 pub lowerable : (c : Core) → IsAcceptedCore c → IsLowerable c
-lowerable c a = let x = a.1 in small_is_lowerable c (small (place_at a.0) x.tree c x.has_core ((x.has_tree).is_tree).low) (few (place_at a.0) x.tree c x.has_core)
+lowerable c a = let x = a.1 in small_is_lowerable c (small (place_at a.0) x.tree c x.has_core ((x.has_tree).is_tree).low) (few (place_at a.0) x.tree c x.has_core) (light_bodies c a)
 
 -- what is accepted never gets stuck
 pub ends : (c : Core) → IsAcceptedCore c → NeverStuck c

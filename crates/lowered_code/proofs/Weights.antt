@@ -1,9 +1,12 @@
 -- The code of a part has few instructions, by how many nodes the part has.
-use Rattle.std.proofs.Common.{ℕ, zero, suc, ◌+◌, ◌*◌, ◌^◌, ◌≤◌, Bool, true, false, arith}
+use Rattle.std.proofs.Common.{ℕ, zero, suc, ◌+◌, ◌*◌, ◌^◌, ◌<◌, ◌≤◌, Bool, true, false, length, Option, Some, None, length-append, arith}
+use Rattle.pointer_modes.specs.Types.{CType}
 use Rattle.ckc_core.specs.Core as core
 use Rattle.ckc_core.specs.Meaning.{is_char}
 use Rattle.ckc_core.specs.Weights.{expression_weight, arguments_weight, place_weight, statement_weight, statements_weight}
-use Rattle.lowered_code.specs.Code.{offset_size, byte_size, expression_size, arguments_size, place_size, before_value_size, behind_value_size, statement_size, statements_size}
+use Rattle.lowered_code.specs.Code.{offset_size, byte_size, expression_size, arguments_size, place_size, before_value_size, behind_value_size, statement_size, statements_size, statements_code, ending_code, body_places, function_ops}
+use Rattle.lowered_code.specs.Correct.{IsFunction}
+use Rattle.lowered_code.proofs.Sizes.{length_statements}
 
 offset_short : (n : ℕ) → offset_size n ≤ 2
 offset_short zero = omega arith
@@ -73,3 +76,12 @@ mutual
 -- a body of few nodes
 pub body_short : (xs : core.Statements) → statements_weight xs ≤ 2 ^ 26 → statements_size xs ≤ 2 ^ 31
 body_short xs few = omega (arith, statements_short xs)
+
+ending_short : (result : Option CType) → length (ending_code result) ≤ 2
+ending_short None = omega arith
+ending_short (Some type) = omega arith
+
+pub code_short : (f : core.Function) → IsFunction f → length (function_ops f) < 2 ^ 32
+code_short f is =
+    let code = statements_code (body_places f) 0 f.body in
+    omega (arith, length-append code (ending_code f.result), length_statements (body_places f) 0 f.body, body_short f.body is.few_nodes, ending_short f.result)

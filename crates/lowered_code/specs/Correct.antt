@@ -1,5 +1,5 @@
 -- What it means that code does what a program means.
-use Rattle.std.specs.Prelude.{◌≡◌, ℕ, zero, suc, ◌+◌, ◌^◌, ◌<◌, ◌≤◌, Bool, true, false, IsTrue, List, [], ◌∷◌, length, flat_map, map, sum, take, drop, All, Some, slice_get, unwrap_or, pos}
+use Rattle.std.specs.Prelude.{◌≡◌, ℕ, zero, suc, ◌+◌, ◌^◌, ◌<◌, ◌≤◌, Bool, true, false, IsTrue, List, [], ◌∷◌, length, flat_map, map, sum, All, Some, slice_get, unwrap_or, pos}
 use Rattle.std.proofs.Common.{ℤ}
 use Rattle.act_words.specs.declared.ending.Ending.{Ending}
 use Rattle.act_words.specs.declared.settings.Settings.{Settings}
@@ -11,7 +11,6 @@ use Rattle.act_words.specs.Numbers.{word}
 use Rattle.act_words.specs.Shown.{Shown}
 use Rattle.act_words.specs.View.{output_of, releases_of, view_of}
 use Rattle.flat_bytes.specs.Blocks.{first_offset, grown}
-use Rattle.flat_bytes.specs.Blocks as flat
 use Rattle.ckc_core.specs.Core.{Core, Initial, Function, Import}
 use Rattle.ckc_core.specs.States.{Value, Number, Null, At, Cell, Block, has_type, initial_value, byte_place}
 use Rattle.ckc_core.specs.States as meaning_states
