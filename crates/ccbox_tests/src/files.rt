@@ -212,24 +212,38 @@ fn answers_all_by_bytes(alloc: Global) -> bool {
     true
 }
 
+static SOURCE_READ: Call<'static> = SOURCE_ALONE;
+
 // What stands before the blanks of a source.
 const PADDED: &str = "int main(void) { return 7; }";
 
-// A call that reads a source of so many bytes, and answers so where the read of a number fails.
+// Whether a call with this source answers so where the read of a number fails.
+fn answers_from(
+    alloc: Global,
+    call: &Call,
+    source: &str,
+    text: &[u8],
+    status: u8,
+    read: u64,
+) -> bool {
+    let from = Call {
+        source,
+        text,
+        status,
+        read,
+        ..*call
+    };
+    answers(alloc, &from)
+}
+
+// Whether a call with a source of so many bytes answers so where the read of a number fails.
 fn answers_padded(alloc: Global, bytes: usize, read: u64, text: &[u8], status: u8) -> bool {
     let mut source = String::new(alloc);
     add(&mut source, PADDED);
     if let Ok(blanks) = " ".repeat(alloc, bytes.saturating_sub(PADDED.len())) {
         add(&mut source, blanks.as_str());
     }
-    let call = Call {
-        source: source.as_str(),
-        text,
-        status,
-        read,
-        ..SOURCE_ALONE
-    };
-    source.len() == bytes && answers(alloc, &call)
+    source.len() == bytes && answers_from(alloc, &SOURCE_READ, source.as_str(), text, status, read)
 }
 
 // Whether a source of so many bytes takes so many reads.

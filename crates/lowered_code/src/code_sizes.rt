@@ -1,4 +1,5 @@
-// How many instructions the code of a part has, which jumps over it need.
+// How many instructions the code of a part has, which jumps over it need. A function that can be lowered has few nodes, so
+// its code has 2^31 instructions at most, and no sum of sizes passes 32 bits.
 
 ghost use Rattle.std.specs.Prelude.{◌≡◌, ◌+◌, ◌^◌, ◌≤◌};
 ghost use Rattle.ckc_core.specs.Core.{expression, place, arguments_of, statement, statements_of};
