@@ -249,7 +249,7 @@ fn answers_padded(alloc: Global, bytes: usize, read: u64, text: &[u8], status: u
 // Whether a source of so many bytes takes so many reads.
 fn takes_reads(alloc: Global, bytes: usize, reads: u64) -> bool {
     answers_padded(alloc, bytes, reads, b"", 4)
-        && answers_padded(alloc, bytes, reads + 1, b"[exit 7]\n", 0)
+        && answers_padded(alloc, bytes, reads.saturating_add(1), b"[exit 7]\n", 0)
 }
 
 // Whether calls answer as their files and outputs let them. A file is read in pieces of 4,096 bytes, and once more.
