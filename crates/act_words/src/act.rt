@@ -4,7 +4,6 @@ ghost use Rattle.std.specs.Prelude.{◌≤◌, length};
 
 use crate::octets::Octets;
 use crate::words::Words;
-use input_numbers::numbers::is_byte_count;
 
 /// Whose turn it is.
 #[derive(Clone, Copy, PartialEq, Eq)]
@@ -28,7 +27,7 @@ impl ByteCount {
         ensures fits { IsSome result ↔ ((1 ≤ number) × (number ≤ 64)) }
         ensures number { IfSome result (λ count. count.number ≡ number) }
     {
-        if is_byte_count(number) {
+        if (1..=64).contains(&number) {
             Some(ByteCount { number })
         } else {
             None

@@ -1,6 +1,6 @@
 // From the lines of an act file to acts.
 
-ghost use Rattle.std.specs.Prelude.{◌≡◌, map, option_map, IfOk, IfErr};
+ghost use Rattle.std.specs.Prelude.{◌≡◌, ◌↔◌, ◌<◌, ◌^◌, map, option_map, IsSome, IfSome, IfOk, IfErr};
 ghost use Rattle.serde_json.specs.View.{view, number_view, items_view};
 ghost use Rattle.act_words.specs.Acts.{act_view};
 ghost use Rattle.act_words.specs.Readings.{Says, number_in, member_count, form_in, text_in, bytes_in, items_in, numbers_in, numbers_of, words_of, word_of, value_reading, line_reading};
@@ -11,7 +11,6 @@ use crate::form::{Form, count_of_form, form_of};
 use crate::words::Words;
 use ckc_text::code::Code;
 use hex::FromHexError;
-use input_numbers::numbers::word_from;
 use serde_json::{Number, Value};
 use std::alloc::{AllocFailed, Global};
 use thiserror::Error;
@@ -249,4 +248,12 @@ fn words_of(alloc: Global, numbers: &[Number]) -> Result<Vec<u32>, ActFault>
         words.push(word)?;
     }
     Ok(words)
+}
+
+// This word; None exactly where the number has more than 32 bits.
+fn word_from(number: u64) -> Option<u32>
+    ensures fits { IsSome result ↔ (number < 2 ^ 32) }
+    ensures number { IfSome result (λ word. word ≡ number) }
+{
+    u32::try_from(number).ok()
 }

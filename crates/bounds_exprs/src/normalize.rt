@@ -11,7 +11,6 @@ use crate::form::{BoundsForm, BoundsHow, SumForm};
 use crate::term::{Bounds, Term, limited};
 use ckc_text::code::Code;
 use ckc_text::fault::SourceFault;
-use size_arithmetic::places::elements_in;
 
 /// The largest constant of an end; the smallest is its negative.
 const MAX_END: i64 = 2_147_483_648;
@@ -60,7 +59,7 @@ fn divide(bytes: Option<Term>, size: u32) -> Option<Term>
         None => None,
         Some(bytes) => {
             if bytes.var.is_none() {
-                Some(constant(elements_in(bytes.plus, size)))
+                Some(constant(bytes.plus.div_euclid(size as i64)))
             } else if size == 1 {
                 Some(bytes)
             } else {

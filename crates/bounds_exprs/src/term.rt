@@ -3,7 +3,8 @@
 ghost use Rattle.std.specs.Prelude.{◌≡◌};
 ghost use Rattle.bounds_exprs.specs.Terms.{within_limit, substituted, shifted};
 
-use size_arithmetic::limits::is_constant;
+/// The largest constant of a term; the smallest is its negative: 2^40.
+const MAX_CONSTANT: i128 = 1_099_511_627_776;
 
 /// A constant, or a variable plus a constant.
 #[derive(Clone, Copy, PartialEq, Eq)]
@@ -25,7 +26,7 @@ pub struct Bounds {
 pub fn limited(var: Option<u32>, plus: i128) -> Option<Term>
     ensures { result ≡ within_limit var plus }
 {
-    if is_constant(plus) {
+    if -MAX_CONSTANT <= plus && plus <= MAX_CONSTANT {
         Some(Term {
             var,
             plus: plus as i64,

@@ -6,16 +6,16 @@ use Rattle.ckc_text.specs.declared.fault.Refused.TheVariants.{Source, NoMemory}
 use Rattle.ckc_text.specs.Refusals as refusals
 use Rattle.ckc_text.specs.Places.{place_at}
 use Rattle.ckc_lexer.specs.Tokens.{cut, AreTokens, HasFault, LexAnswers}
-use Rattle.ckc_tokens.specs.declared.token.Token.{Token}
+use Rattle.ckc_lexer_tokens.specs.declared.token.Token.{Token}
 use Rattle.ckc_lexer.proofs.Cuts.{same_answer}
 use Rattle.ckc_tree.specs.Items.{Tree}
-use Rattle.ckc_grammar.specs.Parsing.{IsTree, IsFault, ParseAnswers}
-use Rattle.ckc_grammar.proofs.OneItem.{at_most_one_tree}
-use Rattle.ckc_grammar.proofs.OneFault.{at_most_one_fault, never_both}
+use Rattle.ckc_parser_grammar.specs.Parsing.{IsTree, IsFault, ParseAnswers}
+use Rattle.ckc_parser_grammar.proofs.OneItem.{at_most_one_tree}
+use Rattle.ckc_parser_grammar.proofs.OneFault.{at_most_one_fault, never_both}
 use Rattle.built_forms.specs.Built.{is_built}
-use Rattle.ckc_names.specs.Naming.{NamedTree, naming_fault, Names}
-use Rattle.typing_rules.specs.Verdicts.{Verdict, Passes, Breaks}
-use Rattle.typing_rules.specs.Cores.{checked, CheckAnswers}
+use Rattle.ckc_names_rules.specs.Naming.{NamedTree, naming_fault, Names}
+use Rattle.region_typing_rules.specs.Verdicts.{Verdict, Passes, Breaks}
+use Rattle.region_typing_rules.specs.Cores.{checked, CheckAnswers}
 use Rattle.ckc_core.specs.declared.program as code
 use Rattle.ckc_core.specs.Core.{Core, core}
 use Rattle.ccbox_call.specs.Acceptance.{HasTree, Accepts, IsRefused, no_tokens, no_tree, not_built, misnamed, breaks, FrontAnswers}

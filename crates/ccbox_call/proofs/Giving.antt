@@ -22,14 +22,14 @@ use Rattle.act_words.specs.Limits.{AreAllowed}
 use Rattle.ckc_core.specs.Core.{Core}
 use Rattle.sandbox_actor.specs.ActLists.{ActList}
 use Rattle.code_words.specs.declared.image.Image.{Image}
-use Rattle.lowered_code.specs.Correct.{KeepsMeaning}
-use Rattle.run_transcript.specs.declared.fault.RunFault.{RunFault}
-use Rattle.run_transcript.specs.declared.fault.RunFault.TheVariants as faults
+use Rattle.lowering_code.specs.Correct.{KeepsMeaning}
+use Rattle.run_core_transcript.specs.declared.fault.RunFault.{RunFault}
+use Rattle.run_core_transcript.specs.declared.fault.RunFault.TheVariants as faults
 use Rattle.run_core.specs.Runs.{Outcome, Ends, LineRefused, FileMissing, Comes, WritesAll, WritesFront, RunWrites, Counts, RunCounts}
-use Rattle.run_transcript.specs.Diagnostics.{refused_text, act_refused_text}
-use Rattle.exit_status.specs.Statuses.{status_of}
-use Rattle.exit_status.specs.Given.{all, failed, LineGiven, given, unmade, OutcomeGiven}
-use Rattle.command_words.specs.Requests.{Options, settings_of, inputs_of}
+use Rattle.run_core_transcript.specs.Diagnostics.{refused_text, act_refused_text}
+use Rattle.ccbox_call_status.specs.Statuses.{status_of}
+use Rattle.ccbox_call_status.specs.Given.{all, failed, LineGiven, given, unmade, OutcomeGiven}
+use Rattle.ccbox_call_words.specs.Requests.{Options, settings_of, inputs_of}
 use Rattle.ccbox_call.specs.Acceptance.{IsAcceptedCore, no_tokens}
 use Rattle.ccbox_call.specs.Answers.{acts_at, ListAnswer, CoreAnswer, acts, SourceAnswer, refused, accepted}
 use Rattle.ccbox_call.specs.Calls.{IsFoundStatus, StatusCounts, Gives, answered, output_failed, files_failed, no_memory, no_memory_behind}

@@ -23,13 +23,13 @@ use Rattle.code_words.specs.Runs.{CodeRun, exec, started, events_of}
 use Rattle.code_words.specs.Dumps.{blocks_held}
 use Rattle.code_words.proofs.Runs.{one_end, same_ending, same_last}
 use Rattle.code_words.proofs.Worlds.{stay}
-use Rattle.lowered_code.specs.Correct.{KeepsMeaning, blocks_meant}
-use Rattle.run_transcript.specs.Texts.{run_text, front_text}
+use Rattle.lowering_code.specs.Correct.{KeepsMeaning, blocks_meant}
+use Rattle.run_core_transcript.specs.Texts.{run_text, front_text}
 use Rattle.run_core.specs.Moments.{due_from, due_in, before_due, IsDue}
 use Rattle.run_core.specs.Chains.{Chain, none, more}
 use Rattle.run_core.specs.Runs.{Outcome, Ends, LineRefused, EndsBefore, Comes, ended, ran_out, refused, missing}
-use Rattle.run_transcript.specs.Diagnostics.{act_refused_text}
-use Rattle.exit_status.specs.Statuses.{status_of}
+use Rattle.run_core_transcript.specs.Diagnostics.{act_refused_text}
+use Rattle.ccbox_call_status.specs.Statuses.{status_of}
 use Rattle.ccbox_call.specs.Acceptance.{IsAcceptedCore}
 use Rattle.ccbox_call.specs.Answers.{RunsTo, needed_from, needed_line, text_with, status_with, ListAnswer, ran}
 use Rattle.ccbox_call.proofs.Runs.{ends}

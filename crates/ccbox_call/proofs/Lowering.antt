@@ -8,8 +8,8 @@ use Rattle.pointer_modes.specs.Layout.{scalar_size}
 use Rattle.ckc_core.specs.Core.{Core, Initial, Function}
 use Rattle.ckc_core.specs.Meaning.{is_char}
 use Rattle.ckc_core.specs.Weights.{statements_weight}
-use Rattle.lowered_code.specs.Correct.{width_if, counted_from, IsCell, IsFunction, IsLowerable}
-use Rattle.typing_rules.specs.Lowerable.{cells_size, objects_size, IsRoomy, IsSmall, HasFewFunctions, IsSmallCore}
+use Rattle.lowering_code.specs.Correct.{width_if, counted_from, IsCell, IsFunction, IsLowerable}
+use Rattle.region_typing_rules.specs.Lowerable.{cells_size, objects_size, IsRoomy, IsSmall, HasFewFunctions, IsSmallCore}
 
 width_is : (t : CType) → width_if (is_char t) ≤ scalar_size t
 width_is Int = omega arith

@@ -6,7 +6,7 @@ use Rattle.std.proofs.lemmas.List.Elements.{All-nil}
 use Rattle.ckc_text.specs.Places.{place_at}
 use Rattle.ckc_io.specs.Files.{Files, file_at}
 use Rattle.ckc_lexer.proofs.Next.{few_tokens}
-use Rattle.ckc_grammar.proofs.FewNodes.{few_nodes}
+use Rattle.ckc_parser_grammar.proofs.FewNodes.{few_nodes}
 use Rattle.act_words.specs.declared.ending.Ending.{Ending}
 use Rattle.act_words.specs.Acts.{IsAct, Seen}
 use Rattle.act_words.specs.World.{World, Event, Output, Released, Showed, NoAct}
@@ -20,16 +20,16 @@ use Rattle.sandbox_actor.proofs.Acts.{are_acts}
 use Rattle.code_words.specs.Runs.{memory_of}
 use Rattle.code_words.proofs.Worlds.{folded}
 use Rattle.code_words.proofs.Due.{shown_before}
-use Rattle.lowered_code.specs.Images.{image_of}
-use Rattle.lowered_code.specs.Correct.{IsLowerable}
-use Rattle.lowered_code.proofs.Programs.{keeps_meaning}
-use Rattle.typing_rules.specs.NeverStuck.{NeverStuck}
-use Rattle.typing_rules.proofs.Counts.{few}
-use Rattle.typing_rules.proofs.BodyWeights.{light}
-use Rattle.typing_rules.proofs.Typing.{typed, small}
-use Rattle.typing_rules.proofs.Programs.{never_stuck}
-use Rattle.command_words.specs.Requests.{Run, Options, settings_of, inputs_of, request_of}
-use Rattle.command_words.proofs.Allowed.{settings_allowed, inputs_are_words}
+use Rattle.lowering_code.specs.Images.{image_of}
+use Rattle.lowering_code.specs.Correct.{IsLowerable}
+use Rattle.lowering_code.proofs.Programs.{keeps_meaning}
+use Rattle.region_typing_rules.specs.NeverStuck.{NeverStuck}
+use Rattle.region_typing_rules.proofs.Counts.{few}
+use Rattle.region_typing_rules.proofs.BodyWeights.{light}
+use Rattle.region_typing_rules.proofs.Typing.{typed, small}
+use Rattle.region_typing_rules.proofs.Programs.{never_stuck}
+use Rattle.ccbox_call_words.specs.Requests.{Run, Options, settings_of, inputs_of, request_of}
+use Rattle.ccbox_call_words.proofs.Allowed.{settings_allowed, inputs_are_words}
 use Rattle.ccbox_call.specs.Acceptance.{IsAcceptedCore}
 use Rattle.ccbox_call.specs.Answers.{acts_at, RunsTo, AsksFor, needed_from, needed_line, ViewIsFoldOf}
 use Rattle.ccbox_call.specs.Calls.{MayRun}

@@ -3,20 +3,20 @@ use Rattle.std.proofs.Common.{◌≡◌, ℕ, Bool, true, false, List, length, O
 use Rattle.ckc_text.specs.declared.fault.SourceFault.{SourceFault}
 use Rattle.ckc_text.specs.Places.{place_at}
 use Rattle.ckc_text.specs.Refusals.{not_built as not_built_fault}
-use Rattle.ckc_tokens.specs.declared.token.Token.{Token}
+use Rattle.ckc_lexer_tokens.specs.declared.token.Token.{Token}
 use Rattle.ckc_lexer.specs.Tokens.{Lexes}
 use Rattle.ckc_lexer.proofs.Cutting.{some_answer as some_cut}
 use Rattle.ckc_tree.specs.Items.{Tree}
-use Rattle.ckc_grammar.proofs.Neither.{never_neither}
+use Rattle.ckc_parser_grammar.proofs.Neither.{never_neither}
 use Rattle.ckc_io.specs.Files.{Files, file_at}
 use Rattle.built_forms.specs.Built.{is_built}
-use Rattle.ckc_names.specs.Naming.{naming_fault}
-use Rattle.typing_rules.specs.Verdicts.{Verdict, Passes, Stops, Broken, Nameless}
-use Rattle.typing_rules.specs.Cores.{checked}
-use Rattle.typing_rules.proofs.NamedItems.{all_named}
+use Rattle.ckc_names_rules.specs.Naming.{naming_fault}
+use Rattle.region_typing_rules.specs.Verdicts.{Verdict, Passes, Stops, Broken, Nameless}
+use Rattle.region_typing_rules.specs.Cores.{checked}
+use Rattle.region_typing_rules.proofs.NamedItems.{all_named}
 use Rattle.ckc_core.specs.Core.{Core}
 use Rattle.sandbox_actor.specs.ActLists.{ActList}
-use Rattle.command_words.specs.Requests.{Request, Run, Options, request_of}
+use Rattle.ccbox_call_words.specs.Requests.{Request, Run, Options, request_of}
 use Rattle.ccbox_call.specs.Acceptance.{HasTree, Accepts, IsRefused, CoreOrFault, no_tokens, no_tree, not_built, misnamed, breaks}
 use Rattle.ccbox_call.specs.Answers.{acts_at, AsksToRun, ran, acts_missing, acts, refused, accepted, missing, source, Answer, usage, asked}
 use Rattle.ccbox_call.proofs.Runs.{ends_over}

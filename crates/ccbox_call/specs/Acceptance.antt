@@ -6,14 +6,14 @@ use Rattle.ckc_text.specs.declared.fault.SourceFault.{SourceFault}
 use Rattle.ckc_text.specs.Places.{place_at}
 use Rattle.ckc_text.specs.Refusals as refusals
 use Rattle.ckc_lexer.specs.Tokens.{AreTokens, HasFault}
-use Rattle.ckc_tokens.specs.declared.token.Token.{Token}
+use Rattle.ckc_lexer_tokens.specs.declared.token.Token.{Token}
 use Rattle.ckc_tree.specs.Items.{Tree}
-use Rattle.ckc_grammar.specs.Parsing.{IsTree, IsFault}
+use Rattle.ckc_parser_grammar.specs.Parsing.{IsTree, IsFault}
 use Rattle.built_forms.specs.Built.{is_built}
-use Rattle.ckc_names.specs.Naming.{naming_fault}
-use Rattle.typing_rules.specs.Verdicts.{Breaks}
-use Rattle.typing_rules.specs.Cores.{checked}
-use Rattle.typing_rules.specs.NeverStuck.{HasCore}
+use Rattle.ckc_names_rules.specs.Naming.{naming_fault}
+use Rattle.region_typing_rules.specs.Verdicts.{Breaks}
+use Rattle.region_typing_rules.specs.Cores.{checked}
+use Rattle.region_typing_rules.specs.NeverStuck.{HasCore}
 use Rattle.ckc_core.specs.declared.program as code
 use Rattle.ckc_core.specs.Core.{Core, core}
 

@@ -21,12 +21,12 @@ use Rattle.ckc_core.specs.States.{State}
 use Rattle.ckc_core.specs.Meaning.{meaning}
 use Rattle.sandbox_actor.specs.Answers.{Moment}
 use Rattle.sandbox_actor.specs.ActLists.{ActList, RefusedLine, no_acts, acts_of_file}
-use Rattle.run_transcript.specs.Texts.{run_text, front_text}
+use Rattle.run_core_transcript.specs.Texts.{run_text, front_text}
 use Rattle.run_core.specs.Moments.{due_in, before_due}
-use Rattle.lowered_code.specs.Correct.{blocks_meant}
-use Rattle.command_words.specs.Requests.{Request, Run, Options, settings_of, inputs_of, request_of}
-use Rattle.run_transcript.specs.Diagnostics.{usage_text, missing_text, refused_text, act_refused_text}
-use Rattle.exit_status.specs.Statuses.{status_of}
+use Rattle.lowering_code.specs.Correct.{blocks_meant}
+use Rattle.ccbox_call_words.specs.Requests.{Request, Run, Options, settings_of, inputs_of, request_of}
+use Rattle.run_core_transcript.specs.Diagnostics.{usage_text, missing_text, refused_text, act_refused_text}
+use Rattle.ccbox_call_status.specs.Statuses.{status_of}
 use Rattle.ccbox_call.specs.Acceptance.{Accepts, IsRefused}
 
 -- ---- runs

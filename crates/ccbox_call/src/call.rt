@@ -2,17 +2,17 @@
 
 ghost use Rattle.std.specs.Prelude.{◌≡◌, ◌⊎◌, ℕ, List, map, None};
 ghost use Rattle.ckc_io.specs.Files.{Told};
-ghost use Rattle.command_words.specs.Requests.{request_of};
+ghost use Rattle.ccbox_call_words.specs.Requests.{request_of};
 ghost use Rattle.ccbox_call.specs.Answers.{GivesFront, GivesWhole, IsFailure, IsStatus, Exactly, Tells, SourceIsRefused, FileIsMissing, RunExits, CheckFails, RunStops, LineIsRefused, PrintedRun, IsComplete, IsQuiet, IsUntouched};
-ghost use Rattle.exit_status.specs.Given.{LineGiven};
-ghost use Rattle.run_transcript.specs.Diagnostics.{usage_text};
+ghost use Rattle.ccbox_call_status.specs.Given.{LineGiven};
+ghost use Rattle.run_core_transcript.specs.Diagnostics.{usage_text};
 ghost use Rattle.ccbox_call.specs.Calls.{CallEnds};
 
 use crate::run::run_file;
 use ckc_io::shelf::Shelf;
 use ckc_io::sink::Sink;
-use command_words::request::{Request, request_from};
-use exit_status::output::give_usage;
+use ccbox_call_words::request::{Request, request_from};
+use ccbox_call_status::output::give_usage;
 use std::alloc::Global;
 
 /// How a call ended.

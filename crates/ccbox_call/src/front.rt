@@ -7,7 +7,7 @@ use ckc_core::program::Core;
 use ckc_lexer::lexer::lex;
 use ckc_parser::parser::parse;
 use ckc_text::fault::Refused;
-use name_resolution::resolve::resolve;
+use ckc_names::resolve::resolve;
 use region_typing::checker::check;
 use std::alloc::Global;
 

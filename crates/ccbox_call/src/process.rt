@@ -10,7 +10,7 @@ ghost use Rattle.ccbox_call.specs.Process.{Answers, IsUnmade, ProcessEnds, words
 use crate::call::status_of_call;
 use ckc_io::shelf::Shelf;
 use ckc_io::sink::Sink;
-use exit_status::status::NO_MEMORY;
+use ccbox_call_status::status::NO_MEMORY;
 use std::alloc::{AllocError, Global};
 use std::env::Args;
 use std::io;

@@ -10,7 +10,7 @@ ghost use Rattle.ckc_io.specs.Files.{Told};
 ghost use Rattle.ckc_core.specs.Core.{core};
 ghost use Rattle.ccbox_call.specs.Acceptance.{IsAcceptedCore, IsRefused};
 ghost use Rattle.ccbox_call.specs.Answers.{ListAnswer, CoreAnswer, SourceAnswer, FileAnswer};
-ghost use Rattle.command_words.specs.Requested.{options as options_view};
+ghost use Rattle.ccbox_call_words.specs.Requested.{options as options_view};
 ghost use Rattle.ccbox_call.specs.Calls.{MayRun, Gives};
 
 use crate::front::front;
@@ -21,15 +21,15 @@ use ckc_io::sink::Sink;
 use ckc_io::whole::{ReadFault, read_whole};
 use ckc_text::fault::{Refused, SourceFault};
 use ckc_text::place::Place;
-use ckc_tokens::limits::MAX_SOURCE;
-use command_words::request::Options;
-use exit_status::output::{give_missing, give_outcome, give_refused};
-use exit_status::status::{FILES_FAILED, NO_MEMORY};
+use ckc_lexer_tokens::limits::MAX_SOURCE;
+use ccbox_call_words::request::Options;
+use ccbox_call_status::output::{give_missing, give_outcome, give_refused};
+use ccbox_call_status::status::{FILES_FAILED, NO_MEMORY};
 use lowering::lower::lower;
 use run_core::run::run;
 use sandbox_actor::actor::ActorFault;
 use sandbox_actor::list_actor::ListActor;
-use source_places::place::place_of;
+use ckc_text::place::place_of;
 use std::alloc::Global;
 
 /// Runs the program of a file.

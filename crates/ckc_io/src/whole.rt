@@ -8,7 +8,6 @@ ghost use Rattle.ckc_io.specs.Written.{grown};
 
 use crate::shelf::{Shelf, ShelfFault};
 use crate::sink::{Sink, SinkFault};
-use input_numbers::numbers::offset_behind;
 use std::alloc::{AllocError, Global};
 
 /// How many bytes one read asks for at most.
@@ -91,7 +90,7 @@ fn read_piece<F: Shelf>(
     let mut buffer = [0u8; PIECE];
     let taken = bytes.len();
     let into = &mut buffer[..(most - taken).min(PIECE)];
-    let count = shelf.read_at(name, offset_behind(taken), into)?;
+    let count = shelf.read_at(name, taken as u64, into)?;
     bytes.extend_from_slice(&into[..count])?;
     Ok(count)
 }

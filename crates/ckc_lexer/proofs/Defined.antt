@@ -5,7 +5,7 @@ use Rattle.std.specs.Map.{lookup}
 use Rattle.std.specs.Option.{option_map}
 use Rattle.std.proofs.lemmas.Slice.Eq.{bytes_eq-Decides}
 use Rattle.indexmap.specs.IndexMap.{insert_entry}
-use Rattle.ckc_tokens.specs.declared.piece.Definition.{Definition}
+use Rattle.ckc_lexer_tokens.specs.declared.piece.Definition.{Definition}
 use Rattle.ckc_lexer.specs.Tokens.{definition_for}
 use Rattle.ckc_lexer.specs.Defined.{definition, definitions_of}
 

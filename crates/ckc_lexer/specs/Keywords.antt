@@ -3,8 +3,8 @@ use Rattle.std.specs.Prelude.{ℕ, List}
 use Rattle.std.specs.Borrow.{Bor}
 use Rattle.ckc_lexer.specs.declared.keywords.Keyword.{Keyword}
 use Rattle.ckc_lexer.specs.declared.keywords.Keyword.TheVariants as keyword
-use Rattle.ckc_tokens.specs.declared.token.TokenKind.{TokenKind}
-use Rattle.ckc_tokens.specs.declared.token.TokenKind.TheVariants as token
+use Rattle.ckc_lexer_tokens.specs.declared.token.TokenKind.{TokenKind}
+use Rattle.ckc_lexer_tokens.specs.declared.token.TokenKind.TheVariants as token
 
 abbrev pub kind : Keyword → TokenKind
 kind keyword.Int = token.Int

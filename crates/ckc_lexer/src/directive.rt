@@ -2,7 +2,7 @@
 
 ghost use Rattle.std.specs.Prelude.{◌≡◌, ◌≤◌, length, IfOk};
 ghost use Rattle.std.specs.List.{list_all, prefix_len};
-ghost use Rattle.ckc_tokens.specs.Bytes.{is_blank, is_letter, is_word_byte, begins_with};
+ghost use Rattle.ckc_lexer_tokens.specs.Bytes.{is_blank, is_letter, is_word_byte, begins_with};
 ghost use Rattle.ckc_lexer.specs.Directives.{part, part_len, unblanked, is_keyword, numbered_definition, signed_definition, definition_of, scope_word, scope_of, pragma_of, named_directive};
 ghost use Rattle.ckc_lexer.specs.Pieces.{word_len, line_len, is_include, include_piece, directive_piece, IsHash};
 
@@ -13,8 +13,8 @@ use crate::word::{begins_with_digit, keyword};
 use ckc_text::code::Code;
 use ckc_text::fault::NoMemory;
 use ckc_text::name::Name;
-use ckc_tokens::number::number_of;
-use ckc_tokens::piece::{Definition, Piece, ScopeWord};
+use ckc_lexer_tokens::number::number_of;
+use ckc_lexer_tokens::piece::{Definition, Piece, ScopeWord};
 use std::alloc::Global;
 
 /// How many letters and digits a text begins with.

@@ -3,7 +3,7 @@
 ghost use Rattle.std.specs.Prelude.{◌≡◌};
 ghost use Rattle.ckc_lexer.specs.Keywords.{kind};
 
-use ckc_tokens::token::TokenKind;
+use ckc_lexer_tokens::token::TokenKind;
 
 /// A keyword; of two spellings one.
 #[derive(Clone, Copy)]

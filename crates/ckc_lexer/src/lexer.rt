@@ -3,7 +3,7 @@
 ghost use Rattle.std.specs.Prelude.{◌≡◌, ◌+◌, ◌-◌, ◌<◌, ◌≤◌, length, OnOk};
 ghost use Rattle.ckc_text.specs.declared.fault.Refused.TheVariants.{Source};
 ghost use Rattle.ckc_lexer.specs.Tokens.{fault_at, push, definition_for, number_tokens, name_tokens, behind_mark, forbidden, fault, define, go_on, scope_from, change_scope, is_first, next, LexAnswers};
-ghost use Rattle.ckc_tokens.specs.declared.piece.Piece.TheVariants.{Gap};
+ghost use Rattle.ckc_lexer_tokens.specs.declared.piece.Piece.TheVariants.{Gap};
 ghost use Rattle.ckc_lexer.specs.Progress.{state_of, Gives, Steps};
 
 use crate::definitions::Definitions;
@@ -13,11 +13,11 @@ use ckc_text::code::Code;
 use ckc_text::fault::{Refused, SourceFault};
 use ckc_text::name::Name;
 use ckc_text::place::Span;
-use ckc_tokens::definition::is_same_number;
-use ckc_tokens::limits::{has_room, is_read};
-use ckc_tokens::piece::{Definition, Piece, ScopeWord};
-use ckc_tokens::scope;
-use ckc_tokens::token::{CheckedScope, Token, TokenKind};
+use ckc_lexer_tokens::definition::is_same_number;
+use ckc_lexer_tokens::limits::{has_room, is_read};
+use ckc_lexer_tokens::piece::{Definition, Piece, ScopeWord};
+use ckc_lexer_tokens::scope;
+use ckc_lexer_tokens::token::{CheckedScope, Token, TokenKind};
 use std::alloc::Global;
 
 /// What stands before a place of a source: the tokens, the definitions, the scope and those that were kept.

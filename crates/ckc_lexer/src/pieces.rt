@@ -2,7 +2,7 @@
 
 ghost use Rattle.std.specs.Prelude.{◌≡◌, ℕ, ◌<◌, length, IfOk};
 ghost use Rattle.std.specs.List.{list_any};
-ghost use Rattle.ckc_tokens.specs.Bytes.{is_line_feed};
+ghost use Rattle.ckc_lexer_tokens.specs.Bytes.{is_line_feed};
 ghost use Rattle.ckc_lexer.specs.Runs.{Extent};
 ghost use Rattle.ckc_lexer.specs.Pieces.{comment_piece, is_closing, IsBlankByte, IsLineComment, IsBlockComment, IsWord, Stands};
 ghost use Rattle.ckc_lexer.specs.declared.run.Run.TheVariants.{Comment};
@@ -15,8 +15,8 @@ use crate::run::{Run, extent};
 use crate::word::word_piece;
 use ckc_text::code::Code;
 use ckc_text::fault::NoMemory;
-use ckc_tokens::comment::comment;
-use ckc_tokens::piece::Piece;
+use ckc_lexer_tokens::comment::comment;
+use ckc_lexer_tokens::piece::Piece;
 use std::alloc::Global;
 
 fn has_line_feed(bytes: &[u8]) -> bool

@@ -4,7 +4,7 @@ ghost use Rattle.std.specs.Prelude.{◌≡◌, ◌+◌, ◌<◌, ◌≤◌, leng
 ghost use Rattle.std.specs.Option.{option_map};
 ghost use Rattle.std.specs.Prelude.{ℕ, List, Option, take};
 ghost use Rattle.std.specs.List.{list_any};
-ghost use Rattle.ckc_tokens.specs.Bytes.{is_hexadecimal_digit, is_control, is_forbidden};
+ghost use Rattle.ckc_lexer_tokens.specs.Bytes.{is_hexadecimal_digit, is_control, is_forbidden};
 ghost use Rattle.ckc_lexer.specs.Runs.{Extent};
 ghost use Rattle.ckc_lexer.specs.declared.run.Run.TheVariants.{Quoted};
 ghost use Rattle.ckc_lexer.specs.Pieces.{is_quote, IsString, IsCharacter};
@@ -14,10 +14,10 @@ use crate::front::{is_control, is_forbidden};
 use crate::run::{Run, extent};
 use ckc_text::code::Code;
 use ckc_text::fault::NoMemory;
-use ckc_tokens::number::digit_value;
-use ckc_tokens::piece::Piece;
-use ckc_tokens::text::Text;
-use ckc_tokens::token::TokenKind;
+use ckc_lexer_tokens::number::digit_value;
+use ckc_lexer_tokens::piece::Piece;
+use ckc_lexer_tokens::text::Text;
+use ckc_lexer_tokens::token::TokenKind;
 use std::alloc::Global;
 
 /// The byte that a backslash and this byte are, and how many bytes the escape takes.

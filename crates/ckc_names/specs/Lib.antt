@@ -1,4 +1,7 @@
-pub mod Mentions
-pub mod Scopes
-pub mod Naming
-pub mod Meanings
+pub mod Progress
+pub mod Slices
+pub mod Named
+pub mod Examples
+pub mod State
+pub mod NameLists
+pub mod Insides

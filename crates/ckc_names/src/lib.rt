@@ -1,6 +1,15 @@
-// What is said of names: the definitions, and the single rules that a walk over a program keeps them by.
+// Whether each name of a program is visible where it stands: a table of the visible names, and a walk over the tree.
 #![tactic(auto)]
 
-pub mod hiding;
-pub mod meaning;
-pub mod refusals;
+mod declarations;
+mod expressions;
+mod items;
+pub mod laws;
+mod main_function;
+mod mentions;
+pub mod name_list;
+pub mod named;
+pub mod resolve;
+mod resolver;
+mod statements;
+mod table;

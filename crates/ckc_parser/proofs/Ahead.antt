@@ -1,11 +1,11 @@
 -- Tokens of which several may stand.
 use Rattle.std.proofs.Common.{◌≡◌, false, List, [], ◌∷◌, refl}
-use Rattle.ckc_tokens.specs.declared.token.Token.{Token}
-use Rattle.ckc_tokens.specs.declared.token.TokenKind.{TokenKind}
-use Rattle.ckc_tokens.specs.declared.token.TokenKind.TheVariants as kinds
-use Rattle.ckc_grammar.specs.Tokens.{next_is, comma}
-use Rattle.ckc_grammar.specs.StuckStatements.{constant_token, minus_or_constant, step_word, assign_word, comma_or_brace, close_brace}
-use Rattle.ckc_cursor.specs.WordReadings.{minus, store_word}
+use Rattle.ckc_lexer_tokens.specs.declared.token.Token.{Token}
+use Rattle.ckc_lexer_tokens.specs.declared.token.TokenKind.{TokenKind}
+use Rattle.ckc_lexer_tokens.specs.declared.token.TokenKind.TheVariants as kinds
+use Rattle.ckc_parser_grammar.specs.Tokens.{next_is, comma}
+use Rattle.ckc_parser_grammar.specs.StuckStatements.{constant_token, minus_or_constant, step_word, assign_word, comma_or_brace, close_brace}
+use Rattle.ckc_parser_cursor.specs.WordReadings.{minus, store_word}
 
 neither_minus : (k : TokenKind) → minus k ≡ false → constant_token k ≡ false → minus_or_constant k ≡ false
 neither_minus kinds.Minus m c = m

@@ -2,8 +2,8 @@
 use Rattle.std.proofs.Common.{◌≡◌, ◌<◌, ℕ, suc, length, Bool, true, false, ◌||◌, List, [], ◌∷◌, Option, Vec, Global, refl, ap, ◌∙◌, arith}
 use mathlib.Core.Former.{Count}
 use Rattle.ckc_text.specs.declared.place.Span.{Span}
-use Rattle.ckc_tokens.specs.declared.token.Token.{Token}
-use Rattle.ckc_tokens.specs.declared.token.TokenKind.TheVariants as kinds
+use Rattle.ckc_lexer_tokens.specs.declared.token.Token.{Token}
+use Rattle.ckc_lexer_tokens.specs.declared.token.TokenKind.TheVariants as kinds
 use Rattle.ckc_tree.specs.declared.stmt.Mark.{Mark}
 use Rattle.ckc_tree.specs.declared.stmt.Stmt.{Stmt, Row_of-Stmt, end_of-Stmt, more_of-Stmt, items-the_row-Stmt, items_hidden-the_row-Stmt-0}
 use Rattle.ckc_tree.specs.declared.stmt.Stmt.TheVariants as stmts
@@ -11,22 +11,22 @@ use Rattle.ckc_tree.specs.Expressions.{Expression}
 use Rattle.ckc_tree.specs.Statements.{ForInitial, Assignment, Statement, Statements, Block, If, IfElse, While, For, Then, Return, statement_span, statement, statements}
 use Rattle.ckc_tree.specs.Items.{statement_list}
 use Rattle.ckc_tree.specs.Heights.{◌beside◌, around, expression_reach, optional_expression_reach, optional_assignment_reach, for_initial_reach, statement_reach}
-use Rattle.ckc_grammar.specs.Tokens.{token, join, next_is, else_word}
-use Rattle.ckc_grammar.specs.ExpressionGrammar as grammar
-use Rattle.ckc_grammar.specs.ExpressionGrammar.{SpellsUnary, SpellsSelectors, SpellsPrimary, SpellsCall}
-use Rattle.ckc_grammar.specs.StatementGrammar as g
-use Rattle.ckc_grammar.specs.StatementGrammar.{SpellsForInitial, SpellsForCondition, SpellsForStep, SpellsStatement}
-use Rattle.ckc_grammar.specs.Failures.{Failure, unexpected, IsLow}
-use Rattle.ckc_grammar.specs.StuckTypes.{type_word, name_token}
-use Rattle.ckc_grammar.specs.StuckStatements as stuck
-use Rattle.ckc_grammar.specs.StuckStatements.{semicolon, plain_word, assignment_word, statement_word, is_call, is_call_alone, StuckStatement}
+use Rattle.ckc_parser_grammar.specs.Tokens.{token, join, next_is, else_word}
+use Rattle.ckc_parser_grammar.specs.ExpressionGrammar as grammar
+use Rattle.ckc_parser_grammar.specs.ExpressionGrammar.{SpellsUnary, SpellsSelectors, SpellsPrimary, SpellsCall}
+use Rattle.ckc_parser_grammar.specs.StatementGrammar as g
+use Rattle.ckc_parser_grammar.specs.StatementGrammar.{SpellsForInitial, SpellsForCondition, SpellsForStep, SpellsStatement}
+use Rattle.ckc_parser_grammar.specs.Failures.{Failure, unexpected, IsLow}
+use Rattle.ckc_parser_grammar.specs.StuckTypes.{type_word, name_token}
+use Rattle.ckc_parser_grammar.specs.StuckStatements as stuck
+use Rattle.ckc_parser_grammar.specs.StuckStatements.{semicolon, plain_word, assignment_word, statement_word, is_call, is_call_alone, StuckStatement}
 use Rattle.ckc_parser.specs.StatementReadings as r
 use Rattle.ckc_parser.specs.StatementReadings.{SpellsCondition, SpellsEnd, IsForHead, StuckAssigned, jump_word, jump}
-use Rattle.ckc_cursor.proofs.Readings.{low_around}
-use Rattle.ckc_expr_parser.proofs.ContextSteps.{low_beside}
-use Rattle.ckc_grammar.proofs.Paths.{shorter, led_shorter}
-use Rattle.ckc_grammar.proofs.ExpressionPaths.{binary_path, call_path}
-use Rattle.ckc_grammar.proofs.StatementPaths.{declaration_path, assignment_path, assignments_path, statement_path, statements_path}
+use Rattle.ckc_parser_cursor.proofs.Readings.{low_around}
+use Rattle.ckc_parser_expressions.proofs.ContextSteps.{low_beside}
+use Rattle.ckc_parser_grammar.proofs.Paths.{shorter, led_shorter}
+use Rattle.ckc_parser_grammar.proofs.ExpressionPaths.{binary_path, call_path}
+use Rattle.ckc_parser_grammar.proofs.StatementPaths.{declaration_path, assignment_path, assignments_path, statement_path, statements_path}
 
 -- ---- the statements of a block
 

@@ -1,9 +1,9 @@
 -- What stands at file level: from what was read before a part and what the part answered.
 use Rattle.std.proofs.Common.{◌≡◌, ◌<◌, ◌≤◌, ℕ, length, Bool, false, List, [], ◌∷◌, Option, None, refl, ◌∙◌, arith}
 use Rattle.ckc_text.specs.declared.place.Span.{Span}
-use Rattle.ckc_tokens.specs.declared.token.Token.{Token}
-use Rattle.ckc_tokens.specs.declared.token.TokenKind.{TokenKind}
-use Rattle.ckc_tokens.specs.declared.token.TokenKind.TheVariants as kinds
+use Rattle.ckc_lexer_tokens.specs.declared.token.Token.{Token}
+use Rattle.ckc_lexer_tokens.specs.declared.token.TokenKind.{TokenKind}
+use Rattle.ckc_lexer_tokens.specs.declared.token.TokenKind.TheVariants as kinds
 use Rattle.ckc_tree.specs.declared.identifier.Identifier.{Identifier}
 use Rattle.ckc_tree.specs.declared.stmt.Mark.{Mark}
 use Rattle.ckc_tree.specs.declared.item.Item as code
@@ -13,27 +13,27 @@ use Rattle.ckc_tree.specs.Types.{TypeName}
 use Rattle.ckc_tree.specs.Expressions.{Bounds}
 use Rattle.ckc_tree.specs.Items.{Member, ResultForm, Void, Parameters, Body, RegionItem, Item}
 use Rattle.ckc_tree.specs.Heights.{result_reach, member_reach}
-use Rattle.ckc_grammar.specs.Tokens as words
-use Rattle.ckc_grammar.specs.Tokens.{token, next_is, star, tainted_word, mark_word, kind_word, open_paren}
-use Rattle.ckc_grammar.specs.TypeGrammar as types
-use Rattle.ckc_grammar.specs.TypeGrammar.{SpellsStars}
-use Rattle.ckc_grammar.specs.ItemGrammar as g
-use Rattle.ckc_grammar.specs.ItemGrammar.{SpellsTainted, SpellsKind, SpellsOptionalMark, SpellsMember, SpellsListed, SpellsParameters, SpellsResult, SpellsBody, SpellsRegion, SpellsItem}
-use Rattle.ckc_grammar.specs.Failures.{Failure, unexpected, IsLow}
-use Rattle.ckc_grammar.specs.StuckTypes.{name_token}
-use Rattle.ckc_grammar.specs.StuckExpressions.{close_paren, comma_or_paren}
-use Rattle.ckc_grammar.specs.StuckStatements.{open_brace, semicolon}
-use Rattle.ckc_grammar.specs.StuckItems as stuck
-use Rattle.ckc_grammar.specs.StuckItems.{scope_word, struct_word, body_word, is_name_before, is_structure, is_function, IsAlone, IsLowMember, StuckBody, StuckItem, StuckItems}
-use Rattle.ckc_cursor.specs.WordReadings.{WordAt}
+use Rattle.ckc_parser_grammar.specs.Tokens as words
+use Rattle.ckc_parser_grammar.specs.Tokens.{token, next_is, star, tainted_word, mark_word, kind_word, open_paren}
+use Rattle.ckc_parser_grammar.specs.TypeGrammar as types
+use Rattle.ckc_parser_grammar.specs.TypeGrammar.{SpellsStars}
+use Rattle.ckc_parser_grammar.specs.ItemGrammar as g
+use Rattle.ckc_parser_grammar.specs.ItemGrammar.{SpellsTainted, SpellsKind, SpellsOptionalMark, SpellsMember, SpellsListed, SpellsParameters, SpellsResult, SpellsBody, SpellsRegion, SpellsItem}
+use Rattle.ckc_parser_grammar.specs.Failures.{Failure, unexpected, IsLow}
+use Rattle.ckc_parser_grammar.specs.StuckTypes.{name_token}
+use Rattle.ckc_parser_grammar.specs.StuckExpressions.{close_paren, comma_or_paren}
+use Rattle.ckc_parser_grammar.specs.StuckStatements.{open_brace, semicolon}
+use Rattle.ckc_parser_grammar.specs.StuckItems as stuck
+use Rattle.ckc_parser_grammar.specs.StuckItems.{scope_word, struct_word, body_word, is_name_before, is_structure, is_function, IsAlone, IsLowMember, StuckBody, StuckItem, StuckItems}
+use Rattle.ckc_parser_cursor.specs.WordReadings.{WordAt}
 use Rattle.ckc_parser.specs.ItemReadings as r
 use Rattle.ckc_parser.specs.ItemReadings.{IsScope, IsKindWord, IsSide, IsLed, IsStructureHead, StuckNamed, StuckResult}
-use Rattle.ckc_expr_parser.proofs.ContextSteps.{low_beside}
-use Rattle.ckc_grammar.proofs.Lists.{GoesOn, AreItems, ended}
-use Rattle.ckc_grammar.proofs.Paths.{shorter}
-use Rattle.ckc_grammar.proofs.TypePaths.{type_path, type_name_path, stars_path}
-use Rattle.ckc_grammar.proofs.StatementPaths.{optional_bounds_path, declarators_path, statements_path}
-use Rattle.ckc_grammar.proofs.ItemPaths.{members_path}
+use Rattle.ckc_parser_expressions.proofs.ContextSteps.{low_beside}
+use Rattle.ckc_parser_grammar.proofs.Lists.{GoesOn, AreItems, ended}
+use Rattle.ckc_parser_grammar.proofs.Paths.{shorter}
+use Rattle.ckc_parser_grammar.proofs.TypePaths.{type_path, type_name_path, stars_path}
+use Rattle.ckc_parser_grammar.proofs.StatementPaths.{optional_bounds_path, declarators_path, statements_path}
+use Rattle.ckc_parser_grammar.proofs.ItemPaths.{members_path}
 
 -- ---- words before an item
 

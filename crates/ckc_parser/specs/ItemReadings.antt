@@ -1,10 +1,10 @@
 -- Inside: what the functions that read items answer, and what stands before the parts that they read.
 use Rattle.std.specs.Prelude.{◌≡◌, ℕ, Bool, true, false, List, ◌∷◌, Option, Some, None}
 use Rattle.ckc_text.specs.declared.place.Span.{Span}
-use Rattle.ckc_tokens.specs.declared.token.Token.{Token}
-use Rattle.ckc_tokens.specs.declared.token.TokenKind.{TokenKind}
-use Rattle.ckc_tokens.specs.declared.token.TokenKind.TheVariants as kinds
-use Rattle.ckc_tokens.specs.declared.token.CheckedScope.{CheckedScope}
+use Rattle.ckc_lexer_tokens.specs.declared.token.Token.{Token}
+use Rattle.ckc_lexer_tokens.specs.declared.token.TokenKind.{TokenKind}
+use Rattle.ckc_lexer_tokens.specs.declared.token.TokenKind.TheVariants as kinds
+use Rattle.ckc_lexer_tokens.specs.declared.token.CheckedScope.{CheckedScope}
 use Rattle.ckc_tree.specs.declared.stmt.Mark.{Mark}
 use Rattle.ckc_tree.specs.declared.item.Region.{Region}
 use Rattle.ckc_tree.specs.declared.item.FunctionKind.{FunctionKind}
@@ -12,12 +12,12 @@ use Rattle.ckc_tree.specs.declared.item.FunctionKind.TheVariants.{Trusted, Taint
 use Rattle.ckc_tree.specs.Types.{TypeTree}
 use Rattle.ckc_tree.specs.Items.{ResultForm}
 use Rattle.ckc_tree.specs.Heights.{type_reach, result_reach}
-use Rattle.ckc_grammar.specs.Tokens.{token, next_is, open_paren}
-use Rattle.ckc_grammar.specs.TypeGrammar.{SpellsStars, SpellsType}
-use Rattle.ckc_grammar.specs.ItemGrammar.{SpellsTainted, SpellsKind, SpellsOptionalMark, SpellsRegion, SpellsResult}
-use Rattle.ckc_grammar.specs.Failures.{Failure, unexpected, IsLow}
-use Rattle.ckc_grammar.specs.StuckTypes.{name_token, StuckType}
-use Rattle.ckc_grammar.specs.StuckItems.{scope_word, void_word, is_structure, is_function, IsAlone}
+use Rattle.ckc_parser_grammar.specs.Tokens.{token, next_is, open_paren}
+use Rattle.ckc_parser_grammar.specs.TypeGrammar.{SpellsStars, SpellsType}
+use Rattle.ckc_parser_grammar.specs.ItemGrammar.{SpellsTainted, SpellsKind, SpellsOptionalMark, SpellsRegion, SpellsResult}
+use Rattle.ckc_parser_grammar.specs.Failures.{Failure, unexpected, IsLow}
+use Rattle.ckc_parser_grammar.specs.StuckTypes.{name_token, StuckType}
+use Rattle.ckc_parser_grammar.specs.StuckItems.{scope_word, void_word, is_structure, is_function, IsAlone}
 
 -- ---- words before an item
 

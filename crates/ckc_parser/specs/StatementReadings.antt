@@ -1,21 +1,21 @@
 -- Inside: what the functions that read declarations, statements and items answer, in the code's types.
 use Rattle.std.specs.Prelude.{◌≡◌, ℕ, suc, Bool, true, false, List, ◌∷◌, Option, Some, None}
 use Rattle.ckc_text.specs.declared.place.Span.{Span}
-use Rattle.ckc_tokens.specs.declared.token.Token.{Token}
-use Rattle.ckc_tokens.specs.declared.token.TokenKind.{TokenKind}
-use Rattle.ckc_tokens.specs.declared.token.TokenKind.TheVariants as kinds
+use Rattle.ckc_lexer_tokens.specs.declared.token.Token.{Token}
+use Rattle.ckc_lexer_tokens.specs.declared.token.TokenKind.{TokenKind}
+use Rattle.ckc_lexer_tokens.specs.declared.token.TokenKind.TheVariants as kinds
 use Rattle.ckc_tree.specs.declared.stmt.StoreOperator.{StoreOperator}
 use Rattle.ckc_tree.specs.declared.stmt.StepOperator.{StepOperator}
 use Rattle.ckc_tree.specs.declared.stmt.StepSide.TheVariants.{After}
 use Rattle.ckc_tree.specs.Expressions.{Expression}
 use Rattle.ckc_tree.specs.Statements.{Assignment, Store, Step, ForInitial, Statement, Break, Continue}
 use Rattle.ckc_tree.specs.Heights.{for_initial_reach, optional_expression_reach, optional_assignment_reach}
-use Rattle.ckc_grammar.specs.Tokens.{token, join, IsStoreOperator, IsStepOperator, next_is}
-use Rattle.ckc_grammar.specs.ExpressionGrammar.{SpellsExpression}
-use Rattle.ckc_grammar.specs.StatementGrammar.{SpellsForInitial, SpellsForCondition, SpellsForStep}
-use Rattle.ckc_grammar.specs.Failures.{Failure, unexpected, no_memory, IsLow}
-use Rattle.ckc_grammar.specs.StuckExpressions.{StuckExpression}
-use Rattle.ckc_grammar.specs.StuckStatements.{assign_word, is_call, is_call_alone}
+use Rattle.ckc_parser_grammar.specs.Tokens.{token, join, IsStoreOperator, IsStepOperator, next_is}
+use Rattle.ckc_parser_grammar.specs.ExpressionGrammar.{SpellsExpression}
+use Rattle.ckc_parser_grammar.specs.StatementGrammar.{SpellsForInitial, SpellsForCondition, SpellsForStep}
+use Rattle.ckc_parser_grammar.specs.Failures.{Failure, unexpected, no_memory, IsLow}
+use Rattle.ckc_parser_grammar.specs.StuckExpressions.{StuckExpression}
+use Rattle.ckc_parser_grammar.specs.StuckStatements.{assign_word, is_call, is_call_alone}
 
 -- ---- what stands behind the target of an assignment
 

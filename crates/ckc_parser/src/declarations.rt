@@ -5,34 +5,34 @@ ghost use Rattle.std.specs.Option.{option_map};
 ghost use Rattle.ckc_tree.specs.Expressions.{expression, bounds};
 ghost use Rattle.ckc_tree.specs.Statements as views;
 ghost use Rattle.ckc_tree.specs.Heights.{around, expression_reach, optional_bounds_reach, optional_initializer_reach, declarator_reach, declarators_reach, declared_reach, assignment_reach};
-ghost use Rattle.ckc_grammar.specs.Tokens.{start_of, from_first, next_is};
-ghost use Rattle.ckc_grammar.specs.StatementGrammar.{SpellsOptionalBounds, SpellsOptionalArray, SpellsSigned, SpellsConstants, SpellsOptionalInitializer, SpellsDeclarator, SpellsDeclarators, SpellsDeclaration, SpellsAssignment};
-ghost use Rattle.ckc_grammar.specs.Failures.{IsLow};
-ghost use Rattle.ckc_cursor.specs.Answers.{Reads};
-ghost use Rattle.ckc_grammar.specs.StuckTypes.{type_word};
-ghost use Rattle.ckc_grammar.specs.StuckStatements.{step_word, assignment_word, StuckOptionalBounds, StuckOptionalArray, StuckSigned, StuckConstants, StuckOptionalInitializer, StuckDeclarator, StuckDeclarators, StuckDeclaration, StuckAssignment};
+ghost use Rattle.ckc_parser_grammar.specs.Tokens.{start_of, from_first, next_is};
+ghost use Rattle.ckc_parser_grammar.specs.StatementGrammar.{SpellsOptionalBounds, SpellsOptionalArray, SpellsSigned, SpellsConstants, SpellsOptionalInitializer, SpellsDeclarator, SpellsDeclarators, SpellsDeclaration, SpellsAssignment};
+ghost use Rattle.ckc_parser_grammar.specs.Failures.{IsLow};
+ghost use Rattle.ckc_parser_cursor.specs.Answers.{Reads};
+ghost use Rattle.ckc_parser_grammar.specs.StuckTypes.{type_word};
+ghost use Rattle.ckc_parser_grammar.specs.StuckStatements.{step_word, assignment_word, StuckOptionalBounds, StuckOptionalArray, StuckSigned, StuckConstants, StuckOptionalInitializer, StuckDeclarator, StuckDeclarators, StuckDeclaration, StuckAssignment};
 ghost use Rattle.ckc_parser.specs.StatementReadings.{SpellsAssigned, StuckAssigned};
 
-use ckc_cursor::memory::push;
-use ckc_cursor::stuck::Stuck;
-use ckc_cursor::tokens::{close_brace, close_bracket, comma, identifier, open_brace, open_bracket};
-use ckc_cursor::words::{
+use ckc_parser_cursor::memory::push;
+use ckc_parser_cursor::stuck::Stuck;
+use ckc_parser_cursor::tokens::{close_brace, close_bracket, comma, identifier, open_brace, open_bracket};
+use ckc_parser_cursor::words::{
     array_word, colon, constant, equal, minus, number, step_operator, store_operator,
 };
-use ckc_expr_parser::bounds::bounds;
-use ckc_expr_parser::expressions::{expression, starts_unary, unary};
-use ckc_expr_parser::operand::Operand;
-use ckc_expr_parser::types::{stars, type_form};
+use ckc_parser_expressions::bounds::bounds;
+use ckc_parser_expressions::expressions::{expression, starts_unary, unary};
+use ckc_parser_expressions::operand::Operand;
+use ckc_parser_expressions::types::{stars, type_form};
 use ckc_text::place::Span;
-use ckc_tokens::token::{Token, TokenKind};
+use ckc_lexer_tokens::token::{Token, TokenKind};
 use ckc_tree::expr::{BoundsText, Expr};
 use ckc_tree::stmt::{
     ArrayForm, Assignment, Declaration, Declarator, Initializer, SignedConstant, StepOperator,
     StepSide, StoreOperator,
 };
 use std::alloc::Global;
-use syntax_rules::depth::MAX_DEPTH;
-use syntax_rules::spans::join;
+use ckc_parser_cursor::depth::MAX_DEPTH;
+use ckc_parser_cursor::spans::join;
 
 /// A form, and the bytes that it stands on or that all so far stands on with it.
 #[derive(Drop)]

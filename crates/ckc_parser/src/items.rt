@@ -2,35 +2,35 @@
 
 ghost use Rattle.std.specs.Prelude.{◌≡◌, false, map, None, MatchOption};
 ghost use Rattle.std.specs.Option.{option_map};
-ghost use Rattle.ckc_tokens.specs.declared.token.TokenKind.TheVariants as kinds;
+ghost use Rattle.ckc_lexer_tokens.specs.declared.token.TokenKind.TheVariants as kinds;
 ghost use Rattle.ckc_tree.specs.Types.{type_tree, type_name};
 ghost use Rattle.ckc_tree.specs.Expressions.{bounds};
 ghost use Rattle.ckc_tree.specs.Statements as statements;
 ghost use Rattle.ckc_tree.specs.Items as views;
 ghost use Rattle.ckc_tree.specs.Heights.{type_reach, members_reach, result_reach, parameters_reach, optional_body_reach, item_reach};
-ghost use Rattle.ckc_grammar.specs.Tokens as words;
-ghost use Rattle.ckc_grammar.specs.ItemGrammar.{SpellsTainted, SpellsKind, SpellsOptionalMark, SpellsMember, SpellsMembers, SpellsListed, SpellsParameters, SpellsResult, SpellsBody, SpellsRegion, SpellsItem, SpellsItems};
-ghost use Rattle.ckc_grammar.specs.TypeGrammar.{SpellsType};
-ghost use Rattle.ckc_grammar.specs.Failures.{IsLow};
-ghost use Rattle.ckc_cursor.specs.Answers.{Reads, ReadsMark};
-ghost use Rattle.ckc_grammar.specs.StuckItems as marks;
-ghost use Rattle.ckc_grammar.specs.StuckItems.{IsLowMember, StuckMember, StuckMembers, StuckListed, StuckParameters, StuckBody, StuckItem};
-ghost use Rattle.ckc_cursor.specs.WordReadings.{ReadsWord};
+ghost use Rattle.ckc_parser_grammar.specs.Tokens as words;
+ghost use Rattle.ckc_parser_grammar.specs.ItemGrammar.{SpellsTainted, SpellsKind, SpellsOptionalMark, SpellsMember, SpellsMembers, SpellsListed, SpellsParameters, SpellsResult, SpellsBody, SpellsRegion, SpellsItem, SpellsItems};
+ghost use Rattle.ckc_parser_grammar.specs.TypeGrammar.{SpellsType};
+ghost use Rattle.ckc_parser_grammar.specs.Failures.{IsLow};
+ghost use Rattle.ckc_parser_cursor.specs.Answers.{Reads, ReadsMark};
+ghost use Rattle.ckc_parser_grammar.specs.StuckItems as marks;
+ghost use Rattle.ckc_parser_grammar.specs.StuckItems.{IsLowMember, StuckMember, StuckMembers, StuckListed, StuckParameters, StuckBody, StuckItem};
+ghost use Rattle.ckc_parser_cursor.specs.WordReadings.{ReadsWord};
 ghost use Rattle.ckc_parser.specs.ItemReadings.{IsScope, IsKindWord, SideAnswers, IsLed, IsBase, IsStructureHead, IsStructure, IsNamed, StuckNamed, StuckResult, IsHead};
 
 use crate::declarations::{Read, declarators, from_first, optional_bounds};
 use crate::statements::statements;
-use ckc_cursor::memory::push;
-use ckc_cursor::stuck::Stuck;
-use ckc_cursor::terminal::{Terminal, expect};
-use ckc_cursor::tokens::{
+use ckc_parser_cursor::memory::push;
+use ckc_parser_cursor::stuck::Stuck;
+use ckc_parser_cursor::terminal::{Terminal, expect};
+use ckc_parser_cursor::tokens::{
     close_brace, close_paren, comma, copied, identifier, name, open_brace, open_paren, semicolon,
 };
-use ckc_cursor::words::mark;
-use ckc_expr_parser::types::{stars, type_form, type_name};
+use ckc_parser_cursor::words::mark;
+use ckc_parser_expressions::types::{stars, type_form, type_name};
 use ckc_text::name::Name;
 use ckc_text::place::Span;
-use ckc_tokens::token::{CheckedScope, Token, TokenKind};
+use ckc_lexer_tokens::token::{CheckedScope, Token, TokenKind};
 use ckc_tree::item::{
     Block, Function, FunctionKind, Global as Variables, Item, Member, Parameter, Parameters,
     Region, ResultForm, Structure,
@@ -38,7 +38,7 @@ use ckc_tree::item::{
 use ckc_tree::stmt::Mark;
 use ckc_tree::type_form::TypeForm;
 use std::alloc::Global;
-use syntax_rules::spans::join;
+use ckc_parser_cursor::spans::join;
 
 // ---- words
 

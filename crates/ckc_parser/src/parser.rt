@@ -1,26 +1,26 @@
 // Reading a tree from tokens.
 
 ghost use Rattle.std.specs.Prelude.{List, map, Err, MatchResult};
-ghost use Rattle.ckc_tokens.specs.declared.token.Token.{Token as TokenOf};
-ghost use Rattle.ckc_grammar.specs.Parsing.{ParseAnswers};
-ghost use Rattle.ckc_grammar.specs.Refusals.{FaultIs};
+ghost use Rattle.ckc_lexer_tokens.specs.declared.token.Token.{Token as TokenOf};
+ghost use Rattle.ckc_parser_grammar.specs.Parsing.{ParseAnswers};
+ghost use Rattle.ckc_parser_grammar.specs.Refusals.{FaultIs};
 ghost use Rattle.ckc_tree.specs.Items.{item};
 ghost use Rattle.ckc_tree.specs.Heights.{items_reach};
-ghost use Rattle.ckc_grammar.specs.ItemGrammar.{SpellsItems};
-ghost use Rattle.ckc_grammar.specs.StuckItems.{StuckItems};
-ghost use Rattle.ckc_grammar.specs.Failures.{IsLow};
-ghost use Rattle.ckc_cursor.specs.Answers.{failure};
+ghost use Rattle.ckc_parser_grammar.specs.ItemGrammar.{SpellsItems};
+ghost use Rattle.ckc_parser_grammar.specs.StuckItems.{StuckItems};
+ghost use Rattle.ckc_parser_grammar.specs.Failures.{IsLow};
+ghost use Rattle.ckc_parser_cursor.specs.Answers.{failure};
 
 use crate::items::item;
-use ckc_cursor::memory::push;
-use ckc_cursor::stuck::Stuck;
+use ckc_parser_cursor::memory::push;
+use ckc_parser_cursor::stuck::Stuck;
 use ckc_text::code::Code;
 use ckc_text::fault::{Refused, SourceFault};
 use ckc_text::place::Span;
-use ckc_tokens::token::Token;
+use ckc_lexer_tokens::token::Token;
 use ckc_tree::item::{Item, Program};
 use std::alloc::Global;
-use syntax_rules::faults::{first_span, point};
+use ckc_parser_cursor::faults::{first_span, point};
 
 /// The tree that the tokens of a source of so many bytes spell.
 ///

@@ -2,34 +2,34 @@
 
 ghost use Rattle.std.specs.Prelude.{◌≡◌, ℕ, ◌∷◌, ◌≤◌, ◌<◌, suc, true, false, map, None, Some};
 ghost use Rattle.std.specs.Option.{option_map};
-ghost use Rattle.ckc_tokens.specs.declared.token.TokenKind.TheVariants as kinds;
+ghost use Rattle.ckc_lexer_tokens.specs.declared.token.TokenKind.TheVariants as kinds;
 ghost use Rattle.ckc_tree.specs.Expressions.{expression};
 ghost use Rattle.ckc_tree.specs.Statements as views;
 ghost use Rattle.ckc_tree.specs.Items.{statement_list};
 ghost use Rattle.ckc_tree.specs.Heights.{expression_reach, assignments_reach, for_initial_reach, optional_expression_reach, optional_assignment_reach, statement_reach, statements_reach};
-ghost use Rattle.ckc_grammar.specs.Tokens.{token, join, next_is};
-ghost use Rattle.ckc_grammar.specs.StatementGrammar.{SpellsAssignments, SpellsForInitial, SpellsForStep, SpellsStatement, SpellsStatements};
-ghost use Rattle.ckc_grammar.specs.Failures.{IsLow};
-ghost use Rattle.ckc_cursor.specs.Answers.{Reads};
-ghost use Rattle.ckc_grammar.specs.StuckTypes.{type_word, name_token};
-ghost use Rattle.ckc_grammar.specs.StuckStatements.{plain_word, statement_word, assignment_word, StuckAssignments, StuckForInitial, StuckForCondition, StuckForStep, StuckCondition, StuckStatement, StuckStatements};
+ghost use Rattle.ckc_parser_grammar.specs.Tokens.{token, join, next_is};
+ghost use Rattle.ckc_parser_grammar.specs.StatementGrammar.{SpellsAssignments, SpellsForInitial, SpellsForStep, SpellsStatement, SpellsStatements};
+ghost use Rattle.ckc_parser_grammar.specs.Failures.{IsLow};
+ghost use Rattle.ckc_parser_cursor.specs.Answers.{Reads};
+ghost use Rattle.ckc_parser_grammar.specs.StuckTypes.{type_word, name_token};
+ghost use Rattle.ckc_parser_grammar.specs.StuckStatements.{plain_word, statement_word, assignment_word, StuckAssignments, StuckForInitial, StuckForCondition, StuckForStep, StuckCondition, StuckStatement, StuckStatements};
 ghost use Rattle.ckc_parser.specs.StatementReadings.{SpellsCondition, SpellsEnd, EndsCall, IsForHead, jump_word, jump};
 
 use crate::declarations::{Read, assigned, assignment, declaration, starts_assignment};
-use ckc_cursor::memory::{boxed, push};
-use ckc_cursor::stuck::Stuck;
-use ckc_cursor::tokens::{close_brace, close_paren, open_brace, open_paren, semicolon};
-use ckc_cursor::words::mark;
-use ckc_expr_parser::expressions::{expression, unary};
-use ckc_expr_parser::types::starts_type;
+use ckc_parser_cursor::memory::{boxed, push};
+use ckc_parser_cursor::stuck::Stuck;
+use ckc_parser_cursor::tokens::{close_brace, close_paren, open_brace, open_paren, semicolon};
+use ckc_parser_cursor::words::mark;
+use ckc_parser_expressions::expressions::{expression, unary};
+use ckc_parser_expressions::types::starts_type;
 use ckc_text::place::Span;
-use ckc_tokens::token::{Token, TokenKind};
+use ckc_lexer_tokens::token::{Token, TokenKind};
 use ckc_tree::expr::Expr;
 use ckc_tree::stmt::{Assignment, ForInitial, Mark, Stmt};
 use std::alloc::Global;
-use syntax_rules::alternative::else_word;
-use syntax_rules::depth::MAX_DEPTH;
-use syntax_rules::spans::join;
+use ckc_parser_cursor::alternative::else_word;
+use ckc_parser_cursor::depth::MAX_DEPTH;
+use ckc_parser_cursor::spans::join;
 
 /// Whether a token is the first of a statement that begins with none of a type, an expression or an assignment.
 fn starts_plain(kind: &TokenKind) -> bool

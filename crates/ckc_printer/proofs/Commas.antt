@@ -1,7 +1,7 @@
 -- A list with commas between, item by item.
 use Rattle.std.proofs.Common.{◌≡◌, ◌∙◌, ℕ, zero, suc, ◌+◌, ◌<◌, true, nat_lt, List, [], ◌∷◌, ◌++◌, map, drop, get_or, length, refl, ap, sym, drop-cons, add-one, arith}
 use Rattle.std.proofs.lemmas.Bool.Decides.{nat_tests}
-use Rattle.printed_signs.specs.Pieces.{Sign, after_commas}
+use Rattle.ckc_printer.specs.Pieces.{Sign, after_commas}
 use Rattle.ckc_printer.specs.Slices.{commas_from}
 use Rattle.ckc_printer.specs.declared.output.Output.{Output}
 use Rattle.ckc_printer.specs.Output.{Puts, Leaves}

@@ -7,23 +7,23 @@ use Rattle.ckc_text.specs.declared.fault.SourceFault.{SourceFault}
 use Rattle.ckc_lexer.specs.declared.run.Run.TheVariants.{Directive}
 use Rattle.ckc_lexer.specs.declared.line.Line.{Line}
 use Rattle.ckc_lexer.specs.declared.line.Line.TheVariants.{Fresh, Marked, Behind}
-use Rattle.ckc_tokens.specs.declared.piece.Piece.TheVariants.{Gap, Lexeme, Named, Scope}
-use Rattle.ckc_tokens.specs.declared.piece.Piece.{Piece}
-use Rattle.ckc_tokens.specs.declared.piece.ScopeWord.{ScopeWord}
-use Rattle.ckc_tokens.specs.declared.piece.ScopeWord.TheVariants as word
-use Rattle.ckc_tokens.specs.declared.token.CheckedScope.{CheckedScope}
-use Rattle.ckc_tokens.specs.declared.token.CheckedScope.TheVariants.{On, Off}
-use Rattle.ckc_tokens.specs.declared.token.Token.{Token}
-use Rattle.ckc_tokens.specs.declared.token.TokenKind.{TokenKind}
-use Rattle.ckc_tokens.specs.declared.token.TokenKind.TheVariants as kinds
+use Rattle.ckc_lexer_tokens.specs.declared.piece.Piece.TheVariants.{Gap, Lexeme, Named, Scope}
+use Rattle.ckc_lexer_tokens.specs.declared.piece.Piece.{Piece}
+use Rattle.ckc_lexer_tokens.specs.declared.piece.ScopeWord.{ScopeWord}
+use Rattle.ckc_lexer_tokens.specs.declared.piece.ScopeWord.TheVariants as word
+use Rattle.ckc_lexer_tokens.specs.declared.token.CheckedScope.{CheckedScope}
+use Rattle.ckc_lexer_tokens.specs.declared.token.CheckedScope.TheVariants.{On, Off}
+use Rattle.ckc_lexer_tokens.specs.declared.token.Token.{Token}
+use Rattle.ckc_lexer_tokens.specs.declared.token.TokenKind.{TokenKind}
+use Rattle.ckc_lexer_tokens.specs.declared.token.TokenKind.TheVariants as kinds
 use Rattle.ckc_lexer.specs.Directives.{part, named_directive, pragma_of, scope_of}
 use Rattle.ckc_lexer.specs.Runs as runs
 use Rattle.ckc_lexer.specs.Runs.{width, Extent}
 use Rattle.ckc_lexer.specs.Pieces.{Stands}
 use Rattle.ckc_lexer.specs.Tokens as tokens
 use Rattle.ckc_lexer.specs.Tokens.{State, Cut, token_at, push, behind_mark, go_on, is_first, next}
-use Rattle.printed_signs.specs.Pieces as pieces
-use Rattle.printed_signs.specs.Pieces.{Sign, One, RightShift, InLine, ScopeLine, kind_text, sign_text, scope_text, pieces_text}
+use Rattle.ckc_printer.specs.Pieces as pieces
+use Rattle.ckc_printer.specs.Pieces.{Sign, One, RightShift, InLine, ScopeLine, kind_text, sign_text, scope_text, pieces_text}
 use Rattle.ckc_printer.specs.ReadingBack.{AreSigns, none, one, shift, sign_of, signed_tokens, CanSign, CanPrint, PiecesLexBack}
 use Rattle.ckc_printer.specs.ReadingBack.{Behind as IsBehind}
 use Rattle.ckc_printer.proofs.LexedTokens.{gap_byte, StandsBefore, fixed_stands, name_stands, number_stands}

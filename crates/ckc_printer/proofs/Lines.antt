@@ -1,10 +1,10 @@
 -- Pieces before more are known, and their text once all are.
 use Rattle.std.proofs.Common.{◌≡◌, ℕ, suc, ◌-◌, List, [], ◌∷◌, ◌++◌, length, take, map, arith, refl, ap, sym, ◌∙◌, append_assoc}
-use Rattle.ckc_tokens.specs.declared.token.CheckedScope.{CheckedScope}
+use Rattle.ckc_lexer_tokens.specs.declared.token.CheckedScope.{CheckedScope}
 use Rattle.std.proofs.lemmas.List.{append-nil}
 use Rattle.std.specs.List.{flat_map}
 use Rattle.ckc_tree.specs.Items.{Item, RegionItem, StructureItem, GlobalItem, FunctionItem}
-use Rattle.printed_signs.specs.Pieces.{Sign, sign_text, Piece, InLine, ScopeLine, piece_text, scope_text, gap, pieces_text, text_of}
+use Rattle.ckc_printer.specs.Pieces.{Sign, sign_text, Piece, InLine, ScopeLine, piece_text, scope_text, gap, pieces_text, text_of}
 use Rattle.ckc_printer.specs.ItemPieces.{structure_pieces, global_pieces, function_pieces, item_pieces, region_scope}
 use Rattle.ckc_printer.specs.Spaced.{spaced_text}
 use Rattle.ckc_printer.specs.Laid.{gap_so_far, laid_text, line_ended, item_behind, items_behind, finished}

@@ -3,9 +3,9 @@ use Rattle.std.proofs.Common.{◌≡◌, ℕ, zero, suc, Bool, true, false, nat_
 use Rattle.std.specs.List.{AllByRecursion}
 use Rattle.std.proofs.lemmas.Option.{same_Some, none-some}
 use Rattle.ckc_text.specs.declared.place.Span.{Span}
-use Rattle.ckc_tokens.specs.declared.token.Token.{Token}
-use Rattle.ckc_tokens.specs.declared.token.TokenKind.{TokenKind}
-use Rattle.ckc_tokens.specs.declared.token.TokenKind.TheVariants as kinds
+use Rattle.ckc_lexer_tokens.specs.declared.token.Token.{Token}
+use Rattle.ckc_lexer_tokens.specs.declared.token.TokenKind.{TokenKind}
+use Rattle.ckc_lexer_tokens.specs.declared.token.TokenKind.TheVariants as kinds
 use Rattle.ckc_tree.specs.declared.type_form.PointerMode.{PointerMode}
 use Rattle.ckc_tree.specs.declared.type_form.PointerMode.TheVariants.{Checked, Tainted}
 use Rattle.ckc_tree.specs.declared.type_form.PointerKind.{PointerKind}
@@ -22,14 +22,14 @@ use Rattle.ckc_tree.specs.declared.expr.CallocWord.{CallocWord}
 use Rattle.ckc_tree.specs.declared.expr.CallocWord.TheVariants as callocs
 use Rattle.ckc_tree.specs.Types.{TypeTree, TypeName}
 use Rattle.ckc_tree.specs.Expressions.{Expression, Expressions, Bounds}
-use Rattle.ckc_grammar.specs.Tokens.{operator_of, operator_at, operator_with, with_rest, behind_greater, greater_or_shift, right_shift}
-use Rattle.ckc_grammar.specs.TypeGrammar as t
-use Rattle.ckc_grammar.specs.TypeGrammar.{SpellsStars, SpellsType, SpellsTypeName, SpellsAngled}
-use Rattle.ckc_grammar.specs.ExpressionGrammar as g
-use Rattle.ckc_grammar.specs.ExpressionGrammar.{SpellsBinary, SpellsTail, SpellsUnary, SpellsSelectors, SpellsPrimary, SpellsCall, SpellsArguments, SpellsMoreArguments, SpellsBounds}
-use Rattle.printed_signs.specs.Pieces.{Sign, One, around}
-use Rattle.printed_signs.specs.TypePieces.{word_kind, stars_pieces, type_pieces, type_name_pieces, angled_pieces}
-use Rattle.printed_signs.specs.ExpressionPieces.{unary_kind, binary_sign, cast_kind, malloc_kind, calloc_kind, is_compound, is_binary, expression_pieces, arguments_pieces, more_pieces, bounds_pieces, operand_pieces, target_pieces}
+use Rattle.ckc_parser_grammar.specs.Tokens.{operator_of, operator_at, operator_with, with_rest, behind_greater, greater_or_shift, right_shift}
+use Rattle.ckc_parser_grammar.specs.TypeGrammar as t
+use Rattle.ckc_parser_grammar.specs.TypeGrammar.{SpellsStars, SpellsType, SpellsTypeName, SpellsAngled}
+use Rattle.ckc_parser_grammar.specs.ExpressionGrammar as g
+use Rattle.ckc_parser_grammar.specs.ExpressionGrammar.{SpellsBinary, SpellsTail, SpellsUnary, SpellsSelectors, SpellsPrimary, SpellsCall, SpellsArguments, SpellsMoreArguments, SpellsBounds}
+use Rattle.ckc_printer.specs.Pieces.{Sign, One, around}
+use Rattle.ckc_printer.specs.TypePieces.{word_kind, stars_pieces, type_pieces, type_name_pieces, angled_pieces}
+use Rattle.ckc_printer.specs.ExpressionPieces.{unary_kind, binary_sign, cast_kind, malloc_kind, calloc_kind, is_compound, is_binary, expression_pieces, arguments_pieces, more_pieces, bounds_pieces, operand_pieces, target_pieces}
 use Rattle.ckc_printer.specs.ReadingBack.{IsName, IsLexical, CanSign}
 
 -- these tokens can be spelled

@@ -2,17 +2,17 @@
 use Rattle.std.proofs.Common.{ℕ, Bool, List, [], ◌∷◌, ◌++◌, map, Option}
 use Rattle.std.specs.List.{flat_map, AllByRecursion}
 use Rattle.ckc_text.specs.declared.place.Span.{Span}
-use Rattle.ckc_tokens.specs.declared.token.Token.{Token}
+use Rattle.ckc_lexer_tokens.specs.declared.token.Token.{Token}
 use Rattle.ckc_tree.specs.declared.identifier.Identifier.{Identifier}
 use Rattle.ckc_tree.specs.declared.stmt.Mark.{Mark}
 use Rattle.ckc_tree.specs.declared.item.FunctionKind.{FunctionKind}
 use Rattle.ckc_tree.specs.Types.{TypeName}
 use Rattle.ckc_tree.specs.Expressions.{Bounds}
 use Rattle.ckc_tree.specs.Items.{Member, ResultForm, Parameters, Body, Item, Tree}
-use Rattle.ckc_grammar.specs.ItemGrammar as g
-use Rattle.ckc_grammar.specs.ItemGrammar.{SpellsTainted, SpellsKind, SpellsOptionalMark, SpellsMember, SpellsMembers, SpellsResult, SpellsListed, SpellsParameters, SpellsBody, SpellsItem, SpellsItems, SpellsProgram}
-use Rattle.printed_signs.specs.Pieces.{Sign, Piece, InLine, with_commas}
-use Rattle.printed_signs.specs.TypePieces.{name_sign, type_name_pieces}
+use Rattle.ckc_parser_grammar.specs.ItemGrammar as g
+use Rattle.ckc_parser_grammar.specs.ItemGrammar.{SpellsTainted, SpellsKind, SpellsOptionalMark, SpellsMember, SpellsMembers, SpellsResult, SpellsListed, SpellsParameters, SpellsBody, SpellsItem, SpellsItems, SpellsProgram}
+use Rattle.ckc_printer.specs.Pieces.{Sign, Piece, InLine, with_commas}
+use Rattle.ckc_printer.specs.TypePieces.{name_sign, type_name_pieces}
 use Rattle.ckc_printer.specs.StatementPieces.{optional_bounds_pieces}
 use Rattle.ckc_printer.specs.ItemPieces.{tainted_pieces, member_pieces, ended_member_pieces, kind_pieces, result_pieces, parameters_pieces, body_pieces, item_pieces, program_pieces}
 use Rattle.ckc_printer.specs.ReadingBack.{IsLexical, CanSign, CanPrint}

@@ -2,8 +2,8 @@
 use Rattle.std.proofs.Common.{List, [], ◌∷◌, Option, Some, None}
 use Rattle.std.specs.List.{flat_map}
 use Rattle.ckc_text.specs.declared.place.Span.{Span}
-use Rattle.ckc_tokens.specs.declared.token.Token.{Token}
-use Rattle.ckc_tokens.specs.declared.token.TokenKind.{TokenKind}
+use Rattle.ckc_lexer_tokens.specs.declared.token.Token.{Token}
+use Rattle.ckc_lexer_tokens.specs.declared.token.TokenKind.{TokenKind}
 use Rattle.ckc_tree.specs.declared.stmt.Mark.{Mark}
 use Rattle.ckc_tree.specs.declared.stmt.Mark.TheVariants as marks
 use Rattle.ckc_tree.specs.declared.stmt.ArrayForm.{ArrayForm}
@@ -17,9 +17,9 @@ use Rattle.ckc_tree.specs.declared.stmt.StepOperator.{StepOperator}
 use Rattle.ckc_tree.specs.declared.stmt.StepOperator.TheVariants as steps
 use Rattle.ckc_tree.specs.Expressions.{Expression, Bounds}
 use Rattle.ckc_tree.specs.Statements.{Initializer, Declarator, Declaration, Assignment, ForInitial, Statement, Statements}
-use Rattle.ckc_grammar.specs.StatementGrammar as g
-use Rattle.ckc_grammar.specs.StatementGrammar.{SpellsOptionalBounds, SpellsOptionalArray, SpellsConstant, SpellsSigned, SpellsConstants, SpellsOptionalInitializer, SpellsDeclarator, SpellsDeclarators, SpellsDeclaration, SpellsAssignment, SpellsAssignments, SpellsForInitial, SpellsForCondition, SpellsForStep, SpellsStatement, SpellsStatements}
-use Rattle.printed_signs.specs.Pieces.{Sign, One, with_commas, after_commas}
+use Rattle.ckc_parser_grammar.specs.StatementGrammar as g
+use Rattle.ckc_parser_grammar.specs.StatementGrammar.{SpellsOptionalBounds, SpellsOptionalArray, SpellsConstant, SpellsSigned, SpellsConstants, SpellsOptionalInitializer, SpellsDeclarator, SpellsDeclarators, SpellsDeclaration, SpellsAssignment, SpellsAssignments, SpellsForInitial, SpellsForCondition, SpellsForStep, SpellsStatement, SpellsStatements}
+use Rattle.ckc_printer.specs.Pieces.{Sign, One, with_commas, after_commas}
 use Rattle.ckc_printer.specs.StatementPieces.{optional_bounds_pieces, array_kind, array_pieces, constant_kind, constant_pieces, initializer_pieces, declarator_pieces, declaration_pieces, store_kind, step_kind, assignment_pieces, bundled_pieces, mark_kind, mark_pieces, initial_pieces, optional_expression_pieces, optional_assignment_pieces, statement_pieces, statements_pieces}
 use Rattle.ckc_printer.specs.ReadingBack.{IsLexical, CanSign}
 use Rattle.ckc_printer.proofs.Printable.{Lexical, Printable, Can, nothing, first, joined, target_can, stars_can, stars_on, type_can, expression_can, unary_expression_can, call_can, bounds_can}

@@ -3,9 +3,9 @@ use Rattle.std.proofs.Common.{◌≡◌, ℕ, Bool, true, false, List, [], ◌�
 use Rattle.std.specs.Option.{option_map}
 use Rattle.std.specs.List.{flat_map}
 use Rattle.ckc_text.specs.declared.place.Span.{Span}
-use Rattle.ckc_tokens.specs.declared.token.Token.{Token}
-use Rattle.ckc_tokens.specs.declared.token.TokenKind.{TokenKind}
-use Rattle.ckc_tokens.specs.declared.token.TokenKind.TheVariants as kinds
+use Rattle.ckc_lexer_tokens.specs.declared.token.Token.{Token}
+use Rattle.ckc_lexer_tokens.specs.declared.token.TokenKind.{TokenKind}
+use Rattle.ckc_lexer_tokens.specs.declared.token.TokenKind.TheVariants as kinds
 use Rattle.ckc_tree.specs.declared.stmt.ArrayForm.{ArrayForm}
 use Rattle.ckc_tree.specs.declared.stmt.ArrayKind.{ArrayKind}
 use Rattle.ckc_tree.specs.declared.stmt.ArrayKind.TheVariants as arrays
@@ -21,14 +21,14 @@ use Rattle.ckc_tree.specs.Types.{type_span}
 use Rattle.ckc_tree.specs.Expressions.{Bounds}
 use Rattle.ckc_tree.specs.Statements.{Initializer, Value, Constants, Declarator, Declaration, Assignment, Store, Step}
 use Rattle.ckc_tree.specs.Bare.{bare_bounds, bare_array, bare_constant, bare_initializer, bare_declarator, bare_declaration, bare_assignment}
-use Rattle.ckc_grammar.specs.Tokens as words
-use Rattle.ckc_grammar.specs.Tokens.{token, join, identifier, from_first, IsArrayWord, IsStoreOperator, IsStepOperator, colon, equal, comma, array_word, open_paren, selector}
-use Rattle.ckc_grammar.specs.TypeGrammar.{SpellsStars}
-use Rattle.ckc_grammar.specs.StatementGrammar as g
-use Rattle.ckc_grammar.specs.StatementGrammar.{SpellsOptionalBounds, SpellsOptionalArray, SpellsConstant, SpellsSigned, SpellsConstants, SpellsOptionalInitializer, SpellsDeclarator, SpellsDeclarators, SpellsDeclaration, SpellsAssignment, SpellsAssignments}
-use Rattle.printed_signs.specs.Pieces.{Sign, One, with_commas}
-use Rattle.printed_signs.specs.TypePieces.{stars_pieces, type_pieces}
-use Rattle.printed_signs.specs.ExpressionPieces.{expression_pieces, target_pieces}
+use Rattle.ckc_parser_grammar.specs.Tokens as words
+use Rattle.ckc_parser_grammar.specs.Tokens.{token, join, identifier, from_first, IsArrayWord, IsStoreOperator, IsStepOperator, colon, equal, comma, array_word, open_paren, selector}
+use Rattle.ckc_parser_grammar.specs.TypeGrammar.{SpellsStars}
+use Rattle.ckc_parser_grammar.specs.StatementGrammar as g
+use Rattle.ckc_parser_grammar.specs.StatementGrammar.{SpellsOptionalBounds, SpellsOptionalArray, SpellsConstant, SpellsSigned, SpellsConstants, SpellsOptionalInitializer, SpellsDeclarator, SpellsDeclarators, SpellsDeclaration, SpellsAssignment, SpellsAssignments}
+use Rattle.ckc_printer.specs.Pieces.{Sign, One, with_commas}
+use Rattle.ckc_printer.specs.TypePieces.{stars_pieces, type_pieces}
+use Rattle.ckc_printer.specs.ExpressionPieces.{expression_pieces, target_pieces}
 use Rattle.ckc_printer.specs.StatementPieces.{optional_bounds_pieces, array_kind, array_pieces, constant_kind, sign_pieces, constant_pieces, initializer_pieces, declarator_pieces, declaration_pieces, store_kind, step_kind, assignment_pieces, bundled_pieces}
 use Rattle.ckc_printer.specs.ReadingBack.{AreSigns, one}
 use Rattle.ckc_printer.proofs.SignedTokens as follow

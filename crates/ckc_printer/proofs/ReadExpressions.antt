@@ -1,8 +1,8 @@
 -- The signs of an expression are read as the expression.
 use Rattle.std.proofs.Common.{◌≡◌, ℕ, Bool, true, false, List, [], ◌∷◌, ◌++◌, codes, refl, ◌∙◌}
 use Rattle.ckc_text.specs.declared.place.Span.{Span}
-use Rattle.ckc_tokens.specs.declared.token.Token.{Token}
-use Rattle.ckc_tokens.specs.declared.token.TokenKind.TheVariants as kinds
+use Rattle.ckc_lexer_tokens.specs.declared.token.Token.{Token}
+use Rattle.ckc_lexer_tokens.specs.declared.token.TokenKind.TheVariants as kinds
 use Rattle.ckc_tree.specs.declared.identifier.Identifier.{Identifier}
 use Rattle.ckc_tree.specs.declared.expr.UnaryOperator.{UnaryOperator}
 use Rattle.ckc_tree.specs.declared.expr.BinaryOperator.{BinaryOperator}
@@ -12,12 +12,12 @@ use Rattle.ckc_tree.specs.declared.expr.CallocWord.{CallocWord}
 use Rattle.ckc_tree.specs.Types.{TypeName}
 use Rattle.ckc_tree.specs.Expressions.{Expression, Expressions, NoMore, Then, Number, Character, Text, Name, Call, SizeOf, Cast, BoundedCast, Malloc, Calloc, Index, Dot, Arrow, Unary, Binary, Bounds, Count, ByteCount, Unknown, Range}
 use Rattle.ckc_tree.specs.Bare.{bare_expression, bare_expressions, bare_bounds}
-use Rattle.ckc_grammar.specs.Tokens.{join, identifier, open_paren, selector}
-use Rattle.ckc_grammar.specs.ExpressionGrammar as g
-use Rattle.ckc_grammar.specs.ExpressionGrammar.{SpellsBinary, SpellsUnary, SpellsSelectors, SpellsPrimary, SpellsCall, SpellsArguments, SpellsMoreArguments, SpellsBounds}
-use Rattle.printed_signs.specs.Pieces.{Sign, One, around}
-use Rattle.printed_signs.specs.TypePieces.{name_sign, type_name_pieces, angled_pieces}
-use Rattle.printed_signs.specs.ExpressionPieces.{unary_kind, binary_sign, cast_kind, malloc_kind, calloc_kind, is_compound, is_binary, expression_pieces, arguments_pieces, more_pieces, bounds_pieces}
+use Rattle.ckc_parser_grammar.specs.Tokens.{join, identifier, open_paren, selector}
+use Rattle.ckc_parser_grammar.specs.ExpressionGrammar as g
+use Rattle.ckc_parser_grammar.specs.ExpressionGrammar.{SpellsBinary, SpellsUnary, SpellsSelectors, SpellsPrimary, SpellsCall, SpellsArguments, SpellsMoreArguments, SpellsBounds}
+use Rattle.ckc_printer.specs.Pieces.{Sign, One, around}
+use Rattle.ckc_printer.specs.TypePieces.{name_sign, type_name_pieces, angled_pieces}
+use Rattle.ckc_printer.specs.ExpressionPieces.{unary_kind, binary_sign, cast_kind, malloc_kind, calloc_kind, is_compound, is_binary, expression_pieces, arguments_pieces, more_pieces, bounds_pieces}
 use Rattle.ckc_printer.specs.ReadingBack.{AreSigns, one}
 use Rattle.ckc_printer.proofs.SignedTokens.{first_is, next_by_sign, Read, Somewhere, ended, part, Ends, paren, bracket, comma, is_other}
 use Rattle.ckc_printer.proofs.ReadTypes.{read_type_name, read_angled}

@@ -4,9 +4,9 @@ use Rattle.std.proofs.lemmas.List.{map-append}
 use Rattle.std.specs.Option.{option_map}
 use Rattle.std.specs.List.{flat_map}
 use Rattle.ckc_text.specs.declared.place.Span.{Span}
-use Rattle.ckc_tokens.specs.declared.token.Token.{Token}
-use Rattle.ckc_tokens.specs.declared.token.TokenKind.{TokenKind}
-use Rattle.ckc_tokens.specs.declared.token.TokenKind.TheVariants as kinds
+use Rattle.ckc_lexer_tokens.specs.declared.token.Token.{Token}
+use Rattle.ckc_lexer_tokens.specs.declared.token.TokenKind.{TokenKind}
+use Rattle.ckc_lexer_tokens.specs.declared.token.TokenKind.TheVariants as kinds
 use Rattle.ckc_tree.specs.declared.stmt.Mark.{Mark}
 use Rattle.ckc_tree.specs.declared.stmt.Mark.TheVariants as marks
 use Rattle.ckc_tree.specs.declared.item.Region.{Region}
@@ -22,13 +22,13 @@ use Rattle.ckc_tree.specs.Expressions.{Bounds}
 use Rattle.ckc_tree.specs.Statements.{Declarator}
 use Rattle.ckc_tree.specs.Items.{Member, ResultForm, Void, Value, Parameters, Nothing, VoidAlone, Listed, Body, Item, RegionItem, StructureItem, GlobalItem, FunctionItem, Tree}
 use Rattle.ckc_tree.specs.Bare.{bare_type, bare_bounds, bare_declarator, bare_member, bare_result, bare_parameters, bare_body, bare_item, SameTree}
-use Rattle.ckc_grammar.specs.Tokens.{join, identifier, from_first, colon, mark_word, kind_word, tainted_word}
-use Rattle.ckc_grammar.specs.TypeGrammar.{SpellsStars, SpellsType}
-use Rattle.ckc_grammar.specs.StatementGrammar.{SpellsOptionalBounds, SpellsDeclarators}
-use Rattle.ckc_grammar.specs.ItemGrammar as g
-use Rattle.ckc_grammar.specs.ItemGrammar.{SpellsTainted, SpellsKind, SpellsOptionalMark, SpellsMember, SpellsMembers, SpellsResult, SpellsListed, SpellsParameters, SpellsBody, SpellsRegion, SpellsItem, SpellsItems, SpellsProgram}
-use Rattle.printed_signs.specs.Pieces.{Sign, One, InLine, with_commas}
-use Rattle.printed_signs.specs.TypePieces.{name_sign, word_kind, stars_pieces, type_pieces, type_name_pieces}
+use Rattle.ckc_parser_grammar.specs.Tokens.{join, identifier, from_first, colon, mark_word, kind_word, tainted_word}
+use Rattle.ckc_parser_grammar.specs.TypeGrammar.{SpellsStars, SpellsType}
+use Rattle.ckc_parser_grammar.specs.StatementGrammar.{SpellsOptionalBounds, SpellsDeclarators}
+use Rattle.ckc_parser_grammar.specs.ItemGrammar as g
+use Rattle.ckc_parser_grammar.specs.ItemGrammar.{SpellsTainted, SpellsKind, SpellsOptionalMark, SpellsMember, SpellsMembers, SpellsResult, SpellsListed, SpellsParameters, SpellsBody, SpellsRegion, SpellsItem, SpellsItems, SpellsProgram}
+use Rattle.ckc_printer.specs.Pieces.{Sign, One, InLine, with_commas}
+use Rattle.ckc_printer.specs.TypePieces.{name_sign, word_kind, stars_pieces, type_pieces, type_name_pieces}
 use Rattle.ckc_printer.specs.StatementPieces.{optional_bounds_pieces, declarator_pieces, mark_pieces, statements_pieces}
 use Rattle.ckc_printer.specs.ItemPieces.{tainted_pieces, member_pieces, ended_member_pieces, structure_pieces, global_pieces, kind_pieces, result_pieces, parameters_pieces, body_pieces, function_pieces, region_scope, item_pieces, program_pieces}
 use Rattle.ckc_printer.specs.ReadingBack.{AreSigns, none, one, sign_of}

@@ -2,9 +2,9 @@
 use Rattle.std.proofs.Common.{◌≡◌, ℕ, zero, suc, ◌+◌, ◌-◌, ◌<◌, ◌≤◌, Bool, true, false, List, [], ◌∷◌, Option, Some, None, refl, ap, subst, arith}
 use Rattle.std.proofs.lemmas.Bool.{ne_eqb, eq-eqb}
 use Rattle.ckc_text.specs.declared.place.Span.{Span}
-use Rattle.ckc_tokens.specs.declared.token.Token.{Token}
-use Rattle.ckc_tokens.specs.declared.token.TokenKind.{TokenKind}
-use Rattle.ckc_tokens.specs.declared.token.TokenKind.TheVariants as kinds
+use Rattle.ckc_lexer_tokens.specs.declared.token.Token.{Token}
+use Rattle.ckc_lexer_tokens.specs.declared.token.TokenKind.{TokenKind}
+use Rattle.ckc_lexer_tokens.specs.declared.token.TokenKind.TheVariants as kinds
 use Rattle.ckc_tree.specs.declared.expr.UnaryOperator.{UnaryOperator}
 use Rattle.ckc_tree.specs.declared.expr.UnaryOperator.TheVariants as unary
 use Rattle.ckc_tree.specs.declared.expr.BinaryOperator.{BinaryOperator}
@@ -16,12 +16,12 @@ use Rattle.ckc_tree.specs.declared.expr.MallocWord.TheVariants as mallocs
 use Rattle.ckc_tree.specs.declared.expr.CallocWord.{CallocWord}
 use Rattle.ckc_tree.specs.declared.expr.CallocWord.TheVariants as callocs
 use Rattle.ckc_tree.specs.Expressions.{Expression, Binary}
-use Rattle.ckc_grammar.specs.Tokens as words
-use Rattle.ckc_grammar.specs.Tokens.{token, join, IsUnaryOperator, IsCastWord, IsMallocWord, IsCallocWord, level, operator_of, operator_at, operator_with, with_rest, behind_greater, greater_or_shift, right_shift, has_operator, open_paren, selector}
-use Rattle.ckc_grammar.specs.ExpressionGrammar as g
-use Rattle.ckc_grammar.specs.ExpressionGrammar.{SpellsBinary, SpellsUnary}
-use Rattle.printed_signs.specs.Pieces.{Sign, One, RightShift}
-use Rattle.printed_signs.specs.ExpressionPieces.{unary_kind, binary_sign, cast_kind, malloc_kind, calloc_kind}
+use Rattle.ckc_parser_grammar.specs.Tokens as words
+use Rattle.ckc_parser_grammar.specs.Tokens.{token, join, IsUnaryOperator, IsCastWord, IsMallocWord, IsCallocWord, level, operator_of, operator_at, operator_with, with_rest, behind_greater, greater_or_shift, right_shift, has_operator, open_paren, selector}
+use Rattle.ckc_parser_grammar.specs.ExpressionGrammar as g
+use Rattle.ckc_parser_grammar.specs.ExpressionGrammar.{SpellsBinary, SpellsUnary}
+use Rattle.ckc_printer.specs.Pieces.{Sign, One, RightShift}
+use Rattle.ckc_printer.specs.ExpressionPieces.{unary_kind, binary_sign, cast_kind, malloc_kind, calloc_kind}
 use Rattle.ckc_printer.specs.ReadingBack.{Behind, AreSigns, none, one, shift}
 use Rattle.ckc_printer.proofs.SignedTokens.{first_is}
 

@@ -3,24 +3,24 @@ use Rattle.std.proofs.Common.{◌≡◌, ◌≤◌, Bool, true, false, List, [],
 use Rattle.std.specs.Option.{option_map}
 use Rattle.std.specs.List.{flat_map}
 use Rattle.ckc_text.specs.declared.place.Span.{Span}
-use Rattle.ckc_tokens.specs.declared.token.Token.{Token}
-use Rattle.ckc_tokens.specs.declared.token.TokenKind.{TokenKind}
-use Rattle.ckc_tokens.specs.declared.token.TokenKind.TheVariants as kinds
+use Rattle.ckc_lexer_tokens.specs.declared.token.Token.{Token}
+use Rattle.ckc_lexer_tokens.specs.declared.token.TokenKind.{TokenKind}
+use Rattle.ckc_lexer_tokens.specs.declared.token.TokenKind.TheVariants as kinds
 use Rattle.ckc_tree.specs.declared.stmt.Mark.{Mark}
 use Rattle.ckc_tree.specs.declared.stmt.Mark.TheVariants as marks
 use Rattle.ckc_tree.specs.Expressions.{Expression}
 use Rattle.ckc_tree.specs.Statements as trees
 use Rattle.ckc_tree.specs.Statements.{Assignment, assignment_span, ForInitial, Statement, statement_span, Statements}
 use Rattle.ckc_tree.specs.Bare.{bare_expression, bare_assignment, bare_initial, bare_statement, bare_statements}
-use Rattle.ckc_grammar.specs.Tokens as words
-use Rattle.ckc_grammar.specs.Tokens.{token, join, identifier, IsMark, next_is, else_word}
-use Rattle.ckc_grammar.specs.ExpressionGrammar as e
-use Rattle.ckc_grammar.specs.ExpressionGrammar.{SpellsExpression}
-use Rattle.ckc_grammar.specs.StatementGrammar as g
-use Rattle.ckc_grammar.specs.StatementGrammar.{SpellsForInitial, SpellsForCondition, SpellsForStep, SpellsStatement, SpellsStatements}
-use Rattle.ckc_grammar.proofs.Roles.{role, role_at, statement_starts}
-use Rattle.printed_signs.specs.Pieces.{Sign, One}
-use Rattle.printed_signs.specs.ExpressionPieces.{expression_pieces}
+use Rattle.ckc_parser_grammar.specs.Tokens as words
+use Rattle.ckc_parser_grammar.specs.Tokens.{token, join, identifier, IsMark, next_is, else_word}
+use Rattle.ckc_parser_grammar.specs.ExpressionGrammar as e
+use Rattle.ckc_parser_grammar.specs.ExpressionGrammar.{SpellsExpression}
+use Rattle.ckc_parser_grammar.specs.StatementGrammar as g
+use Rattle.ckc_parser_grammar.specs.StatementGrammar.{SpellsForInitial, SpellsForCondition, SpellsForStep, SpellsStatement, SpellsStatements}
+use Rattle.ckc_parser_grammar.proofs.Roles.{role, role_at, statement_starts}
+use Rattle.ckc_printer.specs.Pieces.{Sign, One}
+use Rattle.ckc_printer.specs.ExpressionPieces.{expression_pieces}
 use Rattle.ckc_printer.specs.StatementPieces.{declaration_pieces, assignment_pieces, bundled_pieces, mark_kind, initial_pieces, optional_expression_pieces, optional_assignment_pieces, statement_pieces, statements_pieces}
 use Rattle.ckc_printer.specs.ReadingBack.{AreSigns, one}
 use Rattle.ckc_printer.proofs.SignedTokens as follow

@@ -1,18 +1,18 @@
 -- The signs of a type are read as the type.
 use Rattle.std.proofs.Common.{◌≡◌, ℕ, zero, suc, false, List, [], ◌∷◌, ◌++◌, refl, ◌∙◌, ap}
-use Rattle.ckc_tokens.specs.declared.token.Token.{Token}
-use Rattle.ckc_tokens.specs.declared.token.TokenKind.TheVariants as kinds
+use Rattle.ckc_lexer_tokens.specs.declared.token.Token.{Token}
+use Rattle.ckc_lexer_tokens.specs.declared.token.TokenKind.TheVariants as kinds
 use Rattle.ckc_tree.specs.declared.type_form.PointerMode.{PointerMode}
 use Rattle.ckc_tree.specs.declared.type_form.PointerMode.TheVariants.{Checked, Tainted}
 use Rattle.ckc_tree.specs.declared.type_form.PointerKind.{PointerKind}
 use Rattle.ckc_tree.specs.declared.type_form.PointerKind.TheVariants as counts
 use Rattle.ckc_tree.specs.Types.{TypeTree, IntType, CharType, StructType, PointerType, TypeName}
 use Rattle.ckc_tree.specs.Bare.{bare_type, bare_type_name}
-use Rattle.ckc_grammar.specs.Tokens.{join, identifier, star, IsPointerWord, ptr, array_ptr, nt_array_ptr, t_ptr, t_array_ptr, t_nt_array_ptr}
-use Rattle.ckc_grammar.specs.TypeGrammar as g
-use Rattle.ckc_grammar.specs.TypeGrammar.{SpellsStars, SpellsType, SpellsTypeName, SpellsAngled}
-use Rattle.printed_signs.specs.Pieces.{Sign, One}
-use Rattle.printed_signs.specs.TypePieces.{word_kind, stars_pieces, type_pieces, type_name_pieces, angled_pieces}
+use Rattle.ckc_parser_grammar.specs.Tokens.{join, identifier, star, IsPointerWord, ptr, array_ptr, nt_array_ptr, t_ptr, t_array_ptr, t_nt_array_ptr}
+use Rattle.ckc_parser_grammar.specs.TypeGrammar as g
+use Rattle.ckc_parser_grammar.specs.TypeGrammar.{SpellsStars, SpellsType, SpellsTypeName, SpellsAngled}
+use Rattle.ckc_printer.specs.Pieces.{Sign, One}
+use Rattle.ckc_printer.specs.TypePieces.{word_kind, stars_pieces, type_pieces, type_name_pieces, angled_pieces}
 use Rattle.ckc_printer.specs.ReadingBack.{AreSigns, one}
 use Rattle.ckc_printer.proofs.SignedTokens.{first_is, next_by_sign, Read, ended, part}
 

@@ -1,8 +1,8 @@
 -- Signs with spaces behind them.
 use Rattle.std.proofs.Common.{rules, ◌≡◌, ℕ, suc, ◌+◌, ◌-◌, ◌<◌, Bool, true, false, List, [], ◌∷◌, ◌++◌, refl, ap, sym, ◌∙◌, append_assoc, arith}
 use Rattle.std.proofs.lemmas.Grind.{flat_map-append}
-use Rattle.printed_signs.specs.Pieces.{Sign, sign_text, around}
-use Rattle.printed_signs.specs.TypePieces.{stars_pieces}
+use Rattle.ckc_printer.specs.Pieces.{Sign, sign_text, around}
+use Rattle.ckc_printer.specs.TypePieces.{stars_pieces}
 use Rattle.ckc_printer.specs.declared.output.Output.{Output}
 use Rattle.ckc_printer.specs.Output.{Puts, Leaves}
 use Rattle.ckc_printer.specs.Spaced.{spaced, spaced_if, spaced_text}

@@ -1,16 +1,16 @@
 -- The signs of what stands at file level, and the pieces and the text of a whole source.
 use Rattle.std.specs.Prelude.{ℕ, Bool, true, false, List, [], ◌∷◌, ◌++◌, map, Option, Some, None}
 use Rattle.std.specs.List.{flat_map}
-use Rattle.ckc_tokens.specs.declared.token.CheckedScope.{CheckedScope}
-use Rattle.ckc_tokens.specs.declared.token.CheckedScope.TheVariants as scopes
-use Rattle.ckc_tokens.specs.declared.token.TokenKind.TheVariants as kinds
+use Rattle.ckc_lexer_tokens.specs.declared.token.CheckedScope.{CheckedScope}
+use Rattle.ckc_lexer_tokens.specs.declared.token.CheckedScope.TheVariants as scopes
+use Rattle.ckc_lexer_tokens.specs.declared.token.TokenKind.TheVariants as kinds
 use Rattle.ckc_tree.specs.declared.item.Region.{Region}
 use Rattle.ckc_tree.specs.declared.item.Region.TheVariants as regions
 use Rattle.ckc_tree.specs.declared.item.FunctionKind.{FunctionKind}
 use Rattle.ckc_tree.specs.declared.item.FunctionKind.TheVariants.{Trusted, Tainted, Callback}
 use Rattle.ckc_tree.specs.Items.{Member, Structure, Global, ResultForm, Void, Value, Parameters, Nothing, VoidAlone, Listed, Body, Function, Item, RegionItem, StructureItem, GlobalItem, FunctionItem, Tree}
-use Rattle.printed_signs.specs.Pieces.{Sign, One, Piece, InLine, ScopeLine, with_commas, text_of}
-use Rattle.printed_signs.specs.TypePieces.{name_sign, stars_pieces, type_pieces, type_name_pieces}
+use Rattle.ckc_printer.specs.Pieces.{Sign, One, Piece, InLine, ScopeLine, with_commas, text_of}
+use Rattle.ckc_printer.specs.TypePieces.{name_sign, stars_pieces, type_pieces, type_name_pieces}
 use Rattle.ckc_printer.specs.StatementPieces.{optional_bounds_pieces, declarator_pieces, mark_pieces, statements_pieces}
 
 abbrev pub tainted_pieces : Bool → List Sign

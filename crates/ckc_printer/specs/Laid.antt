@@ -1,7 +1,7 @@
 -- For private clauses: pieces before more pieces are known.
 use Rattle.std.specs.Prelude.{ℕ, List, [], ◌∷◌, ◌++◌}
 use Rattle.ckc_tree.specs.Items.{Item, RegionItem, StructureItem, GlobalItem, FunctionItem}
-use Rattle.printed_signs.specs.Pieces.{Piece, InLine, ScopeLine, piece_text, scope_text, gap}
+use Rattle.ckc_printer.specs.Pieces.{Piece, InLine, ScopeLine, piece_text, scope_text, gap}
 use Rattle.ckc_printer.specs.ItemPieces.{structure_pieces, global_pieces, function_pieces, region_scope}
 use Rattle.ckc_printer.specs.Spaced.{spaced_text}
 

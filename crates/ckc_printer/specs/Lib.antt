@@ -7,3 +7,6 @@ pub mod Parts
 pub mod Slices
 pub mod Laid
 pub mod ReadingBack
+pub mod Pieces
+pub mod TypePieces
+pub mod ExpressionPieces

@@ -1,15 +1,15 @@
 -- For private clauses: the signs of parts of expressions and statements.
 use Rattle.std.specs.Prelude.{List, [], ◌∷◌, ◌++◌, Option}
 use Rattle.std.specs.List.{flat_map}
-use Rattle.ckc_tokens.specs.declared.token.TokenKind.TheVariants as kinds
+use Rattle.ckc_lexer_tokens.specs.declared.token.TokenKind.TheVariants as kinds
 use Rattle.ckc_tree.specs.declared.identifier.Identifier.{Identifier}
 use Rattle.ckc_tree.specs.declared.stmt.Mark.{Mark}
 use Rattle.ckc_tree.specs.Types.{TypeName}
 use Rattle.ckc_tree.specs.Expressions.{Expression, Expressions, Bounds}
 use Rattle.ckc_tree.specs.Statements.{Assignment, Statements}
-use Rattle.printed_signs.specs.Pieces.{Sign, One}
-use Rattle.printed_signs.specs.TypePieces.{name_sign, type_name_pieces}
-use Rattle.printed_signs.specs.ExpressionPieces.{expression_pieces, arguments_pieces, bounds_pieces}
+use Rattle.ckc_printer.specs.Pieces.{Sign, One}
+use Rattle.ckc_printer.specs.TypePieces.{name_sign, type_name_pieces}
+use Rattle.ckc_printer.specs.ExpressionPieces.{expression_pieces, arguments_pieces, bounds_pieces}
 use Rattle.ckc_printer.specs.StatementPieces.{mark_pieces, optional_expression_pieces, bundled_pieces, statements_pieces}
 
 -- an expression and the parenthesis behind it

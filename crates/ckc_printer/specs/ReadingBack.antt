@@ -2,18 +2,18 @@
 use Rattle.std.specs.Prelude.{◌≡◌, ◌≤◌, ◌<◌, ◌+◌, ℕ, true, List, [], ◌∷◌, length, map, None}
 use Rattle.std.specs.List.{prefix_len, AllByRecursion}
 use Rattle.ckc_text.specs.declared.place.Span.{Span}
-use Rattle.ckc_tokens.specs.declared.token.Token.{Token}
-use Rattle.ckc_tokens.specs.declared.token.TokenKind.{TokenKind}
-use Rattle.ckc_tokens.specs.declared.token.TokenKind.TheVariants as kinds
-use Rattle.ckc_tokens.specs.Bytes.{is_letter, is_word_byte, begins_with}
-use Rattle.ckc_tokens.specs.Words.{listed, keywords}
+use Rattle.ckc_lexer_tokens.specs.declared.token.Token.{Token}
+use Rattle.ckc_lexer_tokens.specs.declared.token.TokenKind.{TokenKind}
+use Rattle.ckc_lexer_tokens.specs.declared.token.TokenKind.TheVariants as kinds
+use Rattle.ckc_lexer_tokens.specs.Bytes.{is_letter, is_word_byte, begins_with}
+use Rattle.ckc_lexer_tokens.specs.Words.{listed, keywords}
 use Rattle.ckc_lexer.specs.Tokens.{AreTokens}
 use Rattle.ckc_tree.specs.Items.{Tree}
 use Rattle.ckc_tree.specs.Bare.{SameTree}
-use Rattle.ckc_grammar.specs.ItemGrammar.{SpellsProgram}
-use Rattle.ckc_grammar.specs.Parsing.{IsTree}
-use Rattle.ckc_grammar.specs.Tokens.{token}
-use Rattle.printed_signs.specs.Pieces.{Sign, One, RightShift, Piece, InLine, ScopeLine, text_of}
+use Rattle.ckc_parser_grammar.specs.ItemGrammar.{SpellsProgram}
+use Rattle.ckc_parser_grammar.specs.Parsing.{IsTree}
+use Rattle.ckc_parser_grammar.specs.Tokens.{token}
+use Rattle.ckc_printer.specs.Pieces.{Sign, One, RightShift, Piece, InLine, ScopeLine, text_of}
 use Rattle.ckc_printer.specs.ItemPieces.{program_pieces, program_text}
 
 -- ---- tokens by the signs that they stand for

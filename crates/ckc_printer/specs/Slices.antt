@@ -2,8 +2,8 @@
 use Rattle.std.specs.Prelude.{ℕ, zero, suc, List, [], ◌∷◌}
 use Rattle.ckc_tree.specs.declared.expr.Expr.{Expr}
 use Rattle.ckc_tree.specs.Expressions.{Expressions, NoMore, Then, expression}
-use Rattle.printed_signs.specs.Pieces.{Sign, with_commas, after_commas}
-use Rattle.printed_signs.specs.ExpressionPieces.{arguments_pieces, more_pieces}
+use Rattle.ckc_printer.specs.Pieces.{Sign, with_commas, after_commas}
+use Rattle.ckc_printer.specs.ExpressionPieces.{arguments_pieces, more_pieces}
 
 -- the arguments that stand in a slice
 abbrev pub expressions_of : List Expr → Expressions

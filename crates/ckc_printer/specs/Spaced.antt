@@ -1,7 +1,7 @@
 -- For private clauses: signs with a space behind each.
 use Rattle.std.specs.Prelude.{ℕ, Bool, true, false, List, [], ◌∷◌, ◌++◌}
 use Rattle.std.specs.List.{flat_map}
-use Rattle.printed_signs.specs.Pieces.{Sign, sign_text}
+use Rattle.ckc_printer.specs.Pieces.{Sign, sign_text}
 
 -- a text and a space
 abbrev pub spaced : List ℕ → List ℕ

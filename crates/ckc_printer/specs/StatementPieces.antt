@@ -1,8 +1,8 @@
 -- The signs of declarations and statements.
 use Rattle.std.specs.Prelude.{Bool, true, false, List, [], ◌∷◌, ◌++◌, Option, Some, None}
 use Rattle.std.specs.List.{flat_map}
-use Rattle.ckc_tokens.specs.declared.token.TokenKind.{TokenKind}
-use Rattle.ckc_tokens.specs.declared.token.TokenKind.TheVariants as kinds
+use Rattle.ckc_lexer_tokens.specs.declared.token.TokenKind.{TokenKind}
+use Rattle.ckc_lexer_tokens.specs.declared.token.TokenKind.TheVariants as kinds
 use Rattle.ckc_tree.specs.declared.stmt.Mark.{Mark}
 use Rattle.ckc_tree.specs.declared.stmt.Mark.TheVariants as marks
 use Rattle.ckc_tree.specs.declared.stmt.ArrayKind.{ArrayKind}
@@ -18,9 +18,9 @@ use Rattle.ckc_tree.specs.declared.stmt.StepOperator.TheVariants as steps
 use Rattle.ckc_tree.specs.declared.stmt.StepSide.TheVariants.{Before, After}
 use Rattle.ckc_tree.specs.Expressions.{Expression, Bounds}
 use Rattle.ckc_tree.specs.Statements.{Initializer, Value, Constants, Declarator, Declaration, Assignment, Store, Step, ForInitial, Nothing, Declares, Assigns, Statement, Block, Bundle, Declare, Assign, CallAlone, Empty, If, IfElse, While, For, Return, Break, Continue, Statements, NoMore, Then}
-use Rattle.printed_signs.specs.Pieces.{Sign, One, with_commas}
-use Rattle.printed_signs.specs.TypePieces.{name_sign, stars_pieces, type_pieces}
-use Rattle.printed_signs.specs.ExpressionPieces.{expression_pieces, bounds_pieces, target_pieces}
+use Rattle.ckc_printer.specs.Pieces.{Sign, One, with_commas}
+use Rattle.ckc_printer.specs.TypePieces.{name_sign, stars_pieces, type_pieces}
+use Rattle.ckc_printer.specs.ExpressionPieces.{expression_pieces, bounds_pieces, target_pieces}
 
 -- ---- declarations
 

@@ -4,7 +4,7 @@ ghost use Rattle.std.specs.Prelude.{◌≡◌, map};
 ghost use Rattle.std.specs.Option.{option_map};
 ghost use Rattle.ckc_tree.specs.Expressions.{bounds};
 ghost use Rattle.ckc_tree.specs.Statements.{initializer, declarator, declaration};
-ghost use Rattle.printed_signs.specs.Pieces.{kind_text, with_commas};
+ghost use Rattle.ckc_printer.specs.Pieces.{kind_text, with_commas};
 ghost use Rattle.ckc_printer.specs.StatementPieces.{optional_bounds_pieces, array_kind, array_pieces, constant_pieces, initializer_pieces, declarator_pieces, declaration_pieces};
 ghost use Rattle.ckc_printer.specs.Output.{Puts};
 ghost use Rattle.ckc_printer.specs.Spaced.{spaced_text};

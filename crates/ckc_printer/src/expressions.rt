@@ -3,8 +3,8 @@
 ghost use Rattle.std.specs.Prelude.{◌∷◌, [], ◌++◌};
 ghost use Rattle.ckc_tree.specs.Types.{type_name as type_name_tree};
 ghost use Rattle.ckc_tree.specs.Expressions.{expression, bounds};
-ghost use Rattle.printed_signs.specs.ExpressionPieces.{operand_pieces, expression_pieces, arguments_pieces, bounds_pieces};
-ghost use Rattle.printed_signs.specs.TypePieces.{angled_pieces};
+ghost use Rattle.ckc_printer.specs.ExpressionPieces.{operand_pieces, expression_pieces, arguments_pieces, bounds_pieces};
+ghost use Rattle.ckc_printer.specs.TypePieces.{angled_pieces};
 ghost use Rattle.ckc_printer.specs.Parts.{size_pieces, closed_pieces, limits_pieces, call_pieces};
 ghost use Rattle.ckc_printer.specs.Slices.{expressions_of};
 ghost use Rattle.ckc_printer.specs.Output.{Puts};
@@ -17,8 +17,8 @@ use crate::types::{angled, type_with_stars};
 use ckc_tree::expr::{BoundsText, Expr};
 use ckc_tree::identifier::Identifier;
 use ckc_tree::type_form::TypeName;
-use printed_signs::operands::is_compound;
-use printed_signs::texts::{binary_text, calloc_text, cast_text, malloc_text, unary_text};
+use crate::operands::is_compound;
+use crate::texts::{binary_text, calloc_text, cast_text, malloc_text, unary_text};
 
 /// A word, a type in angle brackets and the parenthesis behind them.
 fn put_opened(out: &mut Output, word: &[u8], type_name: &TypeName)

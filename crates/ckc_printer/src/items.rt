@@ -4,7 +4,7 @@ ghost use Rattle.std.specs.Prelude.{map};
 ghost use Rattle.std.specs.List.{flat_map};
 ghost use Rattle.std.specs.Option.{option_map};
 ghost use Rattle.ckc_tree.specs.Items.{member, parameter, parameters, structure, global, result_form, function, body};
-ghost use Rattle.printed_signs.specs.Pieces.{with_commas};
+ghost use Rattle.ckc_printer.specs.Pieces.{with_commas};
 ghost use Rattle.ckc_printer.specs.ItemPieces.{member_pieces, ended_member_pieces, structure_pieces, global_pieces, kind_pieces, result_pieces, parameters_pieces, body_pieces, head_pieces, function_pieces};
 ghost use Rattle.ckc_printer.specs.Output.{Puts};
 ghost use Rattle.ckc_printer.specs.Spaced.{spaced_text};

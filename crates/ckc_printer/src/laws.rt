@@ -2,7 +2,7 @@
 
 ghost use Rattle.std.specs.Prelude.{◌≡◌, codes};
 ghost use Rattle.ckc_printer.specs.Spaced.{spaced_text};
-ghost use Rattle.printed_signs.specs.ExpressionPieces.{expression_pieces};
+ghost use Rattle.ckc_printer.specs.ExpressionPieces.{expression_pieces};
 ghost use Rattle.ckc_printer.specs.StatementPieces.{statement_pieces};
 ghost use Rattle.ckc_printer.specs.ItemPieces.{program_text};
 ghost use Rattle.ckc_printer.specs.Examples.{small_program, empty_program, region_program, shift, nested, string, nearest};

@@ -2,7 +2,7 @@
 
 ghost use Rattle.std.specs.Prelude.{◌≡◌, ◌-◌, [], ◌∷◌, ◌++◌, length, take, IfOk};
 ghost use Rattle.ckc_tree.specs.Items.{item, tree};
-ghost use Rattle.printed_signs.specs.Pieces.{scope_text};
+ghost use Rattle.ckc_printer.specs.Pieces.{scope_text};
 ghost use Rattle.ckc_printer.specs.ItemPieces.{program_text, region_scope};
 ghost use Rattle.ckc_printer.specs.Output.{Makes};
 ghost use Rattle.ckc_printer.specs.Laid.{line_ended, item_behind, finished};

@@ -2,7 +2,7 @@
 
 ghost use Rattle.std.specs.Prelude.{◌≡◌, ◌<◌};
 ghost use Rattle.std.specs.List.{flat_map};
-ghost use Rattle.printed_signs.specs.Pieces.{hexadecimal_digit, is_plain, quoted_byte, string_text, character_text};
+ghost use Rattle.ckc_printer.specs.Pieces.{hexadecimal_digit, is_plain, quoted_byte, string_text, character_text};
 ghost use Rattle.ckc_printer.specs.Output.{Puts};
 ghost use Rattle.ckc_printer.specs.Spaced.{spaced};
 

@@ -5,7 +5,7 @@ ghost use Rattle.std.specs.Option.{option_map};
 ghost use Rattle.ckc_tree.specs.Expressions.{expression};
 ghost use Rattle.ckc_tree.specs.Statements.{assignment, for_initial, on_heap, statement};
 ghost use Rattle.ckc_tree.specs.Items.{statement_list};
-ghost use Rattle.printed_signs.specs.ExpressionPieces.{expression_pieces};
+ghost use Rattle.ckc_printer.specs.ExpressionPieces.{expression_pieces};
 ghost use Rattle.ckc_printer.specs.StatementPieces.{mark_pieces, initial_pieces, optional_expression_pieces, optional_assignment_pieces, for_head_pieces, statement_pieces, statements_pieces};
 ghost use Rattle.ckc_printer.specs.Parts.{bundle_pieces, return_pieces, block_pieces};
 ghost use Rattle.ckc_printer.specs.Output.{Puts};

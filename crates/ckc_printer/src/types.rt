@@ -2,8 +2,8 @@
 
 ghost use Rattle.std.specs.Prelude.{◌≡◌};
 ghost use Rattle.ckc_tree.specs.Types.{type_tree, type_name};
-ghost use Rattle.printed_signs.specs.Pieces.{kind_text};
-ghost use Rattle.printed_signs.specs.TypePieces.{word_kind, stars_pieces, type_pieces, type_name_pieces, angled_pieces};
+ghost use Rattle.ckc_printer.specs.Pieces.{kind_text};
+ghost use Rattle.ckc_printer.specs.TypePieces.{word_kind, stars_pieces, type_pieces, type_name_pieces, angled_pieces};
 ghost use Rattle.ckc_printer.specs.Output.{Puts};
 ghost use Rattle.ckc_printer.specs.Spaced.{spaced_text};
 

@@ -1,1 +1,3 @@
 pub mod SameHeights
+mod Rows
+mod Decided

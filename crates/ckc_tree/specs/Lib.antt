@@ -7,3 +7,5 @@ pub mod Weights
 pub mod Bare
 pub mod Placement
 pub mod Examples
+pub mod Walks
+pub mod Cursors

@@ -3,25 +3,25 @@
 ghost use Rattle.std.specs.Prelude.{◌≡◌, ◌≤◌, ◌++◌, length, map, option_map, IfOk, OnOk, All};
 ghost use Rattle.pointer_modes.specs.Types.{ctype as type_of};
 ghost use Rattle.ckc_core.specs.Core.{core, function, import_of, object};
-ghost use Rattle.lowered_code.specs.Code as code;
-ghost use Rattle.lowered_code.specs.Images.{object_bytes, function_code, functions_from, import_code, imports_from, image_of};
-ghost use Rattle.lowered_code.specs.Correct.{IsFunction, IsLowerable};
+ghost use Rattle.lowering_code.specs.Code as code;
+ghost use Rattle.lowering_code.specs.Images.{object_bytes, function_code, functions_from, import_code, imports_from, image_of};
+ghost use Rattle.lowering_code.specs.Correct.{IsFunction, IsLowerable};
 
 use crate::statement_code::emit_statements;
 use ckc_core::program;
 use ckc_core::program::{Core, Function, Object};
 use ckc_text::fault::NoMemory;
 use ckc_text::name::Name;
-use code_fragments::cells::put_cell;
-use code_fragments::loops::Targets;
+use lowering_fragments::cells::put_cell;
+use lowering_fragments::loops::Targets;
 use code_words::image::{
     Blocks, Func, Funs, Image, Import, Imports, Layout, Ops, SideCode, WordKind,
 };
 use code_words::lists::Listed;
 use code_words::op::Op;
-use lowered_code::code_sizes::statements_size;
-use lowered_code::instructions::{put, put_two};
-use lowered_code::stacks::statements_stack;
+use lowering_code::code_sizes::statements_size;
+use lowering_code::instructions::{put, put_two};
+use lowering_code::stacks::statements_stack;
 use pointer_modes::ctype::CType;
 use std::alloc::Global;
 

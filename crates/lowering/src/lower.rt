@@ -2,8 +2,8 @@
 
 ghost use Rattle.std.specs.Prelude.{◌≡◌, IfOk};
 ghost use Rattle.ckc_core.specs.Core.{core};
-ghost use Rattle.lowered_code.specs.Images.{image_of};
-ghost use Rattle.lowered_code.specs.Correct.{IsLowerable, KeepsMeaning};
+ghost use Rattle.lowering_code.specs.Images.{image_of};
+ghost use Rattle.lowering_code.specs.Correct.{IsLowerable, KeepsMeaning};
 
 use crate::images::emit_image;
 use ckc_core::program::Core;

@@ -5,18 +5,18 @@ ghost use Rattle.pointer_modes.specs.Types.{ctype as type_of};
 ghost use Rattle.ckc_core.specs.Core.{expression, place as place_of, statement, statements_of};
 ghost use Rattle.ckc_core.specs.Core as cores;
 ghost use Rattle.code_words.specs.declared.op.Op.TheVariants as ops_of;
-ghost use Rattle.lowered_code.specs.Code as code;
-ghost use Rattle.lowered_code.specs.Code.{Places};
-ghost use Rattle.code_fragments.specs.Views.{targets_of};
+ghost use Rattle.lowering_code.specs.Code as code;
+ghost use Rattle.lowering_code.specs.Code.{Places};
+ghost use Rattle.lowering_fragments.specs.Views.{targets_of};
 
 use ckc_core::program::{CellPlace, Expr, Operator, Site, Stmt};
 use ckc_text::fault::NoMemory;
-use code_fragments::addresses::{emit_address, emit_behind_value};
-use code_fragments::loops::{Targets, begin_loop, loop_targets};
+use lowering_fragments::addresses::{emit_address, emit_behind_value};
+use lowering_fragments::loops::{Targets, begin_loop, loop_targets};
 use code_words::op::Op;
-use expression_code::expressions::{emit_call, emit_expression, emit_place, emit_with};
-use lowered_code::code_sizes::{expression_size, has_one_byte, statement_size};
-use lowered_code::instructions::{load_op, operator_op, place_behind, put, put_two, store_op};
+use lowering_expressions::expressions::{emit_call, emit_expression, emit_place, emit_with};
+use lowering_code::code_sizes::{expression_size, has_one_byte, statement_size};
+use lowering_code::instructions::{load_op, operator_op, place_behind, put, put_two, store_op};
 use pointer_modes::ctype::CType;
 
 // The address that a store needs before its value, or its pointer.

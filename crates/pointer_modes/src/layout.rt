@@ -1,12 +1,11 @@
 // Where the cells of a type lie.
 
-ghost use Rattle.std.specs.Prelude.{◌≡◌, ◌*◌, ◌<◌, ◌≤◌, length, map, slice_index};
+ghost use Rattle.std.specs.Prelude.{◌≡◌, ◌⊎◌, ◌+◌, ◌-◌, ◌*◌, ◌/◌, ◌<◌, ◌≤◌, length, map, slice_index};
 ghost use Rattle.pointer_modes.specs.Types.{ctype, member};
 ghost use Rattle.pointer_modes.specs.Layout.{IsWidth, scalar_size, member_sizes, end_from, largest_of, cells_of, size_of};
 
 use crate::ctype::{CType, Member};
 use crate::structs::Structs;
-use size_arithmetic::places::{aligned_up, end_behind, padded_size};
 
 impl Structs {
     /// How many scalar cells a type has. A struct has one for each of its members.
@@ -30,7 +29,7 @@ impl Structs {
             CType::Int | CType::Char | CType::Pointer(..) => scalar_size(t),
             CType::Struct(number) => {
                 let members = self.members(*number);
-                padded_size(largest_of(members), end_of(members))
+                aligned_up(largest_of(members), end_of(members))
             }
         }
     }
@@ -86,4 +85,22 @@ fn largest_of(members: &[Member]) -> u32
         largest = largest.max(scalar_size(&member.ctype));
     }
     largest
+}
+
+// The least multiple of an alignment from a place on.
+fn aligned_up(alignment: u32, place: u32) -> u32
+    requires width { (alignment ≡ 1) ⊎ (alignment ≡ 4) }
+    requires small { place ≤ 256 }
+    ensures { result ≡ (place + (alignment - 1)) / alignment * alignment }
+{
+    place.div_ceil(alignment) * alignment
+}
+
+// The place behind a cell of this size that begins at the first multiple of it from a place on.
+fn end_behind(size: u32, place: u32) -> u32
+    requires width { (size ≡ 1) ⊎ (size ≡ 4) }
+    requires small { place ≤ 256 }
+    ensures { result ≡ (place + (size - 1)) / size * size + size }
+{
+    aligned_up(size, place) + size
 }

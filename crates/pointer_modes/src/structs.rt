@@ -9,9 +9,11 @@ use ckc_text::code::Code;
 use ckc_text::fault::{Refused, SourceFault};
 use ckc_text::name::Name;
 use ckc_text::place::Span;
-use size_arithmetic::limits::may_declare;
 use std::alloc::Global;
 use std::marker::Model;
+
+/// How many structs a program may declare.
+const MOST_STRUCTS: usize = 4096;
 
 /// How many members a struct may have.
 const MOST_MEMBERS: usize = 64;
@@ -59,7 +61,7 @@ impl Structs {
         ensures { Declares self.old tainted span result self.new }
     {
         let number = self.items.len();
-        if !may_declare(number) {
+        if number >= MOST_STRUCTS {
             return Err(refusal(Code::E08, span));
         }
         let members = Vec::new(*self.items.allocator());

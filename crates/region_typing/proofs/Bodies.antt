@@ -6,8 +6,8 @@ use Rattle.std.proofs.lemmas.Result.{err_from_is_err_and}
 use Rattle.std.proofs.lemmas.List.{length-map, length-append, map-append}
 use Rattle.ckc_text.specs.declared.place.Span.{Span}
 use Rattle.ckc_text.specs.declared.code.Code.TheVariants.{E08, E10, E13, E15}
-use Rattle.checker_scope.specs.declared.refusals.CheckError.{CheckError}
-use Rattle.checker_scope.specs.declared.refusals.CheckError.TheVariants.{Source, Unnamed, NoMemory}
+use Rattle.region_typing_scope.specs.declared.refusals.CheckError.{CheckError}
+use Rattle.region_typing_scope.specs.declared.refusals.CheckError.TheVariants.{Source, Unnamed, NoMemory}
 use Rattle.ckc_tree.specs.Items as i
 use Rattle.ckc_tree.specs.Items.{Item}
 use Rattle.ckc_tree.specs.Statements.{Statements}
@@ -16,21 +16,21 @@ use Rattle.pointer_modes.specs.Types.{CType, ctype}
 use Rattle.ckc_core.specs.declared.program.Function as code_function
 use Rattle.ckc_core.specs.declared.program.Stmt.{Stmt}
 use Rattle.ckc_core.specs.Core as core
-use Rattle.typing_rules.specs.Verdicts.{Stop, Broken, Nameless, Verdict, Passes, Stops, passing, needs, picked}
-use Rattle.typing_rules.specs.Scopes.{Scope, Signature, Variable, Visible, function_named}
-use Rattle.typing_rules.specs.Expressions.{Places, is_tainted}
-use Rattle.typing_rules.specs.Statements.{statements, is_unchecked, with_local}
-use Rattle.typing_rules.specs.Items.{Walk, with_parameters, inside, core_function, function_body, listed, parameter_types, result_type, signature_of, agrees, all_scalar, scalar_result, with_function, is_defined, function_rules, function}
-use Rattle.checker_scope.specs.declared.scope as code
-use Rattle.checker_scope.specs.declared.signature.Signature as code_signature
-use Rattle.checker_scope.specs.Views.{scope, signature, variable}
-use Rattle.checker_scope.specs.Answering.{Answers, answers_so}
-use Rattle.checker_scope.specs.Locals.{Grows}
-use Rattle.statement_typing.specs.Walks.{Walks}
+use Rattle.region_typing_rules.specs.Verdicts.{Stop, Broken, Nameless, Verdict, Passes, Stops, passing, needs, picked}
+use Rattle.region_typing_rules.specs.Scopes.{Scope, Signature, Variable, Visible, function_named}
+use Rattle.region_typing_rules.specs.Expressions.{Places, is_tainted}
+use Rattle.region_typing_rules.specs.Statements.{statements, is_unchecked, with_local}
+use Rattle.region_typing_rules.specs.Items.{Walk, with_parameters, inside, core_function, function_body, listed, parameter_types, result_type, signature_of, agrees, all_scalar, scalar_result, with_function, is_defined, function_rules, function}
+use Rattle.region_typing_scope.specs.declared.scope as code
+use Rattle.region_typing_scope.specs.declared.signature.Signature as code_signature
+use Rattle.region_typing_scope.specs.Views.{scope, signature, variable}
+use Rattle.region_typing_scope.specs.Answering.{Answers, answers_so}
+use Rattle.region_typing_scope.specs.Locals.{Grows}
+use Rattle.region_typing_statements.specs.Walks.{Walks}
 use Rattle.region_typing.specs.Items.{Outside, body_core, kept_rules, behind_declaration}
 use Rattle.region_typing.specs.Signatures.{declared_function}
-use Rattle.statement_typing.proofs.Verdicts.{same_behind, in_parts}
-use Rattle.checker_scope.proofs.Steps.{parts_at, no_parts}
+use Rattle.region_typing_statements.proofs.Verdicts.{same_behind, in_parts}
+use Rattle.region_typing_scope.proofs.Steps.{parts_at, no_parts}
 
 -- ---- a function is left
 

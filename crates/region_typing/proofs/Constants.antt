@@ -14,13 +14,13 @@ use Rattle.ckc_core.specs.declared.program.Initial as code_initial
 use Rattle.ckc_core.specs.Core as core
 use Rattle.ckc_core.specs.Core.{initial}
 use Rattle.ckc_core.specs.Meaning.{low_byte}
-use Rattle.typing_rules.specs.Verdicts.{Passes, needs, picked}
-use Rattle.typing_rules.specs.Types.{is_scalar}
-use Rattle.typing_rules.specs.Expressions.{Typed}
-use Rattle.typing_rules.specs.Items as rules
-use Rattle.typing_rules.specs.Items.{strides_from, strides_of, cells_with, numbered_cells, is_zero, signed_constant, number_or_break, object_cells}
+use Rattle.region_typing_rules.specs.Verdicts.{Passes, needs, picked}
+use Rattle.region_typing_rules.specs.Types.{is_scalar}
+use Rattle.region_typing_rules.specs.Expressions.{Typed}
+use Rattle.region_typing_rules.specs.Items as rules
+use Rattle.region_typing_rules.specs.Items.{strides_from, strides_of, cells_with, numbered_cells, is_zero, signed_constant, number_or_break, object_cells}
 use Rattle.region_typing.specs.Initials.{IsStructOf, constant_cells, judged_as, judged_cells, stride_at}
-use Rattle.checker_scope.proofs.Steps.{parts_at, no_parts}
+use Rattle.region_typing_scope.proofs.Steps.{parts_at, no_parts}
 
 -- ---- cells by what is judged
 

@@ -1,12 +1,12 @@
 -- The functions of a core, one by one.
 use Rattle.std.proofs.Common.{◌≡◌, ℕ, ◌+◌, ◌<◌, ◌≤◌, Bool, true, false, List, [], ◌∷◌, ◌++◌, length, map, drop, get_or, refl}
 use Rattle.ckc_core.specs.Core as core
-use Rattle.typing_rules.specs.Verdicts.{picked}
-use Rattle.typing_rules.specs.Scopes.{Signature}
-use Rattle.typing_rules.specs.Expressions.{is_import}
-use Rattle.typing_rules.specs.Cores.{trusted_functions, tainted_functions, without_body}
-use Rattle.checker_scope.specs.declared.signature.Signature as code
-use Rattle.checker_scope.specs.Views.{signature}
+use Rattle.region_typing_rules.specs.Verdicts.{picked}
+use Rattle.region_typing_rules.specs.Scopes.{Signature}
+use Rattle.region_typing_rules.specs.Expressions.{is_import}
+use Rattle.region_typing_rules.specs.Cores.{trusted_functions, tainted_functions, without_body}
+use Rattle.region_typing_scope.specs.declared.signature.Signature as code
+use Rattle.region_typing_scope.specs.Views.{signature}
 use Rattle.region_typing.specs.CoreParts.{import_as}
 use Rattle.region_typing.proofs.Lists.{made_more, made_all}
 

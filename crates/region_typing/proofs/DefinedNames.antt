@@ -7,10 +7,10 @@ use Rattle.ckc_tree.specs.declared.item.Item.TheVariants as items
 use Rattle.ckc_tree.specs.declared.item.Function as code_function
 use Rattle.ckc_tree.specs.declared.item.Block as code_block
 use Rattle.ckc_tree.specs.Items as i
-use Rattle.typing_rules.specs.Verdicts.{picked}
-use Rattle.typing_rules.specs.Items.{defines, is_defined}
-use Rattle.checker_scope.specs.Tables.{with_place}
-use Rattle.checker_scope.proofs.Tables.{found_noted}
+use Rattle.region_typing_rules.specs.Verdicts.{picked}
+use Rattle.region_typing_rules.specs.Items.{defines, is_defined}
+use Rattle.region_typing_scope.specs.Tables.{with_place}
+use Rattle.region_typing_scope.proofs.Tables.{found_noted}
 use Rattle.region_typing.specs.Definitions.{Knows}
 
 defined_last : (items : List i.Item) (x : i.Item) (name : List ℕ) → is_defined (items ++ x ∷ []) name ≡ (is_defined items name || defines name x)

@@ -9,11 +9,11 @@ use Rattle.ckc_tree.specs.Items as i
 use Rattle.ckc_tree.specs.Statements.{Declarator}
 use Rattle.pointer_modes.specs.Types as types
 use Rattle.pointer_modes.specs.Types.{CType}
-use Rattle.typing_rules.specs.Verdicts.{Stop, Verdict, Passes, Stops, passing, needs}
-use Rattle.typing_rules.specs.Scopes.{Scope, Variable}
-use Rattle.typing_rules.specs.Types.{type_named}
-use Rattle.typing_rules.specs.Expressions.{Places}
-use Rattle.typing_rules.specs.Items.{Walk, is_struct, member_types, parameter_types, scalar_members, item, items}
+use Rattle.region_typing_rules.specs.Verdicts.{Stop, Verdict, Passes, Stops, passing, needs}
+use Rattle.region_typing_rules.specs.Scopes.{Scope, Variable}
+use Rattle.region_typing_rules.specs.Types.{type_named}
+use Rattle.region_typing_rules.specs.Expressions.{Places}
+use Rattle.region_typing_rules.specs.Items.{Walk, is_struct, member_types, parameter_types, scalar_members, item, items}
 use Rattle.region_typing.specs.declared.initials.Judged as code
 use Rattle.region_typing.specs.Items.{one_member, one_parameter, one_variable, judged_variable, judged_variables, JudgedVariable}
 

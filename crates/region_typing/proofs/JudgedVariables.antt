@@ -3,23 +3,23 @@ use Rattle.std.proofs.Common.{◌≡◌, ℕ, ◌==◌, Bool, true, false, nat_l
 use Rattle.std.proofs.lemmas.List.{map-append}
 use Rattle.ckc_text.specs.declared.place.Span.{Span}
 use Rattle.ckc_text.specs.declared.code.Code.TheVariants.{E10, E15}
-use Rattle.checker_scope.specs.declared.refusals.CheckError.{CheckError}
-use Rattle.checker_scope.specs.declared.refusals.CheckError.TheVariants.{Source, Unnamed, NoMemory}
+use Rattle.region_typing_scope.specs.declared.refusals.CheckError.{CheckError}
+use Rattle.region_typing_scope.specs.declared.refusals.CheckError.TheVariants.{Source, Unnamed, NoMemory}
 use Rattle.ckc_tree.specs.Types.{TypeTree, type_span}
 use Rattle.ckc_tree.specs.Items as i
 use Rattle.ckc_tree.specs.Statements.{Declarator}
 use Rattle.pointer_modes.specs.Types.{CType}
 use Rattle.ckc_core.specs.Core as core
-use Rattle.typing_rules.specs.Verdicts.{Stop, Broken, Verdict, Passes, Stops, passing, needs}
-use Rattle.typing_rules.specs.Types.{base_type, without_stars}
-use Rattle.typing_rules.specs.Expressions.{Places}
-use Rattle.typing_rules.specs.Items as rules
-use Rattle.typing_rules.specs.Items.{Walk, WalkedVariable, with_variable, room_for, room_for_first, initializer, variables, with_objects, global, in_checked_region}
-use Rattle.checker_scope.specs.Answering.{Answers, answers_so}
+use Rattle.region_typing_rules.specs.Verdicts.{Stop, Broken, Verdict, Passes, Stops, passing, needs}
+use Rattle.region_typing_rules.specs.Types.{base_type, without_stars}
+use Rattle.region_typing_rules.specs.Expressions.{Places}
+use Rattle.region_typing_rules.specs.Items as rules
+use Rattle.region_typing_rules.specs.Items.{Walk, WalkedVariable, with_variable, room_for, room_for_first, initializer, variables, with_objects, global, in_checked_region}
+use Rattle.region_typing_scope.specs.Answering.{Answers, answers_so}
 use Rattle.region_typing.specs.declared.initials.Judged as code
 use Rattle.region_typing.specs.Initials.{Judged, judged, judged_as, judged_cells}
 use Rattle.region_typing.specs.Items.{JudgedVariable, judged_variable, with_one, one_variable, judged_variables, judged_initializer, one_object, judged_objects}
-use Rattle.statement_typing.proofs.Verdicts.{same_behind, in_parts}
+use Rattle.region_typing_statements.proofs.Verdicts.{same_behind, in_parts}
 use Rattle.region_typing.proofs.Constants.{cells_judged}
 
 abbrev as_judged : WalkedVariable → JudgedVariable

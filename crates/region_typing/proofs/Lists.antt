@@ -1,7 +1,7 @@
 -- Lists that are made of others, item by item.
 use Rattle.std.proofs.Common.{◌≡◌, ℕ, ◌+◌, ◌<◌, ◌≤◌, List, [], ◌∷◌, ◌++◌, length, map, drop, get_or, ap, sym, ◌∙◌, append_assoc}
 use Rattle.std.proofs.lemmas.List.{append-nil, map-append}
-use Rattle.checker_scope.proofs.Steps.{parts_at, no_parts}
+use Rattle.region_typing_scope.proofs.Steps.{parts_at, no_parts}
 
 module _ {C S X : Type 0} (view : C → S) (of : List S → List X) where
   -- what is made of an item more

@@ -9,13 +9,13 @@ use Rattle.ckc_tree.specs.Statements.{Declarator}
 use Rattle.pointer_modes.specs.Types as types
 use Rattle.pointer_modes.specs.Types.{CType}
 use Rattle.ckc_core.specs.Core as core
-use Rattle.typing_rules.specs.Verdicts.{Verdict, Passes, picked}
-use Rattle.typing_rules.specs.Scopes.{Scope, Signature, Variable, function_named}
-use Rattle.typing_rules.specs.Types.{base_type, without_stars}
-use Rattle.typing_rules.specs.Expressions.{Places, is_tainted}
-use Rattle.typing_rules.specs.Statements.{is_unchecked, statements}
-use Rattle.typing_rules.specs.Items.{Walk, WalkedVariable, is_struct, member_types, scalar_members, with_struct, structure, with_variable, room_for, room_for_first, initializer, variables, object_cells, with_objects, global, listed, parameter_types, result_type, agrees, all_scalar, scalar_result, with_function, inside, function_body, is_defined, function_rules, signature_of, function, is_off, item}
-use Rattle.typing_rules.proofs.Verdicts.{Promises, passing_promises, needs_promises, anything_promised}
+use Rattle.region_typing_rules.specs.Verdicts.{Verdict, Passes, picked}
+use Rattle.region_typing_rules.specs.Scopes.{Scope, Signature, Variable, function_named}
+use Rattle.region_typing_rules.specs.Types.{base_type, without_stars}
+use Rattle.region_typing_rules.specs.Expressions.{Places, is_tainted}
+use Rattle.region_typing_rules.specs.Statements.{is_unchecked, statements}
+use Rattle.region_typing_rules.specs.Items.{Walk, WalkedVariable, is_struct, member_types, scalar_members, with_struct, structure, with_variable, room_for, room_for_first, initializer, variables, object_cells, with_objects, global, listed, parameter_types, result_type, agrees, all_scalar, scalar_result, with_function, inside, function_body, is_defined, function_rules, signature_of, function, is_off, item}
+use Rattle.region_typing_rules.proofs.Verdicts.{Promises, passing_promises, needs_promises, anything_promised}
 use Rattle.region_typing.specs.Items.{Outside}
 
 abbrev OutsideBehind : Walk → Type 0

@@ -4,12 +4,12 @@ use Rattle.std.proofs.lemmas.List.{map-append, map-set}
 use Rattle.std.proofs.lemmas.Slice.Eq.{bytes_eq-Decides}
 use Rattle.ckc_core.specs.declared.program.Function as code_core
 use Rattle.ckc_core.specs.Core as core
-use Rattle.typing_rules.specs.Verdicts.{picked}
-use Rattle.typing_rules.specs.Scopes.{Signature, function_named}
-use Rattle.typing_rules.specs.Expressions.{is_import, side_number, counted, same_side}
-use Rattle.typing_rules.specs.Cores.{body_of, trusted_functions}
-use Rattle.checker_scope.specs.Names.{Distinct, are_distinct}
-use Rattle.checker_scope.proofs.FileLevel.{turned, distinct}
+use Rattle.region_typing_rules.specs.Verdicts.{picked}
+use Rattle.region_typing_rules.specs.Scopes.{Signature, function_named}
+use Rattle.region_typing_rules.specs.Expressions.{is_import, side_number, counted, same_side}
+use Rattle.region_typing_rules.specs.Cores.{body_of, trusted_functions}
+use Rattle.region_typing_scope.specs.Names.{Distinct, are_distinct}
+use Rattle.region_typing_scope.proofs.FileLevel.{turned, distinct}
 use Rattle.region_typing.specs.CoreParts.{trusted_place}
 
 -- the name of no function

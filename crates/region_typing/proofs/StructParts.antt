@@ -8,12 +8,12 @@ use Rattle.ckc_tree.specs.Items as i
 use Rattle.pointer_modes.specs.Types as types
 use Rattle.pointer_modes.specs.Types.{CType, Int, Char, Struct, Pointer, Structure}
 use Rattle.pointer_modes.specs.Declaring.{with_members}
-use Rattle.typing_rules.specs.Verdicts.{Verdict, Passes, passing, needs}
-use Rattle.typing_rules.specs.Scopes.{Scope}
-use Rattle.typing_rules.specs.Types.{is_scalar}
-use Rattle.typing_rules.specs.Items.{Walk, is_struct, member_types, scalar_members, with_struct, in_checked_region, structure}
-use Rattle.checker_scope.specs.Filling.{struct_added}
-use Rattle.statement_typing.proofs.Verdicts.{same_behind}
+use Rattle.region_typing_rules.specs.Verdicts.{Verdict, Passes, passing, needs}
+use Rattle.region_typing_rules.specs.Scopes.{Scope}
+use Rattle.region_typing_rules.specs.Types.{is_scalar}
+use Rattle.region_typing_rules.specs.Items.{Walk, is_struct, member_types, scalar_members, with_struct, in_checked_region, structure}
+use Rattle.region_typing_scope.specs.Filling.{struct_added}
+use Rattle.region_typing_statements.proofs.Verdicts.{same_behind}
 
 scalars_first : {A : Type 0} (ms : List types.Member) (next : Verdict A) → scalar_members ms next ≡ passing (scalar_members {A = Unit {0}} ms (Passes tt)) (λ u. next)
 scalars_first [] next = refl

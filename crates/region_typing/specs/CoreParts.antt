@@ -1,9 +1,9 @@
 -- Inside: the functions of a core.
 use Rattle.std.specs.Prelude.{ℕ, List, length, Option, Some, None, false}
 use Rattle.ckc_core.specs.Core as core
-use Rattle.typing_rules.specs.Verdicts.{picked}
-use Rattle.typing_rules.specs.Scopes.{Signature, function_named}
-use Rattle.typing_rules.specs.Expressions.{is_import, side_number}
+use Rattle.region_typing_rules.specs.Verdicts.{picked}
+use Rattle.region_typing_rules.specs.Scopes.{Signature, function_named}
+use Rattle.region_typing_rules.specs.Expressions.{is_import, side_number}
 
 -- a tainted function
 abbrev pub import_as : Signature → core.Import

@@ -10,9 +10,9 @@ use Rattle.ckc_tree.specs.Expressions as e
 use Rattle.ckc_tree.specs.Expressions.{Expression}
 use Rattle.ckc_core.specs.Core as core
 use Rattle.ckc_core.specs.Meaning.{low_byte}
-use Rattle.typing_rules.specs.Verdicts.{Verdict, Passes, breaks, picked}
-use Rattle.typing_rules.specs.Items as rules
-use Rattle.typing_rules.specs.Items.{cells_with, is_zero, unsigned_constant, signed_constant, number_or_break}
+use Rattle.region_typing_rules.specs.Verdicts.{Verdict, Passes, breaks, picked}
+use Rattle.region_typing_rules.specs.Items as rules
+use Rattle.region_typing_rules.specs.Items.{cells_with, is_zero, unsigned_constant, signed_constant, number_or_break}
 use Rattle.region_typing.specs.declared.initials.Judged as code
 use Rattle.region_typing.specs.declared.initials.Judged.TheVariants as forms
 

@@ -9,13 +9,13 @@ use Rattle.pointer_modes.specs.Types as types
 use Rattle.pointer_modes.specs.Types.{CType}
 use Rattle.ckc_core.specs.Core as core
 use Rattle.ckc_core.specs.Core.{object, function}
-use Rattle.typing_rules.specs.Verdicts.{Verdict, Passes, passing, needs, picked}
-use Rattle.typing_rules.specs.Scopes.{Scope, Signature, Variable, function_named}
-use Rattle.typing_rules.specs.Types.{type_named, without_stars}
-use Rattle.typing_rules.specs.Expressions.{Places, is_tainted}
-use Rattle.typing_rules.specs.Statements.{statements, is_unchecked}
-use Rattle.typing_rules.specs.Items.{Walk, with_variable, room_for, initializer, inside, core_function, function_body, with_function, agrees, all_scalar, scalar_result, is_defined, in_checked_region}
-use Rattle.checker_scope.specs.Views.{scope}
+use Rattle.region_typing_rules.specs.Verdicts.{Verdict, Passes, passing, needs, picked}
+use Rattle.region_typing_rules.specs.Scopes.{Scope, Signature, Variable, function_named}
+use Rattle.region_typing_rules.specs.Types.{type_named, without_stars}
+use Rattle.region_typing_rules.specs.Expressions.{Places, is_tainted}
+use Rattle.region_typing_rules.specs.Statements.{statements, is_unchecked}
+use Rattle.region_typing_rules.specs.Items.{Walk, with_variable, room_for, initializer, inside, core_function, function_body, with_function, agrees, all_scalar, scalar_result, is_defined, in_checked_region}
+use Rattle.region_typing_scope.specs.Views.{scope}
 use Rattle.region_typing.specs.declared.walk as code
 use Rattle.region_typing.specs.declared.initials.Judged as code_judged
 use Rattle.region_typing.specs.Initials.{Judged, judged, judged_as, judged_cells}

@@ -5,22 +5,22 @@ ghost use Rattle.ckc_text.specs.Places.{place_at};
 ghost use Rattle.ckc_tree.specs.Items.{item as item_tree, tree};
 ghost use Rattle.built_forms.specs.Built.{is_built};
 ghost use Rattle.ckc_core.specs.Core.{core as core_view};
-ghost use Rattle.typing_rules.specs.Verdicts.{Passes, passing};
-ghost use Rattle.typing_rules.specs.Items.{items as items_of};
-ghost use Rattle.typing_rules.specs.Cores.{core_of as core_of_walk, CheckAnswers};
-ghost use Rattle.checker_scope.specs.Answering.{Answers};
-ghost use Rattle.checker_scope.specs.Views.{scope as scope_of};
+ghost use Rattle.region_typing_rules.specs.Verdicts.{Passes, passing};
+ghost use Rattle.region_typing_rules.specs.Items.{items as items_of};
+ghost use Rattle.region_typing_rules.specs.Cores.{core_of as core_of_walk, CheckAnswers};
+ghost use Rattle.region_typing_scope.specs.Answering.{Answers};
+ghost use Rattle.region_typing_scope.specs.Views.{scope as scope_of};
 ghost use Rattle.region_typing.specs.Items.{walk as walk_of, Outside};
 
 use crate::cores::core_of;
 use crate::items::items;
 use crate::walk::Walk;
-use checker_scope::refusals::CheckError;
-use checker_scope::sites::Sites;
+use region_typing_scope::refusals::CheckError;
+use region_typing_scope::sites::Sites;
 use ckc_core::program::Core;
 use ckc_text::fault::Refused;
 use ckc_tree::item::Item;
-use name_resolution::named::Named;
+use ckc_names::named::Named;
 use std::alloc::Global;
 
 // The core of items, all of which are still to be walked.

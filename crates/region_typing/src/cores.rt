@@ -2,20 +2,20 @@
 
 ghost use Rattle.std.specs.Prelude.{◌≡◌, ◌<◌, ◌∷◌, ◌++◌, [], slice_set, map, length, IfOk};
 ghost use Rattle.ckc_core.specs.Core.{function as function_of, import_of, core as core_view};
-ghost use Rattle.typing_rules.specs.Cores.{without_body as without_body_of, trusted_functions, tainted_functions, core_of as core_of_walk};
-ghost use Rattle.typing_rules.specs.Verdicts.{Passes};
-ghost use Rattle.checker_scope.specs.Answering.{Answers};
-ghost use Rattle.checker_scope.specs.Views.{signature};
+ghost use Rattle.region_typing_rules.specs.Cores.{without_body as without_body_of, trusted_functions, tainted_functions, core_of as core_of_walk};
+ghost use Rattle.region_typing_rules.specs.Verdicts.{Passes};
+ghost use Rattle.region_typing_scope.specs.Answering.{Answers};
+ghost use Rattle.region_typing_scope.specs.Views.{signature};
 ghost use Rattle.region_typing.specs.Items.{walk as walk_of};
 ghost use Rattle.region_typing.specs.CoreParts.{import_as, trusted_place as trusted_place_of};
 
 use crate::functions::copied_result;
 use crate::signatures::copied_signature;
 use crate::walk::Walk;
-use checker_scope::refusals::CheckError;
-use checker_scope::scope::Scope;
-use checker_scope::sides::is_import;
-use checker_scope::signature::Signature;
+use region_typing_scope::refusals::CheckError;
+use region_typing_scope::scope::Scope;
+use region_typing_scope::sides::is_import;
+use region_typing_scope::signature::Signature;
 use ckc_core::program::{Core, Function, Import};
 use ckc_text::fault::NoMemory;
 use ckc_text::name::Name;

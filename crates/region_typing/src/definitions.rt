@@ -2,10 +2,10 @@
 
 ghost use Rattle.std.specs.Prelude.{◌≡◌, ◌++◌, ◌∷◌, [], map, IfOk, OnOk};
 ghost use Rattle.ckc_tree.specs.Items.{item as item_tree};
-ghost use Rattle.typing_rules.specs.Items.{is_defined as defined_in};
+ghost use Rattle.region_typing_rules.specs.Items.{is_defined as defined_in};
 ghost use Rattle.region_typing.specs.Definitions.{Knows};
 
-use checker_scope::name_table::NameTable;
+use region_typing_scope::name_table::NameTable;
 use ckc_text::fault::NoMemory;
 use ckc_tree::item::Item;
 use std::alloc::Global;

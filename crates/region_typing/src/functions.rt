@@ -6,18 +6,18 @@ ghost use Rattle.ckc_text.specs.Places.{place_at};
 ghost use Rattle.ckc_tree.specs.Items.{parameter as parameter_tree, parameters as parameters_tree, result_form as result_tree, body as body_tree, statement_list};
 ghost use Rattle.pointer_modes.specs.Types.{ctype as ctype_of};
 ghost use Rattle.ckc_core.specs.Core.{function as function_of, statements_of};
-ghost use Rattle.typing_rules.specs.Items.{listed as listed_of, parameter_types as parameter_types_of, result_type as result_type_of, with_parameters, inside, function_body as function_body_of};
-ghost use Rattle.checker_scope.specs.Answering.{Answers};
-ghost use Rattle.checker_scope.specs.Views.{scope as scope_of, signature, variable as variable_of};
+ghost use Rattle.region_typing_rules.specs.Items.{listed as listed_of, parameter_types as parameter_types_of, result_type as result_type_of, with_parameters, inside, function_body as function_body_of};
+ghost use Rattle.region_typing_scope.specs.Answering.{Answers};
+ghost use Rattle.region_typing_scope.specs.Views.{scope as scope_of, signature, variable as variable_of};
 ghost use Rattle.region_typing.specs.Items.{walk as walk_of, Outside, one_parameter, body_core};
 
 use crate::signatures::copied_signature;
 use crate::walk::Walk;
-use checker_scope::refusals::{CheckError, needs};
-use checker_scope::scope::{Scope, Variable};
-use checker_scope::signature::Signature;
-use checker_scope::sites::Sites;
-use checker_scope::types::{base_type, copied, type_named, without_stars};
+use region_typing_scope::refusals::{CheckError, needs};
+use region_typing_scope::scope::{Scope, Variable};
+use region_typing_scope::signature::Signature;
+use region_typing_scope::sites::Sites;
+use region_typing_scope::types::{base_type, copied, type_named, without_stars};
 use ckc_core::program::{Function, Stmt};
 use ckc_text::code::Code;
 use ckc_text::fault::NoMemory;
@@ -25,8 +25,8 @@ use ckc_text::name::Name;
 use ckc_tree::item::{Block, Parameter, Parameters, ResultForm};
 use ckc_tree::stmt;
 use pointer_modes::ctype::CType;
-use statement_typing::marks::is_checked;
-use statement_typing::statements::statements;
+use region_typing_statements::marks::is_checked;
+use region_typing_statements::statements::statements;
 use std::alloc::Global;
 
 /// How many parameters a function may have.

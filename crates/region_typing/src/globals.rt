@@ -8,18 +8,18 @@ ghost use Rattle.ckc_tree.specs.Statements.{initializer as initializer_tree, dec
 ghost use Rattle.ckc_tree.specs.Items.{global as global_tree};
 ghost use Rattle.pointer_modes.specs.Types.{ctype as ctype_of};
 ghost use Rattle.flat_bytes.specs.Blocks.{rounded_up};
-ghost use Rattle.typing_rules.specs.Items.{written_size as written_size_of, room_for as room_in, room_for_first as first_room_in, global as global_of};
-ghost use Rattle.checker_scope.specs.Answering.{Answers};
-ghost use Rattle.checker_scope.specs.Views.{scope as scope_of};
+ghost use Rattle.region_typing_rules.specs.Items.{written_size as written_size_of, room_for as room_in, room_for_first as first_room_in, global as global_of};
+ghost use Rattle.region_typing_scope.specs.Answering.{Answers};
+ghost use Rattle.region_typing_scope.specs.Views.{scope as scope_of};
 ghost use Rattle.region_typing.specs.Initials.{judged as judged_view};
 ghost use Rattle.region_typing.specs.Items.{walk as walk_of, with_one, judged_initializer, judged_variable, one_variable, judged_variables, one_object, judged_objects};
 
 use crate::initials::{Judged, cells_of, judged_value};
 use crate::walk::Walk;
-use checker_scope::refusals::{CheckError, meant, needs};
-use checker_scope::scope::Scope;
-use checker_scope::sites::Sites;
-use checker_scope::types::{base_type, copied};
+use region_typing_scope::refusals::{CheckError, meant, needs};
+use region_typing_scope::scope::Scope;
+use region_typing_scope::sites::Sites;
+use region_typing_scope::types::{base_type, copied};
 use ckc_core::program::Object;
 use ckc_text::code::Code;
 use ckc_text::fault::NoMemory;
@@ -27,7 +27,7 @@ use ckc_text::place::Span;
 use ckc_tree::item::Global as Declaration;
 use ckc_tree::stmt::{Declarator, Initializer};
 use ckc_tree::type_form::TypeForm;
-use expression_typing::expressions::typed;
+use region_typing_expressions::expressions::typed;
 use pointer_modes::ctype::CType;
 use std::alloc::Global;
 

@@ -1,20 +1,20 @@
 // The cells of file-level variables before the run.
 
 ghost use Rattle.std.specs.Prelude.{◌≡◌, ◌<◌, ◌≤◌, true, pos, bytes_eq, length, map, IfOk, IfSome};
-ghost use Rattle.ckc_names.specs.Scopes.{null};
+ghost use Rattle.ckc_names_rules.specs.Scopes.{null};
 ghost use Rattle.ckc_tree.specs.Expressions.{expression as expression_tree};
 ghost use Rattle.pointer_modes.specs.Types.{ctype as ctype_of, member as member_of};
 ghost use Rattle.pointer_modes.specs.Layout.{cells_of as cells_in};
 ghost use Rattle.ckc_core.specs.Core.{initial as initial_of};
 ghost use Rattle.ckc_core.specs.Meaning.{low_byte as low_byte_of};
-ghost use Rattle.typing_rules.specs.Types.{is_scalar};
-ghost use Rattle.typing_rules.specs.Items.{Written, negative as negative_of, null_number as null_number_of, unsigned_constant as unsigned_of, signed_constant as signed_of, cells_with as cells_as};
-ghost use Rattle.checker_scope.specs.Answering.{Answers};
-ghost use Rattle.value_typing.specs.Typed.{typed as typed_view};
+ghost use Rattle.region_typing_rules.specs.Types.{is_scalar};
+ghost use Rattle.region_typing_rules.specs.Items.{Written, negative as negative_of, null_number as null_number_of, unsigned_constant as unsigned_of, signed_constant as signed_of, cells_with as cells_as};
+ghost use Rattle.region_typing_scope.specs.Answering.{Answers};
+ghost use Rattle.region_typing_values.specs.Typed.{typed as typed_view};
 ghost use Rattle.region_typing.specs.Initials.{IsSmall, IsStructOf, judged_as, judged_cells, cell_number as cell_number_as, constant_cells as constant_cells_as, judged as judged_of, stride_at};
 
-use checker_scope::refusals::{CheckError, refusal};
-use checker_scope::types::copied;
+use region_typing_scope::refusals::{CheckError, refusal};
+use region_typing_scope::types::copied;
 use ckc_core::program::Initial;
 use ckc_text::code::Code;
 use ckc_text::fault::NoMemory;
@@ -23,7 +23,7 @@ use ckc_tree::expr::{Expr, UnaryOperator};
 use pointer_modes::ctype::{CType, Member};
 use pointer_modes::structs::Structs;
 use std::alloc::Global;
-use value_typing::typed::{Typed, is_zero};
+use region_typing_values::typed::{Typed, is_zero};
 
 /// What a variable is initialised with.
 #[derive(Drop, Clone, Copy)]

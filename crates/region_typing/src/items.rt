@@ -3,12 +3,12 @@
 ghost use Rattle.std.specs.Prelude.{◌≡◌, ◌<◌, ◌&&◌, ◌||◌, nat_lt, true, is_some, None, length, map};
 ghost use Rattle.ckc_text.specs.Places.{place_at};
 ghost use Rattle.ckc_tree.specs.Items.{function as function_tree, item as item_tree};
-ghost use Rattle.typing_rules.specs.Verdicts.{picked};
-ghost use Rattle.typing_rules.specs.Expressions.{is_tainted as tainted_kind};
-ghost use Rattle.typing_rules.specs.Scopes.{function_named};
-ghost use Rattle.typing_rules.specs.Items.{is_defined as defined_in, is_off as is_off_of, agrees as agrees_of, all_scalar, scalar_result, function as function_of, item as item_of, items as items_of};
-ghost use Rattle.checker_scope.specs.Answering.{Answers};
-ghost use Rattle.checker_scope.specs.Views.{scope as scope_of, signature};
+ghost use Rattle.region_typing_rules.specs.Verdicts.{picked};
+ghost use Rattle.region_typing_rules.specs.Expressions.{is_tainted as tainted_kind};
+ghost use Rattle.region_typing_rules.specs.Scopes.{function_named};
+ghost use Rattle.region_typing_rules.specs.Items.{is_defined as defined_in, is_off as is_off_of, agrees as agrees_of, all_scalar, scalar_result, function as function_of, item as item_of, items as items_of};
+ghost use Rattle.region_typing_scope.specs.Answering.{Answers};
+ghost use Rattle.region_typing_scope.specs.Views.{scope as scope_of, signature};
 ghost use Rattle.region_typing.specs.Items.{walk as walk_of, Outside, kept_rules, behind_declaration};
 ghost use Rattle.region_typing.specs.Signatures.{declared as declared_view};
 
@@ -19,14 +19,14 @@ use crate::prototype::Prototype;
 use crate::signatures::{agrees, declare, declared, is_scalar_signature};
 use crate::structures::structure;
 use crate::walk::Walk;
-use checker_scope::refusals::{CheckError, needs};
-use checker_scope::scope::Scope;
-use checker_scope::signature::Signature;
-use checker_scope::sites::Sites;
+use region_typing_scope::refusals::{CheckError, needs};
+use region_typing_scope::scope::Scope;
+use region_typing_scope::signature::Signature;
+use region_typing_scope::sites::Sites;
 use ckc_text::code::Code;
 use ckc_tree::item::{Function, FunctionKind, Item, Region};
-use function_rules::keep_function_rules;
-use statement_typing::marks::is_checked;
+use crate::function_rules::keep_function_rules;
+use region_typing_statements::marks::is_checked;
 use std::alloc::Global;
 
 /// How many functions a program may declare.

@@ -2,8 +2,8 @@
 
 ghost use Rattle.std.specs.Prelude.{◌≤◌, length};
 
-use checker_scope::scope::Variable;
-use checker_scope::signature::Signature;
+use region_typing_scope::scope::Variable;
+use region_typing_scope::signature::Signature;
 
 /// A declaration of a function: its signature, and its parameters with their names.
 #[derive(Drop)]

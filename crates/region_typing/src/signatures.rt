@@ -4,18 +4,18 @@ ghost use Rattle.std.specs.Prelude.{◌≡◌, ◌<◌, ◌&&◌, None, length, 
 ghost use Rattle.std.specs.Option.{option_map};
 ghost use Rattle.ckc_tree.specs.Items.{function as function_tree};
 ghost use Rattle.pointer_modes.specs.Types.{ctype as ctype_of};
-ghost use Rattle.typing_rules.specs.Scopes.{function_named};
-ghost use Rattle.typing_rules.specs.Items.{same_types as same_types_of, same_result as same_result_of, same_kind as same_kind_of, agrees as agrees_of, all_scalar as all_scalar_of, scalar_result as scalar_result_of, with_function};
-ghost use Rattle.checker_scope.specs.Answering.{Answers};
-ghost use Rattle.checker_scope.specs.Views.{scope as scope_of, signature, variable as variable_of};
+ghost use Rattle.region_typing_rules.specs.Scopes.{function_named};
+ghost use Rattle.region_typing_rules.specs.Items.{same_types as same_types_of, same_result as same_result_of, same_kind as same_kind_of, agrees as agrees_of, all_scalar as all_scalar_of, scalar_result as scalar_result_of, with_function};
+ghost use Rattle.region_typing_scope.specs.Answering.{Answers};
+ghost use Rattle.region_typing_scope.specs.Views.{scope as scope_of, signature, variable as variable_of};
 ghost use Rattle.region_typing.specs.Signatures.{declared as declared_view, declared_function};
 
 use crate::functions::{copied_result, parameter_types, result_type};
 use crate::prototype::Prototype;
-use checker_scope::refusals::CheckError;
-use checker_scope::scope::{Scope, Variable};
-use checker_scope::signature::Signature;
-use checker_scope::types::{copied, is_scalar, same_type};
+use region_typing_scope::refusals::CheckError;
+use region_typing_scope::scope::{Scope, Variable};
+use region_typing_scope::signature::Signature;
+use region_typing_scope::types::{copied, is_scalar, same_type};
 use ckc_text::fault::NoMemory;
 use ckc_text::name::Name;
 use ckc_tree::item::{Function, FunctionKind};

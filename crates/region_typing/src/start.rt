@@ -1,14 +1,14 @@
 // What is known before the first item.
 
 ghost use Rattle.std.specs.Prelude.{◌≡◌, IfOk};
-ghost use Rattle.typing_rules.specs.Items.{start};
+ghost use Rattle.region_typing_rules.specs.Items.{start};
 ghost use Rattle.region_typing.specs.Items.{walk as walk_of};
 
 use crate::walk::Walk;
-use checker_scope::scope::Scope;
+use region_typing_scope::scope::Scope;
 use ckc_text::fault::NoMemory;
 use std::alloc::Global;
-use value_typing::on_heap::boxed;
+use region_typing_values::on_heap::boxed;
 
 impl Walk {
     /// Nothing known, on the heap, so that the many parts are one word to who holds them.

@@ -3,16 +3,16 @@
 ghost use Rattle.std.specs.Prelude.{◌≡◌, ◌≤◌, [], length, map, IfOk};
 ghost use Rattle.ckc_tree.specs.Items.{member as member_tree, structure as structure_tree};
 ghost use Rattle.pointer_modes.specs.Types.{ctype as ctype_of, member as member_of};
-ghost use Rattle.typing_rules.specs.Verdicts.{Passes};
-ghost use Rattle.typing_rules.specs.Items.{is_struct as struct_type, member_types as member_types_of, scalar_members, structure as structure_of};
-ghost use Rattle.checker_scope.specs.Answering.{Answers};
-ghost use Rattle.checker_scope.specs.Views.{scope as scope_of};
+ghost use Rattle.region_typing_rules.specs.Verdicts.{Passes};
+ghost use Rattle.region_typing_rules.specs.Items.{is_struct as struct_type, member_types as member_types_of, scalar_members, structure as structure_of};
+ghost use Rattle.region_typing_scope.specs.Answering.{Answers};
+ghost use Rattle.region_typing_scope.specs.Views.{scope as scope_of};
 ghost use Rattle.region_typing.specs.Items.{walk as walk_of, one_member};
 
 use crate::walk::Walk;
-use checker_scope::refusals::{CheckError, needs};
-use checker_scope::scope::Scope;
-use checker_scope::types::type_named;
+use region_typing_scope::refusals::{CheckError, needs};
+use region_typing_scope::scope::Scope;
+use region_typing_scope::types::type_named;
 use ckc_text::code::Code;
 use ckc_text::name::Name;
 use ckc_tree::item;

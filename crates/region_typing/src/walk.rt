@@ -2,7 +2,7 @@
 
 ghost use Rattle.std.specs.Prelude.{◌≤◌};
 
-use checker_scope::scope::Scope;
+use region_typing_scope::scope::Scope;
 use ckc_core::program::{Function, Object};
 
 /// What is known behind an item: what stands at file level, the cells of the file-level variables with the bytes that

@@ -5,13 +5,13 @@ use Rattle.act_words.specs.declared.ending.Ending.{Ending}
 use Rattle.act_words.specs.declared.settings.Settings.{Settings}
 use Rattle.act_words.specs.Shown.{Shown}
 use Rattle.code_words.specs.declared.image.Image.{Image}
-use Rattle.run_transcript.specs.declared.fault.RunFault.{RunFault}
-use Rattle.run_transcript.specs.declared.fault.RunFault.TheVariants as faults
-use Rattle.run_transcript.specs.Texts.{ending_text, dump_text, missing_feed, with_last_line}
-use Rattle.run_interaction.specs.Asked.{Answering, PlayCounts}
+use Rattle.run_core_transcript.specs.declared.fault.RunFault.{RunFault}
+use Rattle.run_core_transcript.specs.declared.fault.RunFault.TheVariants as faults
+use Rattle.run_core_transcript.specs.Texts.{ending_text, dump_text, missing_feed, with_last_line}
+use Rattle.run_core_interaction.specs.Asked.{Answering, PlayCounts}
 use Rattle.run_core.specs.Runs.{Outcome, Ends, Comes, CameTo, RunWrites, RunCounts, WritesFront, WritesToWant}
 use Rattle.run_core.specs.Progress.{PlayEnds}
-use Rattle.run_transcript.specs.Finishes.{Fronts, Finish, Finishes}
+use Rattle.run_core_transcript.specs.Finishes.{Fronts, Finish, Finishes}
 
 module _ {S : Type 0} (answers : Answering S) (files : Option Files) (image : Image) (settings : Settings) (inputs : List ℤ) (first last : S) (old new : Option (List ℕ)) (before after : ℕ) where
   -- a front of the text of what was come to

@@ -13,19 +13,19 @@ use Rattle.code_words.specs.Table.{State}
 use Rattle.code_words.specs.Left.{LeavesTurn}
 use Rattle.code_words.specs.Dumps.{blocks_held}
 use Rattle.code_words.specs.Runs.{Run, Unfinished, Finished, exec, started}
-use Rattle.two_memory_machine.specs.declared.event.Event.{Event as MachineEvent}
-use Rattle.two_memory_machine.specs.declared.event.Event.TheVariants as told_by
-use Rattle.two_memory_machine.specs.declared.event.Waiting.TheVariants as waiting
-use Rattle.two_memory_machine.specs.Machines.{Machine, IsOfSame, state_of, world_of, turn_of, waiting_of, told_behind, TakesAct, TakesEnd, moves_left}
+use Rattle.two_memory_machine_states.specs.declared.event.Event.{Event as MachineEvent}
+use Rattle.two_memory_machine_states.specs.declared.event.Event.TheVariants as told_by
+use Rattle.two_memory_machine_states.specs.declared.event.Waiting.TheVariants as waiting
+use Rattle.two_memory_machine_states.specs.Machines.{Machine, IsOfSame, state_of, world_of, turn_of, waiting_of, told_behind, TakesAct, TakesEnd, moves_left}
 use Rattle.run_core.specs.declared.play.Progressed.{Progressed}
 use Rattle.run_core.specs.declared.play.Progressed.TheVariants as progressed
-use Rattle.run_transcript.specs.declared.fault.RunFault.{RunFault}
-use Rattle.run_transcript.specs.declared.fault.RunFault.TheVariants as faults
+use Rattle.run_core_transcript.specs.declared.fault.RunFault.{RunFault}
+use Rattle.run_core_transcript.specs.declared.fault.RunFault.TheVariants as faults
 use Rattle.run_core.specs.declared.play.Play.{Play}
-use Rattle.run_transcript.specs.Texts.{events_text, ending_text, dump_text, with_last_line}
+use Rattle.run_core_transcript.specs.Texts.{events_text, ending_text, dump_text, with_last_line}
 use Rattle.run_core.specs.Moments.{due_in, IsDue}
-use Rattle.run_interaction.specs.Asked.{Answering}
-use Rattle.run_interaction.specs.Touched.{last_of, touched}
+use Rattle.run_core_interaction.specs.Asked.{Answering}
+use Rattle.run_core_interaction.specs.Touched.{last_of, touched}
 use Rattle.run_core.specs.Chains.{Chain}
 use Rattle.run_core.specs.Runs.{Ends, LineRefused, FileMissing, Comes, ShelfFault, CameTo}
 

@@ -15,11 +15,11 @@ use Rattle.code_words.specs.declared.image.Image.{Image}
 use Rattle.code_words.specs.Table.{State}
 use Rattle.code_words.specs.Runs.{CodeRun}
 use Rattle.code_words.specs.Dumps.{blocks_held}
-use Rattle.run_transcript.specs.declared.fault.RunFault.{RunFault}
-use Rattle.run_transcript.specs.declared.fault.RunFault.TheVariants as faults
-use Rattle.run_transcript.specs.Texts.{run_text, front_text}
+use Rattle.run_core_transcript.specs.declared.fault.RunFault.{RunFault}
+use Rattle.run_core_transcript.specs.declared.fault.RunFault.TheVariants as faults
+use Rattle.run_core_transcript.specs.Texts.{run_text, front_text}
 use Rattle.run_core.specs.Moments.{due_in, IsDue}
-use Rattle.run_interaction.specs.Asked.{Answering}
+use Rattle.run_core_interaction.specs.Asked.{Answering}
 use Rattle.run_core.specs.Chains.{Chain}
 
 -- what a run comes to where no device fails: an ending, or an act that can't be given

@@ -7,10 +7,10 @@ ghost use Rattle.act_words.specs.Acts.{act_view};
 ghost use Rattle.code_words.specs.declared.image.Image.{Image as ImageData};
 ghost use Rattle.code_words.specs.Fitting.{Fits};
 ghost use Rattle.code_words.specs.Left.{LeavesTurn};
-ghost use Rattle.two_memory_machine.specs.Machines.{IsStart, waiting_of, turn_of, moves_left};
-ghost use Rattle.run_transcript.specs.Texts.{dump_text};
-ghost use Rattle.run_interaction.specs.Asked.{AskAnswers, AskLowers, PlayCounts};
-ghost use Rattle.run_interaction.specs.Inputs.{TakesInput};
+ghost use Rattle.two_memory_machine_states.specs.Machines.{IsStart, waiting_of, turn_of, moves_left};
+ghost use Rattle.run_core_transcript.specs.Texts.{dump_text};
+ghost use Rattle.run_core_interaction.specs.Asked.{AskAnswers, AskLowers, PlayCounts};
+ghost use Rattle.run_core_interaction.specs.Inputs.{TakesInput};
 ghost use Rattle.run_core.specs.Progress.{Played, PlayGoes, PlayEnds, IsAsked, Steps, Takes, TakesNone, Tells, NearsBy, Nears, FallsUnless, IsOnward, ending_in, moment_in, blocks_of};
 
 use crate::dump::add_blocks;
@@ -20,18 +20,18 @@ use act_words::settings::Settings;
 use ckc_io::shelf::Shelf;
 use ckc_text::fault::NoMemory;
 use code_words::image::Image;
-use instruction_steps::running;
-use machine_interaction::acts;
-use machine_interaction::ending::ending_of;
-use run_interaction::ask::ask;
-use run_interaction::input::next_input;
-use run_interaction::touch::touch;
-use run_transcript::fault::RunFault;
-use run_transcript::transcript;
+use two_memory_machine_steps::running;
+use two_memory_machine_acts::acts;
+use two_memory_machine_acts::ending::ending_of;
+use run_core_interaction::ask::ask;
+use run_core_interaction::input::next_input;
+use run_core_interaction::touch::touch;
+use run_core_transcript::fault::RunFault;
+use run_core_transcript::transcript;
 use sandbox_actor::actor::{Actor, Now};
 use std::alloc::Global;
-use two_memory_machine::event::{Event, Waiting};
-use two_memory_machine::machine::Machine;
+use two_memory_machine_states::event::{Event, Waiting};
+use two_memory_machine_states::machine::Machine;
 
 /// A run so far.
 #[derive(Drop)]

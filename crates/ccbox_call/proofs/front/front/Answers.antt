@@ -2,9 +2,9 @@ use Rattle.std.proofs.Common.{◌≡◌, length, true, Err, sym, ap, ◌∙◌, 
 use Rattle.std.proofs.lemmas.Result.{err_from_is_err_and}
 use Rattle.ckc_tree.specs.Items.{Tree, tree}
 use Rattle.built_forms.specs.Built.{is_built}
-use Rattle.ckc_grammar.specs.Parsing.{ParseAnswers}
-use Rattle.ckc_names.specs.Naming.{NamedTree}
-use Rattle.name_resolution.specs.Named.{named_tree}
+use Rattle.ckc_parser_grammar.specs.Parsing.{ParseAnswers}
+use Rattle.ckc_names_rules.specs.Naming.{NamedTree}
+use Rattle.ckc_names.specs.Named.{named_tree}
 use Rattle.ccbox_call.proofs.Fronts.{tokens_short, lex_refuses, parse_refuses, has_tree, forms_refuse, names_refuse, check_answers}
 use Rattle.ccbox_call.proofs.front.front.Goals as goal
 

@@ -1,5 +1,5 @@
 use Rattle.std.proofs.Common.{refl, ◌∙◌, subst, inl, arith}
-use Rattle.command_words.specs.Requested.{options as options_view}
+use Rattle.ccbox_call_words.specs.Requested.{options as options_view}
 use Rattle.ccbox_call.specs.Answers.{SourceAnswer, missing, source}
 use Rattle.ccbox_call.specs.Calls.{files_failed, no_memory}
 use Rattle.ccbox_call.proofs.Giving.{gives_as, gives_from, same_counts, line_gives, whole_file}

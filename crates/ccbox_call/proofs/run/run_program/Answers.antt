@@ -2,7 +2,7 @@ use Rattle.std.proofs.Common.{ℕ, List, refl, sym, ap, ◌∙◌, inl, arith, S
 use Rattle.ckc_core.specs.Core.{core}
 use Rattle.sandbox_actor.specs.ActLists.{acts_of_file}
 use Rattle.ccbox_call.specs.Answers.{acts_at, acts_missing}
-use Rattle.command_words.specs.Requested.{options as options_view}
+use Rattle.ccbox_call_words.specs.Requested.{options as options_view}
 use Rattle.ccbox_call.specs.Calls.{files_failed, no_memory}
 use Rattle.ccbox_call.proofs.Giving.{gives_as, gives_from, same_counts, line_gives, list_core}
 use Rattle.ccbox_call.proofs.run.run_program.Goals as goal

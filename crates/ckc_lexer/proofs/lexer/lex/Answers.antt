@@ -4,7 +4,7 @@ use Rattle.ckc_text.specs.declared.fault.SourceFault.{SourceFault}
 use Rattle.ckc_text.specs.declared.fault.Refused.{Refused}
 use Rattle.ckc_text.specs.declared.fault.Refused.TheVariants.{Source, NoMemory}
 use Rattle.ckc_lexer.specs.declared.lexer.Lexer.{Lexer}
-use Rattle.ckc_tokens.specs.declared.token.Token.{Token}
+use Rattle.ckc_lexer_tokens.specs.declared.token.Token.{Token}
 use Rattle.ckc_lexer.specs.Tokens.{Cut, ends, stops, goes, great, cut, initial, LexAnswers}
 use Rattle.ckc_lexer.specs.Progress.{state_of, Steps}
 use Rattle.ckc_lexer.proofs.lexer.lex.Goals as goal

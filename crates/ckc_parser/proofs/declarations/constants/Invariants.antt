@@ -1,7 +1,7 @@
 use Rattle.std.proofs.Common.{length}
-use Rattle.ckc_grammar.specs.StatementGrammar.{SpellsConstants}
-use Rattle.ckc_grammar.specs.StuckStatements.{StuckConstants}
-use Rattle.ckc_grammar.proofs.Lists.{GoesOn}
+use Rattle.ckc_parser_grammar.specs.StatementGrammar.{SpellsConstants}
+use Rattle.ckc_parser_grammar.specs.StuckStatements.{StuckConstants}
+use Rattle.ckc_parser_grammar.proofs.Lists.{GoesOn}
 use Rattle.ckc_parser.proofs.declarations.constants.Given as goal
 
 abbrev pub invariant-constants : goal.invariant-constants

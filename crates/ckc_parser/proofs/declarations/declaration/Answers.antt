@@ -1,10 +1,10 @@
 use Rattle.std.proofs.Common.{◌<◌, arith, add-one}
-use Rattle.ckc_cursor.proofs.Readings.{low_around}
+use Rattle.ckc_parser_cursor.proofs.Readings.{low_around}
 use Rattle.ckc_parser.proofs.Assignments.{deep_declaration}
-use Rattle.ckc_expr_parser.proofs.ContextSteps.{low_beside}
-use Rattle.ckc_grammar.specs.StatementGrammar as g
-use Rattle.ckc_grammar.specs.StuckStatements as stuck
-use Rattle.ckc_cursor.proofs.Readings.{err}
+use Rattle.ckc_parser_expressions.proofs.ContextSteps.{low_beside}
+use Rattle.ckc_parser_grammar.specs.StatementGrammar as g
+use Rattle.ckc_parser_grammar.specs.StuckStatements as stuck
+use Rattle.ckc_parser_cursor.proofs.Readings.{err}
 use Rattle.ckc_parser.proofs.declarations.declaration.Goals as goal
 
 pub returns-then-depth-ge-MAX_DEPTH : goal.returns-then-depth-ge-MAX_DEPTH

@@ -1,8 +1,8 @@
-use Rattle.ckc_expr_parser.proofs.ContextSteps.{low_beside}
-use Rattle.ckc_grammar.specs.StatementGrammar as g
-use Rattle.ckc_grammar.specs.StuckStatements as stuck
-use Rattle.ckc_grammar.specs.StuckStatements.{StuckDeclarator}
-use Rattle.ckc_cursor.proofs.Readings.{err, name_fails}
+use Rattle.ckc_parser_expressions.proofs.ContextSteps.{low_beside}
+use Rattle.ckc_parser_grammar.specs.StatementGrammar as g
+use Rattle.ckc_parser_grammar.specs.StuckStatements as stuck
+use Rattle.ckc_parser_grammar.specs.StuckStatements.{StuckDeclarator}
+use Rattle.ckc_parser_cursor.proofs.Readings.{err, name_fails}
 use Rattle.ckc_parser.proofs.declarations.declarator.Goals as goal
 
 pub returns-in_err-name : goal.returns-in_err-name

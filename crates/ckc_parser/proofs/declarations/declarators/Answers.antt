@@ -1,11 +1,11 @@
 use Rattle.std.proofs.Common.{length, ap, arith}
-use Rattle.ckc_expr_parser.proofs.ContextSteps.{low_beside}
-use Rattle.ckc_grammar.proofs.Lists.{goes_on, ends}
-use Rattle.ckc_grammar.proofs.Paths.{shorter}
-use Rattle.ckc_grammar.proofs.StatementPaths.{declarator_path}
-use Rattle.ckc_grammar.specs.StatementGrammar as g
-use Rattle.ckc_grammar.specs.StuckStatements as stuck
-use Rattle.ckc_cursor.proofs.Readings.{err}
+use Rattle.ckc_parser_expressions.proofs.ContextSteps.{low_beside}
+use Rattle.ckc_parser_grammar.proofs.Lists.{goes_on, ends}
+use Rattle.ckc_parser_grammar.proofs.Paths.{shorter}
+use Rattle.ckc_parser_grammar.proofs.StatementPaths.{declarator_path}
+use Rattle.ckc_parser_grammar.specs.StatementGrammar as g
+use Rattle.ckc_parser_grammar.specs.StuckStatements as stuck
+use Rattle.ckc_parser_cursor.proofs.Readings.{err}
 use Rattle.ckc_parser.proofs.declarations.declarators.Goals as goal
 
 pub returns-in_err-item : goal.returns-in_err-item

@@ -1,6 +1,6 @@
 use Rattle.std.proofs.Common.{length}
-use Rattle.ckc_grammar.specs.StuckStatements.{StuckDeclarators}
-use Rattle.ckc_grammar.proofs.Lists.{GoesOn, AreDeclarators}
+use Rattle.ckc_parser_grammar.specs.StuckStatements.{StuckDeclarators}
+use Rattle.ckc_parser_grammar.proofs.Lists.{GoesOn, AreDeclarators}
 use Rattle.ckc_parser.proofs.declarations.declarators.Given as goal
 
 abbrev pub invariant-declarators : goal.invariant-declarators

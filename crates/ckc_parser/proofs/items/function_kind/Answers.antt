@@ -1,5 +1,5 @@
 use Rattle.ckc_parser.proofs.FileLevel.{is_kind}
-use Rattle.ckc_grammar.specs.ItemGrammar as g
+use Rattle.ckc_parser_grammar.specs.ItemGrammar as g
 use Rattle.ckc_parser.proofs.items.function_kind.Goals as goal
 
 pub returns-in-Ok : goal.returns-in-Ok

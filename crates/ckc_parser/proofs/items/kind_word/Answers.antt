@@ -1,5 +1,5 @@
 use Rattle.ckc_parser.specs.ItemReadings as readings
-use Rattle.ckc_cursor.proofs.SingleWords.{word_at}
+use Rattle.ckc_parser_cursor.proofs.SingleWords.{word_at}
 use Rattle.ckc_parser.proofs.items.kind_word.Goals as goal
 
 pub returns-in-Tainted : goal.returns-in-Tainted

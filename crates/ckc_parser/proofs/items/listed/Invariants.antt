@@ -1,6 +1,6 @@
 use Rattle.std.proofs.Common.{length}
-use Rattle.ckc_grammar.specs.StuckItems.{StuckListed}
-use Rattle.ckc_grammar.proofs.Lists.{GoesOn, AreParameters}
+use Rattle.ckc_parser_grammar.specs.StuckItems.{StuckListed}
+use Rattle.ckc_parser_grammar.proofs.Lists.{GoesOn, AreParameters}
 use Rattle.ckc_parser.proofs.items.listed.Given as goal
 
 abbrev pub invariant-listed : goal.invariant-listed

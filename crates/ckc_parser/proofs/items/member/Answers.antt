@@ -1,7 +1,7 @@
-use Rattle.ckc_grammar.specs.ItemGrammar as g
-use Rattle.ckc_grammar.specs.StuckItems as stuck
-use Rattle.ckc_grammar.specs.StuckItems.{StuckMember}
-use Rattle.ckc_cursor.proofs.Readings.{err, name_fails}
+use Rattle.ckc_parser_grammar.specs.ItemGrammar as g
+use Rattle.ckc_parser_grammar.specs.StuckItems as stuck
+use Rattle.ckc_parser_grammar.specs.StuckItems.{StuckMember}
+use Rattle.ckc_parser_cursor.proofs.Readings.{err, name_fails}
 use Rattle.ckc_parser.proofs.items.member.Goals as goal
 
 pub returns-in_err-read : goal.returns-in_err-read

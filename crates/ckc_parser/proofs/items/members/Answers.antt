@@ -1,10 +1,10 @@
 use Rattle.std.proofs.Common.{length, ap, arith}
-use Rattle.ckc_expr_parser.proofs.ContextSteps.{low_beside}
+use Rattle.ckc_parser_expressions.proofs.ContextSteps.{low_beside}
 use Rattle.ckc_parser.proofs.FileLevel.{member_shorter}
-use Rattle.ckc_grammar.proofs.Lists.{goes_on, ends}
-use Rattle.ckc_grammar.specs.ItemGrammar as g
-use Rattle.ckc_grammar.specs.StuckItems as stuck
-use Rattle.ckc_cursor.proofs.Readings.{err}
+use Rattle.ckc_parser_grammar.proofs.Lists.{goes_on, ends}
+use Rattle.ckc_parser_grammar.specs.ItemGrammar as g
+use Rattle.ckc_parser_grammar.specs.StuckItems as stuck
+use Rattle.ckc_parser_cursor.proofs.Readings.{err}
 use Rattle.ckc_parser.proofs.items.members.Goals as goal
 
 pub returns-in_err-item : goal.returns-in_err-item

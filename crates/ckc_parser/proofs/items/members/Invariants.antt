@@ -1,6 +1,6 @@
 use Rattle.std.proofs.Common.{length}
-use Rattle.ckc_grammar.specs.StuckItems.{StuckMembers}
-use Rattle.ckc_grammar.proofs.Lists.{GoesOn, AreMembers}
+use Rattle.ckc_parser_grammar.specs.StuckItems.{StuckMembers}
+use Rattle.ckc_parser_grammar.proofs.Lists.{GoesOn, AreMembers}
 use Rattle.ckc_parser.proofs.items.members.Given as goal
 
 abbrev pub invariant-members : goal.invariant-members

@@ -1,4 +1,4 @@
-use Rattle.ckc_grammar.specs.ItemGrammar as g
+use Rattle.ckc_parser_grammar.specs.ItemGrammar as g
 use Rattle.ckc_parser.proofs.items.optional_mark.Goals as goal
 
 pub returns-in-Ok : goal.returns-in-Ok

@@ -1,4 +1,4 @@
-use Rattle.ckc_grammar.specs.ItemGrammar as g
+use Rattle.ckc_parser_grammar.specs.ItemGrammar as g
 use Rattle.ckc_parser.proofs.items.region_of.Goals as goal
 
 pub returns-in-On : goal.returns-in-On

@@ -1,5 +1,5 @@
 use Rattle.ckc_parser.specs.ItemReadings as readings
-use Rattle.ckc_grammar.specs.StuckItems as stuck
+use Rattle.ckc_parser_grammar.specs.StuckItems as stuck
 use Rattle.ckc_parser.proofs.items.side.Goals as goal
 
 pub returns-in-Some : goal.returns-in-Some

@@ -1,4 +1,4 @@
-use Rattle.ckc_grammar.specs.StuckStatements.{open_brace}
+use Rattle.ckc_parser_grammar.specs.StuckStatements.{open_brace}
 use Rattle.ckc_parser.proofs.FileLevel.{no_struct, no_name, structure_at}
 use Rattle.ckc_parser.proofs.items.structure_head.Goals as goal
 

@@ -1,11 +1,11 @@
 use Rattle.std.proofs.Common.{arith}
-use Rattle.ckc_grammar.specs.Parsing.{point}
-use Rattle.ckc_expr_parser.proofs.ContextSteps.{low_beside}
+use Rattle.ckc_parser_grammar.specs.Parsing.{point}
+use Rattle.ckc_parser_expressions.proofs.ContextSteps.{low_beside}
 use Rattle.ckc_parser.proofs.FileLevel.{stuck_first, item_shorter, none_left}
-use Rattle.ckc_grammar.proofs.Lists.{goes_on}
-use Rattle.ckc_grammar.specs.ItemGrammar as g
-use Rattle.ckc_grammar.specs.StuckItems as stuck
-use Rattle.ckc_cursor.proofs.Readings.{err}
+use Rattle.ckc_parser_grammar.proofs.Lists.{goes_on}
+use Rattle.ckc_parser_grammar.specs.ItemGrammar as g
+use Rattle.ckc_parser_grammar.specs.StuckItems as stuck
+use Rattle.ckc_parser_cursor.proofs.Readings.{err}
 use Rattle.ckc_parser.proofs.parser.items.Goals as goal
 
 pub returns : goal.returns

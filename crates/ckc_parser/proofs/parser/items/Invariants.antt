@@ -1,6 +1,6 @@
 use Rattle.std.proofs.Common.{length}
-use Rattle.ckc_grammar.specs.StuckItems.{StuckItems}
-use Rattle.ckc_grammar.proofs.Lists.{GoesOn, AreItems}
+use Rattle.ckc_parser_grammar.specs.StuckItems.{StuckItems}
+use Rattle.ckc_parser_grammar.proofs.Lists.{GoesOn, AreItems}
 use Rattle.ckc_parser.proofs.parser.items.Given as goal
 
 abbrev pub invariant-items : goal.invariant-items

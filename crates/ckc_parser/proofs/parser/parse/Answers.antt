@@ -1,6 +1,6 @@
 use Rattle.std.proofs.Common.{arith}
-use Rattle.ckc_grammar.specs.ItemGrammar as g
-use Rattle.ckc_grammar.proofs.WholeForms.{stuck_is_fault}
+use Rattle.ckc_parser_grammar.specs.ItemGrammar as g
+use Rattle.ckc_parser_grammar.proofs.WholeForms.{stuck_is_fault}
 use Rattle.ckc_parser.proofs.parser.parse.Goals as goal
 
 pub returns-in-Ok : goal.returns-in-Ok

@@ -1,17 +1,17 @@
 use Rattle.std.proofs.Common.{◌≡◌, ◌≤◌, [], ◌∷◌, ◌++◌, length, true, sym, ap, ◌∙◌, arith, add-one}
 use Rattle.ckc_tree.specs.Statements.{statement}
-use Rattle.ckc_grammar.specs.Tokens.{next_is}
-use Rattle.ckc_grammar.specs.StuckStatements.{plain_word, statement_word}
-use Rattle.ckc_cursor.proofs.Readings.{begins, next, next_none, low_around}
-use Rattle.ckc_expr_parser.proofs.ContextSteps.{low_beside}
-use Rattle.ckc_grammar.proofs.Lists.{goes_on, ended}
-use Rattle.ckc_grammar.proofs.Paths.{shorter}
-use Rattle.ckc_grammar.proofs.StatementPaths.{statement_path}
+use Rattle.ckc_parser_grammar.specs.Tokens.{next_is}
+use Rattle.ckc_parser_grammar.specs.StuckStatements.{plain_word, statement_word}
+use Rattle.ckc_parser_cursor.proofs.Readings.{begins, next, next_none, low_around}
+use Rattle.ckc_parser_expressions.proofs.ContextSteps.{low_beside}
+use Rattle.ckc_parser_grammar.proofs.Lists.{goes_on, ended}
+use Rattle.ckc_parser_grammar.proofs.Paths.{shorter}
+use Rattle.ckc_parser_grammar.proofs.StatementPaths.{statement_path}
 use Rattle.ckc_parser.proofs.Blocks as blocks
 use Rattle.ckc_parser.proofs.Blocks.{no_other_word, condition_shorter, head_shorter, statement_shorter}
-use Rattle.ckc_grammar.specs.StatementGrammar as g
-use Rattle.ckc_grammar.specs.StuckStatements as stuck
-use Rattle.ckc_cursor.proofs.Readings.{err}
+use Rattle.ckc_parser_grammar.specs.StatementGrammar as g
+use Rattle.ckc_parser_grammar.specs.StuckStatements as stuck
+use Rattle.ckc_parser_cursor.proofs.Readings.{err}
 use Rattle.ckc_parser.proofs.statements.+statements.Goals as goal
 
 pub statement-returns-in_default : goal.statement-returns-in_default

@@ -1,6 +1,6 @@
 use Rattle.std.proofs.Common.{◌+◌, ◌*◌, ◌≤◌, length}
-use Rattle.ckc_grammar.specs.StuckStatements.{StuckStatements}
-use Rattle.ckc_grammar.proofs.Lists.{GoesOn, AreStatements}
+use Rattle.ckc_parser_grammar.specs.StuckStatements.{StuckStatements}
+use Rattle.ckc_parser_grammar.proofs.Lists.{GoesOn, AreStatements}
 use Rattle.ckc_parser.proofs.statements.+statements.Given as goal
 
 -- each call has fewer tokens, or as many and a function that is lower here

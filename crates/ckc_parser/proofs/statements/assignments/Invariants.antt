@@ -1,6 +1,6 @@
 use Rattle.std.proofs.Common.{length}
-use Rattle.ckc_grammar.specs.StuckStatements.{StuckAssignments}
-use Rattle.ckc_grammar.proofs.Lists.{GoesOn, AreAssignments}
+use Rattle.ckc_parser_grammar.specs.StuckStatements.{StuckAssignments}
+use Rattle.ckc_parser_grammar.proofs.Lists.{GoesOn, AreAssignments}
 use Rattle.ckc_parser.proofs.statements.assignments.Given as goal
 
 abbrev pub invariant-assignments : goal.invariant-assignments

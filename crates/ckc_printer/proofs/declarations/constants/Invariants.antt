@@ -1,5 +1,5 @@
 use Rattle.std.proofs.Common.{drop}
-use Rattle.printed_signs.specs.Pieces.{with_commas}
+use Rattle.ckc_printer.specs.Pieces.{with_commas}
 use Rattle.ckc_printer.specs.StatementPieces.{constant_pieces}
 use Rattle.ckc_printer.specs.Slices.{commas_from}
 use Rattle.ckc_printer.specs.Output.{Leaves}

@@ -1,5 +1,5 @@
 use Rattle.std.proofs.Common.{drop}
-use Rattle.printed_signs.specs.ExpressionPieces.{arguments_pieces}
+use Rattle.ckc_printer.specs.ExpressionPieces.{arguments_pieces}
 use Rattle.ckc_printer.specs.Slices.{expressions_of, arguments_from}
 use Rattle.ckc_printer.specs.Output.{Leaves}
 use Rattle.ckc_printer.specs.Spaced.{spaced_text}

@@ -1,6 +1,6 @@
 use Rattle.std.proofs.Common.{drop, map}
 use Rattle.ckc_tree.specs.Items.{parameter}
-use Rattle.printed_signs.specs.Pieces.{with_commas}
+use Rattle.ckc_printer.specs.Pieces.{with_commas}
 use Rattle.ckc_printer.specs.ItemPieces.{member_pieces}
 use Rattle.ckc_printer.specs.Slices.{commas_from}
 use Rattle.ckc_printer.specs.Output.{Leaves}

@@ -2,7 +2,7 @@ use Rattle.std.proofs.Common.{◌≡◌, true, [], map, drop, ap, sym, ◌∙◌
 use Rattle.std.proofs.lemmas.List.{drop_all}
 use Rattle.std.proofs.lemmas.Result.{IfOk-weaker}
 use Rattle.ckc_tree.specs.Items.{item}
-use Rattle.printed_signs.specs.Pieces.{text_of}
+use Rattle.ckc_printer.specs.Pieces.{text_of}
 use Rattle.ckc_printer.specs.ItemPieces.{item_pieces}
 use Rattle.std.specs.List.{flat_map}
 use Rattle.ckc_printer.specs.Laid.{items_behind, finished}

@@ -1,6 +1,6 @@
 use Rattle.std.proofs.Common.{drop}
 use Rattle.std.specs.List.{flat_map}
-use Rattle.printed_signs.specs.Pieces.{quoted_byte}
+use Rattle.ckc_printer.specs.Pieces.{quoted_byte}
 use Rattle.ckc_printer.specs.Output.{Leaves}
 use Rattle.ckc_printer.proofs.quoted.content.Given as goal
 

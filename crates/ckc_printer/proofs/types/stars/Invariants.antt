@@ -1,5 +1,5 @@
 use Rattle.std.proofs.Common.{◌-◌}
-use Rattle.printed_signs.specs.TypePieces.{stars_pieces}
+use Rattle.ckc_printer.specs.TypePieces.{stars_pieces}
 use Rattle.ckc_printer.specs.Output.{Leaves}
 use Rattle.ckc_printer.specs.Spaced.{spaced_text}
 use Rattle.ckc_printer.proofs.types.stars.Given as goal

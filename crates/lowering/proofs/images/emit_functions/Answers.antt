@@ -1,5 +1,5 @@
-use Rattle.lowered_code.specs.Correct.{IsFunction}
-use Rattle.lowered_code.proofs.Slices.{function_at}
+use Rattle.lowering_code.specs.Correct.{IsFunction}
+use Rattle.lowering_code.proofs.Slices.{function_at}
 use Rattle.lowering.proofs.images.emit_functions.Goals as goal
 
 pub emit_function-requires : goal.emit_function-requires

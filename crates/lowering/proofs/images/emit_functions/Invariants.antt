@@ -1,6 +1,6 @@
 use Rattle.std.proofs.Common.{◌≡◌, ◌++◌, map, drop}
 use Rattle.ckc_core.specs.Core.{function}
-use Rattle.lowered_code.specs.Images.{functions_from}
+use Rattle.lowering_code.specs.Images.{functions_from}
 use Rattle.lowering.proofs.images.emit_functions.Given as goal
 
 -- the functions so far and those that are left are all

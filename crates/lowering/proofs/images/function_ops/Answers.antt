@@ -1,7 +1,7 @@
 use Rattle.std.proofs.Common.{length, ap, arith}
 use Rattle.ckc_core.specs.Core.{statements_of}
-use Rattle.lowered_code.specs.Code.{statements_size}
-use Rattle.lowered_code.proofs.Weights.{body_short}
+use Rattle.lowering_code.specs.Code.{statements_size}
+use Rattle.lowering_code.proofs.Weights.{body_short}
 use Rattle.lowering.proofs.images.function_ops.Goals as goal
 
 pub statements_size-end-requires : goal.statements_size-end-requires

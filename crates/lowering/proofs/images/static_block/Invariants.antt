@@ -1,6 +1,6 @@
 use Rattle.std.proofs.Common.{◌≡◌, ◌++◌, map, drop}
 use Rattle.ckc_core.specs.Core.{initial}
-use Rattle.lowered_code.specs.Images.{object_bytes}
+use Rattle.lowering_code.specs.Images.{object_bytes}
 use Rattle.lowering.proofs.images.static_block.Given as goal
 
 -- the bytes so far and those of the cells that are left are those of all

@@ -1,6 +1,6 @@
 use Rattle.std.proofs.Common.{◌≡◌, ◌++◌, map, drop}
 use Rattle.ckc_core.specs.Core.{import_of}
-use Rattle.lowered_code.specs.Images.{imports_from}
+use Rattle.lowering_code.specs.Images.{imports_from}
 use Rattle.lowering.proofs.images.tainted_imports.Given as goal
 
 -- the imports so far and those that are left are all

@@ -1,8 +1,8 @@
 use Rattle.std.proofs.Common.{sym, subst}
 use Rattle.std.proofs.lemmas.Result.{IfOk-weaker}
 use Rattle.ckc_core.specs.Core.{core}
-use Rattle.lowered_code.specs.Correct.{KeepsMeaning}
-use Rattle.lowered_code.proofs.Fits.{image_keeps}
+use Rattle.lowering_code.specs.Correct.{KeepsMeaning}
+use Rattle.lowering_code.proofs.Fits.{image_keeps}
 use Rattle.lowering.proofs.lower.lower.Goals as goal
 
 pub returns-clause-meaning : goal.returns-clause-meaning

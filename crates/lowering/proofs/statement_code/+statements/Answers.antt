@@ -3,10 +3,10 @@ use Rattle.std.proofs.lemmas.Result.{IfOk-weaker}
 use Rattle.ckc_core.specs.declared.program.Stmt.{the_lemmas}
 use Rattle.ckc_core.specs.Core as core
 use Rattle.ckc_core.specs.Core.{expression, statement}
-use Rattle.lowered_code.specs.Code.{statement_size, statement_code}
-use Rattle.code_fragments.specs.Views.{targets_of}
-use Rattle.lowered_code.proofs.Slices.{block_of}
-use Rattle.lowered_code.proofs.Emitting.{place_after, after_condition, after_statement, if_emitted, loop_emitted, statement_room, statements_emitted}
+use Rattle.lowering_code.specs.Code.{statement_size, statement_code}
+use Rattle.lowering_fragments.specs.Views.{targets_of}
+use Rattle.lowering_code.proofs.Slices.{block_of}
+use Rattle.lowering_code.proofs.Emitting.{place_after, after_condition, after_statement, if_emitted, loop_emitted, statement_room, statements_emitted}
 use Rattle.lowering.proofs.statement_code.+statements.Goals as goal
 
 pub emit_statement-returns-in-Block : goal.emit_statement-returns-in-Block

@@ -1,7 +1,7 @@
 use Rattle.std.proofs.Common.{◌≡◌, ◌++◌, length, drop}
 use Rattle.ckc_core.specs.Core.{statements_of}
-use Rattle.lowered_code.specs.Code.{statements_code}
-use Rattle.code_fragments.specs.Views.{targets_of}
+use Rattle.lowering_code.specs.Code.{statements_code}
+use Rattle.lowering_fragments.specs.Views.{targets_of}
 use Rattle.lowering.proofs.statement_code.+statements.Given as goal
 
 -- the code so far and that of the statements that are left are that of all

@@ -1,6 +1,6 @@
 use Rattle.std.proofs.lemmas.Result.{IfOk-weaker}
 use Rattle.ckc_core.specs.Core.{expression}
-use Rattle.lowered_code.proofs.Emitting.{local_update_emitted}
+use Rattle.lowering_code.proofs.Emitting.{local_update_emitted}
 use Rattle.lowering.proofs.statement_code.emit_local_update.Goals as goal
 
 pub returns : goal.returns

@@ -2,9 +2,9 @@ use Rattle.std.proofs.Common.{length, refl, arith}
 use Rattle.std.proofs.lemmas.Result.{IfOk-weaker}
 use Rattle.pointer_modes.specs.Types.{ctype}
 use Rattle.ckc_core.specs.Core.{expression, place}
-use Rattle.lowered_code.specs.Code.{place_size, place_code}
-use Rattle.lowered_code.proofs.Sizes.{length_place}
-use Rattle.lowered_code.proofs.Emitting.{place_after, update_emitted}
+use Rattle.lowering_code.specs.Code.{place_size, place_code}
+use Rattle.lowering_code.proofs.Sizes.{length_place}
+use Rattle.lowering_code.proofs.Emitting.{place_after, update_emitted}
 use Rattle.lowering.proofs.statement_code.emit_update.Goals as goal
 
 pub returns : goal.returns

@@ -1,4 +1,4 @@
-use Rattle.checker_scope.proofs.Going.{goes_on, refused}
+use Rattle.region_typing_scope.proofs.Going.{goes_on, refused}
 use Rattle.region_typing.proofs.checker.core_of_items.Goals as goal
 
 pub returns-in_err-items : goal.returns-in_err-items

@@ -1,8 +1,8 @@
 use Rattle.std.proofs.Common.{[], ◌++◌, map, length, sym, ap, ◌∙◌}
 use Rattle.std.proofs.lemmas.List.{append-nil, length-map, nil_from_length}
 use Rattle.ckc_core.specs.Core.{function}
-use Rattle.typing_rules.specs.Cores.{trusted_functions}
-use Rattle.checker_scope.specs.Views.{signature}
+use Rattle.region_typing_rules.specs.Cores.{trusted_functions}
+use Rattle.region_typing_scope.specs.Views.{signature}
 use Rattle.region_typing.proofs.Placing.{body_popped}
 use Rattle.region_typing.proofs.cores.functions.Goals as goal
 

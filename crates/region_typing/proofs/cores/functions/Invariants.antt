@@ -1,7 +1,7 @@
 use Rattle.std.proofs.Common.{◌≡◌, [], ◌++◌, List, length, map}
 use Rattle.ckc_core.specs.Core.{function, Function}
-use Rattle.typing_rules.specs.Cores.{trusted_functions}
-use Rattle.checker_scope.specs.Views.{signature}
+use Rattle.region_typing_rules.specs.Cores.{trusted_functions}
+use Rattle.region_typing_scope.specs.Views.{signature}
 use Rattle.region_typing.proofs.cores.functions.Given as goal
 
 -- those that were put in their places stand behind those that are left

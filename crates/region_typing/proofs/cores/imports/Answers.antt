@@ -1,7 +1,7 @@
 use Rattle.std.proofs.Common.{map, arith}
 use Rattle.ckc_core.specs.Core.{import_of}
-use Rattle.typing_rules.specs.Cores.{tainted_functions}
-use Rattle.checker_scope.specs.Views.{signature}
+use Rattle.region_typing_rules.specs.Cores.{tainted_functions}
+use Rattle.region_typing_scope.specs.Views.{signature}
 use Rattle.region_typing.proofs.CoreLists.{tainted_more, tainted_done}
 use Rattle.region_typing.proofs.cores.imports.Goals as goal
 

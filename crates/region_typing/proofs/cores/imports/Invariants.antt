@@ -1,7 +1,7 @@
 use Rattle.std.proofs.Common.{◌≡◌, ◌++◌, map, drop}
 use Rattle.ckc_core.specs.Core.{import_of}
-use Rattle.typing_rules.specs.Cores.{tainted_functions}
-use Rattle.checker_scope.specs.Views.{signature}
+use Rattle.region_typing_rules.specs.Cores.{tainted_functions}
+use Rattle.region_typing_scope.specs.Views.{signature}
 use Rattle.region_typing.proofs.cores.imports.Given as goal
 
 -- the tainted functions so far, and those that are left

@@ -1,6 +1,6 @@
 use Rattle.std.proofs.Common.{◌≡◌, Some, None, length, map, sym, ap, ◌∙◌}
 use Rattle.std.proofs.lemmas.List.{length-set}
-use Rattle.checker_scope.specs.Views.{signature}
+use Rattle.region_typing_scope.specs.Views.{signature}
 use Rattle.region_typing.specs.CoreParts.{trusted_place}
 use Rattle.region_typing.proofs.Placing.{body_put, body_left, place_within}
 use Rattle.region_typing.proofs.cores.place.Goals as goal

@@ -1,7 +1,7 @@
 use Rattle.std.proofs.Common.{[], map, arith}
 use Rattle.ckc_core.specs.Core.{function}
-use Rattle.typing_rules.specs.Cores.{trusted_functions}
-use Rattle.checker_scope.specs.Views.{signature}
+use Rattle.region_typing_rules.specs.Cores.{trusted_functions}
+use Rattle.region_typing_scope.specs.Views.{signature}
 use Rattle.region_typing.proofs.CoreLists.{trusted_more, trusted_done}
 use Rattle.region_typing.proofs.cores.without_bodies.Goals as goal
 

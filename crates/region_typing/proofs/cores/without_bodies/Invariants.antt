@@ -1,7 +1,7 @@
 use Rattle.std.proofs.Common.{◌≡◌, [], ◌++◌, map, drop}
 use Rattle.ckc_core.specs.Core.{function}
-use Rattle.typing_rules.specs.Cores.{trusted_functions}
-use Rattle.checker_scope.specs.Views.{signature}
+use Rattle.region_typing_rules.specs.Cores.{trusted_functions}
+use Rattle.region_typing_scope.specs.Views.{signature}
 use Rattle.region_typing.proofs.cores.without_bodies.Given as goal
 
 -- the trusted functions so far, and those that are left

@@ -1,10 +1,10 @@
 use Rattle.std.proofs.Common.{◌<◌, [], length, map, arith}
 use Rattle.ckc_tree.specs.Items as trees
-use Rattle.typing_rules.specs.Items.{listed, parameter_types}
-use Rattle.checker_scope.specs.Views.{scope, variable}
-use Rattle.checker_scope.proofs.Going.{refused_by}
+use Rattle.region_typing_rules.specs.Items.{listed, parameter_types}
+use Rattle.region_typing_scope.specs.Views.{scope, variable}
+use Rattle.region_typing_scope.proofs.Going.{refused_by}
 use Rattle.region_typing.specs.Items.{one_parameter}
-use Rattle.checker_scope.proofs.Steps.{part_more, part_breaks, parts_done}
+use Rattle.region_typing_scope.proofs.Steps.{part_more, part_breaks, parts_done}
 use Rattle.region_typing.proofs.ItemSteps.{parameter_by_step}
 use Rattle.region_typing.proofs.functions.parameter_types.Goals as goal
 

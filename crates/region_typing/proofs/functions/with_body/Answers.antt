@@ -2,11 +2,11 @@ use Rattle.std.proofs.Common.{map}
 use Rattle.ckc_text.specs.Places.{place_at}
 use Rattle.ckc_tree.specs.Items as trees
 use Rattle.ckc_core.specs.Core.{function}
-use Rattle.checker_scope.specs.Views.{scope, signature, variable}
-use Rattle.checker_scope.proofs.Going.{goes_on, refused}
+use Rattle.region_typing_scope.specs.Views.{scope, signature, variable}
+use Rattle.region_typing_scope.proofs.Going.{goes_on, refused}
 use Rattle.region_typing.specs.Items.{walk}
 use Rattle.region_typing.proofs.Bodies.{function_body_parts, bodies_more, scope_kept}
-use Rattle.statement_typing.proofs.Testing.{last}
+use Rattle.region_typing_statements.proofs.Testing.{last}
 use Rattle.region_typing.proofs.functions.with_body.Goals as goal
 
 pub returns-in_err-built : goal.returns-in_err-built

@@ -1,10 +1,10 @@
 use Rattle.std.proofs.Common.{refl}
 use Rattle.ckc_text.specs.Places.{place_at}
 use Rattle.ckc_tree.specs.Items as trees
-use Rattle.checker_scope.proofs.Going.{goes_on, refused}
+use Rattle.region_typing_scope.proofs.Going.{goes_on, refused}
 use Rattle.region_typing.specs.Items.{walk}
 use Rattle.region_typing.proofs.JudgedVariables.{global_judged}
-use Rattle.statement_typing.proofs.Testing.{last}
+use Rattle.region_typing_statements.proofs.Testing.{last}
 use Rattle.region_typing.proofs.globals.global.Goals as goal
 
 pub returns-in_err-room_for_first : goal.returns-in_err-room_for_first

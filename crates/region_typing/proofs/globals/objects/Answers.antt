@@ -1,10 +1,10 @@
 use Rattle.std.proofs.Common.{◌<◌, length, map, get_or, refl, arith}
 use Rattle.std.proofs.lemmas.List.{get_or_default}
 use Rattle.pointer_modes.specs.Types.{ctype}
-use Rattle.checker_scope.proofs.Going.{refused_by}
+use Rattle.region_typing_scope.proofs.Going.{refused_by}
 use Rattle.region_typing.specs.declared.initials.Judged.TheVariants as forms
 use Rattle.region_typing.specs.Items.{walk, judged_variable, one_object, judged_objects}
-use Rattle.checker_scope.proofs.Steps.{part_more, part_breaks, parts_done}
+use Rattle.region_typing_scope.proofs.Steps.{part_more, part_breaks, parts_done}
 use Rattle.region_typing.proofs.globals.objects.Goals as goal
 
 pub loop-v-preserved : goal.loop-v-preserved

@@ -2,8 +2,8 @@ use Rattle.ckc_text.specs.Places.{place_at}
 use Rattle.ckc_tree.specs.Types.{type_tree}
 use Rattle.ckc_tree.specs.Statements.{declarator}
 use Rattle.pointer_modes.specs.Types.{ctype}
-use Rattle.checker_scope.proofs.Going.{refused, refused_by}
-use Rattle.statement_typing.proofs.Testing.{tested}
+use Rattle.region_typing_scope.proofs.Going.{refused, refused_by}
+use Rattle.region_typing_statements.proofs.Testing.{tested}
 use Rattle.region_typing.specs.Items.{walk}
 use Rattle.region_typing.proofs.JudgedVariables.{stars_break, one_more_variable}
 use Rattle.region_typing.proofs.globals.variable.Goals as goal

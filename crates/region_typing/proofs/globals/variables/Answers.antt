@@ -3,9 +3,9 @@ use Rattle.ckc_text.specs.Places.{place_at}
 use Rattle.ckc_tree.specs.Types.{type_tree}
 use Rattle.ckc_tree.specs.Statements.{declarator}
 use Rattle.pointer_modes.specs.Types.{ctype}
-use Rattle.checker_scope.proofs.Going.{refused_by}
+use Rattle.region_typing_scope.proofs.Going.{refused_by}
 use Rattle.region_typing.specs.Items.{walk, judged_variable, judged_variables}
-use Rattle.checker_scope.proofs.Steps.{part_more, part_breaks, parts_done}
+use Rattle.region_typing_scope.proofs.Steps.{part_more, part_breaks, parts_done}
 use Rattle.region_typing.proofs.ItemSteps.{variable_step, variable_by_step, variable_passes, variable_breaks}
 use Rattle.region_typing.proofs.globals.variables.Goals as goal
 

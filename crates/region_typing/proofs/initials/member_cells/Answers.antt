@@ -2,7 +2,7 @@ use Rattle.std.proofs.Common.{◌≡◌, ◌+◌, length, refl, ap, sym, ◌∙�
 use Rattle.std.proofs.lemmas.Int.{to_z-of_z}
 use Rattle.std.proofs.lemmas.List.{length-append}
 use Rattle.pointer_modes.specs.Types.{ctype}
-use Rattle.typing_rules.specs.Items.{cells_with}
+use Rattle.region_typing_rules.specs.Items.{cells_with}
 use Rattle.region_typing.proofs.Constants.{struct_cells, as_many_cells, cell_more, cells_done}
 use Rattle.region_typing.proofs.initials.member_cells.Goals as goal
 

@@ -1,7 +1,7 @@
 use Rattle.std.proofs.Common.{◌≡◌, ◌++◌, length, map, drop}
 use Rattle.pointer_modes.specs.Types.{ctype}
 use Rattle.ckc_core.specs.Core.{initial}
-use Rattle.typing_rules.specs.Items.{cells_with, numbered_cells, strides_of}
+use Rattle.region_typing_rules.specs.Items.{cells_with, numbered_cells, strides_of}
 use Rattle.region_typing.proofs.initials.member_cells.Given as goal
 
 -- the cells so far with those that are left make all of them

@@ -1,10 +1,10 @@
 use Rattle.std.proofs.Common.{◌<◌, length, map, arith}
 use Rattle.ckc_text.specs.Places.{place_at}
 use Rattle.ckc_tree.specs.Items as trees
-use Rattle.typing_rules.specs.Items.{items}
-use Rattle.checker_scope.proofs.Going.{refused_by}
+use Rattle.region_typing_rules.specs.Items.{items}
+use Rattle.region_typing_scope.proofs.Going.{refused_by}
 use Rattle.region_typing.specs.Items.{walk}
-use Rattle.checker_scope.proofs.Steps.{part_more, part_breaks, parts_done}
+use Rattle.region_typing_scope.proofs.Steps.{part_more, part_breaks, parts_done}
 use Rattle.region_typing.proofs.Outside.{stays_outside}
 use Rattle.region_typing.proofs.ItemSteps.{item_step, items_from, item_by_step}
 use Rattle.region_typing.proofs.items.each_item.Goals as goal

@@ -1,8 +1,8 @@
 use Rattle.std.proofs.Common.{◌≡◌, map, drop}
 use Rattle.ckc_text.specs.Places.{place_at}
 use Rattle.ckc_tree.specs.Items as trees
-use Rattle.typing_rules.specs.Items.{items}
-use Rattle.checker_scope.specs.Views.{scope}
+use Rattle.region_typing_rules.specs.Items.{items}
+use Rattle.region_typing_scope.specs.Views.{scope}
 use Rattle.region_typing.specs.Items.{walk, Outside}
 use Rattle.region_typing.proofs.items.each_item.Given as goal
 

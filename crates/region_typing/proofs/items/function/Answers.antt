@@ -4,13 +4,13 @@ use Rattle.std.proofs.lemmas.List.{length-map}
 use Rattle.ckc_text.specs.Places.{place_at}
 use Rattle.ckc_text.specs.declared.code.Code.TheVariants.{E08}
 use Rattle.ckc_tree.specs.Items as trees
-use Rattle.typing_rules.specs.Scopes.{function_named}
-use Rattle.checker_scope.specs.Views.{scope, signature}
-use Rattle.checker_scope.proofs.Going.{refused}
+use Rattle.region_typing_rules.specs.Scopes.{function_named}
+use Rattle.region_typing_scope.specs.Views.{scope, signature}
+use Rattle.region_typing_scope.proofs.Going.{refused}
 use Rattle.region_typing.specs.Items.{walk}
 use Rattle.region_typing.specs.Signatures.{declared}
 use Rattle.region_typing.proofs.Bodies.{function_parts, function_walk, room_left, declared_name}
-use Rattle.statement_typing.proofs.Testing.{holds, fails, tested}
+use Rattle.region_typing_statements.proofs.Testing.{holds, fails, tested}
 use Rattle.region_typing.proofs.items.function.Goals as goal
 
 pub returns-in_err-needs : goal.returns-in_err-needs

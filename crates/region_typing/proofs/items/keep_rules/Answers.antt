@@ -1,4 +1,4 @@
-use Rattle.typing_rules.specs.Statements.{is_unchecked}
+use Rattle.region_typing_rules.specs.Statements.{is_unchecked}
 use Rattle.region_typing.proofs.Bodies.{checked_once}
 use Rattle.region_typing.proofs.items.keep_rules.Goals as goal
 

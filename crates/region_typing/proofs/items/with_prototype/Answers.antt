@@ -1,9 +1,9 @@
 use Rattle.std.proofs.Common.{map}
 use Rattle.ckc_text.specs.Places.{place_at}
 use Rattle.ckc_tree.specs.Items as trees
-use Rattle.typing_rules.specs.Scopes.{function_named}
-use Rattle.checker_scope.specs.Views.{scope, signature}
-use Rattle.checker_scope.proofs.Going.{goes_on, refused}
+use Rattle.region_typing_rules.specs.Scopes.{function_named}
+use Rattle.region_typing_scope.specs.Views.{scope, signature}
+use Rattle.region_typing_scope.proofs.Going.{goes_on, refused}
 use Rattle.region_typing.specs.Items.{walk}
 use Rattle.region_typing.specs.Signatures.{declared}
 use Rattle.region_typing.proofs.Bodies.{behind_scope, kept_last}

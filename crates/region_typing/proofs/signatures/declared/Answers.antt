@@ -1,4 +1,4 @@
-use Rattle.checker_scope.proofs.Going.{goes_on, refused}
+use Rattle.region_typing_scope.proofs.Going.{goes_on, refused}
 use Rattle.region_typing.proofs.signatures.declared.Goals as goal
 
 pub returns-in_err-result : goal.returns-in_err-result

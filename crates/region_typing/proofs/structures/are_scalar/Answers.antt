@@ -1,7 +1,7 @@
 use Rattle.std.proofs.Common.{◌<◌, length, map, arith}
 use Rattle.pointer_modes.specs.Types.{member}
-use Rattle.checker_scope.proofs.Going.{refused_by}
-use Rattle.checker_scope.proofs.Steps.{part_more, part_breaks, parts_done}
+use Rattle.region_typing_scope.proofs.Going.{refused_by}
+use Rattle.region_typing_scope.proofs.Steps.{part_more, part_breaks, parts_done}
 use Rattle.region_typing.proofs.ItemSteps.{all_scalar_members, scalar_member, scalar_by_step}
 use Rattle.region_typing.proofs.structures.are_scalar.Goals as goal
 

@@ -1,11 +1,11 @@
 use Rattle.std.proofs.Common.{◌<◌, [], length, map, arith}
 use Rattle.ckc_tree.specs.Items as trees
 use Rattle.pointer_modes.specs.Types.{member}
-use Rattle.typing_rules.specs.Items.{member_types}
-use Rattle.checker_scope.specs.Views.{scope}
-use Rattle.checker_scope.proofs.Going.{refused_by}
+use Rattle.region_typing_rules.specs.Items.{member_types}
+use Rattle.region_typing_scope.specs.Views.{scope}
+use Rattle.region_typing_scope.proofs.Going.{refused_by}
 use Rattle.region_typing.specs.Items.{one_member}
-use Rattle.checker_scope.proofs.Steps.{part_more, part_breaks, parts_done}
+use Rattle.region_typing_scope.proofs.Steps.{part_more, part_breaks, parts_done}
 use Rattle.region_typing.proofs.ItemSteps.{member_by_step}
 use Rattle.region_typing.proofs.structures.member_types.Goals as goal
 

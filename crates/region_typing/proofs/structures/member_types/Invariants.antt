@@ -1,8 +1,8 @@
 use Rattle.std.proofs.Common.{◌≡◌, ◌≤◌, [], length, map, drop}
 use Rattle.ckc_tree.specs.Items as trees
 use Rattle.pointer_modes.specs.Types.{member}
-use Rattle.typing_rules.specs.Items.{member_types}
-use Rattle.checker_scope.specs.Views.{scope}
+use Rattle.region_typing_rules.specs.Items.{member_types}
+use Rattle.region_typing_scope.specs.Views.{scope}
 use Rattle.region_typing.proofs.structures.member_types.Given as goal
 
 -- the members so far with those that are left make all of them

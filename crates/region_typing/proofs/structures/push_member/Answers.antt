@@ -1,8 +1,8 @@
 use Rattle.std.proofs.Common.{nat_lt, ap, sym, ◌∙◌}
 use Rattle.std.proofs.lemmas.List.{length-map}
 use Rattle.pointer_modes.specs.Types.{member}
-use Rattle.checker_scope.proofs.Going.{refused}
-use Rattle.statement_typing.proofs.Testing.{holds, fails}
+use Rattle.region_typing_scope.proofs.Going.{refused}
+use Rattle.region_typing_statements.proofs.Testing.{holds, fails}
 use Rattle.region_typing.proofs.structures.push_member.Goals as goal
 
 pub returns-in_err-needs-clause-types : goal.returns-in_err-needs-clause-types

@@ -1,12 +1,12 @@
 use Rattle.std.proofs.Common.{ap, refl, map}
 use Rattle.pointer_modes.specs.Types.{member}
 use Rattle.ckc_tree.specs.Items as trees
-use Rattle.typing_rules.specs.Verdicts.{Passes}
-use Rattle.checker_scope.specs.Views.{scope}
-use Rattle.checker_scope.proofs.Going.{goes_on, refused}
+use Rattle.region_typing_rules.specs.Verdicts.{Passes}
+use Rattle.region_typing_scope.specs.Views.{scope}
+use Rattle.region_typing_scope.proofs.Going.{goes_on, refused}
 use Rattle.region_typing.specs.Items.{walk}
 use Rattle.region_typing.proofs.StructParts.{structure_parts, all_scalar, struct_is_added, within_structs, struct_filled}
-use Rattle.statement_typing.proofs.Testing.{last}
+use Rattle.region_typing_statements.proofs.Testing.{last}
 use Rattle.region_typing.proofs.structures.structure.Goals as goal
 
 pub returns-in_err-number : goal.returns-in_err-number

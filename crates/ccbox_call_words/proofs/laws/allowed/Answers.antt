@@ -1,0 +1,8 @@
+use Rattle.ccbox_call_words.proofs.Allowed.{settings_allowed, inputs_are_words}
+use Rattle.ccbox_call_words.proofs.laws.allowed.Goals as goal
+
+pub returns-clause-settings : goal.returns-clause-settings
+returns-clause-settings c = settings_allowed
+
+pub returns-clause-inputs : goal.returns-clause-inputs
+returns-clause-inputs c = inputs_are_words

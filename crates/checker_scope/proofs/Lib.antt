@@ -1,5 +1,0 @@
-pub mod Going
-pub mod Searches
-pub mod FileLevel
-pub mod Tables
-pub mod Steps

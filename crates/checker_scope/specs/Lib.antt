@@ -1,9 +1,0 @@
-pub mod Answering
-pub mod Errors
-pub mod Names
-pub mod Signatures
-pub mod Tables
-pub mod Views
-pub mod Searches
-pub mod Locals
-pub mod Filling

@@ -1,3 +1,0 @@
-pub mod Answers
-pub mod WordReadings
-pub mod Terminals

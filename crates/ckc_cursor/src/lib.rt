@@ -1,8 +1,0 @@
-// Tokens that are read one by one, from the front of those that are left.
-#![tactic(auto)]
-
-pub mod memory;
-pub mod stuck;
-pub mod terminal;
-pub mod tokens;
-pub mod words;

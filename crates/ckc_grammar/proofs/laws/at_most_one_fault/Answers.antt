@@ -1,5 +1,0 @@
-use Rattle.ckc_grammar.proofs.OneFault.{at_most_one_fault}
-use Rattle.ckc_grammar.proofs.laws.at_most_one_fault.Goals as goal
-
-pub returns : goal.returns
-returns c = at_most_one_fault

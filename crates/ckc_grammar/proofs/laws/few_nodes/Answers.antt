@@ -1,5 +1,0 @@
-use Rattle.ckc_grammar.proofs.FewNodes.{few_nodes}
-use Rattle.ckc_grammar.proofs.laws.few_nodes.Goals as goal
-
-pub returns : goal.returns
-returns c = few_nodes

@@ -1,5 +1,0 @@
-use Rattle.ckc_grammar.proofs.OneFault.{never_both}
-use Rattle.ckc_grammar.proofs.laws.never_both.Goals as goal
-
-pub returns : goal.returns
-returns c = never_both

@@ -1,5 +1,0 @@
-use Rattle.ckc_grammar.proofs.Neither.{prefix_begins}
-use Rattle.ckc_grammar.proofs.laws.prefix_begins.Goals as goal
-
-pub returns : goal.returns
-returns c = prefix_begins

@@ -1,5 +1,0 @@
-use Rattle.ckc_grammar.proofs.PlacedItem.{spelled_placed}
-use Rattle.ckc_grammar.proofs.laws.well_placed.Goals as goal
-
-pub returns : goal.returns
-returns c = spelled_placed

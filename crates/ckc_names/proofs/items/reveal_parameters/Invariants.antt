@@ -1,0 +1,12 @@
+use Rattle.std.proofs.Common.{[], ◌∷◌, take}
+use Rattle.std.specs.List.{flat_map}
+use Rattle.ckc_tree.specs.Items.{parameter}
+use Rattle.ckc_names_rules.specs.Mentions.{Reveal}
+use Rattle.ckc_names.specs.Progress.{Passes}
+use Rattle.ckc_names.proofs.items.reveal_parameters.Given as goal
+
+-- the parameters so far were gone over
+abbrev pub invariant-loop-parameter : goal.invariant-loop-parameter
+invariant-loop-parameter l = record {
+  so_far : Passes (flat_map (λ x. Reveal (parameter x).name ∷ []) (take l.parameter-index l.parameters)) l.initial.resolver l.resolver;
+}

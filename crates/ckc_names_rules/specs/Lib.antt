@@ -1,0 +1,4 @@
+pub mod Mentions
+pub mod Scopes
+pub mod Naming
+pub mod Meanings

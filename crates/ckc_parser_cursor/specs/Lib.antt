@@ -1,0 +1,5 @@
+pub mod Answers
+pub mod WordReadings
+pub mod Terminals
+pub mod Depths
+pub mod Faults

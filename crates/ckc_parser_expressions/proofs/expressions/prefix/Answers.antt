@@ -1,0 +1,43 @@
+use Rattle.std.proofs.Common.{◌≤◌, ◌<◌, suc, arith, ◌∙◌, add-one, ap, sym}
+use Rattle.ckc_parser_grammar.specs.StuckExpressions as s
+use Rattle.ckc_parser_expressions.specs.ContextAnswers.{prefix_word}
+use Rattle.ckc_parser_cursor.proofs.Readings.{err, next_none}
+use Rattle.ckc_parser_expressions.proofs.Waiting.{waiting_last}
+use Rattle.ckc_parser_expressions.proofs.Contexts.{needs_fails, needs_parens, needs_operand}
+use Rattle.ckc_parser_expressions.proofs.ContextSteps.{needs_in, unary_operator_is, no_prefix_word}
+use Rattle.ckc_parser_expressions.proofs.expressions.prefix.Goals as goal
+
+pub returns-in_err-push-clause-reads : goal.returns-in_err-push-clause-reads
+returns-in_err-push-clause-reads c = λ b has. rw (err _ _ c.from_residual.ensures.1) (has.needs.stuck s.binary_no_room)
+
+pub returns-in-Ok-clause-reads : goal.returns-in-Ok-clause-reads
+returns-in-Ok-clause-reads c = λ b has.
+    let inside = needs_parens (rw c.in-Ok.ensures at has.needs) in
+    needs_in b _ _ _ (waiting_last _ _ _ c.in_ok-push.ensures) has.around.loosest has.around.depth has.around.fits inside
+
+pub returns-in_default-split_first-clause-reads : goal.returns-in_default-split_first-clause-reads
+returns-in_default-split_first-clause-reads c = λ b has.
+    let none = next_none prefix_word c.open_paren.new.tokens.now c.in_default-split_first.ensures.cases in
+    rw c.in_default.ensures.left (has, rw c.in_default.ensures.left at none)
+
+pub returns-in_default-unary_operator-clause-reads : goal.returns-in_default-unary_operator-clause-reads
+returns-in_default-unary_operator-clause-reads c = λ b has.
+    let is = sym c.in_default.ensures.left ∙ c.in-Some.ensures.cases.0 in
+    rw c.in_default.ensures.left (has, no_prefix_word _ _ is c.in_default.ensures.other c.in_default-unary_operator.ensures)
+
+pub returns-then-around-ge-MAX_DEPTH-clause-reads : goal.returns-then-around-ge-MAX_DEPTH-clause-reads
+returns-then-around-ge-MAX_DEPTH-clause-reads c = λ b has.
+    let deep : 200 ≤ c.args.around.now.depth = omega arith in
+    let is = sym c.in_default.ensures.left ∙ c.in-Some.ensures.cases.0 in
+    needs_fails (rw is at has.needs) (s.deep_operator (unary_operator_is _ _ (sym c.in-Some-unary_operator.ensures)) (rw has.around.depth at deep))
+
+pub returns-in_err-push-2-clause-reads : goal.returns-in_err-push-2-clause-reads
+returns-in_err-push-2-clause-reads c = λ b has. rw (err _ _ c.from_residual-in_err-push-2.ensures.1) (has.needs.stuck s.binary_no_room)
+
+pub returns-clause-reads : goal.returns-clause-reads
+returns-clause-reads c = λ b has.
+    let room : c.args.around.now.depth < 200 = omega arith in
+    let less = rw has.around.depth at room in
+    let is = sym c.in_default.ensures.left ∙ c.in-Some.ensures.cases.0 in
+    let operand = needs_operand (unary_operator_is _ _ (sym c.in-Some-unary_operator.ensures)) less (rw is at has.needs) in
+    needs_in b _ _ _ (waiting_last _ _ _ c.in_ok-push-2.ensures) has.around.loosest (add-one _ ∙ ap suc has.around.depth) (less, has.around.fits) operand

@@ -1,0 +1,204 @@
+-- The token with which a statement starts.
+use Rattle.std.proofs.Common.{◌≡◌, ℕ, ◌≤◌, List, [], ◌∷◌, refl, arith}
+use Rattle.ckc_text.specs.declared.place.Span.{Span}
+use Rattle.ckc_lexer_tokens.specs.declared.token.Token.{Token}
+use Rattle.ckc_lexer_tokens.specs.declared.token.TokenKind.{TokenKind}
+use Rattle.ckc_lexer_tokens.specs.declared.token.TokenKind.TheVariants as kinds
+use Rattle.ckc_tree.specs.declared.type_form.PointerWord.{PointerWord}
+use Rattle.ckc_tree.specs.declared.expr.UnaryOperator.{UnaryOperator}
+use Rattle.ckc_tree.specs.declared.expr.CastWord.{CastWord}
+use Rattle.ckc_tree.specs.declared.expr.MallocWord.{MallocWord}
+use Rattle.ckc_tree.specs.declared.expr.CallocWord.{CallocWord}
+use Rattle.ckc_tree.specs.declared.stmt.Mark.{Mark}
+use Rattle.ckc_tree.specs.declared.stmt.StepOperator.{StepOperator}
+use Rattle.ckc_tree.specs.Types.{TypeTree}
+use Rattle.ckc_tree.specs.Expressions.{Expression}
+use Rattle.ckc_tree.specs.Statements.{Declaration, Assignment, Statement, ForInitial}
+use Rattle.ckc_parser_grammar.specs.Tokens as words
+use Rattle.ckc_parser_grammar.specs.Tokens.{IsPointerWord, IsUnaryOperator, IsCastWord, IsMallocWord, IsCallocWord, IsMark, IsStepOperator}
+use Rattle.ckc_parser_grammar.specs.TypeGrammar as types
+use Rattle.ckc_parser_grammar.specs.TypeGrammar.{SpellsType}
+use Rattle.ckc_parser_grammar.specs.ExpressionGrammar as grammar
+use Rattle.ckc_parser_grammar.specs.ExpressionGrammar.{SpellsUnary, SpellsPrimary, SpellsCall}
+use Rattle.ckc_parser_grammar.specs.StatementGrammar as g
+use Rattle.ckc_parser_grammar.specs.StatementGrammar.{SpellsDeclaration, SpellsAssignment, SpellsStatement, SpellsForInitial}
+
+-- which statement a token starts: 0 for none, 1 for a declaration, 2 for an assignment or a call
+abbrev pub role : TokenKind → ℕ
+role kinds.Int = 1
+role kinds.Char = 1
+role kinds.Struct = 1
+role kinds.Ptr = 1
+role kinds.ArrayPtr = 1
+role kinds.NtArrayPtr = 1
+role kinds.TPtr = 1
+role kinds.TArrayPtr = 1
+role kinds.TNtArrayPtr = 1
+role (kinds.Number n) = 2
+role (kinds.Character n) = 2
+role (kinds.Text x) = 2
+role (kinds.Name x) = 2
+role kinds.OpenParen = 2
+role kinds.Sizeof = 2
+role kinds.DynamicBoundsCast = 2
+role kinds.AssumeBoundsCast = 2
+role kinds.Malloc = 2
+role kinds.TMalloc = 2
+role kinds.Calloc = 2
+role kinds.NtCalloc = 2
+role kinds.Star = 2
+role kinds.Ampersand = 2
+role kinds.Minus = 2
+role kinds.Not = 2
+role kinds.Tilde = 2
+role kinds.PlusPlus = 2
+role kinds.MinusMinus = 2
+role kinds.OpenBrace = 3
+role kinds.Checked = 4
+role kinds.Unchecked = 4
+role kinds.Bundled = 5
+role kinds.Semicolon = 6
+role kinds.If = 7
+role kinds.While = 8
+role kinds.For = 9
+role kinds.Return = 10
+role kinds.Break = 11
+role kinds.Continue = 12
+role _ = 0
+
+abbrev pub role_at : List Token → ℕ
+role_at [] = 0
+role_at (t ∷ ts) = role t.kind
+
+pointer_role : {k : TokenKind} {w : PointerWord} → IsPointerWord k w → role k ≡ 1
+pointer_role words.ptr = refl
+pointer_role words.array_ptr = refl
+pointer_role words.nt_array_ptr = refl
+pointer_role words.t_ptr = refl
+pointer_role words.t_array_ptr = refl
+pointer_role words.t_nt_array_ptr = refl
+
+pub type_role : {ts r : List Token} {t : TypeTree} → SpellsType ts t r → role_at ts ≡ 1
+type_role types.int = refl
+type_role types.char = refl
+type_role types.struct = refl
+type_role (types.pointer w d e) = pointer_role w
+
+operator_role : {k : TokenKind} {w : UnaryOperator} → IsUnaryOperator k w → role k ≡ 2
+operator_role words.deref = refl
+operator_role words.address_of = refl
+operator_role words.negate = refl
+operator_role words.not = refl
+operator_role words.complement = refl
+
+cast_role : {k : TokenKind} {w : CastWord} → IsCastWord k w → role k ≡ 2
+cast_role words.dynamic = refl
+cast_role words.assume = refl
+
+malloc_role : {k : TokenKind} {w : MallocWord} → IsMallocWord k w → role k ≡ 2
+malloc_role words.malloc = refl
+malloc_role words.t_malloc = refl
+
+calloc_role : {k : TokenKind} {w : CallocWord} → IsCallocWord k w → role k ≡ 2
+calloc_role words.calloc = refl
+calloc_role words.nt_calloc = refl
+
+pub mark_role : {k : TokenKind} {w : Mark} → IsMark k w → role k ≡ 4
+mark_role words.checked = refl
+mark_role words.unchecked = refl
+
+step_role : {k : TokenKind} {w : StepOperator} → IsStepOperator k w → role k ≡ 2
+step_role words.increment = refl
+step_role words.decrement = refl
+
+call_role : {ts r : List Token} {e : Expression} {o : Span} → SpellsCall ts e o r → role_at ts ≡ 2
+call_role (grammar.call a) = refl
+
+primary_role : {ts r : List Token} {e : Expression} {o : Span} → SpellsPrimary ts e o r → role_at ts ≡ 2
+primary_role grammar.number = refl
+primary_role grammar.character = refl
+primary_role grammar.text = refl
+primary_role (grammar.name f) = refl
+primary_role (grammar.called d) = call_role d
+primary_role (grammar.parentheses d) = refl
+primary_role (grammar.size_of d) = refl
+primary_role (grammar.cast w a d) = cast_role w
+primary_role (grammar.bounded_cast w a d b) = cast_role w
+primary_role (grammar.malloc w a d) = malloc_role w
+primary_role (grammar.calloc w a d b) = calloc_role w
+
+unary_role : {ts r : List Token} {e : Expression} {o : Span} → SpellsUnary ts e o r → role_at ts ≡ 2
+unary_role (grammar.operator w d) = operator_role w
+unary_role (grammar.postfix p s) = primary_role p
+
+declaration_role : {ts r : List Token} {d : Declaration} → SpellsDeclaration ts d r → role_at ts ≡ 1
+declaration_role (g.declaration t d) = type_role t
+
+pub assignment_role : {ts r : List Token} {a : Assignment} → SpellsAssignment ts a r → role_at ts ≡ 2
+assignment_role (g.store d w e) = unary_role d
+assignment_role (g.after d w) = unary_role d
+assignment_role (g.before w d) = step_role w
+
+abbrev pub role_of : {ts r : List Token} {s : Statement} → SpellsStatement ts s r → ℕ
+role_of (g.block d) = 3
+role_of (g.marked_block w d) = 4
+role_of (g.bundle d) = 5
+role_of (g.declare d) = 1
+role_of (g.assign d) = 2
+role_of (g.call d) = 2
+role_of g.empty = 6
+role_of (g.if c d f) = 7
+role_of (g.if_else c d e) = 7
+role_of (g.while c d) = 8
+role_of (g.for i c s d) = 9
+role_of g.return_nothing = 10
+role_of (g.return d) = 10
+role_of g.break = 11
+role_of g.continue = 12
+
+pub statement_role : {ts r : List Token} {s : Statement} (d : SpellsStatement ts s r) → role_at ts ≡ role_of d
+statement_role (g.block d) = refl
+statement_role (g.marked_block w d) = mark_role w
+statement_role (g.bundle d) = refl
+statement_role (g.declare d) = declaration_role d
+statement_role (g.assign d) = assignment_role d
+statement_role (g.call d) = call_role d
+statement_role g.empty = refl
+statement_role (g.if c d f) = refl
+statement_role (g.if_else c d e) = refl
+statement_role (g.while c d) = refl
+statement_role (g.for i c s d) = refl
+statement_role g.return_nothing = refl
+statement_role (g.return d) = refl
+statement_role g.break = refl
+statement_role g.continue = refl
+
+role_positive : {ts r : List Token} {s : Statement} (d : SpellsStatement ts s r) → 1 ≤ role_of d
+role_positive (g.block d) = omega arith
+role_positive (g.marked_block w d) = omega arith
+role_positive (g.bundle d) = omega arith
+role_positive (g.declare d) = omega arith
+role_positive (g.assign d) = omega arith
+role_positive (g.call d) = omega arith
+role_positive g.empty = omega arith
+role_positive (g.if c d f) = omega arith
+role_positive (g.if_else c d e) = omega arith
+role_positive (g.while c d) = omega arith
+role_positive (g.for i c s d) = omega arith
+role_positive g.return_nothing = omega arith
+role_positive (g.return d) = omega arith
+role_positive g.break = omega arith
+role_positive g.continue = omega arith
+
+pub statement_starts : {ts r : List Token} {s : Statement} → SpellsStatement ts s r → 1 ≤ role_at ts
+statement_starts d = omega (arith, statement_role d, role_positive d)
+
+abbrev pub initial_role_of : {ts r : List Token} {i : ForInitial} → SpellsForInitial ts i r → ℕ
+initial_role_of g.nothing = 6
+initial_role_of (g.declares d) = 1
+initial_role_of (g.assigns d) = 2
+
+pub initial_role : {ts r : List Token} {i : ForInitial} (d : SpellsForInitial ts i r) → role_at ts ≡ initial_role_of d
+initial_role g.nothing = refl
+initial_role (g.declares d) = declaration_role d
+initial_role (g.assigns d) = assignment_role d

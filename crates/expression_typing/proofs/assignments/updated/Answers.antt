@@ -1,9 +1,0 @@
-use Rattle.ckc_text.specs.Places.{place_at}
-use Rattle.value_typing.specs.OnHeap.{typed}
-use Rattle.checker_scope.proofs.Going.{goes_on}
-use Rattle.expression_typing.proofs.Continuing.{updated_parts}
-use Rattle.expression_typing.proofs.assignments.updated.Goals as goal
-
-pub returns : goal.returns
-returns c =
-    rw (updated_parts (place_at c.args.sites.now) c.args.operator (typed c.args.left) (typed c.args.right) c.args.span) (goes_on _ c.in_ok-target.ensures (rw (← c.site.ensures) c.update_target.ensures))

@@ -1,5 +1,0 @@
-use Rattle.lowered_code.proofs.Bases.{bases_agree}
-use Rattle.lowered_code.proofs.laws.bases_agree.Goals as goal
-
-pub returns : goal.returns
-returns c = bases_agree

@@ -1,0 +1,235 @@
+-- What single instructions of an expression leave on the stack.
+use Rattle.std.proofs.Common.{◌≡◌, ℕ, zero, suc, ◌+◌, ◌%◌, ◌^◌, ◌<◌, Bool, true, false, ℤ, ◌+ℤ◌, ◌-ℤ◌, ◌*ℤ◌, neg_ℤ, pos, List, [], ◌∷◌, ◌++◌, length, map, Option, Some, None, refl, sym, ap, ◌∙◌, subst, arith}
+use Rattle.std.specs.Prelude.{slice_get, nat_lt, not, ◌&&◌, ◌==◌, int_div, int_rem, bit_and, bit_or, bit_xor}
+use Rattle.std.specs.List.{AllByRecursion}
+use Rattle.std.specs.Int.Bits.{and_lt}
+use Rattle.std.proofs.lemmas.Nat.{or_lt, xor_lt}
+use Rattle.std.proofs.lemmas.Bool.Decides.{nat_tests}
+use Rattle.ckc_text.specs.declared.place.Place.{Place}
+use Rattle.ckc_text.specs.declared.code.Code.TheVariants.{C6, C7, C8, S1}
+use Rattle.act_words.specs.declared.ending.Ending.{Ending}
+use Rattle.act_words.specs.declared.ending.Ending.TheVariants.{Check, Stop}
+use Rattle.act_words.specs.Outcome.{Gives}
+use Rattle.act_words.specs.Checks.{Checked, Holds, Fails, held_if, is_word_number, without_overflow}
+use Rattle.act_words.specs.Numbers.{word}
+use Rattle.act_words.specs.Arithmetic as arithmetic
+use Rattle.act_words.specs.Arithmetic.{bit, checked_then, is_zero, is_count, is_not_negative, halved, count_of}
+use Rattle.act_words.specs.World.{spent_one, with_inputs}
+use Rattle.act_words.specs.Touches.{input_from, next_input, spent_if, spend_tick}
+use Rattle.ckc_core.specs.declared.program.Site.{Site}
+use Rattle.ckc_core.specs.declared.program.Operator.{Operator}
+use Rattle.ckc_core.specs.declared.program.Operator.TheVariants as operators
+use Rattle.ckc_core.specs.declared.program.Comparison.{Comparison}
+use Rattle.ckc_core.specs.declared.program.Comparison.TheVariants as comparisons
+use Rattle.ckc_core.specs.States.{Value, Number, Null, At}
+use Rattle.ckc_core.specs.States as meaning
+use Rattle.ckc_core.specs.Meaning.{Result, given, checked, value_if, truth, number_of_test, result_of, arithmetic_of, holds, compared, negated, complemented, low_byte_of}
+use Rattle.ckc_core.specs.Meaning as meanings
+use Rattle.code_words.specs.Table as table
+use Rattle.code_words.specs.Table.{State, Step, Goes, Over, act, push, push_some, push_checked, jump_if, jump_if_zero}
+use Rattle.code_words.specs.declared.op.Op.{Op}
+use Rattle.code_words.specs.declared.op.Op.TheVariants as ops
+use Rattle.lowering_code.specs.Code.{operator_code, comparison_code}
+use Rattle.lowering_code.proofs.Numbers.{signed-word, word_small, word-signed, signed_fits, equal_words, halved_fits, remainder_fits, complement_fits}
+use Rattle.lowering_code.proofs.Worlds.{IsNumber, KeptWorld}
+use Rattle.lowering_code.proofs.Executions.{Execution, image, word_of, IsKept}
+use Rattle.lowering_code.proofs.Steps.{Asks, Finishes, Layout, code, frame, standing, Here, kept_in, moved, pushes_in, pushes, ended, Arrives, Evaluates}
+
+-- ---- lists
+
+-- an element of a list that is mapped, with more behind it
+pub mapped_there : {X Y : Type 0} (f : X → Y) (xs : List X) (ys : List Y) (k : ℕ) (x : X) → slice_get xs k ≡ Some x → slice_get (map f xs ++ ys) k ≡ Some (f x)
+mapped_there f [] ys k x h = absurd (cc)
+mapped_there f (y ∷ xs) ys zero x h = let e : y ≡ x = cc in ap (λ z. Some (f z)) e
+mapped_there f (y ∷ xs) ys (suc k) x h = mapped_there f xs ys k x h
+
+-- what is so of each element is so of one
+pub of_element : {X : Type 0} (P : X → Type 0) (xs : List X) (k : ℕ) (x : X) → AllByRecursion P xs → slice_get xs k ≡ Some x → P x
+of_element P [] k x all h = absurd (cc)
+of_element P (y ∷ xs) zero x all h = let e : y ≡ x = cc in subst P e all.0
+of_element P (y ∷ xs) (suc k) x all h = of_element P xs k x all.1 h
+
+-- an index at which something stands
+pub index_below : {X : Type 0} (xs : List X) (i : ℕ) (x : X) → slice_get xs i ≡ Some x → i < length xs
+index_below [] i x h = absurd (cc)
+index_below (y ∷ xs) zero x h = omega arith
+index_below (y ∷ xs) (suc i) x h = omega (arith, index_below xs i x h)
+
+-- ---- numbers
+
+-- the word of a test's number
+pub bit_word : (g : Execution) (test : Bool) → word_of g (number_of_test test) ≡ bit test
+bit_word g true = refl
+bit_word g false = refl
+
+pub test_kept : (g : Execution) (test : Bool) → IsKept g (number_of_test test)
+test_kept g true = refl
+test_kept g false = refl
+
+-- what is so of a check's number
+abbrev pub IfHolds : (ℤ → Type 0) → Checked ℤ → Type 0
+IfHolds P (Holds z) = P z
+IfHolds P (Fails ending) = Unit {0}
+
+held_fits : (test : Bool) (z : ℤ) (ending : Ending) → (test ≡ true → IsNumber z) → IfHolds IsNumber (held_if test z ending)
+held_fits true z ending h = h refl
+held_fits false z ending h = tt
+
+overflow_fits : (place : Place) (z : ℤ) → IfHolds IsNumber (without_overflow place z)
+overflow_fits place z = held_fits (is_word_number z) z (Check C6 place) (λ h. h)
+
+divided_fits : (test : Bool) (ending : Ending) (next : Checked ℤ) → (test ≡ true → IfHolds IsNumber next) → IfHolds IsNumber (checked_then test ending next)
+divided_fits true ending next h = h refl
+divided_fits false ending next h = tt
+
+last_true : (a b c : Bool) → (a && (b && c)) ≡ true → c ≡ true
+last_true true true c h = h
+last_true true false c h = absurd (cc)
+last_true false b c h = absurd (cc)
+
+not_true : (b : Bool) → not b ≡ true → b ≡ false
+not_true true h = absurd (cc)
+not_true false h = refl
+
+-- an operator's number has 32 bits
+pub result_fits : (operator : Operator) (site : Site) (a b : ℤ) → IsNumber a → IsNumber b → IfHolds IsNumber (result_of operator site a b)
+result_fits operators.Add site a b ha hb = overflow_fits site.place (a +ℤ b)
+result_fits operators.Subtract site a b ha hb = overflow_fits site.place (a -ℤ b)
+result_fits operators.Multiply site a b ha hb = overflow_fits site.place (a *ℤ b)
+result_fits operators.Divide site a b ha hb = divided_fits (not (is_zero b)) (Check C7 site.place) (without_overflow site.place (int_div a b)) (λ h. overflow_fits site.place (int_div a b))
+result_fits operators.Remainder site a b ha hb =
+    divided_fits (not (is_zero b)) (Check C7 site.place) (held_if (is_word_number (int_div a b)) (int_rem a b) (Check C6 site.place))
+    (λ h. held_fits (is_word_number (int_div a b)) (int_rem a b) (Check C6 site.place) (λ k. remainder_fits a b hb (not_true (is_zero b) h)))
+result_fits operators.ShiftLeft site a b ha hb =
+    let z = a *ℤ pos (2 ^ count_of b) in
+    held_fits (is_count b && (is_not_negative a && is_word_number z)) z (Check C8 site.place) (last_true (is_count b) (is_not_negative a) (is_word_number z))
+result_fits operators.ShiftRight site a b ha hb = held_fits (is_count b) (halved a (count_of b)) (Check C8 site.place) (λ h. halved_fits a (count_of b) ha)
+result_fits operators.And site a b ha hb = signed_fits (bit_and (word a) (word b)) (and_lt 32 (word a) (word b) (word_small a ha) (word_small b hb))
+result_fits operators.Or site a b ha hb = signed_fits (bit_or (word a) (word b)) (or_lt 32 (word a) (word b) (word_small a ha) (word_small b hb))
+result_fits operators.Xor site a b ha hb = signed_fits (bit_xor (word a) (word b)) (xor_lt 32 (word a) (word b) (word_small a ha) (word_small b hb))
+
+-- where a branch goes
+abbrev pub chosen : Bool → ℕ → ℕ → ℕ
+chosen true target next = target
+chosen false target next = next
+
+module _ (g : Execution) (l : Layout g) where
+  -- ---- values that are pushed
+
+  pub number_runs : (next : ℕ) (stack : List ℕ) (s : meaning.State) (z : ℤ) (fits : Bool) → is_word_number z ≡ fits → Here g l next stack s → slice_get (code g l).ops next ≡ Some (ops.Const z) → length stack < (code g l).stack → Evaluates g l (next + 1) stack (value_if fits (Number z) s)
+  number_runs next stack s z true fits here at room = (pushes g l next stack s (ops.Const z) (word z) stack here at room (λ scratch. refl), fits)
+  number_runs next stack s z false fits here at room = tt
+
+  pub local_runs : (next : ℕ) (stack : List ℕ) (s : meaning.State) (k : ℕ) (o : Option Value) → slice_get s.locals k ≡ o → Here g l next stack s → slice_get (code g l).ops next ≡ Some (ops.Local k) → length stack < (code g l).stack → Evaluates g l (next + 1) stack (given o s)
+  local_runs next stack s k None h here at room = tt
+  local_runs next stack s k (Some v) h here at room = (
+    pushes g l next stack s (ops.Local k) (word_of g v) stack here at room
+        (λ scratch. ap (λ o. push_some (code g l) o stack (frame g l next scratch stack s.locals) (standing g l next scratch stack s)) (mapped_there (word_of g) s.locals (scratch ∷ []) k v h)),
+    of_element (IsKept g) s.locals k v here.kept.locals h,
+  )
+
+  -- ---- operators
+
+  -- pushes the number of a check, or ends
+  pub checked_runs : (next : ℕ) (old stack : List ℕ) (s : meaning.State) (op : Op) (c : Checked ℤ) → IfHolds IsNumber c → Here g l next old s → slice_get (code g l).ops next ≡ Some op → length stack < (code g l).stack → ((w : ℕ) → act (image g) g.settings (code g l) op (frame g l next w old s.locals) (standing g l next w old s) ≡ push_checked (code g l) c stack (frame g l next w old s.locals) (standing g l next w old s)) → Evaluates g l (next + 1) stack (checked c s)
+  checked_runs next old stack s op (Holds z) fits here at room is = (pushes g l next old s op (word z) stack here at room is, fits)
+  checked_runs next old stack s op (Fails ending) fits here at room is = ended g l next old s op ending s here at here.kept.blocks is
+
+  -- the instruction of an operator, on two words
+  operated : (operator : Operator) (site : Site) (a b : ℤ) (next w : ℕ) (stack : List ℕ) (s : meaning.State) → IsNumber a → IsNumber b → act (image g) g.settings (code g l) (operator_code operator site) (frame g l next w (word b ∷ (word a ∷ stack)) s.locals) (standing g l next w (word b ∷ (word a ∷ stack)) s) ≡ push_checked (code g l) (result_of operator site a b) stack (frame g l next w (word b ∷ (word a ∷ stack)) s.locals) (standing g l next w (word b ∷ (word a ∷ stack)) s)
+  operated operators.Add site a b next w stack s ha hb = rw (signed-word a ha, signed-word b hb) refl
+  operated operators.Subtract site a b next w stack s ha hb = rw (signed-word a ha, signed-word b hb) refl
+  operated operators.Multiply site a b next w stack s ha hb = rw (signed-word a ha, signed-word b hb) refl
+  operated operators.Divide site a b next w stack s ha hb = rw (signed-word a ha, signed-word b hb) refl
+  operated operators.Remainder site a b next w stack s ha hb = rw (signed-word a ha, signed-word b hb) refl
+  operated operators.ShiftLeft site a b next w stack s ha hb = rw (signed-word a ha, signed-word b hb) refl
+  operated operators.ShiftRight site a b next w stack s ha hb = rw (signed-word a ha, signed-word b hb) refl
+  operated operators.And site a b next w stack s ha hb = let e = word-signed (bit_and (word a) (word b)) (and_lt 32 (word a) (word b) (word_small a ha) (word_small b hb)) in ap (λ n. push (code g l) n stack (frame g l next w (word b ∷ (word a ∷ stack)) s.locals) (standing g l next w (word b ∷ (word a ∷ stack)) s)) (sym e)
+  operated operators.Or site a b next w stack s ha hb = let e = word-signed (bit_or (word a) (word b)) (or_lt 32 (word a) (word b) (word_small a ha) (word_small b hb)) in ap (λ n. push (code g l) n stack (frame g l next w (word b ∷ (word a ∷ stack)) s.locals) (standing g l next w (word b ∷ (word a ∷ stack)) s)) (sym e)
+  operated operators.Xor site a b next w stack s ha hb = let e = word-signed (bit_xor (word a) (word b)) (xor_lt 32 (word a) (word b) (word_small a ha) (word_small b hb)) in ap (λ n. push (code g l) n stack (frame g l next w (word b ∷ (word a ∷ stack)) s.locals) (standing g l next w (word b ∷ (word a ∷ stack)) s)) (sym e)
+
+  -- an operator on two values, whose words lie on the stack
+  pub operator_runs : (next : ℕ) (stack : List ℕ) (s : meaning.State) (operator : Operator) (site : Site) (v w : Value) → IsKept g v → IsKept g w → Here g l next (word_of g w ∷ (word_of g v ∷ stack)) s → slice_get (code g l).ops next ≡ Some (operator_code operator site) → length stack < (code g l).stack → Evaluates g l (next + 1) stack (arithmetic_of operator site v w s)
+  operator_runs next stack s operator site (Number a) (Number b) hv hw here at room =
+      checked_runs next (word b ∷ (word a ∷ stack)) stack s (operator_code operator site) (result_of operator site a b) (result_fits operator site a b hv hw) here at room (λ scratch. operated operator site a b next scratch stack s hv hw)
+  operator_runs next stack s operator site (Number a) Null hv hw here at room = tt
+  operator_runs next stack s operator site (Number a) (At block cell) hv hw here at room = tt
+  operator_runs next stack s operator site Null w hv hw here at room = tt
+  operator_runs next stack s operator site (At block cell) w hv hw here at room = tt
+
+  -- the number of a test is pushed
+  pub test_runs : (next : ℕ) (old stack : List ℕ) (s : meaning.State) (op : Op) (test : Bool) → Here g l next old s → slice_get (code g l).ops next ≡ Some op → length stack < (code g l).stack → ((w : ℕ) → act (image g) g.settings (code g l) op (frame g l next w old s.locals) (standing g l next w old s) ≡ push (code g l) (bit test) stack (frame g l next w old s.locals) (standing g l next w old s)) → Arrives g l (next + 1) stack (number_of_test test) s
+  test_runs next old stack s op test here at room is =
+      (subst (λ n. Here g l (next + 1) (n ∷ stack) s) (sym (bit_word g test)) (pushes g l next old s op (bit test) stack here at room is), test_kept g test)
+
+  -- the instruction of a comparison, on two words
+  compared_words : (comparison : Comparison) (a b : ℤ) (next w : ℕ) (stack : List ℕ) (s : meaning.State) → IsNumber a → IsNumber b → act (image g) g.settings (code g l) (comparison_code comparison) (frame g l next w (word b ∷ (word a ∷ stack)) s.locals) (standing g l next w (word b ∷ (word a ∷ stack)) s) ≡ push (code g l) (bit (holds comparison a b)) stack (frame g l next w (word b ∷ (word a ∷ stack)) s.locals) (standing g l next w (word b ∷ (word a ∷ stack)) s)
+  compared_words comparisons.Equal a b next w stack s ha hb = ap (λ t. push (code g l) (bit t) stack (frame g l next w (word b ∷ (word a ∷ stack)) s.locals) (standing g l next w (word b ∷ (word a ∷ stack)) s)) (equal_words a b ha hb)
+  compared_words comparisons.NotEqual a b next w stack s ha hb = ap (λ t. push (code g l) (bit (not t)) stack (frame g l next w (word b ∷ (word a ∷ stack)) s.locals) (standing g l next w (word b ∷ (word a ∷ stack)) s)) (equal_words a b ha hb)
+  compared_words comparisons.Less a b next w stack s ha hb = rw (signed-word a ha, signed-word b hb) refl
+  compared_words comparisons.LessEqual a b next w stack s ha hb = rw (signed-word a ha, signed-word b hb) refl
+  compared_words comparisons.Greater a b next w stack s ha hb = rw (signed-word a ha, signed-word b hb) refl
+  compared_words comparisons.GreaterEqual a b next w stack s ha hb = rw (signed-word a ha, signed-word b hb) refl
+
+  pub comparison_runs : (next : ℕ) (stack : List ℕ) (s : meaning.State) (comparison : Comparison) (v w : Value) → IsKept g v → IsKept g w → Here g l next (word_of g w ∷ (word_of g v ∷ stack)) s → slice_get (code g l).ops next ≡ Some (comparison_code comparison) → length stack < (code g l).stack → Evaluates g l (next + 1) stack (compared comparison v w s)
+  comparison_runs next stack s comparison (Number a) (Number b) hv hw here at room =
+      test_runs next (word b ∷ (word a ∷ stack)) stack s (comparison_code comparison) (holds comparison a b) here at room (λ scratch. compared_words comparison a b next scratch stack s hv hw)
+  comparison_runs next stack s comparison (Number a) Null hv hw here at room = tt
+  comparison_runs next stack s comparison (Number a) (At block cell) hv hw here at room = tt
+  comparison_runs next stack s comparison Null w hv hw here at room = tt
+  comparison_runs next stack s comparison (At block cell) w hv hw here at room = tt
+
+  pub negation_runs : (next : ℕ) (stack : List ℕ) (s : meaning.State) (site : Site) (v : Value) → IsKept g v → Here g l next (word_of g v ∷ stack) s → slice_get (code g l).ops next ≡ Some (ops.Neg site.place) → length stack < (code g l).stack → Evaluates g l (next + 1) stack (negated site v s)
+  negation_runs next stack s site (Number b) hv here at room =
+      checked_runs next (word b ∷ stack) stack s (ops.Neg site.place) (arithmetic.negation site.place b) (overflow_fits site.place (neg_ℤ b)) here at room (λ scratch. rw (signed-word b hv) refl)
+  negation_runs next stack s site Null hv here at room = tt
+  negation_runs next stack s site (At block cell) hv here at room = tt
+
+  pub complement_runs : (next : ℕ) (stack : List ℕ) (s : meaning.State) (v : Value) → IsKept g v → Here g l next (word_of g v ∷ stack) s → slice_get (code g l).ops next ≡ Some ops.Not → length stack < (code g l).stack → Evaluates g l (next + 1) stack (complemented v s)
+  complement_runs next stack s (Number b) hv here at room =
+      let w = arithmetic.complement (word b) in
+      (subst (λ n. Here g l (next + 1) (n ∷ stack) s) (sym (word-signed w (complement_fits (word b)))) (pushes g l next (word b ∷ stack) s ops.Not w stack here at room (λ scratch. refl)), signed_fits w (complement_fits (word b)))
+  complement_runs next stack s Null hv here at room = tt
+  complement_runs next stack s (At block cell) hv here at room = tt
+
+  pub low_byte_runs : (next : ℕ) (stack : List ℕ) (s : meaning.State) (v : Value) → IsKept g v → Here g l next (word_of g v ∷ stack) s → slice_get (code g l).ops next ≡ Some ops.Byte → length stack < (code g l).stack → Evaluates g l (next + 1) stack (low_byte_of v s)
+  low_byte_runs next stack s (Number b) hv here at room =
+      let low : nat_lt (word b % 256) (2 ^ 31) ≡ true = grind (arith, nat_tests) in
+      (pushes g l next (word b ∷ stack) s ops.Byte (word b % 256) stack here at room (λ scratch. refl), low)
+  low_byte_runs next stack s Null hv here at room = tt
+  low_byte_runs next stack s (At block cell) hv here at room = tt
+
+  -- ---- what the world gives
+
+  input_from_runs : (inputs : List ℤ) (next : ℕ) (stack : List ℕ) (s : meaning.State) → AllByRecursion IsNumber inputs → Here g l next stack s → slice_get (code g l).ops next ≡ Some ops.NextInput → length stack < (code g l).stack → ((scratch : ℕ) → act (image g) g.settings (code g l) ops.NextInput (frame g l next scratch stack s.locals) (standing g l next scratch stack s) ≡ table.asked (input_from inputs s.world) (standing g l next scratch stack s) (λ number t. push (code g l) (word number) stack (frame g l next scratch stack s.locals) t)) → Evaluates g l (next + 1) stack (meanings.asked (input_from inputs s.world) s (λ number t. Gives (Number number) t))
+  input_from_runs [] next stack s all here at room is = (pushes g l next stack s ops.NextInput 0 stack here at room is, refl)
+  input_from_runs (z ∷ inputs) next stack s all here at room is =
+      let kept : KeptWorld (with_inputs inputs s.world) = record { acts = here.kept.world.acts; inputs = all.1 } in
+      (pushes_in g l next stack s ops.NextInput (word z) stack (with_inputs inputs s.world) kept here at room is, all.0)
+
+  pub input_runs : (next : ℕ) (stack : List ℕ) (s : meaning.State) → Here g l next stack s → slice_get (code g l).ops next ≡ Some ops.NextInput → length stack < (code g l).stack → Evaluates g l (next + 1) stack (meanings.asked (next_input s.world) s (λ number t. Gives (Number number) t))
+  input_runs next stack s here at room = input_from_runs s.world.inputs next stack s here.kept.world.inputs here at room (λ scratch. refl)
+
+  -- a tick is spent, or the budget is
+  spent_runs : (next : ℕ) (stack : List ℕ) (s : meaning.State) (left : Bool) → nat_lt s.world.ticks g.settings.budget ≡ left → Here g l next stack s → slice_get (code g l).ops next ≡ Some ops.Tick → Asks (λ u w. Here g l (next + 1) stack (meaning.in_world w s)) (λ ending w. Finishes g ending (meaning.in_world w s)) (spent_if left s.world)
+  spent_runs next stack s true test here at =
+      let kept : KeptWorld (spent_one s.world) = record { acts = here.kept.world.acts; inputs = here.kept.world.inputs } in
+      moved g l next stack s ops.Tick (next + 1) stack (meaning.in_world (spent_one s.world) s) here at (kept_in g l s (spent_one s.world) here.kept kept) (λ scratch. rw test refl)
+  spent_runs next stack s false test here at =
+      ended g l next stack s ops.Tick (Stop S1 None) s here at here.kept.blocks (λ scratch. rw test refl)
+
+  pub tick_runs : (next : ℕ) (stack : List ℕ) (s : meaning.State) → Here g l next stack s → slice_get (code g l).ops next ≡ Some ops.Tick → Asks (λ u w. Here g l (next + 1) stack (meaning.in_world w s)) (λ ending w. Finishes g ending (meaning.in_world w s)) (spend_tick g.settings.budget s.world)
+  tick_runs next stack s here at = spent_runs next stack s (nat_lt s.world.ticks g.settings.budget) refl here at
+
+  -- ---- jumps
+
+  -- to an instruction that is there
+  pub jump_runs : (next : ℕ) (old stack : List ℕ) (s : meaning.State) (op : Op) (target : ℕ) → target < length (code g l).ops → Here g l next old s → slice_get (code g l).ops next ≡ Some op → ((w : ℕ) → act (image g) g.settings (code g l) op (frame g l next w old s.locals) (standing g l next w old s) ≡ table.jump (code g l) target stack (frame g l next w old s.locals) (standing g l next w old s)) → Here g l target stack s
+  jump_runs next old stack s op target low here at is =
+      let test : nat_lt target (length (code g l).ops) ≡ true = grind (arith, nat_tests) in
+      moved g l next old s op target stack s here at here.kept (λ scratch. is scratch ∙ rw test refl)
+
+  -- by a condition's word: to the target where it is 0, and else to the next instruction
+  pub branch_runs : (next : ℕ) (w : ℕ) (stack : List ℕ) (s : meaning.State) (target : ℕ) (is_zero_word : Bool) → (w == 0) ≡ is_zero_word → target < length (code g l).ops → Here g l next (w ∷ stack) s → slice_get (code g l).ops next ≡ Some (ops.JumpIfZero target) → Here g l (chosen is_zero_word target (next + 1)) stack s
+  branch_runs next w stack s target true test low here at = jump_runs next (w ∷ stack) stack s (ops.JumpIfZero target) target low here at (λ scratch. rw test refl)
+  branch_runs next w stack s target false test low here at = moved g l next (w ∷ stack) s (ops.JumpIfZero target) (next + 1) stack s here at here.kept (λ scratch. rw test refl)

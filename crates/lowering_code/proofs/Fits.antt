@@ -1,0 +1,70 @@
+-- The images of programs that can be lowered may run under all settings that are allowed.
+use Rattle.std.proofs.Common.{◌≡◌, ℕ, suc, ◌+◌, ◌<◌, ◌≤◌, List, [], ◌∷◌, length, map, Some, refl, ap, ◌∙◌, arith}
+use Rattle.std.specs.Prelude.{sum}
+use Rattle.std.specs.List.{AllByRecursion}
+use Rattle.std.proofs.lemmas.List.Elements.{recursion_from_All, All-from_recursion}
+use Rattle.act_words.specs.declared.settings.Settings.{Settings}
+use Rattle.act_words.specs.Limits.{AreAllowed}
+use Rattle.flat_bytes.specs.Blocks.{first_offset, grown}
+use Rattle.ckc_core.specs.Core.{Core, Initial, Function, Import}
+use Rattle.ckc_core.specs.States.{object_block}
+use Rattle.code_words.specs.Runs.{counter_behind}
+use Rattle.code_words.specs.Fitting.{Fits, HasSmallFrame}
+use Rattle.code_words.specs.declared.image.Import as code
+use Rattle.lowering_code.specs.Images.{object_bytes, function_code, functions_from, imports_from, image_of}
+use Rattle.lowering_code.specs.Correct.{counted_from, IsFunction, IsLowerable, IsCell, KeepsMeaning}
+use Rattle.lowering_code.proofs.Shapes.{strides}
+use Rattle.lowering_code.proofs.Executions.{IsObject, size_of, strides_of, row_sum}
+use Rattle.lowering_code.proofs.Steps.{function_there}
+use Rattle.lowering_code.proofs.Programs.{keeps_meaning}
+use Rattle.lowering_code.proofs.Paces.{paced_functions}
+
+-- the bytes of a variable are those of its cells
+object_size : (cells : List Initial) → IsObject cells → length (object_bytes cells) ≡ sum (strides (object_block cells))
+object_size cells is = size_of cells (recursion_from_All IsCell cells is.0)
+
+not_empty : (objects : List (List Initial)) → AllByRecursion IsObject objects → AllByRecursion (λ (block : List ℕ). 0 < length block) (map object_bytes objects)
+not_empty [] all = tt
+not_empty (cells ∷ objects) all = (omega (arith, object_size cells all.0, row_sum cells (recursion_from_All IsCell cells all.0.0) all.0.1), not_empty objects all.1)
+
+counted : (offset : ℕ) (objects : List (List Initial)) → AllByRecursion IsObject objects → counter_behind offset (map object_bytes objects) ≡ counted_from offset objects
+counted offset [] all = refl
+counted offset (cells ∷ objects) all =
+    let size = object_size cells all.0 ∙ ap sum (strides_of cells) in
+    ap (λ n. counter_behind (grown offset n) (map object_bytes objects)) size ∙ counted (grown offset (sum (map (λ (i : Initial). i.stride) cells))) objects all.1
+
+frames : (number : ℕ) (functions : List Function) → AllByRecursion IsFunction functions → AllByRecursion HasSmallFrame (functions_from number functions)
+frames number [] all = tt
+frames number (f ∷ functions) all =
+    (record { words = all.0.frame; arguments = all.0.parameters; held = omega (arith, all.0.held) }, frames (suc number) functions all.1)
+
+imported : (number : ℕ) (imports : List Import) → AllByRecursion (λ (i : Import). i.parameters ≤ 16) imports → AllByRecursion (λ (i : code.Import). i.args ≤ 16) (imports_from number imports)
+imported number [] all = tt
+imported number (i ∷ imports) all = (all.0, imported (suc number) imports all.1)
+
+pub image_fits : (program : Core) → IsLowerable program → (settings : Settings) → AreAllowed settings → Fits (image_of program) settings
+image_fits program lowerable settings allowed =
+    let objects = recursion_from_All IsObject program.objects lowerable.cells in
+    let blocks = map object_bytes program.objects in
+    let main = lowerable.main in
+    record {
+      allowed = allowed;
+      trusted = record {
+        not_empty = All-from_recursion (λ (block : List ℕ). 0 < length block) blocks (not_empty program.objects objects);
+        blocks = omega (arith, counted first_offset program.objects objects, lowerable.objects, allowed.least_trusted);
+        frames = All-from_recursion HasSmallFrame (functions_from 0 program.functions) (frames 0 program.functions (recursion_from_All IsFunction program.functions lowerable.functions));
+      };
+      sandbox = record {
+        not_empty = All-from_recursion (λ (block : List ℕ). 0 < length block) [] tt;
+        blocks = omega (arith, allowed.least_sandbox);
+        frames = All-from_recursion HasSmallFrame [] tt;
+      };
+      imports = All-from_recursion (λ (i : code.Import). i.args ≤ 16) (imports_from 0 program.imports) (imported 0 program.imports (recursion_from_All (λ (i : Import). i.parameters ≤ 16) program.imports lowerable.imports));
+      callbacks = All-from_recursion (λ c. length c.signature ≤ 16) [] tt;
+      main = (program.main, function_code program.main main.0, record { named = refl; there = (let e : 0 + program.main ≡ program.main = omega arith in function_there 0 program.main program.functions main.0 main.1 ∙ ap (λ m. Some (function_code m main.0)) e); no_argument = main.2 });
+      paced = rw (paced_functions 0 program.functions) refl;
+    }
+
+-- the image of a program that can be lowered fits, and ends wherever the program does
+pub image_keeps : (program : Core) → IsLowerable program → KeepsMeaning program (image_of program)
+image_keeps program lowerable = record { fits = image_fits program lowerable; ends = keeps_meaning program lowerable }

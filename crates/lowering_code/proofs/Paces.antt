@@ -1,0 +1,498 @@
+-- The code of programs keeps the pace: each jump goes forward or to a tick, and to no call, and each call follows a tick.
+use Rattle.std.proofs.Common.{◌≡◌, ℕ, zero, suc, ◌+◌, ◌<◌, ◌≤◌, Bool, true, false, List, [], ◌∷◌, ◌++◌, length, Option, Some, None, pos, refl, sym, subst, arith}
+use Rattle.std.specs.Prelude.{slice_get, nat_lt, not, ◌||◌}
+use Rattle.std.specs.List.{list_all}
+use Rattle.std.proofs.lemmas.Bool.Decides.{nat_tests}
+use Rattle.pointer_modes.specs.Types.{CType}
+use Rattle.ckc_core.specs.declared.program.Site.{Site}
+use Rattle.ckc_core.specs.declared.program.Operator.{Operator}
+use Rattle.ckc_core.specs.declared.program.Operator.TheVariants as operators
+use Rattle.ckc_core.specs.declared.program.Comparison.{Comparison}
+use Rattle.ckc_core.specs.declared.program.Comparison.TheVariants as comparisons
+use Rattle.ckc_core.specs.Core as core
+use Rattle.ckc_core.specs.Meaning.{is_char}
+use Rattle.code_words.specs.declared.op.Op.{Op}
+use Rattle.code_words.specs.declared.op.Op.TheVariants as ops
+use Rattle.code_words.specs.Paced.{is_call, target_of, keeps_pace, all_keep_pace, is_paced_function}
+use Rattle.lowering_code.specs.Code.{Places, operator_code, comparison_code, load_code, load_if, store_code, store_if, offset_code, offset_size, address_code, through_code, byte_code, byte_size, expression_size, arguments_size, place_size, before_value_size, statement_size, statements_size, expression_code, arguments_code, place_code, before_value, behind_value, statement_code, statements_code, ending_code, body_places, function_ops}
+use Rattle.lowering_code.specs.Images.{function_code, functions_from}
+use Rattle.lowering_code.proofs.Steps.{HasAt, has_front, has_back, has_all}
+use Rattle.lowering_code.proofs.Sizes.{length_offset, length_byte, length_expression, length_arguments, length_place, length_statement, length_statements}
+
+-- ---- single instructions
+
+-- an instruction that neither jumps nor calls
+record IsCalm (op : Op) : Type 0 where
+  no_jump : target_of op ≡ None
+  no_call : is_call op ≡ false
+
+calm_operator : (operator : Operator) (site : Site) → IsCalm (operator_code operator site)
+calm_operator operators.Add site = record { no_jump = refl; no_call = refl }
+calm_operator operators.Subtract site = record { no_jump = refl; no_call = refl }
+calm_operator operators.Multiply site = record { no_jump = refl; no_call = refl }
+calm_operator operators.Divide site = record { no_jump = refl; no_call = refl }
+calm_operator operators.Remainder site = record { no_jump = refl; no_call = refl }
+calm_operator operators.ShiftLeft site = record { no_jump = refl; no_call = refl }
+calm_operator operators.ShiftRight site = record { no_jump = refl; no_call = refl }
+calm_operator operators.And site = record { no_jump = refl; no_call = refl }
+calm_operator operators.Or site = record { no_jump = refl; no_call = refl }
+calm_operator operators.Xor site = record { no_jump = refl; no_call = refl }
+
+calm_comparison : (comparison : Comparison) → IsCalm (comparison_code comparison)
+calm_comparison comparisons.Equal = record { no_jump = refl; no_call = refl }
+calm_comparison comparisons.NotEqual = record { no_jump = refl; no_call = refl }
+calm_comparison comparisons.Less = record { no_jump = refl; no_call = refl }
+calm_comparison comparisons.LessEqual = record { no_jump = refl; no_call = refl }
+calm_comparison comparisons.Greater = record { no_jump = refl; no_call = refl }
+calm_comparison comparisons.GreaterEqual = record { no_jump = refl; no_call = refl }
+
+calm_load : (char : Bool) → IsCalm (load_if char)
+calm_load true = record { no_jump = refl; no_call = refl }
+calm_load false = record { no_jump = refl; no_call = refl }
+
+calm_store : (char : Bool) → IsCalm (store_if char)
+calm_store true = record { no_jump = refl; no_call = refl }
+calm_store false = record { no_jump = refl; no_call = refl }
+
+either : (b : Bool) → (b || true) ≡ true
+either true = refl
+either false = refl
+
+abbrev no_call_in : Option Op → Bool
+no_call_in None = true
+no_call_in (Some op) = not (is_call op)
+
+-- ---- code within a function
+
+module _ (all : List Op) where
+  -- no call stands at this place, so that jumps may go there
+  record IsTarget (place : ℕ) : Type 0 where
+    free : no_call_in (slice_get all place) ≡ true
+
+  -- each of these instructions, which stand at this place, keeps the pace
+  abbrev AllKeep : ℕ → List Op → Type 0
+  AllKeep at [] = Unit {0}
+  AllKeep at (op ∷ rest) = (keeps_pace all at op ≡ true) × AllKeep (at + 1) rest
+
+  target_there : (place : ℕ) (op : Op) → is_call op ≡ false → slice_get all place ≡ Some op → IsTarget place
+  target_there place op free there = record { free = rw (there, free) refl }
+
+  target_same : (m n : ℕ) → m ≡ n → IsTarget m → IsTarget n
+  target_same m n same t = subst IsTarget same t
+
+  calm_keeps : (place : ℕ) (op : Op) → IsCalm op → keeps_pace all place op ≡ true
+  calm_keeps place op calm = rw (calm.no_jump, calm.no_call) refl
+
+  -- a jump forward
+  forward_by : (op : Op) (place target : ℕ) (there : Option Op) → target_of op ≡ Some target → is_call op ≡ false → place < target → slice_get all target ≡ there → no_call_in there ≡ true → keeps_pace all place op ≡ true
+  forward_by op place target None jump free lt is t = rw (jump, free, is) refl
+  forward_by op place target (Some other) jump free lt is t =
+      let test : nat_lt place target ≡ true = grind (arith, nat_tests) in
+      rw (jump, free, is, test) (rw t refl)
+
+  forward : (place target : ℕ) → place < target → IsTarget target → keeps_pace all place (ops.Jump target) ≡ true
+  forward place target lt t = forward_by (ops.Jump target) place target (slice_get all target) refl refl lt refl t.free
+
+  forward_if_zero : (place target : ℕ) → place < target → IsTarget target → keeps_pace all place (ops.JumpIfZero target) ≡ true
+  forward_if_zero place target lt t = forward_by (ops.JumpIfZero target) place target (slice_get all target) refl refl lt refl t.free
+
+  -- a jump to a tick
+  to_tick : (place target : ℕ) → slice_get all target ≡ Some ops.Tick → keeps_pace all place (ops.Jump target) ≡ true
+  to_tick place target is = rw is (rw (either (nat_lt place target)) refl)
+
+  -- a call behind its tick
+  call_keeps : (place : ℕ) (op : Op) → target_of op ≡ None → slice_get all place ≡ Some ops.Tick → keeps_pace all (suc place) op ≡ true
+  call_keeps place op no_jump is = rw (no_jump, is) (either (not (is_call op)))
+
+  -- a part, and what follows it
+  joined : (at n : ℕ) (a b : List Op) → length a ≡ n → AllKeep at a → AllKeep (at + n) b → AllKeep at (a ++ b)
+  joined at n [] b long here rest = let same : at + n ≡ at = omega arith in subst (λ k. AllKeep k b) same rest
+  joined at n (op ∷ a) b long here rest =
+      let same : at + n ≡ at + 1 + length a = omega arith in
+      (here.0, joined (at + 1) (length a) a b refl here.1 (subst (λ k. AllKeep k b) same rest))
+
+  keep_pace : (at : ℕ) (code : List Op) → AllKeep at code → all_keep_pace all at code ≡ true
+  keep_pace at [] here = refl
+  keep_pace at (op ∷ rest) here =
+      let next : at + 1 ≡ suc at = omega arith in
+      rw here.0 (keep_pace (suc at) rest (subst (λ k. AllKeep k rest) next here.1))
+
+  -- a part, and an instruction behind it
+  with_op : (at n : ℕ) (a : List Op) (op : Op) → length a ≡ n → IsCalm op → HasAt all at (a ++ op ∷ []) → (IsTarget (at + n) → AllKeep at a) → AllKeep at (a ++ op ∷ [])
+  with_op at n a op long calm has here =
+      let there = has_back all at a (op ∷ []) n long has in
+      joined at n a (op ∷ []) long (here (target_there (at + n) op calm.no_call there.0)) (calm_keeps (at + n) op calm, tt)
+
+  offset_keeps : (at offset : ℕ) → AllKeep at (offset_code offset)
+  offset_keeps at zero = tt
+  offset_keeps at (suc n) = (refl, (refl, tt))
+
+  byte_keeps : (at : ℕ) (char : Bool) → AllKeep at (byte_code char)
+  byte_keeps at true = (refl, tt)
+  byte_keeps at false = tt
+
+  -- a call behind its arguments
+  called : (at n : ℕ) (a : List Op) (op : Op) → length a ≡ n → target_of op ≡ None → HasAt all at (a ++ ops.Tick ∷ op ∷ []) → (IsTarget (at + n) → AllKeep at a) → AllKeep at (a ++ ops.Tick ∷ op ∷ [])
+  called at n a op long no_jump has here =
+      let there = has_back all at a (ops.Tick ∷ op ∷ []) n long has in
+      let next : suc (at + n) ≡ at + n + 1 = omega arith in
+      joined at n a (ops.Tick ∷ op ∷ []) long (here (target_there (at + n) ops.Tick refl there.0))
+      (refl, (subst (λ k. keeps_pace all k op ≡ true) next (call_keeps (at + n) op no_jump there.0), tt))
+
+  -- ---- where the code of a part begins, no call stands
+
+  mutual
+    starts_expression : (at : ℕ) (e : core.Expression) → HasAt all at (expression_code at e) → IsTarget at
+    starts_expression at (core.Number z) has = target_there at (ops.Const z) refl has.0
+    starts_expression at core.Null has = target_there at (ops.Const (pos 0)) refl has.0
+    starts_expression at (core.Local k) has = target_there at (ops.Local k) refl has.0
+    starts_expression at (core.Load type p) has = starts_place at p (has_front all at (place_code at p) (load_code type ∷ []) has)
+    starts_expression at (core.AddressOf object cell offset) has = target_there at (ops.BlockAddress object) refl has.0
+    starts_expression at (core.AddressThrough pointer cell offset site) has = starts_expression at pointer (has_front all at (expression_code at pointer) (through_code offset site) has)
+    starts_expression at (core.Negate operand site) has = starts_expression at operand (has_front all at (expression_code at operand) (ops.Neg site.place ∷ []) has)
+    starts_expression at (core.Complement operand) has = starts_expression at operand (has_front all at (expression_code at operand) (ops.Not ∷ []) has)
+    starts_expression at (core.Not operand) has = starts_expression at operand (has_front all at (expression_code at operand) (ops.Zero ∷ []) has)
+    starts_expression at (core.Arithmetic operator left right site) has =
+        starts_expression at left (has_front all at (expression_code at left) (expression_code (at + expression_size left) right ++ operator_code operator site ∷ []) has)
+    starts_expression at (core.Compare comparison left right) has =
+        starts_expression at left (has_front all at (expression_code at left) (expression_code (at + expression_size left) right ++ comparison_code comparison ∷ []) has)
+    starts_expression at (core.Same left right) has =
+        starts_expression at left (has_front all at (expression_code at left) (expression_code (at + expression_size left) right ++ ops.Equal ∷ []) has)
+    starts_expression at (core.AndAlso left right) has =
+        starts_expression at left (has_front all at (expression_code at left) (ops.JumpIfZero (at + expression_size left + 1 + expression_size right + 3) ∷ (expression_code (at + expression_size left + 1) right ++ ops.Zero ∷ ops.Zero ∷ ops.Jump (at + expression_size left + 1 + expression_size right + 4) ∷ ops.Const (pos 0) ∷ [])) has)
+    starts_expression at (core.OrElse left right) has =
+        starts_expression at left (has_front all at (expression_code at left) (ops.JumpIfZero (at + expression_size left + 3) ∷ ops.Const (pos 1) ∷ ops.Jump (at + expression_size left + 3 + expression_size right + 2) ∷ (expression_code (at + expression_size left + 3) right ++ ops.Zero ∷ ops.Zero ∷ [])) has)
+    starts_expression at (core.LowByte operand) has = starts_expression at operand (has_front all at (expression_code at operand) (ops.Byte ∷ []) has)
+    starts_expression at (core.Call function arguments) has =
+        let there = has_back all at (arguments_code at arguments) (ops.Tick ∷ ops.Call function ∷ []) (arguments_size arguments) (length_arguments at arguments) has in
+        starts_arguments at arguments (has_front all at (arguments_code at arguments) (ops.Tick ∷ ops.Call function ∷ []) has) (target_there (at + arguments_size arguments) ops.Tick refl there.0)
+    starts_expression at (core.TaintedCall import arguments site) has =
+        let there = has_back all at (arguments_code at arguments) (ops.Tick ∷ ops.TaintedCall import site.place ∷ []) (arguments_size arguments) (length_arguments at arguments) has in
+        starts_arguments at arguments (has_front all at (arguments_code at arguments) (ops.Tick ∷ ops.TaintedCall import site.place ∷ []) has) (target_there (at + arguments_size arguments) ops.Tick refl there.0)
+    starts_expression at core.NextInput has = target_there at ops.NextInput refl has.0
+
+    starts_arguments : (at : ℕ) (arguments : core.Arguments) → HasAt all at (arguments_code at arguments) → IsTarget (at + arguments_size arguments) → IsTarget at
+    starts_arguments at core.Done has end = target_same (at + 0) at (omega arith) end
+    starts_arguments at (core.More first rest) has end = starts_expression at first (has_front all at (expression_code at first) (arguments_code (at + expression_size first) rest) has)
+
+    starts_place : (at : ℕ) (p : core.Place) → HasAt all at (place_code at p) → IsTarget at
+    starts_place at (core.Direct object cell offset) has = target_there at (ops.BlockAddress object) refl has.0
+    starts_place at (core.Through pointer cell offset site) has = starts_expression at pointer (has_front all at (expression_code at pointer) (through_code offset site) has)
+
+  starts_before_value : (at : ℕ) (p : core.Place) → HasAt all at (before_value at p) → IsTarget at
+  starts_before_value at (core.Direct object cell offset) has = target_there at (ops.BlockAddress object) refl has.0
+  starts_before_value at (core.Through pointer cell offset site) has = starts_expression at pointer has
+
+  mutual
+    starts_statement : (p : Places) (at : ℕ) (x : core.Statement) → HasAt all at (statement_code p at x) → IsTarget (at + statement_size x) → IsTarget at
+    starts_statement p at core.Nothing has end = target_same (at + 0) at (omega arith) end
+    starts_statement p at (core.SetLocal local value) has end = starts_expression at value (has_front all at (expression_code at value) (ops.Set local ∷ []) has)
+    starts_statement p at (core.Store type cell value) has end =
+        starts_before_value at cell (has_front all at (before_value at cell) (expression_code (at + before_value_size cell) value ++ behind_value p.scratch type cell) has)
+    starts_statement p at (core.UpdateLocal char local operator value site) has end = target_there at (ops.Local local) refl has.0
+    starts_statement p at (core.Update type cell operator value site) has end =
+        starts_place at cell (has_front all at (place_code at cell) (ops.Duplicate ∷ load_code type ∷ (expression_code (at + place_size cell + 2) value ++ operator_code operator site ∷ (byte_code (is_char type) ++ store_code type ∷ []))) has)
+    starts_statement p at (core.Evaluate value) has end = starts_expression at value (has_front all at (expression_code at value) (ops.Discard ∷ []) has)
+    starts_statement p at (core.CallAlone function arguments) has end =
+        let there = has_back all at (arguments_code at arguments) (ops.Tick ∷ ops.Call function ∷ []) (arguments_size arguments) (length_arguments at arguments) has in
+        starts_arguments at arguments (has_front all at (arguments_code at arguments) (ops.Tick ∷ ops.Call function ∷ []) has) (target_there (at + arguments_size arguments) ops.Tick refl there.0)
+    starts_statement p at (core.TaintedAlone import arguments site) has end =
+        let there = has_back all at (arguments_code at arguments) (ops.Tick ∷ ops.TaintedCall import site.place ∷ []) (arguments_size arguments) (length_arguments at arguments) has in
+        starts_arguments at arguments (has_front all at (arguments_code at arguments) (ops.Tick ∷ ops.TaintedCall import site.place ∷ []) has) (target_there (at + arguments_size arguments) ops.Tick refl there.0)
+    starts_statement p at (core.Print number) has end = starts_expression at number (has_front all at (expression_code at number) (ops.Print ∷ []) has)
+    starts_statement p at (core.PutByte number) has end = starts_expression at number (has_front all at (expression_code at number) (ops.PutByte ∷ []) has)
+    starts_statement p at (core.Block inner) has end = starts_statements p at inner has end
+    starts_statement p at (core.If condition consequent alternative) has end =
+        let inside = at + expression_size condition + 1 in
+        let other = inside + statement_size consequent + 1 in
+        starts_expression at condition (has_front all at (expression_code at condition) (ops.JumpIfZero other ∷ (statement_code p inside consequent ++ ops.Jump (other + statement_size alternative) ∷ statement_code p other alternative)) has)
+    starts_statement p at (core.Loop condition body step) has end = target_there at (ops.Jump (at + 2 + statement_size body + statement_size step)) refl has.0
+    starts_statement p at (core.Return value) has end = starts_expression at value (has_front all at (expression_code at value) (ops.Return ∷ []) has)
+    starts_statement p at core.ReturnNothing has end = target_there at ops.ReturnNothing refl has.0
+    starts_statement p at core.Break has end = target_there at (ops.Jump p.on_break) refl has.0
+    starts_statement p at core.Continue has end = target_there at (ops.Jump p.on_continue) refl has.0
+
+    starts_statements : (p : Places) (at : ℕ) (xs : core.Statements) → HasAt all at (statements_code p at xs) → IsTarget (at + statements_size xs) → IsTarget at
+    starts_statements p at core.NoMore has end = target_same (at + 0) at (omega arith) end
+    starts_statements p at (core.Then first others) has end =
+        let m = at + statement_size first in
+        let there = has_back all at (statement_code p at first) (statements_code p m others) (statement_size first) (length_statement p at first) has in
+        starts_statement p at first (has_front all at (statement_code p at first) (statements_code p m others) has)
+        (starts_statements p m others there (target_same (at + (statement_size first + statements_size others)) (m + statements_size others) (omega arith) end))
+
+  -- ---- each part keeps the pace
+
+  -- what is shown of an expression's code
+  abbrev KeepsPace : ℕ → core.Expression → Type 0
+  KeepsPace at e = HasAt all at (expression_code at e) → IsTarget (at + expression_size e) → AllKeep at (expression_code at e)
+
+  expression_with : (at : ℕ) (e : core.Expression) (op : Op) → IsCalm op → HasAt all at (expression_code at e ++ op ∷ []) → KeepsPace at e → AllKeep at (expression_code at e ++ op ∷ [])
+  expression_with at e op calm has here =
+      with_op at (expression_size e) (expression_code at e) op (length_expression at e) calm has (here (has_front all at (expression_code at e) (op ∷ []) has))
+
+  two_with : (at : ℕ) (left right : core.Expression) (op : Op) → IsCalm op → HasAt all at (expression_code at left ++ (expression_code (at + expression_size left) right ++ op ∷ [])) → KeepsPace at left → KeepsPace (at + expression_size left) right → AllKeep at (expression_code at left ++ (expression_code (at + expression_size left) right ++ op ∷ []))
+  two_with at left right op calm has first second =
+      let m = at + expression_size left in
+      let rest = expression_code m right ++ op ∷ [] in
+      let back = has_back all at (expression_code at left) rest (expression_size left) (length_expression at left) has in
+      joined at (expression_size left) (expression_code at left) rest (length_expression at left)
+      (first (has_front all at (expression_code at left) rest has) (starts_expression m right (has_front all m (expression_code m right) (op ∷ []) back)))
+      (expression_with m right op calm back second)
+
+  through_with : (at : ℕ) (pointer : core.Expression) (offset : ℕ) (site : Site) → HasAt all at (expression_code at pointer ++ through_code offset site) → KeepsPace at pointer → AllKeep at (expression_code at pointer ++ through_code offset site)
+  through_with at pointer offset site has here =
+      let m = at + expression_size pointer in
+      let back = has_back all at (expression_code at pointer) (through_code offset site) (expression_size pointer) (length_expression at pointer) has in
+      joined at (expression_size pointer) (expression_code at pointer) (through_code offset site) (length_expression at pointer)
+      (here (has_front all at (expression_code at pointer) (through_code offset site) has) (target_there m (ops.NonNull site.place) refl back.0))
+      (refl, offset_keeps (m + 1) offset)
+
+  mutual
+    paced_expression : (at : ℕ) (e : core.Expression) → HasAt all at (expression_code at e) → IsTarget (at + expression_size e) → AllKeep at (expression_code at e)
+    paced_expression at (core.Number z) has end = (refl, tt)
+    paced_expression at core.Null has end = (refl, tt)
+    paced_expression at (core.Local k) has end = (refl, tt)
+    paced_expression at (core.Load type p) has end =
+        with_op at (place_size p) (place_code at p) (load_code type) (length_place at p) (calm_load (is_char type)) has (paced_place at p (has_front all at (place_code at p) (load_code type ∷ []) has))
+    paced_expression at (core.AddressOf object cell offset) has end = (refl, offset_keeps (at + 1) offset)
+    paced_expression at (core.AddressThrough pointer cell offset site) has end = through_with at pointer offset site has (paced_expression at pointer)
+    paced_expression at (core.Negate operand site) has end = expression_with at operand (ops.Neg site.place) (record { no_jump = refl; no_call = refl }) has (paced_expression at operand)
+    paced_expression at (core.Complement operand) has end = expression_with at operand ops.Not (record { no_jump = refl; no_call = refl }) has (paced_expression at operand)
+    paced_expression at (core.Not operand) has end = expression_with at operand ops.Zero (record { no_jump = refl; no_call = refl }) has (paced_expression at operand)
+    paced_expression at (core.Arithmetic operator left right site) has end = two_with at left right (operator_code operator site) (calm_operator operator site) has (paced_expression at left) (paced_expression (at + expression_size left) right)
+    paced_expression at (core.Compare comparison left right) has end = two_with at left right (comparison_code comparison) (calm_comparison comparison) has (paced_expression at left) (paced_expression (at + expression_size left) right)
+    paced_expression at (core.Same left right) has end = two_with at left right ops.Equal (record { no_jump = refl; no_call = refl }) has (paced_expression at left) (paced_expression (at + expression_size left) right)
+    paced_expression at (core.AndAlso left right) has end =
+        let m = at + expression_size left in
+        let n = m + 1 + expression_size right in
+        let last = ops.Zero ∷ ops.Zero ∷ ops.Jump (n + 4) ∷ ops.Const (pos 0) ∷ [] in
+        let branch = ops.JumpIfZero (n + 3) in
+        let inner = expression_code (m + 1) right in
+        let back = has_back all at (expression_code at left) (branch ∷ (inner ++ last)) (expression_size left) (length_expression at left) has in
+        let behind = has_back all (m + 1) inner last (expression_size right) (length_expression (m + 1) right) back.1 in
+        let null = target_same (n + 1 + 1 + 1) (n + 3) (omega arith) (target_there (n + 1 + 1 + 1) (ops.Const (pos 0)) refl behind.1.1.1.0) in
+        let out = target_same (at + (expression_size left + (expression_size right + 5))) (n + 4) (omega arith) end in
+        joined at (expression_size left) (expression_code at left) (branch ∷ (inner ++ last)) (length_expression at left)
+        (paced_expression at left (has_front all at (expression_code at left) (branch ∷ (inner ++ last)) has) (target_there m branch refl back.0)) (
+          forward_if_zero m (n + 3) (omega arith) null,
+          joined (m + 1) (expression_size right) inner last (length_expression (m + 1) right)
+              (paced_expression (m + 1) right (has_front all (m + 1) inner last back.1) (target_there n ops.Zero refl behind.0))
+              (refl, (refl, (forward (n + 1 + 1) (n + 4) (omega arith) out, (refl, tt)))),
+        )
+    paced_expression at (core.OrElse left right) has end =
+        let m = at + expression_size left in
+        let n = m + 3 + expression_size right in
+        let last = ops.Zero ∷ ops.Zero ∷ [] in
+        let inner = expression_code (m + 3) right in
+        let rest = ops.JumpIfZero (m + 3) ∷ ops.Const (pos 1) ∷ ops.Jump (n + 2) ∷ (inner ++ last) in
+        let back = has_back all at (expression_code at left) rest (expression_size left) (length_expression at left) has in
+        let three : m + 1 + 1 + 1 ≡ m + 3 = omega arith in
+        let at_right = subst (λ k. HasAt all k (inner ++ last)) three back.1.1.1 in
+        let behind = has_back all (m + 3) inner last (expression_size right) (length_expression (m + 3) right) at_right in
+        let front = has_front all (m + 3) inner last at_right in
+        let out = target_same (at + (expression_size left + (expression_size right + 5))) (n + 2) (omega arith) end in
+        let right_keeps = joined (m + 3) (expression_size right) inner last (length_expression (m + 3) right)
+        (paced_expression (m + 3) right front (target_there n ops.Zero refl behind.0)) (refl, (refl, tt)) in
+        joined at (expression_size left) (expression_code at left) rest (length_expression at left)
+        (paced_expression at left (has_front all at (expression_code at left) rest has) (target_there m (ops.JumpIfZero (m + 3)) refl back.0)) (
+          forward_if_zero m (m + 3) (omega arith) (starts_expression (m + 3) right front),
+          (
+            refl,
+            (
+              forward (m + 1 + 1) (n + 2) (omega arith) out,
+              subst (λ k. AllKeep k (inner ++ last)) (sym three) right_keeps,
+            ),
+          ),
+        )
+    paced_expression at (core.LowByte operand) has end = expression_with at operand ops.Byte (record { no_jump = refl; no_call = refl }) has (paced_expression at operand)
+    paced_expression at (core.Call function arguments) has end =
+        called at (arguments_size arguments) (arguments_code at arguments) (ops.Call function) (length_arguments at arguments) refl has (paced_arguments at arguments (has_front all at (arguments_code at arguments) (ops.Tick ∷ ops.Call function ∷ []) has))
+    paced_expression at (core.TaintedCall import arguments site) has end =
+        called at (arguments_size arguments) (arguments_code at arguments) (ops.TaintedCall import site.place) (length_arguments at arguments) refl has (paced_arguments at arguments (has_front all at (arguments_code at arguments) (ops.Tick ∷ ops.TaintedCall import site.place ∷ []) has))
+    paced_expression at core.NextInput has end = (refl, tt)
+
+    paced_arguments : (at : ℕ) (arguments : core.Arguments) → HasAt all at (arguments_code at arguments) → IsTarget (at + arguments_size arguments) → AllKeep at (arguments_code at arguments)
+    paced_arguments at core.Done has end = tt
+    paced_arguments at (core.More first rest) has end =
+        let m = at + expression_size first in
+        let back = has_back all at (expression_code at first) (arguments_code m rest) (expression_size first) (length_expression at first) has in
+        let out = target_same (at + (expression_size first + arguments_size rest)) (m + arguments_size rest) (omega arith) end in
+        joined at (expression_size first) (expression_code at first) (arguments_code m rest) (length_expression at first)
+        (paced_expression at first (has_front all at (expression_code at first) (arguments_code m rest) has) (starts_arguments m rest back out))
+        (paced_arguments m rest back out)
+
+    paced_place : (at : ℕ) (p : core.Place) → HasAt all at (place_code at p) → IsTarget (at + place_size p) → AllKeep at (place_code at p)
+    paced_place at (core.Direct object cell offset) has end = (refl, offset_keeps (at + 1) offset)
+    paced_place at (core.Through pointer cell offset site) has end = through_with at pointer offset site has (paced_expression at pointer)
+
+  paced_one : (at : ℕ) (e : core.Expression) (op : Op) → IsCalm op → HasAt all at (expression_code at e ++ op ∷ []) → AllKeep at (expression_code at e ++ op ∷ [])
+  paced_one at e op calm has = expression_with at e op calm has (paced_expression at e)
+
+  -- `break` and `continue` go behind a part that ends here
+  record LeadOn (p : Places) (end : ℕ) : Type 0 where
+    break_behind : end ≤ p.on_break
+    break_free : IsTarget p.on_break
+    continue_behind : end ≤ p.on_continue
+    continue_free : IsTarget p.on_continue
+
+  lead_from : (p : Places) (m n : ℕ) → n ≤ m → LeadOn p m → LeadOn p n
+  lead_from p m n le l = record { break_behind = omega (arith, l.break_behind); break_free = l.break_free; continue_behind = omega (arith, l.continue_behind); continue_free = l.continue_free }
+
+  paced_store : (scratch at : ℕ) (type : CType) (cell : core.Place) (value : core.Expression) → HasAt all at (before_value at cell ++ (expression_code (at + before_value_size cell) value ++ behind_value scratch type cell)) → AllKeep at (before_value at cell ++ (expression_code (at + before_value_size cell) value ++ behind_value scratch type cell))
+  paced_store scratch at type (core.Direct object cell offset) value has =
+      let m = at + (1 + offset_size offset) in
+      let rest = expression_code m value ++ store_code type ∷ [] in
+      let back = has_back all at (address_code object offset) rest (1 + offset_size offset) (omega (arith, length_offset offset)) has in
+      joined at (1 + offset_size offset) (address_code object offset) rest (omega (arith, length_offset offset)) (refl, offset_keeps (at + 1) offset)
+      (paced_one m value (store_code type) (calm_store (is_char type)) back)
+  paced_store scratch at type (core.Through pointer cell offset site) value has =
+      let m = at + expression_size pointer in
+      let n = m + expression_size value in
+      let last = ops.Local scratch ∷ store_code type ∷ [] in
+      let check = ops.Set scratch ∷ (through_code offset site ++ last) in
+      let rest = expression_code m value ++ check in
+      let back = has_back all at (expression_code at pointer) rest (expression_size pointer) (length_expression at pointer) has in
+      let behind = has_back all m (expression_code m value) check (expression_size value) (length_expression m value) back in
+      let store = calm_keeps (n + 1 + (1 + offset_size offset) + 1) (store_code type) (calm_store (is_char type)) in
+      joined at (expression_size pointer) (expression_code at pointer) rest (length_expression at pointer)
+      (paced_expression at pointer (has_front all at (expression_code at pointer) rest has) (starts_expression m value (has_front all m (expression_code m value) check back)))
+      (joined m (expression_size value) (expression_code m value) check (length_expression m value)
+      (paced_expression m value (has_front all m (expression_code m value) check back) (target_there n (ops.Set scratch) refl behind.0))
+      (refl, joined (n + 1) (1 + offset_size offset) (through_code offset site) last (omega (arith, length_offset offset)) (refl, offset_keeps (n + 1 + 1) offset) (refl, (store, tt))))
+
+  -- an operator, and where its result goes
+  paced_result : (at : ℕ) (operator : Operator) (site : Site) (char : Bool) (keep : Op) → IsCalm keep → AllKeep at (operator_code operator site ∷ (byte_code char ++ keep ∷ []))
+  paced_result at operator site char keep calm = (
+    calm_keeps at (operator_code operator site) (calm_operator operator site),
+    joined (at + 1) (byte_size char) (byte_code char) (keep ∷ []) (length_byte char) (byte_keeps (at + 1) char) (calm_keeps (at + 1 + byte_size char) keep calm, tt),
+  )
+
+  paced_operand : (at : ℕ) (value : core.Expression) (operator : Operator) (site : Site) (char : Bool) (keep : Op) → IsCalm keep → HasAt all at (expression_code at value ++ operator_code operator site ∷ (byte_code char ++ keep ∷ [])) → AllKeep at (expression_code at value ++ operator_code operator site ∷ (byte_code char ++ keep ∷ []))
+  paced_operand at value operator site char keep calm has =
+      let last = operator_code operator site ∷ (byte_code char ++ keep ∷ []) in
+      let back = has_back all at (expression_code at value) last (expression_size value) (length_expression at value) has in
+      joined at (expression_size value) (expression_code at value) last (length_expression at value)
+      (paced_expression at value (has_front all at (expression_code at value) last has) (target_there (at + expression_size value) (operator_code operator site) (calm_operator operator site).no_call back.0))
+      (paced_result (at + expression_size value) operator site char keep calm)
+
+  paced_update : (at : ℕ) (type : CType) (cell : core.Place) (value : core.Expression) (operator : Operator) (site : Site) → (p : Places) → HasAt all at (statement_code p at (core.Update type cell operator value site)) → AllKeep at (statement_code p at (core.Update type cell operator value site))
+  paced_update at type cell value operator site p has =
+      let m = at + place_size cell in
+      let operand = expression_code (m + 2) value ++ operator_code operator site ∷ (byte_code (is_char type) ++ store_code type ∷ []) in
+      let rest = ops.Duplicate ∷ load_code type ∷ operand in
+      let back = has_back all at (place_code at cell) rest (place_size cell) (length_place at cell) has in
+      let two : m + 1 + 1 ≡ m + 2 = omega arith in
+      let keeps = paced_operand (m + 2) value operator site (is_char type) (store_code type) (calm_store (is_char type)) (subst (λ k. HasAt all k operand) two back.1.1) in
+      joined at (place_size cell) (place_code at cell) rest (length_place at cell)
+      (paced_place at cell (has_front all at (place_code at cell) rest has) (target_there m ops.Duplicate refl back.0))
+      (refl, (calm_keeps (m + 1) (load_code type) (calm_load (is_char type)), subst (λ k. AllKeep k operand) (sym two) keeps))
+
+  mutual
+    paced_statement : (p : Places) (at : ℕ) (x : core.Statement) → HasAt all at (statement_code p at x) → IsTarget (at + statement_size x) → LeadOn p (at + statement_size x) → AllKeep at (statement_code p at x)
+    paced_statement p at core.Nothing has end leads = tt
+    paced_statement p at (core.SetLocal local value) has end leads = paced_one at value (ops.Set local) (record { no_jump = refl; no_call = refl }) has
+    paced_statement p at (core.Store type cell value) has end leads = paced_store p.scratch at type cell value has
+    paced_statement p at (core.UpdateLocal char local operator value site) has end leads = (refl, paced_operand (at + 1) value operator site char (ops.Set local) (record { no_jump = refl; no_call = refl }) has.1)
+    paced_statement p at (core.Update type cell operator value site) has end leads = paced_update at type cell value operator site p has
+    paced_statement p at (core.Evaluate value) has end leads = paced_one at value ops.Discard (record { no_jump = refl; no_call = refl }) has
+    paced_statement p at (core.CallAlone function arguments) has end leads =
+        called at (arguments_size arguments) (arguments_code at arguments) (ops.Call function) (length_arguments at arguments) refl has (paced_arguments at arguments (has_front all at (arguments_code at arguments) (ops.Tick ∷ ops.Call function ∷ []) has))
+    paced_statement p at (core.TaintedAlone import arguments site) has end leads =
+        called at (arguments_size arguments) (arguments_code at arguments) (ops.TaintedCall import site.place) (length_arguments at arguments) refl has (paced_arguments at arguments (has_front all at (arguments_code at arguments) (ops.Tick ∷ ops.TaintedCall import site.place ∷ []) has))
+    paced_statement p at (core.Print number) has end leads = paced_one at number ops.Print (record { no_jump = refl; no_call = refl }) has
+    paced_statement p at (core.PutByte number) has end leads = paced_one at number ops.PutByte (record { no_jump = refl; no_call = refl }) has
+    paced_statement p at (core.Block inner) has end leads = paced_statements p at inner has end leads
+    paced_statement p at (core.If condition consequent alternative) has end leads =
+        let m = at + expression_size condition in
+        let inside = m + 1 in
+        let turn = inside + statement_size consequent in
+        let other = turn + 1 in
+        let after = other + statement_size alternative in
+        let leap = ops.Jump after ∷ statement_code p other alternative in
+        let rest = ops.JumpIfZero other ∷ (statement_code p inside consequent ++ leap) in
+        let back = has_back all at (expression_code at condition) rest (expression_size condition) (length_expression at condition) has in
+        let behind = has_back all inside (statement_code p inside consequent) leap (statement_size consequent) (length_statement p inside consequent) back.1 in
+        let out = target_same (at + statement_size (core.If condition consequent alternative)) after (omega arith) end in
+        let lead_out = lead_from p (at + statement_size (core.If condition consequent alternative)) after (omega arith) leads in
+        joined at (expression_size condition) (expression_code at condition) rest (length_expression at condition)
+        (paced_expression at condition (has_front all at (expression_code at condition) rest has) (target_there m (ops.JumpIfZero other) refl back.0)) (
+          forward_if_zero m other (omega arith) (starts_statement p other alternative behind.1 out),
+          joined inside (statement_size consequent) (statement_code p inside consequent) leap (length_statement p inside consequent)
+              (paced_statement p inside consequent (has_front all inside (statement_code p inside consequent) leap back.1) (target_there turn (ops.Jump after) refl behind.0) (lead_from p after turn (omega arith) lead_out))
+              (forward turn after (omega arith) out, paced_statement p other alternative behind.1 out lead_out),
+        )
+    paced_statement p at (core.Loop condition body step) has end leads =
+        let inside = at + 2 in
+        let next = inside + statement_size body in
+        let test = next + statement_size step in
+        let branch = test + expression_size condition in
+        let out = branch + 2 in
+        let q : Places = record { scratch = p.scratch; on_break = out; on_continue = next } in
+        let last = ops.JumpIfZero out ∷ ops.Jump (at + 1) ∷ [] in
+        let tests = expression_code test condition ++ last in
+        let steps = statement_code p next step ++ tests in
+        let bodies = statement_code q inside body ++ steps in
+        let two : at + 1 + 1 ≡ inside = omega arith in
+        let at_body = subst (λ k. HasAt all k bodies) two has.1.1 in
+        let at_step = has_back all inside (statement_code q inside body) steps (statement_size body) (length_statement q inside body) at_body in
+        let at_test = has_back all next (statement_code p next step) tests (statement_size step) (length_statement p next step) at_step in
+        let at_branch = has_back all test (expression_code test condition) last (expression_size condition) (length_expression test condition) at_test in
+        let front_step = has_front all next (statement_code p next step) tests at_step in
+        let front_test = has_front all test (expression_code test condition) last at_test in
+        let free_out = target_same (at + statement_size (core.Loop condition body step)) out (omega arith) end in
+        let free_test = starts_expression test condition front_test in
+        let free_next = starts_statement p next step front_step free_test in
+        let inner : LeadOn q next = record { break_behind = omega arith; break_free = free_out; continue_behind = omega arith; continue_free = free_next } in
+        let tests_keep = joined test (expression_size condition) (expression_code test condition) last (length_expression test condition)
+        (paced_expression test condition front_test (target_there branch (ops.JumpIfZero out) refl at_branch.0))
+        (forward_if_zero branch out (omega arith) free_out, (to_tick (branch + 1) (at + 1) has.1.0, tt)) in
+        let steps_keep = joined next (statement_size step) (statement_code p next step) tests (length_statement p next step)
+        (paced_statement p next step front_step free_test (lead_from p (at + statement_size (core.Loop condition body step)) test (omega arith) leads)) tests_keep in
+        let bodies_keep = joined inside (statement_size body) (statement_code q inside body) steps (length_statement q inside body)
+        (paced_statement q inside body (has_front all inside (statement_code q inside body) steps at_body) free_next inner) steps_keep in
+        (forward at test (omega arith) free_test, (refl, subst (λ k. AllKeep k bodies) (sym two) bodies_keep))
+    paced_statement p at (core.Return value) has end leads = paced_one at value ops.Return (record { no_jump = refl; no_call = refl }) has
+    paced_statement p at core.ReturnNothing has end leads = (refl, tt)
+    paced_statement p at core.Break has end leads = (forward at p.on_break (omega (arith, leads.break_behind)) leads.break_free, tt)
+    paced_statement p at core.Continue has end leads = (forward at p.on_continue (omega (arith, leads.continue_behind)) leads.continue_free, tt)
+
+    paced_statements : (p : Places) (at : ℕ) (xs : core.Statements) → HasAt all at (statements_code p at xs) → IsTarget (at + statements_size xs) → LeadOn p (at + statements_size xs) → AllKeep at (statements_code p at xs)
+    paced_statements p at core.NoMore has end leads = tt
+    paced_statements p at (core.Then first others) has end leads =
+        let m = at + statement_size first in
+        let whole = at + (statement_size first + statements_size others) in
+        let back = has_back all at (statement_code p at first) (statements_code p m others) (statement_size first) (length_statement p at first) has in
+        let out = target_same whole (m + statements_size others) (omega arith) end in
+        joined at (statement_size first) (statement_code p at first) (statements_code p m others) (length_statement p at first)
+        (paced_statement p at first (has_front all at (statement_code p at first) (statements_code p m others) has) (starts_statements p m others back out) (lead_from p whole m (omega arith) leads))
+        (paced_statements p m others back out (lead_from p whole (m + statements_size others) (omega arith) leads))
+
+-- ---- whole functions
+
+paced_ending : (all : List Op) (at : ℕ) (result : Option CType) → AllKeep all at (ending_code result)
+paced_ending all at None = (refl, tt)
+paced_ending all at (Some type) = (refl, (refl, tt))
+
+starts_ending : (all : List Op) (at : ℕ) (result : Option CType) → HasAt all at (ending_code result) → IsTarget all at
+starts_ending all at None has = target_there all at ops.ReturnNothing refl has.0
+starts_ending all at (Some type) has = target_there all at (ops.Const (pos 0)) refl has.0
+
+paced_function : (number : ℕ) (f : core.Function) → is_paced_function (function_code number f) ≡ true
+paced_function number f =
+    let all = function_ops f in
+    let p = body_places f in
+    let n = statements_size f.body in
+    let body = statements_code p 0 f.body in
+    let last = ending_code f.result in
+    let has : HasAt all 0 all = has_all all [] in
+    let zero : 0 + n ≡ n = omega arith in
+    let back = subst (λ k. HasAt all k last) zero (has_back all 0 body last n (length_statements p 0 f.body) has) in
+    let free = starts_ending all n f.result back in
+    let leads : LeadOn all p n = record { break_behind = omega arith; break_free = free; continue_behind = omega arith; continue_free = free } in
+    keep_pace all 0 all (joined all 0 n body last (length_statements p 0 f.body)
+    (paced_statements all p 0 f.body (has_front all 0 body last has) (target_same all n (0 + n) (sym zero) free) (subst (LeadOn all p) (sym zero) leads))
+    (paced_ending all (0 + n) f.result))
+
+pub paced_functions : (number : ℕ) (functions : List core.Function) → list_all is_paced_function (functions_from number functions) ≡ true
+paced_functions number [] = refl
+paced_functions number (f ∷ functions) = rw (paced_function number f) (paced_functions (suc number) functions)

@@ -1,0 +1,290 @@
+-- The code of a statement has the statement's effect.
+use Rattle.std.proofs.Common.{◌≡◌, ℕ, zero, suc, ◌+◌, ◌%◌, ◌<◌, ◌≤◌, Bool, true, false, List, [], ◌∷◌, ◌++◌, length, Option, Some, None, refl, sym, ap, ◌∙◌, subst, arith}
+use Rattle.std.specs.Prelude.{slice_get, not}
+use Rattle.act_words.specs.Outcome.{Gives, and_then}
+use Rattle.act_words.specs.Numbers.{word, number_line}
+use Rattle.act_words.specs.Touches.{spend_tick, write}
+use Rattle.pointer_modes.specs.Types.{CType}
+use Rattle.ckc_core.specs.declared.program.Site.{Site}
+use Rattle.ckc_core.specs.declared.program.Operator.{Operator}
+use Rattle.ckc_core.specs.Core as core
+use Rattle.ckc_core.specs.States.{Value, Number, Null, At, Block, stands_at}
+use Rattle.ckc_core.specs.States as meaning
+use Rattle.ckc_core.specs.Meaning.{Result, Knot, Flow, Next, Broke, Continued, Returned, is_char, given, truth, value, place, place_where, pointer_of, load_at, store_at, arithmetic_of, kept_if, set_local, printed, put, on_next, behind_turn, no_result, choose, call_trusted, call_tainted, effect, effects}
+use Rattle.code_words.specs.declared.op.Op.{Op}
+use Rattle.code_words.specs.declared.op.Op.TheVariants as ops
+use Rattle.lowering_code.specs.Code.{Places, operator_code, load_code, store_code, address_code, byte_code, byte_size, offset_size, expression_size, arguments_size, place_size, statement_size, statements_size, expression_code, place_code, behind_value, statement_code, statements_code}
+use Rattle.ckc_core.specs.Stacks.{expression_stack, offset_stack, statement_stack, statements_stack}
+use Rattle.lowering_code.proofs.Numbers.{signed-word}
+use Rattle.lowering_code.proofs.Worlds.{KeptWorld}
+use Rattle.lowering_code.proofs.Executions.{Execution, word_of, IsKept}
+use Rattle.lowering_code.proofs.Steps.{HasAt, has_front, has_back, Leads, leads_on, leads_to, asks_on, Finishes, Layout, code, frame, Here, kept_in, fetched, moved, pushes, here_at, Arrives}
+use Rattle.lowering_code.proofs.Sizes.{length_offset, length_byte, length_expression, length_place, length_statement}
+use Rattle.lowering_code.proofs.Expressions.{local_runs, operator_runs, tick_runs, jump_runs, branch_runs}
+use Rattle.lowering_code.proofs.Places.{address_of, Placed, direct_runs, load_runs, truth_word}
+use Rattle.lowering_code.proofs.Calls.{Leaves, FlowsTo, Affects, ArePlaces, test_of, KnotRuns, Resumes, call_runs}
+use Rattle.lowering_code.proofs.Tainted.{tainted_runs}
+use Rattle.lowering_code.proofs.Values.{setting, called_runs, value_runs, arguments_run, place_runs}
+use Rattle.lowering_code.proofs.Stores.{store_runs, set_runs, byte_runs, through_store_runs}
+
+stack_of_offset : (offset n : ℕ) → 2 ≤ n → offset_stack offset ≤ n
+stack_of_offset zero n h = omega arith
+stack_of_offset (suc offset) n h = h
+
+module _ (g : Execution) (l : Layout g) where
+  pub affects_at : (p : Places) (m n : ℕ) (o : Result Flow) → m ≡ n → Affects g l p m o → Affects g l p n o
+  affects_at p m n o e a = subst (λ k. Affects g l p k o) e a
+
+  -- what follows a statement that leads to the next one
+  affects_next : (p : Places) (m n : ℕ) (o : Result Flow) → ((s : meaning.State) → Here g l m [] s → Here g l n [] s) → Affects g l p m o → Affects g l p n o
+  affects_next p m n o more a = leads_to (FlowsTo g l p m) (FlowsTo g l p n) (Finishes g) o by a
+    where
+      by : (flow : Flow) (s : meaning.State) → FlowsTo g l p m flow s → FlowsTo g l p n flow s
+      by Next s h = more s h
+      by Broke s h = h
+      by Continued s h = h
+      by (Returned v) s h = h
+
+  affects_on : (p : Places) (m n : ℕ) (o : Result Flow) (rest : meaning.State → Result Flow) → Affects g l p m o → ((s : meaning.State) → Here g l m [] s → Affects g l p n (rest s)) → Affects g l p n (and_then o (on_next rest))
+  affects_on p m n o rest a more = leads_on (FlowsTo g l p m) (FlowsTo g l p n) (Finishes g) o (on_next rest) a by
+    where
+      by : (flow : Flow) (s : meaning.State) → FlowsTo g l p m flow s → Affects g l p n (on_next rest flow s)
+      by Next s h = more s h
+      by Broke s h = h
+      by Continued s h = h
+      by (Returned v) s h = h
+
+  -- behind the body of a turn
+  turn_on : (p q : Places) (m n : ℕ) (o : Result Flow) (further : meaning.State → Result Flow) → q.on_break ≡ n → q.on_continue ≡ m → Affects g l q m o → ((s : meaning.State) → Here g l m [] s → Affects g l p n (further s)) → Affects g l p n (and_then o (behind_turn further))
+  turn_on p q m n o further on_break on_continue a more = leads_on (FlowsTo g l q m) (FlowsTo g l p n) (Finishes g) o (behind_turn further) a by
+    where
+      by : (flow : Flow) (s : meaning.State) → FlowsTo g l q m flow s → Affects g l p n (behind_turn further flow s)
+      by Next s h = more s h
+      by Broke s h = here_at g l q.on_break n [] s on_break h
+      by Continued s h = more s (here_at g l q.on_continue m [] s on_continue h)
+      by (Returned v) s h = h
+
+  -- the address of a variable's cell
+  address_runs : (next : ℕ) (s : meaning.State) (object cell offset : ℕ) (o : Option Block) → slice_get s.blocks object ≡ o → Here g l next [] s → HasAt (code g l).ops next (address_code object offset) → offset_stack offset ≤ (code g l).stack → Leads (λ (q : Value) t. Here g l (next + (1 + offset_size offset)) (address_of g object cell ∷ []) t) (Finishes g) (and_then (place_where (stands_at o cell offset) object cell s) (λ place t. Gives (At place.0 place.1) t))
+  address_runs next s object cell offset o found here at room = by (stands_at o cell offset) (direct_runs g l next [] s object cell offset o found here at (omega arith))
+    where
+      by : (there : Bool) → Leads (Placed g l (next + (1 + offset_size offset)) []) (Finishes g) (place_where there object cell s) → Leads (λ (q : Value) t. Here g l (next + (1 + offset_size offset)) (address_of g object cell ∷ []) t) (Finishes g) (and_then (place_where there object cell s) (λ place t. Gives (At place.0 place.1) t))
+      by true h = h.here
+      by false h = tt
+
+  -- a store to a variable, whose address and value lie on the stack
+  direct_store_runs : (next : ℕ) (s : meaning.State) (p : Places) (type : CType) (object cell : ℕ) (v : Value) (there : Bool) → IsKept g v → Here g l next (word_of g v ∷ (address_of g object cell ∷ [])) s → slice_get (code g l).ops next ≡ Some (store_code type) → Affects g l p (next + 1) (and_then (place_where there object cell s) (λ at_cell t. store_at type at_cell v t))
+  direct_store_runs next s p type object cell v true value here at = store_runs g l next s p type (object, cell) v value here at
+  direct_store_runs next s p type object cell v false value here at = tt
+
+  -- ---- output
+
+  print_runs : (next : ℕ) (s : meaning.State) (p : Places) (v : Value) → Arrives g l next [] v s → slice_get (code g l).ops next ≡ Some ops.Print → Affects g l p (next + 1) (printed v s)
+  print_runs next s p (Number z) x at =
+      let w = write (number_line z) s.world in
+      let kept : KeptWorld w = record { acts = x.0.kept.world.acts; inputs = x.0.kept.world.inputs } in
+      moved g l next (word z ∷ []) s ops.Print (next + 1) [] (meaning.in_world w s) x.0 at (kept_in g l s w x.0.kept kept) (λ scratch. rw (signed-word z x.1) refl)
+  print_runs next s p Null x at = tt
+  print_runs next s p (At block cell) x at = tt
+
+  put_runs : (next : ℕ) (s : meaning.State) (p : Places) (v : Value) → Arrives g l next [] v s → slice_get (code g l).ops next ≡ Some ops.PutByte → Affects g l p (next + 1) (put v s)
+  put_runs next s p (Number z) x at =
+      let w = write (word z % 256 ∷ []) s.world in
+      let kept : KeptWorld w = record { acts = x.0.kept.world.acts; inputs = x.0.kept.world.inputs } in
+      moved g l next (word z ∷ []) s ops.PutByte (next + 1) [] (meaning.in_world w s) x.0 at (kept_in g l s w x.0.kept kept) (λ scratch. refl)
+  put_runs next s p Null x at = tt
+  put_runs next s p (At block cell) x at = tt
+
+  -- a call without a result
+  alone_runs : (next : ℕ) (p : Places) (v : Option Value) (s : meaning.State) → Resumes g l next [] v s → Affects g l p next (no_result v s)
+  alone_runs next p None s h = h
+  alone_runs next p (Some v) s h = tt
+
+  -- ---- returns
+
+  pub return_runs : (next : ℕ) (s : meaning.State) (v : Value) → Arrives g l next [] v s → slice_get (code g l).ops next ≡ Some ops.Return → Leaves g l.callers (Some v) s
+  return_runs next s v x at =
+      let f = frame g l next x.0.scratch (word_of g v ∷ []) s.locals in
+      record { last = f; popped = record f { stack = [] }; blocks = x.0.kept.blocks; world = x.0.kept.world; value = x.1; reached = x.0.reached; returns = fetched g l next x.0.scratch (word_of g v ∷ []) s ops.Return at }
+
+  pub nothing_runs : (next : ℕ) (s : meaning.State) → Here g l next [] s → slice_get (code g l).ops next ≡ Some ops.ReturnNothing → Leaves g l.callers None s
+  nothing_runs next s here at =
+      let f = frame g l next here.scratch [] s.locals in
+      record { last = f; popped = f; blocks = here.kept.blocks; world = here.kept.world; value = tt; reached = here.reached; returns = fetched g l next here.scratch [] s ops.ReturnNothing at }
+
+  module _ (k : Knot) (runs : KnotRuns g k) where
+    -- the code of a statement, where it stands, has its effect
+    abbrev pub StatementRuns : core.Statement → Type 0
+    StatementRuns x = (p : Places) (next : ℕ) (s : meaning.State) → ArePlaces g l p → Here g l next [] s → HasAt (code g l).ops next (statement_code p next x) → statement_stack x ≤ (code g l).stack → next + statement_size x < length (code g l).ops → Affects g l p (next + statement_size x) (effect (setting g) k x s)
+
+    -- a condition on the stack, and two ways on
+    if_runs : (p : Places) (next other end : ℕ) (v : Value) (test : Bool) (s : meaning.State) (first second : Result Flow) → truth v ≡ test → Arrives g l next [] v s → slice_get (code g l).ops next ≡ Some (ops.JumpIfZero other) → other < length (code g l).ops → (Here g l (next + 1) [] s → Affects g l p end first) → (Here g l other [] s → Affects g l p end second) → Affects g l p end (choose test first second)
+    if_runs p next other end v true s first second is x at low on_true on_false = on_true (branch_runs g l next (word_of g v) [] s other false (truth_word g v x.1 ∙ ap not is) low x.0 at)
+    if_runs p next other end v false s first second is x at low on_true on_false = on_false (branch_runs g l next (word_of g v) [] s other true (truth_word g v x.1 ∙ ap not is) low x.0 at)
+
+    -- a loop from its test on
+    pub loop_runs : (condition : core.Expression) (body step : core.Statement) → StatementRuns body → StatementRuns step → (p : Places) (at : ℕ) (s : meaning.State) → ArePlaces g l p → HasAt (code g l).ops at (statement_code p at (core.Loop condition body step)) → statement_stack (core.Loop condition body step) ≤ (code g l).stack → at + statement_size (core.Loop condition body step) < length (code g l).ops → Here g l (test_of at body step) [] s → Affects g l p (at + statement_size (core.Loop condition body step)) (effect (setting g) k (core.Loop condition body step) s)
+    loop_runs condition body step body_runs step_runs p at s places has room low here =
+        let inside = at + 2 in
+        let next = inside + statement_size body in
+        let test = next + statement_size step in
+        let last = test + expression_size condition in
+        let end = last + 2 in
+        let q : Places = record { scratch = p.scratch; on_break = end; on_continue = next } in
+        let whole : end ≡ at + statement_size (core.Loop condition body step) = omega arith in
+        let tests = expression_code test condition ++ (ops.JumpIfZero end ∷ (ops.Jump (at + 1) ∷ [])) in
+        let steps = statement_code p next step ++ tests in
+        let first : at + 1 + 1 ≡ inside = omega arith in
+        let bodies = subst (λ n. HasAt (code g l).ops n (statement_code q inside body ++ steps)) first has.1.1 in
+        let at_step = has_back (code g l).ops inside (statement_code q inside body) steps (statement_size body) (length_statement q inside body) bodies in
+        let at_test = has_back (code g l).ops next (statement_code p next step) tests (statement_size step) (length_statement p next step) at_step in
+        let branch = has_back (code g l).ops test (expression_code test condition) (ops.JumpIfZero end ∷ (ops.Jump (at + 1) ∷ [])) (expression_size condition) (length_expression test condition) at_test in
+        let inner : ArePlaces g l q = record { scratch = places.scratch; on_break = omega arith; on_continue = omega arith; free = places.free } in
+        affects_at p end (at + statement_size (core.Loop condition body step)) (effect (setting g) k (core.Loop condition body step) s) whole
+        (leads_on (Arrives g l last []) (FlowsTo g l p end) (Finishes g) (value (setting g) k condition s) _
+        (value_runs g l k runs condition test [] s here (has_front (code g l).ops test (expression_code test condition) (ops.JumpIfZero end ∷ (ops.Jump (at + 1) ∷ [])) at_test) (omega arith) (omega arith))
+        (λ v t x. if_runs p last end end v (truth v) t _ (Gives Next t) refl x branch.0 (omega arith)
+        (λ again. asks_on (λ _ w. Here g l (at + 1 + 1) [] (meaning.in_world w t)) (FlowsTo g l p end) (Finishes g) (spend_tick g.settings.budget t.world) t _
+        (tick_runs g l (at + 1) [] t (jump_runs g l (last + 1) [] [] t (ops.Jump (at + 1)) (at + 1) (omega arith) again branch.1.0 (λ scratch. refl)) has.1.0)
+        (λ _ w ticked. turn_on p q next end (effect (setting g) k body (meaning.in_world w t)) (λ u. and_then (effect (setting g) k step u) (on_next (k.turn condition body step))) refl refl
+        (body_runs q inside (meaning.in_world w t) inner (here_at g l (at + 1 + 1) inside [] (meaning.in_world w t) first ticked) (has_front (code g l).ops inside (statement_code q inside body) steps bodies) (omega arith) (omega arith))
+        (λ u h. affects_on p test end (effect (setting g) k step u) (k.turn condition body step)
+        (step_runs p next u places h (has_front (code g l).ops next (statement_code p next step) tests at_step) (omega arith) (omega arith))
+        (λ z i. affects_at p (at + statement_size (core.Loop condition body step)) end (k.turn condition body step z) (sym whole) (runs.turn l p at condition body step z places has room low i)))))
+        (λ done. done)))
+
+    -- a value, and the instruction that takes it
+    operand_runs : (e : core.Expression) (op : Op) (more : Value → meaning.State → Result Flow) (p : Places) (next : ℕ) (s : meaning.State) → ((m : ℕ) (v : Value) (t : meaning.State) → Arrives g l m [] v t → slice_get (code g l).ops m ≡ Some op → Affects g l p (m + 1) (more v t)) → Here g l next [] s → HasAt (code g l).ops next (expression_code next e ++ op ∷ []) → expression_stack e ≤ (code g l).stack → next + (expression_size e + 1) < length (code g l).ops → Affects g l p (next + (expression_size e + 1)) (and_then (value (setting g) k e s) more)
+    operand_runs e op more p next s behind here at room low =
+        let m = next + expression_size e in
+        let first = expression_code next e in
+        let end : m + 1 ≡ next + (expression_size e + 1) = omega arith in
+        affects_at p (m + 1) (next + (expression_size e + 1)) (and_then (value (setting g) k e s) more) end
+        (leads_on (Arrives g l m []) (FlowsTo g l p (m + 1)) (Finishes g) (value (setting g) k e s) more
+        (value_runs g l k runs e next [] s here (has_front (code g l).ops next first (op ∷ []) at) (omega arith) (omega arith))
+        (λ v t x. behind m v t x (has_back (code g l).ops next first (op ∷ []) (expression_size e) (length_expression next e) at).0))
+
+    -- an operator on an old value and another one, whose words lie on the stack, and what becomes of the result
+    combined_runs : (p : Places) (next end : ℕ) (stack : List ℕ) (s : meaning.State) (char : Bool) (operator : Operator) (site : Site) (old v : Value) (last : List Op) (more : Value → meaning.State → Result Flow) → IsKept g old → Arrives g l next (word_of g old ∷ stack) v s → HasAt (code g l).ops next (operator_code operator site ∷ (byte_code char ++ last)) → length stack < (code g l).stack → ((new : Value) (t : meaning.State) → Arrives g l (next + 1 + byte_size char) stack new t → Affects g l p end (more new t)) → Affects g l p end (and_then (arithmetic_of operator site old v s) (λ new t. and_then (kept_if char new t) more))
+    combined_runs p next end stack s char operator site old v last more kept x at room further =
+        leads_on (Arrives g l (next + 1) stack) (FlowsTo g l p end) (Finishes g) (arithmetic_of operator site old v s) _
+        (operator_runs g l next stack s operator site old v kept x.1 x.0 at.0 room)
+        (λ new t y. leads_on (Arrives g l (next + 1 + byte_size char) stack) (FlowsTo g l p end) (Finishes g) (kept_if char new t) more
+        (byte_runs g l (next + 1) stack t char new y (has_front (code g l).ops (next + 1) (byte_code char) last at.1) room)
+        further)
+
+    mutual
+      pub effect_runs : (x : core.Statement) (p : Places) (next : ℕ) (s : meaning.State) → ArePlaces g l p → Here g l next [] s → HasAt (code g l).ops next (statement_code p next x) → statement_stack x ≤ (code g l).stack → next + statement_size x < length (code g l).ops → Affects g l p (next + statement_size x) (effect (setting g) k x s)
+      effect_runs core.Nothing p next s places here at room low = let e : next ≡ next + 0 = omega arith in here_at g l next (next + 0) [] s e here
+      effect_runs (core.SetLocal local e) p next s places here at room low =
+          operand_runs e (ops.Set local) (set_local local) p next s (λ m v t x. set_runs g l m t p local v x.1 x.0) here at room low
+      effect_runs (core.Store type (core.Direct object cell offset) e) p next s places here at room low =
+          let m = next + (1 + offset_size offset) in
+          let n = m + expression_size e in
+          let last = store_code type ∷ [] in
+          let front = address_code object offset in
+          let back = has_back (code g l).ops next front (expression_code m e ++ last) (1 + offset_size offset) (omega (arith, length_offset offset)) at in
+          let end : n + 1 ≡ next + ((1 + offset_size offset) + (expression_size e + 1)) = omega arith in
+          affects_at p (n + 1) (next + ((1 + offset_size offset) + (expression_size e + 1))) (effect (setting g) k (core.Store type (core.Direct object cell offset) e) s) end
+          (leads_on (λ (q : Value) t. Here g l m (address_of g object cell ∷ []) t) (FlowsTo g l p (n + 1)) (Finishes g) (pointer_of (setting g) k (core.Direct object cell offset) s) _
+          (address_runs next s object cell offset (slice_get s.blocks object) refl here (has_front (code g l).ops next front (expression_code m e ++ last) at) (omega arith))
+          (λ q t x. leads_on (Arrives g l n (address_of g object cell ∷ [])) (FlowsTo g l p (n + 1)) (Finishes g) (value (setting g) k e t) _
+          (value_runs g l k runs e m (address_of g object cell ∷ []) t x (has_front (code g l).ops m (expression_code m e) last back) (omega arith) (omega arith))
+          (λ v u y. direct_store_runs n u p type object cell v (stands_at (slice_get u.blocks object) cell offset) y.1 y.0 (has_back (code g l).ops m (expression_code m e) last (expression_size e) (length_expression m e) back).0)))
+      effect_runs (core.Store type (core.Through pointer cell offset site) e) p next s places here at room low =
+          let m = next + expression_size pointer in
+          let n = m + expression_size e in
+          let last = behind_value p.scratch type (core.Through pointer cell offset site) in
+          let front = expression_code next pointer in
+          let back = has_back (code g l).ops next front (expression_code m e ++ last) (expression_size pointer) (length_expression next pointer) at in
+          let end : n + (4 + offset_size offset) ≡ next + (expression_size pointer + (expression_size e + (4 + offset_size offset))) = omega arith in
+          affects_at p (n + (4 + offset_size offset)) (next + (expression_size pointer + (expression_size e + (4 + offset_size offset)))) (effect (setting g) k (core.Store type (core.Through pointer cell offset site) e) s) end
+          (leads_on (Arrives g l m []) (FlowsTo g l p (n + (4 + offset_size offset))) (Finishes g) (value (setting g) k pointer s) _
+          (value_runs g l k runs pointer next [] s here (has_front (code g l).ops next front (expression_code m e ++ last) at) (omega arith) (omega arith))
+          (λ q t x. leads_on (Arrives g l n (word_of g q ∷ [])) (FlowsTo g l p (n + (4 + offset_size offset))) (Finishes g) (value (setting g) k e t) _
+          (value_runs g l k runs e m (word_of g q ∷ []) t x.0 (has_front (code g l).ops m (expression_code m e) last back) (omega arith) (omega arith))
+          (λ v u y. through_store_runs g l n u p type cell offset site q v places x.1 y.1 y.0 (has_back (code g l).ops m (expression_code m e) last (expression_size e) (length_expression m e) back) (omega arith) (stack_of_offset offset (code g l).stack (omega arith)))))
+      effect_runs (core.UpdateLocal char local operator e site) p next s places here at room low =
+          let n = next + 1 + expression_size e in
+          let m = n + 1 + byte_size char in
+          let last = operator_code operator site ∷ (byte_code char ++ (ops.Set local ∷ [])) in
+          let back = has_back (code g l).ops (next + 1) (expression_code (next + 1) e) last (expression_size e) (length_expression (next + 1) e) at.1 in
+          let end : m + 1 ≡ next + statement_size (core.UpdateLocal char local operator e site) = omega arith in
+          affects_at p (m + 1) (next + statement_size (core.UpdateLocal char local operator e site)) (effect (setting g) k (core.UpdateLocal char local operator e site) s) end
+          (leads_on (Arrives g l (next + 1) []) (FlowsTo g l p (m + 1)) (Finishes g) (given (slice_get s.locals local) s) _
+          (local_runs g l next [] s local (slice_get s.locals local) refl here at.0 (omega arith))
+          (λ old t x. leads_on (Arrives g l n (word_of g old ∷ [])) (FlowsTo g l p (m + 1)) (Finishes g) (value (setting g) k e t) _
+          (value_runs g l k runs e (next + 1) (word_of g old ∷ []) t x.0 (has_front (code g l).ops (next + 1) (expression_code (next + 1) e) last at.1) (omega arith) (omega arith))
+          (λ v u y. combined_runs p n (m + 1) [] u char operator site old v (ops.Set local ∷ []) (set_local local) x.1 y back (omega arith)
+          (λ new w z. set_runs g l m w p local new z.1 z.0 (has_back (code g l).ops (n + 1) (byte_code char) (ops.Set local ∷ []) (byte_size char) (length_byte char) back.1).0))))
+      effect_runs (core.Update type cell operator e site) p next s places here at room low =
+          let m = next + place_size cell in
+          let n = m + 2 + expression_size e in
+          let o = n + 1 + byte_size (is_char type) in
+          let char = is_char type in
+          let last = operator_code operator site ∷ (byte_code char ++ (store_code type ∷ [])) in
+          let rest = ops.Duplicate ∷ (load_code type ∷ (expression_code (m + 2) e ++ last)) in
+          let middle = has_back (code g l).ops next (place_code next cell) rest (place_size cell) (length_place next cell) at in
+          let two : m + 1 + 1 ≡ m + 2 = omega arith in
+          let at_value = subst (λ i. HasAt (code g l).ops i (expression_code (m + 2) e ++ last)) two middle.1.1 in
+          let back = has_back (code g l).ops (m + 2) (expression_code (m + 2) e) last (expression_size e) (length_expression (m + 2) e) at_value in
+          let end : o + 1 ≡ next + statement_size (core.Update type cell operator e site) = omega arith in
+          affects_at p (o + 1) (next + statement_size (core.Update type cell operator e site)) (effect (setting g) k (core.Update type cell operator e site) s) end
+          (leads_on (Placed g l m []) (FlowsTo g l p (o + 1)) (Finishes g) (place (setting g) k cell s) _
+          (place_runs g l k runs cell next [] s here (has_front (code g l).ops next (place_code next cell) rest at) (omega arith) (omega arith))
+          (λ at_cell t x.
+          let a = address_of g at_cell.0 at_cell.1 in
+          let twice = pushes g l m (a ∷ []) t ops.Duplicate a (a ∷ []) x.here middle.0 (omega arith) (λ scratch. refl) in
+          leads_on (Arrives g l (m + 1 + 1) (a ∷ [])) (FlowsTo g l p (o + 1)) (Finishes g) (load_at type at_cell t) _
+          (load_runs g l (m + 1) (a ∷ []) t type at_cell (record { here = twice }) middle.1.0 (omega arith))
+          (λ old u y. leads_on (Arrives g l n (word_of g old ∷ (a ∷ []))) (FlowsTo g l p (o + 1)) (Finishes g) (value (setting g) k e u) _
+          (value_runs g l k runs e (m + 2) (word_of g old ∷ (a ∷ [])) u (here_at g l (m + 1 + 1) (m + 2) (word_of g old ∷ (a ∷ [])) u two y.0) (has_front (code g l).ops (m + 2) (expression_code (m + 2) e) last at_value) (omega arith) (omega arith))
+          (λ v w z. combined_runs p n (o + 1) (a ∷ []) w char operator site old v (store_code type ∷ []) (store_at type at_cell) y.1 z back (omega arith)
+          (λ new w' z'. store_runs g l o w' p type at_cell new z'.1 z'.0 (has_back (code g l).ops (n + 1) (byte_code char) (store_code type ∷ []) (byte_size char) (length_byte char) back.1).0)))))
+      effect_runs (core.Evaluate e) p next s places here at room low =
+          operand_runs e ops.Discard (λ _ t. Gives Next t) p next s (λ m v t x op. moved g l m (word_of g v ∷ []) t ops.Discard (m + 1) [] t x.0 op x.0.kept (λ scratch. refl)) here at room low
+      effect_runs (core.CallAlone function args) p next s places here at room low =
+          called_runs g l k runs (FlowsTo g l p (next + (arguments_size args + 2))) args (ops.Call function) (call_trusted (setting g) k function) no_result (arguments_run g l k runs args) next [] s
+          (λ m vs t x back. call_runs g l k runs m [] t function vs x.kept x.here back (omega arith)) (alone_runs (next + (arguments_size args + 2)) p) here at (omega arith) low
+      effect_runs (core.TaintedAlone import args site) p next s places here at room low =
+          called_runs g l k runs (FlowsTo g l p (next + (arguments_size args + 2))) args (ops.TaintedCall import site.place) (call_tainted (setting g) import (slice_get g.program.imports import) site) no_result (arguments_run g l k runs args) next [] s
+          (λ m vs t x back. tainted_runs g l m [] t import site vs x.here back (omega arith)) (alone_runs (next + (arguments_size args + 2)) p) here at (omega arith) low
+      effect_runs (core.Print e) p next s places here at room low = operand_runs e ops.Print printed p next s (λ m v t x. print_runs m t p v x) here at room low
+      effect_runs (core.PutByte e) p next s places here at room low = operand_runs e ops.PutByte put p next s (λ m v t x. put_runs m t p v x) here at room low
+      effect_runs (core.Block inner) p next s places here at room low = effects_run inner p next s places here at room low
+      effect_runs (core.If condition consequent alternative) p next s places here at room low =
+          let m = next + expression_size condition in
+          let inside = m + 1 in
+          let other = inside + statement_size consequent + 1 in
+          let end = other + statement_size alternative in
+          let leap = ops.Jump end ∷ statement_code p other alternative in
+          let rest = ops.JumpIfZero other ∷ (statement_code p inside consequent ++ leap) in
+          let back = has_back (code g l).ops next (expression_code next condition) rest (expression_size condition) (length_expression next condition) at in
+          let behind = has_back (code g l).ops inside (statement_code p inside consequent) leap (statement_size consequent) (length_statement p inside consequent) back.1 in
+          let whole : end ≡ next + statement_size (core.If condition consequent alternative) = omega arith in
+          affects_at p end (next + statement_size (core.If condition consequent alternative)) (effect (setting g) k (core.If condition consequent alternative) s) whole
+          (leads_on (Arrives g l m []) (FlowsTo g l p end) (Finishes g) (value (setting g) k condition s) _
+          (value_runs g l k runs condition next [] s here (has_front (code g l).ops next (expression_code next condition) rest at) (omega arith) (omega arith))
+          (λ v t x. if_runs p m other end v (truth v) t (effect (setting g) k consequent t) (effect (setting g) k alternative t) refl x back.0 (omega arith)
+          (λ h. affects_next p (inside + statement_size consequent) end (effect (setting g) k consequent t)
+          (λ u i. jump_runs g l (inside + statement_size consequent) [] [] u (ops.Jump end) end (omega arith) i behind.0 (λ scratch. refl))
+          (effect_runs consequent p inside t places h (has_front (code g l).ops inside (statement_code p inside consequent) leap back.1) (omega arith) (omega arith)))
+          (λ h. effect_runs alternative p other t places h behind.1 (omega arith) (omega arith))))
+      effect_runs (core.Loop condition body step) p next s places here at room low =
+          loop_runs condition body step (effect_runs body) (effect_runs step) p next s places at room low
+          (jump_runs g l next [] [] s (ops.Jump (test_of next body step)) (test_of next body step) (omega arith) here at.0 (λ scratch. refl))
+      effect_runs (core.Return e) p next s places here at room low =
+          operand_runs e ops.Return (λ v t. Gives (Returned (Some v)) t) p next s (λ m v t x. return_runs m t v x) here at room low
+      effect_runs core.ReturnNothing p next s places here at room low = nothing_runs next s here at.0
+      effect_runs core.Break p next s places here at room low = jump_runs g l next [] [] s (ops.Jump p.on_break) p.on_break places.on_break here at.0 (λ scratch. refl)
+      effect_runs core.Continue p next s places here at room low = jump_runs g l next [] [] s (ops.Jump p.on_continue) p.on_continue places.on_continue here at.0 (λ scratch. refl)
+
+      pub effects_run : (xs : core.Statements) (p : Places) (next : ℕ) (s : meaning.State) → ArePlaces g l p → Here g l next [] s → HasAt (code g l).ops next (statements_code p next xs) → statements_stack xs ≤ (code g l).stack → next + statements_size xs < length (code g l).ops → Affects g l p (next + statements_size xs) (effects (setting g) k xs s)
+      effects_run core.NoMore p next s places here at room low = let e : next ≡ next + 0 = omega arith in here_at g l next (next + 0) [] s e here
+      effects_run (core.Then first others) p next s places here at room low =
+          let m = next + statement_size first in
+          let end : m + statements_size others ≡ next + (statement_size first + statements_size others) = omega arith in
+          affects_at p (m + statements_size others) (next + (statement_size first + statements_size others)) (effects (setting g) k (core.Then first others) s) end
+          (affects_on p m (m + statements_size others) (effect (setting g) k first s) (effects (setting g) k others)
+          (effect_runs first p next s places here (has_front (code g l).ops next (statement_code p next first) (statements_code p m others) at) (omega arith) (omega arith))
+          (λ t x. effects_run others p m t places x (has_back (code g l).ops next (statement_code p next first) (statements_code p m others) (statement_size first) (length_statement p next first) at) (omega arith) (omega arith)))

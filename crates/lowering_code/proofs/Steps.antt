@@ -1,0 +1,201 @@
+-- How instructions that stand in a function are executed, one after another, and how a state of the meaning is one of the code.
+use Rattle.std.proofs.Common.{◌≡◌, ℕ, zero, suc, ◌+◌, ◌<◌, true, List, [], ◌∷◌, ◌++◌, length, map, Option, Some, None, refl, ap, ◌∙◌, subst, arith, append_assoc, length-append}
+use Rattle.std.specs.Prelude.{slice_get, nat_lt}
+use Rattle.std.specs.List.{AllByRecursion}
+use Rattle.std.proofs.Math.Seq.{get_or-append_seam}
+use Rattle.std.proofs.lemmas.Option.{slice_get-get_or}
+use Rattle.std.proofs.lemmas.Bool.Decides.{nat_tests}
+use Rattle.act_words.specs.declared.ending.Ending.{Ending}
+use Rattle.act_words.specs.Outcome.{Gives, Ends, Stuck, Short, and_then}
+use Rattle.act_words.specs.World.{World}
+use Rattle.act_words.specs.Touches.{Asked, Got, Ended}
+use Rattle.ckc_core.specs.Core.{Function}
+use Rattle.ckc_core.specs.States.{Value, Number, Null, At, Cell, Block, has_type, object_block}
+use Rattle.ckc_core.specs.States as meaning
+use Rattle.ckc_core.specs.Meaning.{Result}
+use Rattle.ckc_core.specs.Meaning as meanings
+use Rattle.code_words.specs.Table.{Frame, Caller, Runs, State, Goes, Over, act, push}
+use Rattle.code_words.specs.Moves.{move}
+use Rattle.code_words.specs.Runs.{Finished, exec, go_on}
+use Rattle.code_words.specs.declared.op.Op.{Op}
+use Rattle.code_words.specs.declared.image.Func.{Func}
+use Rattle.lowering_code.specs.Images.{function_code, functions_from}
+use Rattle.lowering_code.specs.Correct.{SameEnd}
+use Rattle.lowering_code.proofs.Worlds.{KeptWorld}
+use Rattle.lowering_code.proofs.Executions.{Execution, image, word_of, state, IsKept, KeptBlocks, same_end}
+
+-- ---- code in a function
+
+-- these instructions stand at this place
+abbrev pub HasAt : List Op → ℕ → List Op → Type 0
+HasAt ops at [] = Unit {0}
+HasAt ops at (op ∷ rest) = (slice_get ops at ≡ Some op) × HasAt ops (at + 1) rest
+
+pub has_front : (ops : List Op) (at : ℕ) (a b : List Op) → HasAt ops at (a ++ b) → HasAt ops at a
+has_front ops at [] b h = tt
+has_front ops at (op ∷ a) b h = (h.0, has_front ops (at + 1) a b h.1)
+
+pub has_back : (ops : List Op) (at : ℕ) (a b : List Op) (n : ℕ) → length a ≡ n → HasAt ops at (a ++ b) → HasAt ops (at + n) b
+has_back ops at [] b n e h = let same : at ≡ at + n = omega arith in subst (λ k. HasAt ops k b) same h
+has_back ops at (op ∷ a) b n e h =
+    let same : at + 1 + length a ≡ at + n = omega arith in
+    subst (λ k. HasAt ops k b) same (has_back ops (at + 1) a b (length a) refl h.1)
+
+pub has_all : (ops pre : List Op) → HasAt (pre ++ ops) (length pre) ops
+has_all [] pre = tt
+has_all (op ∷ ops) pre =
+    let within : length pre < length (pre ++ op ∷ ops) = omega (arith, length-append pre (op ∷ ops)) in
+    let here = slice_get-get_or (pre ++ op ∷ ops) (length pre) op within ∙ ap Some (get_or-append_seam pre op ops op) in
+    let n : length (pre ++ op ∷ []) ≡ length pre + 1 = omega (arith, length-append pre (op ∷ [])) in
+    let rest = has_all ops (pre ++ op ∷ []) in
+    let rest' = subst (λ l. HasAt l (length (pre ++ op ∷ [])) ops) (append_assoc pre (op ∷ []) ops) rest in
+    (here, subst (λ m. HasAt (pre ++ op ∷ ops) m ops) n rest')
+
+-- ---- outcomes
+
+-- an outcome of the meaning, where its value leads to G, its ending to E, and nothing is said where it has none
+abbrev pub Leads : {A : Type 0} → (A → meaning.State → Type 0) → (Ending → meaning.State → Type 0) → Result A → Type 0
+Leads G E (Gives value s) = G value s
+Leads G E (Ends ending s) = E ending s
+Leads G E Stuck = Unit {0}
+Leads G E Short = Unit {0}
+
+-- goes on from a value
+pub leads_on : {A B : Type 0} (G : A → meaning.State → Type 0) (H : B → meaning.State → Type 0) (E : Ending → meaning.State → Type 0) (o : Result A) (next : A → meaning.State → Result B) → Leads G E o → ((value : A) (s : meaning.State) → G value s → Leads H E (next value s)) → Leads H E (and_then o next)
+leads_on G H E (Gives value s) next l more = more value s l
+leads_on G H E (Ends ending s) next l more = l
+leads_on G H E Stuck next l more = tt
+leads_on G H E Short next l more = tt
+
+-- another way to the same
+pub leads_to : {A : Type 0} (G H : A → meaning.State → Type 0) (E : Ending → meaning.State → Type 0) (o : Result A) → ((value : A) (s : meaning.State) → G value s → H value s) → Leads G E o → Leads H E o
+leads_to G H E (Gives value s) more l = more value s l
+leads_to G H E (Ends ending s) more l = l
+leads_to G H E Stuck more l = tt
+leads_to G H E Short more l = tt
+
+-- the same of what the world gives
+abbrev pub Asks : {A : Type 0} → (A → World → Type 0) → (Ending → World → Type 0) → Asked A → Type 0
+Asks G E (Got value w) = G value w
+Asks G E (Ended ending w) = E ending w
+
+pub asks_on : {A B : Type 0} (G : A → World → Type 0) (H : B → meaning.State → Type 0) (E : Ending → meaning.State → Type 0) (x : Asked A) (s : meaning.State) (next : A → meaning.State → Result B) → Asks G (λ ending w. E ending (meaning.in_world w s)) x → ((value : A) (w : World) → G value w → Leads H E (next value (meaning.in_world w s))) → Leads H E (meanings.asked x s next)
+asks_on G H E (Got value w) s next l more = more value w l
+asks_on G H E (Ended ending w) s next l more = l
+
+-- ---- the code's run
+
+-- the run comes to this state
+pub record Reached (g : Execution) (u : State) : Type 0 where
+  pub by : (k : ℕ) → (j : ℕ) × (exec (image g) g.settings j g.start ≡ exec (image g) g.settings k u)
+
+-- the run ends, as that of the meaning does
+pub record Finishes (g : Execution) (ending : Ending) (s : meaning.State) : Type 0 where
+  pub steps : ℕ
+  pub last : State
+  pub is : exec (image g) g.settings steps g.start ≡ Finished ending last
+  pub same : SameEnd g.settings.base s last
+
+-- one move further
+pub one_move : (g : Execution) (t u : State) → Reached g t → move (image g) g.settings t ≡ Goes u → Reached g u
+one_move g t u r h = record { by = λ k. let p = r.by (suc k) in (p.0, p.1 ∙ ap (λ x. go_on x (exec (image g) g.settings k)) h) }
+
+pub last_move : (g : Execution) (t u : State) (ending : Ending) (s : meaning.State) → Reached g t → move (image g) g.settings t ≡ Over ending u → SameEnd g.settings.base s u → Finishes g ending s
+last_move g t u ending s r h same = let p = r.by 1 in record { steps = p.0; last = u; is = p.1 ∙ ap (λ x. go_on x (exec (image g) g.settings 0)) h; same = same }
+
+-- ---- frames
+
+-- an open call: the function, what it goes back to, and what its scratch slot holds, where that matters
+pub record Layout (g : Execution) : Type 0 where
+  pub number : ℕ
+  pub function : Function
+  pub there : slice_get g.program.functions number ≡ Some function
+  pub callers : List Caller
+  pub held : Option ℕ
+
+-- the scratch slot holds what it has to
+abbrev pub Holds : Option ℕ → ℕ → Type 0
+Holds None scratch = Unit {0}
+Holds (Some w) scratch = scratch ≡ w
+
+abbrev pub code : (g : Execution) → Layout g → Func
+code g l = function_code l.number l.function
+
+-- the locals in their slots, and the scratch slot behind them
+abbrev pub frame : (g : Execution) → Layout g → ℕ → ℕ → List ℕ → List Value → Frame
+frame g l next scratch stack locals = record { function = l.number; next = next; slots = map (word_of g) locals ++ scratch ∷ []; stack = stack }
+
+abbrev pub standing : (g : Execution) → Layout g → ℕ → ℕ → List ℕ → meaning.State → State
+standing g l next scratch stack s = state g (Runs (frame g l next scratch stack s.locals)) l.callers s
+
+pub record Kept (g : Execution) (l : Layout g) (s : meaning.State) : Type 0 where
+  pub count : length s.locals ≡ length l.function.locals
+  pub depth : s.depth ≡ suc (length l.callers)
+  pub locals : AllByRecursion (IsKept g) s.locals
+  pub blocks : KeptBlocks g s.blocks
+  pub world : KeptWorld s.world
+
+-- the run comes to a place in a function, with this stack
+pub record Here (g : Execution) (l : Layout g) (next : ℕ) (stack : List ℕ) (s : meaning.State) : Type 0 where
+  pub scratch : ℕ
+  pub holds : Holds l.held scratch
+  pub kept : Kept g l s
+  pub reached : Reached g (standing g l next scratch stack s)
+
+pub kept_in : (g : Execution) (l : Layout g) (s : meaning.State) (w : World) → Kept g l s → KeptWorld w → Kept g l (meaning.in_world w s)
+kept_in g l s w k world = record { count = k.count; depth = k.depth; locals = k.locals; blocks = k.blocks; world = world }
+
+-- a function of the program is one of the image
+pub function_there : (n k : ℕ) (functions : List Function) (f : Function) → slice_get functions k ≡ Some f → slice_get (functions_from n functions) k ≡ Some (function_code (n + k) f)
+function_there n k [] f h = absurd (cc)
+function_there n zero (g ∷ functions) f h =
+    let e : g ≡ f = cc in
+    let z : n ≡ n + 0 = omega arith in
+    ap (λ x. Some (function_code n x)) e ∙ ap (λ m. Some (function_code m f)) z
+function_there n (suc k) (g ∷ functions) f h =
+    let e : suc n + k ≡ n + suc k = omega arith in
+    function_there (suc n) k functions f h ∙ ap (λ m. Some (function_code m f)) e
+
+pub function_found : (g : Execution) (k : ℕ) (f : Function) → slice_get g.program.functions k ≡ Some f → slice_get (image g).trusted.funs k ≡ Some (function_code k f)
+function_found g k f h = let e : 0 + k ≡ k = omega arith in function_there 0 k g.program.functions f h ∙ ap (λ m. Some (function_code m f)) e
+
+pub code_there : (g : Execution) (l : Layout g) → slice_get (image g).trusted.funs l.number ≡ Some (code g l)
+code_there g l = function_found g l.number l.function l.there
+
+-- the instruction that stands next is executed
+pub fetched : (g : Execution) (l : Layout g) (next scratch : ℕ) (stack : List ℕ) (s : meaning.State) (op : Op) → slice_get (code g l).ops next ≡ Some op → move (image g) g.settings (standing g l next scratch stack s) ≡ act (image g) g.settings (code g l) op (frame g l next scratch stack s.locals) (standing g l next scratch stack s)
+fetched g l next scratch stack s op h = let there = code_there g l in rw (there, h) refl
+
+-- an instruction leads to another place
+pub moved : (g : Execution) (l : Layout g) (next : ℕ) (old : List ℕ) (s : meaning.State) (op : Op) (next' : ℕ) (new : List ℕ) (t : meaning.State) → Here g l next old s → slice_get (code g l).ops next ≡ Some op → Kept g l t → ((w : ℕ) → act (image g) g.settings (code g l) op (frame g l next w old s.locals) (standing g l next w old s) ≡ Goes (standing g l next' w new t)) → Here g l next' new t
+moved g l next old s op next' new t here at kept goes =
+    record { scratch = here.scratch; holds = here.holds; kept = kept; reached = one_move g _ _ here.reached (fetched g l next here.scratch old s op at ∙ goes here.scratch) }
+
+-- a word is pushed onto a stack that has room, in a world
+pub pushes_in : (g : Execution) (l : Layout g) (next : ℕ) (old : List ℕ) (s : meaning.State) (op : Op) (w : ℕ) (stack : List ℕ) (world : World) → KeptWorld world → Here g l next old s → slice_get (code g l).ops next ≡ Some op → length stack < (code g l).stack → ((scratch : ℕ) → act (image g) g.settings (code g l) op (frame g l next scratch old s.locals) (standing g l next scratch old s) ≡ push (code g l) w stack (frame g l next scratch old s.locals) (standing g l next scratch old (meaning.in_world world s))) → Here g l (next + 1) (w ∷ stack) (meaning.in_world world s)
+pushes_in g l next old s op w stack world kept here at room is =
+    let test : nat_lt (length stack) (code g l).stack ≡ true = grind (arith, nat_tests) in
+    moved g l next old s op (next + 1) (w ∷ stack) (meaning.in_world world s) here at (kept_in g l s world here.kept kept) (λ scratch. is scratch ∙ rw test refl)
+
+-- the same, in the same world
+pub pushes : (g : Execution) (l : Layout g) (next : ℕ) (old : List ℕ) (s : meaning.State) (op : Op) (w : ℕ) (stack : List ℕ) → Here g l next old s → slice_get (code g l).ops next ≡ Some op → length stack < (code g l).stack → ((scratch : ℕ) → act (image g) g.settings (code g l) op (frame g l next scratch old s.locals) (standing g l next scratch old s) ≡ push (code g l) w stack (frame g l next scratch old s.locals) (standing g l next scratch old s)) → Here g l (next + 1) (w ∷ stack) s
+pushes g l next old s op w stack here at room is = pushes_in g l next old s op w stack s.world here.kept.world here at room is
+
+-- an instruction ends the run
+pub ended : (g : Execution) (l : Layout g) (next : ℕ) (old : List ℕ) (s : meaning.State) (op : Op) (ending : Ending) (t : meaning.State) → Here g l next old s → slice_get (code g l).ops next ≡ Some op → KeptBlocks g t.blocks → ((w : ℕ) → act (image g) g.settings (code g l) op (frame g l next w old s.locals) (standing g l next w old s) ≡ Over ending (state g (Runs (frame g l next w old s.locals)) l.callers t)) → Finishes g ending t
+ended g l next old s op ending t here at kept over =
+    last_move g _ _ ending t here.reached (fetched g l next here.scratch old s op at ∙ over here.scratch) (same_end g (Runs (frame g l next here.scratch old s.locals)) l.callers t kept)
+
+-- a value's word is on the stack
+abbrev pub Arrives : (g : Execution) → Layout g → ℕ → List ℕ → Value → meaning.State → Type 0
+Arrives g l next stack v s = Here g l next (word_of g v ∷ stack) s × IsKept g v
+
+abbrev pub Evaluates : (g : Execution) → Layout g → ℕ → List ℕ → Result Value → Type 0
+Evaluates g l next stack o = Leads (Arrives g l next stack) (Finishes g) o
+
+-- the same with the place written otherwise
+pub here_at : (g : Execution) (l : Layout g) (m n : ℕ) (stack : List ℕ) (s : meaning.State) → m ≡ n → Here g l m stack s → Here g l n stack s
+here_at g l m n stack s e h = subst (λ k. Here g l k stack s) e h
+
+pub evaluates_at : (g : Execution) (l : Layout g) (m n : ℕ) (stack : List ℕ) (o : Result Value) → m ≡ n → Evaluates g l m stack o → Evaluates g l n stack o
+evaluates_at g l m n stack o e h = subst (λ k. Evaluates g l k stack o) e h

@@ -1,0 +1,215 @@
+-- Calls of tainted functions: the acts before the touch, and those of the sandbox's turn.
+use Rattle.std.proofs.Common.{◌≡◌, ℕ, zero, suc, ◌+◌, ◌<◌, Bool, true, false, List, [], ◌∷◌, ◌++◌, reverse, length, map, Option, Some, None, refl, sym, ap, ◌∙◌, subst, arith}
+use Rattle.std.specs.Prelude.{slice_get, nat_lt, ◌==◌, option_map}
+use Rattle.std.specs.List.{AllByRecursion}
+use Rattle.std.proofs.lemmas.List.{length-map}
+use Rattle.std.proofs.lemmas.Bool.Decides.{nat_tests}
+use Rattle.ckc_text.specs.declared.place.Place.{Place}
+use Rattle.ckc_text.specs.declared.code.Code.TheVariants.{C9, S2}
+use Rattle.act_words.specs.declared.ending.Ending.{Ending}
+use Rattle.act_words.specs.declared.ending.Ending.TheVariants.{Check, Stop}
+use Rattle.act_words.specs.declared.act.Turn.TheVariants as turns
+use Rattle.act_words.specs.Acts.{Act, IsAct, IsWord, Passed}
+use Rattle.act_words.specs.Numbers.{word, signed}
+use Rattle.act_words.specs.World.{World, NoAct, telling, taken_one}
+use Rattle.act_words.specs.Acting.{BeforeTouch, InSandbox, act_before_touch, act_in_sandbox, sandbox_ended}
+use Rattle.act_words.specs.Touches.{Asked, Got, Ended, asking, on_from, on_with_reply, before_touch, released, until_return, entered_if, enter_call, spend_tick, tainted_call, touch}
+use Rattle.pointer_modes.specs.Types.{CType, Int, Char, Struct, Pointer}
+use Rattle.ckc_core.specs.declared.program.Site.{Site}
+use Rattle.ckc_core.specs.Core as core
+use Rattle.ckc_core.specs.States.{Value, Number, Null, At}
+use Rattle.ckc_core.specs.States as meaning
+use Rattle.ckc_core.specs.Meaning.{Result, words_of, reply_as, cross, cross_if, call_tainted}
+use Rattle.ckc_core.specs.Meaning as meanings
+use Rattle.code_words.specs.Table.{Frame, Caller, Waits, Passes, Touches, Away, State, Step, Goes, Over, act, pop_words, behind, push_result}
+use Rattle.code_words.specs.Table as table
+use Rattle.code_words.specs.Moves.{move, before_touch_by, in_sandbox_by, answer, reply_to}
+use Rattle.code_words.specs.Moves as moves
+use Rattle.code_words.specs.Marshalling.{fits_kind}
+use Rattle.lowering_code.specs.Code.{result_kind}
+use Rattle.code_words.specs.declared.op.Op.TheVariants as ops
+use Rattle.lowering_code.specs.Images.{import_code, imports_from}
+use Rattle.lowering_code.proofs.Numbers.{word-signed, signed_fits}
+use Rattle.lowering_code.proofs.Worlds.{KeptWorld, HasLeft, BeforeKeeps, SandboxKeeps, act_waits, act_keeps}
+use Rattle.lowering_code.proofs.Executions.{Execution, image, word_of, state, KeptBlocks, same_end}
+use Rattle.lowering_code.proofs.Steps.{HasAt, Leads, Asks, asks_on, Reached, Finishes, one_move, last_move, Layout, Holds, code, frame, standing, Kept, Here, kept_in, fetched}
+use Rattle.lowering_code.proofs.Expressions.{tick_runs}
+use Rattle.lowering_code.proofs.Calls.{piled, piled_words, popped, Resumes, resumed}
+
+-- the worlds that are left
+kept_world : (acts : List Act) (w : World) → AllByRecursion IsAct acts → HasLeft acts w → KeptWorld w
+kept_world acts w all h = record { acts = subst (AllByRecursion IsAct) (sym h.left) all; inputs = h.inputs }
+
+asking_on : {A B : Type 0} (G : A → World → Type 0) (H : B → World → Type 0) (E : Ending → World → Type 0) (x : Asked A) (next : A → World → Asked B) → Asks G E x → ((value : A) (w : World) → G value w → Asks H E (next value w)) → Asks H E (asking x next)
+asking_on G H E (Got value w) next h more = more value w h
+asking_on G H E (Ended ending w) next h more = h
+
+module _ (g : Execution) (s : meaning.State) (blocks : KeptBlocks g s.blocks) (callers : List Caller) (f : Frame) (k : ℕ) (words : List ℕ) (place : Place) where
+  -- the touch waits for the next `go`
+  abbrev touching : World → State
+  touching w = state g (Touches f (Passes k words place)) callers (meaning.in_world w s)
+
+  -- the sandbox has the turn
+  abbrev away : World → State
+  away w = state g Away (Waits (behind f f.stack) k place ∷ callers) (meaning.in_world w s)
+
+  abbrev EndsIn : Ending → World → Type 0
+  EndsIn ending w = Finishes g ending (meaning.in_world w s)
+
+  -- the touch was made
+  record IsPassed (u : Unit {0}) (w : World) : Type 0 where
+    kept : KeptWorld w
+    reached : Reached g (away (released (Passed k words) w))
+
+  -- an act before the touch
+  act_passes : (acts : List Act) (x : BeforeTouch) (w : World) (next : World → Asked (Unit {0})) → AllByRecursion IsAct acts → BeforeKeeps acts x → Reached g (touching w) → move (image g) g.settings (touching w) ≡ before_touch_by (image g) f (Passes k words place) x (touching w) → ((v : World) → HasLeft acts v → Reached g (touching v) → Asks IsPassed EndsIn (next v)) → Asks IsPassed EndsIn (on_from x next)
+  act_passes acts (BeforeTouch.Waits v) w next all left reached goes more = more v left (one_move g (touching w) (touching v) reached goes)
+  act_passes acts (BeforeTouch.Touches v) w next all left reached goes more =
+      record { kept = kept_world acts v all left; reached = one_move g (touching w) (away (released (Passed k words) v)) reached goes }
+  act_passes acts (BeforeTouch.Ends ending v) w next all left reached goes more =
+      last_move g (touching w) (touching v) ending (meaning.in_world v s) reached goes (same_end g (Touches f (Passes k words place)) callers (meaning.in_world v s) blocks)
+
+  -- acts up to the touch
+  passes : (acts : List Act) (w : World) → AllByRecursion IsAct acts → HasLeft acts w → Reached g (touching w) → Asks IsPassed EndsIn (before_touch acts w)
+  passes [] w all left reached =
+      let v = telling (NoAct turns.Trusted ∷ []) w in
+      record { kept = kept_world [] v tt (record { left = left.left; inputs = left.inputs }); reached = one_move g (touching w) (away (released (Passed k words) v)) reached (ap (λ acts. moves.before_touch (image g) f (Passes k words place) acts (touching w)) left.left) }
+  passes (a ∷ acts) w all left reached =
+      act_passes acts (act_before_touch a (taken_one acts w)) w (before_touch acts) all.1 (act_waits acts a (taken_one acts w) (record { left = refl; inputs = left.inputs })) reached
+      (ap (λ acts. moves.before_touch (image g) f (Passes k words place) acts (touching w)) left.left)
+      (λ v h r. passes acts v all.1 h r)
+
+  -- the innermost tainted call ends with a word
+  record Answered (reply : ℕ) (w : World) : Type 0 where
+    is_word : IsWord reply
+    kept : KeptWorld w
+    before : World
+    reached : Reached g (away before)
+    answers : move (image g) g.settings (away before) ≡ answer (image g) (Waits (behind f f.stack) k place ∷ callers) reply (away w)
+
+  act_answers : (acts : List Act) (x : InSandbox) (w : World) (next : World → Asked ℕ) → AllByRecursion IsAct acts → SandboxKeeps acts x → Reached g (away w) → move (image g) g.settings (away w) ≡ in_sandbox_by (image g) g.settings x (away w) → ((v : World) → HasLeft acts v → Reached g (away v) → Asks Answered EndsIn (next v)) → Asks Answered EndsIn (on_with_reply x next)
+  act_answers acts (InSandbox.Keeps v) w next all left reached goes more = more v left (one_move g (away w) (away v) reached goes)
+  act_answers acts (InSandbox.Answers reply v) w next all left reached goes more = record { is_word = left.0; kept = kept_world acts v all left.1; before = w; reached = reached; answers = goes }
+  act_answers acts (InSandbox.Calls fun args v) w next all left reached goes more =
+      last_move g (away w) (away v) _ (meaning.in_world v s) reached goes (same_end g Away (Waits (behind f f.stack) k place ∷ callers) (meaning.in_world v s) blocks)
+  act_answers acts (InSandbox.Ends ending v) w next all left reached goes more =
+      last_move g (away w) (away v) ending (meaning.in_world v s) reached goes (same_end g Away (Waits (behind f f.stack) k place ∷ callers) (meaning.in_world v s) blocks)
+
+  answered : (acts : List Act) (w : World) → AllByRecursion IsAct acts → HasLeft acts w → Reached g (away w) → Asks Answered EndsIn (until_return acts w)
+  answered [] w all left reached =
+      let v = telling (NoAct turns.Sandbox ∷ []) w in
+      last_move g (away w) (away v) sandbox_ended (meaning.in_world v s) reached (ap (λ acts. moves.in_sandbox (image g) g.settings acts (away w)) left.left) (same_end g Away (Waits (behind f f.stack) k place ∷ callers) (meaning.in_world v s) blocks)
+  answered (a ∷ acts) w all left reached =
+      act_answers acts (act_in_sandbox a (taken_one acts w)) w (until_return acts) all.1 (act_keeps acts a (taken_one acts w) all.0 (record { left = refl; inputs = left.inputs })) reached
+      (ap (λ acts. moves.in_sandbox (image g) g.settings acts (away w)) left.left)
+      (λ v h r. answered acts v all.1 h r)
+
+  -- a call that is passed, from the touch to the reply
+  crossed : (w : World) → KeptWorld w → Reached g (touching w) → Asks Answered EndsIn (asking (touch (Passed k words) w) (λ _ v. until_return v.acts v))
+  crossed w kept reached =
+      asking_on (λ u v. KeptWorld v × Reached g (away v)) Answered EndsIn (touch (Passed k words) w) (λ _ v. until_return v.acts v)
+      (asking_on IsPassed (λ u v. KeptWorld v × Reached g (away v)) EndsIn (before_touch w.acts w) (λ _ v. Got _ (released (Passed k words) v))
+      (passes w.acts w kept.acts (record { left = refl; inputs = kept.inputs }) reached)
+      (λ u v h. (record { acts = h.kept.acts; inputs = h.kept.inputs }, h.reached)))
+      (λ u v h. answered v.acts v h.0.acts (record { left = refl; inputs = h.0.inputs }) h.1)
+
+-- a tainted function of the program is one of the image, with as many arguments
+import_there : (n k : ℕ) (imports : List core.Import) (i : core.Import) → slice_get imports k ≡ Some i → (m : ℕ) × (slice_get (imports_from n imports) k ≡ Some (import_code m i))
+import_there n k [] i h = absurd (cc)
+import_there n zero (j ∷ imports) i h = let e : j ≡ i = cc in (n, ap (λ x. Some (import_code n x)) e)
+import_there n (suc k) (j ∷ imports) i h = import_there (suc n) k imports i h
+
+-- the words behind a first one
+behind_first : (w : ℕ) (o : Option (List ℕ)) (words : List ℕ) → option_map (λ ws. w ∷ ws) o ≡ Some words → (rest : List ℕ) × (o ≡ Some rest) × (w ∷ rest ≡ words)
+behind_first w None words h = absurd (cc)
+behind_first w (Some rest) words h = (rest, refl, cc)
+
+-- the words of numbers are those of the values
+passed_words : (g : Execution) (vs : List Value) (words : List ℕ) → words_of vs ≡ Some words → map (word_of g) vs ≡ words
+passed_words g [] words h = cc
+passed_words g (Number z ∷ vs) words h =
+    let found = behind_first (word z) (words_of vs) words h in
+    ap (λ l. word z ∷ l) (passed_words g vs found.0 found.1) ∙ found.2
+passed_words g (Null ∷ vs) words h = absurd (cc)
+passed_words g (At block cell ∷ vs) words h = absurd (cc)
+
+module _ (g : Execution) (l : Layout g) where
+  -- the move that takes a reply
+  abbrev replies : ℕ → ℕ → List ℕ → meaning.State → Option CType → Place → ℕ → Step
+  replies next scratch stack s result place reply = moves.reply_if (fits_kind (result_kind result) reply) (image g) (frame g l next scratch stack s.locals) place (result_kind result) reply (state g Away l.callers s)
+
+  -- a reply is a number of the result's type, or breaks off
+  reply_runs : (result : Option CType) (next scratch : ℕ) (stack : List ℕ) (s : meaning.State) (site : Site) (reply : ℕ) (u : State) → IsWord reply → Holds l.held scratch → Kept g l s → length stack < (code g l).stack → Reached g u → move (image g) g.settings u ≡ replies next scratch stack s result site.place reply → Leads (Resumes g l next stack) (Finishes g) (reply_as result site reply s)
+  reply_runs None next scratch stack s site reply u is holds kept room reached moves_on = resumed g l next scratch stack None s u (state g Away l.callers s) holds kept tt room refl reached moves_on
+  reply_runs (Some Int) next scratch stack s site reply u is holds kept room reached moves_on =
+      resumed g l next scratch stack (Some (Number (signed reply))) s u (state g Away l.callers s) holds kept (signed_fits reply is) room refl reached
+      (moves_on ∙ ap (λ w. push_result (slice_get (image g).trusted.funs l.number) (Some w) (frame g l next scratch stack s.locals) (state g Away l.callers s)) (sym (word-signed reply is)))
+  reply_runs (Some Char) next scratch stack s site reply u is holds kept room reached moves_on = char_runs (nat_lt reply 256) refl
+    where
+      char_runs : (low : Bool) → nat_lt reply 256 ≡ low → Leads (Resumes g l next stack) (Finishes g) (reply_as (Some Char) site reply s)
+      char_runs true test =
+          rw test
+          (resumed g l next scratch stack (Some (Number (signed reply))) s u (state g Away l.callers s) holds kept (signed_fits reply is) room refl reached
+          (moves_on ∙ ap (λ yes. moves.reply_if yes (image g) (frame g l next scratch stack s.locals) site.place (result_kind (Some Char)) reply (state g Away l.callers s)) test ∙ ap (λ w. push_result (slice_get (image g).trusted.funs l.number) (Some w) (frame g l next scratch stack s.locals) (state g Away l.callers s)) (sym (word-signed reply is))))
+      char_runs false test =
+          rw test
+          (last_move g u (state g Away l.callers s) (Check C9 site.place) s reached
+          (moves_on ∙ ap (λ yes. moves.reply_if yes (image g) (frame g l next scratch stack s.locals) site.place (result_kind (Some Char)) reply (state g Away l.callers s)) test) (same_end g Away l.callers s kept.blocks))
+  reply_runs (Some (Struct number)) next scratch stack s site reply u is holds kept room reached moves_on = tt
+  reply_runs (Some (Pointer mode kind target)) next scratch stack s site reply u is holds kept room reached moves_on = tt
+
+  call_moves : (next scratch : ℕ) (stack words : List ℕ) (s : meaning.State) (k : ℕ) (place : Place) (i : core.Import) (few : Bool) → nat_lt s.depth 1000 ≡ few → slice_get g.program.imports k ≡ Some i → i.parameters ≡ length words → Kept g l s → slice_get (code g l).ops next ≡ Some (ops.TaintedCall k place) → move (image g) g.settings (standing g l next scratch (reverse words ++ stack) s) ≡ table.asked (entered_if few s.world) (standing g l next scratch (reverse words ++ stack) s) (λ _ u. table.touch_if true (Passes k words place) stack (frame g l next scratch (reverse words ++ stack) s.locals) u)
+  call_moves next scratch stack words s k place i few test there count kept at =
+      let fr = frame g l next scratch (reverse words ++ stack) s.locals in
+      let t = standing g l next scratch (reverse words ++ stack) s in
+      let found = import_there 0 k g.program.imports i there in
+      let touches = λ (ws rest : List ℕ). table.asked (enter_call (suc (length l.callers)) s.world) t (λ _ u. table.touch_if true (Passes k ws place) rest fr u) in
+      fetched g l next scratch (reverse words ++ stack) s (ops.TaintedCall k place) at
+      ∙ ap (λ o. table.call_tainted k place o fr t) found.1
+      ∙ popped words stack i.parameters touches t count
+      ∙ ap (λ yes. table.asked (entered_if yes s.world) t (λ _ u. table.touch_if true (Passes k words place) stack fr u)) (ap (λ n. nat_lt n 1000) (sym kept.depth) ∙ test)
+
+  asks_runs : (next scratch : ℕ) (stack words : List ℕ) (s : meaning.State) (k : ℕ) (place : Place) (i : core.Import) (few : Bool) → nat_lt s.depth 1000 ≡ few → slice_get g.program.imports k ≡ Some i → i.parameters ≡ length words → (kept : Kept g l s) → slice_get (code g l).ops next ≡ Some (ops.TaintedCall k place) → Reached g (standing g l next scratch (reverse words ++ stack) s) → Asks (Answered g s kept.blocks l.callers (frame g l next scratch stack s.locals) k words place) (λ ending w. Finishes g ending (meaning.in_world w s)) (asking (entered_if few s.world) (λ _ u. asking (touch (Passed k words) u) (λ _ v. until_return v.acts v)))
+  asks_runs next scratch stack words s k place i false test there count kept at reached =
+      let t = standing g l next scratch (reverse words ++ stack) s in
+      last_move g t t (Stop S2 None) s reached (call_moves next scratch stack words s k place i false test there count kept at) (same_end g t.control l.callers s kept.blocks)
+  asks_runs next scratch stack words s k place i true test there count kept at reached =
+      let f = frame g l next scratch stack s.locals in
+      crossed g s kept.blocks l.callers f k words place s.world kept.world
+      (one_move g (standing g l next scratch (reverse words ++ stack) s) (touching g s kept.blocks l.callers f k words place s.world) reached (call_moves next scratch stack words s k place i true test there count kept at))
+
+  -- behind the tick
+  ticked_runs : (next : ℕ) (stack words : List ℕ) (s : meaning.State) (k : ℕ) (site : Site) (i : core.Import) → slice_get g.program.imports k ≡ Some i → i.parameters ≡ length words → Here g l next (reverse words ++ stack) s → slice_get (code g l).ops next ≡ Some (ops.TaintedCall k site.place) → length stack < (code g l).stack → Leads (Resumes g l (next + 1) stack) (Finishes g) (meanings.asked (tainted_call s.depth k words s.world) s (reply_as i.result site))
+  ticked_runs next stack words s k site i there count here at room =
+      let f = frame g l next here.scratch stack s.locals in
+      asks_on (Answered g s here.kept.blocks l.callers f k words site.place) (Resumes g l (next + 1) stack) (Finishes g) (tainted_call s.depth k words s.world) s (reply_as i.result site)
+      (asks_runs next here.scratch stack words s k site.place i (nat_lt s.depth 1000) refl there count here.kept at here.reached)
+      (λ reply w a.
+      let found = import_there 0 k g.program.imports i there in
+      let t = state g Away l.callers (meaning.in_world w s) in
+      reply_runs i.result (next + 1) here.scratch stack (meaning.in_world w s) site reply (away g s here.kept.blocks l.callers f k words site.place a.before) a.is_word here.holds (kept_in g l s w here.kept a.kept) room a.reached
+      (a.answers ∙ ap (λ o. reply_to (image g) (behind f stack) site.place o reply t) found.1))
+
+  cross_runs : (next : ℕ) (stack : List ℕ) (s : meaning.State) (k : ℕ) (site : Site) (i : core.Import) (vs : List Value) (ws : Option (List ℕ)) → slice_get g.program.imports k ≡ Some i → i.parameters ≡ length vs → words_of vs ≡ ws → Here g l next (piled g vs stack) s → HasAt (code g l).ops next (ops.Tick ∷ (ops.TaintedCall k site.place ∷ [])) → length stack < (code g l).stack → Leads (Resumes g l (next + 1 + 1) stack) (Finishes g) (cross (record { program = g.program; budget = g.settings.budget }) k i site ws s)
+  cross_runs next stack s k site i vs None there count are here at room = tt
+  cross_runs next stack s k site i vs (Some words) there count are here at room =
+      let same = passed_words g vs words are in
+      let pile : piled g vs stack ≡ reverse words ++ stack = piled_words g vs stack ∙ ap (λ l. reverse l ++ stack) same in
+      let many : i.parameters ≡ length words = count ∙ sym (length-map vs (word_of g)) ∙ ap length same in
+      asks_on (λ _ w. Here g l (next + 1) (reverse words ++ stack) (meaning.in_world w s)) (Resumes g l (next + 1 + 1) stack) (Finishes g) (spend_tick g.settings.budget s.world) s _
+      (tick_runs g l next (reverse words ++ stack) s (subst (λ p. Here g l next p s) pile here) at.0)
+      (λ _ w ticked. ticked_runs (next + 1) stack words (meaning.in_world w s) k site i there many ticked at.1.0 room)
+
+  cross_if_runs : (next : ℕ) (stack : List ℕ) (s : meaning.State) (k : ℕ) (site : Site) (i : core.Import) (vs : List Value) (yes : Bool) → (i.parameters == length vs) ≡ yes → slice_get g.program.imports k ≡ Some i → Here g l next (piled g vs stack) s → HasAt (code g l).ops next (ops.Tick ∷ (ops.TaintedCall k site.place ∷ [])) → length stack < (code g l).stack → Leads (Resumes g l (next + 1 + 1) stack) (Finishes g) (cross_if yes (record { program = g.program; budget = g.settings.budget }) k i site vs s)
+  cross_if_runs next stack s k site i vs false test there here at room = tt
+  cross_if_runs next stack s k site i vs true test there here at room =
+      let count : i.parameters ≡ length vs = grind (arith, nat_tests) in
+      cross_runs next stack s k site i vs (words_of vs) there count refl here at room
+
+  taken_runs : (next : ℕ) (stack : List ℕ) (s : meaning.State) (k : ℕ) (site : Site) (vs : List Value) (o : Option core.Import) → slice_get g.program.imports k ≡ o → Here g l next (piled g vs stack) s → HasAt (code g l).ops next (ops.Tick ∷ (ops.TaintedCall k site.place ∷ [])) → length stack < (code g l).stack → Leads (Resumes g l (next + 1 + 1) stack) (Finishes g) (call_tainted (record { program = g.program; budget = g.settings.budget }) k o site vs s)
+  taken_runs next stack s k site vs None there here at room = tt
+  taken_runs next stack s k site vs (Some i) there here at room = cross_if_runs next stack s k site i vs (i.parameters == length vs) refl there here at room
+
+  -- a call of values, whose words lie on the stack
+  pub tainted_runs : (next : ℕ) (stack : List ℕ) (s : meaning.State) (k : ℕ) (site : Site) (vs : List Value) → Here g l next (piled g vs stack) s → HasAt (code g l).ops next (ops.Tick ∷ (ops.TaintedCall k site.place ∷ [])) → length stack < (code g l).stack → Leads (Resumes g l (next + 1 + 1) stack) (Finishes g) (call_tainted (record { program = g.program; budget = g.settings.budget }) k (slice_get g.program.imports k) site vs s)
+  tainted_runs next stack s k site vs here at room = taken_runs next stack s k site vs (slice_get g.program.imports k) refl here at room

@@ -1,0 +1,194 @@
+-- The code of an expression leaves the word of its value.
+use Rattle.std.proofs.Common.{◌≡◌, ℕ, ◌+◌, ◌<◌, ◌≤◌, pos, List, [], ◌∷◌, ◌++◌, length, Option, Some, None, refl, subst, arith}
+use Rattle.std.specs.Prelude.{max, slice_get, not}
+use Rattle.std.specs.List.{AllByRecursion}
+use Rattle.act_words.specs.Outcome.{Gives, and_then}
+use Rattle.act_words.specs.Checks.{is_word_number}
+use Rattle.ckc_core.specs.Core as core
+use Rattle.ckc_core.specs.States.{Value, Number, Null, At}
+use Rattle.ckc_core.specs.States as meaning
+use Rattle.ckc_core.specs.Meaning.{Result, Knot, Setting, truth, number_of_test, value, values, place, arithmetic_of, compared, negated, complemented, low_byte_of, same_place, test_given, place_in, place_through, pointer_to, load_at, call_trusted, call_tainted, result_given}
+use Rattle.code_words.specs.declared.op.Op.{Op}
+use Rattle.code_words.specs.declared.op.Op.TheVariants as ops
+use Rattle.lowering_code.specs.Code.{operator_code, comparison_code, load_code, through_code, offset_size, expression_size, arguments_size, place_size, expression_code, arguments_code, place_code}
+use Rattle.ckc_core.specs.Stacks.{expression_stack, arguments_stack, place_stack}
+use Rattle.lowering_code.proofs.Executions.{Execution, word_of, IsKept}
+use Rattle.lowering_code.proofs.Steps.{HasAt, has_front, has_back, Leads, leads_on, Finishes, Layout, code, Here, pushes, here_at, Arrives, Evaluates, evaluates_at}
+use Rattle.lowering_code.proofs.Sizes.{length_expression, length_arguments, length_place, stack_above, place_above}
+use Rattle.lowering_code.proofs.Expressions.{number_runs, local_runs, operator_runs, comparison_runs, negation_runs, complement_runs, low_byte_runs, input_runs}
+use Rattle.lowering_code.proofs.Places.{Placed, direct_runs, through_runs, pointer_runs, load_runs}
+use Rattle.lowering_code.proofs.Conditions.{zero_runs, and_runs, or_runs, same_runs}
+use Rattle.lowering_code.proofs.Calls.{piled, KnotRuns, Resumes, call_runs}
+use Rattle.lowering_code.proofs.Tainted.{tainted_runs}
+
+-- what the meaning knows of a run
+abbrev pub setting : Execution → Setting
+setting g = record { program = g.program; budget = g.settings.budget }
+
+module _ (g : Execution) (l : Layout g) where
+  -- the values' words are on the stack, the last on top
+  pub record Piles (next : ℕ) (stack : List ℕ) (vs : List Value) (s : meaning.State) : Type 0 where
+    pub here : Here g l next (piled g vs stack) s
+    pub kept : AllByRecursion (IsKept g) vs
+
+  -- the result of a call that has one
+  given_result : (next : ℕ) (stack : List ℕ) (v : Option Value) (s : meaning.State) → Resumes g l next stack v s → Evaluates g l next stack (result_given v s)
+  given_result next stack None s h = tt
+  given_result next stack (Some v) s h = h
+
+  module _ (k : Knot) (runs : KnotRuns g k) where
+    -- the code of an expression, where it stands, leaves its value
+    abbrev pub ExpressionRuns : core.Expression → Type 0
+    ExpressionRuns e = (next : ℕ) (stack : List ℕ) (s : meaning.State) → Here g l next stack s → HasAt (code g l).ops next (expression_code next e) → length stack + expression_stack e ≤ (code g l).stack → next + expression_size e < length (code g l).ops → Evaluates g l (next + expression_size e) stack (value (setting g) k e s)
+
+    abbrev pub ArgumentsRun : core.Arguments → Type 0
+    ArgumentsRun args = (next : ℕ) (stack : List ℕ) (s : meaning.State) → Here g l next stack s → HasAt (code g l).ops next (arguments_code next args) → length stack + arguments_stack args ≤ (code g l).stack → next + arguments_size args < length (code g l).ops → Leads (Piles (next + arguments_size args) stack) (Finishes g) (values (setting g) k args s)
+
+    -- an operand, and the instruction that follows it
+    unary_runs : (operand : core.Expression) (op : Op) (more : Value → meaning.State → Result Value) → ExpressionRuns operand → (next : ℕ) (stack : List ℕ) (s : meaning.State) → ((m : ℕ) (v : Value) (t : meaning.State) → IsKept g v → Here g l m (word_of g v ∷ stack) t → slice_get (code g l).ops m ≡ Some op → length stack < (code g l).stack → Evaluates g l (m + 1) stack (more v t)) → Here g l next stack s → HasAt (code g l).ops next (expression_code next operand ++ op ∷ []) → length stack + expression_stack operand ≤ (code g l).stack → next + (expression_size operand + 1) < length (code g l).ops → Evaluates g l (next + (expression_size operand + 1)) stack (and_then (value (setting g) k operand s) more)
+    unary_runs operand op more operand_runs next stack s behind here at room low =
+        let m = next + expression_size operand in
+        let first = expression_code next operand in
+        let end : m + 1 ≡ next + (expression_size operand + 1) = omega arith in
+        evaluates_at g l (m + 1) (next + (expression_size operand + 1)) stack (and_then (value (setting g) k operand s) more) end
+        (leads_on (Arrives g l m stack) (Arrives g l (m + 1) stack) (Finishes g) (value (setting g) k operand s) more
+        (operand_runs next stack s here (has_front (code g l).ops next first (op ∷ []) at) room (omega arith))
+        (λ v t x. behind m v t x.1 x.0 (has_back (code g l).ops next first (op ∷ []) (expression_size operand) (length_expression next operand) at).0 (omega (arith, stack_above operand))))
+
+    -- two operands, and the instruction that follows them
+    binary_runs : (left right : core.Expression) (op : Op) (more : Value → Value → meaning.State → Result Value) → ExpressionRuns left → ExpressionRuns right → (next : ℕ) (stack : List ℕ) (s : meaning.State) → ((m : ℕ) (v w : Value) (t : meaning.State) → IsKept g v → IsKept g w → Here g l m (word_of g w ∷ (word_of g v ∷ stack)) t → slice_get (code g l).ops m ≡ Some op → length stack < (code g l).stack → Evaluates g l (m + 1) stack (more v w t)) → Here g l next stack s → HasAt (code g l).ops next (expression_code next left ++ (expression_code (next + expression_size left) right ++ op ∷ [])) → length stack + max (expression_stack left) (1 + expression_stack right) ≤ (code g l).stack → next + (expression_size left + (expression_size right + 1)) < length (code g l).ops → Evaluates g l (next + (expression_size left + (expression_size right + 1))) stack (and_then (value (setting g) k left s) (λ v t. and_then (value (setting g) k right t) (more v)))
+    binary_runs left right op more left_runs right_runs next stack s behind here at room low =
+        let m = next + expression_size left in
+        let n = m + expression_size right in
+        let first = expression_code next left in
+        let second = expression_code m right in
+        let back = has_back (code g l).ops next first (second ++ op ∷ []) (expression_size left) (length_expression next left) at in
+        let end : n + 1 ≡ next + (expression_size left + (expression_size right + 1)) = omega arith in
+        evaluates_at g l (n + 1) (next + (expression_size left + (expression_size right + 1))) stack (and_then (value (setting g) k left s) (λ v t. and_then (value (setting g) k right t) (more v))) end
+        (leads_on (Arrives g l m stack) (Arrives g l (n + 1) stack) (Finishes g) (value (setting g) k left s) _
+        (left_runs next stack s here (has_front (code g l).ops next first (second ++ op ∷ []) at) (omega arith) (omega arith))
+        (λ v t x. leads_on (Arrives g l n (word_of g v ∷ stack)) (Arrives g l (n + 1) stack) (Finishes g) (value (setting g) k right t) (more v)
+        (right_runs m (word_of g v ∷ stack) t x.0 (has_front (code g l).ops m second (op ∷ []) back) (omega arith) (omega arith))
+        (λ w u y. behind n v w u x.1 y.1 y.0 (has_back (code g l).ops m second (op ∷ []) (expression_size right) (length_expression m right) back).0 (omega (arith, stack_above left)))))
+
+    -- the arguments of a call, its instructions, and what follows the call
+    pub called_runs : {A : Type 0} (H : A → meaning.State → Type 0) (args : core.Arguments) (op : Op) (call : List Value → meaning.State → Result (Option Value)) (more : Option Value → meaning.State → Result A) → ArgumentsRun args → (next : ℕ) (stack : List ℕ) (s : meaning.State) → ((m : ℕ) (vs : List Value) (t : meaning.State) → Piles m stack vs t → HasAt (code g l).ops m (ops.Tick ∷ (op ∷ [])) → Leads (Resumes g l (m + 1 + 1) stack) (Finishes g) (call vs t)) → ((v : Option Value) (t : meaning.State) → Resumes g l (next + (arguments_size args + 2)) stack v t → Leads H (Finishes g) (more v t)) → Here g l next stack s → HasAt (code g l).ops next (arguments_code next args ++ ops.Tick ∷ (op ∷ [])) → length stack + arguments_stack args ≤ (code g l).stack → next + (arguments_size args + 2) < length (code g l).ops → Leads H (Finishes g) (and_then (values (setting g) k args s) (λ vs t. and_then (call vs t) more))
+    called_runs H args op call more args_run next stack s calls behind here at room low =
+        let m = next + arguments_size args in
+        let last = ops.Tick ∷ (op ∷ []) in
+        let end : m + 1 + 1 ≡ next + (arguments_size args + 2) = omega arith in
+        leads_on (Piles m stack) H (Finishes g) (values (setting g) k args s) _
+        (args_run next stack s here (has_front (code g l).ops next (arguments_code next args) last at) room (omega arith))
+        (λ vs t x. leads_on (Resumes g l (m + 1 + 1) stack) H (Finishes g) (call vs t) more
+        (calls m vs t x (has_back (code g l).ops next (arguments_code next args) last (arguments_size args) (length_arguments next args) at))
+        (λ v u y. behind v u (subst (λ n. Resumes g l n stack v u) end y)))
+
+    mutual
+      -- the value of an expression
+      pub value_runs : (e : core.Expression) (next : ℕ) (stack : List ℕ) (s : meaning.State) → Here g l next stack s → HasAt (code g l).ops next (expression_code next e) → length stack + expression_stack e ≤ (code g l).stack → next + expression_size e < length (code g l).ops → Evaluates g l (next + expression_size e) stack (value (setting g) k e s)
+      value_runs (core.Number z) next stack s here at room low = number_runs g l next stack s z (is_word_number z) refl here at.0 (omega arith)
+      value_runs core.Null next stack s here at room low = (pushes g l next stack s (ops.Const (pos 0)) 0 stack here at.0 (omega arith) (λ scratch. refl), tt)
+      value_runs (core.Local n) next stack s here at room low = local_runs g l next stack s n (slice_get s.locals n) refl here at.0 (omega arith)
+      value_runs (core.Load type p) next stack s here at room low =
+          let m = next + place_size p in
+          let last = load_code type ∷ [] in
+          let end : m + 1 ≡ next + (place_size p + 1) = omega arith in
+          evaluates_at g l (m + 1) (next + (place_size p + 1)) stack (value (setting g) k (core.Load type p) s) end
+          (leads_on (Placed g l m stack) (Arrives g l (m + 1) stack) (Finishes g) (place (setting g) k p s) (load_at type)
+          (place_runs p next stack s here (has_front (code g l).ops next (place_code next p) last at) room (omega arith))
+          (λ at_cell t x. load_runs g l m stack t type at_cell x (has_back (code g l).ops next (place_code next p) last (place_size p) (length_place next p) at).0 (omega (arith, place_above p))))
+      value_runs (core.AddressOf object cell offset) next stack s here at room low =
+          let m = next + (1 + offset_size offset) in
+          leads_on (Placed g l m stack) (Arrives g l m stack) (Finishes g) (place_in object cell offset s) pointer_to
+          (direct_runs g l next stack s object cell offset (slice_get s.blocks object) refl here at room)
+          (λ at_cell t x. pointer_runs g l m stack t at_cell x)
+      value_runs (core.AddressThrough pointer cell offset site) next stack s here at room low =
+          let m = next + expression_size pointer in
+          let n = m + (1 + offset_size offset) in
+          let first = expression_code next pointer in
+          let last = through_code offset site in
+          let end : n ≡ next + (expression_size pointer + (1 + offset_size offset)) = omega arith in
+          evaluates_at g l n (next + (expression_size pointer + (1 + offset_size offset))) stack (value (setting g) k (core.AddressThrough pointer cell offset site) s) end
+          (leads_on (Arrives g l m stack) (Arrives g l n stack) (Finishes g) (value (setting g) k pointer s) _
+          (value_runs pointer next stack s here (has_front (code g l).ops next first last at) (omega arith) (omega arith))
+          (λ v t x. leads_on (Placed g l n stack) (Arrives g l n stack) (Finishes g) (place_through cell offset site v t) pointer_to
+          (through_runs g l m stack t cell offset site v x.1 x.0 (has_back (code g l).ops next first last (expression_size pointer) (length_expression next pointer) at) (omega arith))
+          (λ at_cell u y. pointer_runs g l n stack u at_cell y)))
+      value_runs (core.Negate operand site) next stack s here at room low =
+          unary_runs operand (ops.Neg site.place) (negated site) (value_runs operand) next stack s (λ m v t. negation_runs g l m stack t site v) here at room low
+      value_runs (core.Complement operand) next stack s here at room low =
+          unary_runs operand ops.Not complemented (value_runs operand) next stack s (λ m v t. complement_runs g l m stack t v) here at room low
+      value_runs (core.Not operand) next stack s here at room low =
+          unary_runs operand ops.Zero (λ v t. Gives (number_of_test (not (truth v))) t) (value_runs operand) next stack s (λ m v t. zero_runs g l m stack t v) here at room low
+      value_runs (core.LowByte operand) next stack s here at room low =
+          unary_runs operand ops.Byte low_byte_of (value_runs operand) next stack s (λ m v t. low_byte_runs g l m stack t v) here at room low
+      value_runs (core.Arithmetic operator left right site) next stack s here at room low =
+          binary_runs left right (operator_code operator site) (arithmetic_of operator site) (value_runs left) (value_runs right) next stack s (λ m v w t. operator_runs g l m stack t operator site v w) here at room low
+      value_runs (core.Compare comparison left right) next stack s here at room low =
+          binary_runs left right (comparison_code comparison) (compared comparison) (value_runs left) (value_runs right) next stack s (λ m v w t. comparison_runs g l m stack t comparison v w) here at room low
+      value_runs (core.Same left right) next stack s here at room low =
+          binary_runs left right ops.Equal (λ v w t. test_given (same_place v w) t) (value_runs left) (value_runs right) next stack s (λ m v w t. same_runs g l m stack t v w) here at room low
+      value_runs (core.AndAlso left right) next stack s here at room low =
+          let m = next + expression_size left in
+          let n = expression_size right in
+          let second = expression_code (m + 1) right in
+          let last = ops.Zero ∷ (ops.Zero ∷ (ops.Jump (m + 1 + n + 4) ∷ (ops.Const (pos 0) ∷ []))) in
+          let rest = ops.JumpIfZero (m + 1 + n + 3) ∷ (second ++ last) in
+          let back = has_back (code g l).ops next (expression_code next left) rest (expression_size left) (length_expression next left) at in
+          let end : m + 1 + n + 4 ≡ next + (expression_size left + (n + 5)) = omega arith in
+          evaluates_at g l (m + 1 + n + 4) (next + (expression_size left + (n + 5))) stack (value (setting g) k (core.AndAlso left right) s) end
+          (leads_on (Arrives g l m stack) (Arrives g l (m + 1 + n + 4) stack) (Finishes g) (value (setting g) k left s) _
+          (value_runs left next stack s here (has_front (code g l).ops next (expression_code next left) rest at) (omega arith) (omega arith))
+          (λ v t x. and_runs g l m n stack t v (truth v) (value (setting g) k right t) refl x.1 x.0 back.0 (has_back (code g l).ops (m + 1) second last n (length_expression (m + 1) right) back.1) (omega arith) (omega (arith, stack_above left))
+          (λ inside. value_runs right (m + 1) stack t inside (has_front (code g l).ops (m + 1) second last back.1) (omega arith) (omega arith))))
+      value_runs (core.OrElse left right) next stack s here at room low =
+          let m = next + expression_size left in
+          let n = expression_size right in
+          let second = expression_code (m + 3) right in
+          let last = ops.Zero ∷ (ops.Zero ∷ []) in
+          let rest = ops.JumpIfZero (m + 3) ∷ (ops.Const (pos 1) ∷ (ops.Jump (m + 3 + n + 2) ∷ (second ++ last))) in
+          let back = has_back (code g l).ops next (expression_code next left) rest (expression_size left) (length_expression next left) at in
+          let three : m + 1 + 1 + 1 ≡ m + 3 = omega arith in
+          let behind = subst (λ i. HasAt (code g l).ops i (second ++ last)) three back.1.1.1 in
+          let end : m + 3 + n + 2 ≡ next + (expression_size left + (n + 5)) = omega arith in
+          evaluates_at g l (m + 3 + n + 2) (next + (expression_size left + (n + 5))) stack (value (setting g) k (core.OrElse left right) s) end
+          (leads_on (Arrives g l m stack) (Arrives g l (m + 3 + n + 2) stack) (Finishes g) (value (setting g) k left s) _
+          (value_runs left next stack s here (has_front (code g l).ops next (expression_code next left) rest at) (omega arith) (omega arith))
+          (λ v t x. or_runs g l m n stack t v (truth v) (value (setting g) k right t) refl x.1 x.0 (back.0, (back.1.0, (back.1.1.0, tt))) (has_back (code g l).ops (m + 3) second last n (length_expression (m + 3) right) behind) (omega arith) (omega (arith, stack_above left))
+          (λ inside. value_runs right (m + 3) stack t inside (has_front (code g l).ops (m + 3) second last behind) (omega arith) (omega arith))))
+      value_runs (core.Call function args) next stack s here at room low =
+          called_runs (Arrives g l (next + (arguments_size args + 2)) stack) args (ops.Call function) (call_trusted (setting g) k function) result_given (arguments_run args) next stack s
+          (λ m vs t x back. call_runs g l k runs m stack t function vs x.kept x.here back (omega arith)) (given_result (next + (arguments_size args + 2)) stack) here at (omega arith) low
+      value_runs (core.TaintedCall import args site) next stack s here at room low =
+          called_runs (Arrives g l (next + (arguments_size args + 2)) stack) args (ops.TaintedCall import site.place) (call_tainted (setting g) import (slice_get g.program.imports import) site) result_given (arguments_run args) next stack s
+          (λ m vs t x back. tainted_runs g l m stack t import site vs x.here back (omega arith)) (given_result (next + (arguments_size args + 2)) stack) here at (omega arith) low
+      value_runs core.NextInput next stack s here at room low = input_runs g l next stack s here at.0 (omega arith)
+
+      -- the values of arguments
+      pub arguments_run : (args : core.Arguments) (next : ℕ) (stack : List ℕ) (s : meaning.State) → Here g l next stack s → HasAt (code g l).ops next (arguments_code next args) → length stack + arguments_stack args ≤ (code g l).stack → next + arguments_size args < length (code g l).ops → Leads (Piles (next + arguments_size args) stack) (Finishes g) (values (setting g) k args s)
+      arguments_run core.Done next stack s here at room low =
+          let none : next ≡ next + 0 = omega arith in
+          record { here = here_at g l next (next + 0) stack s none here; kept = tt }
+      arguments_run (core.More first rest) next stack s here at room low =
+          let m = next + expression_size first in
+          let back = has_back (code g l).ops next (expression_code next first) (arguments_code m rest) (expression_size first) (length_expression next first) at in
+          let end : m + arguments_size rest ≡ next + (expression_size first + arguments_size rest) = omega arith in
+          subst (λ n. Leads (Piles n stack) (Finishes g) (values (setting g) k (core.More first rest) s)) end
+          (leads_on (Arrives g l m stack) (Piles (m + arguments_size rest) stack) (Finishes g) (value (setting g) k first s) _
+          (value_runs first next stack s here (has_front (code g l).ops next (expression_code next first) (arguments_code m rest) at) (omega arith) (omega arith))
+          (λ v t x. leads_on (Piles (m + arguments_size rest) (word_of g v ∷ stack)) (Piles (m + arguments_size rest) stack) (Finishes g) (values (setting g) k rest t) _
+          (arguments_run rest m (word_of g v ∷ stack) t x.0 back (omega arith) (omega arith))
+          (λ vs u y. record { here = y.here; kept = (x.1, y.kept) })))
+
+      -- the address of a cell
+      pub place_runs : (p : core.Place) (next : ℕ) (stack : List ℕ) (s : meaning.State) → Here g l next stack s → HasAt (code g l).ops next (place_code next p) → length stack + place_stack p ≤ (code g l).stack → next + place_size p < length (code g l).ops → Leads (Placed g l (next + place_size p) stack) (Finishes g) (place (setting g) k p s)
+      place_runs (core.Direct object cell offset) next stack s here at room low = direct_runs g l next stack s object cell offset (slice_get s.blocks object) refl here at room
+      place_runs (core.Through pointer cell offset site) next stack s here at room low =
+          let first = expression_code next pointer in
+          let last = through_code offset site in
+          let m = next + expression_size pointer in
+          let end : m + (1 + offset_size offset) ≡ next + (expression_size pointer + (1 + offset_size offset)) = omega arith in
+          subst (λ n. Leads (Placed g l n stack) (Finishes g) (place (setting g) k (core.Through pointer cell offset site) s)) end
+          (leads_on (Arrives g l m stack) (Placed g l (m + (1 + offset_size offset)) stack) (Finishes g) (value (setting g) k pointer s) (place_through cell offset site)
+          (value_runs pointer next stack s here (has_front (code g l).ops next first last at) (omega arith) (omega arith))
+          (λ v t x. through_runs g l m stack t cell offset site v x.1 x.0 (has_back (code g l).ops next first last (expression_size pointer) (length_expression next pointer) at) (omega arith)))

@@ -1,0 +1,50 @@
+-- The code of small programs at work.
+use Rattle.std.specs.Prelude.{◌≡◌, ℕ, List, [], ◌∷◌, length, map, replicate, Option, Some, None, slice_get, false}
+use Rattle.act_words.specs.declared.ending.Ending.{Ending}
+use Rattle.act_words.specs.declared.settings.Settings.{Settings}
+use Rattle.act_words.specs.World.{new_world}
+use Rattle.flat_bytes.specs.Blocks.{first_offset, blocks_of}
+use Rattle.ckc_core.specs.Core.{Core}
+use Rattle.code_words.specs.Table.{State, Runs}
+use Rattle.code_words.specs.Runs.{Run, Unfinished, Finished, exec, memory_of, counter_behind, main_frame}
+use Rattle.code_words.specs.declared.image.Image.{Image}
+use Rattle.lowering_code.specs.Images.{image_of}
+use Rattle.act_words.specs.Shown.{Shown}
+use Rattle.code_words.specs.Dumps.{blocks_held}
+
+-- small memories, at a base address
+abbrev settings : ℕ → Settings
+settings budget = record { budget = budget; sandbox = 64; trusted = 64; base = 65536; view = false; releases = false; dump = false }
+
+abbrev before : Image → State
+before image =
+    record {
+      memory = record { bytes = memory_of 64 image.trusted.blocks; base = 65536; counter = counter_behind first_offset image.trusted.blocks };
+      blocks = blocks_of 64 (map length image.trusted.blocks);
+      control = Runs (main_frame 0 (slice_get image.trusted.funs 0));
+      callers = [];
+      world = new_world (replicate 64 0) first_offset [] [];
+    }
+
+abbrev last : Run → Option State
+last (Unfinished s) = None
+last (Finished ending s) = Some s
+
+abbrev ending_of : Run → Option Ending
+ending_of (Unfinished s) = None
+ending_of (Finished ending s) = Some ending
+
+-- how the code of a program whose first function is `main` ends within 200 moves
+abbrev pub ends : Core → ℕ → Ending → Type 0
+ends program budget ending = ending_of (exec (image_of program) (settings budget) 200 (before (image_of program))) ≡ Some ending
+
+abbrev held : Option State → List Shown
+held None = []
+held (Some s) = blocks_held s
+
+-- the blocks behind the run
+abbrev pub holds : Core → List Shown → Type 0
+holds program shown = held (last (exec (image_of program) (settings 100) 200 (before (image_of program)))) ≡ shown
+
+abbrev pub shown_members : List Shown
+shown_members = (record { address = 65552; bytes = 44 ∷ 0 ∷ 0 ∷ 0 ∷ 7 ∷ 0 ∷ 0 ∷ 0 ∷ [] }) ∷ []

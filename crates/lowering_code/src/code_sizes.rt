@@ -1,0 +1,191 @@
+// How many instructions the code of a part has, which jumps over it need. A function that can be lowered has few nodes, so
+// its code has 2^31 instructions at most, and no sum of sizes passes 32 bits.
+
+ghost use Rattle.std.specs.Prelude.{◌≡◌, ◌+◌, ◌^◌, ◌≤◌};
+ghost use Rattle.ckc_core.specs.Core.{expression, place, arguments_of, statement, statements_of};
+ghost use Rattle.pointer_modes.specs.Types.{ctype};
+ghost use Rattle.ckc_core.specs.Meaning.{is_char};
+ghost use Rattle.lowering_code.specs.Code as code;
+
+use ckc_core::program::{CellPlace, Expr, Stmt};
+use pointer_modes::ctype::CType;
+
+/// Whether a cell of the type has one byte.
+pub fn has_one_byte(ctype_of: &CType) -> bool
+    ensures { result ≡ is_char (ctype ctype_of.now) }
+{
+    match ctype_of {
+        CType::Char => true,
+        CType::Int | CType::Struct(_) | CType::Pointer(_, _, _) => false,
+    }
+}
+
+// The size of what adds an offset to an address.
+fn offset_size(offset: u32) -> u32
+    ensures { result ≡ code.offset_size offset }
+{
+    match offset {
+        0 => 0,
+        _ => 2,
+    }
+}
+
+// The size of what keeps a number modulo 256, if it has to.
+fn byte_size(char: bool) -> u32
+    ensures { result ≡ code.byte_size char }
+{
+    if char { 1 } else { 0 }
+}
+
+/// The size of an expression's code.
+#[cycle(sizes)]
+pub fn expression_size(expr: &Expr) -> u32
+    requires { code.expression_size (expression expr.now) ≤ 2 ^ 31 }
+    ensures { result ≡ code.expression_size (expression expr.now) }
+{
+    match expr {
+        Expr::Number(_) | Expr::Null | Expr::Local(_) | Expr::NextInput => 1,
+        Expr::Load { cell, .. } => place_size(cell) + 1,
+        Expr::AddressOf { offset, .. } => 1 + offset_size(*offset),
+        Expr::AddressThrough {
+            pointer,
+            offset,
+            ..
+        } => expression_size(pointer) + 1 + offset_size(*offset),
+        Expr::Negate { operand, .. }
+        | Expr::Complement(operand)
+        | Expr::Not(operand)
+        | Expr::LowByte(operand) => expression_size(operand) + 1,
+        Expr::Arithmetic { left, right, .. }
+        | Expr::Compare { left, right, .. }
+        | Expr::Same { left, right } => { expression_size(left) + expression_size(right) + 1 }
+        Expr::AndAlso { left, right } | Expr::OrElse { left, right } => {
+            expression_size(left) + expression_size(right) + 5
+        }
+        Expr::Call {
+            function: _,
+            arguments,
+        } => arguments_size(arguments.as_slice()) + 2,
+        Expr::TaintedCall {
+            import: _,
+            arguments,
+            site: _,
+        } => arguments_size(arguments.as_slice()) + 2,
+    }
+}
+
+// The size of the code of arguments.
+#[cycle(sizes)]
+fn arguments_size(arguments: &[Expr]) -> u32
+    requires { code.arguments_size (arguments_of arguments.now) ≤ 2 ^ 31 }
+    ensures { result ≡ code.arguments_size (arguments_of arguments.now) }
+{
+    let mut size = 0;
+    for argument in arguments {
+        size += expression_size(argument);
+    }
+    size
+}
+
+// The size of the code of a place.
+#[cycle(sizes)]
+fn place_size(cell: &CellPlace) -> u32
+    requires { code.place_size (place cell.now) ≤ 2 ^ 31 }
+    ensures { result ≡ code.place_size (place cell.now) }
+{
+    match cell {
+        CellPlace::Direct { offset, .. } => 1 + offset_size(*offset),
+        CellPlace::Through {
+            pointer,
+            offset,
+            ..
+        } => expression_size(pointer) + 1 + offset_size(*offset),
+    }
+}
+
+// The size of the code of a store, whose value has a size.
+fn store_size(cell: &CellPlace, value: u32) -> u32
+    requires { code.before_value_size (place cell.now) + (value + code.behind_value_size (place cell.now)) ≤ 2 ^ 31 }
+    ensures { result ≡ code.before_value_size (place cell.now) + (value + code.behind_value_size (place cell.now)) }
+{
+    match cell {
+        CellPlace::Direct { offset, .. } => 1 + offset_size(*offset) + value + 1,
+        CellPlace::Through {
+            pointer,
+            offset,
+            ..
+        } => expression_size(pointer) + value + 4 + offset_size(*offset),
+    }
+}
+
+// The size of the code of an update, whose place and value have sizes.
+fn update_size(cell: u32, value: u32, char: bool) -> u32
+    requires { cell + (2 + (value + (1 + (code.byte_size char + 1)))) ≤ 2 ^ 31 }
+    ensures { result ≡ cell + (2 + (value + (1 + (code.byte_size char + 1)))) }
+{
+    cell + value + 4 + byte_size(char)
+}
+
+/// The size of a statement's code.
+#[cycle(statements)]
+pub fn statement_size(stmt: &Stmt) -> u32
+    requires { code.statement_size (statement stmt.now) ≤ 2 ^ 31 }
+    ensures { result ≡ code.statement_size (statement stmt.now) }
+{
+    match stmt {
+        Stmt::Nothing => 0,
+        Stmt::ReturnNothing | Stmt::Break | Stmt::Continue => 1,
+        Stmt::SetLocal { value, .. } => expression_size(value) + 1,
+        Stmt::Evaluate(value) | Stmt::Print(value) | Stmt::PutByte(value) | Stmt::Return(value) =>
+            expression_size(value) + 1,
+        Stmt::Store { cell, value, .. } => store_size(cell, expression_size(value)),
+        Stmt::UpdateLocal { is_char, value, .. } => {
+            expression_size(value) + 3 + byte_size(*is_char)
+        }
+        Stmt::Update {
+            ctype,
+            cell,
+            value,
+            ..
+        } => {
+            update_size(
+                place_size(cell),
+                expression_size(value),
+                has_one_byte(ctype),
+            )
+        }
+        Stmt::CallAlone { arguments, .. } | Stmt::TaintedAlone { arguments, .. } => {
+            arguments_size(arguments.as_slice()) + 2
+        }
+        Stmt::Block(inner) => statements_size(inner.as_slice()),
+        Stmt::If {
+            condition,
+            consequent,
+            alternative,
+        } => {
+            let branches = statement_size(consequent) + statement_size(alternative);
+            expression_size(condition) + branches + 2
+        }
+        Stmt::Loop {
+            condition,
+            body,
+            step,
+        } => {
+            let turn = statement_size(body) + statement_size(step);
+            turn + expression_size(condition) + 4
+        }
+    }
+}
+
+/// The size of the code of statements.
+#[cycle(statements)]
+pub fn statements_size(stmts: &[Stmt]) -> u32
+    requires { code.statements_size (statements_of stmts.now) ≤ 2 ^ 31 }
+    ensures { result ≡ code.statements_size (statements_of stmts.now) }
+{
+    let mut size = 0;
+    for stmt in stmts {
+        size += statement_size(stmt);
+    }
+    size
+}

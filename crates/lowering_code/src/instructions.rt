@@ -1,0 +1,122 @@
+// Single instructions, and the jumps of `&&` and `||`. The place of the next instruction is the number of those that stand
+// before it.
+
+ghost use Rattle.std.specs.Prelude.{◌≡◌, ◌+◌, ◌^◌, ◌≤◌, [], ◌∷◌, ◌++◌, length, OnOk, pos};
+ghost use Rattle.pointer_modes.specs.Types.{ctype as type_of};
+ghost use Rattle.code_words.specs.declared.op.Op.TheVariants as ops_of;
+ghost use Rattle.lowering_code.specs.Code as code;
+
+use crate::code_sizes::has_one_byte;
+use ckc_core::program::{Comparison, Operator, Site};
+use ckc_text::fault::NoMemory;
+use code_words::op::Op;
+use pointer_modes::ctype::CType;
+
+/// The instruction of an operator.
+pub fn operator_op(operator: Operator, site: Site) -> Op
+    ensures { result ≡ code.operator_code operator site }
+{
+    let place = site.place;
+    match operator {
+        Operator::Add => Op::Add { place },
+        Operator::Subtract => Op::Sub { place },
+        Operator::Multiply => Op::Mul { place },
+        Operator::Divide => Op::Div { place },
+        Operator::Remainder => Op::Rem { place },
+        Operator::ShiftLeft => Op::Shl { place },
+        Operator::ShiftRight => Op::Shr { place },
+        Operator::And => Op::And,
+        Operator::Or => Op::Or,
+        Operator::Xor => Op::Xor,
+    }
+}
+
+/// The instruction of a comparison.
+pub fn comparison_op(comparison: Comparison) -> Op
+    ensures { result ≡ code.comparison_code comparison }
+{
+    match comparison {
+        Comparison::Equal => Op::Equal,
+        Comparison::NotEqual => Op::NotEqual,
+        Comparison::Less => Op::Less,
+        Comparison::LessEqual => Op::LessEqual,
+        Comparison::Greater => Op::Greater,
+        Comparison::GreaterEqual => Op::GreaterEqual,
+    }
+}
+
+/// What loads a cell of the type.
+pub fn load_op(ctype: &CType) -> Op
+    ensures { result ≡ code.load_code (type_of ctype.now) }
+{
+    if has_one_byte(ctype) {
+        Op::Load1
+    } else {
+        Op::Load4
+    }
+}
+
+/// What stores into a cell of the type.
+pub fn store_op(ctype: &CType) -> Op
+    ensures { result ≡ code.store_code (type_of ctype.now) }
+{
+    if has_one_byte(ctype) {
+        Op::Store1
+    } else {
+        Op::Store4
+    }
+}
+
+/// One more instruction.
+pub fn put(ops: &mut Vec<Op>, op: Op) -> Result<(), NoMemory>
+    ensures { OnOk result (ops.new.items ≡ ops.old.items ++ op ∷ []) }
+{
+    ops.push(op)?;
+    Ok(())
+}
+
+/// Two more instructions.
+pub fn put_two(ops: &mut Vec<Op>, first: Op, second: Op) -> Result<(), NoMemory>
+    ensures { OnOk result (ops.new.items ≡ ops.old.items ++ first ∷ second ∷ []) }
+{
+    put(ops, first)?;
+    put(ops, second)
+}
+
+/// The place that stands so many instructions behind the next one.
+pub fn place_behind(ops: &Vec<Op>, more: u32) -> u32
+    requires { length ops.now.items + more ≤ 2 ^ 31 }
+    ensures { result ≡ length ops.now.items + more }
+{
+    ops.len() as u32 + more
+}
+
+/// Passes the right side over, of so many instructions, where the left one is 0.
+pub fn begin_and(ops: &mut Vec<Op>, right: u32) -> Result<(), NoMemory>
+    requires { length ops.old.items + (right + 5) ≤ 2 ^ 31 }
+    ensures { OnOk result (ops.new.items ≡ ops.old.items ++ ops_of.JumpIfZero (length ops.old.items + 1 + right + 3) ∷ []) }
+{
+    let other = place_behind(ops, right + 4);
+    put(ops, Op::JumpIfZero(other))
+}
+
+/// The right side as 0 or 1, and a 0 for the left one.
+pub fn end_and(ops: &mut Vec<Op>) -> Result<(), NoMemory>
+    requires { length ops.old.items + 4 ≤ 2 ^ 31 }
+    ensures { OnOk result (ops.new.items ≡ ops.old.items ++ ops_of.Zero ∷ ops_of.Zero ∷ ops_of.Jump (length ops.old.items + 4) ∷ ops_of.Const (pos 0) ∷ []) }
+{
+    let end = place_behind(ops, 4);
+    put_two(ops, Op::Zero, Op::Zero)?;
+    put_two(ops, Op::Jump(end), Op::Const(0))
+}
+
+/// Passes the right side over, of so many instructions, where the left one isn't 0.
+pub fn begin_or(ops: &mut Vec<Op>, right: u32) -> Result<(), NoMemory>
+    requires { length ops.old.items + (right + 5) ≤ 2 ^ 31 }
+    ensures { OnOk result (ops.new.items ≡ ops.old.items ++ ops_of.JumpIfZero (length ops.old.items + 3) ∷ ops_of.Const (pos 1) ∷ ops_of.Jump (length ops.old.items + 3 + right + 2) ∷ []) }
+{
+    let other = place_behind(ops, 3);
+    let end = place_behind(ops, right + 5);
+    put(ops, Op::JumpIfZero(other))?;
+    put_two(ops, Op::Const(1), Op::Jump(end))
+}

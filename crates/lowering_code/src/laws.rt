@@ -1,0 +1,47 @@
+// What the code of a program does.
+
+ghost use Rattle.std.specs.Prelude.{◌≡◌, ◌^◌, ◌<◌, IsTrue, List, length, All, pos, None};
+ghost use Rattle.std.proofs.Common.{ℤ};
+ghost use Rattle.act_words.specs.declared.ending.Ending.{Ending};
+ghost use Rattle.act_words.specs.declared.settings.Settings.{Settings};
+ghost use Rattle.act_words.specs.Acts.{Act, IsAct};
+ghost use Rattle.act_words.specs.Checks.{is_word_number};
+ghost use Rattle.act_words.specs.Limits.{AreAllowed};
+ghost use Rattle.act_words.specs.Outcome.{Ends};
+ghost use Rattle.ckc_core.specs.Meaning.{meaning};
+ghost use Rattle.ckc_core.specs.States.{State};
+ghost use Rattle.act_words.specs.declared.ending.Ending.TheVariants.{Exit, Stop};
+ghost use Rattle.ckc_text.specs.declared.code.Code.TheVariants.{S1};
+ghost use Rattle.ckc_core.specs.Core.{Core, Function};
+ghost use Rattle.ckc_core.specs.Examples.{first_run, counting, members};
+ghost use Rattle.lowering_code.specs.Images.{image_of};
+ghost use Rattle.lowering_code.specs.Code.{function_ops};
+ghost use Rattle.lowering_code.specs.Correct.{IsFunction, IsLowerable, KeepsMeaning, AgreesAtBases};
+ghost use Rattle.lowering_code.specs.Examples.{ends, holds, shown_members};
+
+/// The code of a program does what the program means, under all settings and over all inputs and acts.
+pub fn code_keeps_meaning()
+    ensures { (program : Core) → IsLowerable program → KeepsMeaning program (image_of program) }
+{}
+
+/// The code of a program shows nothing of its base address: over inputs and acts over which the program's meaning ends, the
+/// ending, the output, the acts that are taken, the releases and the view are the same at every two.
+pub fn bases_agree()
+    ensures { (program : Core) (settings : Settings) (inputs : List ℤ) (acts : List Act) (ending : Ending) (s : State)
+        → IsLowerable program → AreAllowed settings → All (λ z. IsTrue (is_word_number z)) inputs → All IsAct acts
+        → meaning program settings inputs acts ≡ Ends ending s → AgreesAtBases (image_of program) settings inputs acts }
+{}
+
+/// The code of a function that can be lowered has fewer than 2^32 instructions, so a word holds each place in it.
+pub fn short_code()
+    ensures { (f : Function) → IsFunction f → length (function_ops f) < 2 ^ 32 }
+{}
+
+/// Small programs as code, with what the code does.
+pub fn examples()
+    ensures first_run { ends first_run 100 (Exit (pos 42)) }
+    ensures turns { ends counting 3 (Exit (pos 3)) }
+    ensures budget { ends counting 2 (Stop S1 None) }
+    ensures members { ends members 100 (Exit (pos 51)) }
+    ensures blocks { holds members shown_members }
+{}

@@ -1,7 +1,0 @@
-use Rattle.std.proofs.Common.{refl}
-use Rattle.name_resolution.proofs.Going.{on}
-use Rattle.name_resolution.proofs.declarations.declarator.Goals as goal
-
-pub returns : goal.returns
-returns c =
-    on refl c.declare.ensures (on refl c.optional_bounds.ensures c.optional_initializer.ensures)

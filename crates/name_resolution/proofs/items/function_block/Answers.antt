@@ -1,7 +1,0 @@
-use Rattle.std.proofs.Common.{refl}
-use Rattle.name_resolution.proofs.Going.{on}
-use Rattle.name_resolution.proofs.items.function_block.Goals as goal
-
-pub returns : goal.returns
-returns c =
-    on refl c.parameter_list.ensures (on refl c.optional_bounds.ensures c.body.ensures)

@@ -1,7 +1,0 @@
-use Rattle.std.proofs.Common.{refl}
-use Rattle.name_resolution.proofs.Going.{on}
-use Rattle.name_resolution.proofs.items.listed.Goals as goal
-
-pub returns : goal.returns
-returns c =
-    on refl c.type_form.ensures (on refl c.declare.ensures c.optional_bounds.ensures)

@@ -1,7 +1,0 @@
-use Rattle.std.proofs.Common.{ap, ◌∙◌}
-use Rattle.ckc_names.specs.Scopes.{is_among}
-use Rattle.name_resolution.proofs.Names.{is_in_set}
-use Rattle.name_resolution.proofs.name_list.NameList.has.Goals as goal
-
-pub returns : goal.returns
-returns c = c.contains.ensures ∙ is_in_set c.args.name.now c.self.inside.names.keys ∙ ap (λ names. is_among names c.args.name.now) c.self.view_is

@@ -1,8 +1,0 @@
-use Rattle.std.proofs.Common.{sym, ◌∙◌}
-use Rattle.ckc_names.specs.Mentions.{Call}
-use Rattle.name_resolution.proofs.Steps.{steps}
-use Rattle.name_resolution.proofs.resolver.Resolver.call.Goals as goal
-
-pub returns-then-is_ok : goal.returns-then-is_ok
-returns-then-is_ok c =
-    rw (← c.self.view_is) (steps (Call c.args.name.now) c.self.inside.outcome c.call-self-inside.result c.self.inside.table c.call-self-inside.new.table (sym c.is_ok.ensures.value ∙ c.if-is_ok.true) c.call-self-inside.ensures)

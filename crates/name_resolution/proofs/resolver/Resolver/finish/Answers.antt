@@ -1,5 +1,0 @@
-use Rattle.std.proofs.Common.{refl}
-use Rattle.name_resolution.proofs.resolver.Resolver.finish.Goals as goal
-
-pub returns-in-Ok : goal.returns-in-Ok
-returns-in-Ok c = rw (← c.self.view_is, c.in-Ok.is, c.into_names-names.ensures) (refl, (c.self.inside.table.scopes, refl))

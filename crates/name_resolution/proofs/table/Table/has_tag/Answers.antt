@@ -1,7 +1,0 @@
-use Rattle.std.proofs.Common.{sym, ap, ◌∙◌}
-use Rattle.ckc_names.specs.Scopes.{is_among}
-use Rattle.name_resolution.proofs.Tables.{among_reverse}
-use Rattle.name_resolution.proofs.table.Table.has_tag.Goals as goal
-
-pub returns : goal.returns
-returns c = c.has.ensures ∙ sym (among_reverse c.self.inside.tags c.args.tag.now) ∙ ap (λ s. is_among s.scopes.tags c.args.tag.now) c.self.view_is

@@ -1,9 +1,0 @@
-use Rattle.std.proofs.Common.{◌∙◌}
-use Rattle.name_resolution.proofs.Tables.{visible_in_table}
-use Rattle.name_resolution.proofs.table.Table.visible.Goals as goal
-
-pub returns : goal.returns
-returns c =
-    let inside = c.self.inside in
-    let less = rw (← c.self.view_is) at c.requires in
-    rw (← c.self.view_is) (c.meaning_at.ensures ∙ visible_in_table inside.names inside.current.items inside.held.items c.as_slice.result.now inside.block c.args.number c.index.result.now c.self.invariant less c.as_slice.ensures.value c.index.ensures)

@@ -1,0 +1,31 @@
+// What is asked of a function whose body was walked, in its order.
+
+ghost use Rattle.region_typing_scope.specs.Answering.{Answers};
+ghost use Rattle.ckc_text.specs.declared.code.Code.TheVariants.{E10, E13, E15};
+ghost use Rattle.region_typing_rules.specs.Verdicts.{Passes, needs};
+
+use region_typing_scope::refusals::{CheckError, refusal};
+use ckc_text::code::Code;
+use ckc_text::place::Span;
+
+/// The first rule that a function breaks: its declaration fits the others and has scalars (E13), its body is there where
+/// it needs one (E10), and neither it nor its region is unchecked (E15).
+pub fn keep_function_rules(
+    fits: bool,
+    has_body: bool,
+    is_checked: bool,
+    span: Span,
+) -> Result<(), CheckError>
+    ensures { Answers (λ x. x) (needs fits E13 span (needs has_body E10 span (needs is_checked E15 span (Passes tt)))) result }
+{
+    if !fits {
+        return Err(refusal(Code::E13, span));
+    }
+    if !has_body {
+        return Err(refusal(Code::E10, span));
+    }
+    if !is_checked {
+        return Err(refusal(Code::E15, span));
+    }
+    Ok(())
+}

@@ -1,0 +1,66 @@
+-- The rules of operators by tests of their operands.
+use Rattle.std.proofs.Common.{◌≡◌, Bool, true, false, not, ◌&&◌, refl}
+use Rattle.ckc_text.specs.declared.place.Span.{Span}
+use Rattle.ckc_text.specs.declared.code.Code.TheVariants.{E13, E19, E26}
+use Rattle.ckc_core.specs.declared.program.Comparison.{Comparison}
+use Rattle.ckc_core.specs.Core as core
+use Rattle.pointer_modes.specs.Types.{CType, Int, Char, Struct, Pointer}
+use Rattle.region_typing_rules.specs.Types.{is_number, is_pointer, are_comparable}
+use Rattle.region_typing_rules.specs.Verdicts.{Verdict, Passes, passing, needs, breaks, picked}
+use Rattle.region_typing_rules.specs.Expressions.{Typed, Value, AStruct, equated, equated_values, scalar_of, two_numbers, ordered, indexed, is_pointer_value}
+use Rattle.region_typing_expressions.specs.declared.equality.Equality.{Equality}
+use Rattle.region_typing_expressions.specs.declared.equality.Equality.TheVariants.{Numbers, Pointers, RightNull, LeftNull}
+use Rattle.region_typing_expressions.specs.Comparing.{is_number_value, are_comparable_values, compared}
+use Rattle.region_typing_expressions.specs.Equality.{equality, equated_by}
+
+and_false : (b : Bool) → (b && false) ≡ false
+and_false true = refl
+and_false false = refl
+
+-- by each test, in their order
+abbrev how_compared : (numbers pointers right left : Bool) → Span → Verdict Equality
+how_compared numbers pointers right left span =
+    picked numbers (Passes Numbers) (picked pointers (Passes Pointers) (picked right (Passes RightNull) (needs left E13 span (Passes LeftNull))))
+
+values_by_tests : (t : CType) (z : Bool) (v : core.Expression) (u : CType) (y : Bool) (w : core.Expression) (span : Span) (numbers pointers right left : Bool)
+    → (is_number t && is_number u) ≡ numbers → are_comparable t u ≡ pointers → (is_pointer t && y) ≡ right → (is_pointer u && z) ≡ left
+    → equated_values t z v u y w span ≡ passing (how_compared numbers pointers right left span) (λ how. Passes (equated_by how v w))
+values_by_tests t z v u y w span true pointers right left a b c d = rw a refl
+values_by_tests t z v u y w span false true right left a b c d = rw (a, b) refl
+values_by_tests t z v u y w span false false true left a b c d = rw (a, b, c) refl
+values_by_tests t z v u y w span false false false true a b c d = rw (a, b, c, d) refl
+values_by_tests t z v u y w span false false false false a b c d = rw (a, b, c, d) refl
+
+-- equality by how its operands are compared
+pub equated_parts : (a b : Typed) (span : Span) → equated a b span ≡ passing (equality a b span) (λ how. passing (scalar_of a span Passes) (λ v. passing (scalar_of b span Passes) (λ w. Passes (equated_by how v w))))
+equated_parts (Value t z v p) (Value u y w q) span = values_by_tests t z v u y w span _ _ _ _ refl refl refl refl
+equated_parts (Value t z v p) (AStruct n q) span = rw (and_false (is_number t), and_false (is_pointer t)) refl
+equated_parts (AStruct n p) (Value u y w q) span = rw (and_false (is_pointer u)) refl
+equated_parts (AStruct n p) (AStruct m q) span = refl
+
+numbers_ordered : (comparison : Comparison) (v w : core.Expression) (z y : Bool) (u : CType) (p q : _) (span : Span) (number : Bool) → is_number u ≡ number → ordered comparison (Value Int z v p) (Value u y w q) span ≡ two_numbers (Value Int z v p) (Value u y w q) span (compared comparison)
+numbers_ordered comparison v w z y u p q span true is = rw is refl
+numbers_ordered comparison v w z y u p q span false is = rw is refl
+
+-- an order of what aren't pointers of one mode and element is that of two numbers
+pub ordered_parts : (comparison : Comparison) (a b : Typed) (span : Span) → ordered comparison a b span ≡ needs (not (are_comparable_values a b)) E26 span (two_numbers a b span (compared comparison))
+ordered_parts comparison (Value Int z v p) (Value u y w q) span = numbers_ordered comparison v w z y u p q span _ refl
+ordered_parts comparison (Value Char z v p) (Value u y w q) span = numbers_ordered comparison v w z y u p q span _ refl
+ordered_parts comparison (Value (Struct n) z v p) (Value u y w q) span = refl
+ordered_parts comparison (Value (Pointer mode kind target) z v p) (Value u y w q) span = pointers_ordered (are_comparable (Pointer mode kind target) u) refl
+  where
+    pointers_ordered : (like : Bool) → are_comparable (Pointer mode kind target) u ≡ like → ordered comparison (Value (Pointer mode kind target) z v p) (Value u y w q) span ≡ needs (not (are_comparable (Pointer mode kind target) u)) E26 span (breaks E13 span)
+    pointers_ordered true is = rw is refl
+    pointers_ordered false is = rw is refl
+ordered_parts comparison (Value t z v p) (AStruct n q) span = numbers_or_not (is_number t)
+  where
+    numbers_or_not : (number : Bool) → breaks {A = Typed} E13 span ≡ needs number E13 span (breaks E13 span)
+    numbers_or_not true = refl
+    numbers_or_not false = refl
+ordered_parts comparison (AStruct n p) b span = refl
+
+-- an element by tests of what is indexed
+pub indexed_parts : (a b : Typed) (span : Span) → indexed a b span ≡ needs (is_pointer_value a && is_number_value b) E13 span (breaks E19 span)
+indexed_parts (Value t z v p) (Value u y w q) span = refl
+indexed_parts (Value t z v p) (AStruct n q) span = rw (and_false (is_pointer t)) refl
+indexed_parts (AStruct n p) b span = refl

@@ -1,0 +1,51 @@
+-- Inside: calls and their arguments, as the code holds them.
+use Rattle.std.specs.Prelude.{ℕ, Bool, true, false, List, [], ◌∷◌}
+use Rattle.ckc_text.specs.declared.place.Span.{Span}
+use Rattle.ckc_text.specs.declared.code.Code.TheVariants.{E14}
+use Rattle.ckc_core.specs.declared.program.Site.{Site}
+use Rattle.ckc_core.specs.Core as core
+use Rattle.region_typing_rules.specs.Verdicts.{Verdict, Passes, passing, breaks}
+use Rattle.region_typing_rules.specs.Scopes.{Scope, Signature, named, function_named}
+use Rattle.ckc_tree.specs.Expressions.{Expressions}
+use Rattle.pointer_modes.specs.Types.{Int, ctype}
+use Rattle.ckc_core.specs.Core.{expression, statement}
+use Rattle.region_typing_rules.specs.Expressions.{Places, Typed, Called, Gives, GivesNothing, name_typed, converted, arguments_as, is_import, side_number, call_of, all_typed, called as called_in, site_at}
+use Rattle.region_typing_expressions.specs.declared.calls.Called as code
+use Rattle.region_typing_expressions.specs.declared.calls.Called.TheVariants as calls
+use Rattle.region_typing_expressions.specs.declared.calls.Argument as code_argument
+use Rattle.region_typing_values.specs.OnHeap.{typed}
+
+abbrev pub called : code.Called → Called
+called (calls.Gives type value) = Gives (ctype type) (expression value.value)
+called (calls.GivesNothing call) = GivesNothing (statement call.value)
+
+-- an argument with its span
+abbrev pub argument : code_argument.Argument → Typed × Span
+argument a = (typed a.typed, a.span)
+
+-- the only argument of a call, as a number: E14, E13
+abbrev pub only_number : List (Typed × Span) → Span → Verdict core.Expression
+only_number [] span = breaks E14 span
+only_number (a ∷ []) span = converted a.0 Int a.1 Passes
+only_number (a ∷ b ∷ others) span = breaks E14 span
+
+abbrev pub call_value : Bool → ℕ → Site → core.Arguments → core.Expression
+call_value true number site arguments = core.TaintedCall number arguments site
+call_value false number site arguments = core.Call number arguments
+
+abbrev pub call_statement : Bool → ℕ → Site → core.Arguments → core.Statement
+call_statement true number site arguments = core.TaintedAlone number arguments site
+call_statement false number site arguments = core.CallAlone number arguments
+
+-- a call of a declared function, where the arguments convert (E13)
+abbrev pub converted_call : Scope → Signature → List (Typed × Span) → Site → Verdict Called
+converted_call s f arguments site =
+    passing (arguments_as arguments f.parameters) (λ values. Passes (call_of (is_import f) (side_number (is_import f) s.functions f.name 0) f.result site values))
+
+-- what a name stands for, as an expression
+abbrev pub name_verdict : Scope → List ℕ → Verdict Typed
+name_verdict s name = passing (named s name) (λ n. Passes (name_typed n))
+
+-- a call of a function by its name, with what its arguments are
+abbrev pub called_with : Places → Scope → List ℕ → Expressions → Span → Verdict Called
+called_with at s name arguments span = passing (all_typed at s arguments) (λ ts. called_in s (function_named s.functions name) name ts (site_at at span) span)

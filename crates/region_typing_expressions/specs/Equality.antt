@@ -1,0 +1,26 @@
+-- Inside: equality by how two operands are compared.
+use Rattle.std.specs.Prelude.{◌&&◌}
+use Rattle.ckc_text.specs.declared.place.Span.{Span}
+use Rattle.ckc_text.specs.declared.code.Code.TheVariants.{E13}
+use Rattle.ckc_core.specs.declared.program.Comparison.TheVariants as comparisons
+use Rattle.ckc_core.specs.Core as core
+use Rattle.region_typing_rules.specs.Verdicts.{Verdict, Passes, needs, picked}
+use Rattle.region_typing_rules.specs.Expressions.{Typed, is_pointer_value}
+use Rattle.region_typing_rules.specs.Items.{is_zero}
+use Rattle.region_typing_expressions.specs.declared.equality.Equality.{Equality}
+use Rattle.region_typing_expressions.specs.declared.equality.Equality.TheVariants.{Numbers, Pointers, RightNull, LeftNull}
+use Rattle.region_typing_expressions.specs.Comparing.{is_number_value, are_comparable_values}
+
+-- numbers, pointers of one mode and element, or a pointer and 0 (E13)
+abbrev pub equality : Typed → Typed → Span → Verdict Equality
+equality a b span =
+    picked (is_number_value a && is_number_value b) (Passes Numbers)
+    (picked (are_comparable_values a b) (Passes Pointers)
+    (picked (is_pointer_value a && is_zero b) (Passes RightNull)
+    (needs (is_pointer_value b && is_zero a) E13 span (Passes LeftNull))))
+
+abbrev pub equated_by : Equality → core.Expression → core.Expression → core.Expression
+equated_by Numbers v w = core.Compare comparisons.Equal v w
+equated_by Pointers v w = core.Same v w
+equated_by RightNull v w = core.Same v core.Null
+equated_by LeftNull v w = core.Same core.Null w

@@ -1,0 +1,271 @@
+// Assignments.
+
+ghost use Rattle.std.specs.Prelude.{◌≡◌, IfOk};
+ghost use Rattle.ckc_text.specs.Places.{place_at};
+ghost use Rattle.ckc_tree.specs.Expressions.{expression as expression_tree};
+ghost use Rattle.ckc_tree.specs.Statements.{assignment as assignment_tree};
+ghost use Rattle.pointer_modes.specs.Types.{ctype as ctype_of};
+ghost use Rattle.ckc_core.specs.Core.{expression, statement, place as place_of};
+ghost use Rattle.region_typing_rules.specs.Verdicts.{Passes};
+ghost use Rattle.region_typing_rules.specs.Statements.{is_char as is_char_of, store as store_of, update as update_with, updated_place as updated_at, set_to as set_to_of, updated as updated_of, stored as stored_of, step_of as step_from, one as one_of, assignment as assignment_of, condition as condition_of};
+ghost use Rattle.region_typing_scope.specs.Answering.{Answers};
+ghost use Rattle.region_typing_scope.specs.Views.{scope as scope_of};
+ghost use Rattle.region_typing_values.specs.OnHeap.{typed as typed_view, expression as expression_on_heap, statement as statement_on_heap};
+ghost use Rattle.region_typing_expressions.specs.Targets.{target as target_view, target_on_heap, lvalue, target_of as target_in, updated_target};
+
+use crate::expressions::typed;
+use crate::operand_tests::is_pointer_value;
+use region_typing_scope::refusals::{CheckError, refusal};
+use region_typing_scope::scope::Scope;
+use region_typing_scope::sites::Sites;
+use region_typing_scope::types::{is_number, is_pointer};
+use ckc_core::program;
+use ckc_core::program::{CellPlace, Operator, Site, Stmt};
+use ckc_text::code::Code;
+use ckc_text::fault::NoMemory;
+use ckc_text::place::Span;
+use ckc_tree::expr::Expr;
+use ckc_tree::stmt::{Assignment, StepOperator, StoreOperator};
+use pointer_modes::ctype::CType;
+use std::alloc::Global;
+use region_typing_values::conversions::converted;
+use region_typing_values::on_heap::boxed;
+use region_typing_values::operands::{number, scalar};
+use region_typing_values::typed::{Typed, plain};
+
+/// Where a value may be stored.
+#[derive(Drop)]
+pub enum Lvalue {
+    Local(u32),
+    Cell(CellPlace),
+}
+
+/// A place that a value may be stored in, and its type.
+#[derive(Drop)]
+pub struct Target {
+    pub ctype: CType,
+    pub place: Lvalue,
+}
+
+// A place of a type.
+fn target_at(alloc: Global, ctype: CType, place: Lvalue) -> Result<Box<Target>, CheckError>
+    ensures { Answers target_on_heap (Passes (target_view (record { ctype = ctype; place = place }))) result }
+{
+    Ok(boxed(alloc, Target { ctype, place })?)
+}
+
+/// The place that an expression stands for.
+fn target_of(alloc: Global, t: Box<Typed>, span: Span) -> Result<Box<Target>, CheckError>
+    ensures { Answers target_on_heap (target_in (typed_view t) span) result }
+{
+    match Box::into_inner(t) {
+        Typed::Value { .. } => Err(refusal(Code::E12, span)),
+        Typed::Local { ctype, local } => target_at(alloc, ctype, Lvalue::Local(local)),
+        Typed::Cell { ctype, place } => target_at(alloc, ctype, Lvalue::Cell(place)),
+        Typed::Struct { .. } => Err(refusal(Code::E13, span)),
+    }
+}
+
+// A store.
+fn store(target: Target, value: program::Expr) -> Stmt
+    ensures { statement result ≡ store_of (lvalue target.place) (ctype_of target.ctype) (expression value) }
+{
+    let Target { ctype, place } = target;
+    match place {
+        Lvalue::Local(local) => Stmt::SetLocal { local, value },
+        Lvalue::Cell(cell) => Stmt::Store { ctype, cell, value },
+    }
+}
+
+// A store of a value that converts.
+fn set_to(
+    alloc: Global,
+    left: Box<Typed>,
+    right: Box<Typed>,
+    span: Span,
+) -> Result<Box<Stmt>, CheckError>
+    ensures { Answers statement_on_heap (set_to_of (typed_view left) (typed_view right) span) result }
+{
+    let target = target_of(alloc, left, span)?;
+    let value = converted(alloc, right, &target.ctype, span)?;
+    Ok(boxed(alloc, store(Box::into_inner(target), value))?)
+}
+
+// Whether a type is `char`.
+fn is_char(t: &CType) -> bool
+    ensures { result ≡ is_char_of (ctype_of t.now) }
+{
+    match t {
+        CType::Char => true,
+        CType::Int | CType::Struct(_) | CType::Pointer(..) => false,
+    }
+}
+
+// A place whose checks name another expression.
+fn updated_place(place: CellPlace, site: Site) -> CellPlace
+    ensures { place_of result ≡ updated_at (place_of place) site }
+{
+    match place {
+        CellPlace::Direct {
+            object,
+            cell,
+            offset,
+        } => CellPlace::Direct {
+            object,
+            cell,
+            offset,
+        },
+        CellPlace::Through {
+            pointer,
+            cell,
+            offset,
+            ..
+        } => CellPlace::Through {
+            pointer,
+            cell,
+            offset,
+            site,
+        },
+    }
+}
+
+// An update.
+fn update(target: Target, operator: Operator, value: program::Expr, site: Site) -> Stmt
+    ensures { statement result ≡ update_with (lvalue target.place) (ctype_of target.ctype) operator (expression value) site }
+{
+    let Target { ctype, place } = target;
+    match place {
+        Lvalue::Local(local) => Stmt::UpdateLocal {
+            is_char: is_char(&ctype),
+            local,
+            operator,
+            value,
+            site,
+        },
+        Lvalue::Cell(cell) => Stmt::Update {
+            ctype,
+            cell: updated_place(cell, site),
+            operator,
+            value,
+            site,
+        },
+    }
+}
+
+// An update of a target.
+fn update_target(
+    alloc: Global,
+    operator: Operator,
+    target: Box<Target>,
+    right: Box<Typed>,
+    site: Site,
+    span: Span,
+) -> Result<Box<Stmt>, CheckError>
+    ensures { Answers statement_on_heap (updated_target operator (target_on_heap target) (typed_view right) site span) result }
+{
+    if is_pointer(&target.ctype) || is_pointer_value(&right) {
+        return Err(refusal(Code::E19, span));
+    }
+    if !is_number(&target.ctype) {
+        return Err(refusal(Code::E13, span));
+    }
+    let value = number(alloc, right, span)?;
+    let target = Box::into_inner(target);
+    let value = Box::into_inner(value);
+    Ok(boxed(alloc, update(target, operator, value, site))?)
+}
+
+// An update by the rules of the sum or the difference.
+fn updated(
+    alloc: Global,
+    sites: &Sites,
+    operator: Operator,
+    left: Box<Typed>,
+    right: Box<Typed>,
+    span: Span,
+) -> Result<Box<Stmt>, CheckError>
+    ensures { Answers statement_on_heap (updated_of (place_at sites.now) operator (typed_view left) (typed_view right) span) result }
+{
+    let target = target_of(alloc, left, span)?;
+    update_target(alloc, operator, target, right, sites.site(span), span)
+}
+
+// An assignment by its operator.
+fn stored(
+    alloc: Global,
+    sites: &Sites,
+    operator: StoreOperator,
+    left: Box<Typed>,
+    right: Box<Typed>,
+    span: Span,
+) -> Result<Box<Stmt>, CheckError>
+    ensures { Answers statement_on_heap (stored_of (place_at sites.now) operator (typed_view left) (typed_view right) span) result }
+{
+    match operator {
+        StoreOperator::Set => set_to(alloc, left, right, span),
+        StoreOperator::Add => updated(alloc, sites, Operator::Add, left, right, span),
+        StoreOperator::Subtract => updated(alloc, sites, Operator::Subtract, left, right, span),
+    }
+}
+
+fn step_of(operator: StepOperator) -> Operator
+    ensures { result ≡ step_from operator }
+{
+    match operator {
+        StepOperator::Increment => Operator::Add,
+        StepOperator::Decrement => Operator::Subtract,
+    }
+}
+
+// The number 1.
+fn one(alloc: Global) -> Result<Box<Typed>, NoMemory>
+    ensures { IfOk result (λ t. typed_view t ≡ one_of) }
+{
+    plain(alloc, CType::Int, program::Expr::Number(1))
+}
+
+/// An assignment.
+pub fn assignment(
+    alloc: Global,
+    sites: &Sites,
+    scope: &Scope,
+    written: &Assignment,
+) -> Result<Box<Stmt>, CheckError>
+    ensures { Answers statement_on_heap (assignment_of (place_at sites.now) (scope_of scope.now) (assignment_tree written.now)) result }
+{
+    match written {
+        Assignment::Store {
+            operator,
+            target,
+            value,
+            span,
+        } => {
+            let left = typed(alloc, sites, scope, target)?;
+            let right = typed(alloc, sites, scope, value)?;
+            stored(alloc, sites, *operator, left, right, *span)
+        }
+        Assignment::Step {
+            operator,
+            target,
+            span,
+            ..
+        } => {
+            let left = typed(alloc, sites, scope, target)?;
+            let right = one(alloc)?;
+            updated(alloc, sites, step_of(*operator), left, right, *span)
+        }
+    }
+}
+
+/// A condition.
+pub fn condition(
+    alloc: Global,
+    sites: &Sites,
+    scope: &Scope,
+    e: &Expr,
+) -> Result<Box<program::Expr>, CheckError>
+    ensures { Answers expression_on_heap (condition_of (place_at sites.now) (scope_of scope.now) (expression_tree e.now)) result }
+{
+    let t = typed(alloc, sites, scope, e)?;
+    scalar(alloc, t, e.span())
+}

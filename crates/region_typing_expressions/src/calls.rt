@@ -1,0 +1,290 @@
+// Calls.
+
+ghost use Rattle.std.specs.Prelude.{◌≡◌, length, map, IfOk};
+ghost use Rattle.std.specs.Option.{option_map};
+ghost use Rattle.pointer_modes.specs.Types.{ctype as ctype_of};
+ghost use Rattle.ckc_core.specs.Core.{expression, arguments_of, statement, Print, PutByte};
+ghost use Rattle.region_typing_rules.specs.Expressions.{with_result as with_result_of, arguments_as as arguments_in, predefined_call as predefined_in, writes, call_of as call_in, is_checked_argument as checked_argument, without_checked as without_checked_in, crossing as crossing_in, declared_call as declared_in, called as called_in};
+ghost use Rattle.region_typing_rules.specs.Scopes.{function_named};
+ghost use Rattle.region_typing_scope.specs.Views.{scope as scope_of, signature};
+ghost use Rattle.region_typing_scope.specs.Answering.{Answers};
+ghost use Rattle.region_typing_rules.specs.Verdicts.{Passes};
+ghost use Rattle.region_typing_values.specs.Typed.{typed as inline_typed};
+ghost use Rattle.region_typing_values.specs.OnHeap.{typed};
+ghost use Rattle.region_typing_expressions.specs.Calls.{argument, called as called_as, converted_call, only_number, call_value, call_statement};
+
+use region_typing_scope::refusals::{CheckError, needs, refusal};
+use region_typing_scope::scope::Scope;
+use region_typing_scope::sides::is_import;
+use region_typing_scope::signature::Signature;
+use region_typing_scope::types::{copied, is_checked_pointer};
+use ckc_core::program::{Expr, Site, Stmt};
+use ckc_text::code::Code;
+use ckc_text::fault::NoMemory;
+use ckc_text::place::Span;
+use pointer_modes::ctype::CType;
+use std::alloc::Global;
+use std::collections::VecDeque;
+use region_typing_values::conversions::converted;
+use region_typing_values::on_heap::boxed;
+use region_typing_values::typed::Typed;
+
+/// What a call is: a value of a type, or a statement where it has no result.
+#[derive(Drop)]
+pub enum Called {
+    Gives { ctype: CType, value: Box<Expr> },
+    GivesNothing { call: Box<Stmt> },
+}
+
+/// An argument of a call.
+#[derive(Drop)]
+pub struct Argument {
+    pub typed: Box<Typed>,
+    pub span: Span,
+}
+
+// The arguments of a call as values of the types of its parameters.
+fn arguments_as(
+    alloc: Global,
+    mut arguments: VecDeque<Argument>,
+    types: &[CType],
+) -> Result<Vec<Expr>, CheckError>
+    requires { length arguments.items ≡ length types.now }
+    ensures { Answers (λ v. arguments_of v.items) (arguments_in (map argument arguments.items) (map ctype_of types.now)) result }
+{
+    let mut built = Vec::new(alloc);
+    while let Some(argument) = arguments.pop_front() {
+        let to = &types[built.len()];
+        let value = converted(alloc, argument.typed, to, argument.span)?;
+        built.push(value)?;
+    }
+    Ok(built)
+}
+
+// The only argument of a call, as a number.
+fn one_number(
+    alloc: Global,
+    mut arguments: VecDeque<Argument>,
+    span: Span,
+) -> Result<Expr, CheckError>
+    ensures { Answers expression (only_number (map argument arguments.items) span) result }
+{
+    match arguments.pop_front() {
+        Some(argument) => {
+            needs(arguments.is_empty(), Code::E14, span)?;
+            converted(alloc, argument.typed, &CType::Int, argument.span)
+        }
+        None => Err(refusal(Code::E14, span)),
+    }
+}
+
+// A call of `print_int`.
+fn prints(alloc: Global, arguments: VecDeque<Argument>, span: Span) -> Result<Called, CheckError>
+    ensures { Answers called_as (writes Print (map argument arguments.items) span) result }
+{
+    let value = one_number(alloc, arguments, span)?;
+    let call = boxed(alloc, Stmt::Print(value))?;
+    Ok(Called::GivesNothing { call })
+}
+
+// A call of `putchar`.
+fn puts_byte(alloc: Global, arguments: VecDeque<Argument>, span: Span) -> Result<Called, CheckError>
+    ensures { Answers called_as (writes PutByte (map argument arguments.items) span) result }
+{
+    let value = one_number(alloc, arguments, span)?;
+    let call = boxed(alloc, Stmt::PutByte(value))?;
+    Ok(Called::GivesNothing { call })
+}
+
+// A call of a function that is there before the program.
+fn predefined(
+    alloc: Global,
+    name: &[u8],
+    arguments: VecDeque<Argument>,
+    span: Span,
+) -> Result<Called, CheckError>
+    ensures { Answers called_as (predefined_in name.now (map argument arguments.items) span) result }
+{
+    if name == b"next_input".as_slice() {
+        needs(arguments.is_empty(), Code::E14, span)?;
+        let value = boxed(alloc, Expr::NextInput)?;
+        return Ok(Called::Gives {
+            ctype: CType::Int,
+            value,
+        });
+    }
+    if name == b"print_int".as_slice() {
+        return prints(alloc, arguments, span);
+    }
+    if name == b"putchar".as_slice() {
+        return puts_byte(alloc, arguments, span);
+    }
+    Err(CheckError::Unnamed)
+}
+
+// A call of a function by its number.
+fn call_of(
+    alloc: Global,
+    import: bool,
+    number: u32,
+    result_type: &Option<CType>,
+    site: Site,
+    arguments: Vec<Expr>,
+) -> Result<Called, NoMemory>
+    ensures { IfOk result (λ c. called_as c ≡ call_in import number (option_map ctype_of result_type.now) site (arguments_of arguments.items)) }
+{
+    match result_type {
+        Some(t) => {
+            let value = boxed(alloc, value_of_call(import, number, site, arguments))?;
+            let ctype = copied(alloc, t)?;
+            Ok(Called::Gives { ctype, value })
+        }
+        None => {
+            let call = boxed(alloc, statement_of_call(import, number, site, arguments))?;
+            Ok(Called::GivesNothing { call })
+        }
+    }
+}
+
+// The value of a call.
+fn value_of_call(import: bool, number: u32, site: Site, arguments: Vec<Expr>) -> Expr
+    ensures { expression result ≡ call_value import number site (arguments_of arguments.items) }
+{
+    if import {
+        Expr::TaintedCall {
+            import: number,
+            arguments,
+            site,
+        }
+    } else {
+        Expr::Call {
+            function: number,
+            arguments,
+        }
+    }
+}
+
+// A call without a result.
+fn statement_of_call(import: bool, number: u32, site: Site, arguments: Vec<Expr>) -> Stmt
+    ensures { statement result ≡ call_statement import number site (arguments_of arguments.items) }
+{
+    if import {
+        Stmt::TaintedAlone {
+            import: number,
+            arguments,
+            site,
+        }
+    } else {
+        Stmt::CallAlone {
+            function: number,
+            arguments,
+        }
+    }
+}
+
+// Whether an argument is a pointer into trusted memory.
+fn is_checked_argument(t: &Typed) -> bool
+    ensures { result ≡ checked_argument (inline_typed t.now) }
+{
+    match t {
+        Typed::Value { ctype, .. } | Typed::Local { ctype, .. } | Typed::Cell { ctype, .. } => {
+            is_checked_pointer(ctype)
+        }
+        Typed::Struct { .. } => false,
+    }
+}
+
+// Refuses pointers into trusted memory.
+fn without_checked(arguments: &[Argument]) -> Result<(), CheckError>
+    ensures { Answers (λ x. x) (without_checked_in (map argument arguments.now) (Passes tt)) result }
+{
+    for argument in arguments {
+        needs(
+            !is_checked_argument(&argument.typed),
+            Code::E24,
+            argument.span,
+        )?;
+    }
+    Ok(())
+}
+
+// Refuses arguments that may not cross the boundary, where a function is tainted.
+fn crossing(import: bool, arguments: &[Argument]) -> Result<(), CheckError>
+    ensures { Answers (λ x. x) (crossing_in import (map argument arguments.now) (Passes tt)) result }
+{
+    if import {
+        without_checked(arguments)
+    } else {
+        Ok(())
+    }
+}
+
+// A call of a declared function, where the arguments convert.
+fn call_with(
+    alloc: Global,
+    scope: &Scope,
+    f: &Signature,
+    arguments: Vec<Argument>,
+    site: Site,
+) -> Result<Called, CheckError>
+    requires { length arguments.items ≡ length f.now.parameters.items }
+    ensures { Answers called_as (converted_call (scope_of scope.now) (signature f.now) (map argument arguments.items) site) result }
+{
+    let import = is_import(f);
+    let arguments = VecDeque::from_vec(arguments);
+    let values = arguments_as(alloc, arguments, f.parameters.as_slice())?;
+    let number = scope.side_number(import, f.name.as_bytes());
+    Ok(call_of(alloc, import, number, &f.result, site, values)?)
+}
+
+// A call of a declared function.
+fn declared(
+    alloc: Global,
+    scope: &Scope,
+    f: &Signature,
+    arguments: Vec<Argument>,
+    site: Site,
+    span: Span,
+) -> Result<Called, CheckError>
+    ensures { Answers called_as (declared_in (scope_of scope.now) (signature f.now) (map argument arguments.items) site span) result }
+{
+    if f.parameters.len() != arguments.len() {
+        return Err(refusal(Code::E14, span));
+    }
+    crossing(is_import(f), arguments.as_slice())?;
+    call_with(alloc, scope, f, arguments, site)
+}
+
+/// A call of a function by its name.
+pub fn call(
+    alloc: Global,
+    scope: &Scope,
+    name: &[u8],
+    arguments: Vec<Argument>,
+    site: Site,
+    span: Span,
+) -> Result<Called, CheckError>
+    ensures { Answers called_as (called_in (scope_of scope.now) (function_named (scope_of scope.now).functions name.now) name.now (map argument arguments.items) site span) result }
+{
+    match scope.function(name) {
+        Some(f) => declared(alloc, scope, f, arguments, site, span),
+        None => predefined(alloc, name, VecDeque::from_vec(arguments), span),
+    }
+}
+
+/// The value of a call that has a result.
+pub fn with_result(alloc: Global, called: Called, span: Span) -> Result<Box<Typed>, CheckError>
+    ensures { Answers typed (with_result_of (called_as called) span) result }
+{
+    match called {
+        Called::Gives { ctype, value } => Ok(boxed(
+            alloc,
+            Typed::Value {
+                ctype,
+                zero: false,
+                value,
+            },
+        )?),
+        Called::GivesNothing { .. } => Err(refusal(Code::E13, span)),
+    }
+}

@@ -1,0 +1,231 @@
+// The walk over expressions.
+
+ghost use Rattle.std.specs.Prelude.{◌≡◌, IfOk, map, false, None};
+ghost use Rattle.ckc_text.specs.Places.{place_at};
+ghost use Rattle.ckc_tree.specs.Types.{type_name as type_name_of};
+ghost use Rattle.ckc_tree.specs.Expressions.{expression as expression_of};
+ghost use Rattle.pointer_modes.specs.Types.{Int};
+ghost use Rattle.ckc_core.specs.Core.{Number};
+ghost use Rattle.region_typing_rules.specs.Verdicts.{Passes};
+ghost use Rattle.region_typing_rules.specs.Expressions.{constant as constant_of, Value, typed as typed_of, all_typed as all_typed_of, call_typed as call_typed_of};
+ghost use Rattle.region_typing_scope.specs.Answering.{Answers};
+ghost use Rattle.region_typing_scope.specs.Views.{scope as scope_of};
+ghost use Rattle.region_typing_values.specs.OnHeap.{typed as typed_view};
+ghost use Rattle.region_typing_values.specs.Typed.{number_typed, size_typed};
+ghost use Rattle.region_typing_expressions.specs.Calls.{argument, called as called_as, called_with, name_verdict};
+ghost use Rattle.region_typing_expressions.specs.Slices.{expression_list};
+
+use crate::calls::{Argument, Called, call, with_result};
+use crate::members::{arrowed, dotted};
+use crate::operators::{binary, indexed, unary};
+use region_typing_scope::refusals::{CheckError, refusal};
+use region_typing_scope::scope::Scope;
+use region_typing_scope::sites::Sites;
+use region_typing_scope::types::{copied, type_named};
+use ckc_core::program;
+use ckc_text::code::Code;
+use ckc_text::fault::NoMemory;
+use ckc_text::place::Span;
+use ckc_tree::expr::Expr;
+use ckc_tree::type_form::TypeName;
+use pointer_modes::ctype::CType;
+use std::alloc::Global;
+use region_typing_values::on_heap::boxed;
+use region_typing_values::typed::{Base, Typed, at_base, at_local};
+
+// A constant, which is 0 or not.
+fn constant(alloc: Global, zero: bool, number: i32) -> Result<Box<Typed>, NoMemory>
+    ensures { IfOk result (λ t. typed_view t ≡ Value Int zero (Number number) None) }
+{
+    let value = boxed(alloc, program::Expr::Number(number))?;
+    boxed(
+        alloc,
+        Typed::Value {
+            ctype: CType::Int,
+            zero,
+            value,
+        },
+    )
+}
+
+// A number, which has at most 31 bits.
+fn number(alloc: Global, value: u32, span: Span) -> Result<Box<Typed>, CheckError>
+    ensures { Answers typed_view (number_typed value span) result }
+{
+    match i32::try_from(value) {
+        Ok(number) => Ok(constant(alloc, value == 0, number)?),
+        Err(_) => Err(refusal(Code::E04, span)),
+    }
+}
+
+// A character at a span.
+fn character(alloc: Global, value: u8) -> Result<Box<Typed>, NoMemory>
+    ensures { IfOk result (λ t. (span : Span) → constant_of value false span ≡ Passes (typed_view t)) }
+{
+    constant(alloc, false, value as i32)
+}
+
+// The bytes of a type.
+fn size_of(alloc: Global, scope: &Scope, t: &TypeName) -> Result<Box<Typed>, CheckError>
+    ensures { Answers typed_view (size_typed (scope_of scope.now) (type_name_of t.now)) result }
+{
+    let named = type_named(alloc, scope, t)?;
+    let bytes = scope.structs.size_of(&named);
+    Ok(constant(alloc, false, bytes as i32)?)
+}
+
+// What a name stands for.
+fn named(alloc: Global, scope: &Scope, name: &[u8]) -> Result<Box<Typed>, CheckError>
+    ensures { Answers typed_view (name_verdict (scope_of scope.now) name.now) result }
+{
+    if let Some(local) = scope.local(name) {
+        let ctype = copied(alloc, local.ctype)?;
+        return Ok(boxed(alloc, at_local(ctype, local.number))?);
+    }
+    if let Some(object) = scope.object(name) {
+        let ctype = copied(alloc, object.ctype)?;
+        return Ok(boxed(alloc, at_base(ctype, Base::Object(object.number)))?);
+    }
+    if name == b"NULL".as_slice() {
+        Ok(constant(alloc, true, 0)?)
+    } else {
+        Err(CheckError::Unnamed)
+    }
+}
+
+/// What an expression is.
+#[cycle(expressions)]
+pub fn typed(
+    alloc: Global,
+    sites: &Sites,
+    scope: &Scope,
+    e: &Expr,
+) -> Result<Box<Typed>, CheckError>
+    ensures { Answers typed_view (typed_of (place_at sites.now) (scope_of scope.now) (expression_of e.now)) result }
+{
+    match e {
+        Expr::Number { value, span } => number(alloc, *value, *span),
+        Expr::Character { value, .. } => Ok(character(alloc, *value)?),
+        Expr::Text { span, .. }
+        | Expr::Cast { span, .. }
+        | Expr::Malloc { span, .. }
+        | Expr::Calloc { span, .. } => Err(refusal(Code::E13, *span)),
+        Expr::Name { name } => named(alloc, scope, name.name.as_bytes()),
+        Expr::Call {
+            callee,
+            arguments,
+            span,
+        } => {
+            let arguments = arguments.as_slice();
+            let answer = called(
+                alloc,
+                sites,
+                scope,
+                callee.name.as_bytes(),
+                arguments,
+                *span,
+            )?;
+            with_result(alloc, answer, *span)
+        }
+        Expr::SizeOf { type_name, .. } => size_of(alloc, scope, type_name),
+        Expr::Index { base, index, span } => {
+            let base = typed(alloc, sites, scope, base)?;
+            let index = typed(alloc, sites, scope, index)?;
+            indexed(&base, &index, *span)
+        }
+        Expr::Dot { base, member, span } => {
+            let base = typed(alloc, sites, scope, base)?;
+            let site = sites.site(*span);
+            dotted(alloc, scope, base, member.name.as_bytes(), site, *span)
+        }
+        Expr::Arrow { base, member, span } => {
+            let base = typed(alloc, sites, scope, base)?;
+            let site = sites.site(*span);
+            arrowed(alloc, scope, base, member.name.as_bytes(), site, *span)
+        }
+        Expr::Unary {
+            operator,
+            operand,
+            span,
+        } => {
+            let operand = typed(alloc, sites, scope, operand)?;
+            unary(alloc, *operator, operand, sites.site(*span), *span)
+        }
+        Expr::Binary {
+            operator,
+            left,
+            right,
+            span,
+        } => {
+            let left = typed(alloc, sites, scope, left)?;
+            let right = typed(alloc, sites, scope, right)?;
+            binary(alloc, *operator, left, right, sites.site(*span), *span)
+        }
+    }
+}
+
+/// What arguments are, from left to right.
+#[cycle(expressions)]
+fn all_typed(
+    alloc: Global,
+    sites: &Sites,
+    scope: &Scope,
+    arguments: &[Expr],
+) -> Result<Vec<Argument>, CheckError>
+    ensures { Answers (λ v. map argument v.items) (all_typed_of (place_at sites.now) (scope_of scope.now) (expression_list arguments.now)) result }
+{
+    let mut built = Vec::new(alloc);
+    for written in arguments {
+        let typed = typed(alloc, sites, scope, written)?;
+        built.push(Argument {
+            typed,
+            span: written.span(),
+        })?;
+    }
+    Ok(built)
+}
+
+/// A call of a function by its name, with what its arguments are.
+#[cycle(expressions)]
+fn called(
+    alloc: Global,
+    sites: &Sites,
+    scope: &Scope,
+    name: &[u8],
+    arguments: &[Expr],
+    span: Span,
+) -> Result<Called, CheckError>
+    ensures { Answers called_as (called_with (place_at sites.now) (scope_of scope.now) name.now (expression_list arguments.now) span) result }
+{
+    let arguments = all_typed(alloc, sites, scope, arguments)?;
+    call(alloc, scope, name, arguments, sites.site(span), span)
+}
+
+/// A call that stands alone.
+pub fn call_typed(
+    alloc: Global,
+    sites: &Sites,
+    scope: &Scope,
+    e: &Expr,
+) -> Result<Called, CheckError>
+    ensures { Answers called_as (call_typed_of (place_at sites.now) (scope_of scope.now) (expression_of e.now)) result }
+{
+    match e {
+        Expr::Call {
+            callee,
+            arguments,
+            span,
+        } => {
+            let arguments = arguments.as_slice();
+            called(
+                alloc,
+                sites,
+                scope,
+                callee.name.as_bytes(),
+                arguments,
+                *span,
+            )
+        }
+        _ => Err(refusal(Code::E13, Span { from: 0, to: 0 })),
+    }
+}

@@ -1,0 +1,158 @@
+// Members of structs.
+
+ghost use Rattle.std.specs.Prelude.{◌≡◌, bytes_eq, position, IfOk};
+ghost use Rattle.pointer_modes.specs.Types.{ctype as ctype_of};
+ghost use Rattle.ckc_core.specs.Core.{place as place_of};
+ghost use Rattle.region_typing_rules.specs.Expressions.{member_at as member_in, member_place as place_in, struct_place as cell_of_struct, dotted as dotted_in, arrowed as arrowed_in};
+ghost use Rattle.region_typing_scope.specs.Answering.{Answers};
+ghost use Rattle.region_typing_scope.specs.Views.{scope as scope_of};
+ghost use Rattle.region_typing_values.specs.Typed.{base_place, struct_place, struct_of, struct_behind};
+ghost use Rattle.region_typing_values.specs.OnHeap.{typed};
+
+use region_typing_scope::refusals::{CheckError, refusal};
+use region_typing_scope::scope::Scope;
+use region_typing_scope::types::copied;
+use ckc_core::program::{CellPlace, Expr, Site};
+use ckc_text::code::Code;
+use ckc_text::fault::NoMemory;
+use ckc_text::place::Span;
+use pointer_modes::ctype::{CType, Member};
+use std::alloc::Global;
+use region_typing_values::on_heap::boxed;
+use region_typing_values::operands::{Operand, value_of};
+use region_typing_values::typed::{Base, StructPlace, Typed};
+
+/// The place of the first of members that has this name.
+fn member_place(members: &[Member], name: &[u8]) -> Option<usize>
+    ensures { result ≡ position (λ m. bytes_eq name.now m.name) members.now }
+{
+    members.iter().position(|m| name == m.name.as_bytes())
+}
+
+// A cell of a struct.
+fn cell_of(base: Base, cell: u32, offset: u32, site: Site) -> CellPlace
+    ensures { place_of result ≡ place_in (base_place base) cell offset site }
+{
+    match base {
+        Base::Object(object) => CellPlace::Direct {
+            object,
+            cell,
+            offset,
+        },
+        Base::Behind { pointer, .. } => CellPlace::Through {
+            pointer,
+            cell,
+            offset,
+            site,
+        },
+    }
+}
+
+/// A member of a struct that has one of this name.
+pub fn member_at(
+    alloc: Global,
+    scope: &Scope,
+    number: u32,
+    base: Base,
+    name: &[u8],
+    site: Site,
+    span: Span,
+) -> Result<Box<Typed>, CheckError>
+    ensures { Answers typed (member_in (scope_of scope.now) number (base_place base) name.now site span) result }
+{
+    let members = scope.structs.members(number);
+    match member_place(members, name) {
+        None => Err(refusal(Code::E10, span)),
+        Some(cell) => {
+            let offset = scope
+                .structs
+                .offset_of_cell(&CType::Struct(number), cell as u32);
+            let ctype = copied(alloc, &members[cell].ctype)?;
+            let place = cell_of(base, cell as u32, offset, site);
+            Ok(boxed(alloc, Typed::Cell { ctype, place })?)
+        }
+    }
+}
+
+// The first cell of a struct. A parameter that is one stands behind a pointer that is none.
+fn base_of(alloc: Global, place: StructPlace, site: Site) -> Result<Base, NoMemory>
+    ensures { IfOk result (λ base. base_place base ≡ cell_of_struct (struct_place place) site) }
+{
+    match place {
+        StructPlace::Local(local) => {
+            let pointer = boxed(alloc, Expr::Local(local))?;
+            Ok(Base::Behind { pointer, site })
+        }
+        StructPlace::Cell(base) => Ok(base),
+    }
+}
+
+/// A member of a struct.
+pub fn dotted(
+    alloc: Global,
+    scope: &Scope,
+    t: Box<Typed>,
+    name: &[u8],
+    site: Site,
+    span: Span,
+) -> Result<Box<Typed>, CheckError>
+    ensures { Answers typed (dotted_in (scope_of scope.now) (typed t) name.now site span) result }
+{
+    match Box::into_inner(t) {
+        Typed::Struct { number, place } => {
+            let base = base_of(alloc, place, site)?;
+            member_at(alloc, scope, number, base, name, site, span)
+        }
+        _ => Err(refusal(Code::E13, span)),
+    }
+}
+
+/// A member of a struct that a pointer points to.
+pub fn arrowed(
+    alloc: Global,
+    scope: &Scope,
+    t: Box<Typed>,
+    name: &[u8],
+    site: Site,
+    span: Span,
+) -> Result<Box<Typed>, CheckError>
+    ensures { Answers typed (arrowed_in (scope_of scope.now) (typed t) name.now site span) result }
+{
+    let Operand {
+        ctype,
+        zero: _,
+        value: pointer,
+    } = value_of(alloc, t, span)?;
+    match struct_pointed_to(&ctype) {
+        Some(number) => member_at(
+            alloc,
+            scope,
+            number,
+            Base::Behind { pointer, site },
+            name,
+            site,
+            span,
+        ),
+        None => Err(refusal(Code::E13, span)),
+    }
+}
+
+// The struct that a pointer of a type points to.
+fn struct_pointed_to(t: &CType) -> Option<u32>
+    ensures { result ≡ struct_behind (ctype_of t.now) }
+{
+    match t {
+        CType::Pointer(_, _, target) => struct_number(target),
+        _ => None,
+    }
+}
+
+// The struct that a type is.
+fn struct_number(t: &CType) -> Option<u32>
+    ensures { result ≡ struct_of (ctype_of t.now) }
+{
+    match t {
+        CType::Struct(number) => Some(*number),
+        _ => None,
+    }
+}

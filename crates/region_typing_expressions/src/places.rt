@@ -1,0 +1,108 @@
+// Members, what pointers point to, and addresses.
+
+ghost use Rattle.std.specs.Prelude.{◌≡◌, IfOk};
+ghost use Rattle.pointer_modes.specs.Types.{ctype as ctype_of};
+ghost use Rattle.ckc_core.specs.Core.{expression, place as place_of};
+ghost use Rattle.region_typing_rules.specs.Expressions.{dereferenced, address as address_of, pointer_to as pointer_at};
+ghost use Rattle.region_typing_scope.specs.Answering.{Answers};
+ghost use Rattle.region_typing_values.specs.Typed.{pointer_value};
+ghost use Rattle.region_typing_values.specs.OnHeap.{typed};
+
+use region_typing_scope::refusals::{CheckError, refusal};
+use ckc_core::program::{CellPlace, Expr, Site};
+use ckc_text::code::Code;
+use ckc_text::fault::NoMemory;
+use ckc_text::place::Span;
+use pointer_modes::ctype::{CType, Kind, Mode};
+use std::alloc::Global;
+use region_typing_values::on_heap::boxed;
+use region_typing_values::operands::{Operand, value_of};
+use region_typing_values::typed::{Base, StructPlace, Typed, at_base, first_cell, plain};
+
+/// What a pointer points to.
+pub fn pointed_at(
+    alloc: Global,
+    t: Box<Typed>,
+    site: Site,
+    span: Span,
+) -> Result<Box<Typed>, CheckError>
+    ensures { Answers typed (dereferenced (typed t) site span) result }
+{
+    let Operand {
+        ctype,
+        zero: _,
+        value: pointer,
+    } = value_of(alloc, t, span)?;
+    match ctype {
+        CType::Pointer(_, _, target) => {
+            let pointed = at_base(Box::into_inner(target), Base::Behind { pointer, site });
+            Ok(boxed(alloc, pointed)?)
+        }
+        _ => Err(refusal(Code::E13, span)),
+    }
+}
+
+// A pointer to a place.
+fn pointer_to(
+    alloc: Global,
+    ctype: CType,
+    place: CellPlace,
+    site: Site,
+) -> Result<Box<Typed>, NoMemory>
+    ensures { IfOk result (λ t. typed t ≡ pointer_at (ctype_of ctype) (place_of place) site) }
+{
+    let target = Box::new(alloc, ctype)?;
+    let ctype = CType::Pointer(Mode::Checked, Kind::One, target);
+    plain(alloc, ctype, pointer_of(place, site))
+}
+
+// The value of a pointer to a place.
+fn pointer_of(place: CellPlace, site: Site) -> Expr
+    ensures { expression result ≡ pointer_value (place_of place) site }
+{
+    match place {
+        CellPlace::Direct {
+            object,
+            cell,
+            offset,
+        } => Expr::AddressOf {
+            object,
+            cell,
+            offset,
+        },
+        CellPlace::Through {
+            pointer,
+            cell,
+            offset,
+            ..
+        } => Expr::AddressThrough {
+            pointer,
+            cell,
+            offset,
+            site,
+        },
+    }
+}
+
+/// The address of a place.
+pub fn address(
+    alloc: Global,
+    t: Box<Typed>,
+    site: Site,
+    span: Span,
+) -> Result<Box<Typed>, CheckError>
+    ensures { Answers typed (address_of (typed t) site span) result }
+{
+    match Box::into_inner(t) {
+        Typed::Value { .. } => Err(refusal(Code::E12, span)),
+        Typed::Local { .. } => Err(refusal(Code::E22, span)),
+        Typed::Cell { ctype, place } => Ok(pointer_to(alloc, ctype, place, site)?),
+        Typed::Struct { number, place } => match place {
+            StructPlace::Local(_) => Err(refusal(Code::E22, span)),
+            StructPlace::Cell(base) => {
+                let place = first_cell(base);
+                Ok(pointer_to(alloc, CType::Struct(number), place, site)?)
+            }
+        },
+    }
+}

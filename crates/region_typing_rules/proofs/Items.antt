@@ -1,0 +1,694 @@
+-- Items that break no rule lead from a walk as it should be to another one.
+use Rattle.std.proofs.Common.{◌≡◌, ℕ, suc, ◌+◌, ◌*◌, ◌<◌, ◌≤◌, Bool, true, false, List, [], ◌∷◌, ◌++◌, map, take, length, Option, Some, None, refl, sym, ap, ◌∙◌, subst, append_assoc, ⊎_elim, arith}
+use Rattle.std.specs.Prelude.{bytes_eq, codes, nat_lt, nat_le, not, ◌&&◌, ◌||◌, ◌==◌, is_some, is_none}
+use Rattle.std.specs.List.{AllByRecursion, list_all, list_any}
+use Rattle.std.proofs.lemmas.Bool.{and_parts, or_cases, eqb-true, ltb-true, leb-true}
+use Rattle.std.proofs.lemmas.List.{length-append, length-map, append-nil}
+use Rattle.ckc_text.specs.declared.place.Span.{Span}
+use Rattle.ckc_text.specs.declared.code.Code.TheVariants.{E08, E10, E13, E15, E27}
+use Rattle.ckc_tree.specs.declared.item.FunctionKind.{FunctionKind}
+use Rattle.ckc_tree.specs.declared.item.FunctionKind.TheVariants as function_kinds
+use Rattle.ckc_tree.specs.declared.item.Region.{Region}
+use Rattle.ckc_tree.specs.Types.{TypeTree, IntType, CharType, StructType, PointerType, type_span}
+use Rattle.ckc_tree.specs.Statements as trees
+use Rattle.ckc_tree.specs.Statements.{Initializer, Declarator}
+use Rattle.ckc_tree.specs.Items as i
+use Rattle.ckc_names_rules.specs.Naming as naming
+use Rattle.ckc_names_rules.specs.Naming.{is_int_type, is_int, takes_nothing, is_main_function, is_main}
+use Rattle.built_forms.specs.Built.{is_number_type, is_number_result, is_number_parameter, built_parameters, built_of_kind, built_function, built_item}
+use Rattle.ckc_tree.specs.Items.{Item, Tree}
+use Rattle.ckc_tree.specs.Heights.{◌beside◌, statements_reach, optional_bounds_reach, result_reach, parameters_reach, optional_body_reach, item_reach, items_reach}
+use Rattle.flat_bytes.specs.Blocks.{rounded_up}
+use Rattle.pointer_modes.specs.Layout.{size_of}
+use Rattle.pointer_modes.specs.Types.{CType, Int, Char, Struct, Pointer, Member, Structure}
+use Rattle.ckc_core.specs.Core as core
+use Rattle.ckc_core.specs.Stacks.{statements_stack}
+use Rattle.region_typing_rules.specs.Verdicts.{Verdict, Passes, Stops, passing, meant, picked}
+use Rattle.region_typing_rules.specs.Scopes.{Scope, Signature, Variable, struct_named, function_named}
+use Rattle.region_typing_rules.specs.Types.{base_type, without_stars, type_named}
+use Rattle.region_typing_rules.specs.Expressions.{Places, typed, is_import, is_tainted}
+use Rattle.region_typing_rules.specs.Statements.{statements, with_local, is_unchecked}
+use Rattle.region_typing_rules.specs.Items as items
+use Rattle.region_typing_rules.specs.Items.{Walk, in_checked_region, is_struct, member_types, scalar_members, with_struct, structure, Walked, Missing, Written, Constants, initializer, object_cells, with_variable, WalkedVariable, written_size, few_bytes, room_for, room_for_first, variables, with_objects, global, listed, parameter_types, result_type, with_function, with_parameters, inside, core_function, function_body, is_defined, agrees, all_scalar, scalar_result, function_rules, signature_of, function, item}
+use Rattle.region_typing_rules.specs.Typed.{Frame, slots, Stands, IsScalar, IsScalarResult, AreStatements}
+use Rattle.region_typing_rules.specs.Lowerable.{cells_size, objects_size, IsRoomy}
+use Rattle.region_typing_rules.proofs.Verdicts.{Promises, passing_promises, needs_promises, anything_promised, promised_so, both_promise, later_promises, all_promised, Extends, extends_append}
+use Rattle.region_typing_rules.proofs.Knowledge.{IsNumberType, IsNumberResult, KnowsFile}
+use Rattle.region_typing_rules.proofs.Growth.{Grows, stays, grows_further, file_known, local_grows, statements_grow, GrowsTo}
+use Rattle.region_typing_rules.proofs.Statements.{statements_promise}
+use Rattle.region_typing_rules.proofs.Stacks.{beside_first, beside_second, around_higher, HasFew}
+use Rattle.region_typing_rules.proofs.StatementStacks.{HaveFew, statements_low}
+use Rattle.region_typing_rules.proofs.Layouts.{IsStart, AreCellsOf, IsWalked, of_members, cells_stand, whole_size, object_promises, constant_promises}
+use Rattle.region_typing_rules.proofs.Signatures.{named_further, named_last, side_further, Agrees, agrees_equal, scalars_all, result_scalar, bytes_equal, IsDeclared}
+use Rattle.region_typing_rules.proofs.Walks.{FileGrows, file_stays, file_further, AreSettled, IsBody, IsWell, settled_later, bodies_later, all_append}
+
+module _ (height : ℕ) where
+  -- a walk as it should be behind another one
+  pub record Follows (a b : Walk) : Type 0 where
+    pub well : IsWell height b
+    pub settled : AreSettled b.scope.structs b.scope.variables b.objects
+    pub grows : FileGrows a.scope b.scope
+
+  -- the region of an item is checked
+  region_promises : (P : Walk → Type 0) (s : Scope) (span : Span) (w : Walk) → P w → Promises P (in_checked_region s span w)
+  region_promises P s span w h = needs_promises P (not s.is_off) E15 span (Passes w) (λ on. h)
+
+  -- ---- structs
+
+  few_promised : (g : Scope) (members : List i.Member) (before : List Member) → length before ≤ 64 → Promises (λ (ms : List Member). length ms ≤ 64) (member_types g members before)
+  few_promised g [] before few = few
+  few_promised g (m ∷ members) before few =
+      needs_promises (λ (ms : List Member). length ms ≤ 64) (nat_lt (length before) 64) E08 (type_span m.type.base) _
+      (λ low. passing_promises (λ (t : CType). Unit {0}) (λ (ms : List Member). length ms ≤ 64) (type_named g m.type) _ (anything_promised (type_named g m.type))
+      (λ t _. few_promised g members (before ++ record { name = m.name.name; ctype = t; span = m.span } ∷ []) (let below = ltb-true (length before) 64 low in let new : Member = record { name = m.name.name; ctype = t; span = m.span } in omega (arith, length-append before (new ∷ [])))))
+
+  no_struct : (t : CType) → not (is_struct t) ≡ true → IsScalar t
+  no_struct Int h = refl
+  no_struct Char h = refl
+  no_struct (Struct n) h = absurd (cc)
+  no_struct (Pointer m k t) h = refl
+
+  scalars_promised : {A : Type 0} (Q : A → Type 0) (members : List Member) (next : Verdict A) → (AllByRecursion (λ (m : Member). IsScalar m.ctype) members → Promises Q next) → Promises Q (scalar_members members next)
+  scalars_promised Q [] next h = h tt
+  scalars_promised Q (m ∷ members) next h = needs_promises Q (not (is_struct m.ctype)) E27 m.span (scalar_members members next) (λ one. scalars_promised Q members next (λ all. h (no_struct m.ctype one, all)))
+
+  -- one struct more
+  with_struct_follows : (w : Walk) (tag : List ℕ) (tainted : Bool) (members : List Member) → IsWell height w → AreSettled w.scope.structs w.scope.variables w.objects → length members ≤ 64 → AllByRecursion (λ (m : Member). IsScalar m.ctype) members → Follows w (record w { scope = with_struct tag tainted members w.scope })
+  with_struct_follows w tag tainted members well settled few scalars =
+      let new : Structure = record { tainted = tainted; members = members } in
+      let ext = extends_append w.scope.structs (new ∷ []) in
+      let after = with_struct tag tainted members w.scope in
+      let grows : FileGrows w.scope after = record { structs = ext; variables = λ k x h. h; functions = λ name f h. h; numbers = λ side name f h. refl } in
+      record {
+        well = record {
+          few = of_members (λ ms. length ms ≤ 64) (omega arith) w.scope.structs new well.few few;
+          scalars = of_members (AllByRecursion (λ (m : Member). IsScalar m.ctype)) tt w.scope.structs new well.scalars scalars;
+          start = well.start;
+          declared = well.declared;
+          bodies = bodies_later height w.scope after w.bodies grows well.bodies;
+          roomy = well.roomy;
+          bytes = well.bytes;
+          room = well.room;
+        };
+        settled = settled_later w.scope.structs (w.scope.structs ++ new ∷ []) w.scope.variables w.objects ext settled;
+        grows = grows;
+      }
+
+  structure_promises : (w : Walk) (d : i.Structure) → IsWell height w → AreSettled w.scope.structs w.scope.variables w.objects → Promises (Follows w) (structure w d)
+  structure_promises w d well settled =
+      let inside = with_struct d.tag.name d.tainted [] w.scope in
+      needs_promises (Follows w) (nat_lt (length w.scope.structs) 4096) E08 d.span _
+      (λ low. passing_promises (λ (ms : List Member). length ms ≤ 64) (Follows w) (member_types inside d.members []) _ (few_promised inside d.members [] (omega arith))
+      (λ members few. scalars_promised (Follows w) members _
+      (λ scalars. region_promises (Follows w) w.scope d.span _ (with_struct_follows w d.tag.name d.tainted members well settled few scalars))))
+
+  -- ---- file-level variables
+
+  initializer_promises : (at : Places) (s : Scope) (o : Option Initializer) → Promises IsWalked (initializer at s o)
+  initializer_promises at s None = tt
+  initializer_promises at s (Some (trees.Value value)) = passing_promises _ IsWalked (typed at s value) _ (constant_promises at s value) (λ t h. h)
+  initializer_promises at s (Some (trees.Constants constants span)) = tt
+
+  -- variables that wait for their cells
+  abbrev AreWaiting : List Variable → List WalkedVariable → Type 0
+  AreWaiting [] [] = Unit {0}
+  AreWaiting [] (x ∷ walked) = ⊥
+  AreWaiting (v ∷ vs) [] = ⊥
+  AreWaiting (v ∷ vs) (x ∷ walked) = (v.type ≡ x.type) × IsWalked x.initial × AreWaiting vs walked
+
+  waiting_append : (vs : List Variable) (walked : List WalkedVariable) (v : Variable) (x : WalkedVariable) → AreWaiting vs walked → v.type ≡ x.type → IsWalked x.initial → AreWaiting (vs ++ v ∷ []) (walked ++ x ∷ [])
+  waiting_append [] [] v x h type initial = (type, initial, tt)
+  waiting_append [] (y ∷ walked) v x h type initial = absurd h
+  waiting_append (u ∷ vs) [] v x h type initial = absurd h
+  waiting_append (u ∷ vs) (y ∷ walked) v x h type initial = (h.0, h.1, waiting_append vs walked v x h.2 type initial)
+
+  -- the bytes that they will take with their gaps
+  abbrev waiting_size : List Structure → List Variable → ℕ
+  waiting_size structs [] = 0
+  waiting_size structs (v ∷ vs) = rounded_up (size_of structs v.type) + 16 + waiting_size structs vs
+
+  waiting_more : (structs : List Structure) (vs : List Variable) (v : Variable) → waiting_size structs (vs ++ v ∷ []) ≡ waiting_size structs vs + (rounded_up (size_of structs v.type) + 16)
+  waiting_more structs [] v = omega arith
+  waiting_more structs (u ∷ vs) v = omega (arith, waiting_more structs vs v)
+
+  objects_more : (objects : List (List core.Initial)) (cells : List core.Initial) → objects_size (objects ++ cells ∷ []) ≡ objects_size objects + (rounded_up (cells_size cells) + 16)
+  objects_more [] cells = omega arith
+  objects_more (o ∷ objects) cells = omega (arith, objects_more objects cells)
+
+  -- a walk in which some variables wait
+  record Waits (a : Walk) (x : Walk × List WalkedVariable) : Type 0 where
+    settled_ones : List Variable
+    waiting_ones : List Variable
+    all : x.0.scope.variables ≡ settled_ones ++ waiting_ones
+    well : IsWell height x.0
+    settled : AreSettled x.0.scope.structs settled_ones x.0.objects
+    waiting : AreWaiting waiting_ones x.1
+    grows : FileGrows a.scope x.0.scope
+    bytes : objects_size x.0.objects + waiting_size x.0.scope.structs waiting_ones ≤ x.0.taken
+
+  -- the bytes of a type as it is written are those that it has
+  abbrev IsSized : Scope → TypeTree → CType → Type 0
+  IsSized g base type = (size : ℕ) → written_size g base 0 ≡ Passes size → size ≡ size_of g.structs type
+
+  base_sized : (g : Scope) (base : TypeTree) → Promises (IsSized g base) (base_type g base)
+  base_sized g (IntType span) = λ size h. let same : size_of g.structs Int ≡ size = cc in sym same
+  base_sized g (CharType span) = λ size h. let same : size_of g.structs Char ≡ size = cc in sym same
+  base_sized g (PointerType word element stars span) =
+      let target = passing (base_type g element) (without_stars element stars) in
+      passing_promises (λ (t : CType). Unit {0}) (IsSized g (PointerType word element stars span)) target _ (anything_promised target) (λ t _ size h. let same : 4 ≡ size = cc in sym same)
+  base_sized g (StructType tag span) = by (struct_named g tag.name) refl
+    where
+      by : (o : Option ℕ) → struct_named g tag.name ≡ o → Promises (IsSized g (StructType tag span)) (passing (meant o) (λ n. Passes (Struct n)))
+      by None e = tt
+      by (Some n) e = λ size h. let h' = rw e at h in let same : size_of g.structs (Struct n) ≡ size = cc in sym same
+
+  sized_later : (g : Scope) (name : List ℕ) (t : CType) (base : TypeTree) (type : CType) → IsSized g base type → IsSized (with_variable name t g) base type
+  sized_later g name t (IntType span) type h = h
+  sized_later g name t (CharType span) type h = h
+  sized_later g name t (StructType tag span) type h = h
+  sized_later g name t (PointerType word element stars span) type h = h
+
+  -- a variable more has room, by its type as it is written
+  record HasRoom (w : Walk) (base : TypeTree) (stars taken : ℕ) : Type 0 where
+    size : ℕ
+    written : written_size w.scope base stars ≡ Passes size
+    bytes : taken ≡ w.taken + (rounded_up size + 16)
+    within : taken ≤ 32768
+
+  room_promises : (w : Walk) (base : TypeTree) (span : Span) (d : Declarator) → Promises (HasRoom w base d.stars) (room_for w base span d)
+  room_promises w base span d = needs_promises (HasRoom w base d.stars) (nat_lt (length w.scope.variables) 4096) E08 span _ (λ few. by (written_size w.scope base d.stars) refl)
+    where
+      by : (v : Verdict ℕ) → written_size w.scope base d.stars ≡ v → Promises (HasRoom w base d.stars) (passing v (λ size. few_bytes (w.taken + (rounded_up size + 16)) span))
+      by (Passes size) e =
+          let taken = w.taken + (rounded_up size + 16) in
+          needs_promises (HasRoom w base d.stars) (nat_le taken 32768) E08 span (Passes taken) (λ room. record { size = size; written = e; bytes = refl; within = leb-true taken 32768 room })
+      by (Stops stop) e = tt
+
+  -- a type behind which no stars stand
+  starless : (base : TypeTree) (stars : ℕ) (type : CType) → Promises (λ (t : CType). (stars ≡ 0) × (t ≡ type)) (without_stars base stars type)
+  starless base stars type = needs_promises (λ (t : CType). (stars ≡ 0) × (t ≡ type)) (stars == 0) E15 (type_span base) (Passes type) (λ none. (eqb-true stars 0 none, refl))
+
+  taken_by : (w : Walk) (base : TypeTree) (type t : CType) (stars taken : ℕ) → IsSized w.scope base type → HasRoom w base stars taken → stars ≡ 0 → t ≡ type → taken ≡ w.taken + (rounded_up (size_of w.scope.structs t) + 16)
+  taken_by w base type t stars taken sized room none same =
+      let size = sized room.size (subst (λ n. written_size w.scope base n ≡ Passes room.size) none room.written) ∙ ap (size_of w.scope.structs) (sym same) in
+      room.bytes ∙ ap (λ n. w.taken + (rounded_up n + 16)) size
+
+  with_variable_waits : (a w : Walk) (walked : List WalkedVariable) (name : List ℕ) (t : CType) (initial : Walked) (taken : ℕ) → taken ≡ w.taken + (rounded_up (size_of w.scope.structs t) + 16) → taken ≤ 32768 → Waits a (w, walked) → IsWalked initial → Waits a (record w { scope = with_variable name t w.scope; taken = taken }, walked ++ record { type = t; initial = initial } ∷ [])
+  with_variable_waits a w walked name t initial taken bytes within h is =
+      let v : Variable = record { name = name; type = t } in
+      let after = with_variable name t w.scope in
+      let more : FileGrows w.scope after = record { structs = λ k x e. e; variables = extends_append w.scope.variables (v ∷ []); functions = λ n f e. e; numbers = λ side n f e. refl } in
+      record {
+        settled_ones = h.settled_ones;
+        waiting_ones = h.waiting_ones ++ v ∷ [];
+        all = ap (λ vs. vs ++ v ∷ []) h.all ∙ append_assoc h.settled_ones h.waiting_ones (v ∷ []);
+        well = record { few = h.well.few; scalars = h.well.scalars; start = h.well.start; declared = h.well.declared; bodies = bodies_later height w.scope after w.bodies more h.well.bodies; roomy = h.well.roomy; bytes = omega (arith, h.well.bytes, bytes); room = within };
+        settled = h.settled;
+        waiting = waiting_append h.waiting_ones walked v (record { type = t; initial = initial }) h.waiting refl is;
+        grows = file_further a.scope w.scope after h.grows more;
+        bytes = omega (arith, h.bytes, bytes, waiting_more w.scope.structs h.waiting_ones v);
+      }
+
+  variables_promise : (at : Places) (a w : Walk) (base : TypeTree) (type : CType) (span : Span) (ds : List Declarator) (walked : List WalkedVariable) → IsSized w.scope base type → Waits a (w, walked) → Promises (Waits a) (variables at w base type span ds walked)
+  variables_promise at a w base type span [] walked sized h = h
+  variables_promise at a w base type span (d ∷ ds) walked sized h =
+      passing_promises (HasRoom w base d.stars) (Waits a) (room_for w base span d) _ (room_promises w base span d)
+      (λ taken room. passing_promises (λ (t : CType). (d.stars ≡ 0) × (t ≡ type)) (Waits a) (without_stars base d.stars type) _ (starless base d.stars type)
+      (λ t plain. passing_promises IsWalked (Waits a) (initializer at (with_variable d.name.name t w.scope) d.initializer) _ (initializer_promises at (with_variable d.name.name t w.scope) d.initializer)
+      (λ initial is. variables_promise at a (record w { scope = with_variable d.name.name t w.scope; taken = taken }) base type span ds (walked ++ record { type = t; initial = initial } ∷ []) (sized_later w.scope d.name.name t base type sized)
+      (with_variable_waits a w walked d.name.name t initial taken (taken_by w base type t d.stars taken sized room plain.0 plain.1) room.within h is))))
+
+  settled_append : (structs : List Structure) (vs : List Variable) (objects : List (List core.Initial)) (v : Variable) (cells : List core.Initial) → AreSettled structs vs objects → Stands cells 0 (slots structs v.type) → AreSettled structs (vs ++ v ∷ []) (objects ++ cells ∷ [])
+  settled_append structs [] [] v cells h stands = (stands, tt)
+  settled_append structs [] (o ∷ objects) v cells h stands = absurd h
+  settled_append structs (u ∷ vs) [] v cells h stands = absurd h
+  settled_append structs (u ∷ vs) (o ∷ objects) v cells h stands = (h.0, settled_append structs vs objects v cells h.1 stands)
+
+  -- the cells of the first one that waits
+  with_cells : (a w : Walk) (x : WalkedVariable) (walked : List WalkedVariable) (cells : List core.Initial) → Waits a (w, x ∷ walked) → AreCellsOf w.scope.structs x.type cells → 0 < length cells → Waits a (record w { objects = w.objects ++ cells ∷ [] }, walked)
+  with_cells a w x walked cells h is some = by h.waiting_ones h.all h.waiting h.bytes
+    where
+      stands : Stands cells 0 (slots w.scope.structs x.type)
+      stands = subst (λ c. Stands c 0 (slots w.scope.structs x.type)) (sym is.same) (cells_stand w.scope.structs x.type is.number (subst (λ (c : List core.Initial). 0 < length c) is.same some))
+
+      size : cells_size cells ≡ size_of w.scope.structs x.type
+      size = ap cells_size is.same ∙ whole_size w.scope.structs x.type is.number (subst (λ (c : List core.Initial). 0 < length c) is.same some)
+
+      taken : (v : Variable) → v.type ≡ x.type → objects_size (w.objects ++ cells ∷ []) ≡ objects_size w.objects + (rounded_up (size_of w.scope.structs v.type) + 16)
+      taken v type = objects_more w.objects cells ∙ ap (λ n. objects_size w.objects + (rounded_up n + 16)) (size ∙ ap (size_of w.scope.structs) (sym type))
+
+      by : (vs : List Variable) → w.scope.variables ≡ h.settled_ones ++ vs → AreWaiting vs (x ∷ walked) → objects_size w.objects + waiting_size w.scope.structs vs ≤ w.taken → Waits a (record w { objects = w.objects ++ cells ∷ [] }, walked)
+      by [] all waiting bytes = absurd waiting
+      by (v ∷ vs) all waiting bytes = record {
+        settled_ones = h.settled_ones ++ v ∷ [];
+        waiting_ones = vs;
+        all = all ∙ sym (append_assoc h.settled_ones (v ∷ []) vs);
+        well = record { few = h.well.few; scalars = h.well.scalars; start = all_append (AllByRecursion IsStart) w.objects cells h.well.start is.start; declared = h.well.declared; bodies = h.well.bodies; roomy = all_append (λ (o : List core.Initial). AllByRecursion IsRoomy o × (0 < length o)) w.objects cells h.well.roomy (is.roomy, some); bytes = omega (arith, bytes, taken v waiting.0); room = h.well.room };
+        settled = settled_append w.scope.structs h.settled_ones w.objects v cells h.settled (subst (λ t. Stands cells 0 (slots w.scope.structs t)) (sym waiting.0) stands);
+        waiting = waiting.2;
+        grows = h.grows;
+        bytes = omega (arith, bytes, taken v waiting.0);
+      }
+
+  -- none waits any more
+  none_waits : (a w : Walk) → Waits a (w, []) → Follows a w
+  none_waits a w h = by h.waiting_ones h.all h.waiting
+    where
+      by : (vs : List Variable) → w.scope.variables ≡ h.settled_ones ++ vs → AreWaiting vs [] → Follows a w
+      by (v ∷ vs) all waiting = absurd waiting
+      by [] all waiting =
+          let same : h.settled_ones ≡ w.scope.variables = sym (all ∙ append-nil h.settled_ones) in
+          record { well = h.well; settled = subst (λ vs. AreSettled w.scope.structs vs w.objects) same h.settled; grows = h.grows }
+
+  with_objects_promises : (a w : Walk) (span : Span) (walked : List WalkedVariable) → Waits a (w, walked) → Promises (Follows a) (with_objects w span walked)
+  with_objects_promises a w span [] h = none_waits a w h
+  with_objects_promises a w span (x ∷ walked) h =
+      passing_promises (AreCellsOf w.scope.structs x.type) (Follows a) (object_cells w.scope.structs x.type x.initial span) _ (object_promises w.scope.structs x.type x.initial span h.well.scalars (first_walked h.waiting_ones h.waiting))
+      (λ cells is. needs_promises (Follows a) (nat_lt 0 (length cells)) E10 span _
+      (λ some. with_objects_promises a (record w { objects = w.objects ++ cells ∷ [] }) span walked (with_cells a w x walked cells h is (ltb-true 0 (length cells) some))))
+    where
+      first_walked : (vs : List Variable) → AreWaiting vs (x ∷ walked) → IsWalked x.initial
+      first_walked [] waiting = absurd waiting
+      first_walked (v ∷ vs) waiting = waiting.1
+
+  nothing_waits : (w : Walk) → IsWell height w → AreSettled w.scope.structs w.scope.variables w.objects → Waits w (w, [])
+  nothing_waits w well settled = record { settled_ones = w.scope.variables; waiting_ones = []; all = sym (append-nil w.scope.variables); well = well; settled = settled; waiting = tt; grows = file_stays w.scope; bytes = omega (arith, well.bytes) }
+
+  global_promises : (at : Places) (w : Walk) (d : i.Global) → IsWell height w → AreSettled w.scope.structs w.scope.variables w.objects → Promises (Follows w) (global at w d)
+  global_promises at w d well settled =
+      passing_promises (λ (n : ℕ). Unit {0}) (Follows w) (room_for_first w d d.declarators) _ (anything_promised (room_for_first w d d.declarators))
+      (λ taken _. passing_promises (IsSized w.scope d.base) (Follows w) (base_type w.scope d.base) _ (base_sized w.scope d.base)
+      (λ type sized. passing_promises (Waits w) (Follows w) (variables at w d.base type d.span d.declarators []) _ (variables_promise at w w d.base type d.span d.declarators [] sized (nothing_waits w well settled))
+      (λ x h. passing_promises (Follows w) (Follows w) (with_objects x.0 d.span x.1) _ (with_objects_promises w x.0 d.span x.1 h)
+      (λ v follows. region_promises (Follows w) v.scope d.span v follows))))
+
+  -- ---- functions
+
+  -- a type of the tree that is a number's
+  number_base : (g : Scope) (t : TypeTree) → is_number_type t ≡ true → Promises IsNumberType (base_type g t)
+  number_base g (IntType span) h = refl
+  number_base g (CharType span) h = refl
+  number_base g (StructType tag span) h = absurd (cc)
+  number_base g (PointerType word element stars span) h = absurd (cc)
+
+  starred_number : (base : TypeTree) (stars : ℕ) (t : CType) → IsNumberType t → Promises IsNumberType (without_stars base stars t)
+  starred_number base stars t h = needs_promises IsNumberType (stars == 0) E15 (type_span base) (Passes t) (λ none. h)
+
+  int_base : (g : Scope) (t : TypeTree) → is_int_type t ≡ true → Promises (λ (u : CType). u ≡ Int) (base_type g t)
+  int_base g (IntType span) h = refl
+  int_base g (CharType span) h = absurd (cc)
+  int_base g (StructType tag span) h = absurd (cc)
+  int_base g (PointerType word element stars span) h = absurd (cc)
+
+  -- the result of a tainted function is a number, and that of `main` an int
+  number_result : (g : Scope) (form : i.ResultForm) (stars : ℕ) → is_number_result form ≡ true → Promises IsNumberResult (result_type g form stars)
+  number_result g (i.Void span) stars h = needs_promises IsNumberResult (stars == 0) E15 span (Passes None) (λ none. tt)
+  number_result g (i.Value base) stars h =
+      passing_promises IsNumberType IsNumberResult (passing (base_type g base) (without_stars base stars)) _
+      (passing_promises IsNumberType IsNumberType (base_type g base) (without_stars base stars) (number_base g base h) (starred_number base stars)) (λ t n. n)
+
+  int_result : (g : Scope) (form : i.ResultForm) (stars : ℕ) → is_int form ≡ true → Promises (λ (o : Option CType). o ≡ Some Int) (result_type g form stars)
+  int_result g (i.Void span) stars h = absurd (cc)
+  int_result g (i.Value base) stars h =
+      passing_promises (λ (u : CType). u ≡ Int) (λ (o : Option CType). o ≡ Some Int) (passing (base_type g base) (without_stars base stars)) _
+      (passing_promises (λ (u : CType). u ≡ Int) (λ (u : CType). u ≡ Int) (base_type g base) (without_stars base stars) (int_base g base h) (λ t int. needs_promises (λ (u : CType). u ≡ Int) (stars == 0) E15 (type_span base) (Passes t) (λ none. int)))
+      (λ t int. ap Some int)
+
+  abbrev HasNumber : Variable → Type 0
+  HasNumber p = IsNumberType p.type
+
+  -- and so are its parameters
+  number_parameters : (g : Scope) (members : List i.Member) (before : List Variable) → list_all is_number_parameter members ≡ true → AllByRecursion HasNumber before → Promises (AllByRecursion HasNumber) (parameter_types g members before)
+  number_parameters g [] before h all = all
+  number_parameters g (p ∷ members) before h all =
+      let parts = and_parts (is_number_parameter p) (list_all is_number_parameter members) h in
+      let base = (and_parts (is_number_type p.type.base) (p.type.stars == 0 && is_none p.bounds) parts.0).0 in
+      needs_promises (AllByRecursion HasNumber) (nat_lt (length before) 16) E08 (type_span p.type.base) _
+      (λ low. passing_promises IsNumberType (AllByRecursion HasNumber) (type_named g p.type) _
+      (passing_promises IsNumberType IsNumberType (base_type g p.type.base) (without_stars p.type.base p.type.stars) (number_base g p.type.base base) (starred_number p.type.base p.type.stars))
+      (λ t n. number_parameters g members (before ++ record { name = p.name.name; type = t } ∷ []) parts.1 (all_append HasNumber before (record { name = p.name.name; type = t }) all n)))
+
+  number_types : (vs : List Variable) → AllByRecursion HasNumber vs → AllByRecursion IsNumberType (map (λ (p : Variable). p.type) vs)
+  number_types [] all = tt
+  number_types (v ∷ vs) all = (all.0, number_types vs all.1)
+
+  -- at most 16 parameters
+  few_parameters : (g : Scope) (members : List i.Member) (before : List Variable) → length before ≤ 16 → Promises (λ (vs : List Variable). length vs ≤ 16) (parameter_types g members before)
+  few_parameters g [] before few = few
+  few_parameters g (p ∷ members) before few =
+      needs_promises (λ (vs : List Variable). length vs ≤ 16) (nat_lt (length before) 16) E08 (type_span p.type.base) _
+      (λ low. passing_promises (λ (t : CType). Unit {0}) (λ (vs : List Variable). length vs ≤ 16) (type_named g p.type) _ (anything_promised (type_named g p.type))
+      (λ t _. few_parameters g members (before ++ record { name = p.name.name; type = t } ∷ []) (let below = ltb-true (length before) 16 low in let new : Variable = record { name = p.name.name; type = t } in omega (arith, length-append before (new ∷ [])))))
+
+  -- what its form says of a function, for its signature
+  record FitsForm (d : i.Function) (result : Option CType) (parameters : List Variable) : Type 0 where
+    numbers : is_tainted d.kind ≡ true → AllByRecursion IsNumberType (map (λ (p : Variable). p.type) parameters)
+    number_result : is_tainted d.kind ≡ true → IsNumberResult result
+    int_result : is_main_function d ≡ true → result ≡ Some Int
+    few : length parameters ≤ 16
+    none : is_main_function d ≡ true → parameters ≡ []
+
+  -- a tainted function of a built tree
+  record IsCrossing (d : i.Function) : Type 0 where
+    result : is_number_result d.result ≡ true
+    parameters : built_parameters is_number_parameter d.parameters ≡ true
+
+  crossing : (d : i.Function) → built_function d ≡ true → is_tainted d.kind ≡ true → IsCrossing d
+  crossing d h side = by d.kind side (and_parts (is_none d.bounds) (built_of_kind d.kind d) h).1
+    where
+      by : (kind : FunctionKind) → is_tainted kind ≡ true → built_of_kind kind d ≡ true → IsCrossing d
+      by function_kinds.Trusted side h = absurd (cc)
+      by function_kinds.Callback side h = absurd (cc)
+      by function_kinds.Tainted side h =
+          let first = and_parts (is_number_result d.result) (d.stars == 0 && (built_parameters is_number_parameter d.parameters && is_none d.body)) h in
+          let second = and_parts (d.stars == 0) (built_parameters is_number_parameter d.parameters && is_none d.body) first.1 in
+          record { result = first.0; parameters = (and_parts (built_parameters is_number_parameter d.parameters) (is_none d.body) second.1).0 }
+
+  listed_numbers : (ps : i.Parameters) → built_parameters is_number_parameter ps ≡ true → list_all is_number_parameter (listed ps) ≡ true
+  listed_numbers i.Nothing h = refl
+  listed_numbers i.VoidAlone h = refl
+  listed_numbers (i.Listed parameters) h = h
+
+  -- `main` gives an int and takes nothing
+  record IsMain (d : i.Function) : Type 0 where
+    trusted : is_tainted d.kind ≡ false
+    int : is_int d.result ≡ true
+    name : bytes_eq d.name.name (codes "main") ≡ true
+    nothing : takes_nothing d.parameters ≡ true
+
+  kind_trusted : (kind : FunctionKind) → naming.is_trusted kind ≡ true → is_tainted kind ≡ false
+  kind_trusted function_kinds.Trusted h = refl
+  kind_trusted function_kinds.Tainted h = absurd (cc)
+  kind_trusted function_kinds.Callback h = refl
+
+  main_form : (d : i.Function) → is_main_function d ≡ true → IsMain d
+  main_form d h =
+      let a = and_parts (naming.is_trusted d.kind) (is_int d.result && (d.stars == 0 && (bytes_eq d.name.name (codes "main") && (takes_nothing d.parameters && is_some d.body)))) h in
+      let b = and_parts (is_int d.result) (d.stars == 0 && (bytes_eq d.name.name (codes "main") && (takes_nothing d.parameters && is_some d.body))) a.1 in
+      let c = and_parts (d.stars == 0) (bytes_eq d.name.name (codes "main") && (takes_nothing d.parameters && is_some d.body)) b.1 in
+      let e = and_parts (bytes_eq d.name.name (codes "main")) (takes_nothing d.parameters && is_some d.body) c.1 in
+      record { trusted = kind_trusted d.kind a.0; int = b.0; name = e.0; nothing = (and_parts (takes_nothing d.parameters) (is_some d.body) e.1).0 }
+
+  none_listed : (g : Scope) (ps : i.Parameters) → takes_nothing ps ≡ true → Promises (λ (vs : List Variable). vs ≡ []) (parameter_types g (listed ps) [])
+  none_listed g i.Nothing h = refl
+  none_listed g i.VoidAlone h = refl
+  none_listed g (i.Listed parameters) h = absurd (cc)
+
+  -- ---- the body of a function
+
+  parameters_grow : (ps : List Variable) (g : Scope) → length g.locals + length ps ≤ 256 → AllByRecursion IsScalar (map (λ (p : Variable). p.type) ps) → Grows g (with_parameters ps g)
+  parameters_grow [] g few all = stays g
+  parameters_grow (p ∷ ps) g few all =
+      grows_further g (with_local p.name p.type g) (with_parameters ps (with_local p.name p.type g)) (local_grows p.name p.type g all.0 (omega arith))
+      (parameters_grow ps (with_local p.name p.type g) (omega (arith, length-append g.locals (p.type ∷ []))) all.1)
+
+  parameter_locals : (ps : List Variable) (g : Scope) → (with_parameters ps g).locals ≡ g.locals ++ map (λ (p : Variable). p.type) ps
+  parameter_locals [] g = sym (append-nil g.locals)
+  parameter_locals (p ∷ ps) g = parameter_locals ps (with_local p.name p.type g) ∙ append_assoc g.locals (p.type ∷ []) (map (λ (q : Variable). q.type) ps)
+
+  extends_take : (xs ys : List CType) → Extends xs ys → (take (length xs) ys ≡ xs) × (length xs ≤ length ys)
+  extends_take [] ys ext = (refl, omega arith)
+  extends_take (x ∷ xs) [] ext = let h = ext 0 x refl in absurd (cc)
+  extends_take (x ∷ xs) (y ∷ ys) ext =
+      let h = ext 0 x refl in
+      let first : y ≡ x = cc in
+      let rest = extends_take xs ys (λ k z e. ext (suc k) z e) in
+      let same = rest.0 in
+      (cc, omega (arith, rest.1))
+
+  -- the scope in which a body stands
+  file_inside : (g : Frame) (f : Signature) (ps : List Variable) (s : Scope) → length ps ≤ 16 → AllByRecursion IsScalar (map (λ (p : Variable). p.type) ps) → KnowsFile g s → KnowsFile g (inside f ps s)
+  file_inside g f ps s few all known =
+      let start : Scope = record s { locals = []; visible = []; result = f.result; in_loop = false } in
+      file_known g start (with_parameters ps start) (parameters_grow ps start (omega arith) all) (record { structs = known.structs; few_members = known.few_members; scalar_members = known.scalar_members; variables = known.variables; trusted = known.trusted; tainted = known.tainted })
+
+  -- a body that was walked, in a program in which the file is known, where its locals are these
+  record Premises (s : Scope) : Type 0 where
+    frame : Frame
+    types : List CType
+    scalar : AllByRecursion IsScalar types
+    known : KnowsFile frame s
+
+  abbrev IsWalkedBody : Scope → core.Statements × Scope → Type 0
+  IsWalkedBody s x = (statements_stack x.0 ≤ 17 * height) × GrowsTo s x × ((p : Premises s) → Extends x.1.locals p.types → AreStatements p.frame p.types s.result s.in_loop x.0)
+
+  body_walked : (at : Places) (s : Scope) (body : trees.Statements) → HaveFew s → (statements_reach body).height ≤ height → Promises (IsWalkedBody s) (statements at s body)
+  body_walked at s body few low =
+      promised_so (λ (x : core.Statements × Scope). (statements_stack x.0 ≤ 17 * height) × (GrowsTo s x × ((p : Premises s) → Extends x.1.locals p.types → AreStatements p.frame p.types s.result s.in_loop x.0))) (IsWalkedBody s) (statements at s body)
+      (both_promise (λ (x : core.Statements × Scope). statements_stack x.0 ≤ 17 * height) (λ (x : core.Statements × Scope). GrowsTo s x × ((p : Premises s) → Extends x.1.locals p.types → AreStatements p.frame p.types s.result s.in_loop x.0)) (statements at s body)
+      (statements_low at s few body (17 * height) (omega arith)) (
+      both_promise (GrowsTo s) (λ (x : core.Statements × Scope). (p : Premises s) → Extends x.1.locals p.types → AreStatements p.frame p.types s.result s.in_loop x.0) (statements at s body) (statements_grow at s body)
+      (all_promised (λ (p : Premises s) (x : core.Statements × Scope). Extends x.1.locals p.types → AreStatements p.frame p.types s.result s.in_loop x.0) (statements at s body) (λ p. statements_promise p.frame p.types p.scalar at s p.known body))))
+      (λ x h. (h.0, h.1.0, h.1.1))
+
+  -- a function of a scope that is declared as another one
+  record IsKnownAs (s : Scope) (f : Signature) : Type 0 where
+    signature : Signature
+    named : function_named s.functions f.name ≡ Some signature
+    agrees : Agrees signature f
+
+  function_body_typed : (s : Scope) (f : Signature) (ps : List Variable) (x : core.Statements × Scope) → f.parameters ≡ map (λ (p : Variable). p.type) ps → IsKnownAs s f → AllByRecursion IsScalar f.parameters → IsScalarResult f.result → length ps ≤ 16 → IsWalkedBody (inside f ps s) x → IsBody height s (core_function f ps x.0 x.1)
+  function_body_typed s f ps x same known scalars result few walked =
+      let start : Scope = record s { locals = []; visible = []; result = f.result; in_loop = false } in
+      let types = map (λ (p : Variable). p.type) ps in
+      let all : AllByRecursion IsScalar types = subst (AllByRecursion IsScalar) same scalars in
+      let grown = parameters_grow ps start (omega arith) all in
+      let held : (inside f ps s).locals ≡ types = parameter_locals ps start in
+      let ext : Extends types x.1.locals = subst (λ ts. Extends ts x.1.locals) held walked.1.locals in
+      let taken = extends_take types x.1.locals ext in
+      let count : length types ≡ length ps = length-map ps (λ (p : Variable). p.type) in
+      let locals : AllByRecursion IsScalar x.1.locals = walked.1.scalars (subst (AllByRecursion IsScalar) (sym held) all) in
+      record {
+        signature = known.signature;
+        named = known.named;
+        parameters = subst (λ n. take n x.1.locals ≡ types) count taken.0 ∙ sym same ∙ sym known.agrees.parameters;
+        result = sym known.agrees.result;
+        typed = λ g file. record {
+          parameters = subst (λ n. n ≤ length x.1.locals) count taken.1;
+          locals = locals;
+          result = result;
+          body = subst (λ r. AreStatements g x.1.locals r false x.0) (sym grown.result) (subst (λ l. AreStatements g x.1.locals (inside f ps s).result l x.0) (sym grown.loop) (walked.2 (record { frame = g; types = x.1.locals; scalar = locals; known = file_inside g f ps s few all file }) (λ k t e. e)));
+        };
+        few_parameters = few;
+        few_locals = walked.1.few (grown.few (omega arith));
+        low = walked.0;
+      }
+
+  -- ---- functions
+
+  -- `main` is known
+  pub record HasMain (s : Scope) : Type 0 where
+    pub signature : Signature
+    pub named : function_named s.functions (codes "main") ≡ Some signature
+    pub trusted : is_import signature ≡ false
+    pub none : signature.parameters ≡ []
+    pub int : signature.result ≡ Some Int
+
+  main_later : (a b : Scope) → FileGrows a b → HasMain a → HasMain b
+  main_later a b h main = record { signature = main.signature; named = h.functions (codes "main") main.signature main.named; trusted = main.trusted; none = main.none; int = main.int }
+
+  -- behind an item a walk is as it should be, and `main` is known if it was one
+  pub record Passed (w : Walk) (is_main : Bool) (v : Walk) : Type 0 where
+    pub follows : Follows w v
+    pub main : is_main ≡ true → HasMain v.scope
+
+  -- what the rules of a declaration ask
+  record IsRuled (known : Option Signature) (f : Signature) : Type 0 where
+    agreed : agrees known f ≡ true
+    scalars : all_scalar f.parameters ≡ true
+    scalar : scalar_result f.result ≡ true
+
+  ruled_promises : (P : Walk → Type 0) (all : List Item) (d : i.Function) (f : Signature) (known : Option Signature) (x : Walk) → (IsRuled known f → P x) → Promises P (function_rules all d f known x)
+  ruled_promises P all d f known x h =
+      needs_promises P (agrees known f && (all_scalar f.parameters && scalar_result f.result)) E13 d.span _
+      (λ ruled.
+      let first = and_parts (agrees known f) (all_scalar f.parameters && scalar_result f.result) ruled in
+      let second = and_parts (all_scalar f.parameters) (scalar_result f.result) first.1 in
+      needs_promises P (picked (is_tainted d.kind) true (is_defined all d.name.name)) E10 d.span _
+      (λ defined. needs_promises P (not (is_unchecked d.mark)) E15 d.span _
+      (λ on. region_promises P x.scope d.span x (h (record { agreed = first.0; scalars = second.0; scalar = second.1 })))))
+
+  module _ (w : Walk) (well : IsWell height w) (settled : AreSettled w.scope.structs w.scope.variables w.objects) where
+    -- with a function that is declared, for the first time or again
+    record Declares (known : Option Signature) (f : Signature) : Type 0 where
+      follows : Follows w (record w { scope = with_function known f w.scope })
+      is_known : IsKnownAs (with_function known f w.scope) f
+
+    declares : (known : Option Signature) (f : Signature) → function_named w.scope.functions f.name ≡ known → IsRuled known f → IsDeclared f → Declares known f
+    declares None f e ruled declared =
+        let after = with_function None f w.scope in
+        let grows : FileGrows w.scope after = record {
+          structs = λ k x h. h;
+          variables = λ k x h. h;
+          functions = λ name h found. named_further w.scope.functions f name h found;
+          numbers = λ side name h found. side_further side w.scope.functions f name h 0 found;
+        } in
+        record {
+          follows = record {
+            well = record { few = well.few; scalars = well.scalars; start = well.start; declared = all_append IsDeclared w.scope.functions f well.declared declared; bodies = bodies_later height w.scope after w.bodies grows well.bodies; roomy = well.roomy; bytes = well.bytes; room = well.room };
+            settled = settled;
+            grows = grows;
+          };
+          is_known = record { signature = f; named = named_last w.scope.functions f e; agrees = record { kind = refl; parameters = refl; result = refl } };
+        }
+    declares (Some before) f e ruled declared = record {
+      follows = record {
+        well = record { few = well.few; scalars = well.scalars; start = well.start; declared = well.declared; bodies = well.bodies; roomy = well.roomy; bytes = well.bytes; room = well.room };
+        settled = settled;
+        grows = file_stays w.scope;
+      };
+      is_known = record { signature = before; named = e; agrees = agrees_equal before f ruled.agreed };
+    }
+
+    module _ (d : i.Function) (result : Option CType) (parameters : List Variable) (form : FitsForm d result parameters) (known : Option Signature) (found : function_named w.scope.functions d.name.name ≡ known) where
+      abbrev signature : Signature
+      signature = signature_of d result parameters
+
+      abbrev with_it : Walk
+      with_it = record w { scope = with_function known signature w.scope }
+
+      abbrev IsPassed : Walk → Type 0
+      IsPassed v = Passed w (is_main_function d) v
+
+      declared_so : IsRuled known signature → IsDeclared signature
+      declared_so ruled = record { few = omega (arith, form.few, length-map parameters (λ (p : Variable). p.type)); scalars = scalars_all signature.parameters ruled.scalars; result = result_scalar result ruled.scalar; numbers = form.numbers; number_result = form.number_result }
+
+      is_declared : IsRuled known signature → Declares known signature
+      is_declared ruled = declares known signature found ruled (declared_so ruled)
+
+      main_known : IsKnownAs with_it.scope signature → is_main_function d ≡ true → HasMain with_it.scope
+      main_known it_is main =
+          let it = main_form d main in
+          let name = bytes_equal d.name.name (codes "main") it.name in
+          record {
+            signature = it_is.signature;
+            named = subst (λ x. function_named with_it.scope.functions x ≡ Some it_is.signature) name it_is.named;
+            trusted = ap is_tainted it_is.agrees.kind ∙ it.trusted;
+            none = it_is.agrees.parameters ∙ ap (λ (ps : List Variable). map (λ (p : Variable). p.type) ps) (form.none main);
+            int = it_is.agrees.result ∙ form.int_result main;
+          }
+
+      -- with a body more
+      with_body : IsRuled known signature → (x : core.Statements × Scope) → IsWalkedBody (inside signature parameters with_it.scope) x → IsPassed (record with_it { bodies = with_it.bodies ++ core_function signature parameters x.0 x.1 ∷ [] })
+      with_body ruled x walked =
+          let it = is_declared ruled in
+          let body = function_body_typed with_it.scope signature parameters x refl it.is_known (scalars_all signature.parameters ruled.scalars) (result_scalar result ruled.scalar) form.few walked in
+          let well' = it.follows.well in
+          record {
+            follows = record {
+              well = record { few = well'.few; scalars = well'.scalars; start = well'.start; declared = well'.declared; bodies = all_append (IsBody height with_it.scope) with_it.bodies (core_function signature parameters x.0 x.1) well'.bodies body; roomy = well'.roomy; bytes = well'.bytes; room = well'.room };
+              settled = it.follows.settled;
+              grows = it.follows.grows;
+            };
+            main = main_known it.is_known;
+          }
+
+      -- all functions that are known have few parameters
+      have_few : HaveFew with_it.scope
+      have_few = by known
+        where
+          few_of : (functions : List Signature) → AllByRecursion IsDeclared functions → AllByRecursion HasFew functions
+          few_of [] all = tt
+          few_of (f ∷ functions) all = (all.0.few, few_of functions all.1)
+
+          by : (o : Option Signature) → HaveFew (with_function o signature w.scope)
+          by None = all_append HasFew w.scope.functions signature (few_of w.scope.functions well.declared) (omega (arith, form.few, length-map parameters (λ (p : Variable). p.type)))
+          by (Some before) = few_of w.scope.functions well.declared
+
+      parameters_keep : (ps : List Variable) (g : Scope) → g.functions ≡ (with_parameters ps g).functions
+      parameters_keep [] g = refl
+      parameters_keep (p ∷ ps) g = parameters_keep ps (with_local p.name p.type g)
+
+      few_inside : HaveFew (inside signature parameters with_it.scope)
+      few_inside = subst (AllByRecursion HasFew) (parameters_keep parameters (record with_it.scope { locals = []; visible = []; result = result; in_loop = false })) have_few
+
+      body_promises : (at : Places) (body : Option i.Body) → (optional_body_reach body).height ≤ height → Promises (λ (x : Walk). IsRuled known signature → IsPassed x) (function_body at with_it signature parameters body)
+      body_promises at None low = λ ruled. let it = is_declared ruled in record { follows = it.follows; main = main_known it.is_known }
+      body_promises at (Some body) low =
+          let higher = around_higher body.span.from (statements_reach body.statements) in
+          passing_promises (IsWalkedBody (inside signature parameters with_it.scope)) (λ (x : Walk). IsRuled known signature → IsPassed x) (statements at (inside signature parameters with_it.scope) body.statements) _ (body_walked at (inside signature parameters with_it.scope) body.statements few_inside (omega arith))
+          (λ x walked. needs_promises (λ (x : Walk). IsRuled known signature → IsPassed x) (not (is_unchecked body.mark || with_it.scope.is_off)) E15 body.span _ (λ on ruled. with_body ruled x walked))
+
+      declaration_promises : (at : Places) (all : List Item) → (optional_body_reach d.body).height ≤ height → Promises IsPassed (passing (function_body at with_it signature parameters d.body) (λ x. function_rules all d signature known x))
+      declaration_promises at all low =
+          passing_promises (λ (x : Walk). IsRuled known signature → IsPassed x) IsPassed (function_body at with_it signature parameters d.body) _ (body_promises at d.body low) (λ x h. ruled_promises IsPassed all d signature known x h)
+
+    -- what the form says of the result and of the parameters
+    abbrev ResultFits : i.Function → Option CType → Type 0
+    ResultFits d result = (is_tainted d.kind ≡ true → IsNumberResult result) × (is_main_function d ≡ true → result ≡ Some Int)
+
+    abbrev ParametersFit : i.Function → List Variable → Type 0
+    ParametersFit d parameters = (is_tainted d.kind ≡ true → AllByRecursion HasNumber parameters) × ((is_main_function d ≡ true → parameters ≡ []) × (length parameters ≤ 16))
+
+    result_fits : (d : i.Function) → built_function d ≡ true → Promises (ResultFits d) (result_type w.scope d.result d.stars)
+    result_fits d built =
+        let v = result_type w.scope d.result d.stars in
+        both_promise (λ (o : Option CType). is_tainted d.kind ≡ true → IsNumberResult o) (λ (o : Option CType). is_main_function d ≡ true → o ≡ Some Int) v
+        (later_promises (is_tainted d.kind ≡ true) IsNumberResult v (λ tainted. number_result w.scope d.result d.stars (crossing d built tainted).result))
+        (later_promises (is_main_function d ≡ true) (λ (o : Option CType). o ≡ Some Int) v (λ main. int_result w.scope d.result d.stars (main_form d main).int))
+
+    parameters_fit : (d : i.Function) → built_function d ≡ true → Promises (ParametersFit d) (parameter_types w.scope (listed d.parameters) [])
+    parameters_fit d built =
+        let v = parameter_types w.scope (listed d.parameters) [] in
+        both_promise (λ (ps : List Variable). is_tainted d.kind ≡ true → AllByRecursion HasNumber ps) (λ (ps : List Variable). (is_main_function d ≡ true → ps ≡ []) × (length ps ≤ 16)) v
+        (later_promises (is_tainted d.kind ≡ true) (AllByRecursion HasNumber) v (λ tainted. number_parameters w.scope (listed d.parameters) [] (listed_numbers d.parameters (crossing d built tainted).parameters) tt))
+        (both_promise (λ (ps : List Variable). is_main_function d ≡ true → ps ≡ []) (λ (ps : List Variable). length ps ≤ 16) v
+        (later_promises (is_main_function d ≡ true) (λ (ps : List Variable). ps ≡ []) v (λ main. none_listed w.scope d.parameters (main_form d main).nothing))
+        (few_parameters w.scope (listed d.parameters) [] (omega arith)))
+
+    function_promises : (at : Places) (all : List Item) (d : i.Function) → built_function d ≡ true → (optional_body_reach d.body).height ≤ height → Promises (Passed w (is_main_function d)) (function at all w d)
+    function_promises at all d built low =
+        needs_promises (Passed w (is_main_function d)) (is_some (function_named w.scope.functions d.name.name) || nat_lt (length w.scope.functions) 4096) E08 d.span _
+        (λ few. passing_promises (ResultFits d) (Passed w (is_main_function d)) (result_type w.scope d.result d.stars) _ (result_fits d built)
+        (λ result hr. passing_promises (ParametersFit d) (Passed w (is_main_function d)) (parameter_types w.scope (listed d.parameters) []) _ (parameters_fit d built)
+        (λ parameters hp. declaration_promises d result parameters
+        (record { numbers = λ tainted. number_types parameters (hp.0 tainted); number_result = hr.0; int_result = hr.1; few = hp.1.1; none = hp.1.0 })
+        (function_named w.scope.functions d.name.name) refl at all low)))
+
+    -- ---- items
+
+    no_main : (v : Verdict Walk) → Promises (Follows w) v → Promises (Passed w false) v
+    no_main (Passes v) h = record { follows = h; main = λ e. absurd (cc) }
+    no_main (Stops stop) h = tt
+
+    item_promises : (at : Places) (all : List Item) (x : Item) → built_item x ≡ true → (item_reach x).height ≤ height → Promises (Passed w (is_main x)) (item at all w x)
+    item_promises at all (i.RegionItem region span) built low = record {
+      follows = record {
+        well = record {
+          few = well.few;
+          scalars = well.scalars;
+          start = well.start;
+          declared = well.declared;
+          bodies = bodies_later height w.scope (record w.scope { is_off = items.is_off region }) w.bodies (region_grows region) well.bodies;
+          roomy = well.roomy;
+          bytes = well.bytes;
+          room = well.room;
+        };
+        settled = settled;
+        grows = region_grows region;
+      };
+      main = λ e. absurd (cc);
+    }
+      where
+        region_grows : (region : Region) → FileGrows w.scope (record w.scope { is_off = items.is_off region })
+        region_grows region = record { structs = λ k x h. h; variables = λ k x h. h; functions = λ name f h. h; numbers = λ side name f h. refl }
+    item_promises at all (i.StructureItem d) built low = no_main (structure w d) (structure_promises w d well settled)
+    item_promises at all (i.GlobalItem d) built low = no_main (global at w d) (global_promises at w d well settled)
+    item_promises at all (i.FunctionItem d) built low = function_promises at all d built (let last = beside_second (result_reach d.result beside parameters_reach d.parameters beside optional_bounds_reach d.bounds) (optional_body_reach d.body) in omega arith)
+
+  -- behind one item and others
+  further_passed : (w v u : Walk) (first rest : Bool) → Passed w first v → Passed v rest u → Passed w (first || rest) u
+  further_passed w v u first rest h h' = record {
+    follows = record { well = h'.follows.well; settled = h'.follows.settled; grows = file_further w.scope v.scope u.scope h.follows.grows h'.follows.grows };
+    main = λ e. ⊎_elim (λ one. main_later v.scope u.scope h'.follows.grows (h.main one)) h'.main (or_cases first rest e);
+  }
+
+  pub items_promise : (at : Places) (all : List Item) (w : Walk) (xs : List Item) → list_all built_item xs ≡ true → (items_reach xs).height ≤ height → IsWell height w → AreSettled w.scope.structs w.scope.variables w.objects → Promises (Passed w (list_any is_main xs)) (items.items at all w xs)
+  items_promise at all w [] built low well settled = record { follows = record { well = well; settled = settled; grows = file_stays w.scope }; main = λ e. absurd (cc) }
+  items_promise at all w (x ∷ xs) built low well settled =
+      let one = beside_first (item_reach x) (items_reach xs) in
+      let two = beside_second (item_reach x) (items_reach xs) in
+      let parts = and_parts (built_item x) (list_all built_item xs) built in
+      passing_promises (Passed w (is_main x)) (Passed w (list_any is_main (x ∷ xs))) (item at all w x) _ (item_promises w well settled at all x parts.0 (omega arith))
+      (λ v h. promised_so (Passed v (list_any is_main xs)) (Passed w (list_any is_main (x ∷ xs))) (items.items at all v xs) (items_promise at all v xs parts.1 (omega arith) h.follows.well h.follows.settled)
+      (λ u h'. further_passed w v u (is_main x) (list_any is_main xs) h h'))

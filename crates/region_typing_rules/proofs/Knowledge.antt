@@ -1,0 +1,214 @@
+-- What a walk knows of the program that it leads to, and what names stand for there.
+use Rattle.std.proofs.Common.{◌≡◌, ℕ, zero, suc, ◌+◌, ◌≤◌, Bool, true, false, List, [], ◌∷◌, take, length, Option, Some, None, refl, ap, subst, arith}
+use Rattle.std.specs.Prelude.{bytes_eq, slice_get, not, ◌&&◌}
+use Rattle.std.proofs.lemmas.Bool.{eqb-true, and_parts}
+use Rattle.std.specs.List.{AllByRecursion}
+use Rattle.ckc_text.specs.declared.place.Span.{Span}
+use Rattle.ckc_text.specs.declared.code.Code.TheVariants.{E24}
+use Rattle.pointer_modes.specs.declared.ctype.Mode.{Mode}
+use Rattle.pointer_modes.specs.declared.ctype.Mode.TheVariants as modes
+use Rattle.pointer_modes.specs.declared.ctype.Kind.{Kind}
+use Rattle.pointer_modes.specs.declared.ctype.Kind.TheVariants as kinds
+use Rattle.pointer_modes.specs.Types.{CType, Int, Char, Struct, Pointer, Member, Structure, members_of}
+use Rattle.pointer_modes.specs.Layout.{placed_from, member_sizes, cells_of, aligned_up, scalar_size}
+use Rattle.ckc_names_rules.specs.Scopes.{null}
+use Rattle.ckc_core.specs.Core as core
+use Rattle.ckc_core.specs.States.{same_mode, same_kind, same_type}
+use Rattle.region_typing_rules.specs.Verdicts.{Verdict, meant, picked}
+use Rattle.region_typing_rules.specs.Scopes.{Scope, Signature, Variable, Visible, Named, Local, Object, Nothing, local_if, found_if, local_named, object_named, or_else, null_named, named, function_named}
+use Rattle.region_typing_rules.specs.Types.{is_number}
+use Rattle.region_typing_rules.specs.Expressions.{Typed, is_checked_argument, without_checked, crossing, is_import, side_number, member_from, offset_among}
+use Rattle.region_typing_rules.specs.Typed.{Frame, slots_from, slots, IsPlace, IsScalar, IsScalarResult}
+use Rattle.region_typing_rules.proofs.Verdicts.{Promises, needs_promises, Extends}
+
+abbrev pub IsNumberType : CType → Type 0
+IsNumberType t = is_number t ≡ true
+
+abbrev pub IsNumberResult : Option CType → Type 0
+IsNumberResult None = Unit {0}
+IsNumberResult (Some t) = IsNumberType t
+
+-- a trusted function of the program, as it was declared
+pub record IsTrusted (g : Frame) (number : ℕ) (f : Signature) : Type 0 where
+  pub function : core.Function
+  pub found : slice_get g.program.functions number ≡ Some function
+  pub parameters : take function.parameters function.locals ≡ f.parameters
+  pub result : function.result ≡ f.result
+  pub scalar : IsScalarResult f.result
+
+-- a tainted one, which takes and gives numbers
+pub record IsTainted (g : Frame) (number : ℕ) (f : Signature) : Type 0 where
+  pub import : core.Import
+  pub found : slice_get g.program.imports number ≡ Some import
+  pub parameters : import.parameters ≡ length f.parameters
+  pub result : import.result ≡ f.result
+  pub numbers : AllByRecursion IsNumberType f.parameters
+  pub number_result : IsNumberResult f.result
+
+-- the structs, the variables and the functions that are known are those of the program
+pub record KnowsFile (g : Frame) (s : Scope) : Type 0 where
+  pub structs : Extends s.structs g.structs
+  pub few_members : (n : ℕ) → length (members_of s.structs n) ≤ 64
+  pub scalar_members : (n : ℕ) → AllByRecursion (λ m. IsScalar m.ctype) (members_of s.structs n)
+  pub variables : (k : ℕ) (v : Variable) → slice_get s.variables k ≡ Some v → IsPlace g v.type k 0
+  pub trusted : (name : List ℕ) (f : Signature) → function_named s.functions name ≡ Some f → is_import f ≡ false → IsTrusted g (side_number false s.functions f.name 0) f
+  pub tainted : (name : List ℕ) (f : Signature) → function_named s.functions name ≡ Some f → is_import f ≡ true → IsTainted g (side_number true s.functions f.name 0) f
+
+-- and so are the locals of the function that is walked
+pub record Knows (g : Frame) (types : List CType) (s : Scope) : Type 0 where
+  pub file : KnowsFile g s
+  pub locals : Extends s.locals types
+  pub scalar : AllByRecursion IsScalar types
+
+-- ---- types
+
+mode_equal : (a b : Mode) → same_mode a b ≡ true → a ≡ b
+mode_equal modes.Checked modes.Checked h = refl
+mode_equal modes.Checked modes.Tainted h = absurd (cc)
+mode_equal modes.Checked modes.Raw h = absurd (cc)
+mode_equal modes.Tainted modes.Checked h = absurd (cc)
+mode_equal modes.Tainted modes.Tainted h = refl
+mode_equal modes.Tainted modes.Raw h = absurd (cc)
+mode_equal modes.Raw modes.Checked h = absurd (cc)
+mode_equal modes.Raw modes.Tainted h = absurd (cc)
+mode_equal modes.Raw modes.Raw h = refl
+
+kind_equal : (a b : Kind) → same_kind a b ≡ true → a ≡ b
+kind_equal kinds.One kinds.One h = refl
+kind_equal kinds.One kinds.Array h = absurd (cc)
+kind_equal kinds.One kinds.Nt h = absurd (cc)
+kind_equal kinds.Array kinds.One h = absurd (cc)
+kind_equal kinds.Array kinds.Array h = refl
+kind_equal kinds.Array kinds.Nt h = absurd (cc)
+kind_equal kinds.Nt kinds.One h = absurd (cc)
+kind_equal kinds.Nt kinds.Array h = absurd (cc)
+kind_equal kinds.Nt kinds.Nt h = refl
+
+pub same_equal : (a b : CType) → same_type a b ≡ true → a ≡ b
+same_equal Int Int h = refl
+same_equal Int Char h = absurd (cc)
+same_equal Int (Struct n) h = absurd (cc)
+same_equal Int (Pointer m k t) h = absurd (cc)
+same_equal Char Int h = absurd (cc)
+same_equal Char Char h = refl
+same_equal Char (Struct n) h = absurd (cc)
+same_equal Char (Pointer m k t) h = absurd (cc)
+same_equal (Struct n) Int h = absurd (cc)
+same_equal (Struct n) Char h = absurd (cc)
+same_equal (Struct n) (Struct n') h = ap Struct (eqb-true n n' h)
+same_equal (Struct n) (Pointer m k t) h = absurd (cc)
+same_equal (Pointer m k t) Int h = absurd (cc)
+same_equal (Pointer m k t) Char h = absurd (cc)
+same_equal (Pointer m k t) (Struct n) h = absurd (cc)
+same_equal (Pointer m k t) (Pointer m' k' t') h =
+    let first = and_parts (same_mode m m') (same_kind k k' && same_type t t') h in
+    let second = and_parts (same_kind k k') (same_type t t') first.1 in
+    let a = mode_equal m m' first.0 in
+    let b = kind_equal k k' second.0 in
+    let c = same_equal t t' second.1 in
+    cc
+
+-- ---- what crosses the boundary
+
+without_checked_promises : {A : Type 0} (Q : A → Type 0) (arguments : List (Typed × Span)) (next : Verdict A) → Promises Q next → Promises Q (without_checked arguments next)
+without_checked_promises Q [] next h = h
+without_checked_promises Q (argument ∷ arguments) next h =
+    needs_promises Q (not (is_checked_argument argument.0)) E24 argument.1 (without_checked arguments next) (λ yes. without_checked_promises Q arguments next h)
+
+pub crossing_promises : {A : Type 0} (Q : A → Type 0) (tainted : Bool) (arguments : List (Typed × Span)) (next : Verdict A) → Promises Q next → Promises Q (crossing tainted arguments next)
+crossing_promises Q true arguments next h = without_checked_promises Q arguments next h
+crossing_promises Q false arguments next h = h
+
+-- ---- names
+
+-- what a name stands for is there
+abbrev pub StandsFor : Frame → List CType → Named → Type 0
+StandsFor g types (Local k t) = slice_get types k ≡ Some t
+StandsFor g types (Object k t) = IsPlace g t k 0
+StandsFor g types Nothing = Unit {0}
+
+abbrev IfNamed : Frame → List CType → Option Named → Type 0
+IfNamed g types None = Unit {0}
+IfNamed g types (Some n) = StandsFor g types n
+
+module _ (g : Frame) (types : List CType) where
+  found_stands : (test : Bool) (this other : Option Named) → IfNamed g types this → IfNamed g types other → IfNamed g types (found_if test this other)
+  found_stands true this other h h' = h
+  found_stands false this other h h' = h'
+
+  local_stands : (o : Option CType) (k : ℕ) → ((t : CType) → o ≡ Some t → slice_get types k ≡ Some t) → IfNamed g types (local_if o k)
+  local_stands None k h = tt
+  local_stands (Some t) k h = h t refl
+
+  locals_stand : (known : List CType) → Extends known types → (visible : List Visible) (name : List ℕ) → IfNamed g types (local_named known visible name)
+  locals_stand known ext [] name = tt
+  locals_stand known ext (v ∷ visible) name =
+      found_stands (bytes_eq name v.name) (local_if (slice_get known v.local) v.local) (local_named known visible name) (local_stands (slice_get known v.local) v.local (λ t h. ext v.local t h)) (locals_stand known ext visible name)
+
+  objects_stand : (number : ℕ) (variables : List Variable) (name : List ℕ) → ((k : ℕ) (v : Variable) → slice_get variables k ≡ Some v → IsPlace g v.type (number + k) 0) → IfNamed g types (object_named number variables name)
+  objects_stand number [] name h = tt
+  objects_stand number (v ∷ variables) name h =
+      let first : number + 0 ≡ number = omega arith in
+      found_stands (bytes_eq name v.name) (Some (Object number v.type)) (object_named (suc number) variables name) (subst (λ k. IsPlace g v.type k 0) first (h 0 v refl))
+      (objects_stand (suc number) variables name (λ k w e. let same : number + suc k ≡ suc number + k = omega arith in subst (λ j. IsPlace g w.type j 0) same (h (suc k) w e)))
+
+  either_stands : (this other : Option Named) → IfNamed g types this → IfNamed g types other → IfNamed g types (or_else this other)
+  either_stands (Some n) other h h' = h
+  either_stands None other h h' = h'
+
+  meant_stands : (o : Option Named) → IfNamed g types o → Promises (StandsFor g types) (meant o)
+  meant_stands None h = tt
+  meant_stands (Some n) h = h
+
+  pub name_stands : (s : Scope) → Knows g types s → (name : List ℕ) → Promises (StandsFor g types) (named s name)
+  name_stands s knows name =
+      meant_stands (or_else (local_named s.locals s.visible name) (or_else (object_named 0 s.variables name) (null_named name)))
+      (either_stands (local_named s.locals s.visible name) (or_else (object_named 0 s.variables name) (null_named name)) (locals_stand s.locals knows.locals s.visible name)
+      (either_stands (object_named 0 s.variables name) (null_named name)
+      (objects_stand 0 s.variables name (λ k v e. let same : k ≡ 0 + k = omega arith in subst (λ j. IsPlace g v.type j 0) same (knows.file.variables k v e)))
+      (found_stands (bytes_eq name null) (Some Nothing) None tt tt)))
+
+-- ---- members
+
+-- a member of a name: its number among these members
+pub record HasMember (members : List Member) (number : ℕ) (found : ℕ × CType) : Type 0 where
+  pub index : ℕ
+  pub member : Member
+  pub counted : found.0 ≡ number + index
+  pub listed : slice_get members index ≡ Some member
+  pub typed : member.ctype ≡ found.1
+
+abbrev pub IfMember : List Member → ℕ → Option (ℕ × CType) → Type 0
+IfMember members number None = Unit {0}
+IfMember members number (Some found) = HasMember members number found
+
+member_further : (m : Member) (members : List Member) (number : ℕ) (o : Option (ℕ × CType)) → IfMember members (suc number) o → IfMember (m ∷ members) number o
+member_further m members number None h = tt
+member_further m members number (Some found) h = record { index = suc h.index; member = h.member; counted = let e = h.counted in omega arith; listed = h.listed; typed = h.typed }
+
+member_picked : (m : Member) (members : List Member) (number : ℕ) (test : Bool) (o : Option (ℕ × CType)) → IfMember (m ∷ members) number o → IfMember (m ∷ members) number (picked test (Some (number, m.ctype)) o)
+member_picked m members number true o h = record { index = 0; member = m; counted = omega arith; listed = refl; typed = refl }
+member_picked m members number false o h = h
+
+pub member_there : (number : ℕ) (members : List Member) (name : List ℕ) → IfMember members number (member_from number members name)
+member_there number [] name = tt
+member_there number (m ∷ members) name =
+    member_picked m members number (bytes_eq name m.name) (member_from (suc number) members name) (member_further m members number (member_from (suc number) members name) (member_there (suc number) members name))
+
+slot_there : (members : List Member) (place k : ℕ) (m : Member) → slice_get members k ≡ Some m → slice_get (slots_from members (placed_from place (member_sizes members))) k ≡ Some (record { type = m.ctype; offset = offset_among (placed_from place (member_sizes members)) k })
+slot_there [] place k m h = absurd (cc)
+slot_there (x ∷ members) place zero m h = let e : x ≡ m = cc in ap (λ (y : Member). Some (record { type = y.ctype; offset = aligned_up (scalar_size x.ctype) place })) e
+slot_there (x ∷ members) place (suc k) m h = slot_there members (aligned_up (scalar_size x.ctype) place + scalar_size x.ctype) k m h
+
+-- the members of a struct that is known are those of the program's
+pub members_same : (g : Frame) (s : Scope) → KnowsFile g s → (n k : ℕ) (m : Member) → slice_get (members_of s.structs n) k ≡ Some m → members_of s.structs n ≡ members_of g.structs n
+members_same g s knows n k m h = by (slice_get s.structs n) refl
+  where
+    by : (o : Option Structure) → slice_get s.structs n ≡ o → members_of s.structs n ≡ members_of g.structs n
+    by None e = let none = rw e at h in absurd (cc)
+    by (Some x) e = let e' = knows.structs n x e in rw (e, e') refl
+
+pub member_slot : (g : Frame) (s : Scope) → KnowsFile g s → (n k : ℕ) (m : Member) → slice_get (members_of s.structs n) k ≡ Some m → slice_get (slots g.structs (Struct n)) k ≡ Some (record { type = m.ctype; offset = offset_among (cells_of s.structs (Struct n)) k })
+member_slot g s knows n k m h =
+    let same = members_same g s knows n k m h in
+    subst (λ members. slice_get (slots_from members (placed_from 0 (member_sizes members))) k ≡ Some (record { type = m.ctype; offset = offset_among (cells_of s.structs (Struct n)) k })) same (slot_there (members_of s.structs n) 0 k m h)

@@ -1,0 +1,221 @@
+-- How the scopes of naming and of the rules agree: what naming finds is known in the rules.
+use Rattle.std.proofs.Common.{◌≡◌, ℕ, suc, ◌+◌, Bool, true, false, List, [], ◌∷◌, ◌++◌, length, Option, Some, None, refl, ◌∙◌, subst, arith}
+use Rattle.std.specs.Prelude.{◌==◌, ◌||◌, cond, bytes_eq, nat_lt, is_some, position, slice_get}
+use Rattle.std.specs.List.{list_any, position_or_len}
+use Rattle.std.proofs.lemmas.Bool.Decides.{nat_tests}
+use Rattle.ckc_text.specs.declared.code.Code.TheVariants.{E15}
+use Rattle.ckc_tree.specs.declared.identifier.Identifier.{Identifier}
+use Rattle.ckc_tree.specs.Types.{TypeTree, IntType, CharType, StructType, PointerType, TypeName, type_span}
+use Rattle.ckc_names_rules.specs.Mentions.{Use, Call, UseTag, type_mentions}
+use Rattle.ckc_names_rules.specs.Scopes.{Meaning, Variable, Block, Scopes, visible, is_among, predefined, null, with_entry, standing_for, is_value, is_function}
+use Rattle.pointer_modes.specs.Types.{CType}
+use Rattle.region_typing_rules.specs.Verdicts.{passing, meant}
+use Rattle.region_typing_rules.specs.Scopes.{Scope, Visible, Named, local_if, found_if, local_named, object_named, or_else, null_named, named, function_named, struct_named}
+use Rattle.region_typing_rules.specs.Types.{without_stars, base_type, type_named}
+use Rattle.region_typing_rules.specs.Statements.{with_local, behind_block, in_loop}
+use Rattle.region_typing_rules.proofs.Verdicts.{Extends, extends_append, extends_last}
+use Rattle.region_typing_rules.proofs.NamedVerdicts.{AllNamed, Any, then_named, needs_named}
+use Rattle.region_typing_rules.proofs.NamedMentions.{not_refused, IsFound, AreFound, opened}
+
+-- ---- options and lists
+
+pub meant_some : {A : Type 0} (o : Option A) → is_some o ≡ true → AllNamed (meant o)
+meant_some None h = absurd (cc)
+meant_some (Some x) h = tt
+
+pub first_some : (a b : Option Named) → is_some a ≡ true → is_some (or_else a b) ≡ true
+first_some None b h = absurd (cc)
+first_some (Some x) b h = refl
+
+pub second_some : (a b : Option Named) → is_some b ≡ true → is_some (or_else a b) ≡ true
+second_some None b h = h
+second_some (Some x) b h = refl
+
+either_some : (a a' b b' : Option Named) → (is_some a ≡ true → is_some a' ≡ true) → (is_some b ≡ true → is_some b' ≡ true) → is_some (or_else a b) ≡ true → is_some (or_else a' b') ≡ true
+either_some None a' b b' f g h = second_some a' b' (g h)
+either_some (Some x) a' b b' f g h = first_some a' b' (f refl)
+
+-- a name is found among others where one of them is it
+some_cond : (b : Bool) (n : ℕ) → is_some (cond b (Some n) None) ≡ b
+some_cond true n = refl
+some_cond false n = refl
+
+one_more : (k n : ℕ) → nat_lt (1 + k) (suc n) ≡ nat_lt k n
+one_more k n = grind (arith, nat_tests)
+
+within_any : {X : Type 0} (p : X → Bool) (xs : List X) → nat_lt (position_or_len p xs) (length xs) ≡ list_any p xs
+within_any p [] = refl
+within_any p (x ∷ xs) = by (p x) refl (within_any p xs)
+  where
+    by : (b : Bool) → p x ≡ b → nat_lt (position_or_len p xs) (length xs) ≡ list_any p xs → nat_lt (position_or_len p (x ∷ xs)) (length (x ∷ xs)) ≡ list_any p (x ∷ xs)
+    by true e rest = rw e (grind (arith, nat_tests))
+    by false e rest = rw e (one_more (position_or_len p xs) (length xs) ∙ rest)
+
+pub among_any : {X : Type 0} (p : X → Bool) (xs : List X) → is_some (position p xs) ≡ list_any p xs
+among_any p xs = some_cond (nat_lt (position_or_len p xs) (length xs)) (position_or_len p xs) ∙ within_any p xs
+
+-- ---- agreement
+
+-- a name stands for a local or for a file-level variable
+abbrev pub IsKnown : Scope → List ℕ → Type 0
+IsKnown g x = is_some (or_else (local_named g.locals g.visible x) (object_named 0 g.variables x)) ≡ true
+
+-- what naming finds is known in the rules: a variable, or a name that comes, as a local or a file-level variable, a function as
+-- a function, and a tag as a struct
+pub record Agrees (n : Scopes) (g : Scope) : Type 0 where
+  pub value : (x : List ℕ) → is_value (visible n.blocks x) ≡ true → IsKnown g x
+  pub function : (x : List ℕ) → is_function (visible n.blocks x) ≡ true → is_some (function_named g.functions x) ≡ true
+  pub tag : (x : List ℕ) → is_among n.tags x ≡ true → is_some (struct_named g x) ≡ true
+
+-- the same at file level, where no local is visible
+pub record AgreesFile (n : Scopes) (g : Scope) : Type 0 where
+  pub value : (x : List ℕ) → is_value (visible n.blocks x) ≡ true → is_some (object_named 0 g.variables x) ≡ true
+  pub function : (x : List ℕ) → is_function (visible n.blocks x) ≡ true → is_some (function_named g.functions x) ≡ true
+  pub tag : (x : List ℕ) → is_among n.tags x ≡ true → is_some (struct_named g x) ≡ true
+
+pub file_agrees : (n : Scopes) (g : Scope) → AgreesFile n g → Agrees n g
+file_agrees n g h = record { value = λ x v. second_some (local_named g.locals g.visible x) (object_named 0 g.variables x) (h.value x v); function = h.function; tag = h.tag }
+
+pub opened_agrees : (n : Scopes) (g : Scope) → Agrees n g → Agrees (opened n) g
+opened_agrees n g h = record { value = h.value; function = h.function; tag = h.tag }
+
+pub loop_agrees : (n : Scopes) (g : Scope) → Agrees n g → Agrees n (in_loop g)
+loop_agrees n g h = record { value = h.value; function = h.function; tag = h.tag }
+
+-- ---- scopes that were entered since
+
+pub record Later (a b : Scope) : Type 0 where
+  pub tags : a.tags ≡ b.tags
+  pub functions : a.functions ≡ b.functions
+  pub variables : a.variables ≡ b.variables
+  pub locals : Extends a.locals b.locals
+
+pub later_same : (g : Scope) → Later g g
+later_same g = record { tags = refl; functions = refl; variables = refl; locals = λ k x h. h }
+
+pub later_further : (a b c : Scope) → Later a b → Later b c → Later a c
+later_further a b c h h' = record { tags = h.tags ∙ h'.tags; functions = h.functions ∙ h'.functions; variables = h.variables ∙ h'.variables; locals = λ k x e. h'.locals k x (h.locals k x e) }
+
+pub later_block : (g after : Scope) → Later g after → Later g (behind_block g after)
+later_block g after h = record { tags = h.tags; functions = h.functions; variables = h.variables; locals = h.locals }
+
+pub later_loop : (g after : Scope) → Later (in_loop g) after → Later g after
+later_loop g after h = record { tags = h.tags; functions = h.functions; variables = h.variables; locals = h.locals }
+
+pub later_local : (name : List ℕ) (t : CType) (g : Scope) → Later g (with_local name t g)
+later_local name t g = record { tags = refl; functions = refl; variables = refl; locals = extends_append g.locals (t ∷ []) }
+
+type_some : (o : Option CType) (k : ℕ) → is_some (local_if o k) ≡ true → (t : CType) × (o ≡ Some t)
+type_some None k h = absurd (cc)
+type_some (Some t) k h = (t, refl)
+
+pub local_later : (types types' : List CType) (seen : List Visible) (x : List ℕ) → Extends types types' → is_some (local_named types seen x) ≡ true → is_some (local_named types' seen x) ≡ true
+local_later types types' [] x ext h = absurd (cc)
+local_later types types' (v ∷ seen) x ext h = by (bytes_eq x v.name) h (λ h'. local_later types types' seen x ext h')
+  where
+    by : (b : Bool) → is_some (found_if b (local_if (slice_get types v.local) v.local) (local_named types seen x)) ≡ true → (is_some (local_named types seen x) ≡ true → is_some (local_named types' seen x) ≡ true)
+        → is_some (found_if b (local_if (slice_get types' v.local) v.local) (local_named types' seen x)) ≡ true
+    by true h' again = let t = type_some (slice_get types v.local) v.local h' in rw (ext v.local t.0 t.1) refl
+    by false h' again = again h'
+
+-- behind a block what was known is known
+pub behind_agrees : (n : Scopes) (g after : Scope) → Agrees n g → Later g after → Agrees n (behind_block g after)
+behind_agrees n g after h later = record {
+  value = λ x v. either_some (local_named g.locals g.visible x) (local_named after.locals g.visible x) (object_named 0 g.variables x) (object_named 0 after.variables x)
+      (local_later g.locals after.locals g.visible x later.locals) (λ o. subst (λ vs. is_some (object_named 0 vs x) ≡ true) later.variables o) (h.value x v);
+  function = λ x f. subst (λ fs. is_some (function_named fs x) ≡ true) later.functions (h.function x f);
+  tag = λ x t. subst (λ ts. is_some (position (bytes_eq x) ts) ≡ true) later.tags (h.tag x t);
+}
+
+-- ---- a local more
+
+-- what is found behind a new entry of the innermost block: its name, or what was found before
+pub entry_value : (name : List ℕ) (meaning : Meaning) (blocks : List Block) (x : List ℕ) → bytes_eq x name ≡ false → visible (with_entry name meaning blocks) x ≡ visible blocks x
+entry_value name meaning [] x e = refl
+entry_value name meaning (block ∷ blocks) x e = rw e refl
+
+-- what isn't so of the new entry was so before
+pub entry_without : (test : Option Meaning → Bool) (name : List ℕ) (meaning : Meaning) → test (Some meaning) ≡ false → (blocks : List Block) (x : List ℕ) → test (visible (with_entry name meaning blocks) x) ≡ true → test (visible blocks x) ≡ true
+entry_without test name meaning other blocks x h = by (bytes_eq x name) refl blocks h
+  where
+    by : (b : Bool) → bytes_eq x name ≡ b → (blocks : List Block) → test (visible (with_entry name meaning blocks) x) ≡ true → test (visible blocks x) ≡ true
+    by false e blocks h' = subst (λ o. test o ≡ true) (entry_value name meaning blocks x e) h'
+    by true e [] h' = h'
+    by true e (block ∷ blocks) h' = let now : test (Some meaning) ≡ true = rw e at h' in absurd (cc)
+
+pub local_agrees : (name : Identifier) (t : CType) (n : Scopes) (g : Scope) → Agrees n g → Agrees (standing_for name Variable n) (with_local name.name t g)
+local_agrees name t n g h = record {
+  value = λ x v. by x (bytes_eq x name.name) refl v;
+  function = λ x f. h.function x (entry_without is_function name.name Variable refl n.blocks x f);
+  tag = h.tag;
+}
+  where
+    by : (x : List ℕ) (b : Bool) → bytes_eq x name.name ≡ b → is_value (visible (with_entry name.name Variable n.blocks) x) ≡ true → IsKnown (with_local name.name t g) x
+    by x true e v = rw (e, extends_last g.locals t) refl
+    by x false e v =
+        let before : IsKnown g x = h.value x (subst (λ o. is_value o ≡ true) (entry_value name.name Variable n.blocks x e) v) in
+        rw e (either_some (local_named g.locals g.visible x) (local_named (g.locals ++ t ∷ []) g.visible x) (object_named 0 g.variables x) (object_named 0 g.variables x)
+        (local_later g.locals (g.locals ++ t ∷ []) g.visible x (extends_append g.locals (t ∷ []))) (λ o. o) before)
+
+-- ---- what was found
+
+use_value : (n : Scopes) (name : Identifier) → IsFound n (Use name) → (bytes_eq name.name null || is_value (visible n.blocks name.name)) ≡ true
+use_value n name h = by (bytes_eq name.name null || is_value (visible n.blocks name.name)) refl
+  where
+    by : (b : Bool) → (bytes_eq name.name null || is_value (visible n.blocks name.name)) ≡ b → b ≡ true
+    by true e = refl
+    by false e = let refused = (not_refused _ _ name n n h).0 in let no : true ≡ false = rw e at refused in absurd (cc)
+
+pub call_function : (n : Scopes) (name : Identifier) → IsFound n (Call name) → (is_among predefined name.name || is_function (visible n.blocks name.name)) ≡ true
+call_function n name h = by (is_among predefined name.name || is_function (visible n.blocks name.name)) refl
+  where
+    by : (b : Bool) → (is_among predefined name.name || is_function (visible n.blocks name.name)) ≡ b → b ≡ true
+    by true e = refl
+    by false e = let refused = (not_refused _ _ name n n h).0 in let no : true ≡ false = rw e at refused in absurd (cc)
+
+tag_among : (n : Scopes) (name : Identifier) → IsFound n (UseTag name) → is_among n.tags name.name ≡ true
+tag_among n name h = by (is_among n.tags name.name) refl
+  where
+    by : (b : Bool) → is_among n.tags name.name ≡ b → b ≡ true
+    by true e = refl
+    by false e = let refused = (not_refused _ _ name n n h).0 in let no : true ≡ false = rw e at refused in absurd (cc)
+
+pub name_meant : (n : Scopes) (g : Scope) → Agrees n g → (name : Identifier) → IsFound n (Use name) → AllNamed (named g name.name)
+name_meant n g agrees name h = meant_some _ (by (bytes_eq name.name null) refl (use_value n name h))
+  where
+    by : (b : Bool) → bytes_eq name.name null ≡ b → (b || is_value (visible n.blocks name.name)) ≡ true → is_some (or_else (local_named g.locals g.visible name.name) (or_else (object_named 0 g.variables name.name) (null_named name.name))) ≡ true
+    by true e v = rw e (second_some (local_named g.locals g.visible name.name) _ (second_some (object_named 0 g.variables name.name) _ refl))
+    by false e v = either_some (local_named g.locals g.visible name.name) (local_named g.locals g.visible name.name) (object_named 0 g.variables name.name) _ (λ l. l)
+        (λ o. first_some (object_named 0 g.variables name.name) (null_named name.name) o) (agrees.value name.name v)
+
+-- ---- types
+
+-- the tags of a type are among these
+abbrev pub HasTags : List (List ℕ) → TypeTree → Type 0
+HasTags tags (IntType span) = Unit {0}
+HasTags tags (CharType span) = Unit {0}
+HasTags tags (StructType tag span) = is_among tags tag.name ≡ true
+HasTags tags (PointerType word element stars span) = HasTags tags element
+
+pub found_tags : (n : Scopes) (t : TypeTree) → AreFound n (type_mentions t) → HasTags n.tags t
+found_tags n (IntType span) h = tt
+found_tags n (CharType span) h = tt
+found_tags n (StructType tag span) h = tag_among n tag h.0
+found_tags n (PointerType word element stars span) h = found_tags n element h
+
+pub stars_named : (base : TypeTree) (stars : ℕ) (t : CType) → AllNamed (without_stars base stars t)
+stars_named base stars t = needs_named Any (stars == 0) E15 (type_span base) _ tt
+
+abbrev pub KnowsTags : List (List ℕ) → Scope → Type 0
+KnowsTags tags g = (x : List ℕ) → is_among tags x ≡ true → is_some (struct_named g x) ≡ true
+
+pub base_named : (tags : List (List ℕ)) (g : Scope) → KnowsTags tags g → (t : TypeTree) → HasTags tags t → AllNamed (base_type g t)
+base_named tags g knows (IntType span) h = tt
+base_named tags g knows (CharType span) h = tt
+base_named tags g knows (StructType tag span) h = then_named Any (meant (struct_named g tag.name)) _ (meant_some (struct_named g tag.name) (knows tag.name h)) (λ number. tt)
+base_named tags g knows (PointerType word element stars span) h =
+    then_named Any (passing (base_type g element) (without_stars element stars)) _
+    (then_named Any (base_type g element) (without_stars element stars) (base_named tags g knows element h) (stars_named element stars)) (λ t. tt)
+
+pub type_named_named : (tags : List (List ℕ)) (g : Scope) → KnowsTags tags g → (t : TypeName) → HasTags tags t.base → AllNamed (type_named g t)
+type_named_named tags g knows t h = then_named Any (base_type g t.base) (without_stars t.base t.stars) (base_named tags g knows t.base h) (stars_named t.base t.stars)

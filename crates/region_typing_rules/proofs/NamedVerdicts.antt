@@ -1,0 +1,230 @@
+-- Verdicts that aren't that a name stands for nothing: rules that speak of no name give no other ones.
+use Rattle.std.proofs.Common.{◌≡◌, ℕ, Bool, true, false, List, [], ◌∷◌, length, Option, Some, None, refl}
+use Rattle.std.specs.Prelude.{◌==◌, ◌&&◌, ◌||◌, not}
+use Rattle.ckc_text.specs.declared.place.Span.{Span}
+use Rattle.ckc_text.specs.declared.code.Code.{Code}
+use Rattle.ckc_text.specs.declared.code.Code.TheVariants.{E13, E14, E19, E24}
+use Rattle.ckc_tree.specs.declared.expr.UnaryOperator.{UnaryOperator}
+use Rattle.ckc_tree.specs.declared.expr.UnaryOperator.TheVariants as unary
+use Rattle.ckc_tree.specs.declared.expr.BinaryOperator.{BinaryOperator}
+use Rattle.ckc_tree.specs.declared.expr.BinaryOperator.TheVariants as binary
+use Rattle.ckc_tree.specs.declared.stmt.StoreOperator.{StoreOperator}
+use Rattle.ckc_tree.specs.declared.stmt.StoreOperator.TheVariants as stores
+use Rattle.pointer_modes.specs.Types.{CType, Int, Char, Struct, Pointer, members_of}
+use Rattle.ckc_core.specs.declared.program.Site.{Site}
+use Rattle.ckc_core.specs.declared.program.Operator.{Operator}
+use Rattle.ckc_core.specs.declared.program.Operator.TheVariants as operators
+use Rattle.ckc_core.specs.declared.program.Comparison.{Comparison}
+use Rattle.ckc_core.specs.declared.program.Comparison.TheVariants as comparisons
+use Rattle.ckc_core.specs.Core as core
+use Rattle.region_typing_rules.specs.Verdicts.{Verdict, Passes, Stops, Broken, Nameless, passing, needs}
+use Rattle.region_typing_rules.specs.Scopes.{Scope, Signature}
+use Rattle.region_typing_rules.specs.Types.{is_number, is_pointer, are_comparable, converts}
+use Rattle.region_typing_rules.specs.Expressions.{Places, Lvalue, OfLocal, OfCell, Typed, Value, AStruct, Called, Gives, GivesNothing, number, member_from, member_at, dotted, struct_place, pointed_by, arrowed, pointed_at, dereferenced, address_at, address, number_of, scalar_of, unary_typed, is_pointer_value, two_numbers, two_scalars, summands, equated_values, equated, ordered_values, ordered, arithmetic, binary_typed, indexed, in_type, converted, arguments_as, is_import, is_checked_argument, without_checked, crossing, declared_call, writes, with_result}
+use Rattle.region_typing_rules.specs.Statements.{assigned, updated, stored, returned, returned_nothing}
+
+-- no name stands for nothing, and this is so of the value where no rule is broken
+abbrev pub IsNamed : {A : Type 0} → (A → Type 0) → Verdict A → Type 0
+IsNamed P (Passes value) = P value
+IsNamed P (Stops (Broken fault)) = Unit {0}
+IsNamed P (Stops Nameless) = ⊥
+
+-- the same, where nothing is asked of the value
+abbrev pub AllNamed : {A : Type 0} → Verdict A → Type 0
+AllNamed {A = A} v = IsNamed (λ (x : A). Unit {0}) v
+
+pub passing_named : {A B : Type 0} (P : A → Type 0) (Q : B → Type 0) (v : Verdict A) (next : A → Verdict B) → IsNamed P v → ((x : A) → P x → IsNamed Q (next x)) → IsNamed Q (passing v next)
+passing_named P Q (Passes value) next h more = more value h
+passing_named P Q (Stops (Broken fault)) next h more = tt
+passing_named P Q (Stops Nameless) next h more = h
+
+pub then_named : {A B : Type 0} (Q : B → Type 0) (v : Verdict A) (next : A → Verdict B) → AllNamed v → ((x : A) → IsNamed Q (next x)) → IsNamed Q (passing v next)
+then_named {A = A} Q v next h more = passing_named (λ (x : A). Unit {0}) Q v next h (λ x _. more x)
+
+pub needs_named : {A : Type 0} (Q : A → Type 0) (test : Bool) (code : Code) (span : Span) (next : Verdict A) → IsNamed Q next → IsNamed Q (needs test code span next)
+needs_named Q true code span next h = h
+needs_named Q false code span next h = tt
+
+pub named_so : {A : Type 0} (P Q : A → Type 0) (v : Verdict A) → ((x : A) → P x → Q x) → IsNamed P v → IsNamed Q v
+named_so P Q (Passes value) more h = more value h
+named_so P Q (Stops (Broken fault)) more h = tt
+named_so P Q (Stops Nameless) more h = h
+
+-- what is asked of a value of which nothing is
+abbrev pub Any : {A : Type 0} → A → Type 0
+Any x = Unit {0}
+
+-- ---- expressions
+
+member_named : (s : Scope) (struct : ℕ) (place : core.Place) (name : List ℕ) (site : Site) (span : Span) → AllNamed (member_at s struct place name site span)
+member_named s struct place name site span = by (member_from 0 (members_of s.structs struct) name) refl
+  where
+    by : (o : Option (ℕ × CType)) → member_from 0 (members_of s.structs struct) name ≡ o → AllNamed (member_at s struct place name site span)
+    by None e = rw e tt
+    by (Some m) e = rw e tt
+
+pub dotted_named : (s : Scope) (t : Typed) (name : List ℕ) (site : Site) (span : Span) → AllNamed (dotted s t name site span)
+dotted_named s (Value type zero value place) name site span = tt
+dotted_named s (AStruct number place) name site span = member_named s number (struct_place place site) name site span
+
+pointed_by_named : (s : Scope) (t : CType) (value : core.Expression) (name : List ℕ) (site : Site) (span : Span) → AllNamed (pointed_by s t value name site span)
+pointed_by_named s Int value name site span = tt
+pointed_by_named s Char value name site span = tt
+pointed_by_named s (Struct number) value name site span = tt
+pointed_by_named s (Pointer mode kind Int) value name site span = tt
+pointed_by_named s (Pointer mode kind Char) value name site span = tt
+pointed_by_named s (Pointer mode kind (Struct number)) value name site span = member_named s number (core.Through value 0 0 site) name site span
+pointed_by_named s (Pointer mode kind (Pointer mode' kind' target)) value name site span = tt
+
+pub arrowed_named : (s : Scope) (t : Typed) (name : List ℕ) (site : Site) (span : Span) → AllNamed (arrowed s t name site span)
+arrowed_named s (Value type zero value place) name site span = pointed_by_named s type value name site span
+arrowed_named s (AStruct number place) name site span = tt
+
+pointed_at_named : (t : CType) (value : core.Expression) (site : Site) (span : Span) → AllNamed (pointed_at t value site span)
+pointed_at_named Int value site span = tt
+pointed_at_named Char value site span = tt
+pointed_at_named (Struct number) value site span = tt
+pointed_at_named (Pointer mode kind target) value site span = tt
+
+dereferenced_named : (t : Typed) (site : Site) (span : Span) → AllNamed (dereferenced t site span)
+dereferenced_named (Value type zero value place) site span = pointed_at_named type value site span
+dereferenced_named (AStruct number place) site span = tt
+
+address_at_named : (type : CType) (o : Option Lvalue) (site : Site) (span : Span) → AllNamed (address_at type o site span)
+address_at_named type None site span = tt
+address_at_named type (Some (OfLocal local)) site span = tt
+address_at_named type (Some (OfCell place)) site span = tt
+
+address_named : (t : Typed) (site : Site) (span : Span) → AllNamed (address t site span)
+address_named (Value type zero value place) site span = address_at_named type place site span
+address_named (AStruct number place) site span = address_at_named (Struct number) (Some place) site span
+
+number_named : {A : Type 0} (t : Typed) (span : Span) (next : core.Expression → Verdict A) → ((v : core.Expression) → AllNamed (next v)) → AllNamed (number_of t span next)
+number_named (Value type zero value place) span next h = needs_named Any (is_number type) E13 span (next value) (h value)
+number_named (AStruct number place) span next h = tt
+
+pub scalar_named : {A : Type 0} (t : Typed) (span : Span) (next : core.Expression → Verdict A) → ((v : core.Expression) → AllNamed (next v)) → AllNamed (scalar_of t span next)
+scalar_named (Value type zero value place) span next h = h value
+scalar_named (AStruct number place) span next h = tt
+
+pub unary_named : (operator : UnaryOperator) (t : Typed) (site : Site) (span : Span) → AllNamed (unary_typed operator t site span)
+unary_named unary.Deref t site span = dereferenced_named t site span
+unary_named unary.AddressOf t site span = address_named t site span
+unary_named unary.Negate t site span = number_named t span _ (λ v. tt)
+unary_named unary.Not t site span = scalar_named t span _ (λ v. tt)
+unary_named unary.Complement t site span = number_named t span _ (λ v. tt)
+
+numbers_named : {A : Type 0} (a b : Typed) (span : Span) (next : core.Expression → core.Expression → Verdict A) → ((v w : core.Expression) → AllNamed (next v w)) → AllNamed (two_numbers a b span next)
+numbers_named a b span next h = number_named a span _ (λ v. number_named b span _ (λ w. h v w))
+
+scalars_named : {A : Type 0} (a b : Typed) (span : Span) (next : core.Expression → core.Expression → Verdict A) → ((v w : core.Expression) → AllNamed (next v w)) → AllNamed (two_scalars a b span next)
+scalars_named a b span next h = scalar_named a span _ (λ v. scalar_named b span _ (λ w. h v w))
+
+summands_named : {A : Type 0} (a b : Typed) (span : Span) (next : core.Expression → core.Expression → Verdict A) → ((v w : core.Expression) → AllNamed (next v w)) → AllNamed (summands a b span next)
+summands_named a b span next h = needs_named Any (not (is_pointer_value a || is_pointer_value b)) E19 span _ (numbers_named a b span next h)
+
+equated_values_named : (t : CType) (z : Bool) (v : core.Expression) (u : CType) (y : Bool) (w : core.Expression) (span : Span) → AllNamed (equated_values t z v u y w span)
+equated_values_named t z v u y w span = by (is_number t && is_number u) (are_comparable t u) (is_pointer t && y) (is_pointer u && z) refl refl refl refl
+  where
+    by : (numbers same left right : Bool) → (is_number t && is_number u) ≡ numbers → are_comparable t u ≡ same → (is_pointer t && y) ≡ left → (is_pointer u && z) ≡ right → AllNamed (equated_values t z v u y w span)
+    by true same left right e e1 e2 e3 = rw e tt
+    by false true left right e e1 e2 e3 = rw (e, e1) tt
+    by false false true right e e1 e2 e3 = rw (e, e1, e2) tt
+    by false false false true e e1 e2 e3 = rw (e, e1, e2, e3) tt
+    by false false false false e e1 e2 e3 = rw (e, e1, e2, e3) tt
+
+equated_named : (a b : Typed) (span : Span) → AllNamed (equated a b span)
+equated_named (Value t z v p) (Value u y w q) span = equated_values_named t z v u y w span
+equated_named (Value t z v p) (AStruct n q) span = tt
+equated_named (AStruct n p) b span = tt
+
+ordered_values_named : (comparison : Comparison) (t : CType) (v : core.Expression) (u : CType) (w : core.Expression) (span : Span) → AllNamed (ordered_values comparison t v u w span)
+ordered_values_named comparison t v u w span = by (is_number t && is_number u) (are_comparable t u) refl refl
+  where
+    by : (numbers same : Bool) → (is_number t && is_number u) ≡ numbers → are_comparable t u ≡ same → AllNamed (ordered_values comparison t v u w span)
+    by true same e e1 = rw e tt
+    by false true e e1 = rw (e, e1) tt
+    by false false e e1 = rw (e, e1) tt
+
+ordered_named : (comparison : Comparison) (a b : Typed) (span : Span) → AllNamed (ordered comparison a b span)
+ordered_named comparison (Value t z v p) (Value u y w q) span = ordered_values_named comparison t v u w span
+ordered_named comparison (Value t z v p) (AStruct n q) span = tt
+ordered_named comparison (AStruct n p) b span = tt
+
+pub binary_named : (operator : BinaryOperator) (a b : Typed) (site : Site) (span : Span) → AllNamed (binary_typed operator a b site span)
+binary_named binary.Or a b site span = scalars_named a b span _ (λ v w. tt)
+binary_named binary.And a b site span = scalars_named a b span _ (λ v w. tt)
+binary_named binary.BitOr a b site span = numbers_named a b span (arithmetic operators.Or site) (λ v w. tt)
+binary_named binary.BitXor a b site span = numbers_named a b span (arithmetic operators.Xor site) (λ v w. tt)
+binary_named binary.BitAnd a b site span = numbers_named a b span (arithmetic operators.And site) (λ v w. tt)
+binary_named binary.Equal a b site span = then_named Any (equated a b span) number (equated_named a b span) (λ v. tt)
+binary_named binary.NotEqual a b site span = then_named Any (equated a b span) _ (equated_named a b span) (λ v. tt)
+binary_named binary.Less a b site span = ordered_named comparisons.Less a b span
+binary_named binary.LessEqual a b site span = ordered_named comparisons.LessEqual a b span
+binary_named binary.Greater a b site span = ordered_named comparisons.Greater a b span
+binary_named binary.GreaterEqual a b site span = ordered_named comparisons.GreaterEqual a b span
+binary_named binary.ShiftLeft a b site span = numbers_named a b span (arithmetic operators.ShiftLeft site) (λ v w. tt)
+binary_named binary.ShiftRight a b site span = numbers_named a b span (arithmetic operators.ShiftRight site) (λ v w. tt)
+binary_named binary.Add a b site span = summands_named a b span (arithmetic operators.Add site) (λ v w. tt)
+binary_named binary.Subtract a b site span = summands_named a b span (arithmetic operators.Subtract site) (λ v w. tt)
+binary_named binary.Multiply a b site span = numbers_named a b span (arithmetic operators.Multiply site) (λ v w. tt)
+binary_named binary.Divide a b site span = numbers_named a b span (arithmetic operators.Divide site) (λ v w. tt)
+binary_named binary.Remainder a b site span = numbers_named a b span (arithmetic operators.Remainder site) (λ v w. tt)
+
+pub indexed_named : (a b : Typed) (span : Span) → AllNamed (indexed a b span)
+indexed_named (Value t z v p) (Value u y w q) span = needs_named Any (is_pointer t && is_number u) E13 span _ tt
+indexed_named (Value t z v p) (AStruct n q) span = tt
+indexed_named (AStruct n p) b span = tt
+
+pub converted_named : {A : Type 0} (t : Typed) (to : CType) (span : Span) (next : core.Expression → Verdict A) → ((v : core.Expression) → AllNamed (next v)) → AllNamed (converted t to span next)
+converted_named (Value type zero value place) to span next h = needs_named Any (converts type zero to) E13 span _ (h (in_type to (zero && is_number type) value))
+converted_named (AStruct number place) to span next h = tt
+
+-- ---- calls
+
+arguments_named : (ts : List (Typed × Span)) (types : List CType) → AllNamed (arguments_as ts types)
+arguments_named [] types = tt
+arguments_named (t ∷ ts) [] = tt
+arguments_named (t ∷ ts) (type ∷ types) = converted_named t.0 type t.1 _ (λ v. then_named Any (arguments_as ts types) _ (arguments_named ts types) (λ others. tt))
+
+unchecked_named : {A : Type 0} (ts : List (Typed × Span)) (next : Verdict A) → AllNamed next → AllNamed (without_checked ts next)
+unchecked_named [] next h = h
+unchecked_named (t ∷ ts) next h = needs_named Any (not (is_checked_argument t.0)) E24 t.1 _ (unchecked_named ts next h)
+
+crossing_named : {A : Type 0} (tainted : Bool) (ts : List (Typed × Span)) (next : Verdict A) → AllNamed next → AllNamed (crossing tainted ts next)
+crossing_named true ts next h = unchecked_named ts next h
+crossing_named false ts next h = h
+
+pub declared_named : (s : Scope) (f : Signature) (ts : List (Typed × Span)) (site : Site) (span : Span) → AllNamed (declared_call s f ts site span)
+declared_named s f ts site span =
+    needs_named Any (length f.parameters == length ts) E14 span _ (crossing_named (is_import f) ts _ (then_named Any (arguments_as ts f.parameters) _ (arguments_named ts f.parameters) (λ values. tt)))
+
+pub writes_named : (of : core.Expression → core.Statement) (ts : List (Typed × Span)) (span : Span) → AllNamed (writes of ts span)
+writes_named of ts span = needs_named Any (length ts == 1) E14 span _ (then_named Any (arguments_as ts (Int ∷ [])) _ (arguments_named ts (Int ∷ [])) (λ values. tt))
+
+pub result_named : (c : Called) (span : Span) → AllNamed (with_result c span)
+result_named (Gives type value) span = tt
+result_named (GivesNothing call) span = tt
+
+-- ---- statements
+
+assigned_named : (t : Typed) (span : Span) (next : CType → Lvalue → Verdict core.Statement) → ((type : CType) (place : Lvalue) → AllNamed (next type place)) → AllNamed (assigned t span next)
+assigned_named (Value type zero value None) span next h = tt
+assigned_named (Value type zero value (Some place)) span next h = h type place
+assigned_named (AStruct number place) span next h = tt
+
+pub updated_named : (at : Places) (operator : Operator) (target right : Typed) (span : Span) → AllNamed (updated at operator target right span)
+updated_named at operator target right span = assigned_named target span _ (λ type place. summands_named target right span _ (λ old value. tt))
+
+pub stored_named : (at : Places) (operator : StoreOperator) (target right : Typed) (span : Span) → AllNamed (stored at operator target right span)
+stored_named at stores.Set target right span = assigned_named target span _ (λ type place. converted_named right type span _ (λ value. tt))
+stored_named at stores.Add target right span = updated_named at operators.Add target right span
+stored_named at stores.Subtract target right span = updated_named at operators.Subtract target right span
+
+pub returned_named : (result : Option CType) (t : Typed) (span : Span) → AllNamed (returned result t span)
+returned_named None t span = tt
+returned_named (Some type) t span = converted_named t type span _ (λ v. tt)
+
+pub nothing_named : (result : Option CType) (span : Span) → AllNamed (returned_nothing result span)
+nothing_named None span = tt
+nothing_named (Some type) span = tt

@@ -1,0 +1,179 @@
+-- Functions by their names, and by their numbers among the trusted and the tainted ones.
+use Rattle.std.proofs.Common.{◌≡◌, ℕ, suc, ◌+◌, ◌≤◌, Bool, true, false, List, [], ◌∷◌, ◌++◌, length, Option, Some, None, refl, ap, ◌∙◌, subst, arith}
+use Rattle.std.specs.Prelude.{bytes_eq, slice_get, ◌&&◌}
+use Rattle.std.specs.List.{AllByRecursion}
+use Rattle.std.proofs.lemmas.Bool.{and_parts}
+use Rattle.std.proofs.lemmas.Slice.Eq.{bytes_eq-Decides}
+use Rattle.ckc_tree.specs.declared.item.FunctionKind.{FunctionKind}
+use Rattle.ckc_tree.specs.declared.item.FunctionKind.TheVariants as kinds
+use Rattle.pointer_modes.specs.Types.{CType}
+use Rattle.ckc_core.specs.Core as core
+use Rattle.ckc_core.specs.States.{same_type}
+use Rattle.region_typing_rules.specs.Scopes.{Signature, function_named}
+use Rattle.region_typing_rules.specs.Types.{is_scalar}
+use Rattle.region_typing_rules.specs.Expressions.{is_import, counted, same_side, side_number}
+use Rattle.region_typing_rules.specs.Items.{same_types, same_result, same_kind, agrees, all_scalar, scalar_result}
+use Rattle.region_typing_rules.specs.Cores.{body_of, trusted_functions, tainted_functions}
+use Rattle.region_typing_rules.specs.Typed.{IsScalar, IsScalarResult}
+use Rattle.region_typing_rules.proofs.Knowledge.{IsNumberType, IsNumberResult, same_equal}
+
+-- ---- names
+
+pub bytes_equal : (a b : List ℕ) → bytes_eq a b ≡ true → a ≡ b
+bytes_equal a b h = grind (arith, bytes_eq-Decides)
+
+pub bytes_same : (a : List ℕ) → bytes_eq a a ≡ true
+bytes_same a = grind (arith, bytes_eq-Decides)
+
+pub named_self : (functions : List Signature) (name : List ℕ) (f : Signature) → function_named functions name ≡ Some f → name ≡ f.name
+named_self [] name f h = absurd (cc)
+named_self (g ∷ functions) name f h = by (bytes_eq name g.name) refl (named_self functions name f)
+  where
+    by : (test : Bool) → bytes_eq name g.name ≡ test → (function_named functions name ≡ Some f → name ≡ f.name) → name ≡ f.name
+    by true e again = let now = rw e at h in let same : g ≡ f = cc in bytes_equal name g.name e ∙ ap (λ (x : Signature). x.name) same
+    by false e again = let now = rw e at h in again now
+
+-- a property of all is one of each that is named
+pub named_has : (P : Signature → Type 0) (functions : List Signature) (name : List ℕ) (f : Signature) → AllByRecursion P functions → function_named functions name ≡ Some f → P f
+named_has P [] name f all h = absurd (cc)
+named_has P (g ∷ functions) name f all h = by (bytes_eq name g.name) refl (named_has P functions name f all.1)
+  where
+    by : (test : Bool) → bytes_eq name g.name ≡ test → (function_named functions name ≡ Some f → P f) → P f
+    by true e again = let now = rw e at h in let same : g ≡ f = cc in subst P same all.0
+    by false e again = let now = rw e at h in again now
+
+-- one more behind them
+pub named_further : (functions : List Signature) (more : Signature) (name : List ℕ) (f : Signature) → function_named functions name ≡ Some f → function_named (functions ++ more ∷ []) name ≡ Some f
+named_further [] more name f h = absurd (cc)
+named_further (g ∷ functions) more name f h = by (bytes_eq name g.name) refl (named_further functions more name f)
+  where
+    by : (test : Bool) → bytes_eq name g.name ≡ test → (function_named functions name ≡ Some f → function_named (functions ++ more ∷ []) name ≡ Some f) → function_named ((g ∷ functions) ++ more ∷ []) name ≡ Some f
+    by true e again = let now = rw e at h in rw e now
+    by false e again = let now = rw e at h in rw e (again now)
+
+pub named_last : (functions : List Signature) (more : Signature) → function_named functions more.name ≡ None → function_named (functions ++ more ∷ []) more.name ≡ Some more
+named_last [] more h = rw (bytes_same more.name) refl
+named_last (g ∷ functions) more h = by (bytes_eq more.name g.name) refl (named_last functions more)
+  where
+    by : (test : Bool) → bytes_eq more.name g.name ≡ test → (function_named functions more.name ≡ None → function_named (functions ++ more ∷ []) more.name ≡ Some more) → function_named ((g ∷ functions) ++ more ∷ []) more.name ≡ Some more
+    by true e again = let now = rw e at h in absurd (cc)
+    by false e again = let now = rw e at h in rw e (again now)
+
+-- and the numbers of those before it stay
+pub side_further : (side : Bool) (functions : List Signature) (more : Signature) (name : List ℕ) (f : Signature) (n : ℕ) → function_named functions name ≡ Some f → side_number side functions name n ≡ side_number side (functions ++ more ∷ []) name n
+side_further side [] more name f n h = absurd (cc)
+side_further side (g ∷ functions) more name f n h = by (bytes_eq name g.name) refl (side_further side functions more name f (counted (same_side side (is_import g)) n))
+  where
+    by : (test : Bool) → bytes_eq name g.name ≡ test → (function_named functions name ≡ Some f → side_number side functions name (counted (same_side side (is_import g)) n) ≡ side_number side (functions ++ more ∷ []) name (counted (same_side side (is_import g)) n)) → side_number side (g ∷ functions) name n ≡ side_number side ((g ∷ functions) ++ more ∷ []) name n
+    by true e again = rw e refl
+    by false e again = let now = rw e at h in rw e (again now)
+
+-- ---- numbers
+
+-- a function that is named has a number among the trusted ones
+pub record HasTrusted (bodies : List core.Function) (functions : List Signature) (name : List ℕ) (f : Signature) (n : ℕ) : Type 0 where
+  pub index : ℕ
+  pub counted : side_number false functions name n ≡ n + index
+  pub found : slice_get (trusted_functions bodies functions) index ≡ Some (body_of bodies f)
+
+pub trusted_there : (bodies : List core.Function) (functions : List Signature) (name : List ℕ) (f : Signature) (n : ℕ) → function_named functions name ≡ Some f → is_import f ≡ false → HasTrusted bodies functions name f n
+trusted_there bodies [] name f n h side = absurd (cc)
+trusted_there bodies (g ∷ functions) name f n h side = by (bytes_eq name g.name) (is_import g) refl refl (λ m now. trusted_there bodies functions name f m now side)
+  where
+    by : (test import : Bool) → bytes_eq name g.name ≡ test → is_import g ≡ import → ((m : ℕ) → function_named functions name ≡ Some f → HasTrusted bodies functions name f m) → HasTrusted bodies (g ∷ functions) name f n
+    by true import e i again =
+        let now = rw e at h in
+        let same : g ≡ f = cc in
+        let trusted : is_import g ≡ false = ap is_import same ∙ side in
+        record { index = 0; counted = rw e (omega arith); found = rw trusted (ap (λ x. Some (body_of bodies x)) same) }
+    by false true e i again =
+        let now = rw e at h in
+        let rest = again n now in
+        record { index = rest.index; counted = rw (e, i) rest.counted; found = rw i rest.found }
+    by false false e i again =
+        let now = rw e at h in
+        let rest = again (suc n) now in
+        let moved : suc n + rest.index ≡ n + suc rest.index = omega arith in
+        record { index = suc rest.index; counted = rw (e, i) (rest.counted ∙ moved); found = rw i rest.found }
+
+pub record HasTainted (functions : List Signature) (name : List ℕ) (f : Signature) (n : ℕ) : Type 0 where
+  pub index : ℕ
+  pub counted : side_number true functions name n ≡ n + index
+  pub found : slice_get (tainted_functions functions) index ≡ Some (record { name = f.name; parameters = length f.parameters; result = f.result })
+
+pub tainted_there : (functions : List Signature) (name : List ℕ) (f : Signature) (n : ℕ) → function_named functions name ≡ Some f → is_import f ≡ true → HasTainted functions name f n
+tainted_there [] name f n h side = absurd (cc)
+tainted_there (g ∷ functions) name f n h side = by (bytes_eq name g.name) (is_import g) refl refl (λ m now. tainted_there functions name f m now side)
+  where
+    by : (test import : Bool) → bytes_eq name g.name ≡ test → is_import g ≡ import → ((m : ℕ) → function_named functions name ≡ Some f → HasTainted functions name f m) → HasTainted (g ∷ functions) name f n
+    by true import e i again =
+        let now = rw e at h in
+        let same : g ≡ f = cc in
+        let tainted : is_import g ≡ true = ap is_import same ∙ side in
+        record { index = 0; counted = rw e (omega arith); found = rw tainted (ap (λ (x : Signature). Some (record { name = x.name; parameters = length x.parameters; result = x.result })) same) }
+    by false true e i again =
+        let now = rw e at h in
+        let rest = again (suc n) now in
+        let moved : suc n + rest.index ≡ n + suc rest.index = omega arith in
+        record { index = suc rest.index; counted = rw (e, i) (rest.counted ∙ moved); found = rw i rest.found }
+    by false false e i again =
+        let now = rw e at h in
+        let rest = again n now in
+        record { index = rest.index; counted = rw (e, i) rest.counted; found = rw i rest.found }
+
+-- ---- declarations that agree
+
+types_equal : (ts us : List CType) → same_types ts us ≡ true → ts ≡ us
+types_equal [] [] h = refl
+types_equal [] (u ∷ us) h = absurd (cc)
+types_equal (t ∷ ts) [] h = absurd (cc)
+types_equal (t ∷ ts) (u ∷ us) h =
+    let parts = and_parts (same_type t u) (same_types ts us) h in
+    let first = same_equal t u parts.0 in
+    let rest = types_equal ts us parts.1 in
+    cc
+
+result_equal : (a b : Option CType) → same_result a b ≡ true → a ≡ b
+result_equal None None h = refl
+result_equal None (Some t) h = absurd (cc)
+result_equal (Some t) None h = absurd (cc)
+result_equal (Some t) (Some u) h = ap Some (same_equal t u h)
+
+kind_equal : (a b : FunctionKind) → same_kind a b ≡ true → a ≡ b
+kind_equal kinds.Trusted kinds.Trusted h = refl
+kind_equal kinds.Trusted kinds.Tainted h = absurd (cc)
+kind_equal kinds.Trusted kinds.Callback h = absurd (cc)
+kind_equal kinds.Tainted kinds.Trusted h = absurd (cc)
+kind_equal kinds.Tainted kinds.Tainted h = refl
+kind_equal kinds.Tainted kinds.Callback h = absurd (cc)
+kind_equal kinds.Callback kinds.Trusted h = absurd (cc)
+kind_equal kinds.Callback kinds.Tainted h = absurd (cc)
+kind_equal kinds.Callback kinds.Callback h = refl
+
+-- two declarations of one function
+pub record Agrees (a b : Signature) : Type 0 where
+  pub kind : a.kind ≡ b.kind
+  pub parameters : a.parameters ≡ b.parameters
+  pub result : a.result ≡ b.result
+
+pub agrees_equal : (a b : Signature) → agrees (Some a) b ≡ true → Agrees a b
+agrees_equal a b h =
+    let first = and_parts (same_kind a.kind b.kind) (same_types a.parameters b.parameters && same_result a.result b.result) h in
+    let second = and_parts (same_types a.parameters b.parameters) (same_result a.result b.result) first.1 in
+    record { kind = kind_equal a.kind b.kind first.0; parameters = types_equal a.parameters b.parameters second.0; result = result_equal a.result b.result second.1 }
+
+pub scalars_all : (ts : List CType) → all_scalar ts ≡ true → AllByRecursion IsScalar ts
+scalars_all [] h = tt
+scalars_all (t ∷ ts) h = let parts = and_parts (is_scalar t) (all_scalar ts) h in (parts.0, scalars_all ts parts.1)
+
+pub result_scalar : (o : Option CType) → scalar_result o ≡ true → IsScalarResult o
+result_scalar None h = tt
+result_scalar (Some t) h = h
+
+-- what is asked of each declared function
+pub record IsDeclared (f : Signature) : Type 0 where
+  pub few : length f.parameters ≤ 16
+  pub scalars : AllByRecursion IsScalar f.parameters
+  pub result : IsScalarResult f.result
+  pub numbers : is_import f ≡ true → AllByRecursion IsNumberType f.parameters
+  pub number_result : is_import f ≡ true → IsNumberResult f.result

@@ -1,0 +1,394 @@
+-- The parts of a core take few words of the stack, by the height of the tree that they come from.
+use Rattle.std.proofs.Common.{◌≡◌, ℕ, ◌+◌, ◌*◌, ◌≤◌, ◌^◌, Bool, true, false, List, [], ◌∷◌, length, Option, Some, None, refl, arith}
+use Rattle.std.specs.Prelude.{bytes_eq, codes, nat_lt, not, ◌&&◌, ◌||◌, ◌==◌}
+use Rattle.std.specs.List.{AllByRecursion}
+use Rattle.std.proofs.lemmas.Bool.{ltb-true, ltb-false}
+use Rattle.ckc_text.specs.declared.place.Span.{Span}
+use Rattle.ckc_text.specs.declared.code.Code.TheVariants.{E04, E13, E14, E19}
+use Rattle.ckc_tree.specs.declared.expr.UnaryOperator.{UnaryOperator}
+use Rattle.ckc_tree.specs.declared.expr.UnaryOperator.TheVariants as unary
+use Rattle.ckc_tree.specs.declared.expr.BinaryOperator.{BinaryOperator}
+use Rattle.ckc_tree.specs.declared.expr.BinaryOperator.TheVariants as binary
+use Rattle.ckc_tree.specs.Expressions as e
+use Rattle.ckc_tree.specs.Expressions.{Expression, Expressions, expression_span}
+use Rattle.ckc_tree.specs.Heights.{Reach, deeper, ◌beside◌, inside, around, type_reach, expression_reach, expressions_reach}
+use Rattle.pointer_modes.specs.Types.{CType, Int, Char, Struct, Pointer, members_of}
+use Rattle.pointer_modes.specs.Layout.{cells_of}
+use Rattle.ckc_core.specs.declared.program.Site.{Site}
+use Rattle.ckc_core.specs.declared.program.Operator.{Operator}
+use Rattle.ckc_core.specs.declared.program.Operator.TheVariants as operators
+use Rattle.ckc_core.specs.declared.program.Comparison.{Comparison}
+use Rattle.ckc_core.specs.declared.program.Comparison.TheVariants as comparisons
+use Rattle.ckc_core.specs.Core as core
+use Rattle.ckc_core.specs.Stacks.{offset_stack, expression_stack, arguments_stack, place_stack, statement_stack}
+use Rattle.region_typing_rules.specs.Verdicts.{Verdict, Passes, breaks}
+use Rattle.region_typing_rules.specs.Scopes.{Scope, Signature, Named, Local, Object, Nothing, named, function_named}
+use Rattle.region_typing_rules.specs.Types.{type_named, is_number, is_pointer, are_comparable, converts}
+use Rattle.region_typing_rules.specs.Expressions.{Places, Lvalue, OfLocal, OfCell, Typed, Value, AStruct, Called, Gives, GivesNothing, site_at, number, at_place, local_typed, name_typed, member_place, member_from, offset_among, member_at, dotted, pointed_by, arrowed, pointed_at, dereferenced, pointer_to, address, number_of, scalar_of, unary_typed, is_pointer_value, two_numbers, two_scalars, summands, as_pointer, equated_values, equated, ordered_values, ordered, arithmetic, binary_typed, indexed, in_type, converted, arguments_as, is_import, side_number, call_of, first_of, writes, predefined_call, called, with_result, typed, all_typed, call_typed}
+use Rattle.region_typing_rules.proofs.Knowledge.{crossing_promises}
+use Rattle.region_typing_rules.proofs.Verdicts.{Promises, passing_promises, needs_promises, anything_promised, promised_so}
+use Rattle.region_typing_rules.proofs.Signatures.{named_has}
+
+-- ---- heights
+
+pub beside_first : (a b : Reach) → a.height ≤ (a beside b).height
+beside_first a b = by (nat_lt a.height b.height) refl
+  where
+    by : (test : Bool) → nat_lt a.height b.height ≡ test → a.height ≤ (deeper test a b).height
+    by true h = let low = ltb-true a.height b.height h in omega arith
+    by false h = omega arith
+
+pub beside_second : (a b : Reach) → b.height ≤ (a beside b).height
+beside_second a b = by (nat_lt a.height b.height) refl
+  where
+    by : (test : Bool) → nat_lt a.height b.height ≡ test → b.height ≤ (deeper test a b).height
+    by true h = omega arith
+    by false h = ltb-false a.height b.height h
+
+pub around_higher : (start : ℕ) (parts : Reach) → (around start parts).height ≡ parts.height + 1
+around_higher start parts = by parts.height
+  where
+    by : (n : ℕ) → (inside start n parts.start).height ≡ n + 1
+    by ℕ.zero = refl
+    by (ℕ.suc n) = omega arith
+
+-- ---- what an expression is takes so many words at most
+
+abbrev pub LowPlace : ℕ → Option Lvalue → Type 0
+LowPlace n None = Unit {0}
+LowPlace n (Some (OfLocal k)) = Unit {0}
+LowPlace n (Some (OfCell p)) = place_stack p ≤ n
+
+abbrev pub Low : ℕ → Typed → Type 0
+Low n (Value type zero value place) = (expression_stack value ≤ n) × LowPlace n place
+Low n (AStruct number place) = LowPlace n (Some place)
+
+abbrev pub LowCall : ℕ → Called → Type 0
+LowCall n (Gives type value) = expression_stack value ≤ n
+LowCall n (GivesNothing call) = statement_stack call ≤ n
+
+abbrev pub IsLow : ℕ → core.Expression → Type 0
+IsLow n v = expression_stack v ≤ n
+
+low_place_more : (n m : ℕ) (place : Option Lvalue) → n ≤ m → LowPlace n place → LowPlace m place
+low_place_more n m None le h = tt
+low_place_more n m (Some (OfLocal k)) le h = tt
+low_place_more n m (Some (OfCell p)) le h = omega arith
+
+pub low_more : (n m : ℕ) (t : Typed) → n ≤ m → Low n t → Low m t
+low_more n m (Value type zero value place) le h = let first = h.0 in (omega arith, low_place_more n m place le h.1)
+low_more n m (AStruct number place) le h = low_place_more n m (Some place) le h
+
+offset_low : (k : ℕ) → offset_stack k ≤ 2
+offset_low ℕ.zero = omega arith
+offset_low (ℕ.suc k) = omega arith
+
+-- ---- places
+
+at_place_low : (n : ℕ) (t : CType) (p : core.Place) → place_stack p ≤ n → Low n (at_place t p)
+at_place_low n Int p h = (h, h)
+at_place_low n Char p h = (h, h)
+at_place_low n (Struct number) p h = h
+at_place_low n (Pointer m k t) p h = (h, h)
+
+local_low : (n k : ℕ) (t : CType) → 1 ≤ n → Low n (local_typed k t)
+local_low n k Int h = (h, tt)
+local_low n k Char h = (h, tt)
+local_low n k (Struct number) h = tt
+local_low n k (Pointer m d t) h = (h, tt)
+
+name_low : (n : ℕ) (x : Named) → 2 ≤ n → Low n (name_typed x)
+name_low n (Local k t) h = local_low n k t (omega arith)
+name_low n (Object k t) h = at_place_low n t (core.Direct k 0 0) (omega arith)
+name_low n Nothing h = (omega arith, tt)
+
+member_place_low : (n : ℕ) (p : core.Place) (cell offset : ℕ) (site : Site) → 2 ≤ n → place_stack p ≤ n → place_stack (member_place p cell offset site) ≤ n
+member_place_low n (core.Direct object first place) cell offset site two h = omega (arith, offset_low (place + offset))
+member_place_low n (core.Through pointer first place before) cell offset site two h = omega (arith, offset_low (place + offset))
+
+pointer_low : (n : ℕ) (t : CType) (p : core.Place) (site : Site) → place_stack p ≤ n → Low n (pointer_to t p site)
+pointer_low n t (core.Direct object cell offset) site h = (h, tt)
+pointer_low n t (core.Through pointer cell offset before) site h = (h, tt)
+
+address_low : (n : ℕ) (a : Typed) (site : Site) (span : Span) → Low n a → Promises (Low n) (address a site span)
+address_low n (Value type zero value None) site span h = tt
+address_low n (Value type zero value (Some (OfLocal k))) site span h = tt
+address_low n (Value type zero value (Some (OfCell p))) site span h = pointer_low n type p site h.1
+address_low n (AStruct number (OfLocal k)) site span h = tt
+address_low n (AStruct number (OfCell p)) site span h = pointer_low n (Struct number) p site h
+
+pointed_low : (n : ℕ) (t : CType) (value : core.Expression) (site : Site) (span : Span) → 2 ≤ n → IsLow n value → Promises (Low n) (pointed_at t value site span)
+pointed_low n Int value site span two h = tt
+pointed_low n Char value site span two h = tt
+pointed_low n (Struct number) value site span two h = tt
+pointed_low n (Pointer m k t) value site span two h = at_place_low n t (core.Through value 0 0 site) (omega arith)
+
+dereferenced_low : (n : ℕ) (a : Typed) (site : Site) (span : Span) → 2 ≤ n → Low n a → Promises (Low n) (dereferenced a site span)
+dereferenced_low n (Value type zero value place) site span two h = pointed_low n type value site span two h.0
+dereferenced_low n (AStruct number place) site span two h = tt
+
+member_at_low : (n : ℕ) (s : Scope) (struct : ℕ) (p : core.Place) (name : List ℕ) (site : Site) (span : Span) → 2 ≤ n → place_stack p ≤ n → Promises (Low n) (member_at s struct p name site span)
+member_at_low n s struct p name site span two h = by (member_from 0 (members_of s.structs struct) name) refl
+  where
+    by : (o : Option (ℕ × CType)) → member_from 0 (members_of s.structs struct) name ≡ o → Promises (Low n) (member_at s struct p name site span)
+    by None found = rw found tt
+    by (Some m) found = rw found (at_place_low n m.1 _ (member_place_low n p m.0 (offset_among (cells_of s.structs (Struct struct)) m.0) site two h))
+
+dotted_low : (n : ℕ) (s : Scope) (a : Typed) (name : List ℕ) (site : Site) (span : Span) → 2 ≤ n → Low n a → Promises (Low n) (dotted s a name site span)
+dotted_low n s (Value type zero value place) name site span two h = tt
+dotted_low n s (AStruct number (OfLocal k)) name site span two h = member_at_low n s number (core.Through (core.Local k) 0 0 site) name site span two (omega arith)
+dotted_low n s (AStruct number (OfCell p)) name site span two h = member_at_low n s number p name site span two h
+
+pointed_by_low : (n : ℕ) (s : Scope) (t : CType) (value : core.Expression) (name : List ℕ) (site : Site) (span : Span) → 2 ≤ n → IsLow n value → Promises (Low n) (pointed_by s t value name site span)
+pointed_by_low n s Int value name site span two h = tt
+pointed_by_low n s Char value name site span two h = tt
+pointed_by_low n s (Struct number) value name site span two h = tt
+pointed_by_low n s (Pointer m k Int) value name site span two h = tt
+pointed_by_low n s (Pointer m k Char) value name site span two h = tt
+pointed_by_low n s (Pointer m k (Pointer m' k' t)) value name site span two h = tt
+pointed_by_low n s (Pointer m k (Struct number)) value name site span two h = member_at_low n s number (core.Through value 0 0 site) name site span two (omega arith)
+
+arrowed_low : (n : ℕ) (s : Scope) (a : Typed) (name : List ℕ) (site : Site) (span : Span) → 2 ≤ n → Low n a → Promises (Low n) (arrowed s a name site span)
+arrowed_low n s (Value type zero value place) name site span two h = pointed_by_low n s type value name site span two h.0
+arrowed_low n s (AStruct number place) name site span two h = tt
+
+-- ---- operators
+
+pub number_of_low : {A : Type 0} (Q : A → Type 0) (n : ℕ) (a : Typed) (span : Span) (next : core.Expression → Verdict A) → Low n a → ((v : core.Expression) → IsLow n v → Promises Q (next v)) → Promises Q (number_of a span next)
+number_of_low Q n (Value type zero value place) span next h more = needs_promises Q (is_number type) E13 span (next value) (λ yes. more value h.0)
+number_of_low Q n (AStruct number place) span next h more = tt
+
+pub scalar_of_low : {A : Type 0} (Q : A → Type 0) (n : ℕ) (a : Typed) (span : Span) (next : core.Expression → Verdict A) → Low n a → ((v : core.Expression) → IsLow n v → Promises Q (next v)) → Promises Q (scalar_of a span next)
+scalar_of_low Q n (Value type zero value place) span next h more = more value h.0
+scalar_of_low Q n (AStruct number place) span next h more = tt
+
+unary_low : (n : ℕ) (operator : UnaryOperator) (a : Typed) (site : Site) (span : Span) → 2 ≤ n → Low n a → Promises (Low n) (unary_typed operator a site span)
+unary_low n unary.Deref a site span two h = dereferenced_low n a site span two h
+unary_low n unary.AddressOf a site span two h = address_low n a site span h
+unary_low n unary.Negate a site span two h = number_of_low (Low n) n a span (λ v. number (core.Negate v site)) h (λ v low. (low, tt))
+unary_low n unary.Not a site span two h = scalar_of_low (Low n) n a span (λ v. number (core.Not v)) h (λ v low. (low, tt))
+unary_low n unary.Complement a site span two h = number_of_low (Low n) n a span (λ v. number (core.Complement v)) h (λ v low. (low, tt))
+
+pub two_low : {A : Type 0} (Q : A → Type 0) (n : ℕ) (a b : Typed) (span : Span) (next : core.Expression → core.Expression → Verdict A) → Low n a → Low n b → ((v w : core.Expression) → IsLow n v → IsLow n w → Promises Q (next v w)) → Promises Q (two_numbers a b span next)
+two_low Q n a b span next ha hb more = number_of_low Q n a span _ ha (λ v low. number_of_low Q n b span _ hb (λ w low'. more v w low low'))
+
+arithmetic_low : (n : ℕ) (operator : Operator) (a b : Typed) (site : Site) (span : Span) → Low n a → Low n b → Promises (Low (n + 1)) (two_numbers a b span (arithmetic operator site))
+arithmetic_low n operator a b site span ha hb = two_low (Low (n + 1)) n a b span (arithmetic operator site) ha hb (λ v w low low'. (omega arith, tt))
+
+sum_low : (n : ℕ) (operator : Operator) (a b : Typed) (site : Site) (span : Span) → Low n a → Low n b → Promises (Low (n + 1)) (summands a b span (arithmetic operator site))
+sum_low n operator a b site span ha hb = needs_promises (Low (n + 1)) (not (is_pointer_value a || is_pointer_value b)) E19 span _ (λ x. arithmetic_low n operator a b site span ha hb)
+
+truths_low : (n : ℕ) (of : core.Expression → core.Expression → core.Expression) (a b : Typed) (span : Span) → Low n a → Low n b → ((v w : core.Expression) → IsLow n v → IsLow n w → IsLow (n + 1) (of v w)) → Promises (Low (n + 1)) (two_scalars a b span (λ v w. number (of v w)))
+truths_low n of a b span ha hb h = scalar_of_low (Low (n + 1)) n a span _ ha (λ v low. scalar_of_low (Low (n + 1)) n b span _ hb (λ w low'. (h v w low low', tt)))
+
+equated_low : (n : ℕ) (t : CType) (z : Bool) (v : core.Expression) (u : CType) (y : Bool) (w : core.Expression) (span : Span) → 2 ≤ n → IsLow n v → IsLow n w → Promises (IsLow (n + 1)) (equated_values t z v u y w span)
+equated_low n t z v u y w span two hv hw = by (is_number t && is_number u) (are_comparable t u) (is_pointer t && y) (is_pointer u && z) refl refl refl refl
+  where
+    by : (numbers same left right : Bool) → (is_number t && is_number u) ≡ numbers → are_comparable t u ≡ same → (is_pointer t && y) ≡ left → (is_pointer u && z) ≡ right → Promises (IsLow (n + 1)) (equated_values t z v u y w span)
+    by true same left right h0 h1 h2 h3 = rw h0 (omega arith)
+    by false true left right h0 h1 h2 h3 = rw (h0, h1) (omega arith)
+    by false false true right h0 h1 h2 h3 = rw (h0, h1, h2) (omega arith)
+    by false false false true h0 h1 h2 h3 = rw (h0, h1, h2, h3) (omega arith)
+    by false false false false h0 h1 h2 h3 = rw (h0, h1, h2, h3) tt
+
+equal_low : (n : ℕ) (a b : Typed) (span : Span) → 2 ≤ n → Low n a → Low n b → Promises (IsLow (n + 1)) (equated a b span)
+equal_low n (Value t z v p) (Value u y w q) span two ha hb = equated_low n t z v u y w span two ha.0 hb.0
+equal_low n (Value t z v p) (AStruct k q) span two ha hb = tt
+equal_low n (AStruct k p) b span two ha hb = tt
+
+ordered_low : (n : ℕ) (comparison : Comparison) (t : CType) (v : core.Expression) (u : CType) (w : core.Expression) (span : Span) → IsLow n v → IsLow n w → Promises (Low (n + 1)) (ordered_values comparison t v u w span)
+ordered_low n comparison t v u w span hv hw = by (is_number t && is_number u) (are_comparable t u) refl refl
+  where
+    by : (numbers same : Bool) → (is_number t && is_number u) ≡ numbers → are_comparable t u ≡ same → Promises (Low (n + 1)) (ordered_values comparison t v u w span)
+    by true same h0 h1 = rw h0 (omega arith, tt)
+    by false true h0 h1 = rw (h0, h1) tt
+    by false false h0 h1 = rw (h0, h1) tt
+
+order_low : (n : ℕ) (comparison : Comparison) (a b : Typed) (span : Span) → Low n a → Low n b → Promises (Low (n + 1)) (ordered comparison a b span)
+order_low n comparison (Value t z v p) (Value u y w q) span ha hb = ordered_low n comparison t v u w span ha.0 hb.0
+order_low n comparison (Value t z v p) (AStruct k q) span ha hb = tt
+order_low n comparison (AStruct k p) b span ha hb = tt
+
+binary_low : (n : ℕ) (operator : BinaryOperator) (a b : Typed) (site : Site) (span : Span) → 2 ≤ n → Low n a → Low n b → Promises (Low (n + 1)) (binary_typed operator a b site span)
+binary_low n binary.Or a b site span two ha hb = truths_low n core.OrElse a b span ha hb (λ v w low low'. omega arith)
+binary_low n binary.And a b site span two ha hb = truths_low n core.AndAlso a b span ha hb (λ v w low low'. omega arith)
+binary_low n binary.BitOr a b site span two ha hb = arithmetic_low n operators.Or a b site span ha hb
+binary_low n binary.BitXor a b site span two ha hb = arithmetic_low n operators.Xor a b site span ha hb
+binary_low n binary.BitAnd a b site span two ha hb = arithmetic_low n operators.And a b site span ha hb
+binary_low n binary.Equal a b site span two ha hb = passing_promises (IsLow (n + 1)) (Low (n + 1)) (equated a b span) number (equal_low n a b span two ha hb) (λ v low. (low, tt))
+binary_low n binary.NotEqual a b site span two ha hb = passing_promises (IsLow (n + 1)) (Low (n + 1)) (equated a b span) (λ v. number (core.Not v)) (equal_low n a b span two ha hb) (λ v low. (low, tt))
+binary_low n binary.Less a b site span two ha hb = order_low n comparisons.Less a b span ha hb
+binary_low n binary.LessEqual a b site span two ha hb = order_low n comparisons.LessEqual a b span ha hb
+binary_low n binary.Greater a b site span two ha hb = order_low n comparisons.Greater a b span ha hb
+binary_low n binary.GreaterEqual a b site span two ha hb = order_low n comparisons.GreaterEqual a b span ha hb
+binary_low n binary.ShiftLeft a b site span two ha hb = arithmetic_low n operators.ShiftLeft a b site span ha hb
+binary_low n binary.ShiftRight a b site span two ha hb = arithmetic_low n operators.ShiftRight a b site span ha hb
+binary_low n binary.Add a b site span two ha hb = sum_low n operators.Add a b site span ha hb
+binary_low n binary.Subtract a b site span two ha hb = sum_low n operators.Subtract a b site span ha hb
+binary_low n binary.Multiply a b site span two ha hb = arithmetic_low n operators.Multiply a b site span ha hb
+binary_low n binary.Divide a b site span two ha hb = arithmetic_low n operators.Divide a b site span ha hb
+binary_low n binary.Remainder a b site span two ha hb = arithmetic_low n operators.Remainder a b site span ha hb
+
+indexed_low : (n : ℕ) (a b : Typed) (span : Span) → Promises (Low n) (indexed a b span)
+indexed_low n (Value t z v p) (Value u y w q) span = needs_promises (Low n) (is_pointer t && is_number u) E13 span (breaks E19 span) (λ x. tt)
+indexed_low n (Value t z v p) (AStruct k q) span = tt
+indexed_low n (AStruct k p) b span = tt
+
+-- ---- conversions and calls
+
+as_pointer_low : (n : ℕ) (test : Bool) (value : core.Expression) → 1 ≤ n → IsLow n value → IsLow n (as_pointer test value)
+as_pointer_low n true value one h = one
+as_pointer_low n false value one h = h
+
+in_type_low : (n : ℕ) (to : CType) (test : Bool) (value : core.Expression) → 1 ≤ n → IsLow n value → IsLow n (in_type to test value)
+in_type_low n Int test value one h = h
+in_type_low n Char test value one h = h
+in_type_low n (Struct k) test value one h = h
+in_type_low n (Pointer m k t) test value one h = as_pointer_low n test value one h
+
+pub converted_low : {A : Type 0} (Q : A → Type 0) (n : ℕ) (a : Typed) (to : CType) (span : Span) (next : core.Expression → Verdict A) → 1 ≤ n → Low n a → ((v : core.Expression) → IsLow n v → Promises Q (next v)) → Promises Q (converted a to span next)
+converted_low Q n (Value type zero value place) to span next one h more =
+    needs_promises Q (converts type zero to) E13 span _ (λ x. more (in_type to (zero && is_number type) value) (in_type_low n to (zero && is_number type) value one h.0))
+converted_low Q n (AStruct number place) to span next one h more = tt
+
+abbrev pub AllLow : ℕ → List (Typed × Span) → Type 0
+AllLow n [] = Unit {0}
+AllLow n (a ∷ arguments) = Low n a.0 × AllLow n arguments
+
+all_low_more : (n m : ℕ) (arguments : List (Typed × Span)) → n ≤ m → AllLow n arguments → AllLow m arguments
+all_low_more n m [] le h = tt
+all_low_more n m (a ∷ arguments) le h = (low_more n m a.0 le h.0, all_low_more n m arguments le h.1)
+
+arguments_low : (n : ℕ) (arguments : List (Typed × Span)) (ts : List CType) → 1 ≤ n → AllLow n arguments → Promises (λ (values : core.Arguments). arguments_stack values ≤ n + length ts) (arguments_as arguments ts)
+arguments_low n [] ts one all = omega arith
+arguments_low n (a ∷ arguments) [] one all = omega arith
+arguments_low n (a ∷ arguments) (t ∷ ts) one all =
+    converted_low (λ (values : core.Arguments). arguments_stack values ≤ n + length (t ∷ ts)) n a.0 t a.1 _ one all.0
+    (λ v low. passing_promises (λ (values : core.Arguments). arguments_stack values ≤ n + length ts) (λ (values : core.Arguments). arguments_stack values ≤ n + length (t ∷ ts)) (arguments_as arguments ts) _ (arguments_low n arguments ts one all.1)
+    (λ others h. omega arith))
+
+call_low : (n number : ℕ) (tainted : Bool) (result : Option CType) (site : Site) (values : core.Arguments) → 1 ≤ n → arguments_stack values ≤ n → LowCall n (call_of tainted number result site values)
+call_low n number true (Some t) site values one h = omega arith
+call_low n number true None site values one h = h
+call_low n number false (Some t) site values one h = omega arith
+call_low n number false None site values one h = h
+
+first_low : (n : ℕ) (of : core.Expression → core.Statement) (values : core.Arguments) → ((v : core.Expression) → statement_stack (of v) ≡ expression_stack v) → arguments_stack values ≤ n → statement_stack (first_of of values) ≤ n
+first_low n of core.Done same h = omega arith
+first_low n of (core.More v others) same h = omega (arith, same v)
+
+writes_low : (n : ℕ) (of : core.Expression → core.Statement) (arguments : List (Typed × Span)) (span : Span) → ((v : core.Expression) → statement_stack (of v) ≡ expression_stack v) → 1 ≤ n → AllLow n arguments → Promises (LowCall (n + 16)) (writes of arguments span)
+writes_low n of arguments span same one all =
+    needs_promises (LowCall (n + 16)) (length arguments == 1) E14 span _
+    (λ x. passing_promises (λ (values : core.Arguments). arguments_stack values ≤ n + 1) (LowCall (n + 16)) (arguments_as arguments (Int ∷ [])) _ (arguments_low n arguments (Int ∷ []) one all) (λ values h. first_low (n + 16) of values same (omega arith)))
+
+predefined_low : (n : ℕ) (name : List ℕ) (arguments : List (Typed × Span)) (span : Span) → 1 ≤ n → AllLow n arguments → Promises (LowCall (n + 16)) (predefined_call name arguments span)
+predefined_low n name arguments span one all = by (bytes_eq name (codes "next_input")) (bytes_eq name (codes "print_int")) (bytes_eq name (codes "putchar")) refl refl refl
+  where
+    by : (input print put : Bool) → bytes_eq name (codes "next_input") ≡ input → bytes_eq name (codes "print_int") ≡ print → bytes_eq name (codes "putchar") ≡ put → Promises (LowCall (n + 16)) (predefined_call name arguments span)
+    by true print put h0 h1 h2 = rw h0 (needs_promises (LowCall (n + 16)) (length arguments == 0) E14 span (Passes (Gives Int core.NextInput)) (λ none. omega arith))
+    by false true put h0 h1 h2 = rw (h0, h1) (writes_low n core.Print arguments span (λ v. refl) one all)
+    by false false true h0 h1 h2 = rw (h0, h1, h2) (writes_low n core.PutByte arguments span (λ v. refl) one all)
+    by false false false h0 h1 h2 = rw (h0, h1, h2) tt
+
+call_more : (n m : ℕ) (c : Called) → n ≤ m → LowCall n c → LowCall m c
+call_more n m (Gives type value) le h = omega arith
+call_more n m (GivesNothing call) le h = omega arith
+
+-- few parameters
+abbrev pub HasFew : Signature → Type 0
+HasFew f = length f.parameters ≤ 16
+
+with_result_low : (n : ℕ) (c : Called) (span : Span) → LowCall n c → Promises (Low n) (with_result c span)
+with_result_low n (Gives type value) span h = (h, tt)
+with_result_low n (GivesNothing call) span h = tt
+
+module _ (s : Scope) (few : AllByRecursion HasFew s.functions) where
+  called_low : (n : ℕ) (o : Option Signature) (name : List ℕ) (arguments : List (Typed × Span)) (site : Site) (span : Span) → function_named s.functions name ≡ o → 1 ≤ n → AllLow n arguments → Promises (LowCall (n + 16)) (called s o name arguments site span)
+  called_low n None name arguments site span found one all = predefined_low n name arguments span one all
+  called_low n (Some f) name arguments site span found one all =
+      needs_promises (LowCall (n + 16)) (length f.parameters == length arguments) E14 span _
+      (λ many. crossing_promises (LowCall (n + 16)) (is_import f) arguments _
+      (passing_promises (λ (values : core.Arguments). arguments_stack values ≤ n + length f.parameters) (LowCall (n + 16)) (arguments_as arguments f.parameters) _ (arguments_low n arguments f.parameters one all)
+      (λ values h. let least = named_has HasFew s.functions name f few found in call_low (n + 16) (side_number (is_import f) s.functions f.name 0) (is_import f) f.result site values (omega arith) (omega arith))))
+
+  -- ---- the walk
+
+  mutual
+    -- 17 words for each node on the way to the deepest one
+    pub typed_low : (at : Places) (x : Expression) (n : ℕ) → 17 * (expression_reach x).height ≤ n → Promises (Low n) (typed at s x)
+    typed_low at (e.Number value span) n h = needs_promises (Low n) (nat_lt value (2 ^ 31)) E04 span _ (λ low. (omega arith, tt))
+    typed_low at (e.Character value span) n h = needs_promises (Low n) (nat_lt value (2 ^ 31)) E04 span _ (λ low. (omega arith, tt))
+    typed_low at (e.Text bytes span) n h = tt
+    typed_low at (e.Name name) n h = passing_promises (λ (x : Named). Unit {0}) (Low n) (named s name.name) _ (anything_promised (named s name.name)) (λ x _. name_low n x (omega arith))
+    typed_low at (e.Call callee arguments span) n h =
+        let parts = expressions_reach arguments in
+        let higher = around_higher span.from parts in
+        let m = 17 * parts.height + 1 in
+        let room : m + 16 ≤ n = omega arith in
+        passing_promises (AllLow m) (Low n) (all_typed at s arguments) _ (all_low at arguments m (omega arith))
+        (λ ts low. passing_promises (LowCall (m + 16)) (Low n) (called s (function_named s.functions callee.name) callee.name ts (site_at at span) span) _
+        (called_low m (function_named s.functions callee.name) callee.name ts (site_at at span) span refl (omega arith) low)
+        (λ c h'. promised_so (Low (m + 16)) (Low n) (with_result c span) (with_result_low (m + 16) c span h') (λ t. low_more (m + 16) n t room)))
+    typed_low at (e.SizeOf type span) n h =
+        let higher = around_higher span.from (type_reach type.base) in
+        passing_promises (λ (t : CType). Unit {0}) (Low n) (type_named s type) _ (anything_promised (type_named s type)) (λ t _. (omega arith, tt))
+    typed_low at (e.Cast word type operand span) n h = tt
+    typed_low at (e.BoundedCast word type operand bounds span) n h = tt
+    typed_low at (e.Malloc word type size span) n h = tt
+    typed_low at (e.Calloc word type count size span) n h = tt
+    typed_low at (e.Index base index span) n h =
+        passing_promises (λ (t : Typed). Unit {0}) (Low n) (typed at s base) _ (anything_promised (typed at s base))
+        (λ a _. passing_promises (λ (t : Typed). Unit {0}) (Low n) (typed at s index) _ (anything_promised (typed at s index)) (λ b _. indexed_low n a b span))
+    typed_low at (e.Dot base member span) n h =
+        let higher = around_higher span.from (expression_reach base) in
+        passing_promises (Low n) (Low n) (typed at s base) _ (typed_low at base n (omega arith)) (λ a low. dotted_low n s a member.name (site_at at span) span (omega arith) low)
+    typed_low at (e.Arrow base member span) n h =
+        let higher = around_higher span.from (expression_reach base) in
+        passing_promises (Low n) (Low n) (typed at s base) _ (typed_low at base n (omega arith)) (λ a low. arrowed_low n s a member.name (site_at at span) span (omega arith) low)
+    typed_low at (e.Unary operator operand span) n h =
+        let higher = around_higher span.from (expression_reach operand) in
+        passing_promises (Low n) (Low n) (typed at s operand) _ (typed_low at operand n (omega arith)) (λ a low. unary_low n operator a (site_at at span) span (omega arith) low)
+    typed_low at (e.Binary operator left right span) n h =
+        let first = expression_reach left in
+        let second = expression_reach right in
+        let higher = around_higher span.from (first beside second) in
+        let one = beside_first first second in
+        let two = beside_second first second in
+        let m = 17 * (first beside second).height + 2 in
+        let room : m + 1 ≤ n = omega arith in
+        passing_promises (Low m) (Low n) (typed at s left) _ (typed_low at left m (omega arith))
+        (λ a ha. passing_promises (Low m) (Low n) (typed at s right) _ (typed_low at right m (omega arith))
+        (λ b hb. promised_so (Low (m + 1)) (Low n) (binary_typed operator a b (site_at at span) span) (binary_low m operator a b (site_at at span) span (omega arith) ha hb) (λ t. low_more (m + 1) n t room)))
+
+    all_low : (at : Places) (xs : Expressions) (n : ℕ) → 17 * (expressions_reach xs).height ≤ n → Promises (AllLow n) (all_typed at s xs)
+    all_low at e.NoMore n h = tt
+    all_low at (e.Then first others) n h =
+        let one = beside_first (expression_reach first) (expressions_reach others) in
+        let two = beside_second (expression_reach first) (expressions_reach others) in
+        passing_promises (Low n) (AllLow n) (typed at s first) _ (typed_low at first n (omega arith))
+        (λ t low. passing_promises (AllLow n) (AllLow n) (all_typed at s others) _ (all_low at others n (omega arith)) (λ ts lows. (low, lows)))
+
+  pub call_typed_low : (at : Places) (x : Expression) (n : ℕ) → 17 * (expression_reach x).height ≤ n → Promises (LowCall n) (call_typed at s x)
+  call_typed_low at (e.Call callee arguments span) n h =
+      let parts = expressions_reach arguments in
+      let higher = around_higher span.from parts in
+      let m = 17 * parts.height + 1 in
+      let room : m + 16 ≤ n = omega arith in
+      passing_promises (AllLow m) (LowCall n) (all_typed at s arguments) _ (all_low at arguments m (omega arith))
+      (λ ts low. promised_so (LowCall (m + 16)) (LowCall n) (called s (function_named s.functions callee.name) callee.name ts (site_at at span) span)
+      (called_low m (function_named s.functions callee.name) callee.name ts (site_at at span) span refl (omega arith) low) (λ c. call_more (m + 16) n c room))
+  call_typed_low at (e.Number value span) n h = tt
+  call_typed_low at (e.Character value span) n h = tt
+  call_typed_low at (e.Text bytes span) n h = tt
+  call_typed_low at (e.Name name) n h = tt
+  call_typed_low at (e.SizeOf type span) n h = tt
+  call_typed_low at (e.Cast word type operand span) n h = tt
+  call_typed_low at (e.BoundedCast word type operand bounds span) n h = tt
+  call_typed_low at (e.Malloc word type size span) n h = tt
+  call_typed_low at (e.Calloc word type count size span) n h = tt
+  call_typed_low at (e.Index base index span) n h = tt
+  call_typed_low at (e.Dot base member span) n h = tt
+  call_typed_low at (e.Arrow base member span) n h = tt
+  call_typed_low at (e.Unary operator operand span) n h = tt
+  call_typed_low at (e.Binary operator left right span) n h = tt

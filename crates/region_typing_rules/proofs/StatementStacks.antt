@@ -1,0 +1,241 @@
+-- The statements of a core take few words of the stack, by the height of the tree that they come from.
+use Rattle.std.proofs.Common.{ℕ, ◌+◌, ◌*◌, ◌≤◌, List, [], ◌∷◌, length, Option, Some, None, subst, arith}
+use Rattle.std.specs.Prelude.{nat_lt, not, ◌||◌}
+use Rattle.std.specs.List.{AllByRecursion}
+use Rattle.ckc_text.specs.declared.place.Span.{Span}
+use Rattle.ckc_text.specs.declared.code.Code.TheVariants.{E08, E13, E15, E19, E30}
+use Rattle.ckc_tree.specs.declared.stmt.StoreOperator.{StoreOperator}
+use Rattle.ckc_tree.specs.declared.stmt.StoreOperator.TheVariants as stores
+use Rattle.ckc_tree.specs.Types.{TypeTree}
+use Rattle.ckc_tree.specs.Expressions.{Expression, expression_span}
+use Rattle.ckc_tree.specs.Statements as trees
+use Rattle.ckc_tree.specs.Statements.{Initializer, Declarator, Declaration, Assignment, assignment_span, ForInitial, Statement, Statements}
+use Rattle.ckc_tree.specs.Heights.{◌beside◌, type_reach, expression_reach, optional_expression_reach, optional_bounds_reach, optional_initializer_reach, declarator_reach, declarators_reach, declared_reach, assigned_reach, optional_assignment_reach, for_initial_reach, statement_reach, statements_reach}
+use Rattle.pointer_modes.specs.Types.{CType, Int, Char, Struct, Pointer}
+use Rattle.ckc_core.specs.declared.program.Site.{Site}
+use Rattle.ckc_core.specs.declared.program.Operator.{Operator}
+use Rattle.ckc_core.specs.declared.program.Operator.TheVariants as operators
+use Rattle.ckc_core.specs.Core as core
+use Rattle.ckc_core.specs.Stacks.{expression_stack, statement_stack, statements_stack}
+use Rattle.region_typing_rules.specs.Verdicts.{Verdict, Passes}
+use Rattle.region_typing_rules.specs.Scopes.{Scope}
+use Rattle.region_typing_rules.specs.Types.{is_pointer, is_scalar, without_stars, base_type}
+use Rattle.region_typing_rules.specs.Expressions.{Places, Typed, Value, AStruct, Called, Gives, GivesNothing, Lvalue, OfLocal, OfCell, site_at, typed, call_typed, is_pointer_value}
+use Rattle.region_typing_rules.specs.Statements.{Walked, store, update, assigned, set_to, updated, stored, step_of, one, assignment, zero_value, with_local, initialised, declarator, declarators, declaration, behind_block, in_loop, is_unchecked, condition, optional_condition, optional_step, first_part, alone, returned, returned_nothing, return, statement, statements}
+use Rattle.region_typing_rules.proofs.Verdicts.{Promises, passing_promises, needs_promises, anything_promised, promised_so, both_promise}
+use Rattle.region_typing_rules.proofs.Growth.{Grows, GrowsTo, block_grows, loop_grows, declarator_grows, first_grows, statement_grows}
+use Rattle.region_typing_rules.proofs.Stacks.{beside_first, beside_second, around_higher, Low, LowPlace, LowCall, IsLow, HasFew, scalar_of_low, two_low, converted_low, typed_low, call_typed_low}
+
+abbrev pub IsLowStatement : ℕ → core.Statement → Type 0
+IsLowStatement n x = statement_stack x ≤ n
+
+-- ---- assignments, whose parts take n words, and which take two more
+
+assigned_low : (Q : core.Statement → Type 0) (n : ℕ) (target : Typed) (span : Span) (next : CType → Lvalue → Verdict core.Statement) → Low n target → ((type : CType) (place : Lvalue) → LowPlace n (Some place) → Promises Q (next type place)) → Promises Q (assigned target span next)
+assigned_low Q n (Value type zero value None) span next h more = tt
+assigned_low Q n (Value type zero value (Some place)) span next h more = more type place h.1
+assigned_low Q n (AStruct number place) span next h more = tt
+
+store_low : (n : ℕ) (place : Lvalue) (type : CType) (value : core.Expression) → LowPlace n (Some place) → IsLow n value → IsLowStatement (n + 2) (store place type value)
+store_low n (OfLocal k) type value h low = omega arith
+store_low n (OfCell (core.Direct object cell offset)) type value h low = omega arith
+store_low n (OfCell (core.Through pointer cell offset site)) type value h low = omega arith
+
+update_low : (n : ℕ) (place : Lvalue) (type : CType) (operator : Operator) (value : core.Expression) (site : Site) → LowPlace n (Some place) → IsLow n value → IsLowStatement (n + 2) (update place type operator value site)
+update_low n (OfLocal k) type operator value site h low = omega arith
+update_low n (OfCell (core.Direct object cell offset)) type operator value site h low = omega arith
+update_low n (OfCell (core.Through pointer cell offset before)) type operator value site h low = omega arith
+
+set_low : (n : ℕ) (target right : Typed) (span : Span) → 1 ≤ n → Low n target → Low n right → Promises (IsLowStatement (n + 2)) (set_to target right span)
+set_low n target right span least ht hr =
+    assigned_low (IsLowStatement (n + 2)) n target span _ ht (λ type place h. converted_low (IsLowStatement (n + 2)) n right type span _ least hr (λ v low. store_low n place type v h low))
+
+updated_low : (n : ℕ) (at : Places) (operator : Operator) (target right : Typed) (span : Span) → Low n target → Low n right → Promises (IsLowStatement (n + 2)) (updated at operator target right span)
+updated_low n at operator (Value type zero value None) right span ht hr = tt
+updated_low n at operator (Value type zero value (Some place)) right span ht hr =
+    needs_promises (IsLowStatement (n + 2)) (not (is_pointer type || is_pointer_value right)) E19 span _
+    (λ apart. two_low (IsLowStatement (n + 2)) n (Value type zero value (Some place)) right span (λ old v. Passes (update place type operator v (site_at at span))) ht hr
+    (λ old v low low'. update_low n place type operator v (site_at at span) ht.1 low'))
+updated_low n at operator (AStruct number place) right span ht hr = tt
+
+stored_low : (n : ℕ) (at : Places) (operator : StoreOperator) (target right : Typed) (span : Span) → 1 ≤ n → Low n target → Low n right → Promises (IsLowStatement (n + 2)) (stored at operator target right span)
+stored_low n at stores.Set target right span least ht hr = set_low n target right span least ht hr
+stored_low n at stores.Add target right span least ht hr = updated_low n at operators.Add target right span ht hr
+stored_low n at stores.Subtract target right span least ht hr = updated_low n at operators.Subtract target right span ht hr
+
+zero_low : (t : CType) → expression_stack (zero_value t) ≤ 1
+zero_low Int = omega arith
+zero_low Char = omega arith
+zero_low (Struct n) = omega arith
+zero_low (Pointer m k t) = omega arith
+
+alone_low : (n : ℕ) (c : Called) → LowCall n c → IsLowStatement n (alone c)
+alone_low n (Gives type value) h = h
+alone_low n (GivesNothing call) h = h
+
+abbrev pub HaveFew : Scope → Type 0
+HaveFew s = AllByRecursion HasFew s.functions
+
+few_later : (a b : Scope) → Grows a b → HaveFew a → HaveFew b
+few_later a b h few = subst (AllByRecursion HasFew) h.functions few
+
+module _ (at : Places) where
+  assignment_low : (s : Scope) → HaveFew s → (a : Assignment) (n : ℕ) → 17 * (assigned_reach a).height + 3 ≤ n → Promises (IsLowStatement n) (assignment at s a)
+  assignment_low s few (trees.Store operator target value span) n h =
+      let one = beside_first (expression_reach target) (expression_reach value) in
+      let two = beside_second (expression_reach target) (expression_reach value) in
+      let m = 17 * (assigned_reach (trees.Store operator target value span)).height + 1 in
+      passing_promises (Low m) (IsLowStatement n) (typed at s target) _ (typed_low s few at target m (omega arith))
+      (λ a ha. passing_promises (Low m) (IsLowStatement n) (typed at s value) _ (typed_low s few at value m (omega arith))
+      (λ b hb. promised_so (IsLowStatement (m + 2)) (IsLowStatement n) (stored at operator a b span) (stored_low m at operator a b span (omega arith) ha hb) (λ x low. omega arith)))
+  assignment_low s few (trees.Step operator side target span) n h =
+      let m = 17 * (expression_reach target).height + 1 in
+      passing_promises (Low m) (IsLowStatement n) (typed at s target) _ (typed_low s few at target m (omega arith))
+      (λ a ha. promised_so (IsLowStatement (m + 2)) (IsLowStatement n) (updated at (step_of operator) a one span) (updated_low m at (step_of operator) a one span ha (omega arith, tt)) (λ x low. omega arith))
+
+  condition_low : (s : Scope) → HaveFew s → (x : Expression) (n : ℕ) → 17 * (expression_reach x).height ≤ n → Promises (IsLow n) (condition at s x)
+  condition_low s few x n h = passing_promises (Low n) (IsLow n) (typed at s x) _ (typed_low s few at x n h) (λ t low. scalar_of_low (IsLow n) n t (expression_span x) Passes low (λ v low'. low'))
+
+  optional_low : (s : Scope) → HaveFew s → (o : Option Expression) (n : ℕ) → 17 * (optional_expression_reach o).height + 1 ≤ n → Promises (IsLow n) (optional_condition at s o)
+  optional_low s few None n h = omega arith
+  optional_low s few (Some x) n h = condition_low s few x n (omega arith)
+
+  step_low : (s : Scope) → HaveFew s → (o : Option Assignment) (n : ℕ) → 17 * (optional_assignment_reach o).height ≤ n → Promises (IsLowStatement n) (optional_step at s o)
+  step_low s few None n h = omega arith
+  step_low s few (Some a) n h = let higher = around_higher (assignment_span a).from (assigned_reach a) in assignment_low s few a n (omega arith)
+
+  -- ---- locals
+
+  initialised_low : (s : Scope) → HaveFew s → (o : Option Initializer) (t : CType) (k : ℕ) (span : Span) (n : ℕ) → 17 * (optional_initializer_reach o).height + 1 ≤ n → Promises (IsLowStatement n) (initialised at s o t k span)
+  initialised_low s few None t k span n h = omega arith
+  initialised_low s few (Some (trees.Value value)) t k span n h =
+      passing_promises (Low n) (IsLowStatement n) (typed at s value) _ (typed_low s few at value n (omega arith)) (λ x low. converted_low (IsLowStatement n) n x t span _ (omega arith) low (λ v low'. low'))
+  initialised_low s few (Some (trees.Constants constants list)) t k span n h = tt
+
+  abbrev pub BecomesLow : ℕ → Walked → Type 0
+  BecomesLow n w = IsLowStatement n w.0
+
+  declarator_low : (s : Scope) → HaveFew s → (base : TypeTree) (type : CType) (span : Span) (d : Declarator) (n : ℕ) → 17 * (declarator_reach d).height + 1 ≤ n → Promises (BecomesLow n) (declarator at s base type span d)
+  declarator_low s few base type span d n h =
+      let two = beside_second (optional_bounds_reach d.bounds) (optional_initializer_reach d.initializer) in
+      needs_promises (BecomesLow n) (nat_lt (length s.locals) 256) E08 span _
+      (λ low. passing_promises (λ (t : CType). Unit {0}) (BecomesLow n) (without_stars base d.stars type) _ (anything_promised (without_stars base d.stars type))
+      (λ t _. passing_promises (IsLowStatement n) (BecomesLow n) (initialised at (with_local d.name.name t s) d.initializer t (length s.locals) span) _ (initialised_low (with_local d.name.name t s) few d.initializer t (length s.locals) span n (omega arith))
+      (λ initial low'. needs_promises (BecomesLow n) (is_scalar t) E13 span _ (λ scalar. omega (arith, zero_low t)))))
+
+  declarators_low : (s : Scope) → HaveFew s → (base : TypeTree) (type : CType) (span : Span) (ds : List Declarator) (n : ℕ) → 17 * (declarators_reach ds).height + 1 ≤ n → Promises (BecomesLow n) (declarators at s base type span ds)
+  declarators_low s few base type span [] n h = omega arith
+  declarators_low s few base type span (d ∷ ds) n h =
+      let one = beside_first (declarator_reach d) (declarators_reach ds) in
+      let two = beside_second (declarator_reach d) (declarators_reach ds) in
+      passing_promises (λ (w : Walked). GrowsTo s w × BecomesLow n w) (BecomesLow n) (declarator at s base type span d) _
+      (both_promise (GrowsTo s) (BecomesLow n) (declarator at s base type span d) (declarator_grows at s base type span d) (declarator_low s few base type span d n (omega arith)))
+      (λ first hf. passing_promises (BecomesLow n) (BecomesLow n) (declarators at first.1 base type span ds) _ (declarators_low first.1 (few_later s first.1 hf.0 few) base type span ds n (omega arith)) (λ rest low. let low' = hf.1 in omega arith))
+
+  declaration_low : (s : Scope) → HaveFew s → (d : Declaration) (n : ℕ) → 17 * (declared_reach d).height + 1 ≤ n → Promises (BecomesLow n) (declaration at s d)
+  declaration_low s few d n h =
+      let two = beside_second (type_reach d.base) (declarators_reach d.declarators) in
+      needs_promises (BecomesLow n) (nat_lt (length s.locals) 256) E08 d.span _
+      (λ room. passing_promises (λ (t : CType). Unit {0}) (BecomesLow n) (base_type s d.base) _ (anything_promised (base_type s d.base)) (λ type _. declarators_low s few d.base type d.span d.declarators n (omega arith)))
+
+  first_low : (s : Scope) → HaveFew s → (initial : ForInitial) (n : ℕ) → 17 * (for_initial_reach initial).height ≤ n → Promises (BecomesLow n) (first_part at s initial)
+  first_low s few trees.Nothing n h = omega arith
+  first_low s few (trees.Declares d) n h = let higher = around_higher d.span.from (declared_reach d) in declaration_low s few d n (omega arith)
+  first_low s few (trees.Assigns a) n h =
+      let higher = around_higher (assignment_span a).from (assigned_reach a) in
+      passing_promises (IsLowStatement n) (BecomesLow n) (assignment at s a) _ (assignment_low s few a n (omega arith)) (λ x low. low)
+
+  -- ---- results
+
+  returned_low : (n : ℕ) (o : Option CType) (t : Typed) (span : Span) → 1 ≤ n → Low n t → Promises (IsLowStatement n) (returned o t span)
+  returned_low n None t span least h = tt
+  returned_low n (Some type) t span least h = converted_low (IsLowStatement n) n t type span _ least h (λ v low. low)
+
+  nothing_low : (n : ℕ) (o : Option CType) (span : Span) → Promises (IsLowStatement n) (returned_nothing o span)
+  nothing_low n None span = omega arith
+  nothing_low n (Some type) span = tt
+
+  return_low : (s : Scope) → HaveFew s → (o : Option Expression) (span : Span) (n : ℕ) → 17 * (optional_expression_reach o).height + 1 ≤ n → Promises (IsLowStatement n) (return at s o span)
+  return_low s few None span n h = nothing_low n s.result span
+  return_low s few (Some x) span n h = passing_promises (Low n) (IsLowStatement n) (typed at s x) _ (typed_low s few at x n (omega arith)) (λ t low. returned_low n s.result t span (omega arith) low)
+
+  -- ---- statements
+
+  mutual
+    pub statement_low : (s : Scope) → HaveFew s → (x : Statement) (n : ℕ) → 17 * (statement_reach x).height ≤ n → Promises (BecomesLow n) (statement at s x)
+    statement_low s few (trees.Block mark inner span) n h =
+        let higher = around_higher span.from (statements_reach inner) in
+        passing_promises (λ (w : core.Statements × Scope). statements_stack w.0 ≤ n) (BecomesLow n) (statements at s inner) _ (statements_low s few inner n (omega arith))
+        (λ w low. needs_promises (BecomesLow n) (not (is_unchecked mark || s.is_off)) E15 span _ (λ on. low))
+    statement_low s few (trees.Bundle assignments span) n h = tt
+    statement_low s few (trees.Declare d span) n h = let higher = around_higher span.from (declared_reach d) in declaration_low s few d n (omega arith)
+    statement_low s few (trees.Assign a span) n h =
+        let higher = around_higher span.from (assigned_reach a) in
+        passing_promises (IsLowStatement n) (BecomesLow n) (assignment at s a) _ (assignment_low s few a n (omega arith)) (λ x low. low)
+    statement_low s few (trees.CallAlone call span) n h =
+        let higher = around_higher span.from (expression_reach call) in
+        passing_promises (LowCall n) (BecomesLow n) (call_typed at s call) _ (call_typed_low s few at call n (omega arith)) (λ c low. alone_low n c low)
+    statement_low s few (trees.Empty span) n h = omega arith
+    statement_low s few (trees.If test consequent span) n h =
+        let parts = expression_reach test beside statement_reach consequent in
+        let higher = around_higher span.from parts in
+        let one = beside_first (expression_reach test) (statement_reach consequent) in
+        let two = beside_second (expression_reach test) (statement_reach consequent) in
+        passing_promises (IsLow n) (BecomesLow n) (condition at s test) _ (condition_low s few test n (omega arith))
+        (λ c low. passing_promises (BecomesLow n) (BecomesLow n) (statement at s consequent) _ (statement_low s few consequent n (omega arith)) (λ x low'. omega arith))
+    statement_low s few (trees.IfElse test consequent alternative span) n h =
+        let a = expression_reach test in
+        let b = statement_reach consequent in
+        let c' = statement_reach alternative in
+        let higher = around_higher span.from (a beside b beside c') in
+        let one = beside_first a b in
+        let two = beside_second a b in
+        let three = beside_first (a beside b) c' in
+        let four = beside_second (a beside b) c' in
+        passing_promises (IsLow n) (BecomesLow n) (condition at s test) _ (condition_low s few test n (omega arith))
+        (λ c low. passing_promises (λ (w : Walked). GrowsTo s w × BecomesLow n w) (BecomesLow n) (statement at s consequent) _
+        (both_promise (GrowsTo s) (BecomesLow n) (statement at s consequent) (statement_grows at s consequent) (statement_low s few consequent n (omega arith)))
+        (λ x hx. passing_promises (BecomesLow n) (BecomesLow n) (statement at (behind_block s x.1) alternative) _ (statement_low (behind_block s x.1) (few_later s (behind_block s x.1) (block_grows s x.1 hx.0) few) alternative n (omega arith))
+        (λ y low'. let low'' = hx.1 in omega arith)))
+    statement_low s few (trees.While test body span) n h =
+        let higher = around_higher span.from (expression_reach test beside statement_reach body) in
+        let one = beside_first (expression_reach test) (statement_reach body) in
+        let two = beside_second (expression_reach test) (statement_reach body) in
+        passing_promises (IsLow n) (BecomesLow n) (condition at s test) _ (condition_low s few test n (omega arith))
+        (λ c low. passing_promises (BecomesLow n) (BecomesLow n) (statement at (in_loop s) body) _ (statement_low (in_loop s) few body n (omega arith)) (λ x low'. omega arith))
+    statement_low s few (trees.For initial test step body span) n h =
+        let a = for_initial_reach initial in
+        let b = optional_expression_reach test in
+        let c' = optional_assignment_reach step in
+        let d = statement_reach body in
+        let higher = around_higher span.from (a beside b beside c' beside d) in
+        let one = beside_first a b in
+        let two = beside_second a b in
+        let three = beside_first (a beside b) c' in
+        let four = beside_second (a beside b) c' in
+        let five = beside_first (a beside b beside c') d in
+        let six = beside_second (a beside b beside c') d in
+        passing_promises (λ (w : Walked). GrowsTo s w × BecomesLow n w) (BecomesLow n) (first_part at s initial) _
+        (both_promise (GrowsTo s) (BecomesLow n) (first_part at s initial) (first_grows at s initial) (first_low s few initial n (omega arith)))
+        (λ first hf.
+        let few' = few_later s first.1 hf.0 few in
+        passing_promises (IsLow n) (BecomesLow n) (optional_condition at first.1 test) _ (optional_low first.1 few' test n (omega arith))
+        (λ c low. passing_promises (λ (w : Walked). GrowsTo (in_loop first.1) w × BecomesLow n w) (BecomesLow n) (statement at (in_loop first.1) body) _
+        (both_promise (GrowsTo (in_loop first.1)) (BecomesLow n) (statement at (in_loop first.1) body) (statement_grows at (in_loop first.1) body) (statement_low (in_loop first.1) few' body n (omega arith)))
+        (λ x hx. passing_promises (IsLowStatement n) (BecomesLow n) (optional_step at (behind_block first.1 x.1) step) _ (step_low (behind_block first.1 x.1) (few_later first.1 (behind_block first.1 x.1) (loop_grows first.1 x.1 hx.0) few') step n (omega arith))
+        (λ y low'. let l = hf.1 in let l' = hx.1 in omega arith))))
+    statement_low s few (trees.Return value span) n h =
+        let higher = around_higher span.from (optional_expression_reach value) in
+        passing_promises (IsLowStatement n) (BecomesLow n) (return at s value span) _ (return_low s few value span n (omega arith)) (λ x low. low)
+    statement_low s few (trees.Break span) n h = needs_promises (BecomesLow n) s.in_loop E30 span _ (λ yes. omega arith)
+    statement_low s few (trees.Continue span) n h = needs_promises (BecomesLow n) s.in_loop E30 span _ (λ yes. omega arith)
+
+    pub statements_low : (s : Scope) → HaveFew s → (xs : Statements) (n : ℕ) → 17 * (statements_reach xs).height ≤ n → Promises (λ (w : core.Statements × Scope). statements_stack w.0 ≤ n) (statements at s xs)
+    statements_low s few trees.NoMore n h = omega arith
+    statements_low s few (trees.Then first others) n h =
+        let one = beside_first (statement_reach first) (statements_reach others) in
+        let two = beside_second (statement_reach first) (statements_reach others) in
+        passing_promises (λ (w : Walked). GrowsTo s w × BecomesLow n w) (λ (w : core.Statements × Scope). statements_stack w.0 ≤ n) (statement at s first) _
+        (both_promise (GrowsTo s) (BecomesLow n) (statement at s first) (statement_grows at s first) (statement_low s few first n (omega arith)))
+        (λ x hx. passing_promises (λ (w : core.Statements × Scope). statements_stack w.0 ≤ n) (λ (w : core.Statements × Scope). statements_stack w.0 ≤ n) (statements at x.1 others) _ (statements_low x.1 (few_later s x.1 hx.0 few) others n (omega arith))
+        (λ y low. let low' = hx.1 in omega arith))

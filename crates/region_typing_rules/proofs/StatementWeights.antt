@@ -1,0 +1,210 @@
+-- The statements of a core have few nodes, by how many the tree has that they come from.
+use Rattle.std.proofs.Common.{◌≡◌, ℕ, ◌+◌, ◌*◌, ◌<◌, ◌≤◌, List, [], ◌∷◌, length, Option, Some, None, arith}
+use Rattle.std.specs.Prelude.{nat_lt, not, ◌||◌}
+use Rattle.ckc_text.specs.declared.place.Span.{Span}
+use Rattle.ckc_text.specs.declared.code.Code.TheVariants.{E08, E13, E15, E19, E30}
+use Rattle.ckc_tree.specs.declared.stmt.StoreOperator.{StoreOperator}
+use Rattle.ckc_tree.specs.declared.stmt.StoreOperator.TheVariants as stores
+use Rattle.ckc_tree.specs.Types.{TypeTree}
+use Rattle.ckc_tree.specs.Expressions.{Expression, expression_span}
+use Rattle.ckc_tree.specs.Statements as trees
+use Rattle.ckc_tree.specs.Statements.{Initializer, Declarator, Declaration, Assignment, ForInitial, Statement, Statements}
+use Rattle.ckc_tree.specs.Weights as tree
+use Rattle.pointer_modes.specs.Types.{CType, Int, Char, Struct, Pointer}
+use Rattle.ckc_core.specs.declared.program.Site.{Site}
+use Rattle.ckc_core.specs.declared.program.Operator.{Operator}
+use Rattle.ckc_core.specs.declared.program.Operator.TheVariants as operators
+use Rattle.ckc_core.specs.Core as core
+use Rattle.ckc_core.specs.Weights.{expression_weight, statement_weight, statements_weight}
+use Rattle.region_typing_rules.specs.Verdicts.{Verdict, Passes}
+use Rattle.region_typing_rules.specs.Scopes.{Scope}
+use Rattle.region_typing_rules.specs.Types.{is_pointer, is_scalar, without_stars, base_type}
+use Rattle.region_typing_rules.specs.Expressions.{Places, Typed, Value, AStruct, Called, Gives, GivesNothing, Lvalue, OfLocal, OfCell, site_at, typed, call_typed, is_pointer_value}
+use Rattle.region_typing_rules.specs.Statements.{Walked, store, update, assigned, set_to, updated, stored, step_of, one, assignment, zero_value, with_local, initialised, declarator, declarators, declaration, behind_block, in_loop, is_unchecked, condition, optional_condition, optional_step, first_part, alone, returned, returned_nothing, return, statement, statements}
+use Rattle.region_typing_rules.proofs.Verdicts.{Promises, passing_promises, needs_promises, anything_promised, promised_so}
+use Rattle.region_typing_rules.proofs.Weights.{Light, LightPlace, LightCall, IsLight, node_there, scalar_of_light, two_light, converted_light, typed_light, call_typed_light}
+
+abbrev IsLightStatement : ℕ → core.Statement → Type 0
+IsLightStatement n x = statement_weight x ≤ n
+
+abbrev BecomesLight : ℕ → Walked → Type 0
+BecomesLight n w = statement_weight w.0 ≤ n
+
+-- ---- assignments
+
+assigned_light : (Q : core.Statement → Type 0) (n : ℕ) (target : Typed) (span : Span) (next : CType → Lvalue → Verdict core.Statement) → Light n target → ((type : CType) (place : Lvalue) → LightPlace n (Some place) → Promises Q (next type place)) → Promises Q (assigned target span next)
+assigned_light Q n (Value type zero value None) span next h more = tt
+assigned_light Q n (Value type zero value (Some place)) span next h more = more type place h.1
+assigned_light Q n (AStruct number place) span next h more = tt
+
+store_light : (n m : ℕ) (place : Lvalue) (type : CType) (value : core.Expression) → LightPlace n (Some place) → IsLight (m + 1) value → IsLightStatement (n + m + 1) (store place type value)
+store_light n m (OfLocal k) type value h light = omega arith
+store_light n m (OfCell p) type value h light = omega arith
+
+update_light : (n m : ℕ) (place : Lvalue) (type : CType) (operator : Operator) (value : core.Expression) (site : Site) → LightPlace n (Some place) → IsLight m value → IsLightStatement (n + m + 1) (update place type operator value site)
+update_light n m (OfLocal k) type operator value site h light = omega arith
+update_light n m (OfCell (core.Direct object cell offset)) type operator value site h light = omega arith
+update_light n m (OfCell (core.Through pointer cell offset before)) type operator value site h light = omega arith
+
+set_light : (n m : ℕ) (target right : Typed) (span : Span) → 2 ≤ m → Light n target → Light m right → Promises (IsLightStatement (n + m + 1)) (set_to target right span)
+set_light n m target right span two ht hr =
+    assigned_light (IsLightStatement (n + m + 1)) n target span _ ht (λ type place h. converted_light (IsLightStatement (n + m + 1)) m right type span _ two hr (λ v light. store_light n m place type v h light))
+
+updated_light : (n m : ℕ) (at : Places) (operator : Operator) (target right : Typed) (span : Span) → Light n target → Light m right → Promises (IsLightStatement (n + m + 1)) (updated at operator target right span)
+updated_light n m at operator (Value type zero value None) right span ht hr = tt
+updated_light n m at operator (Value type zero value (Some place)) right span ht hr =
+    needs_promises (IsLightStatement (n + m + 1)) (not (is_pointer type || is_pointer_value right)) E19 span _
+    (λ apart. two_light (IsLightStatement (n + m + 1)) n m (Value type zero value (Some place)) right span (λ old v. Passes (update place type operator v (site_at at span))) ht hr
+    (λ old v light light'. update_light n m place type operator v (site_at at span) ht.1 light'))
+updated_light n m at operator (AStruct number place) right span ht hr = tt
+
+stored_light : (n m : ℕ) (at : Places) (operator : StoreOperator) (target right : Typed) (span : Span) → 2 ≤ m → Light n target → Light m right → Promises (IsLightStatement (n + m + 1)) (stored at operator target right span)
+stored_light n m at stores.Set target right span two ht hr = set_light n m target right span two ht hr
+stored_light n m at stores.Add target right span two ht hr = updated_light n m at operators.Add target right span ht hr
+stored_light n m at stores.Subtract target right span two ht hr = updated_light n m at operators.Subtract target right span ht hr
+
+zero_light : (t : CType) → expression_weight (zero_value t) ≡ 1
+zero_light Int = omega arith
+zero_light Char = omega arith
+zero_light (Struct n) = omega arith
+zero_light (Pointer m k t) = omega arith
+
+alone_light : (n : ℕ) (c : Called) → LightCall n c → IsLightStatement n (alone c)
+alone_light n (Gives type value) h = omega arith
+alone_light n (GivesNothing call) h = omega arith
+
+module _ (at : Places) where
+  assignment_light : (s : Scope) (a : Assignment) → Promises (IsLightStatement (5 * tree.assignment_weight a)) (assignment at s a)
+  assignment_light s (trees.Store operator target value span) =
+      let n = 5 * tree.expression_weight target in
+      let m = 5 * tree.expression_weight value in
+      let all = 5 * tree.assignment_weight (trees.Store operator target value span) in
+      passing_promises (Light n) (IsLightStatement all) (typed at s target) _ (typed_light at s target)
+      (λ a ha. passing_promises (Light m) (IsLightStatement all) (typed at s value) _ (typed_light at s value)
+      (λ b hb. promised_so (IsLightStatement (n + m + 1)) (IsLightStatement all) (stored at operator a b span) (stored_light n m at operator a b span (omega (arith, node_there value)) ha hb) (λ x light. omega arith)))
+  assignment_light s (trees.Step operator side target span) =
+      let n = 5 * tree.expression_weight target in
+      let all = 5 * tree.assignment_weight (trees.Step operator side target span) in
+      passing_promises (Light n) (IsLightStatement all) (typed at s target) _ (typed_light at s target)
+      (λ a ha. promised_so (IsLightStatement (n + 2 + 1)) (IsLightStatement all) (updated at (step_of operator) a one span) (updated_light n 2 at (step_of operator) a one span ha (omega arith, tt)) (λ x light. omega arith))
+
+  condition_light : (s : Scope) (x : Expression) → Promises (IsLight (5 * tree.expression_weight x)) (condition at s x)
+  condition_light s x =
+      let n = 5 * tree.expression_weight x in
+      passing_promises (Light n) (IsLight n) (typed at s x) _ (typed_light at s x) (λ t light. scalar_of_light (IsLight n) n t (expression_span x) Passes light (λ v light'. light'))
+
+  optional_light : (s : Scope) (o : Option Expression) → Promises (IsLight (5 * tree.optional_expression_weight o + 2)) (optional_condition at s o)
+  optional_light s None = omega arith
+  optional_light s (Some x) = promised_so (IsLight (5 * tree.expression_weight x)) (IsLight (5 * tree.expression_weight x + 2)) (condition at s x) (condition_light s x) (λ v light. omega arith)
+
+  step_light : (s : Scope) (o : Option Assignment) → Promises (IsLightStatement (5 * tree.optional_assignment_weight o + 1)) (optional_step at s o)
+  step_light s None = omega arith
+  step_light s (Some a) = promised_so (IsLightStatement (5 * tree.assignment_weight a)) (IsLightStatement (5 * tree.assignment_weight a + 1)) (assignment at s a) (assignment_light s a) (λ v light. omega arith)
+
+  -- ---- locals
+
+  initialised_light : (s : Scope) (o : Option Initializer) (t : CType) (k : ℕ) (span : Span) → Promises (IsLightStatement (5 * tree.optional_initializer_weight o + 1)) (initialised at s o t k span)
+  initialised_light s None t k span = omega arith
+  initialised_light s (Some (trees.Value value)) t k span =
+      let n = 5 * tree.expression_weight value in
+      passing_promises (Light n) (IsLightStatement (n + 1)) (typed at s value) _ (typed_light at s value)
+      (λ x light. converted_light (IsLightStatement (n + 1)) n x t span _ (omega (arith, node_there value)) light (λ v light'. omega arith))
+  initialised_light s (Some (trees.Constants constants list)) t k span = tt
+
+  -- with one node to spare
+  declarator_light : (s : Scope) (base : TypeTree) (type : CType) (span : Span) (d : Declarator) → Promises (λ (w : Walked). statement_weight w.0 < 5 * tree.declarator_weight d) (declarator at s base type span d)
+  declarator_light s base type span d =
+      let n = 5 * tree.optional_initializer_weight d.initializer + 1 in
+      needs_promises (λ (w : Walked). statement_weight w.0 < 5 * tree.declarator_weight d) (nat_lt (length s.locals) 256) E08 span _
+      (λ low. passing_promises (λ (t : CType). Unit {0}) (λ (w : Walked). statement_weight w.0 < 5 * tree.declarator_weight d) (without_stars base d.stars type) _ (anything_promised (without_stars base d.stars type))
+      (λ t _. passing_promises (IsLightStatement n) (λ (w : Walked). statement_weight w.0 < 5 * tree.declarator_weight d) (initialised at (with_local d.name.name t s) d.initializer t (length s.locals) span) _ (initialised_light (with_local d.name.name t s) d.initializer t (length s.locals) span)
+      (λ initial light. needs_promises (λ (w : Walked). statement_weight w.0 < 5 * tree.declarator_weight d) (is_scalar t) E13 span _ (λ scalar. omega (arith, zero_light t)))))
+
+  declarators_light : (s : Scope) (base : TypeTree) (type : CType) (span : Span) (ds : List Declarator) → Promises (BecomesLight (5 * tree.declarators_weight ds + 1)) (declarators at s base type span ds)
+  declarators_light s base type span [] = omega arith
+  declarators_light s base type span (d ∷ ds) =
+      let all = 5 * tree.declarators_weight (d ∷ ds) + 1 in
+      passing_promises (λ (w : Walked). statement_weight w.0 < 5 * tree.declarator_weight d) (BecomesLight all) (declarator at s base type span d) _ (declarator_light s base type span d)
+      (λ first hf. passing_promises (BecomesLight (5 * tree.declarators_weight ds + 1)) (BecomesLight all) (declarators at first.1 base type span ds) _ (declarators_light first.1 base type span ds) (λ rest light. omega arith))
+
+  declaration_light : (s : Scope) (d : Declaration) → Promises (BecomesLight (5 * tree.declaration_weight d)) (declaration at s d)
+  declaration_light s d =
+      let all = 5 * tree.declaration_weight d in
+      needs_promises (BecomesLight all) (nat_lt (length s.locals) 256) E08 d.span _
+      (λ room. passing_promises (λ (t : CType). Unit {0}) (BecomesLight all) (base_type s d.base) _ (anything_promised (base_type s d.base))
+      (λ type _. promised_so (BecomesLight (5 * tree.declarators_weight d.declarators + 1)) (BecomesLight all) (declarators at s d.base type d.span d.declarators) (declarators_light s d.base type d.span d.declarators) (λ w light. omega arith)))
+
+  first_light : (s : Scope) (initial : ForInitial) → Promises (BecomesLight (5 * tree.for_initial_weight initial + 1)) (first_part at s initial)
+  first_light s trees.Nothing = omega arith
+  first_light s (trees.Declares d) = promised_so (BecomesLight (5 * tree.declaration_weight d)) (BecomesLight (5 * tree.declaration_weight d + 1)) (declaration at s d) (declaration_light s d) (λ w light. omega arith)
+  first_light s (trees.Assigns a) =
+      passing_promises (IsLightStatement (5 * tree.assignment_weight a)) (BecomesLight (5 * tree.assignment_weight a + 1)) (assignment at s a) _ (assignment_light s a) (λ x light. omega arith)
+
+  -- ---- results
+
+  returned_light : (n : ℕ) (o : Option CType) (t : Typed) (span : Span) → 2 ≤ n → Light n t → Promises (IsLightStatement (n + 1)) (returned o t span)
+  returned_light n None t span two h = tt
+  returned_light n (Some type) t span two h = converted_light (IsLightStatement (n + 1)) n t type span _ two h (λ v light. omega arith)
+
+  nothing_light : (o : Option CType) (span : Span) → Promises (IsLightStatement 5) (returned_nothing o span)
+  nothing_light None span = omega arith
+  nothing_light (Some type) span = tt
+
+  return_light : (s : Scope) (o : Option Expression) (span : Span) → Promises (IsLightStatement (5 * tree.optional_expression_weight o + 5)) (return at s o span)
+  return_light s None span = nothing_light s.result span
+  return_light s (Some x) span =
+      let n = 5 * tree.expression_weight x in
+      passing_promises (Light n) (IsLightStatement (n + 5)) (typed at s x) _ (typed_light at s x)
+      (λ t light. promised_so (IsLightStatement (n + 1)) (IsLightStatement (n + 5)) (returned s.result t span) (returned_light n s.result t span (omega (arith, node_there x)) light) (λ v light'. omega arith))
+
+  -- ---- statements
+
+  abbrev AreLight : Statements → core.Statements × Scope → Type 0
+  AreLight xs w = statements_weight w.0 ≤ 5 * tree.statements_weight xs
+
+  mutual
+    pub statement_light : (s : Scope) (x : Statement) → Promises (BecomesLight (5 * tree.statement_weight x)) (statement at s x)
+    statement_light s (trees.Block mark inner span) =
+        let all = 5 * tree.statement_weight (trees.Block mark inner span) in
+        passing_promises (AreLight inner) (BecomesLight all) (statements at s inner) _ (statements_light s inner)
+        (λ w light. needs_promises (BecomesLight all) (not (is_unchecked mark || s.is_off)) E15 span _ (λ on. omega arith))
+    statement_light s (trees.Bundle assignments span) = tt
+    statement_light s (trees.Declare d span) = declaration_light s d
+    statement_light s (trees.Assign a span) =
+        let all = 5 * tree.assignment_weight a in
+        passing_promises (IsLightStatement all) (BecomesLight all) (assignment at s a) _ (assignment_light s a) (λ x light. light)
+    statement_light s (trees.CallAlone call span) =
+        let n = 5 * tree.expression_weight call in
+        passing_promises (LightCall n) (BecomesLight (5 * tree.statement_weight (trees.CallAlone call span))) (call_typed at s call) _ (call_typed_light at s call) (λ c light. let it = alone_light n c light in omega arith)
+    statement_light s (trees.Empty span) = omega arith
+    statement_light s (trees.If test consequent span) =
+        let all = 5 * tree.statement_weight (trees.If test consequent span) in
+        passing_promises (IsLight (5 * tree.expression_weight test)) (BecomesLight all) (condition at s test) _ (condition_light s test)
+        (λ c light. passing_promises (BecomesLight (5 * tree.statement_weight consequent)) (BecomesLight all) (statement at s consequent) _ (statement_light s consequent) (λ x light'. omega arith))
+    statement_light s (trees.IfElse test consequent alternative span) =
+        let all = 5 * tree.statement_weight (trees.IfElse test consequent alternative span) in
+        passing_promises (IsLight (5 * tree.expression_weight test)) (BecomesLight all) (condition at s test) _ (condition_light s test)
+        (λ c light. passing_promises (BecomesLight (5 * tree.statement_weight consequent)) (BecomesLight all) (statement at s consequent) _ (statement_light s consequent)
+        (λ x light'. passing_promises (BecomesLight (5 * tree.statement_weight alternative)) (BecomesLight all) (statement at (behind_block s x.1) alternative) _ (statement_light (behind_block s x.1) alternative) (λ y light''. omega arith)))
+    statement_light s (trees.While test body span) =
+        let all = 5 * tree.statement_weight (trees.While test body span) in
+        passing_promises (IsLight (5 * tree.expression_weight test)) (BecomesLight all) (condition at s test) _ (condition_light s test)
+        (λ c light. passing_promises (BecomesLight (5 * tree.statement_weight body)) (BecomesLight all) (statement at (in_loop s) body) _ (statement_light (in_loop s) body) (λ x light'. omega arith))
+    statement_light s (trees.For initial test step body span) =
+        let all = 5 * tree.statement_weight (trees.For initial test step body span) in
+        passing_promises (BecomesLight (5 * tree.for_initial_weight initial + 1)) (BecomesLight all) (first_part at s initial) _ (first_light s initial)
+        (λ first hf. passing_promises (IsLight (5 * tree.optional_expression_weight test + 2)) (BecomesLight all) (optional_condition at first.1 test) _ (optional_light first.1 test)
+        (λ c light. passing_promises (BecomesLight (5 * tree.statement_weight body)) (BecomesLight all) (statement at (in_loop first.1) body) _ (statement_light (in_loop first.1) body)
+        (λ x hx. passing_promises (IsLightStatement (5 * tree.optional_assignment_weight step + 1)) (BecomesLight all) (optional_step at (behind_block first.1 x.1) step) _ (step_light (behind_block first.1 x.1) step)
+        (λ y light'. omega arith))))
+    statement_light s (trees.Return value span) =
+        let n = 5 * tree.optional_expression_weight value + 5 in
+        passing_promises (IsLightStatement n) (BecomesLight (5 * tree.statement_weight (trees.Return value span))) (return at s value span) _ (return_light s value span) (λ x light. omega arith)
+    statement_light s (trees.Break span) = needs_promises (BecomesLight 5) s.in_loop E30 span _ (λ yes. omega arith)
+    statement_light s (trees.Continue span) = needs_promises (BecomesLight 5) s.in_loop E30 span _ (λ yes. omega arith)
+
+    pub statements_light : (s : Scope) (xs : Statements) → Promises (λ (w : core.Statements × Scope). statements_weight w.0 ≤ 5 * tree.statements_weight xs) (statements at s xs)
+    statements_light s trees.NoMore = omega arith
+    statements_light s (trees.Then first others) =
+        passing_promises (BecomesLight (5 * tree.statement_weight first)) (AreLight (trees.Then first others)) (statement at s first) _ (statement_light s first)
+        (λ x light. passing_promises (AreLight others) (AreLight (trees.Then first others)) (statements at x.1 others) _ (statements_light x.1 others) (λ y light'. omega arith))

@@ -1,0 +1,381 @@
+-- The expressions of a core have few nodes, by how many the tree has that they come from.
+use Rattle.std.proofs.Common.{◌≡◌, ℕ, ◌+◌, ◌*◌, ◌<◌, ◌≤◌, ◌^◌, Bool, true, false, List, [], ◌∷◌, length, Option, Some, None, refl, arith}
+use Rattle.std.specs.Prelude.{bytes_eq, codes, nat_lt, not, ◌&&◌, ◌||◌, ◌==◌}
+use Rattle.ckc_text.specs.declared.place.Span.{Span}
+use Rattle.ckc_text.specs.declared.code.Code.TheVariants.{E04, E13, E14, E19}
+use Rattle.ckc_tree.specs.declared.expr.UnaryOperator.{UnaryOperator}
+use Rattle.ckc_tree.specs.declared.expr.UnaryOperator.TheVariants as unary
+use Rattle.ckc_tree.specs.declared.expr.BinaryOperator.{BinaryOperator}
+use Rattle.ckc_tree.specs.declared.expr.BinaryOperator.TheVariants as binary
+use Rattle.ckc_tree.specs.Expressions as e
+use Rattle.ckc_tree.specs.Expressions.{Expression, Expressions}
+use Rattle.ckc_tree.specs.Weights as tree
+use Rattle.pointer_modes.specs.Types.{CType, Int, Char, Struct, Pointer, members_of}
+use Rattle.pointer_modes.specs.Layout.{cells_of}
+use Rattle.ckc_core.specs.declared.program.Site.{Site}
+use Rattle.ckc_core.specs.declared.program.Operator.{Operator}
+use Rattle.ckc_core.specs.declared.program.Operator.TheVariants as operators
+use Rattle.ckc_core.specs.declared.program.Comparison.{Comparison}
+use Rattle.ckc_core.specs.declared.program.Comparison.TheVariants as comparisons
+use Rattle.ckc_core.specs.Core as core
+use Rattle.ckc_core.specs.Weights.{expression_weight, arguments_weight, place_weight, statement_weight}
+use Rattle.region_typing_rules.specs.Verdicts.{Verdict, Passes, breaks}
+use Rattle.region_typing_rules.specs.Scopes.{Scope, Signature, Named, Local, Object, Nothing, named, function_named}
+use Rattle.region_typing_rules.specs.Types.{type_named, is_number, is_pointer, are_comparable, converts}
+use Rattle.region_typing_rules.specs.Expressions.{Places, Lvalue, OfLocal, OfCell, Typed, Value, AStruct, Called, Gives, GivesNothing, site_at, number, at_place, local_typed, name_typed, member_place, member_from, offset_among, member_at, dotted, pointed_by, arrowed, pointed_at, dereferenced, pointer_to, address, number_of, scalar_of, unary_typed, is_pointer_value, two_numbers, two_scalars, summands, as_pointer, equated_values, equated, ordered_values, ordered, arithmetic, binary_typed, indexed, in_type, converted, arguments_as, is_import, side_number, call_of, first_of, writes, predefined_call, called, with_result, typed, all_typed, call_typed}
+use Rattle.region_typing_rules.proofs.Knowledge.{crossing_promises}
+use Rattle.region_typing_rules.proofs.Verdicts.{Promises, passing_promises, needs_promises, anything_promised, promised_so}
+
+-- ---- what an expression is has fewer nodes
+
+abbrev pub LightPlace : ℕ → Option Lvalue → Type 0
+LightPlace n None = Unit {0}
+LightPlace n (Some (OfLocal k)) = Unit {0}
+LightPlace n (Some (OfCell p)) = place_weight p < n
+
+abbrev pub Light : ℕ → Typed → Type 0
+Light n (Value type zero value place) = (expression_weight value < n) × LightPlace n place
+Light n (AStruct number place) = LightPlace n (Some place)
+
+abbrev pub LightCall : ℕ → Called → Type 0
+LightCall n (Gives type value) = expression_weight value < n
+LightCall n (GivesNothing call) = statement_weight call < n
+
+abbrev pub IsLight : ℕ → core.Expression → Type 0
+IsLight n v = expression_weight v < n
+
+light_place_more : (n m : ℕ) (place : Option Lvalue) → n ≤ m → LightPlace n place → LightPlace m place
+light_place_more n m None le h = tt
+light_place_more n m (Some (OfLocal k)) le h = tt
+light_place_more n m (Some (OfCell p)) le h = omega arith
+
+light_more : (n m : ℕ) (t : Typed) → n ≤ m → Light n t → Light m t
+light_more n m (Value type zero value place) le h = let first = h.0 in (omega arith, light_place_more n m place le h.1)
+light_more n m (AStruct number place) le h = light_place_more n m (Some place) le h
+
+-- ---- places
+
+at_place_light : (n : ℕ) (t : CType) (p : core.Place) → place_weight p + 1 < n → Light n (at_place t p)
+at_place_light n Int p h = (omega arith, omega arith)
+at_place_light n Char p h = (omega arith, omega arith)
+at_place_light n (Struct number) p h = omega arith
+at_place_light n (Pointer m k t) p h = (omega arith, omega arith)
+
+local_light : (n k : ℕ) (t : CType) → 1 < n → Light n (local_typed k t)
+local_light n k Int h = (h, tt)
+local_light n k Char h = (h, tt)
+local_light n k (Struct number) h = tt
+local_light n k (Pointer m d t) h = (h, tt)
+
+name_light : (n : ℕ) (x : Named) → 2 < n → Light n (name_typed x)
+name_light n (Local k t) h = local_light n k t (omega arith)
+name_light n (Object k t) h = at_place_light n t (core.Direct k 0 0) (omega arith)
+name_light n Nothing h = (omega arith, tt)
+
+member_weight : (p : core.Place) (cell offset : ℕ) (site : Site) → place_weight (member_place p cell offset site) ≡ place_weight p
+member_weight (core.Direct object first place) cell offset site = refl
+member_weight (core.Through pointer first place before) cell offset site = refl
+
+pointer_light : (n : ℕ) (t : CType) (p : core.Place) (site : Site) → place_weight p < n → Light n (pointer_to t p site)
+pointer_light n t (core.Direct object cell offset) site h = (h, tt)
+pointer_light n t (core.Through pointer cell offset before) site h = (h, tt)
+
+address_light : (n : ℕ) (a : Typed) (site : Site) (span : Span) → Light n a → Promises (Light n) (address a site span)
+address_light n (Value type zero value None) site span h = tt
+address_light n (Value type zero value (Some (OfLocal k))) site span h = tt
+address_light n (Value type zero value (Some (OfCell p))) site span h = pointer_light n type p site h.1
+address_light n (AStruct number (OfLocal k)) site span h = tt
+address_light n (AStruct number (OfCell p)) site span h = pointer_light n (Struct number) p site h
+
+pointed_light : (n : ℕ) (t : CType) (value : core.Expression) (site : Site) (span : Span) → IsLight n value → Promises (Light (n + 2)) (pointed_at t value site span)
+pointed_light n Int value site span h = tt
+pointed_light n Char value site span h = tt
+pointed_light n (Struct number) value site span h = tt
+pointed_light n (Pointer m k t) value site span h = at_place_light (n + 2) t (core.Through value 0 0 site) (omega arith)
+
+dereferenced_light : (n : ℕ) (a : Typed) (site : Site) (span : Span) → Light n a → Promises (Light (n + 2)) (dereferenced a site span)
+dereferenced_light n (Value type zero value place) site span h = pointed_light n type value site span h.0
+dereferenced_light n (AStruct number place) site span h = tt
+
+member_at_light : (n : ℕ) (s : Scope) (struct : ℕ) (p : core.Place) (name : List ℕ) (site : Site) (span : Span) → place_weight p + 1 < n → Promises (Light n) (member_at s struct p name site span)
+member_at_light n s struct p name site span h = by (member_from 0 (members_of s.structs struct) name) refl
+  where
+    by : (o : Option (ℕ × CType)) → member_from 0 (members_of s.structs struct) name ≡ o → Promises (Light n) (member_at s struct p name site span)
+    by None found = rw found tt
+    by (Some m) found =
+        let offset = offset_among (cells_of s.structs (Struct struct)) m.0 in
+        rw found (at_place_light n m.1 (member_place p m.0 offset site) (omega (arith, member_weight p m.0 offset site)))
+
+dotted_light : (n : ℕ) (s : Scope) (a : Typed) (name : List ℕ) (site : Site) (span : Span) → 2 ≤ n → Light n a → Promises (Light (n + 2)) (dotted s a name site span)
+dotted_light n s (Value type zero value place) name site span two h = tt
+dotted_light n s (AStruct number (OfLocal k)) name site span two h = member_at_light (n + 2) s number (core.Through (core.Local k) 0 0 site) name site span (omega arith)
+dotted_light n s (AStruct number (OfCell p)) name site span two h = member_at_light (n + 2) s number p name site span (omega arith)
+
+pointed_by_light : (n : ℕ) (s : Scope) (t : CType) (value : core.Expression) (name : List ℕ) (site : Site) (span : Span) → IsLight n value → Promises (Light (n + 2)) (pointed_by s t value name site span)
+pointed_by_light n s Int value name site span h = tt
+pointed_by_light n s Char value name site span h = tt
+pointed_by_light n s (Struct number) value name site span h = tt
+pointed_by_light n s (Pointer m k Int) value name site span h = tt
+pointed_by_light n s (Pointer m k Char) value name site span h = tt
+pointed_by_light n s (Pointer m k (Pointer m' k' t)) value name site span h = tt
+pointed_by_light n s (Pointer m k (Struct number)) value name site span h = member_at_light (n + 2) s number (core.Through value 0 0 site) name site span (omega arith)
+
+arrowed_light : (n : ℕ) (s : Scope) (a : Typed) (name : List ℕ) (site : Site) (span : Span) → Light n a → Promises (Light (n + 2)) (arrowed s a name site span)
+arrowed_light n s (Value type zero value place) name site span h = pointed_by_light n s type value name site span h.0
+arrowed_light n s (AStruct number place) name site span h = tt
+
+-- ---- operators
+
+pub number_of_light : {A : Type 0} (Q : A → Type 0) (n : ℕ) (a : Typed) (span : Span) (next : core.Expression → Verdict A) → Light n a → ((v : core.Expression) → IsLight n v → Promises Q (next v)) → Promises Q (number_of a span next)
+number_of_light Q n (Value type zero value place) span next h more = needs_promises Q (is_number type) E13 span (next value) (λ yes. more value h.0)
+number_of_light Q n (AStruct number place) span next h more = tt
+
+pub scalar_of_light : {A : Type 0} (Q : A → Type 0) (n : ℕ) (a : Typed) (span : Span) (next : core.Expression → Verdict A) → Light n a → ((v : core.Expression) → IsLight n v → Promises Q (next v)) → Promises Q (scalar_of a span next)
+scalar_of_light Q n (Value type zero value place) span next h more = more value h.0
+scalar_of_light Q n (AStruct number place) span next h more = tt
+
+unary_light : (n : ℕ) (operator : UnaryOperator) (a : Typed) (site : Site) (span : Span) → Light n a → Promises (Light (n + 2)) (unary_typed operator a site span)
+unary_light n unary.Deref a site span h = dereferenced_light n a site span h
+unary_light n unary.AddressOf a site span h = promised_so (Light n) (Light (n + 2)) (address a site span) (address_light n a site span h) (λ t. light_more n (n + 2) t (omega arith))
+unary_light n unary.Negate a site span h = number_of_light (Light (n + 2)) n a span (λ v. number (core.Negate v site)) h (λ v light. (omega arith, tt))
+unary_light n unary.Not a site span h = scalar_of_light (Light (n + 2)) n a span (λ v. number (core.Not v)) h (λ v light. (omega arith, tt))
+unary_light n unary.Complement a site span h = number_of_light (Light (n + 2)) n a span (λ v. number (core.Complement v)) h (λ v light. (omega arith, tt))
+
+pub two_light : {A : Type 0} (Q : A → Type 0) (n m : ℕ) (a b : Typed) (span : Span) (next : core.Expression → core.Expression → Verdict A) → Light n a → Light m b → ((v w : core.Expression) → IsLight n v → IsLight m w → Promises Q (next v w)) → Promises Q (two_numbers a b span next)
+two_light Q n m a b span next ha hb more = number_of_light Q n a span _ ha (λ v light. number_of_light Q m b span _ hb (λ w light'. more v w light light'))
+
+module _ (n m : ℕ) (a b : Typed) (span : Span) (ha : Light n a) (hb : Light m b) where
+  arithmetic_light : (operator : Operator) (site : Site) → Promises (Light (n + m + 2)) (two_numbers a b span (arithmetic operator site))
+  arithmetic_light operator site = two_light (Light (n + m + 2)) n m a b span (arithmetic operator site) ha hb (λ v w light light'. (omega arith, tt))
+
+  sum_light : (operator : Operator) (site : Site) → Promises (Light (n + m + 2)) (summands a b span (arithmetic operator site))
+  sum_light operator site = needs_promises (Light (n + m + 2)) (not (is_pointer_value a || is_pointer_value b)) E19 span _ (λ x. arithmetic_light operator site)
+
+  truths_light : (of : core.Expression → core.Expression → core.Expression) → ((v w : core.Expression) → expression_weight (of v w) ≡ 1 + expression_weight v + expression_weight w) → Promises (Light (n + m + 2)) (two_scalars a b span (λ v w. number (of v w)))
+  truths_light of h = scalar_of_light (Light (n + m + 2)) n a span _ ha (λ v light. scalar_of_light (Light (n + m + 2)) m b span _ hb (λ w light'. (omega (arith, h v w), tt)))
+
+equated_values_light : (n m : ℕ) (t : CType) (z : Bool) (v : core.Expression) (u : CType) (y : Bool) (w : core.Expression) (span : Span) → IsLight n v → IsLight m w → Promises (IsLight (n + m + 1)) (equated_values t z v u y w span)
+equated_values_light n m t z v u y w span hv hw = by (is_number t && is_number u) (are_comparable t u) (is_pointer t && y) (is_pointer u && z) refl refl refl refl
+  where
+    by : (numbers same left right : Bool) → (is_number t && is_number u) ≡ numbers → are_comparable t u ≡ same → (is_pointer t && y) ≡ left → (is_pointer u && z) ≡ right → Promises (IsLight (n + m + 1)) (equated_values t z v u y w span)
+    by true same left right h0 h1 h2 h3 = rw h0 (omega arith)
+    by false true left right h0 h1 h2 h3 = rw (h0, h1) (omega arith)
+    by false false true right h0 h1 h2 h3 = rw (h0, h1, h2) (omega arith)
+    by false false false true h0 h1 h2 h3 = rw (h0, h1, h2, h3) (omega arith)
+    by false false false false h0 h1 h2 h3 = rw (h0, h1, h2, h3) tt
+
+equated_light : (n m : ℕ) (a b : Typed) (span : Span) → 2 ≤ n → 2 ≤ m → Light n a → Light m b → Promises (IsLight (n + m + 1)) (equated a b span)
+equated_light n m (Value t z v p) (Value u y w q) span one one' ha hb = equated_values_light n m t z v u y w span ha.0 hb.0
+equated_light n m (Value t z v p) (AStruct k q) span one one' ha hb = tt
+equated_light n m (AStruct k p) b span one one' ha hb = tt
+
+ordered_values_light : (n m : ℕ) (comparison : Comparison) (t : CType) (v : core.Expression) (u : CType) (w : core.Expression) (span : Span) → IsLight n v → IsLight m w → Promises (Light (n + m + 2)) (ordered_values comparison t v u w span)
+ordered_values_light n m comparison t v u w span hv hw = by (is_number t && is_number u) (are_comparable t u) refl refl
+  where
+    by : (numbers same : Bool) → (is_number t && is_number u) ≡ numbers → are_comparable t u ≡ same → Promises (Light (n + m + 2)) (ordered_values comparison t v u w span)
+    by true same h0 h1 = rw h0 (omega arith, tt)
+    by false true h0 h1 = rw (h0, h1) tt
+    by false false h0 h1 = rw (h0, h1) tt
+
+ordered_light : (n m : ℕ) (comparison : Comparison) (a b : Typed) (span : Span) → Light n a → Light m b → Promises (Light (n + m + 2)) (ordered comparison a b span)
+ordered_light n m comparison (Value t z v p) (Value u y w q) span ha hb = ordered_values_light n m comparison t v u w span ha.0 hb.0
+ordered_light n m comparison (Value t z v p) (AStruct k q) span ha hb = tt
+ordered_light n m comparison (AStruct k p) b span ha hb = tt
+
+binary_light : (n m : ℕ) (operator : BinaryOperator) (a b : Typed) (site : Site) (span : Span) → 2 ≤ n → 2 ≤ m → Light n a → Light m b → Promises (Light (n + m + 2)) (binary_typed operator a b site span)
+binary_light n m binary.Or a b site span two two' ha hb = truths_light n m a b span ha hb core.OrElse (λ v w. refl)
+binary_light n m binary.And a b site span two two' ha hb = truths_light n m a b span ha hb core.AndAlso (λ v w. refl)
+binary_light n m binary.BitOr a b site span two two' ha hb = arithmetic_light n m a b span ha hb operators.Or site
+binary_light n m binary.BitXor a b site span two two' ha hb = arithmetic_light n m a b span ha hb operators.Xor site
+binary_light n m binary.BitAnd a b site span two two' ha hb = arithmetic_light n m a b span ha hb operators.And site
+binary_light n m binary.Equal a b site span two two' ha hb = passing_promises (IsLight (n + m + 1)) (Light (n + m + 2)) (equated a b span) number (equated_light n m a b span two two' ha hb) (λ v light. (omega arith, tt))
+binary_light n m binary.NotEqual a b site span two two' ha hb = passing_promises (IsLight (n + m + 1)) (Light (n + m + 2)) (equated a b span) (λ v. number (core.Not v)) (equated_light n m a b span two two' ha hb) (λ v light. (omega arith, tt))
+binary_light n m binary.Less a b site span two two' ha hb = ordered_light n m comparisons.Less a b span ha hb
+binary_light n m binary.LessEqual a b site span two two' ha hb = ordered_light n m comparisons.LessEqual a b span ha hb
+binary_light n m binary.Greater a b site span two two' ha hb = ordered_light n m comparisons.Greater a b span ha hb
+binary_light n m binary.GreaterEqual a b site span two two' ha hb = ordered_light n m comparisons.GreaterEqual a b span ha hb
+binary_light n m binary.ShiftLeft a b site span two two' ha hb = arithmetic_light n m a b span ha hb operators.ShiftLeft site
+binary_light n m binary.ShiftRight a b site span two two' ha hb = arithmetic_light n m a b span ha hb operators.ShiftRight site
+binary_light n m binary.Add a b site span two two' ha hb = sum_light n m a b span ha hb operators.Add site
+binary_light n m binary.Subtract a b site span two two' ha hb = sum_light n m a b span ha hb operators.Subtract site
+binary_light n m binary.Multiply a b site span two two' ha hb = arithmetic_light n m a b span ha hb operators.Multiply site
+binary_light n m binary.Divide a b site span two two' ha hb = arithmetic_light n m a b span ha hb operators.Divide site
+binary_light n m binary.Remainder a b site span two two' ha hb = arithmetic_light n m a b span ha hb operators.Remainder site
+
+indexed_nothing : (Q : Typed → Type 0) (a b : Typed) (span : Span) → Promises Q (indexed a b span)
+indexed_nothing Q (Value t z v p) (Value u y w q) span = needs_promises Q (is_pointer t && is_number u) E13 span (breaks E19 span) (λ x. tt)
+indexed_nothing Q (Value t z v p) (AStruct k q) span = tt
+indexed_nothing Q (AStruct k p) b span = tt
+
+-- ---- conversions and calls
+
+as_pointer_light : (n : ℕ) (test : Bool) (value : core.Expression) → 2 ≤ n → IsLight n value → IsLight n (as_pointer test value)
+as_pointer_light n true value two h = omega arith
+as_pointer_light n false value two h = h
+
+in_type_light : (n : ℕ) (to : CType) (test : Bool) (value : core.Expression) → 2 ≤ n → IsLight n value → IsLight (n + 1) (in_type to test value)
+in_type_light n Int test value two h = omega arith
+in_type_light n Char test value two h = omega arith
+in_type_light n (Struct k) test value two h = omega arith
+in_type_light n (Pointer m k t) test value two h = let light = as_pointer_light n test value two h in omega arith
+
+pub converted_light : {A : Type 0} (Q : A → Type 0) (n : ℕ) (a : Typed) (to : CType) (span : Span) (next : core.Expression → Verdict A) → 2 ≤ n → Light n a → ((v : core.Expression) → IsLight (n + 1) v → Promises Q (next v)) → Promises Q (converted a to span next)
+converted_light Q n (Value type zero value place) to span next two h more =
+    needs_promises Q (converts type zero to) E13 span _ (λ x. more (in_type to (zero && is_number type) value) (in_type_light n to (zero && is_number type) value two h.0))
+converted_light Q n (AStruct number place) to span next two h more = tt
+
+-- five nodes for each node of an argument
+abbrev pub AllLight : Expressions → List (Typed × Span) → Type 0
+AllLight e.NoMore [] = Unit {0}
+AllLight e.NoMore (a ∷ arguments) = ⊥
+AllLight (e.Then first others) [] = ⊥
+AllLight (e.Then first others) (a ∷ arguments) = Light (5 * tree.expression_weight first) a.0 × AllLight others arguments
+
+pub node_there : (x : Expression) → 1 ≤ tree.expression_weight x
+node_there (e.Number value span) = omega arith
+node_there (e.Character value span) = omega arith
+node_there (e.Text bytes span) = omega arith
+node_there (e.Name name) = omega arith
+node_there (e.Call callee arguments span) = omega arith
+node_there (e.SizeOf type span) = omega arith
+node_there (e.Cast word type operand span) = omega arith
+node_there (e.BoundedCast word type operand bounds span) = omega arith
+node_there (e.Malloc word type size span) = omega arith
+node_there (e.Calloc word type count size span) = omega arith
+node_there (e.Index base index span) = omega arith
+node_there (e.Dot base member span) = omega arith
+node_there (e.Arrow base member span) = omega arith
+node_there (e.Unary operator operand span) = omega arith
+node_there (e.Binary operator left right span) = omega arith
+
+abbrev AreLight : Expressions → core.Arguments → Type 0
+AreLight xs values = arguments_weight values ≤ 5 * tree.expressions_weight xs
+
+arguments_light : (xs : Expressions) (arguments : List (Typed × Span)) (ts : List CType) → AllLight xs arguments → Promises (AreLight xs) (arguments_as arguments ts)
+arguments_light e.NoMore [] ts all = omega arith
+arguments_light e.NoMore (a ∷ arguments) ts all = absurd all
+arguments_light (e.Then first others) [] ts all = absurd all
+arguments_light (e.Then first others) (a ∷ arguments) [] all = omega arith
+arguments_light (e.Then first others) (a ∷ arguments) (t ∷ ts) all =
+    converted_light (AreLight (e.Then first others)) (5 * tree.expression_weight first) a.0 t a.1 _ (omega (arith, node_there first)) all.0
+    (λ v light. passing_promises (AreLight others) (AreLight (e.Then first others)) (arguments_as arguments ts) _ (arguments_light others arguments ts all.1) (λ rest h. omega arith))
+
+call_light : (n number : ℕ) (tainted : Bool) (result : Option CType) (site : Site) (values : core.Arguments) → arguments_weight values ≤ n → LightCall (n + 2) (call_of tainted number result site values)
+call_light n number true (Some t) site values h = omega arith
+call_light n number true None site values h = omega arith
+call_light n number false (Some t) site values h = omega arith
+call_light n number false None site values h = omega arith
+
+first_light : (n : ℕ) (of : core.Expression → core.Statement) (values : core.Arguments) → ((v : core.Expression) → statement_weight (of v) ≡ 1 + expression_weight v) → arguments_weight values ≤ n → statement_weight (first_of of values) < n + 2
+first_light n of core.Done same h = omega arith
+first_light n of (core.More v others) same h = omega (arith, same v)
+
+writes_light : (xs : Expressions) (of : core.Expression → core.Statement) (arguments : List (Typed × Span)) (span : Span) → ((v : core.Expression) → statement_weight (of v) ≡ 1 + expression_weight v) → AllLight xs arguments → Promises (LightCall (5 * tree.expressions_weight xs + 2)) (writes of arguments span)
+writes_light xs of arguments span same all =
+    let n = 5 * tree.expressions_weight xs in
+    needs_promises (LightCall (n + 2)) (length arguments == 1) E14 span _
+    (λ x. passing_promises (AreLight xs) (LightCall (n + 2)) (arguments_as arguments (Int ∷ [])) _ (arguments_light xs arguments (Int ∷ []) all) (λ values h. first_light n of values same h))
+
+predefined_light : (xs : Expressions) (name : List ℕ) (arguments : List (Typed × Span)) (span : Span) → AllLight xs arguments → Promises (LightCall (5 * tree.expressions_weight xs + 2)) (predefined_call name arguments span)
+predefined_light xs name arguments span all = by (bytes_eq name (codes "next_input")) (bytes_eq name (codes "print_int")) (bytes_eq name (codes "putchar")) refl refl refl
+  where
+    by : (input print put : Bool) → bytes_eq name (codes "next_input") ≡ input → bytes_eq name (codes "print_int") ≡ print → bytes_eq name (codes "putchar") ≡ put → Promises (LightCall (5 * tree.expressions_weight xs + 2)) (predefined_call name arguments span)
+    by true print put h0 h1 h2 = rw h0 (needs_promises (LightCall (5 * tree.expressions_weight xs + 2)) (length arguments == 0) E14 span (Passes (Gives Int core.NextInput)) (λ none. omega arith))
+    by false true put h0 h1 h2 = rw (h0, h1) (writes_light xs core.Print arguments span (λ v. refl) all)
+    by false false true h0 h1 h2 = rw (h0, h1, h2) (writes_light xs core.PutByte arguments span (λ v. refl) all)
+    by false false false h0 h1 h2 = rw (h0, h1, h2) tt
+
+with_result_light : (n : ℕ) (c : Called) (span : Span) → LightCall n c → Promises (Light n) (with_result c span)
+with_result_light n (Gives type value) span h = (h, tt)
+with_result_light n (GivesNothing call) span h = tt
+
+called_light : (s : Scope) (xs : Expressions) (o : Option Signature) (name : List ℕ) (arguments : List (Typed × Span)) (site : Site) (span : Span) → AllLight xs arguments → Promises (LightCall (5 * tree.expressions_weight xs + 2)) (called s o name arguments site span)
+called_light s xs None name arguments site span all = predefined_light xs name arguments span all
+called_light s xs (Some f) name arguments site span all =
+    let n = 5 * tree.expressions_weight xs in
+    needs_promises (LightCall (n + 2)) (length f.parameters == length arguments) E14 span _
+    (λ many. crossing_promises (LightCall (n + 2)) (is_import f) arguments _
+    (passing_promises (AreLight xs) (LightCall (n + 2)) (arguments_as arguments f.parameters) _ (arguments_light xs arguments f.parameters all)
+    (λ values h. call_light n (side_number (is_import f) s.functions f.name 0) (is_import f) f.result site values h)))
+
+-- ---- the walk
+
+mutual
+  -- fewer than five nodes for each node of the tree
+  pub typed_light : (at : Places) (s : Scope) (x : Expression) → Promises (Light (5 * tree.expression_weight x)) (typed at s x)
+  typed_light at s (e.Number value span) = needs_promises (Light 5) (nat_lt value (2 ^ 31)) E04 span _ (λ low. (omega arith, tt))
+  typed_light at s (e.Character value span) = needs_promises (Light 5) (nat_lt value (2 ^ 31)) E04 span _ (λ low. (omega arith, tt))
+  typed_light at s (e.Text bytes span) = tt
+  typed_light at s (e.Name name) = passing_promises (λ (x : Named). Unit {0}) (Light 5) (named s name.name) _ (anything_promised (named s name.name)) (λ x _. name_light 5 x (omega arith))
+  typed_light at s (e.Call callee arguments span) =
+      let n = 5 * tree.expressions_weight arguments in
+      let all = 5 * tree.expression_weight (e.Call callee arguments span) in
+      passing_promises (AllLight arguments) (Light all) (all_typed at s arguments) _ (all_light at s arguments)
+      (λ ts light. passing_promises (LightCall (n + 2)) (Light all) (called s (function_named s.functions callee.name) callee.name ts (site_at at span) span) _
+      (called_light s arguments (function_named s.functions callee.name) callee.name ts (site_at at span) span light)
+      (λ c h. promised_so (Light (n + 2)) (Light all) (with_result c span) (with_result_light (n + 2) c span h) (λ t. light_more (n + 2) all t (omega arith))))
+  typed_light at s (e.SizeOf type span) =
+      passing_promises (λ (t : CType). Unit {0}) (Light (5 * tree.expression_weight (e.SizeOf type span))) (type_named s type) _ (anything_promised (type_named s type)) (λ t _. (omega arith, tt))
+  typed_light at s (e.Cast word type operand span) = tt
+  typed_light at s (e.BoundedCast word type operand bounds span) = tt
+  typed_light at s (e.Malloc word type size span) = tt
+  typed_light at s (e.Calloc word type count size span) = tt
+  typed_light at s (e.Index base index span) =
+      let all = 5 * tree.expression_weight (e.Index base index span) in
+      passing_promises (λ (t : Typed). Unit {0}) (Light all) (typed at s base) _ (anything_promised (typed at s base))
+      (λ a _. passing_promises (λ (t : Typed). Unit {0}) (Light all) (typed at s index) _ (anything_promised (typed at s index)) (λ b _. indexed_nothing (Light all) a b span))
+  typed_light at s (e.Dot base member span) =
+      let n = 5 * tree.expression_weight base in
+      let all = 5 * tree.expression_weight (e.Dot base member span) in
+      passing_promises (Light n) (Light all) (typed at s base) _ (typed_light at s base)
+      (λ a light. promised_so (Light (n + 2)) (Light all) (dotted s a member.name (site_at at span) span) (dotted_light n s a member.name (site_at at span) span (omega (arith, node_there base)) light) (λ t. light_more (n + 2) all t (omega arith)))
+  typed_light at s (e.Arrow base member span) =
+      let n = 5 * tree.expression_weight base in
+      let all = 5 * tree.expression_weight (e.Arrow base member span) in
+      passing_promises (Light n) (Light all) (typed at s base) _ (typed_light at s base)
+      (λ a light. promised_so (Light (n + 2)) (Light all) (arrowed s a member.name (site_at at span) span) (arrowed_light n s a member.name (site_at at span) span light) (λ t. light_more (n + 2) all t (omega arith)))
+  typed_light at s (e.Unary operator operand span) =
+      let n = 5 * tree.expression_weight operand in
+      let all = 5 * tree.expression_weight (e.Unary operator operand span) in
+      passing_promises (Light n) (Light all) (typed at s operand) _ (typed_light at s operand)
+      (λ a light. promised_so (Light (n + 2)) (Light all) (unary_typed operator a (site_at at span) span) (unary_light n operator a (site_at at span) span light) (λ t. light_more (n + 2) all t (omega arith)))
+  typed_light at s (e.Binary operator left right span) =
+      let n = 5 * tree.expression_weight left in
+      let m = 5 * tree.expression_weight right in
+      let all = 5 * tree.expression_weight (e.Binary operator left right span) in
+      passing_promises (Light n) (Light all) (typed at s left) _ (typed_light at s left)
+      (λ a ha. passing_promises (Light m) (Light all) (typed at s right) _ (typed_light at s right)
+      (λ b hb. promised_so (Light (n + m + 2)) (Light all) (binary_typed operator a b (site_at at span) span)
+      (binary_light n m operator a b (site_at at span) span (omega (arith, node_there left)) (omega (arith, node_there right)) ha hb) (λ t. light_more (n + m + 2) all t (omega arith))))
+
+  all_light : (at : Places) (s : Scope) (xs : Expressions) → Promises (AllLight xs) (all_typed at s xs)
+  all_light at s e.NoMore = tt
+  all_light at s (e.Then first others) =
+      passing_promises (Light (5 * tree.expression_weight first)) (AllLight (e.Then first others)) (typed at s first) _ (typed_light at s first)
+      (λ t light. passing_promises (AllLight others) (AllLight (e.Then first others)) (all_typed at s others) _ (all_light at s others) (λ ts lights. (light, lights)))
+
+call_more : (n m : ℕ) (c : Called) → n ≤ m → LightCall n c → LightCall m c
+call_more n m (Gives type value) le h = omega arith
+call_more n m (GivesNothing call) le h = omega arith
+
+pub call_typed_light : (at : Places) (s : Scope) (x : Expression) → Promises (LightCall (5 * tree.expression_weight x)) (call_typed at s x)
+call_typed_light at s (e.Call callee arguments span) =
+    let n = 5 * tree.expressions_weight arguments in
+    let all = 5 * tree.expression_weight (e.Call callee arguments span) in
+    passing_promises (AllLight arguments) (LightCall all) (all_typed at s arguments) _ (all_light at s arguments)
+    (λ ts light. promised_so (LightCall (n + 2)) (LightCall all) (called s (function_named s.functions callee.name) callee.name ts (site_at at span) span)
+    (called_light s arguments (function_named s.functions callee.name) callee.name ts (site_at at span) span light) (λ c. call_more (n + 2) all c (omega arith)))
+call_typed_light at s (e.Number value span) = tt
+call_typed_light at s (e.Character value span) = tt
+call_typed_light at s (e.Text bytes span) = tt
+call_typed_light at s (e.Name name) = tt
+call_typed_light at s (e.SizeOf type span) = tt
+call_typed_light at s (e.Cast word type operand span) = tt
+call_typed_light at s (e.BoundedCast word type operand bounds span) = tt
+call_typed_light at s (e.Malloc word type size span) = tt
+call_typed_light at s (e.Calloc word type count size span) = tt
+call_typed_light at s (e.Index base index span) = tt
+call_typed_light at s (e.Dot base member span) = tt
+call_typed_light at s (e.Arrow base member span) = tt
+call_typed_light at s (e.Unary operator operand span) = tt
+call_typed_light at s (e.Binary operator left right span) = tt

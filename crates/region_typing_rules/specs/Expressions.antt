@@ -1,0 +1,379 @@
+-- The rules of expressions, each with its name, in the order in which they are asked of a node behind its children.
+use Rattle.std.specs.Prelude.{ℕ, suc, ◌+◌, ◌^◌, nat_lt, Bool, true, false, not, ◌&&◌, ◌||◌, ◌==◌, bytes_eq, codes, List, [], ◌∷◌, length, Option, Some, None, pos}
+use Rattle.ckc_text.specs.declared.place.Place.{Place}
+use Rattle.ckc_text.specs.declared.place.Span.{Span}
+use Rattle.ckc_text.specs.declared.code.Code.TheVariants.{E04, E10, E12, E13, E14, E19, E22, E24, E26}
+use Rattle.ckc_tree.specs.declared.expr.UnaryOperator.{UnaryOperator}
+use Rattle.ckc_tree.specs.declared.expr.UnaryOperator.TheVariants as unary
+use Rattle.ckc_tree.specs.declared.expr.BinaryOperator.{BinaryOperator}
+use Rattle.ckc_tree.specs.declared.expr.BinaryOperator.TheVariants as binary
+use Rattle.ckc_tree.specs.declared.item.FunctionKind.{FunctionKind}
+use Rattle.ckc_tree.specs.declared.item.FunctionKind.TheVariants as function_kinds
+use Rattle.ckc_tree.specs.Expressions as e
+use Rattle.ckc_tree.specs.Expressions.{Expression, Expressions, expression_span}
+use Rattle.pointer_modes.specs.declared.ctype.Mode.TheVariants as modes
+use Rattle.pointer_modes.specs.declared.ctype.Kind.TheVariants as kinds
+use Rattle.pointer_modes.specs.Types.{CType, Int, Char, Struct, Pointer, Member, members_of}
+use Rattle.pointer_modes.specs.Layout.{Cell, cells_of, size_of}
+use Rattle.ckc_core.specs.declared.program.Site.{Site}
+use Rattle.ckc_core.specs.declared.program.Operator.{Operator}
+use Rattle.ckc_core.specs.declared.program.Operator.TheVariants as operators
+use Rattle.ckc_core.specs.declared.program.Comparison.{Comparison}
+use Rattle.ckc_core.specs.declared.program.Comparison.TheVariants as comparisons
+use Rattle.ckc_core.specs.Core as core
+use Rattle.region_typing_rules.specs.Verdicts.{Verdict, Passes, Unnamed, passing, needs, breaks, picked}
+use Rattle.region_typing_rules.specs.Scopes.{Scope, Signature, Named, Local, Object, Nothing, named, function_named}
+use Rattle.region_typing_rules.specs.Types.{type_named, is_number, is_pointer, is_checked_pointer, are_comparable, converts}
+
+-- where a value may be stored: a local, or a cell
+pub data Lvalue : Type 0 where
+  OfLocal : (local : ℕ) → Lvalue
+  OfCell : (place : core.Place) → Lvalue
+
+-- what an expression is
+pub data Typed : Type 0 where
+  -- a value of a scalar type, which may be the constant 0, and may stand for a place
+  Value : (type : CType) (zero : Bool) (value : core.Expression) (place : Option Lvalue) → Typed
+  -- a struct, which is a parameter, or stands at a place
+  AStruct : (number : ℕ) (place : Lvalue) → Typed
+
+-- what a call is: a value of a type, or a statement where it has no result
+pub data Called : Type 0 where
+  Gives : (type : CType) (value : core.Expression) → Called
+  GivesNothing : (call : core.Statement) → Called
+
+-- where the bytes of a source stand
+abbrev pub Places : Type 0
+Places = ℕ → Place
+
+abbrev pub site_at : Places → Span → Site
+site_at at span = record { place = at span.from }
+
+abbrev pub plain : CType → core.Expression → Verdict Typed
+plain type value = Passes (Value type false value None)
+
+abbrev pub number : core.Expression → Verdict Typed
+number value = plain Int value
+
+-- ---- places
+
+-- a scalar at a place is its value there, and a struct is the place
+abbrev pub at_place : CType → core.Place → Typed
+at_place Int place = Value Int false (core.Load Int place) (Some (OfCell place))
+at_place Char place = Value Char false (core.Load Char place) (Some (OfCell place))
+at_place (Pointer mode kind target) place = Value (Pointer mode kind target) false (core.Load (Pointer mode kind target) place) (Some (OfCell place))
+at_place (Struct number) place = AStruct number (OfCell place)
+
+abbrev pub local_typed : ℕ → CType → Typed
+local_typed local Int = Value Int false (core.Local local) (Some (OfLocal local))
+local_typed local Char = Value Char false (core.Local local) (Some (OfLocal local))
+local_typed local (Pointer mode kind target) = Value (Pointer mode kind target) false (core.Local local) (Some (OfLocal local))
+local_typed local (Struct number) = AStruct number (OfLocal local)
+
+abbrev pub name_typed : Named → Typed
+name_typed (Local local type) = local_typed local type
+name_typed (Object object type) = at_place type (core.Direct object 0 0)
+name_typed Nothing = Value Int true (core.Number (pos 0)) None
+
+-- a cell behind the first one of a place, whose checks name another expression
+abbrev pub member_place : core.Place → (cell offset : ℕ) → Site → core.Place
+member_place (core.Direct object first place) cell offset site = core.Direct object (first + cell) (place + offset)
+member_place (core.Through pointer first place before) cell offset site = core.Through pointer (first + cell) (place + offset) site
+
+-- the place of a struct. A parameter that is one stands in no memory, and its function is refused behind its body (E13): until
+-- then it stands behind a pointer that is none, which no core that has types holds
+abbrev pub struct_place : Lvalue → Site → core.Place
+struct_place (OfLocal local) site = core.Through (core.Local local) 0 0 site
+struct_place (OfCell place) site = place
+
+-- a member of a struct: its number, and its type
+abbrev pub member_from : ℕ → List Member → List ℕ → Option (ℕ × CType)
+member_from number [] name = None
+member_from number (m ∷ members) name = picked (bytes_eq name m.name) (Some (number, m.ctype)) (member_from (suc number) members name)
+
+-- the byte place of a cell among others
+abbrev pub offset_among : List Cell → ℕ → ℕ
+offset_among [] cell = 0
+offset_among (first ∷ cells) ℕ.zero = first.offset
+offset_among (first ∷ cells) (suc cell) = offset_among cells cell
+
+-- member-exists: E10
+abbrev pub member_at : Scope → ℕ → core.Place → List ℕ → Site → Span → Verdict Typed
+member_at s struct place name site span = found (member_from 0 (members_of s.structs struct) name)
+  where
+    found : Option (ℕ × CType) → Verdict Typed
+    found None = breaks E10 span
+    found (Some m) = Passes (at_place m.1 (member_place place m.0 (offset_among (cells_of s.structs (Struct struct)) m.0) site))
+
+-- member-of-struct: the left side of a dot is a struct (E13)
+abbrev pub dotted : Scope → Typed → List ℕ → Site → Span → Verdict Typed
+dotted s (Value type zero value place) name site span = breaks E13 span
+dotted s (AStruct number place) name site span = member_at s number (struct_place place site) name site span
+
+abbrev pub pointed_by : Scope → CType → core.Expression → List ℕ → Site → Span → Verdict Typed
+pointed_by s (Pointer mode kind (Struct number)) value name site span = member_at s number (core.Through value 0 0 site) name site span
+pointed_by s _ value name site span = breaks E13 span
+
+-- member-of-struct: the left side of an arrow is a pointer to a struct (E13)
+abbrev pub arrowed : Scope → Typed → List ℕ → Site → Span → Verdict Typed
+arrowed s (Value type zero value place) name site span = pointed_by s type value name site span
+arrowed s (AStruct number place) name site span = breaks E13 span
+
+abbrev pub pointed_at : CType → core.Expression → Site → Span → Verdict Typed
+pointed_at (Pointer mode kind target) value site span = Passes (at_place target (core.Through value 0 0 site))
+pointed_at _ value site span = breaks E13 span
+
+-- operand-is-pointer: E13
+abbrev pub dereferenced : Typed → Site → Span → Verdict Typed
+dereferenced (Value type zero value place) site span = pointed_at type value site span
+dereferenced (AStruct number place) site span = breaks E13 span
+
+-- a pointer to a place
+abbrev pub pointer_to : CType → core.Place → Site → Typed
+pointer_to type (core.Direct object cell offset) site = Value (Pointer modes.Checked kinds.One type) false (core.AddressOf object cell offset) None
+pointer_to type (core.Through pointer cell offset before) site = Value (Pointer modes.Checked kinds.One type) false (core.AddressThrough pointer cell offset site) None
+
+abbrev pub address_at : CType → Option Lvalue → Site → Span → Verdict Typed
+address_at type None site span = breaks E12 span
+address_at type (Some (OfLocal local)) site span = breaks E22 span
+address_at type (Some (OfCell place)) site span = Passes (pointer_to type place site)
+
+-- address-of-place: a variable, an element or a member (E12). address-allowed: no local (E22)
+abbrev pub address : Typed → Site → Span → Verdict Typed
+address (Value type zero value place) site span = address_at type place site span
+address (AStruct number place) site span = address_at (Struct number) (Some place) site span
+
+-- ---- operators
+
+-- a number, for an operator that takes numbers (E13)
+abbrev pub number_of : {A : Type 0} → Typed → Span → (core.Expression → Verdict A) → Verdict A
+number_of (Value type zero value place) span next = needs (is_number type) E13 span (next value)
+number_of (AStruct number place) span next = breaks E13 span
+
+-- a scalar, for a condition and for operators on truth (E13)
+abbrev pub scalar_of : {A : Type 0} → Typed → Span → (core.Expression → Verdict A) → Verdict A
+scalar_of (Value type zero value place) span next = next value
+scalar_of (AStruct number place) span next = breaks E13 span
+
+abbrev pub unary_typed : UnaryOperator → Typed → Site → Span → Verdict Typed
+unary_typed unary.Deref t site span = dereferenced t site span
+unary_typed unary.AddressOf t site span = address t site span
+unary_typed unary.Negate t site span = number_of t span (λ v. number (core.Negate v site))
+unary_typed unary.Not t site span = scalar_of t span (λ v. number (core.Not v))
+unary_typed unary.Complement t site span = number_of t span (λ v. number (core.Complement v))
+
+abbrev pub is_pointer_value : Typed → Bool
+is_pointer_value (Value type zero value place) = is_pointer type
+is_pointer_value (AStruct number place) = false
+
+-- no-arithmetic-on-ptr: E19
+abbrev pub without_ptr : {A : Type 0} → Typed → Typed → Span → Verdict A → Verdict A
+without_ptr a b span next = needs (not (is_pointer_value a || is_pointer_value b)) E19 span next
+
+-- operands-are-numbers: E13
+abbrev pub two_numbers : {A : Type 0} → Typed → Typed → Span → (core.Expression → core.Expression → Verdict A) → Verdict A
+two_numbers a b span next = number_of a span (λ v. number_of b span (λ w. next v w))
+
+-- operands-are-scalars: E13
+abbrev pub two_scalars : {A : Type 0} → Typed → Typed → Span → (core.Expression → core.Expression → Verdict A) → Verdict A
+two_scalars a b span next = scalar_of a span (λ v. scalar_of b span (λ w. next v w))
+
+-- the two numbers of a sum or a difference
+abbrev pub summands : {A : Type 0} → Typed → Typed → Span → (core.Expression → core.Expression → Verdict A) → Verdict A
+summands a b span next = without_ptr a b span (two_numbers a b span next)
+
+-- the constant 0 as a pointer, where the other one is one
+abbrev pub as_pointer : Bool → core.Expression → core.Expression
+as_pointer true value = core.Null
+as_pointer false value = value
+
+abbrev pub equated_values : CType → Bool → core.Expression → CType → Bool → core.Expression → Span → Verdict core.Expression
+equated_values t z v u y w span = by_kind (is_number t && is_number u) (are_comparable t u) (is_pointer t && y) (is_pointer u && z)
+  where
+    by_kind : Bool → Bool → Bool → Bool → Verdict core.Expression
+    by_kind true same left right = Passes (core.Compare comparisons.Equal v w)
+    by_kind false true left right = Passes (core.Same v w)
+    by_kind false false true right = Passes (core.Same v core.Null)
+    by_kind false false false true = Passes (core.Same core.Null w)
+    by_kind false false false false = breaks E13 span
+
+-- equality-of-like: numbers, pointers of one mode and element, or a pointer and 0 (E13)
+abbrev pub equated : Typed → Typed → Span → Verdict core.Expression
+equated (Value t z v p) (Value u y w q) span = equated_values t z v u y w span
+equated _ _ span = breaks E13 span
+
+abbrev pub ordered_values : Comparison → CType → core.Expression → CType → core.Expression → Span → Verdict Typed
+ordered_values comparison t v u w span = by_kind (is_number t && is_number u) (are_comparable t u)
+  where
+    by_kind : Bool → Bool → Verdict Typed
+    by_kind true same = number (core.Compare comparison v w)
+    by_kind false true = breaks E26 span
+    by_kind false false = breaks E13 span
+
+-- order-of-like: numbers, or pointers of one mode and element (E13). order-of-related: those have a common base, which a `ptr`
+-- hasn't (E26)
+abbrev pub ordered : Comparison → Typed → Typed → Span → Verdict Typed
+ordered comparison (Value t z v p) (Value u y w q) span = ordered_values comparison t v u w span
+ordered comparison _ _ span = breaks E13 span
+
+abbrev pub arithmetic : Operator → Site → core.Expression → core.Expression → Verdict Typed
+arithmetic operator site v w = number (core.Arithmetic operator v w site)
+
+abbrev pub binary_typed : BinaryOperator → Typed → Typed → Site → Span → Verdict Typed
+binary_typed binary.Or a b site span = two_scalars a b span (λ v w. number (core.OrElse v w))
+binary_typed binary.And a b site span = two_scalars a b span (λ v w. number (core.AndAlso v w))
+binary_typed binary.BitOr a b site span = two_numbers a b span (arithmetic operators.Or site)
+binary_typed binary.BitXor a b site span = two_numbers a b span (arithmetic operators.Xor site)
+binary_typed binary.BitAnd a b site span = two_numbers a b span (arithmetic operators.And site)
+binary_typed binary.Equal a b site span = passing (equated a b span) number
+binary_typed binary.NotEqual a b site span = passing (equated a b span) (λ v. number (core.Not v))
+binary_typed binary.Less a b site span = ordered comparisons.Less a b span
+binary_typed binary.LessEqual a b site span = ordered comparisons.LessEqual a b span
+binary_typed binary.Greater a b site span = ordered comparisons.Greater a b span
+binary_typed binary.GreaterEqual a b site span = ordered comparisons.GreaterEqual a b span
+binary_typed binary.ShiftLeft a b site span = two_numbers a b span (arithmetic operators.ShiftLeft site)
+binary_typed binary.ShiftRight a b site span = two_numbers a b span (arithmetic operators.ShiftRight site)
+binary_typed binary.Add a b site span = summands a b span (arithmetic operators.Add site)
+binary_typed binary.Subtract a b site span = summands a b span (arithmetic operators.Subtract site)
+binary_typed binary.Multiply a b site span = two_numbers a b span (arithmetic operators.Multiply site)
+binary_typed binary.Divide a b site span = two_numbers a b span (arithmetic operators.Divide site)
+binary_typed binary.Remainder a b site span = two_numbers a b span (arithmetic operators.Remainder site)
+
+-- operand-is-pointer with a number for an index (E13), and no element of a `ptr` (E19)
+abbrev pub indexed : Typed → Typed → Span → Verdict Typed
+indexed (Value t z v p) (Value u y w q) span = needs (is_pointer t && is_number u) E13 span (breaks E19 span)
+indexed _ _ span = breaks E13 span
+
+-- ---- conversions
+
+abbrev pub in_type : CType → Bool → core.Expression → core.Expression
+in_type Int zero value = value
+in_type Char zero value = core.LowByte value
+in_type (Struct number) zero value = value
+in_type (Pointer mode kind target) zero value = as_pointer zero value
+
+-- a value as one of a type that it converts to (E13)
+abbrev pub converted : {A : Type 0} → Typed → CType → Span → (core.Expression → Verdict A) → Verdict A
+converted (Value type zero value place) to span next = needs (converts type zero to) E13 span (next (in_type to (zero && is_number type) value))
+converted (AStruct number place) to span next = breaks E13 span
+
+-- ---- calls
+
+-- the arguments of a call with the types of its parameters: each converts, at the argument (E13)
+abbrev pub arguments_as : List (Typed × Span) → List CType → Verdict core.Arguments
+arguments_as [] types = Passes core.Done
+arguments_as (argument ∷ arguments) [] = Passes core.Done
+arguments_as (argument ∷ arguments) (type ∷ types) =
+    converted argument.0 type argument.1 (λ v. passing (arguments_as arguments types) (λ others. Passes (core.More v others)))
+
+-- the number of a function that isn't tainted among those that aren't, and of a tainted one among the tainted, in the order in
+-- which their names are first declared. It is asked of functions that are declared, and of `main`, which naming has found
+abbrev pub is_tainted : FunctionKind → Bool
+is_tainted function_kinds.Trusted = false
+is_tainted function_kinds.Tainted = true
+is_tainted function_kinds.Callback = false
+
+abbrev pub is_import : Signature → Bool
+is_import f = is_tainted f.kind
+
+abbrev pub counted : Bool → ℕ → ℕ
+counted true n = suc n
+counted false n = n
+
+abbrev pub same_side : Bool → Bool → Bool
+same_side true other = other
+same_side false other = not other
+
+abbrev pub side_number : Bool → List Signature → List ℕ → ℕ → ℕ
+side_number side [] name number = number
+side_number side (f ∷ functions) name number = picked (bytes_eq name f.name) number (side_number side functions name (counted (same_side side (is_import f)) number))
+
+-- no-checked-pointer-to-tainted: E24, at the argument. The constant 0 and `NULL` are numbers
+abbrev pub is_checked_argument : Typed → Bool
+is_checked_argument (Value type zero value place) = is_checked_pointer type
+is_checked_argument (AStruct number place) = false
+
+abbrev pub without_checked : {A : Type 0} → List (Typed × Span) → Verdict A → Verdict A
+without_checked [] next = next
+without_checked (argument ∷ arguments) next = needs (not (is_checked_argument argument.0)) E24 argument.1 (without_checked arguments next)
+
+-- the rule is asked of all arguments of a tainted function, from left to right
+abbrev pub crossing : {A : Type 0} → Bool → List (Typed × Span) → Verdict A → Verdict A
+crossing true arguments next = without_checked arguments next
+crossing false arguments next = next
+
+abbrev pub call_of : Bool → ℕ → Option CType → Site → core.Arguments → Called
+call_of true number (Some type) site arguments = Gives type (core.TaintedCall number arguments site)
+call_of true number None site arguments = GivesNothing (core.TaintedAlone number arguments site)
+call_of false number (Some type) site arguments = Gives type (core.Call number arguments)
+call_of false number None site arguments = GivesNothing (core.CallAlone number arguments)
+
+-- argument-count: E14. Then what crosses the boundary is asked of all arguments, and then their conversions
+abbrev pub declared_call : Scope → Signature → List (Typed × Span) → Site → Span → Verdict Called
+declared_call s f arguments site span =
+    needs (length f.parameters == length arguments) E14 span
+    (crossing (is_import f) arguments
+    (passing (arguments_as arguments f.parameters) (λ values. Passes (call_of (is_import f) (side_number (is_import f) s.functions f.name 0) f.result site values))))
+
+abbrev pub first_of : (core.Expression → core.Statement) → core.Arguments → core.Statement
+first_of of core.Done = core.Nothing
+first_of of (core.More v others) = of v
+
+-- a predefined function that takes a number and gives nothing
+abbrev pub writes : (core.Expression → core.Statement) → List (Typed × Span) → Span → Verdict Called
+writes of arguments span = needs (length arguments == 1) E14 span (passing (arguments_as arguments (Int ∷ [])) (λ values. Passes (GivesNothing (first_of of values))))
+
+-- a call of a name that isn't declared. `strlen` isn't a form of which rules speak here
+abbrev pub predefined_call : List ℕ → List (Typed × Span) → Span → Verdict Called
+predefined_call name arguments span = by_name (bytes_eq name (codes "next_input")) (bytes_eq name (codes "print_int")) (bytes_eq name (codes "putchar"))
+  where
+    by_name : Bool → Bool → Bool → Verdict Called
+    by_name true print put = needs (length arguments == 0) E14 span (Passes (Gives Int core.NextInput))
+    by_name false true put = writes core.Print arguments span
+    by_name false false true = writes core.PutByte arguments span
+    by_name false false false = Unnamed
+
+abbrev pub called : Scope → Option Signature → List ℕ → List (Typed × Span) → Site → Span → Verdict Called
+called s None name arguments site span = predefined_call name arguments span
+called s (Some f) name arguments site span = declared_call s f arguments site span
+
+-- void-stands-alone: a call without a result is only a statement (E13)
+abbrev pub with_result : Called → Span → Verdict Typed
+with_result (Gives type value) span = plain type value
+with_result (GivesNothing call) span = breaks E13 span
+
+-- ---- the walk
+
+-- constant-has-31-bits: E04; the tokens of a source have no other
+abbrev pub constant : ℕ → Bool → Span → Verdict Typed
+constant value zero span = needs (nat_lt value (2 ^ 31)) E04 span (Passes (Value Int zero (core.Number (pos value)) None))
+
+abbrev mutual
+  -- an expression: its children from left to right, and then its own rules. Strings, casts and allocations aren't forms of
+  -- which rules speak here: no tree that is built has them
+  pub typed : Places → Scope → Expression → Verdict Typed
+  typed at s (e.Number value span) = constant value (value == 0) span
+  typed at s (e.Character value span) = constant value false span
+  typed at s (e.Text bytes span) = breaks E13 span
+  typed at s (e.Name name) = passing (named s name.name) (λ n. Passes (name_typed n))
+  typed at s (e.Call callee arguments span) = passing (all_typed at s arguments) (λ ts. passing (called s (function_named s.functions callee.name) callee.name ts (site_at at span) span) (λ c. with_result c span))
+  typed at s (e.SizeOf type span) = passing (type_named s type) (λ t. number (core.Number (pos (size_of s.structs t))))
+  typed at s (e.Cast word type operand span) = breaks E13 span
+  typed at s (e.BoundedCast word type operand bounds span) = breaks E13 span
+  typed at s (e.Malloc word type size span) = breaks E13 span
+  typed at s (e.Calloc word type count size span) = breaks E13 span
+  typed at s (e.Index base index span) = passing (typed at s base) (λ a. passing (typed at s index) (λ b. indexed a b span))
+  typed at s (e.Dot base member span) = passing (typed at s base) (λ a. dotted s a member.name (site_at at span) span)
+  typed at s (e.Arrow base member span) = passing (typed at s base) (λ a. arrowed s a member.name (site_at at span) span)
+  typed at s (e.Unary operator operand span) = passing (typed at s operand) (λ a. unary_typed operator a (site_at at span) span)
+  typed at s (e.Binary operator left right span) = passing (typed at s left) (λ a. passing (typed at s right) (λ b. binary_typed operator a b (site_at at span) span))
+
+  -- arguments, each with its span
+  pub all_typed : Places → Scope → Expressions → Verdict (List (Typed × Span))
+  all_typed at s e.NoMore = Passes []
+  all_typed at s (e.Then first others) = passing (typed at s first) (λ t. passing (all_typed at s others) (λ ts. Passes ((t, expression_span first) ∷ ts)))
+
+-- a call that stands alone, as the grammar has nothing else there
+abbrev pub call_typed : Places → Scope → Expression → Verdict Called
+call_typed at s (e.Call callee arguments span) = passing (all_typed at s arguments) (λ ts. called s (function_named s.functions callee.name) callee.name ts (site_at at span) span)
+call_typed at s _ = breaks E13 (record { from = 0; to = 0 })

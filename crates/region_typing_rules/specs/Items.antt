@@ -1,0 +1,339 @@
+-- The rules of what stands at file level.
+use Rattle.std.specs.Prelude.{ℕ, zero, suc, ◌+◌, ◌-◌, Bool, true, false, not, ◌&&◌, ◌||◌, ◌==◌, nat_lt, nat_le, bytes_eq, List, [], ◌∷◌, ◌++◌, length, map, Option, Some, None, is_some, pos, negsuc}
+use Rattle.std.proofs.Common.{ℤ}
+use Rattle.ckc_text.specs.declared.place.Span.{Span}
+use Rattle.ckc_text.specs.declared.code.Code.TheVariants.{E08, E10, E13, E15, E27}
+use Rattle.ckc_tree.specs.declared.expr.UnaryOperator.TheVariants as unary
+use Rattle.ckc_tree.specs.declared.item.FunctionKind.{FunctionKind}
+use Rattle.ckc_tree.specs.declared.item.FunctionKind.TheVariants as function_kinds
+use Rattle.ckc_tree.specs.declared.item.Region.{Region}
+use Rattle.ckc_tree.specs.declared.item.Region.TheVariants as regions
+use Rattle.ckc_names_rules.specs.Scopes.{null}
+use Rattle.ckc_tree.specs.Types.{TypeTree, IntType, CharType, StructType, PointerType, type_span}
+use Rattle.ckc_tree.specs.Expressions as e
+use Rattle.ckc_tree.specs.Expressions.{Expression}
+use Rattle.ckc_tree.specs.Statements as s
+use Rattle.ckc_tree.specs.Statements.{Initializer, Declarator}
+use Rattle.ckc_tree.specs.Items as i
+use Rattle.ckc_tree.specs.Items.{ResultForm, Parameters, Item, Tree}
+use Rattle.flat_bytes.specs.Blocks.{rounded_up}
+use Rattle.pointer_modes.specs.Types as types
+use Rattle.pointer_modes.specs.Types.{CType, Int, Char, Struct, Pointer, Structure, members_of}
+use Rattle.pointer_modes.specs.Layout.{Cell, cells_of, size_of}
+use Rattle.ckc_core.specs.Core as core
+use Rattle.ckc_core.specs.States.{same_type}
+use Rattle.ckc_core.specs.Meaning.{low_byte}
+use Rattle.region_typing_rules.specs.Verdicts.{Verdict, Passes, passing, needs, breaks, meant, picked}
+use Rattle.region_typing_rules.specs.Scopes.{Scope, Signature, Variable, struct_named, function_named}
+use Rattle.region_typing_rules.specs.Types.{base_type, without_stars, type_named, is_scalar}
+use Rattle.region_typing_rules.specs.Expressions.{Places, Typed, Value, AStruct, is_tainted, typed}
+use Rattle.region_typing_rules.specs.Statements.{statements, with_local, is_unchecked, is_checked}
+
+-- what is known behind an item: what stands at file level, the cells of the file-level variables with the bytes that their
+-- blocks take, and the functions that have bodies, in the order of these
+pub record Walk : Type 0 where
+  pub scope : Scope
+  pub objects : List (List core.Initial)
+  pub taken : ℕ
+  pub bodies : List core.Function
+
+-- region-is-checked: E15, behind the other rules of an item
+abbrev pub in_checked_region : {A : Type 0} → Scope → Span → A → Verdict A
+in_checked_region g span answer = needs (not g.is_off) E15 span (Passes answer)
+
+-- ---- structs
+
+abbrev pub is_struct : CType → Bool
+is_struct Int = false
+is_struct Char = false
+is_struct (Struct number) = true
+is_struct (Pointer mode kind target) = false
+
+-- few-members: at most 64 (E08, at the member's type)
+abbrev pub member_types : Scope → List i.Member → List types.Member → Verdict (List types.Member)
+member_types g [] done = Passes done
+member_types g (m ∷ members) done =
+    needs (nat_lt (length done) 64) E08 (type_span m.type.base)
+    (passing (type_named g m.type) (λ t. member_types g members (done ++ record { name = m.name.name; ctype = t; span = m.span } ∷ [])))
+
+-- members-are-scalar: no member is a struct (E27, at the member)
+abbrev pub scalar_members : {A : Type 0} → List types.Member → Verdict A → Verdict A
+scalar_members [] next = next
+scalar_members (m ∷ members) next = needs (not (is_struct m.ctype)) E27 m.span (scalar_members members next)
+
+-- a tag more, with its struct
+abbrev pub with_struct : List ℕ → Bool → List types.Member → Scope → Scope
+with_struct tag tainted members g = record g { tags = g.tags ++ tag ∷ []; structs = g.structs ++ record { tainted = tainted; members = members } ∷ [] }
+
+-- few-structs: at most 4,096 (E08). While its members are walked, a struct has none
+abbrev pub structure : Walk → i.Structure → Verdict Walk
+structure w d =
+    needs (nat_lt (length w.scope.structs) 4096) E08 d.span
+    (passing (member_types (with_struct d.tag.name d.tainted [] w.scope) d.members []) (λ members.
+    scalar_members members (in_checked_region w.scope d.span (record w { scope = with_struct d.tag.name d.tainted members w.scope }))))
+
+-- ---- file-level variables
+
+abbrev pub negative : ℕ → ℤ
+negative zero = pos 0
+negative (suc n) = negsuc n
+
+abbrev pub null_number : Bool → Option ℕ
+null_number true = Some 0
+null_number false = None
+
+-- `NULL`, which no variable is called, is the number 0 in every respect
+abbrev pub unsigned_constant : Expression → Option ℕ
+unsigned_constant (e.Number value span) = Some value
+unsigned_constant (e.Character value span) = Some value
+unsigned_constant (e.Name name) = null_number (bytes_eq name.name null)
+unsigned_constant _ = None
+
+abbrev pub negated_of : Option ℕ → Option ℤ
+negated_of None = None
+negated_of (Some n) = Some (negative n)
+
+abbrev pub positive_of : Option ℕ → Option ℤ
+positive_of None = None
+positive_of (Some n) = Some (pos n)
+
+-- a number with or without a minus, so that `-NULL` is 0 as `-0` is
+abbrev pub signed_constant : Expression → Option ℤ
+signed_constant (e.Unary unary.Negate operand span) = negated_of (unsigned_constant operand)
+signed_constant a = positive_of (unsigned_constant a)
+
+-- the bytes of the cells from one on: from each to the next one, and from the last to the end
+abbrev pub strides_from : List Cell → ℕ → List ℕ
+strides_from [] end = []
+strides_from (c ∷ []) end = (end - c.offset) ∷ []
+strides_from (c ∷ d ∷ cells) end = (d.offset - c.offset) ∷ strides_from (d ∷ cells) end
+
+abbrev pub strides_of : List Structure → CType → List ℕ
+strides_of structs t = strides_from (cells_of structs t) (size_of structs t)
+
+-- the types of the cells of a type
+abbrev pub cell_types : List Structure → CType → List CType
+cell_types structs Int = Int ∷ []
+cell_types structs Char = Char ∷ []
+cell_types structs (Pointer mode kind target) = Pointer mode kind target ∷ []
+cell_types structs (Struct number) = map (λ m. m.ctype) (members_of structs number)
+
+abbrev pub numbered_cells : ℤ → List CType → List ℕ → List core.Initial
+numbered_cells number [] strides = []
+numbered_cells number (t ∷ ts) [] = []
+numbered_cells number (t ∷ ts) (stride ∷ strides) = record { type = t; stride = stride; number = number } ∷ numbered_cells number ts strides
+
+-- the cells of a variable, each with this number
+abbrev pub cells_with : List Structure → CType → ℤ → List core.Initial
+cells_with structs t number = numbered_cells number (cell_types structs t) (strides_of structs t)
+
+-- an initialiser whose children were walked
+pub data Walked : Type 0 where
+  Missing : Walked
+  Written : (value : Expression) (typed : Typed) → Walked
+  Constants : Walked
+
+abbrev pub initializer : Places → Scope → Option Initializer → Verdict Walked
+initializer at g None = Passes Missing
+initializer at g (Some (s.Value value)) = passing (typed at g value) (λ t. Passes (Written value t))
+initializer at g (Some (s.Constants constants span)) = Passes Constants
+
+abbrev pub is_zero : Typed → Bool
+is_zero (Value type null value place) = null
+is_zero (AStruct number place) = false
+
+abbrev pub number_or_break : Option ℤ → Span → (ℤ → List core.Initial) → Verdict (List core.Initial)
+number_or_break None span cells = breaks E13 span
+number_or_break (Some number) span cells = Passes (cells number)
+
+abbrev pub written_cells : List Structure → CType → Expression → Typed → Span → Verdict (List core.Initial)
+written_cells structs Int value t span = number_or_break (signed_constant value) span (cells_with structs Int)
+written_cells structs Char value t span = number_or_break (signed_constant value) span (λ n. cells_with structs Char (low_byte n))
+written_cells structs (Struct number) value t span = breaks E13 span
+written_cells structs (Pointer mode kind target) value t span = needs (is_zero t) E13 span (Passes (cells_with structs (Pointer mode kind target) (pos 0)))
+
+-- constant-initialiser: a signed number for a number, 0 or `NULL` for a pointer, and nothing for a struct; a list for an array alone (E13,
+-- at the item)
+abbrev pub object_cells : List Structure → CType → Walked → Span → Verdict (List core.Initial)
+object_cells structs type Missing span = Passes (cells_with structs type (pos 0))
+object_cells structs type (Written value t) span = written_cells structs type value t span
+object_cells structs type Constants span = breaks E13 span
+
+abbrev pub with_variable : List ℕ → CType → Scope → Scope
+with_variable name type g = record g { variables = g.variables ++ record { name = name; type = type } ∷ [] }
+
+-- the bytes of a variable of a type as it is written: a pointer takes a word, whether its rules are kept or not
+abbrev pub written_size : Scope → TypeTree → (stars : ℕ) → Verdict ℕ
+written_size g base (suc stars) = Passes 4
+written_size g (IntType span) zero = Passes (size_of g.structs Int)
+written_size g (CharType span) zero = Passes (size_of g.structs Char)
+written_size g (StructType tag span) zero = passing (meant (struct_named g tag.name)) (λ number. Passes (size_of g.structs (Struct number)))
+written_size g (PointerType word element starred span) zero = Passes 4
+
+-- few-static-bytes: at most 32,768 with the gap behind each block (E08, at the item)
+abbrev pub few_bytes : ℕ → Span → Verdict ℕ
+few_bytes taken span = needs (nat_le taken 32768) E08 span (Passes taken)
+
+-- few-variables: at most 4,096 (E08, at the item). The bytes that are taken with one variable more
+abbrev pub room_for : Walk → TypeTree → Span → Declarator → Verdict ℕ
+room_for w base span d =
+    needs (nat_lt (length w.scope.variables) 4096) E08 span
+    (passing (written_size w.scope base d.stars) (λ size. few_bytes (w.taken + (rounded_up size + 16)) span))
+
+-- a variable whose children were walked
+pub record WalkedVariable : Type 0 where
+  pub type : CType
+  pub initial : Walked
+
+abbrev pub variables : Places → Walk → TypeTree → CType → Span → List Declarator → List WalkedVariable → Verdict (Walk × List WalkedVariable)
+variables at w base type span [] done = Passes (w, done)
+variables at w base type span (d ∷ ds) done =
+    passing (room_for w base span d) (λ taken.
+    passing (without_stars base d.stars type) (λ t.
+    passing (initializer at (with_variable d.name.name t w.scope) d.initializer) (λ initial.
+    variables at (record w { scope = with_variable d.name.name t w.scope; taken = taken }) base type span ds (done ++ record { type = t; initial = initial } ∷ []))))
+
+-- whether there is room for the first variable is asked before the type that all share is walked
+abbrev pub room_for_first : Walk → i.Global → List Declarator → Verdict ℕ
+room_for_first w g [] = Passes w.taken
+room_for_first w g (d ∷ ds) = room_for w g.base g.span d
+
+-- the initialisers are judged behind the children of all. variable-has-cells: a struct is declared, and has members (E10); those
+-- of a source whose names have a meaning are
+abbrev pub with_objects : Walk → Span → List WalkedVariable → Verdict Walk
+with_objects w span [] = Passes w
+with_objects w span (v ∷ vs) =
+    passing (object_cells w.scope.structs v.type v.initial span) (λ cells.
+    needs (nat_lt 0 (length cells)) E10 span (with_objects (record w { objects = w.objects ++ cells ∷ [] }) span vs))
+
+abbrev pub global : Places → Walk → i.Global → Verdict Walk
+global at w g =
+    passing (room_for_first w g g.declarators) (λ taken. passing (base_type w.scope g.base) (λ type.
+    passing (variables at w g.base type g.span g.declarators []) (λ x. passing (with_objects x.0 g.span x.1) (λ v. in_checked_region v.scope g.span v))))
+
+-- ---- functions
+
+abbrev pub listed : Parameters → List i.Member
+listed i.Nothing = []
+listed i.VoidAlone = []
+listed (i.Listed parameters) = parameters
+
+-- few-parameters: at most 16 (E08, at the parameter's type)
+abbrev pub parameter_types : Scope → List i.Member → List Variable → Verdict (List Variable)
+parameter_types g [] done = Passes done
+parameter_types g (p ∷ parameters) done =
+    needs (nat_lt (length done) 16) E08 (type_span p.type.base)
+    (passing (type_named g p.type) (λ t. parameter_types g parameters (done ++ record { name = p.name.name; type = t } ∷ [])))
+
+-- stars make a raw pointer (E15)
+abbrev pub result_type : Scope → ResultForm → ℕ → Verdict (Option CType)
+result_type g (i.Void span) stars = needs (stars == 0) E15 span (Passes None)
+result_type g (i.Value base) stars = passing (passing (base_type g base) (without_stars base stars)) (λ t. Passes (Some t))
+
+abbrev pub same_types : List CType → List CType → Bool
+same_types [] [] = true
+same_types (t ∷ ts) (u ∷ us) = same_type t u && same_types ts us
+same_types _ _ = false
+
+abbrev pub same_result : Option CType → Option CType → Bool
+same_result None None = true
+same_result (Some t) (Some u) = same_type t u
+same_result _ _ = false
+
+abbrev pub same_kind : FunctionKind → FunctionKind → Bool
+same_kind function_kinds.Trusted function_kinds.Trusted = true
+same_kind function_kinds.Tainted function_kinds.Tainted = true
+same_kind function_kinds.Callback function_kinds.Callback = true
+same_kind _ _ = false
+
+-- a declaration agrees with the first one in kind and types
+abbrev pub agrees : Option Signature → Signature → Bool
+agrees None f = true
+agrees (Some g) f = same_kind g.kind f.kind && (same_types g.parameters f.parameters && same_result g.result f.result)
+
+abbrev pub all_scalar : List CType → Bool
+all_scalar [] = true
+all_scalar (t ∷ ts) = is_scalar t && all_scalar ts
+
+abbrev pub scalar_result : Option CType → Bool
+scalar_result None = true
+scalar_result (Some t) = is_scalar t
+
+abbrev pub with_function : Option Signature → Signature → Scope → Scope
+with_function None f g = record g { functions = g.functions ++ f ∷ [] }
+with_function (Some before) f g = g
+
+-- the parameters as the first locals
+abbrev pub with_parameters : List Variable → Scope → Scope
+with_parameters [] g = g
+with_parameters (p ∷ ps) g = with_parameters ps (with_local p.name p.type g)
+
+abbrev pub inside : Signature → List Variable → Scope → Scope
+inside f parameters g = with_parameters parameters (record g { locals = []; visible = []; result = f.result; in_loop = false })
+
+abbrev pub core_function : Signature → List Variable → core.Statements → Scope → core.Function
+core_function f parameters body g = record { name = f.name; parameters = length parameters; locals = g.locals; result = f.result; body = body }
+
+-- the body of a function; its locals are gone behind it
+abbrev pub function_body : Places → Walk → Signature → List Variable → Option i.Body → Verdict Walk
+function_body at w f parameters None = Passes w
+function_body at w f parameters (Some body) =
+    passing (statements at (inside f parameters w.scope) body.statements) (λ x.
+    is_checked w.scope body.mark body.span (Passes (record w { bodies = w.bodies ++ core_function f parameters x.0 x.1 ∷ [] })))
+
+abbrev pub defines : List ℕ → Item → Bool
+defines name (i.RegionItem region span) = false
+defines name (i.StructureItem structure) = false
+defines name (i.GlobalItem global) = false
+defines name (i.FunctionItem f) = bytes_eq name f.name.name && is_some f.body
+
+abbrev pub is_defined : List Item → List ℕ → Bool
+is_defined [] name = false
+is_defined (x ∷ items) name = picked (defines name x) true (is_defined items name)
+
+-- declarations-agree and signature-is-scalar: E13. body-unless-tainted: E10. region-is-checked: E15
+abbrev pub function_rules : List Item → i.Function → Signature → Option Signature → Walk → Verdict Walk
+function_rules all d f known w =
+    needs (agrees known f && (all_scalar f.parameters && scalar_result f.result)) E13 d.span
+    (needs (picked (is_tainted d.kind) true (is_defined all d.name.name)) E10 d.span
+    (needs (not (is_unchecked d.mark)) E15 d.span (in_checked_region w.scope d.span w)))
+
+abbrev pub signature_of : i.Function → Option CType → List Variable → Signature
+signature_of d result parameters = record { name = d.name.name; kind = d.kind; parameters = map (λ (p : Variable). p.type) parameters; result = result }
+
+-- few-functions: at most 4,096, of which each counts once (E08)
+abbrev pub function : Places → List Item → Walk → i.Function → Verdict Walk
+function at all w d =
+    needs (is_some (function_named w.scope.functions d.name.name) || nat_lt (length w.scope.functions) 4096) E08 d.span
+    (passing (result_type w.scope d.result d.stars) (λ result. passing (parameter_types w.scope (listed d.parameters) []) (λ parameters.
+    walked (signature_of d result parameters) parameters (function_named w.scope.functions d.name.name))))
+  where
+    walked : Signature → List Variable → Option Signature → Verdict Walk
+    walked f parameters known =
+        passing (function_body at (record w { scope = with_function known f w.scope }) f parameters d.body) (λ x. function_rules all d f known x)
+
+-- ---- the whole program
+
+abbrev pub is_off : Region → Bool
+is_off regions.On = false
+is_off regions.Off = true
+
+abbrev pub item : Places → List Item → Walk → Item → Verdict Walk
+item at all w (i.RegionItem region span) = Passes (record w { scope = record w.scope { is_off = is_off region } })
+item at all w (i.StructureItem d) = structure w d
+item at all w (i.GlobalItem g) = global at w g
+item at all w (i.FunctionItem f) = function at all w f
+
+abbrev pub items : Places → List Item → Walk → List Item → Verdict Walk
+items at all w [] = Passes w
+items at all w (x ∷ xs) = passing (item at all w x) (λ v. items at all v xs)
+
+abbrev pub nothing_known : Scope
+nothing_known = record { tags = []; structs = []; functions = []; variables = []; locals = []; visible = []; result = None; in_loop = false; is_off = false }
+
+abbrev pub start : Walk
+start = record { scope = nothing_known; objects = []; taken = 0; bodies = [] }
+
+-- what is known behind a program, or the first rule that it breaks
+abbrev pub walked : Places → Tree → Verdict Walk
+walked at t = items at t.items start t.items

@@ -1,0 +1,29 @@
+-- What holds of the runs of programs that break no rule.
+use Rattle.std.specs.Prelude.{◌≡◌, IsTrue, true, List, All, None}
+use Rattle.std.proofs.Common.{ℤ}
+use Rattle.act_words.specs.declared.ending.Ending.{Ending}
+use Rattle.act_words.specs.declared.settings.Settings.{Settings}
+use Rattle.act_words.specs.Acts.{Act, IsAct}
+use Rattle.act_words.specs.Checks.{is_word_number}
+use Rattle.act_words.specs.Outcome.{Ends}
+use Rattle.ckc_tree.specs.Items.{Tree}
+use Rattle.built_forms.specs.Built.{is_built}
+use Rattle.ckc_names_rules.specs.Naming.{naming_fault}
+use Rattle.ckc_core.specs.Core.{Core}
+use Rattle.ckc_core.specs.States.{State}
+use Rattle.ckc_core.specs.Meaning.{meaning}
+use Rattle.region_typing_rules.specs.Verdicts.{Passes}
+use Rattle.region_typing_rules.specs.Expressions.{Places}
+use Rattle.region_typing_rules.specs.Cores.{checked}
+
+-- the program has a core: it has only forms that are built, each name has one meaning and `main` is there, and no rule is broken
+pub record HasCore (at : Places) (t : Tree) (c : Core) : Type 0 where
+  pub forms : is_built t ≡ true
+  pub names : naming_fault t ≡ None
+  pub rules : checked at t ≡ Passes c
+
+-- the run of a program ends, and is never stuck, under all settings, with all inputs and over all acts
+abbrev pub NeverStuck : Core → Type 0
+NeverStuck program =
+    (settings : Settings) (inputs : List ℤ) (acts : List Act) → All (λ z. IsTrue (is_word_number z)) inputs → All IsAct acts
+    → (ending : Ending) × (s : State) × (meaning program settings inputs acts ≡ Ends ending s)

@@ -1,0 +1,199 @@
+-- The rules of statements, in the order in which they are asked of a node behind its children.
+use Rattle.std.specs.Prelude.{ℕ, Bool, true, false, not, ◌||◌, nat_lt, List, [], ◌∷◌, ◌++◌, length, Option, Some, None, pos}
+use Rattle.ckc_text.specs.declared.place.Span.{Span}
+use Rattle.ckc_text.specs.declared.code.Code.TheVariants.{E08, E12, E13, E15, E30}
+use Rattle.ckc_tree.specs.declared.stmt.Mark.{Mark}
+use Rattle.ckc_tree.specs.declared.stmt.Mark.TheVariants as marks
+use Rattle.ckc_tree.specs.declared.stmt.StoreOperator.{StoreOperator}
+use Rattle.ckc_tree.specs.declared.stmt.StoreOperator.TheVariants as stores
+use Rattle.ckc_tree.specs.declared.stmt.StepOperator.{StepOperator}
+use Rattle.ckc_tree.specs.declared.stmt.StepOperator.TheVariants as steps
+use Rattle.ckc_tree.specs.Types.{TypeTree}
+use Rattle.ckc_tree.specs.Expressions.{Expression, expression_span}
+use Rattle.ckc_tree.specs.Statements as s
+use Rattle.ckc_tree.specs.Statements.{Initializer, Declarator, Declaration, Assignment, ForInitial, Statement, Statements}
+use Rattle.pointer_modes.specs.Types.{CType, Int, Char, Struct, Pointer}
+use Rattle.ckc_core.specs.declared.program.Site.{Site}
+use Rattle.ckc_core.specs.declared.program.Operator.{Operator}
+use Rattle.ckc_core.specs.declared.program.Operator.TheVariants as operators
+use Rattle.ckc_core.specs.Core as core
+use Rattle.region_typing_rules.specs.Verdicts.{Verdict, Passes, passing, needs, breaks}
+use Rattle.region_typing_rules.specs.Scopes.{Scope}
+use Rattle.region_typing_rules.specs.Types.{is_scalar, without_stars, base_type}
+use Rattle.region_typing_rules.specs.Expressions.{Places, Typed, Value, AStruct, Called, Gives, GivesNothing, Lvalue, OfLocal, OfCell, site_at, typed, call_typed, scalar_of, converted, summands}
+
+-- what a statement becomes, and what is known behind it
+abbrev pub Walked : Type 0
+Walked = core.Statement × Scope
+
+-- two statements in a row
+abbrev pub both : core.Statement → core.Statement → core.Statement
+both first second = core.Block (core.Then first (core.Then second core.NoMore))
+
+-- ---- assignments
+
+abbrev pub is_char : CType → Bool
+is_char Int = false
+is_char Char = true
+is_char (Struct number) = false
+is_char (Pointer mode kind target) = false
+
+abbrev pub store : Lvalue → CType → core.Expression → core.Statement
+store (OfLocal local) type value = core.SetLocal local value
+store (OfCell place) type value = core.Store type place value
+
+-- the checks of an update name the whole assignment
+abbrev pub updated_place : core.Place → Site → core.Place
+updated_place (core.Direct object cell offset) site = core.Direct object cell offset
+updated_place (core.Through pointer cell offset before) site = core.Through pointer cell offset site
+
+abbrev pub update : Lvalue → CType → Operator → core.Expression → Site → core.Statement
+update (OfLocal local) type operator value site = core.UpdateLocal (is_char type) local operator value site
+update (OfCell place) type operator value site = core.Update type (updated_place place site) operator value site
+
+-- target-is-place: a variable, an element or a member (E12). target-is-scalar: E13
+abbrev pub assigned : Typed → Span → (CType → Lvalue → Verdict core.Statement) → Verdict core.Statement
+assigned (Value type zero value None) span next = breaks E12 span
+assigned (Value type zero value (Some place)) span next = next type place
+assigned (AStruct number place) span next = breaks E13 span
+
+-- right-side-converts: E13
+abbrev pub set_to : Typed → Typed → Span → Verdict core.Statement
+set_to target right span = assigned target span (λ type place. converted right type span (λ value. Passes (store place type value)))
+
+-- updates-as-sum: the rules of the sum or the difference of both (E19, E13)
+abbrev pub updated : Places → Operator → Typed → Typed → Span → Verdict core.Statement
+updated at operator target right span = assigned target span (λ type place. summands target right span (λ old value. Passes (update place type operator value (site_at at span))))
+
+abbrev pub stored : Places → StoreOperator → Typed → Typed → Span → Verdict core.Statement
+stored at stores.Set target right span = set_to target right span
+stored at stores.Add target right span = updated at operators.Add target right span
+stored at stores.Subtract target right span = updated at operators.Subtract target right span
+
+abbrev pub step_of : StepOperator → Operator
+step_of steps.Increment = operators.Add
+step_of steps.Decrement = operators.Subtract
+
+abbrev pub one : Typed
+one = Value Int false (core.Number (pos 1)) None
+
+abbrev pub assignment : Places → Scope → Assignment → Verdict core.Statement
+assignment at g (s.Store operator target value span) = passing (typed at g target) (λ a. passing (typed at g value) (λ b. stored at operator a b span))
+assignment at g (s.Step operator side target span) = passing (typed at g target) (λ a. updated at (step_of operator) a one span)
+
+-- ---- locals
+
+abbrev pub zero_value : CType → core.Expression
+zero_value Int = core.Number (pos 0)
+zero_value Char = core.Number (pos 0)
+zero_value (Struct number) = core.Null
+zero_value (Pointer mode kind target) = core.Null
+
+-- a local more, which is visible from now on
+abbrev pub with_local : List ℕ → CType → Scope → Scope
+with_local name type g = record g { locals = g.locals ++ type ∷ []; visible = record { name = name; local = length g.locals } ∷ g.visible }
+
+-- no-list-for-local: E13
+abbrev pub initialised : Places → Scope → Option Initializer → CType → ℕ → Span → Verdict core.Statement
+initialised at g None type local span = Passes core.Nothing
+initialised at g (Some (s.Value value)) type local span = passing (typed at g value) (λ t. converted t type span (λ v. Passes (core.SetLocal local v)))
+initialised at g (Some (s.Constants constants list)) type local span = breaks E13 span
+
+-- few-locals: at most 256 with the parameters (E08, at the declaration)
+abbrev pub few_locals : {A : Type 0} → Scope → Span → Verdict A → Verdict A
+few_locals g span next = needs (nat_lt (length g.locals) 256) E08 span next
+
+-- no-struct-local: E13. At each entry of its declaration a local is zero or null before its initial value is evaluated
+abbrev pub declarator : Places → Scope → TypeTree → CType → Span → Declarator → Verdict Walked
+declarator at g base type span d =
+    few_locals g span
+    (passing (without_stars base d.stars type) (λ t.
+    passing (initialised at (with_local d.name.name t g) d.initializer t (length g.locals) span) (λ initial.
+    needs (is_scalar t) E13 span (Passes (both (core.SetLocal (length g.locals) (zero_value t)) initial, with_local d.name.name t g)))))
+
+abbrev pub declarators : Places → Scope → TypeTree → CType → Span → List Declarator → Verdict Walked
+declarators at g base type span [] = Passes (core.Nothing, g)
+declarators at g base type span (d ∷ ds) = passing (declarator at g base type span d) (λ first. passing (declarators at first.1 base type span ds) (λ rest. Passes (both first.0 rest.0, rest.1)))
+
+-- whether there is room for the first local is asked before the type that all share is walked
+abbrev pub declaration : Places → Scope → Declaration → Verdict Walked
+declaration at g d = few_locals g d.span (passing (base_type g d.base) (λ type. declarators at g d.base type d.span d.declarators))
+
+-- ---- statements
+
+-- behind a block its names are gone, and its locals keep their numbers
+abbrev pub behind_block : Scope → Scope → Scope
+behind_block outside inside = record inside { visible = outside.visible; in_loop = outside.in_loop }
+
+abbrev pub in_loop : Scope → Scope
+in_loop g = record g { in_loop = true }
+
+abbrev pub is_unchecked : Option Mark → Bool
+is_unchecked None = false
+is_unchecked (Some marks.Checked) = false
+is_unchecked (Some marks.Unchecked) = true
+
+-- block-is-checked: neither the block nor its region is unchecked (E15)
+abbrev pub is_checked : {A : Type 0} → Scope → Option Mark → Span → Verdict A → Verdict A
+is_checked g mark span next = needs (not (is_unchecked mark || g.is_off)) E15 span next
+
+-- condition-is-scalar: E13
+abbrev pub condition : Places → Scope → Expression → Verdict core.Expression
+condition at g e = passing (typed at g e) (λ t. scalar_of t (expression_span e) Passes)
+
+abbrev pub optional_condition : Places → Scope → Option Expression → Verdict core.Expression
+optional_condition at g None = Passes (core.Number (pos 1))
+optional_condition at g (Some e) = condition at g e
+
+abbrev pub optional_step : Places → Scope → Option Assignment → Verdict core.Statement
+optional_step at g None = Passes core.Nothing
+optional_step at g (Some a) = assignment at g a
+
+abbrev pub first_part : Places → Scope → ForInitial → Verdict Walked
+first_part at g s.Nothing = Passes (core.Nothing, g)
+first_part at g (s.Declares d) = declaration at g d
+first_part at g (s.Assigns a) = passing (assignment at g a) (λ first. Passes (first, g))
+
+-- a result is left
+abbrev pub alone : Called → core.Statement
+alone (Gives type value) = core.Evaluate value
+alone (GivesNothing call) = call
+
+abbrev pub returned : Option CType → Typed → Span → Verdict core.Statement
+returned None t span = breaks E13 span
+returned (Some type) t span = converted t type span (λ v. Passes (core.Return v))
+
+abbrev pub returned_nothing : Option CType → Span → Verdict core.Statement
+returned_nothing None span = Passes core.ReturnNothing
+returned_nothing (Some type) span = breaks E13 span
+
+-- result-as-declared: a value exactly where the result isn't void, which converts (E13)
+abbrev pub return : Places → Scope → Option Expression → Span → Verdict core.Statement
+return at g None span = returned_nothing g.result span
+return at g (Some e) span = passing (typed at g e) (λ t. returned g.result t span)
+
+abbrev mutual
+  pub statement : Places → Scope → Statement → Verdict Walked
+  statement at g (s.Block mark inner span) = passing (statements at g inner) (λ w. is_checked g mark span (Passes (core.Block w.0, behind_block g w.1)))
+  statement at g (s.Bundle assignments span) = breaks E13 span
+  statement at g (s.Declare d span) = declaration at g d
+  statement at g (s.Assign a span) = passing (assignment at g a) (λ x. Passes (x, g))
+  statement at g (s.CallAlone call span) = passing (call_typed at g call) (λ c. Passes (alone c, g))
+  statement at g (s.Empty span) = Passes (core.Nothing, g)
+  statement at g (s.If test consequent span) =
+      passing (condition at g test) (λ c. passing (statement at g consequent) (λ x. Passes (core.If c x.0 core.Nothing, behind_block g x.1)))
+  statement at g (s.IfElse test consequent alternative span) =
+      passing (condition at g test) (λ c. passing (statement at g consequent) (λ x. passing (statement at (behind_block g x.1) alternative) (λ y. Passes (core.If c x.0 y.0, behind_block g y.1))))
+  statement at g (s.While test body span) =
+      passing (condition at g test) (λ c. passing (statement at (in_loop g) body) (λ x. Passes (core.Loop c x.0 core.Nothing, behind_block g x.1)))
+  statement at g (s.For initial test step body span) =
+      passing (first_part at g initial) (λ first. passing (optional_condition at first.1 test) (λ c.
+      passing (statement at (in_loop first.1) body) (λ x. passing (optional_step at (behind_block first.1 x.1) step) (λ y.
+      Passes (both first.0 (core.Loop c x.0 y), behind_block g x.1)))))
+  statement at g (s.Return value span) = passing (return at g value span) (λ x. Passes (x, g))
+  statement at g (s.Break span) = needs g.in_loop E30 span (Passes (core.Break, g))
+  statement at g (s.Continue span) = needs g.in_loop E30 span (Passes (core.Continue, g))
+
+  pub statements : Places → Scope → Statements → Verdict (core.Statements × Scope)
+  statements at g s.NoMore = Passes (core.NoMore, g)
+  statements at g (s.Then first others) = passing (statement at g first) (λ x. passing (statements at x.1 others) (λ y. Passes (core.Then x.0 y.0, y.1)))

@@ -1,0 +1,53 @@
+// Worked examples of the rules, and what holds of all programs that keep them.
+
+ghost use Rattle.std.specs.Prelude.{◌≡◌, ◌*◌, ◌≤◌, true, All, None};
+ghost use Rattle.ckc_tree.specs.Items.{Tree};
+ghost use Rattle.ckc_tree.specs.Heights.{height};
+ghost use Rattle.ckc_tree.specs.Weights.{tree_weight};
+ghost use Rattle.ckc_names_rules.specs.Naming.{naming_fault};
+ghost use Rattle.built_forms.specs.Built.{is_built};
+ghost use Rattle.ckc_core.specs.Core.{Core};
+ghost use Rattle.ckc_core.specs.Weights.{statements_weight};
+ghost use Rattle.region_typing_rules.specs.Verdicts.{Unnamed};
+ghost use Rattle.region_typing_rules.specs.Expressions.{Places};
+ghost use Rattle.region_typing_rules.specs.Cores.{checked};
+ghost use Rattle.region_typing_rules.specs.NeverStuck.{HasCore, NeverStuck};
+ghost use Rattle.region_typing_rules.specs.Typed.{IsTyped};
+ghost use Rattle.region_typing_rules.specs.Lowerable.{HasFewFunctions, IsSmallCore};
+ghost use Rattle.region_typing_rules.specs.Examples as examples;
+
+/// Programs and what they become, worked out from the rules.
+pub fn examples()
+    ensures first_run { examples.first_run }
+    ensures raw_in_checked { examples.raw_in_checked }
+    ensures break_outside { examples.break_outside }
+    ensures without_bodies { examples.without_bodies }
+{}
+
+/// The core of a program that breaks no rule has types, the run of what has types ends and is never stuck, and so is that of a
+/// program that breaks no rule.
+pub fn never_stuck()
+    ensures typed { (at : Places) (t : Tree) (c : Core) → HasCore at t c → IsTyped c }
+    ensures sound { (program : Core) → IsTyped program → NeverStuck program }
+    ensures ends { (at : Places) (t : Tree) (c : Core) → HasCore at t c → NeverStuck c }
+{}
+
+/// The core of a program that breaks no rule and whose tree isn't too high is small enough to be lowered.
+pub fn lowerable()
+    ensures { (at : Places) (t : Tree) (c : Core) → HasCore at t c → height t ≤ 200 → IsSmallCore c }
+{}
+
+/// Where naming finds no fault, each name stands for something in the rules too.
+pub fn named()
+    ensures { (at : Places) (t : Tree) → is_built t ≡ true → naming_fault t ≡ None → checked at t ≡ Unnamed → ⊥ }
+{}
+
+/// The core of a program that breaks no rule has few functions of each side.
+pub fn few_functions()
+    ensures { (at : Places) (t : Tree) (c : Core) → HasCore at t c → HasFewFunctions c }
+{}
+
+/// The body of each function of a program that breaks no rule has at most five nodes for each node of its tree.
+pub fn few_nodes()
+    ensures { (at : Places) (t : Tree) (c : Core) → HasCore at t c → All (λ f. statements_weight f.body ≤ 5 * tree_weight t) c.functions }
+{}

@@ -1,0 +1,6 @@
+pub mod Going
+pub mod Searches
+pub mod FileLevel
+pub mod Tables
+pub mod Steps
+pub mod Innermost

@@ -1,0 +1,24 @@
+-- Inside: what the code's types stand for.
+use Rattle.std.specs.Prelude.{map, reverse}
+use Rattle.std.specs.Option.{option_map}
+use Rattle.pointer_modes.specs.Types.{ctype}
+use Rattle.region_typing_rules.specs.Scopes.{Variable, Scope}
+use Rattle.region_typing_scope.specs.declared.scope as code
+pub use Rattle.region_typing_scope.specs.Signatures.{signature}
+pub use Rattle.region_typing_scope.specs.Visibles.{visible}
+
+abbrev pub variable : code.Variable.Variable → Variable
+variable v = record { name = v.name; type = ctype v.ctype }
+
+abbrev pub scope : code.Scope.Scope → Scope
+scope s = record {
+  tags = s.tags.items;
+  structs = s.structs;
+  functions = map signature s.functions.items;
+  variables = map variable s.variables.items;
+  locals = map ctype s.locals.items;
+  visible = reverse (map visible s.visible.items);
+  result = option_map ctype s.result;
+  in_loop = s.in_loop;
+  is_off = s.is_off;
+}

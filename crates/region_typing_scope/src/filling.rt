@@ -1,0 +1,135 @@
+// What becomes known at file level, and the function that is walked.
+
+ghost use Rattle.std.specs.Prelude.{◌≡◌, ◌<◌, ◌≤◌, true, false, [], None, map, length, OnOk};
+ghost use Rattle.std.specs.List.{list_all};
+ghost use Rattle.std.specs.Option.{option_map};
+ghost use Rattle.pointer_modes.specs.Types.{ctype as ctype_of, member as member_of};
+ghost use Rattle.pointer_modes.specs.Declaring.{with_members};
+ghost use Rattle.region_typing_rules.specs.Types.{is_scalar};
+ghost use Rattle.region_typing_rules.specs.Scopes.{function_named};
+ghost use Rattle.region_typing_rules.specs.Expressions.{counted, is_import as is_import_of};
+ghost use Rattle.region_typing_rules.specs.Items.{nothing_known, with_variable, with_function};
+ghost use Rattle.region_typing_scope.specs.Answering.{Answers};
+ghost use Rattle.region_typing_scope.specs.Views.{scope as scope_of, signature};
+ghost use Rattle.region_typing_scope.specs.Filling.{struct_added};
+
+use crate::name_table::NameTable;
+use crate::refusals::CheckError;
+use crate::scope::{Scope, Variable};
+use crate::sides::is_import;
+use crate::signature::Signature;
+use ckc_text::fault::NoMemory;
+use ckc_text::name::Name;
+use ckc_text::place::Span;
+use pointer_modes::ctype::{CType, Member};
+use pointer_modes::structs::Structs;
+use std::alloc::Global;
+use std::mem;
+
+// One more, where a function is tainted.
+fn with_tainted(f: &Signature, number: u32) -> u32
+    requires { number ≤ 4096 }
+    ensures { result ≡ counted (is_import_of (signature f.now)) number }
+{
+    if is_import(f) { number + 1 } else { number }
+}
+
+impl Scope {
+    /// Nothing known, which takes no memory.
+    pub fn new(alloc: Global) -> Scope
+        ensures { scope_of result ≡ nothing_known }
+    {
+        Scope {
+            tags: Vec::new(alloc),
+            structs: Structs::new(alloc),
+            functions: Vec::new(alloc),
+            variables: Vec::new(alloc),
+            locals: Vec::new(alloc),
+            visible: Vec::new(alloc),
+            result: None,
+            in_loop: false,
+            is_off: false,
+            tag_places: NameTable::new(alloc),
+            function_places: NameTable::new(alloc),
+            variable_places: NameTable::new(alloc),
+            tainted_counts: Vec::new(alloc),
+        }
+    }
+
+    /// A struct more, which has no members yet, and its number: E08 at the span where 4,096 are declared.
+    pub fn add_struct(
+        &mut self,
+        alloc: Global,
+        tag: &[u8],
+        tainted: bool,
+        span: Span,
+    ) -> Result<u32, CheckError>
+        ensures { Answers (λ number. (number, scope_of self.new)) (struct_added tag.now tainted span (scope_of self.old)) result }
+    {
+        let name = Name::copied(alloc, tag)?;
+        self.tags.reserve(1)?;
+        let number = self.structs.declare(tainted, span)?;
+        self.tag_places.note(alloc, tag, self.tags.len())?;
+        self.tags.push_reserved(name);
+        Ok(number)
+    }
+
+    /// Gives a struct members, in place of those that it had.
+    pub fn give_members(&mut self, number: u32, members: Vec<Member>)
+        requires declared { number < length self.old.structs }
+        requires few { length members.items ≤ 64 }
+        requires scalar { list_all (λ m. is_scalar m.ctype) (map member_of members.items) ≡ true }
+        ensures { scope_of self.new ≡ record (scope_of self.old) { structs = with_members self.old.structs number (map member_of members.items) } }
+    {
+        self.structs.give(number, members);
+    }
+
+    /// A file-level variable more.
+    pub fn add_variable(&mut self, alloc: Global, name: &[u8], ctype: CType) -> Result<(), NoMemory>
+        requires { length self.old.variables.items < 4096 }
+        ensures { OnOk result (scope_of self.new ≡ with_variable name.now (ctype_of ctype) (scope_of self.old)) }
+    {
+        let copy = Name::copied(alloc, name)?;
+        self.variables.reserve(1)?;
+        self.variable_places
+            .note(alloc, name, self.variables.len())?;
+        self.variables.push_reserved(Variable { name: copy, ctype });
+        Ok(())
+    }
+
+    /// A function more.
+    pub fn add_function(&mut self, alloc: Global, f: Signature) -> Result<(), NoMemory>
+        requires few { length self.old.functions.items < 4096 }
+        requires new { function_named (scope_of self.old).functions f.name ≡ None }
+        ensures { OnOk result (scope_of self.new ≡ with_function None (signature f) (scope_of self.old)) }
+    {
+        let place = self.functions.len();
+        let tainted = with_tainted(&f, self.tainted_before(place));
+        self.functions.reserve(1)?;
+        self.tainted_counts.reserve(1)?;
+        self.function_places.note(alloc, f.name.as_bytes(), place)?;
+        self.tainted_counts.push_reserved(tainted);
+        self.functions.push_reserved(f);
+        Ok(())
+    }
+
+    /// Enters a function, of which no local is known yet.
+    pub fn enter(&mut self, alloc: Global, returned: Option<CType>)
+        ensures { scope_of self.new ≡ record (scope_of self.old) { locals = []; visible = []; result = option_map ctype_of returned; in_loop = false } }
+    {
+        self.locals = Vec::new(alloc);
+        self.visible = Vec::new(alloc);
+        self.result = returned;
+        self.in_loop = false;
+    }
+
+    /// Leaves a function, and gives the types of its locals.
+    pub fn exit(&mut self, alloc: Global) -> Vec<CType>
+        ensures known { scope_of self.new ≡ record (scope_of self.old) { locals = []; visible = []; result = None; in_loop = false } }
+        ensures locals { map ctype_of result.items ≡ (scope_of self.old).locals }
+    {
+        let locals = mem::replace(&mut self.locals, Vec::new(alloc));
+        self.enter(alloc, None);
+        locals
+    }
+}

@@ -1,0 +1,14 @@
+// What the names of a source stand for while its types are checked, and the types that are written in it.
+#![tactic(auto)]
+
+mod filling;
+mod locals;
+pub mod lookups;
+pub mod name_table;
+pub mod refusals;
+pub mod scope;
+pub mod sides;
+pub mod signature;
+pub mod sites;
+pub mod types;
+pub mod visible;

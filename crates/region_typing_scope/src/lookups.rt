@@ -1,0 +1,116 @@
+// What the names that are known stand for.
+
+ghost use Rattle.std.specs.Prelude.{◌≡◌, ◌≤◌, true, bytes_eq, position, length, map};
+ghost use Rattle.std.specs.Option.{option_map};
+ghost use Rattle.pointer_modes.specs.Types.{ctype as ctype_of};
+ghost use Rattle.region_typing_rules.specs.Scopes.{Local, Object, struct_named, local_named, object_named, function_named};
+ghost use Rattle.region_typing_scope.specs.Views.{scope as scope_of, signature};
+ghost use Rattle.region_typing_scope.specs.Tables.{side_before as side_before_of};
+ghost use Rattle.region_typing_rules.specs.Expressions.{side_number as side_number_of};
+
+use crate::scope::Scope;
+use crate::signature::Signature;
+use pointer_modes::ctype::CType;
+use crate::visible::innermost;
+
+/// A variable that a name stands for: its number, and its type.
+#[derive(Clone, Copy)]
+pub struct Known<'a> {
+    pub number: u32,
+    pub ctype: &'a CType,
+}
+
+impl Scope {
+    // The place of the first tag that is this one.
+    fn tag_place(&self, tag: &[u8]) -> Option<usize>
+        ensures { result ≡ position (bytes_eq tag.now) self.now.tags.items }
+    {
+        self.tag_places.get(tag)
+    }
+
+    // The place of the first file-level variable that has this name.
+    fn variable_place(&self, name: &[u8]) -> Option<usize>
+        ensures { result ≡ position (λ v. bytes_eq name.now v.name) self.now.variables.items }
+    {
+        self.variable_places.get(name)
+    }
+
+    // The place of the first function that has this name.
+    fn function_place(&self, name: &[u8]) -> Option<usize>
+        ensures { result ≡ position (λ f. bytes_eq name.now f.name) self.now.functions.items }
+    {
+        self.function_places.get(name)
+    }
+
+    /// The number of a struct.
+    pub fn struct_number(&self, tag: &[u8]) -> Option<u32>
+        ensures { result ≡ struct_named (scope_of self.now) tag.now }
+    {
+        let number = self.tag_place(tag)?;
+        Some(number as u32)
+    }
+
+    /// The local of a name.
+    pub fn local(&self, name: &[u8]) -> Option<Known<'_>>
+        ensures { option_map (λ k. Local k.number (ctype_of k.ctype.now)) result ≡ local_named (scope_of self.now).locals (scope_of self.now).visible name.now }
+    {
+        let number = innermost(self.visible.as_slice(), name)?;
+        let ctype = self.locals.get(number as usize)?;
+        Some(Known { number, ctype })
+    }
+
+    /// The file-level variable of a name.
+    pub fn object(&self, name: &[u8]) -> Option<Known<'_>>
+        ensures { option_map (λ k. Object k.number (ctype_of k.ctype.now)) result ≡ object_named 0 (scope_of self.now).variables name.now }
+    {
+        let number = self.variable_place(name)?;
+        Some(Known {
+            number: number as u32,
+            ctype: &self.variables[number].ctype,
+        })
+    }
+
+    /// The function of a name.
+    pub fn function(&self, name: &[u8]) -> Option<&Signature>
+        ensures { option_map (λ f. signature f.now) result ≡ function_named (scope_of self.now).functions name.now }
+    {
+        let place = self.function_place(name)?;
+        Some(&self.functions[place])
+    }
+
+    // How many functions before a place are tainted.
+    pub(crate) fn tainted_before(&self, place: usize) -> u32
+        requires { place ≤ length self.now.functions.items }
+        ensures count { result ≡ side_before_of true (map signature self.now.functions.items) place }
+        ensures few { result ≤ place }
+    {
+        if place == 0 {
+            0
+        } else {
+            self.tainted_counts[place - 1]
+        }
+    }
+
+    // How many functions of a side stand before a place.
+    fn side_before(&self, side: bool, place: usize) -> u32
+        requires { place ≤ length self.now.functions.items }
+        ensures { result ≡ side_before_of side (map signature self.now.functions.items) place }
+    {
+        let tainted = self.tainted_before(place);
+        if side {
+            tainted
+        } else {
+            place as u32 - tainted
+        }
+    }
+
+    /// How many functions of a side stand before the one of a name.
+    pub fn side_number(&self, side: bool, name: &[u8]) -> u32
+        ensures { result ≡ side_number_of side (scope_of self.now).functions name.now 0 }
+    {
+        match self.function_place(name) {
+            Some(place) => self.side_before(side, place),
+            None => self.side_before(side, self.functions.len()),
+        }
+    }
+}

@@ -1,0 +1,60 @@
+// What is known while a program is walked.
+
+ghost use Rattle.std.specs.Prelude.{◌≡◌, ◌≤◌, true, length, map};
+ghost use Rattle.std.specs.List.{list_all};
+ghost use Rattle.region_typing_rules.specs.Types.{is_scalar};
+ghost use Rattle.region_typing_scope.specs.Names.{are_distinct};
+ghost use Rattle.region_typing_scope.specs.Signatures.{signature};
+ghost use Rattle.region_typing_scope.specs.Tables.{Finds, Counts};
+
+use crate::name_table::NameTable;
+use crate::signature::Signature;
+use ckc_text::name::Name;
+use pointer_modes::ctype::CType;
+use pointer_modes::structs::Structs;
+use crate::visible::Visible;
+
+/// A variable that has a name, and its type.
+#[derive(Drop)]
+pub struct Variable {
+    pub name: Name,
+    pub ctype: CType,
+}
+
+/// Where a block begins: how many names are visible there, and whether a loop is around.
+#[derive(Clone, Copy)]
+pub struct BlockStart {
+    pub visible: usize,
+    pub in_loop: bool,
+}
+
+/// What stands at file level, and the locals of the function that is walked. What stands at file level is found by the
+/// tables of its names.
+#[derive(Drop)]
+pub struct Scope {
+    pub tags: Vec<Name>,
+    pub structs: Structs,
+    pub functions: Vec<Signature>,
+    pub variables: Vec<Variable>,
+    pub locals: Vec<CType>,
+    pub visible: Vec<Visible>,
+    pub result: Option<CType>,
+    pub in_loop: bool,
+    pub is_off: bool,
+    pub(crate) tag_places: NameTable,
+    pub(crate) function_places: NameTable,
+    pub(crate) variable_places: NameTable,
+    /// For each function how many up to it are tainted.
+    pub(crate) tainted_counts: Vec<u32>,
+    ghost scalar: { list_all (λ d. list_all (λ m. is_scalar m.ctype) d.members) structs ≡ true },
+    ghost few_tags: { length tags.items ≤ length structs },
+    ghost few_structs: { length structs ≤ 4096 },
+    ghost few_functions: { length functions.items ≤ 4096 },
+    ghost distinct: { are_distinct (map signature functions.items) ≡ true },
+    ghost few_variables: { length variables.items ≤ 4096 },
+    ghost few_locals: { length locals.items ≤ 256 },
+    ghost tags_found: { Finds tag_places tags.items },
+    ghost functions_found: { Finds function_places (map (λ f. f.name) functions.items) },
+    ghost variables_found: { Finds variable_places (map (λ v. v.name) variables.items) },
+    ghost counted: { Counts tainted_counts.items (map signature functions.items) },
+}

@@ -1,0 +1,51 @@
+// The places that failed checks name.
+
+ghost use Rattle.std.specs.Prelude.{◌≡◌, ◌≤◌, length, IfOk};
+ghost use Rattle.ckc_text.specs.Places.{place_at};
+ghost use Rattle.region_typing_rules.specs.Expressions.{site_at};
+
+use ckc_core::program::Site;
+use ckc_text::fault::NoMemory;
+use ckc_text::line_index::LineIndex;
+use ckc_text::place::Span;
+use std::alloc::Global;
+use std::marker::Model;
+
+/// Finds the sites of a source. Contracts see the source's bytes.
+#[derive(Drop)]
+pub struct Sites<'a> {
+    src: &'a [u8],
+    lines: LineIndex,
+}
+
+impl<'a> Model for Sites<'a> {
+    ghost use Rattle.std.specs.Prelude.{◌≡◌, ℕ, List, ◌≤◌, length};
+    ghost use Rattle.ckc_text.specs.Places.{line_feeds_of};
+
+    ghost Value = { List ℕ };
+
+    ghost view = { λ s. s.src.now };
+
+    ghost invariant = { λ s. (length s.src.now ≤ 1048576) × (s.lines ≡ line_feeds_of s.src.now) };
+}
+
+impl<'a> Sites<'a> {
+    /// The sites of a source of at most 1,048,576 bytes.
+    pub fn new(alloc: Global, src: &'a [u8]) -> Result<Sites<'a>, NoMemory>
+        requires { length src.now ≤ 1048576 }
+        ensures { IfOk result (λ sites. sites ≡ src.now) }
+    {
+        let lines = LineIndex::new(alloc, src)?;
+        Ok(Sites { src, lines })
+    }
+
+    /// The site at the start of a span.
+    pub fn site(&self, span: Span) -> Site
+        ensures { result ≡ site_at (place_at self.now) span }
+    {
+        let at = span.from.min(self.src.len() as u32);
+        Site {
+            place: self.lines.place(at),
+        }
+    }
+}

@@ -1,0 +1,75 @@
+// Statements of the core that have statements. What is built stays behind a `Box` while more is walked.
+
+ghost use Rattle.std.specs.Prelude.{◌≡◌, IfOk};
+ghost use Rattle.ckc_core.specs.Core.{statements_of, Block, If, Loop};
+ghost use Rattle.region_typing_rules.specs.Statements.{both as both_of};
+ghost use Rattle.region_typing_values.specs.OnHeap.{expression as expression_of, statement as statement_of};
+
+use ckc_core::program::{Expr, Stmt};
+use ckc_text::fault::NoMemory;
+use std::alloc::Global;
+use region_typing_values::on_heap::boxed;
+
+/// Statements in their order.
+pub fn block(alloc: Global, statements: Vec<Stmt>) -> Result<Box<Stmt>, NoMemory>
+    ensures { IfOk result (λ s. statement_of s ≡ Block (statements_of statements.items)) }
+{
+    boxed(alloc, Stmt::Block(statements))
+}
+
+/// Two statements in a row.
+pub fn both(alloc: Global, first: Box<Stmt>, second: Box<Stmt>) -> Result<Box<Stmt>, NoMemory>
+    ensures { IfOk result (λ s. statement_of s ≡ both_of (statement_of first) (statement_of second)) }
+{
+    let mut statements = Vec::new(alloc);
+    statements.reserve(2)?;
+    statements.push_reserved(Box::into_inner(first));
+    statements.push_reserved(Box::into_inner(second));
+    block(alloc, statements)
+}
+
+/// A condition with the statement that runs where it holds.
+#[derive(Drop)]
+pub struct Branch {
+    pub condition: Box<Expr>,
+    pub consequent: Box<Stmt>,
+}
+
+/// A branch, or else another statement.
+pub fn choice(alloc: Global, branch: Branch, alternative: Box<Stmt>) -> Result<Box<Stmt>, NoMemory>
+    ensures { IfOk result (λ s. statement_of s ≡ If (expression_of branch.condition) (statement_of branch.consequent) (statement_of alternative)) }
+{
+    let Branch {
+        condition,
+        consequent,
+    } = branch;
+    let condition = Box::into_inner(condition);
+    boxed(
+        alloc,
+        Stmt::If {
+            condition,
+            consequent,
+            alternative,
+        },
+    )
+}
+
+/// A loop with what follows each turn.
+pub fn repeated(
+    alloc: Global,
+    condition: Box<Expr>,
+    body: Box<Stmt>,
+    step: Box<Stmt>,
+) -> Result<Box<Stmt>, NoMemory>
+    ensures { IfOk result (λ s. statement_of s ≡ Loop (expression_of condition) (statement_of body) (statement_of step)) }
+{
+    let condition = Box::into_inner(condition);
+    boxed(
+        alloc,
+        Stmt::Loop {
+            condition,
+            body,
+            step,
+        },
+    )
+}

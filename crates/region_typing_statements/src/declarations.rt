@@ -1,0 +1,120 @@
+// Declarations of locals.
+
+ghost use Rattle.std.specs.Prelude.{◌<◌, map, length, IfOk};
+ghost use Rattle.ckc_text.specs.Places.{place_at};
+ghost use Rattle.ckc_tree.specs.Types.{type_tree};
+ghost use Rattle.ckc_tree.specs.Statements.{declarator as declarator_tree, declaration as declaration_tree};
+ghost use Rattle.pointer_modes.specs.Types.{ctype as ctype_of};
+ghost use Rattle.region_typing_rules.specs.Statements.{few_locals as few_locals_in, declarator as declarator_of, declarators as declarators_of, declaration as declaration_of};
+ghost use Rattle.region_typing_rules.specs.Verdicts.{Passes};
+ghost use Rattle.region_typing_scope.specs.Answering.{Answers};
+ghost use Rattle.region_typing_scope.specs.Views.{scope as scope_of};
+ghost use Rattle.region_typing_values.specs.OnHeap.{statement};
+ghost use Rattle.region_typing_statements.specs.Walks.{Walks, declared_local};
+
+use crate::core_forms::both;
+use crate::initial_values::from_zero;
+use region_typing_scope::refusals::{CheckError, needs};
+use region_typing_scope::scope::Scope;
+use region_typing_scope::sites::Sites;
+use region_typing_scope::types::{base_type, copied, without_stars};
+use ckc_core::program::Stmt;
+use ckc_text::code::Code;
+use ckc_text::place::Span;
+use ckc_tree::stmt::{Declaration, Declarator};
+use ckc_tree::type_form::TypeForm;
+use pointer_modes::ctype::CType;
+use std::alloc::Global;
+use region_typing_values::on_heap::boxed;
+
+/// How many locals a function may have.
+const MOST_LOCALS: usize = 256;
+
+// Refuses one local too many.
+fn few_locals(scope: &Scope, span: Span) -> Result<(), CheckError>
+    ensures few { Answers (λ x. x) (few_locals_in (scope_of scope.now) span (Passes tt)) result }
+    ensures room { IfOk result (λ _. length scope.now.locals.items < 256) }
+{
+    needs(scope.locals.len() < MOST_LOCALS, Code::E08, span)?;
+    Ok(())
+}
+
+// A local more, which is given what it is at first.
+fn declared(
+    alloc: Global,
+    sites: &Sites,
+    scope: &mut Scope,
+    d: &Declarator,
+    t: &CType,
+    span: Span,
+) -> Result<Box<Stmt>, CheckError>
+    requires { length scope.old.locals.items < 256 }
+    ensures { Walks statement (declared_local (place_at sites.now) (scope_of scope.old) (declarator_tree d.now) (ctype_of t.now) span) scope.old result scope.new }
+{
+    let local = scope.locals.len() as u32;
+    let kept = copied(alloc, t)?;
+    scope.add_local(alloc, d.name.name.as_bytes(), kept)?;
+    from_zero(alloc, sites, scope, &d.initializer, t, local, span)
+}
+
+// One local of a declaration.
+fn declarator(
+    alloc: Global,
+    sites: &Sites,
+    scope: &mut Scope,
+    base: &TypeForm,
+    t: &CType,
+    span: Span,
+    d: &Declarator,
+) -> Result<Box<Stmt>, CheckError>
+    ensures { Walks statement (declarator_of (place_at sites.now) (scope_of scope.old) (type_tree base.now) (ctype_of t.now) span (declarator_tree d.now)) scope.old result scope.new }
+{
+    few_locals(scope, span)?;
+    let given = copied(alloc, t)?;
+    let t = without_stars(base, d.stars, given)?;
+    declared(alloc, sites, scope, d, &t, span)
+}
+
+// The locals of a declaration.
+fn declarators(
+    alloc: Global,
+    sites: &Sites,
+    scope: &mut Scope,
+    base: &TypeForm,
+    t: &CType,
+    span: Span,
+    ds: &[Declarator],
+) -> Result<Box<Stmt>, CheckError>
+    ensures { Walks statement (declarators_of (place_at sites.now) (scope_of scope.old) (type_tree base.now) (ctype_of t.now) span (map declarator_tree ds.now)) scope.old result scope.new }
+{
+    match ds {
+        [] => Ok(boxed(alloc, Stmt::Nothing)?),
+        [first, others @ ..] => {
+            let first = declarator(alloc, sites, scope, base, t, span, first)?;
+            let rest = declarators(alloc, sites, scope, base, t, span, others)?;
+            Ok(both(alloc, first, rest)?)
+        }
+    }
+}
+
+/// A declaration of locals.
+pub fn declaration(
+    alloc: Global,
+    sites: &Sites,
+    scope: &mut Scope,
+    d: &Declaration,
+) -> Result<Box<Stmt>, CheckError>
+    ensures { Walks statement (declaration_of (place_at sites.now) (scope_of scope.old) (declaration_tree d.now)) scope.old result scope.new }
+{
+    few_locals(scope, d.span)?;
+    let t = base_type(alloc, scope, &d.base)?;
+    declarators(
+        alloc,
+        sites,
+        scope,
+        &d.base,
+        &t,
+        d.span,
+        d.declarators.as_slice(),
+    )
+}

@@ -1,0 +1,71 @@
+// What stands in the heads of statements.
+
+ghost use Rattle.std.specs.Option.{option_map};
+ghost use Rattle.ckc_text.specs.Places.{place_at};
+ghost use Rattle.ckc_tree.specs.Statements.{on_heap, assignment as assignment_tree, for_initial as initial_tree};
+ghost use Rattle.region_typing_rules.specs.Statements.{optional_condition as optional_condition_of, optional_step as optional_step_of, first_part as first_part_of};
+ghost use Rattle.region_typing_scope.specs.Answering.{Answers};
+ghost use Rattle.region_typing_scope.specs.Views.{scope as scope_of};
+ghost use Rattle.region_typing_values.specs.OnHeap.{expression, statement};
+ghost use Rattle.region_typing_statements.specs.Walks.{Walks};
+
+use crate::declarations::declaration;
+use region_typing_scope::refusals::CheckError;
+use region_typing_scope::scope::Scope;
+use region_typing_scope::sites::Sites;
+use ckc_core::program::{Expr, Stmt};
+use ckc_tree::expr;
+use ckc_tree::stmt::{Assignment, ForInitial};
+use region_typing_expressions::assignments::{assignment, condition};
+use std::alloc::Global;
+use region_typing_values::on_heap::boxed;
+
+/// The condition of a loop, which holds where it isn't written.
+pub fn optional_condition(
+    alloc: Global,
+    sites: &Sites,
+    scope: &Scope,
+    written: &Option<Box<expr::Expr>>,
+) -> Result<Box<Expr>, CheckError>
+    ensures { Answers expression (optional_condition_of (place_at sites.now) (scope_of scope.now) (option_map on_heap written.now)) result }
+{
+    match written {
+        None => Ok(boxed(alloc, Expr::Number(1))?),
+        Some(written) => condition(alloc, sites, scope, written),
+    }
+}
+
+/// What follows each turn of a loop.
+pub fn optional_step(
+    alloc: Global,
+    sites: &Sites,
+    scope: &Scope,
+    written: &Option<Assignment>,
+) -> Result<Box<Stmt>, CheckError>
+    ensures { Answers statement (optional_step_of (place_at sites.now) (scope_of scope.now) (option_map assignment_tree written.now)) result }
+{
+    match written {
+        None => Ok(boxed(alloc, Stmt::Nothing)?),
+        Some(written) => assignment(alloc, sites, scope, written),
+    }
+}
+
+/// What stands first in the head of a `for`.
+pub fn first_part(
+    alloc: Global,
+    sites: &Sites,
+    scope: &mut Scope,
+    written: &ForInitial,
+) -> Result<Box<Stmt>, CheckError>
+    ensures { Walks statement (first_part_of (place_at sites.now) (scope_of scope.old) (initial_tree written.now)) scope.old result scope.new }
+{
+    match written {
+        ForInitial::Nothing => Ok(boxed(alloc, Stmt::Nothing)?),
+        ForInitial::Declare {
+            declaration: written,
+        } => declaration(alloc, sites, scope, written),
+        ForInitial::Assign {
+            assignment: written,
+        } => assignment(alloc, sites, scope, written),
+    }
+}

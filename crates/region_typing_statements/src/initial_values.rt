@@ -1,0 +1,85 @@
+// What a local is given where it is declared.
+
+ghost use Rattle.std.specs.Option.{option_map};
+ghost use Rattle.ckc_text.specs.Places.{place_at};
+ghost use Rattle.ckc_tree.specs.Expressions.{expression as expression_tree};
+ghost use Rattle.ckc_tree.specs.Statements.{initializer as initializer_tree};
+ghost use Rattle.pointer_modes.specs.Types.{ctype as ctype_of};
+ghost use Rattle.region_typing_rules.specs.Statements.{initialised as initialised_as};
+ghost use Rattle.region_typing_scope.specs.Answering.{Answers};
+ghost use Rattle.region_typing_scope.specs.Views.{scope as scope_of};
+ghost use Rattle.region_typing_values.specs.OnHeap.{statement as statement_of};
+ghost use Rattle.region_typing_statements.specs.Walks.{initial_value as initial_value_as, from_zero as from_zero_as};
+
+use crate::core_forms::both;
+use region_typing_scope::refusals::{CheckError, needs, refusal};
+use region_typing_scope::scope::Scope;
+use region_typing_scope::sites::Sites;
+use region_typing_scope::types::is_scalar;
+use ckc_core::program::Stmt;
+use ckc_text::code::Code;
+use ckc_text::place::Span;
+use ckc_tree::expr::Expr;
+use ckc_tree::stmt::Initializer;
+use region_typing_expressions::expressions::typed;
+use pointer_modes::ctype::CType;
+use std::alloc::Global;
+use region_typing_values::conversions::converted;
+use region_typing_values::on_heap::boxed;
+use crate::set_to_zero;
+
+// The value that a local is given.
+fn initial_value(
+    alloc: Global,
+    sites: &Sites,
+    scope: &Scope,
+    value: &Expr,
+    t: &CType,
+    local: u32,
+    span: Span,
+) -> Result<Box<Stmt>, CheckError>
+    ensures { Answers statement_of (initial_value_as (place_at sites.now) (scope_of scope.now) (expression_tree value.now) (ctype_of t.now) local span) result }
+{
+    let given = typed(alloc, sites, scope, value)?;
+    let value = converted(alloc, given, t, span)?;
+    Ok(boxed(alloc, Stmt::SetLocal { local, value })?)
+}
+
+// The initial value of a local, if it has one.
+fn initialised(
+    alloc: Global,
+    sites: &Sites,
+    scope: &Scope,
+    written: &Option<Initializer>,
+    t: &CType,
+    local: u32,
+    span: Span,
+) -> Result<Box<Stmt>, CheckError>
+    ensures { Answers statement_of (initialised_as (place_at sites.now) (scope_of scope.now) (option_map initializer_tree written.now) (ctype_of t.now) local span) result }
+{
+    match written {
+        None => Ok(boxed(alloc, Stmt::Nothing)?),
+        Some(Initializer::Value { value }) => {
+            initial_value(alloc, sites, scope, value, t, local, span)
+        }
+        Some(Initializer::List { .. }) => Err(refusal(Code::E13, span)),
+    }
+}
+
+/// What a local is before it is given a value, and then its initial value.
+pub fn from_zero(
+    alloc: Global,
+    sites: &Sites,
+    scope: &Scope,
+    written: &Option<Initializer>,
+    t: &CType,
+    local: u32,
+    span: Span,
+) -> Result<Box<Stmt>, CheckError>
+    ensures { Answers statement_of (from_zero_as (place_at sites.now) (scope_of scope.now) (option_map initializer_tree written.now) (ctype_of t.now) local span) result }
+{
+    let initial = initialised(alloc, sites, scope, written, t, local, span)?;
+    needs(is_scalar(t), Code::E13, span)?;
+    let first = boxed(alloc, set_to_zero(local, t))?;
+    Ok(both(alloc, first, initial)?)
+}

@@ -1,0 +1,148 @@
+// Statements that have no statements.
+
+ghost use Rattle.std.specs.Prelude.{◌≡◌, IfOk};
+ghost use Rattle.std.specs.Option.{option_map};
+ghost use Rattle.ckc_text.specs.Places.{place_at};
+ghost use Rattle.ckc_tree.specs.Expressions.{expression as expression_tree};
+ghost use Rattle.ckc_tree.specs.Statements.{on_heap};
+ghost use Rattle.pointer_modes.specs.Types.{ctype as ctype_of};
+ghost use Rattle.ckc_core.specs.Core.{Break, Continue};
+ghost use Rattle.region_typing_rules.specs.Statements.{return as return_of, returned_nothing as nothing_as, alone as alone_of};
+ghost use Rattle.region_typing_scope.specs.Answering.{Answers};
+ghost use Rattle.region_typing_scope.specs.Views.{scope as scope_of};
+ghost use Rattle.region_typing_expressions.specs.Calls.{called as called_as};
+ghost use Rattle.region_typing_values.specs.OnHeap.{statement};
+ghost use Rattle.region_typing_statements.specs.Parts.{call_statement, needs_loop, value_returned as value_returned_in, converted_return, refused_value as refused_value_in};
+
+use region_typing_scope::refusals::{CheckError, needs, refusal};
+use region_typing_scope::scope::Scope;
+use region_typing_scope::sites::Sites;
+use ckc_core::program::Stmt;
+use ckc_text::code::Code;
+use ckc_text::fault::NoMemory;
+use ckc_text::place::Span;
+use ckc_tree::expr::Expr;
+use region_typing_expressions::calls::Called;
+use region_typing_expressions::expressions::{call_typed, typed};
+use pointer_modes::ctype::CType;
+use std::alloc::Global;
+use region_typing_values::conversions::converted;
+use region_typing_values::on_heap::boxed;
+
+// A call whose result is left.
+fn alone(alloc: Global, call: Called) -> Result<Box<Stmt>, NoMemory>
+    ensures { IfOk result (λ s. statement s ≡ alone_of (called_as call)) }
+{
+    match call {
+        Called::Gives { ctype: _, value } => {
+            let value = Box::into_inner(value);
+            boxed(alloc, Stmt::Evaluate(value))
+        }
+        Called::GivesNothing { call } => Ok(call),
+    }
+}
+
+/// A statement that is a call.
+pub fn call_alone(
+    alloc: Global,
+    sites: &Sites,
+    scope: &Scope,
+    call: &Expr,
+) -> Result<Box<Stmt>, CheckError>
+    ensures { Answers statement (call_statement (place_at sites.now) (scope_of scope.now) (expression_tree call.now)) result }
+{
+    let call = call_typed(alloc, sites, scope, call)?;
+    Ok(alone(alloc, call)?)
+}
+
+// A return without a value.
+fn returned_nothing(
+    alloc: Global,
+    result_type: &Option<CType>,
+    span: Span,
+) -> Result<Box<Stmt>, CheckError>
+    ensures { Answers statement (nothing_as (option_map ctype_of result_type.now) span) result }
+{
+    match result_type {
+        None => Ok(boxed(alloc, Stmt::ReturnNothing)?),
+        Some(_) => Err(refusal(Code::E13, span)),
+    }
+}
+
+// A value that is returned where there is no result.
+fn refused_value(
+    alloc: Global,
+    sites: &Sites,
+    scope: &Scope,
+    written: &Expr,
+    span: Span,
+) -> Result<Box<Stmt>, CheckError>
+    ensures { Answers statement (refused_value_in (place_at sites.now) (scope_of scope.now) (expression_tree written.now) span) result }
+{
+    typed(alloc, sites, scope, written)?;
+    Err(refusal(Code::E13, span))
+}
+
+// A return of a value that converts.
+fn return_value(
+    alloc: Global,
+    sites: &Sites,
+    scope: &Scope,
+    t: &CType,
+    written: &Expr,
+    span: Span,
+) -> Result<Box<Stmt>, CheckError>
+    ensures { Answers statement (converted_return (place_at sites.now) (scope_of scope.now) (ctype_of t.now) (expression_tree written.now) span) result }
+{
+    let given = typed(alloc, sites, scope, written)?;
+    let value = converted(alloc, given, t, span)?;
+    Ok(boxed(alloc, Stmt::Return(value))?)
+}
+
+// A return of a value, where the function has a result.
+fn value_returned(
+    alloc: Global,
+    sites: &Sites,
+    scope: &Scope,
+    written: &Expr,
+    span: Span,
+) -> Result<Box<Stmt>, CheckError>
+    ensures { Answers statement (value_returned_in (place_at sites.now) (scope_of scope.now) (scope_of scope.now).result (expression_tree written.now) span) result }
+{
+    match &scope.result {
+        None => refused_value(alloc, sites, scope, written, span),
+        Some(t) => return_value(alloc, sites, scope, t, written, span),
+    }
+}
+
+/// A return, which has a value where the function has a result.
+pub fn return_from(
+    alloc: Global,
+    sites: &Sites,
+    scope: &Scope,
+    written: &Option<Box<Expr>>,
+    span: Span,
+) -> Result<Box<Stmt>, CheckError>
+    ensures { Answers statement (return_of (place_at sites.now) (scope_of scope.now) (option_map on_heap written.now) span) result }
+{
+    match written {
+        None => returned_nothing(alloc, &scope.result, span),
+        Some(written) => value_returned(alloc, sites, scope, written, span),
+    }
+}
+
+/// A `break`, which stands in a loop.
+pub fn break_from(alloc: Global, scope: &Scope, span: Span) -> Result<Box<Stmt>, CheckError>
+    ensures { Answers statement (needs_loop (scope_of scope.now) Break span) result }
+{
+    needs(scope.in_loop, Code::E30, span)?;
+    Ok(boxed(alloc, Stmt::Break)?)
+}
+
+/// A `continue`, which stands in a loop.
+pub fn continue_with(alloc: Global, scope: &Scope, span: Span) -> Result<Box<Stmt>, CheckError>
+    ensures { Answers statement (needs_loop (scope_of scope.now) Continue span) result }
+{
+    needs(scope.in_loop, Code::E30, span)?;
+    Ok(boxed(alloc, Stmt::Continue)?)
+}

@@ -1,0 +1,22 @@
+-- The lines that say why a program wasn't run, or why its run broke off. Each ends with a line feed.
+use Rattle.std.specs.Prelude.{ℕ, List, ◌++◌, codes, decimal}
+use Rattle.ckc_text.specs.declared.place.Place.{Place}
+use Rattle.ckc_text.specs.declared.code.Code.{Code}
+use Rattle.ckc_text.specs.Texts.{number_of, name_of}
+use Rattle.run_core_transcript.specs.Texts.{line, placed_text}
+
+-- a refused source, at its place, as `[refused E17 2:3 bounds not proved]`
+abbrev pub refused_text : Code → Place → List ℕ
+refused_text code place = placed_text (codes "refused") code place
+
+-- a refused line of the acts, as `[act line 3 A1 not JSON]`
+abbrev pub act_refused_text : ℕ → Code → List ℕ
+act_refused_text number code = line (codes "[act line " ++ decimal number ++ codes " " ++ number_of code ++ codes " " ++ name_of code ++ codes "]")
+
+-- a file that isn't there
+abbrev pub missing_text : List ℕ → List ℕ
+missing_text name = line (codes "[missing " ++ name ++ codes "]")
+
+-- words that spell no request
+abbrev pub usage_text : List ℕ
+usage_text = line (codes "[usage] ccbox check|split|run|record|big|exec")

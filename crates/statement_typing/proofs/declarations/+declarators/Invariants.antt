@@ -1,5 +1,0 @@
-use Rattle.std.proofs.Common.{length}
-use Rattle.statement_typing.proofs.declarations.+declarators.Given as goal
-
-abbrev pub decreases-declarators : goal.decreases-declarators
-decreases-declarators l = length l.ds.now

@@ -1,7 +1,0 @@
-use Rattle.std.proofs.Common.{◌≡◌, drop}
-use Rattle.tree_placement.specs.Walks.{each_walked, constant_walked}
-use Rattle.tree_placement.proofs.placement.walk_constants.Given as goal
-
--- through the constants that are left the cursor comes to where it comes through all
-abbrev pub invariant-loop-constant : goal.invariant-loop-constant
-invariant-loop-constant l = each_walked constant_walked (drop l.constant-index l.constants) l.cursor ≡ each_walked constant_walked l.constants l.initial.cursor

@@ -1,0 +1,142 @@
+// Operations on numbers and words.
+
+ghost use Rattle.std.specs.Prelude.{◌≡◌, ◌+◌, ◌*◌};
+ghost use Rattle.act_words.specs.Arithmetic.{sum, difference, product, quotient as quotient_of, remainder as remainder_of, negation, shifted_left, shifted_right, wrapping_negation as negation_of, wrapping_shift_right as shift_right_of, wrapped};
+ghost use Rattle.act_words.specs.Numbers.{signed};
+ghost use Rattle.two_memory_machine_arithmetic.specs.CheckedNumbers.{checked_of};
+
+use act_words::ending::Ending;
+use ckc_text::code::Code;
+use ckc_text::place::Place;
+
+/// The sum (C6).
+pub fn add(place: Place, left: u32, right: u32) -> Result<i32, Ending>
+    ensures { checked_of result ≡ sum place (signed left) (signed right) }
+{
+    left.cast_signed()
+        .checked_add(right.cast_signed())
+        .ok_or(Ending::Check {
+            code: Code::C6,
+            place,
+        })
+}
+
+/// The difference (C6).
+pub fn subtract(place: Place, left: u32, right: u32) -> Result<i32, Ending>
+    ensures { checked_of result ≡ difference place (signed left) (signed right) }
+{
+    left.cast_signed()
+        .checked_sub(right.cast_signed())
+        .ok_or(Ending::Check {
+            code: Code::C6,
+            place,
+        })
+}
+
+/// The product (C6).
+pub fn multiply(place: Place, left: u32, right: u32) -> Result<i32, Ending>
+    ensures { checked_of result ≡ product place (signed left) (signed right) }
+{
+    left.cast_signed()
+        .checked_mul(right.cast_signed())
+        .ok_or(Ending::Check {
+            code: Code::C6,
+            place,
+        })
+}
+
+/// The negated number (C6).
+pub fn negate(place: Place, right: u32) -> Result<i32, Ending>
+    ensures { checked_of result ≡ negation place (signed right) }
+{
+    right.cast_signed().checked_neg().ok_or(Ending::Check {
+        code: Code::C6,
+        place,
+    })
+}
+
+/// The quotient, rounded toward zero (C7, C6).
+pub fn divide(place: Place, left: u32, right: u32) -> Result<i32, Ending>
+    ensures { checked_of result ≡ quotient_of place (signed left) (signed right) }
+{
+    if right == 0 {
+        return Err(Ending::Check {
+            code: Code::C7,
+            place,
+        });
+    }
+    left.cast_signed()
+        .checked_div(right.cast_signed())
+        .ok_or(Ending::Check {
+            code: Code::C6,
+            place,
+        })
+}
+
+/// The remainder modulo a number, with the sign of the left number (C7, C6).
+pub fn remainder(place: Place, left: u32, modulus: u32) -> Result<i32, Ending>
+    ensures { checked_of result ≡ remainder_of place (signed left) (signed modulus) }
+{
+    if modulus == 0 {
+        return Err(Ending::Check {
+            code: Code::C7,
+            place,
+        });
+    }
+    left.cast_signed()
+        .checked_rem(modulus.cast_signed())
+        .ok_or(Ending::Check {
+            code: Code::C6,
+            place,
+        })
+}
+
+/// The left number times two as often (C8).
+pub fn shift_left(place: Place, left: u32, count: u32) -> Result<i32, Ending>
+    ensures { checked_of result ≡ shifted_left place (signed left) (signed count) }
+{
+    let left = left.cast_signed();
+    let fault = Ending::Check {
+        code: Code::C8,
+        place,
+    };
+    if left < 0 || count > 31 {
+        return Err(fault);
+    }
+    let shifted = i64::from(left) << count;
+    i32::try_from(shifted).or(Err(fault))
+}
+
+/// The left number divided by two as often, rounded down (C8).
+pub fn shift_right(place: Place, left: u32, count: u32) -> Result<i32, Ending>
+    ensures { checked_of result ≡ shifted_right place (signed left) (signed count) }
+{
+    if count > 31 {
+        return Err(Ending::Check {
+            code: Code::C8,
+            place,
+        });
+    }
+    Ok(left.cast_signed() >> count)
+}
+
+/// The negated word, modulo 2^32.
+pub fn wrapping_negate(right: u32) -> u32
+    ensures { result ≡ negation_of right }
+{
+    right.wrapping_neg()
+}
+
+/// The word shifted right by a count modulo 32; its sign is kept.
+pub fn wrapping_shift_right(left: u32, right: u32) -> u32
+    ensures { result ≡ shift_right_of left right }
+{
+    (left.cast_signed() >> (right % 32)).cast_unsigned()
+}
+
+/// The address of an element, modulo 2^32.
+pub fn element(pointer: u32, index: u32, size: u32) -> u32
+    ensures { result ≡ wrapped (pointer + index * size) }
+{
+    pointer.wrapping_add(index.wrapping_mul(size))
+}

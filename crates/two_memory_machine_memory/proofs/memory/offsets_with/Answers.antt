@@ -1,0 +1,7 @@
+use Rattle.std.proofs.Common.{length, ap, arith}
+use Rattle.two_memory_machine_memory.proofs.Statics.{next_within}
+use Rattle.two_memory_machine_memory.proofs.memory.offsets_with.Goals as goal
+
+pub offset_behind-offset-requires : goal.offset_behind-offset-requires
+offset_behind-offset-requires c =
+    omega (arith, next_within c.args.blocks.now c.loop-block.offset c.loop-block.block-index c.block-item.result c.loop-block-test.true c.block-item.is, ap length c.as_slice.ensures, c.loop-block.invariant.counter)

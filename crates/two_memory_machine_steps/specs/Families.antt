@@ -1,0 +1,77 @@
+-- Instructions in families, in the order in which the machine asks for them.
+use Rattle.std.specs.Prelude.{◌≡◌, ℕ, false, Option, Some, None}
+use Rattle.code_words.specs.declared.op.Op.{Op}
+use Rattle.code_words.specs.declared.op.Op.TheVariants as ops
+use Rattle.two_memory_machine_states.specs.declared.outcome.Outcome.{Outcome}
+use Rattle.two_memory_machine_states.specs.Machines.{Machine, is_input}
+use Rattle.two_memory_machine_states.specs.Steps.{Acts}
+use Rattle.two_memory_machine_acts.specs.Told.{IsTold}
+
+-- an instruction takes no input number, and its step was made; or it writes or waits for a number, and nothing was done
+abbrev pub ActsUnlessTold : Op → Machine → Option Outcome → Machine → Type 0
+ActsUnlessTold op old None new = (new ≡ old) × IsTold (Some op)
+ActsUnlessTold op old (Some outcome) new = (is_input (Some op) ≡ false) × Acts op old outcome new
+
+-- the number of an instruction's family
+abbrev pub family : Op → ℕ
+family (ops.Const n) = 1
+family (ops.Local k) = 1
+family (ops.Set k) = 1
+family ops.Discard = 1
+family ops.Duplicate = 1
+family (ops.BlockAddress k) = 1
+family (ops.BlockOffset k) = 1
+family (ops.Jump target) = 1
+family (ops.JumpIfZero target) = 1
+family (ops.Call k) = 1
+family (ops.TaintedCall k place) = 1
+family (ops.CallBack k) = 1
+family ops.Return = 1
+family ops.ReturnNothing = 1
+family ops.Tick = 1
+family (ops.Add place) = 1
+family (ops.Sub place) = 1
+family (ops.Mul place) = 1
+family (ops.Div place) = 1
+family (ops.Rem place) = 1
+family (ops.Neg place) = 1
+family (ops.Shl place) = 1
+family (ops.Shr place) = 1
+family (ops.Index size) = 1
+family ops.WrapAdd = 1
+family ops.WrapSub = 1
+family ops.WrapMul = 1
+family ops.WrapNeg = 1
+family ops.WrapShl = 1
+family ops.WrapShr = 1
+family ops.WrapDiv = 1
+family ops.WrapRem = 1
+family ops.And = 1
+family ops.Or = 1
+family ops.Xor = 1
+family ops.Not = 1
+family ops.Equal = 1
+family ops.NotEqual = 1
+family ops.Less = 1
+family ops.LessEqual = 1
+family ops.Greater = 1
+family ops.GreaterEqual = 1
+family ops.UnsignedLess = 1
+family ops.UnsignedLessEqual = 1
+family ops.UnsignedGreater = 1
+family ops.UnsignedGreaterEqual = 1
+family ops.Zero = 1
+family ops.Byte = 1
+family ops.Load1 = 1
+family ops.Load4 = 1
+family ops.Store1 = 1
+family ops.Store4 = 1
+family ops.TouchLoad1 = 1
+family ops.TouchLoad4 = 1
+family ops.TouchStore1 = 1
+family ops.TouchStore4 = 1
+family (ops.Alloc size) = 1
+family (ops.AllocTerminated size) = 1
+family (ops.SandboxAlloc size) = 1
+family ops.TextLength = 1
+family _ = 2

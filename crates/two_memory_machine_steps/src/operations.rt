@@ -1,0 +1,382 @@
+// Instructions that pop words and push what they come to.
+
+ghost use Rattle.two_memory_machine_states.specs.Steps.{Acts, IsReady};
+
+use crate::stack;
+use ckc_text::place::Place;
+use code_words::op::Op;
+use two_memory_machine_arithmetic::arithmetic;
+use two_memory_machine_states::machine::Machine;
+use two_memory_machine_states::outcome::Outcome;
+
+/// Pops two numbers, and pushes their sum.
+pub fn add(machine: &mut Machine, place: Place) -> Outcome
+    requires { IsReady machine.old }
+    ensures { Acts (Op.Add place) machine.old result machine.new }
+{
+    let Some((left, right)) = machine.two_words() else {
+        return machine.end_wild();
+    };
+    let number = arithmetic::add(place, left, right);
+    stack::push_number(machine, 2, number)
+}
+
+/// Pops two numbers, and pushes their difference.
+pub fn subtract(machine: &mut Machine, place: Place) -> Outcome
+    requires { IsReady machine.old }
+    ensures { Acts (Op.Sub place) machine.old result machine.new }
+{
+    let Some((left, right)) = machine.two_words() else {
+        return machine.end_wild();
+    };
+    let number = arithmetic::subtract(place, left, right);
+    stack::push_number(machine, 2, number)
+}
+
+/// Pops two numbers, and pushes their product.
+pub fn multiply(machine: &mut Machine, place: Place) -> Outcome
+    requires { IsReady machine.old }
+    ensures { Acts (Op.Mul place) machine.old result machine.new }
+{
+    let Some((left, right)) = machine.two_words() else {
+        return machine.end_wild();
+    };
+    let number = arithmetic::multiply(place, left, right);
+    stack::push_number(machine, 2, number)
+}
+
+/// Pops two numbers, and pushes their quotient.
+pub fn divide(machine: &mut Machine, place: Place) -> Outcome
+    requires { IsReady machine.old }
+    ensures { Acts (Op.Div place) machine.old result machine.new }
+{
+    let Some((left, right)) = machine.two_words() else {
+        return machine.end_wild();
+    };
+    let number = arithmetic::divide(place, left, right);
+    stack::push_number(machine, 2, number)
+}
+
+/// Pops two numbers, and pushes their remainder.
+pub fn remainder(machine: &mut Machine, place: Place) -> Outcome
+    requires { IsReady machine.old }
+    ensures { Acts (Op.Rem place) machine.old result machine.new }
+{
+    let Some((left, right)) = machine.two_words() else {
+        return machine.end_wild();
+    };
+    let number = arithmetic::remainder(place, left, right);
+    stack::push_number(machine, 2, number)
+}
+
+/// Pops two numbers, and pushes their shifted number.
+pub fn shift_left(machine: &mut Machine, place: Place) -> Outcome
+    requires { IsReady machine.old }
+    ensures { Acts (Op.Shl place) machine.old result machine.new }
+{
+    let Some((left, right)) = machine.two_words() else {
+        return machine.end_wild();
+    };
+    let number = arithmetic::shift_left(place, left, right);
+    stack::push_number(machine, 2, number)
+}
+
+/// Pops two numbers, and pushes their shifted number.
+pub fn shift_right(machine: &mut Machine, place: Place) -> Outcome
+    requires { IsReady machine.old }
+    ensures { Acts (Op.Shr place) machine.old result machine.new }
+{
+    let Some((left, right)) = machine.two_words() else {
+        return machine.end_wild();
+    };
+    let number = arithmetic::shift_right(place, left, right);
+    stack::push_number(machine, 2, number)
+}
+
+/// Pops a number, and pushes it negated.
+pub fn negate(machine: &mut Machine, place: Place) -> Outcome
+    requires { IsReady machine.old }
+    ensures { Acts (Op.Neg place) machine.old result machine.new }
+{
+    let Some(word) = machine.word() else {
+        return machine.end_wild();
+    };
+    let number = arithmetic::negate(place, word);
+    stack::push_number(machine, 1, number)
+}
+
+/// Pops an address and an index, and pushes the address of the element.
+pub fn index(machine: &mut Machine, size: u32) -> Outcome
+    requires { IsReady machine.old }
+    ensures { Acts (Op.Index size) machine.old result machine.new }
+{
+    let Some((pointer, index)) = machine.two_words() else {
+        return machine.end_wild();
+    };
+    let word = arithmetic::element(pointer, index, size);
+    machine.push(2, word)
+}
+
+/// Pushes the topmost word again.
+pub fn duplicate(machine: &mut Machine) -> Outcome
+    requires { IsReady machine.old }
+    ensures { Acts Op.Duplicate machine.old result machine.new }
+{
+    let Some(word) = machine.word() else {
+        return machine.end_wild();
+    };
+    machine.push(0, word)
+}
+
+/// Pops a word.
+pub fn discard(machine: &mut Machine) -> Outcome
+    requires { IsReady machine.old }
+    ensures { Acts Op.Discard machine.old result machine.new }
+{
+    let Some(_) = machine.word() else {
+        return machine.end_wild();
+    };
+    machine.go_on(1)
+}
+
+/// Pops a word, and pushes the negated word.
+pub fn wrapping_negate(machine: &mut Machine) -> Outcome
+    requires { IsReady machine.old }
+    ensures { Acts Op.WrapNeg machine.old result machine.new }
+{
+    let Some(word) = machine.word() else {
+        return machine.end_wild();
+    };
+    machine.push(1, arithmetic::wrapping_negate(word))
+}
+
+/// Pops a word, and pushes the word with each bit turned.
+pub fn complement(machine: &mut Machine) -> Outcome
+    requires { IsReady machine.old }
+    ensures { Acts Op.Not machine.old result machine.new }
+{
+    let Some(word) = machine.word() else {
+        return machine.end_wild();
+    };
+    machine.push(1, !word)
+}
+
+/// Pops a word, and pushes whether it is 0.
+pub fn is_zero(machine: &mut Machine) -> Outcome
+    requires { IsReady machine.old }
+    ensures { Acts Op.Zero machine.old result machine.new }
+{
+    let Some(word) = machine.word() else {
+        return machine.end_wild();
+    };
+    machine.push(1, u32::from(word == 0))
+}
+
+/// Pops a word, and pushes its lowest byte.
+pub fn low_byte(machine: &mut Machine) -> Outcome
+    requires { IsReady machine.old }
+    ensures { Acts Op.Byte machine.old result machine.new }
+{
+    let Some(word) = machine.word() else {
+        return machine.end_wild();
+    };
+    machine.push(1, word % 256)
+}
+
+/// Pops two words, and pushes their sum modulo 2^32.
+pub fn wrapping_add(machine: &mut Machine) -> Outcome
+    requires { IsReady machine.old }
+    ensures { Acts Op.WrapAdd machine.old result machine.new }
+{
+    let Some((left, right)) = machine.two_words() else {
+        return machine.end_wild();
+    };
+    machine.push(2, left.wrapping_add(right))
+}
+
+/// Pops two words, and pushes their difference modulo 2^32.
+pub fn wrapping_subtract(machine: &mut Machine) -> Outcome
+    requires { IsReady machine.old }
+    ensures { Acts Op.WrapSub machine.old result machine.new }
+{
+    let Some((left, right)) = machine.two_words() else {
+        return machine.end_wild();
+    };
+    machine.push(2, left.wrapping_sub(right))
+}
+
+/// Pops two words, and pushes their product modulo 2^32.
+pub fn wrapping_multiply(machine: &mut Machine) -> Outcome
+    requires { IsReady machine.old }
+    ensures { Acts Op.WrapMul machine.old result machine.new }
+{
+    let Some((left, right)) = machine.two_words() else {
+        return machine.end_wild();
+    };
+    machine.push(2, left.wrapping_mul(right))
+}
+
+/// Pops two words, and pushes the lower one shifted left.
+pub fn wrapping_shift_left(machine: &mut Machine) -> Outcome
+    requires { IsReady machine.old }
+    ensures { Acts Op.WrapShl machine.old result machine.new }
+{
+    let Some((left, right)) = machine.two_words() else {
+        return machine.end_wild();
+    };
+    machine.push(2, left.wrapping_shl(right))
+}
+
+/// Pops two words, and pushes the lower one shifted right.
+pub fn wrapping_shift_right(machine: &mut Machine) -> Outcome
+    requires { IsReady machine.old }
+    ensures { Acts Op.WrapShr machine.old result machine.new }
+{
+    let Some((left, right)) = machine.two_words() else {
+        return machine.end_wild();
+    };
+    machine.push(2, arithmetic::wrapping_shift_right(left, right))
+}
+
+/// Pops two words, and pushes the bits that both have.
+pub fn and(machine: &mut Machine) -> Outcome
+    requires { IsReady machine.old }
+    ensures { Acts Op.And machine.old result machine.new }
+{
+    let Some((left, right)) = machine.two_words() else {
+        return machine.end_wild();
+    };
+    machine.push(2, left & right)
+}
+
+/// Pops two words, and pushes the bits that one of them has.
+pub fn or(machine: &mut Machine) -> Outcome
+    requires { IsReady machine.old }
+    ensures { Acts Op.Or machine.old result machine.new }
+{
+    let Some((left, right)) = machine.two_words() else {
+        return machine.end_wild();
+    };
+    machine.push(2, left | right)
+}
+
+/// Pops two words, and pushes the bits that just one of them has.
+pub fn xor(machine: &mut Machine) -> Outcome
+    requires { IsReady machine.old }
+    ensures { Acts Op.Xor machine.old result machine.new }
+{
+    let Some((left, right)) = machine.two_words() else {
+        return machine.end_wild();
+    };
+    machine.push(2, left ^ right)
+}
+
+/// Pops two words, and pushes whether they are equal.
+pub fn equal(machine: &mut Machine) -> Outcome
+    requires { IsReady machine.old }
+    ensures { Acts Op.Equal machine.old result machine.new }
+{
+    let Some((left, right)) = machine.two_words() else {
+        return machine.end_wild();
+    };
+    machine.push(2, u32::from(left == right))
+}
+
+/// Pops two words, and pushes whether they differ.
+pub fn not_equal(machine: &mut Machine) -> Outcome
+    requires { IsReady machine.old }
+    ensures { Acts Op.NotEqual machine.old result machine.new }
+{
+    let Some((left, right)) = machine.two_words() else {
+        return machine.end_wild();
+    };
+    machine.push(2, u32::from(left != right))
+}
+
+/// Pops two words, and pushes whether the lower number is the less.
+pub fn less(machine: &mut Machine) -> Outcome
+    requires { IsReady machine.old }
+    ensures { Acts Op.Less machine.old result machine.new }
+{
+    let Some((left, right)) = machine.two_words() else {
+        return machine.end_wild();
+    };
+    machine.push(2, u32::from(left.cast_signed() < right.cast_signed()))
+}
+
+/// Pops two words, and pushes whether the lower number is no more.
+pub fn less_equal(machine: &mut Machine) -> Outcome
+    requires { IsReady machine.old }
+    ensures { Acts Op.LessEqual machine.old result machine.new }
+{
+    let Some((left, right)) = machine.two_words() else {
+        return machine.end_wild();
+    };
+    machine.push(2, u32::from(left.cast_signed() <= right.cast_signed()))
+}
+
+/// Pops two words, and pushes whether the lower number is the greater.
+pub fn greater(machine: &mut Machine) -> Outcome
+    requires { IsReady machine.old }
+    ensures { Acts Op.Greater machine.old result machine.new }
+{
+    let Some((left, right)) = machine.two_words() else {
+        return machine.end_wild();
+    };
+    machine.push(2, u32::from(left.cast_signed() > right.cast_signed()))
+}
+
+/// Pops two words, and pushes whether the lower number is no less.
+pub fn greater_equal(machine: &mut Machine) -> Outcome
+    requires { IsReady machine.old }
+    ensures { Acts Op.GreaterEqual machine.old result machine.new }
+{
+    let Some((left, right)) = machine.two_words() else {
+        return machine.end_wild();
+    };
+    machine.push(2, u32::from(left.cast_signed() >= right.cast_signed()))
+}
+
+/// Pops two words, and pushes whether the lower word is the less.
+pub fn unsigned_less(machine: &mut Machine) -> Outcome
+    requires { IsReady machine.old }
+    ensures { Acts Op.UnsignedLess machine.old result machine.new }
+{
+    let Some((left, right)) = machine.two_words() else {
+        return machine.end_wild();
+    };
+    machine.push(2, u32::from(left < right))
+}
+
+/// Pops two words, and pushes whether the lower word is no more.
+pub fn unsigned_less_equal(machine: &mut Machine) -> Outcome
+    requires { IsReady machine.old }
+    ensures { Acts Op.UnsignedLessEqual machine.old result machine.new }
+{
+    let Some((left, right)) = machine.two_words() else {
+        return machine.end_wild();
+    };
+    machine.push(2, u32::from(left <= right))
+}
+
+/// Pops two words, and pushes whether the lower word is the greater.
+pub fn unsigned_greater(machine: &mut Machine) -> Outcome
+    requires { IsReady machine.old }
+    ensures { Acts Op.UnsignedGreater machine.old result machine.new }
+{
+    let Some((left, right)) = machine.two_words() else {
+        return machine.end_wild();
+    };
+    machine.push(2, u32::from(left > right))
+}
+
+/// Pops two words, and pushes whether the lower word is no less.
+pub fn unsigned_greater_equal(machine: &mut Machine) -> Outcome
+    requires { IsReady machine.old }
+    ensures { Acts Op.UnsignedGreaterEqual machine.old result machine.new }
+{
+    let Some((left, right)) = machine.two_words() else {
+        return machine.end_wild();
+    };
+    machine.push(2, u32::from(left >= right))
+}

@@ -1,5 +1,0 @@
-use Rattle.typing_rules.proofs.BodyWeights.{light}
-use Rattle.typing_rules.proofs.laws.few_nodes.Goals as goal
-
-pub returns : goal.returns
-returns c = light

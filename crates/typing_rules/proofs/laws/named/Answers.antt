@@ -1,5 +1,0 @@
-use Rattle.typing_rules.proofs.NamedItems.{all_named}
-use Rattle.typing_rules.proofs.laws.named.Goals as goal
-
-pub returns : goal.returns
-returns c = all_named
