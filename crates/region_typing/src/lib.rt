@@ -4,6 +4,7 @@
 pub mod checker;
 mod cores;
 mod definitions;
+mod function_rules;
 mod functions;
 mod globals;
 mod initials;
