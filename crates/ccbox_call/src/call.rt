@@ -9,10 +9,10 @@ ghost use Rattle.run_core_transcript.specs.Diagnostics.{usage_text};
 ghost use Rattle.ccbox_call.specs.Calls.{CallEnds};
 
 use crate::run::run_file;
+use ccbox_call_status::output::give_usage;
+use ccbox_call_words::request::{Request, request_from};
 use ckc_io::shelf::Shelf;
 use ckc_io::sink::Sink;
-use ccbox_call_words::request::{Request, request_from};
-use ccbox_call_status::output::give_usage;
 use std::alloc::Global;
 
 /// How a call ended.

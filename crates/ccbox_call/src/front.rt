@@ -5,9 +5,9 @@ ghost use Rattle.ccbox_call.specs.Acceptance.{FrontAnswers};
 use built_forms::items::is_built;
 use ckc_core::program::Core;
 use ckc_lexer::lexer::lex;
+use ckc_names::resolve::resolve;
 use ckc_parser::parser::parse;
 use ckc_text::fault::Refused;
-use ckc_names::resolve::resolve;
 use region_typing::checker::check;
 use std::alloc::Global;
 

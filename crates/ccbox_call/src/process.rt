@@ -8,9 +8,9 @@ ghost use Rattle.ccbox_call.specs.Calls.{CallEnds};
 ghost use Rattle.ccbox_call.specs.Process.{Answers, IsUnmade, ProcessEnds, words_given};
 
 use crate::call::status_of_call;
+use ccbox_call_status::status::NO_MEMORY;
 use ckc_io::shelf::Shelf;
 use ckc_io::sink::Sink;
-use ccbox_call_status::status::NO_MEMORY;
 use std::alloc::{AllocError, Global};
 use std::env::Args;
 use std::io;

@@ -15,21 +15,20 @@ ghost use Rattle.ccbox_call.specs.Calls.{MayRun, Gives};
 
 use crate::front::front;
 use act_words::settings::Settings;
+use ccbox_call_status::output::{give_missing, give_outcome, give_refused};
+use ccbox_call_status::status::{FILES_FAILED, NO_MEMORY};
+use ccbox_call_words::request::Options;
 use ckc_core::program::Core;
 use ckc_io::shelf::Shelf;
 use ckc_io::sink::Sink;
 use ckc_io::whole::{ReadFault, read_whole};
-use ckc_text::fault::{Refused, SourceFault};
-use ckc_text::place::Place;
 use ckc_lexer_tokens::limits::MAX_SOURCE;
-use ccbox_call_words::request::Options;
-use ccbox_call_status::output::{give_missing, give_outcome, give_refused};
-use ccbox_call_status::status::{FILES_FAILED, NO_MEMORY};
+use ckc_text::fault::{Refused, SourceFault};
+use ckc_text::place::{Place, place_of};
 use lowering::lower::lower;
 use run_core::run::run;
 use sandbox_actor::actor::ActorFault;
 use sandbox_actor::list_actor::ListActor;
-use ckc_text::place::place_of;
 use std::alloc::Global;
 
 /// Runs the program of a file.

@@ -3,8 +3,7 @@
 ghost use Rattle.std.specs.Prelude.{◌≤◌, length};
 
 use ckc_text::line_index::LineIndex;
-use ckc_text::place::Place;
-use ckc_text::place::place_of;
+use ckc_text::place::{Place, place_of};
 use std::alloc::Global;
 
 // Whether the place of a byte is found in both ways.

@@ -5,8 +5,8 @@ use crate::places::has_places;
 use crate::questions::{Question, is_refusal};
 use crate::rows::{Table, expect, expect_tables};
 use ckc_lexer::lexer::lex;
-use ckc_text::place::Span;
 use ckc_lexer_tokens::token::{CheckedScope, Token, TokenKind};
+use ckc_text::place::Span;
 use std::alloc::Global;
 use std::test::Fail;
 

@@ -3,8 +3,8 @@
 ghost use Rattle.std.specs.Prelude.{◌≡◌, ◌++◌, ◌∷◌, [], None, OnOk};
 ghost use Rattle.ckc_lexer.specs.Tokens.{definition_for};
 
-use ckc_text::fault::NoMemory;
 use ckc_lexer_tokens::piece::Definition;
+use ckc_text::fault::NoMemory;
 use indexmap::IndexMap;
 use std::alloc::Global;
 use std::marker::Model;

@@ -10,11 +10,11 @@ use crate::front::{is_blank, is_control, is_word_byte};
 use crate::quoted::{has_control, has_forbidden};
 use crate::run::{Run, extent};
 use crate::word::{begins_with_digit, keyword};
+use ckc_lexer_tokens::number::number_of;
+use ckc_lexer_tokens::piece::{Definition, Piece, ScopeWord};
 use ckc_text::code::Code;
 use ckc_text::fault::NoMemory;
 use ckc_text::name::Name;
-use ckc_lexer_tokens::number::number_of;
-use ckc_lexer_tokens::piece::{Definition, Piece, ScopeWord};
 use std::alloc::Global;
 
 /// How many letters and digits a text begins with.

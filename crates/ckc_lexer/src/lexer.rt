@@ -9,15 +9,15 @@ ghost use Rattle.ckc_lexer.specs.Progress.{state_of, Gives, Steps};
 use crate::definitions::Definitions;
 use crate::line::Line;
 use crate::pieces::piece_at;
-use ckc_text::code::Code;
-use ckc_text::fault::{Refused, SourceFault};
-use ckc_text::name::Name;
-use ckc_text::place::Span;
 use ckc_lexer_tokens::definition::is_same_number;
 use ckc_lexer_tokens::limits::{has_room, is_read};
 use ckc_lexer_tokens::piece::{Definition, Piece, ScopeWord};
 use ckc_lexer_tokens::scope;
 use ckc_lexer_tokens::token::{CheckedScope, Token, TokenKind};
+use ckc_text::code::Code;
+use ckc_text::fault::{Refused, SourceFault};
+use ckc_text::name::Name;
+use ckc_text::place::Span;
 use std::alloc::Global;
 
 /// What stands before a place of a source: the tokens, the definitions, the scope and those that were kept.

@@ -4,9 +4,9 @@ ghost use Rattle.std.specs.Prelude.{◌≡◌};
 ghost use Rattle.ckc_lexer_tokens.specs.Marks.{mark_piece};
 
 use crate::front::is_forbidden;
-use ckc_text::code::Code;
 use ckc_lexer_tokens::mark::{long_mark, short_mark};
 use ckc_lexer_tokens::piece::Piece;
+use ckc_text::code::Code;
 
 /// What stands at the front of a text where no blank, comment, word, quote or `#` does, and its length.
 pub fn mark_piece(text: &[u8]) -> (Piece, usize)

@@ -13,10 +13,10 @@ use crate::mark::mark_piece;
 use crate::quoted::{character, has_control, string};
 use crate::run::{Run, extent};
 use crate::word::word_piece;
-use ckc_text::code::Code;
-use ckc_text::fault::NoMemory;
 use ckc_lexer_tokens::comment::comment;
 use ckc_lexer_tokens::piece::Piece;
+use ckc_text::code::Code;
+use ckc_text::fault::NoMemory;
 use std::alloc::Global;
 
 fn has_line_feed(bytes: &[u8]) -> bool

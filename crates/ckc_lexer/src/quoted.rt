@@ -12,12 +12,12 @@ ghost use Rattle.ckc_lexer.specs.Quoted.{simple_escape, hexadecimal_escape, esca
 
 use crate::front::{is_control, is_forbidden};
 use crate::run::{Run, extent};
-use ckc_text::code::Code;
-use ckc_text::fault::NoMemory;
 use ckc_lexer_tokens::number::digit_value;
 use ckc_lexer_tokens::piece::Piece;
 use ckc_lexer_tokens::text::Text;
 use ckc_lexer_tokens::token::TokenKind;
+use ckc_text::code::Code;
+use ckc_text::fault::NoMemory;
 use std::alloc::Global;
 
 /// The byte that a backslash and this byte are, and how many bytes the escape takes.

@@ -6,11 +6,11 @@ ghost use Rattle.ckc_lexer_tokens.specs.Bytes.{is_digit, begins_with};
 ghost use Rattle.ckc_lexer_tokens.specs.Words.{keywords, listed, number_of, number_piece, word_piece};
 
 use crate::keywords::{KEYWORDS, Keyword};
-use ckc_text::fault::NoMemory;
-use ckc_text::name::Name;
 use ckc_lexer_tokens::number::number_of;
 use ckc_lexer_tokens::piece::Piece;
 use ckc_lexer_tokens::token::TokenKind;
+use ckc_text::fault::NoMemory;
+use ckc_text::name::Name;
 use std::alloc::Global;
 
 /// The keyword of a table that a word is.

@@ -7,7 +7,9 @@ ghost use Rattle.ckc_names.specs.NameLists.{name_at};
 ghost use Rattle.ckc_names.specs.State.{Goes};
 
 use crate::table::Table;
-use ckc_names_rules::meaning::{Meaning, is_function, is_taken, is_taken_for, is_value, was_defined};
+use ckc_names_rules::meaning::{
+    Meaning, is_function, is_taken, is_taken_for, is_value, was_defined,
+};
 use ckc_names_rules::refusals::refusal;
 use ckc_text::code::Code;
 use ckc_text::fault::Refused;

@@ -13,9 +13,14 @@ ghost use Rattle.ckc_parser_grammar.specs.StuckTypes.{type_word};
 ghost use Rattle.ckc_parser_grammar.specs.StuckStatements.{step_word, assignment_word, StuckOptionalBounds, StuckOptionalArray, StuckSigned, StuckConstants, StuckOptionalInitializer, StuckDeclarator, StuckDeclarators, StuckDeclaration, StuckAssignment};
 ghost use Rattle.ckc_parser.specs.StatementReadings.{SpellsAssigned, StuckAssigned};
 
+use ckc_lexer_tokens::token::{Token, TokenKind};
+use ckc_parser_cursor::depth::MAX_DEPTH;
 use ckc_parser_cursor::memory::push;
+use ckc_parser_cursor::spans::join;
 use ckc_parser_cursor::stuck::Stuck;
-use ckc_parser_cursor::tokens::{close_brace, close_bracket, comma, identifier, open_brace, open_bracket};
+use ckc_parser_cursor::tokens::{
+    close_brace, close_bracket, comma, identifier, open_brace, open_bracket,
+};
 use ckc_parser_cursor::words::{
     array_word, colon, constant, equal, minus, number, step_operator, store_operator,
 };
@@ -24,15 +29,12 @@ use ckc_parser_expressions::expressions::{expression, starts_unary, unary};
 use ckc_parser_expressions::operand::Operand;
 use ckc_parser_expressions::types::{stars, type_form};
 use ckc_text::place::Span;
-use ckc_lexer_tokens::token::{Token, TokenKind};
 use ckc_tree::expr::{BoundsText, Expr};
 use ckc_tree::stmt::{
     ArrayForm, Assignment, Declaration, Declarator, Initializer, SignedConstant, StepOperator,
     StepSide, StoreOperator,
 };
 use std::alloc::Global;
-use ckc_parser_cursor::depth::MAX_DEPTH;
-use ckc_parser_cursor::spans::join;
 
 /// A form, and the bytes that it stands on or that all so far stands on with it.
 #[derive(Drop)]

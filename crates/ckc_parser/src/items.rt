@@ -20,7 +20,9 @@ ghost use Rattle.ckc_parser.specs.ItemReadings.{IsScope, IsKindWord, SideAnswers
 
 use crate::declarations::{Read, declarators, from_first, optional_bounds};
 use crate::statements::statements;
+use ckc_lexer_tokens::token::{CheckedScope, Token, TokenKind};
 use ckc_parser_cursor::memory::push;
+use ckc_parser_cursor::spans::join;
 use ckc_parser_cursor::stuck::Stuck;
 use ckc_parser_cursor::terminal::{Terminal, expect};
 use ckc_parser_cursor::tokens::{
@@ -30,7 +32,6 @@ use ckc_parser_cursor::words::mark;
 use ckc_parser_expressions::types::{stars, type_form, type_name};
 use ckc_text::name::Name;
 use ckc_text::place::Span;
-use ckc_lexer_tokens::token::{CheckedScope, Token, TokenKind};
 use ckc_tree::item::{
     Block, Function, FunctionKind, Global as Variables, Item, Member, Parameter, Parameters,
     Region, ResultForm, Structure,
@@ -38,7 +39,6 @@ use ckc_tree::item::{
 use ckc_tree::stmt::Mark;
 use ckc_tree::type_form::TypeForm;
 use std::alloc::Global;
-use ckc_parser_cursor::spans::join;
 
 // ---- words
 

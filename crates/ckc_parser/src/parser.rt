@@ -12,15 +12,15 @@ ghost use Rattle.ckc_parser_grammar.specs.Failures.{IsLow};
 ghost use Rattle.ckc_parser_cursor.specs.Answers.{failure};
 
 use crate::items::item;
+use ckc_lexer_tokens::token::Token;
+use ckc_parser_cursor::faults::{first_span, point};
 use ckc_parser_cursor::memory::push;
 use ckc_parser_cursor::stuck::Stuck;
 use ckc_text::code::Code;
 use ckc_text::fault::{Refused, SourceFault};
 use ckc_text::place::Span;
-use ckc_lexer_tokens::token::Token;
 use ckc_tree::item::{Item, Program};
 use std::alloc::Global;
-use ckc_parser_cursor::faults::{first_span, point};
 
 /// The tree that the tokens of a source of so many bytes spell.
 ///

@@ -16,20 +16,20 @@ ghost use Rattle.ckc_parser_grammar.specs.StuckStatements.{plain_word, statement
 ghost use Rattle.ckc_parser.specs.StatementReadings.{SpellsCondition, SpellsEnd, EndsCall, IsForHead, jump_word, jump};
 
 use crate::declarations::{Read, assigned, assignment, declaration, starts_assignment};
+use ckc_lexer_tokens::token::{Token, TokenKind};
+use ckc_parser_cursor::alternative::else_word;
+use ckc_parser_cursor::depth::MAX_DEPTH;
 use ckc_parser_cursor::memory::{boxed, push};
+use ckc_parser_cursor::spans::join;
 use ckc_parser_cursor::stuck::Stuck;
 use ckc_parser_cursor::tokens::{close_brace, close_paren, open_brace, open_paren, semicolon};
 use ckc_parser_cursor::words::mark;
 use ckc_parser_expressions::expressions::{expression, unary};
 use ckc_parser_expressions::types::starts_type;
 use ckc_text::place::Span;
-use ckc_lexer_tokens::token::{Token, TokenKind};
 use ckc_tree::expr::Expr;
 use ckc_tree::stmt::{Assignment, ForInitial, Mark, Stmt};
 use std::alloc::Global;
-use ckc_parser_cursor::alternative::else_word;
-use ckc_parser_cursor::depth::MAX_DEPTH;
-use ckc_parser_cursor::spans::join;
 
 /// Whether a token is the first of a statement that begins with none of a type, an expression or an assignment.
 fn starts_plain(kind: &TokenKind) -> bool

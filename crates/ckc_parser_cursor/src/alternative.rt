@@ -6,8 +6,8 @@ ghost use Rattle.ckc_parser_cursor.specs.Answers.{ReadsMark};
 
 use crate::stuck::Stuck;
 use crate::terminal::{Terminal, expect};
-use ckc_text::place::Span;
 use ckc_lexer_tokens::token::Token;
+use ckc_text::place::Span;
 
 /// The span of the word `else`, which is read wherever it stands next. So the innermost `if` that asks for it takes it.
 pub fn else_word(tokens: &mut &[Token]) -> Result<Span, Stuck>

@@ -4,8 +4,8 @@ ghost use Rattle.std.specs.Prelude.{◌≡◌};
 ghost use Rattle.ckc_parser_grammar.specs.Parsing.{point};
 ghost use Rattle.ckc_parser_cursor.specs.Faults.{first_span};
 
-use ckc_text::place::Span;
 use ckc_lexer_tokens::token::Token;
+use ckc_text::place::Span;
 
 /// No bytes, at this one.
 pub fn point(at: u32) -> Span

@@ -5,8 +5,8 @@ ghost use Rattle.ckc_parser_cursor.specs.Terminals.{terminal_of, kind_of, is_ter
 ghost use Rattle.ckc_parser_cursor.specs.Answers.{ReadsMark};
 
 use crate::stuck::Stuck;
-use ckc_text::place::Span;
 use ckc_lexer_tokens::token::{Token, TokenKind};
+use ckc_text::place::Span;
 
 /// A mark or a word that the grammar asks for.
 #[derive(Clone, Copy, PartialEq, Eq)]

@@ -11,10 +11,10 @@ ghost use Rattle.ckc_parser_cursor.specs.WordReadings.{unary_operator_of};
 
 use crate::stuck::Stuck;
 use crate::terminal::{Terminal, expect};
+use ckc_lexer_tokens::token::{Token, TokenKind};
 use ckc_text::fault::NoMemory;
 use ckc_text::name::Name;
 use ckc_text::place::Span;
-use ckc_lexer_tokens::token::{Token, TokenKind};
 use ckc_tree::expr::UnaryOperator;
 use ckc_tree::identifier::Identifier;
 use std::alloc::Global;

@@ -11,8 +11,8 @@ ghost use Rattle.ckc_parser_cursor.specs.WordReadings.{ReadsWord, IsNumber};
 
 use crate::stuck::Stuck;
 use crate::terminal::{Terminal, expect};
-use ckc_text::place::Span;
 use ckc_lexer_tokens::token::{Token, TokenKind};
+use ckc_text::place::Span;
 use ckc_tree::stmt::{ArrayKind, Constant, Mark, StepOperator, StoreOperator};
 
 /// The span of a mark `:`.

@@ -17,17 +17,17 @@ ghost use Rattle.ckc_parser_expressions.specs.Readings.{counted, count_word, IsB
 
 use crate::expressions::{Ended, expression_before};
 use crate::operand::Reach;
+use ckc_lexer_tokens::token::{Token, TokenKind};
+use ckc_parser_cursor::depth::MAX_DEPTH;
+use ckc_parser_cursor::operators::binary_operator;
+use ckc_parser_cursor::spans::join;
 use ckc_parser_cursor::stuck::Stuck;
 use ckc_parser_cursor::terminal::Terminal;
 use ckc_parser_cursor::tokens::{close_paren, name, open_paren};
 use ckc_text::name::Name;
 use ckc_text::place::Span;
-use ckc_lexer_tokens::token::{Token, TokenKind};
 use ckc_tree::expr::BoundsText;
 use std::alloc::Global;
-use ckc_parser_cursor::depth::MAX_DEPTH;
-use ckc_parser_cursor::operators::binary_operator;
-use ckc_parser_cursor::spans::join;
 
 /// Bounds, with their span and their reach.
 #[derive(Drop)]

@@ -15,6 +15,7 @@ use crate::operand::{Operand, Reach};
 use crate::primary::{ReadArguments, Typed};
 use crate::types::ReadTypeName;
 use ckc_parser_cursor::memory::boxed;
+use ckc_parser_cursor::spans::join;
 use ckc_parser_cursor::stuck::Stuck;
 use ckc_text::place::Span;
 use ckc_tree::expr::{
@@ -22,7 +23,6 @@ use ckc_tree::expr::{
 };
 use ckc_tree::identifier::Identifier;
 use std::alloc::Global;
-use ckc_parser_cursor::spans::join;
 
 /// An expression with its reach, and with these bytes around it.
 fn built(alloc: Global, expr: Expr, outer: Span, reach: Reach) -> Result<Operand, Stuck>

@@ -20,17 +20,17 @@ ghost use Rattle.ckc_parser_expressions.specs.Endings.{IsEnded, StuckEnded};
 use crate::build::{binary_with, index_with, member_with, unary_with};
 use crate::operand::Operand;
 use crate::primary::{primary, starts_primary};
+use ckc_lexer_tokens::token::{Token, TokenKind};
+use ckc_parser_cursor::depth::MAX_DEPTH;
 use ckc_parser_cursor::memory::push;
+use ckc_parser_cursor::operators::{self, binary_operator, level};
+use ckc_parser_cursor::spans::join;
 use ckc_parser_cursor::stuck::Stuck;
 use ckc_parser_cursor::terminal::{Terminal, expect};
 use ckc_parser_cursor::tokens::{close_paren, identifier, open_paren, unary_operator};
 use ckc_text::place::Span;
-use ckc_lexer_tokens::token::{Token, TokenKind};
 use ckc_tree::expr::{BinaryOperator, UnaryOperator};
 use std::alloc::Global;
-use ckc_parser_cursor::depth::MAX_DEPTH;
-use ckc_parser_cursor::operators::{self, binary_operator, level};
-use ckc_parser_cursor::spans::join;
 
 /// A form whose last operand isn't read yet.
 #[derive(Drop)]

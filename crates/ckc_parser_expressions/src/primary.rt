@@ -22,19 +22,19 @@ use crate::build::{
 use crate::expressions::{expression, expression_before};
 use crate::operand::{Operand, Reach};
 use crate::types::{ReadTypeName, angled, type_name};
+use ckc_lexer_tokens::text::Text;
+use ckc_lexer_tokens::token::{Token, TokenKind};
+use ckc_parser_cursor::depth::check_depth;
 use ckc_parser_cursor::memory::push;
+use ckc_parser_cursor::spans::join;
 use ckc_parser_cursor::stuck::Stuck;
 use ckc_parser_cursor::terminal::Terminal;
 use ckc_parser_cursor::tokens::{close_paren, comma, copied, open_paren};
 use ckc_text::fault::NoMemory;
 use ckc_text::name::Name;
 use ckc_text::place::Span;
-use ckc_lexer_tokens::text::Text;
-use ckc_lexer_tokens::token::{Token, TokenKind};
 use ckc_tree::expr::{CallocWord, CastWord, Expr, MallocWord};
 use std::alloc::Global;
-use ckc_parser_cursor::depth::check_depth;
-use ckc_parser_cursor::spans::join;
 
 /// Whether a token is the first of an expression without operators and parentheses around it.
 pub fn starts_primary(kind: &TokenKind) -> bool

@@ -14,15 +14,15 @@ ghost use Rattle.ckc_lexer_tokens.specs.declared.token.TokenKind.{TokenKind as K
 ghost use Rattle.ckc_lexer_tokens.specs.declared.token.TokenKind.TheVariants as kinds;
 
 use crate::operand::Reach;
+use ckc_lexer_tokens::token::{Token, TokenKind};
+use ckc_parser_cursor::depth::check_depth;
 use ckc_parser_cursor::memory::boxed;
+use ckc_parser_cursor::spans::join;
 use ckc_parser_cursor::stuck::Stuck;
 use ckc_parser_cursor::tokens::{greater, identifier, less, open_paren, star};
 use ckc_text::place::Span;
-use ckc_lexer_tokens::token::{Token, TokenKind};
 use ckc_tree::type_form::{PointerKind, PointerMode, PointerWord, TypeForm, TypeName};
 use std::alloc::Global;
-use ckc_parser_cursor::depth::check_depth;
-use ckc_parser_cursor::spans::join;
 
 /// A type without stars, with its span and its reach.
 #[derive(Drop)]

@@ -10,15 +10,15 @@ ghost use Rattle.ckc_printer.specs.Slices.{expressions_of};
 ghost use Rattle.ckc_printer.specs.Output.{Puts};
 ghost use Rattle.ckc_printer.specs.Spaced.{spaced, spaced_text};
 
+use crate::operands::is_compound;
 use crate::output::Output;
 use crate::quoted::{put_character, put_string};
 use crate::signs::{put, put_if, put_name, put_number};
+use crate::texts::{binary_text, calloc_text, cast_text, malloc_text, unary_text};
 use crate::types::{angled, type_with_stars};
 use ckc_tree::expr::{BoundsText, Expr};
 use ckc_tree::identifier::Identifier;
 use ckc_tree::type_form::TypeName;
-use crate::operands::is_compound;
-use crate::texts::{binary_text, calloc_text, cast_text, malloc_text, unary_text};
 
 /// A word, a type in angle brackets and the parenthesis behind them.
 fn put_opened(out: &mut Output, word: &[u8], type_name: &TypeName)

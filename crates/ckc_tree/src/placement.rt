@@ -9,7 +9,7 @@ ghost use Rattle.ckc_tree.specs.Items.{member as member_of, parameter as paramet
 ghost use Rattle.ckc_tree.specs.Placement.{IsPlaced};
 ghost use Rattle.ckc_tree.specs.Walks as walks;
 
-use ckc_text::place::Span;
+use crate::cursor::Cursor;
 use crate::expr::{BoundsText, Expr};
 use crate::item::{
     Block, Function, Global, Item, Member, Parameter, Parameters, Program, ResultForm, Structure,
@@ -18,7 +18,7 @@ use crate::stmt::{
     ArrayForm, Assignment, Declaration, Declarator, ForInitial, Initializer, SignedConstant, Stmt,
 };
 use crate::type_form::{TypeForm, TypeName};
-use crate::cursor::Cursor;
+use ckc_text::place::Span;
 
 fn walk_type(cursor: &mut Cursor, base: &TypeForm)
     ensures { cursor.new ≡ walks.type_walked (type_tree base.now) cursor.old }

@@ -11,12 +11,12 @@ ghost use Rattle.lowering_fragments.specs.Views.{targets_of};
 
 use ckc_core::program::{CellPlace, Expr, Operator, Site, Stmt};
 use ckc_text::fault::NoMemory;
-use lowering_fragments::addresses::{emit_address, emit_behind_value};
-use lowering_fragments::loops::{Targets, begin_loop, loop_targets};
 use code_words::op::Op;
-use lowering_expressions::expressions::{emit_call, emit_expression, emit_place, emit_with};
 use lowering_code::code_sizes::{expression_size, has_one_byte, statement_size};
 use lowering_code::instructions::{load_op, operator_op, place_behind, put, put_two, store_op};
+use lowering_expressions::expressions::{emit_call, emit_expression, emit_place, emit_with};
+use lowering_fragments::addresses::{emit_address, emit_behind_value};
+use lowering_fragments::loops::{Targets, begin_loop, loop_targets};
 use pointer_modes::ctype::CType;
 
 // The address that a store needs before its value, or its pointer.

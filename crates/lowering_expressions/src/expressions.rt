@@ -8,13 +8,13 @@ ghost use Rattle.lowering_code.specs.Code as code;
 
 use ckc_core::program::{CellPlace, Expr};
 use ckc_text::fault::NoMemory;
-use lowering_fragments::addresses::{emit_address, emit_through};
-use lowering_fragments::calls::{argument_at, put_call};
 use code_words::op::Op;
 use lowering_code::code_sizes::expression_size;
 use lowering_code::instructions::{
     begin_and, begin_or, comparison_op, end_and, load_op, operator_op, put, put_two,
 };
+use lowering_fragments::addresses::{emit_address, emit_through};
+use lowering_fragments::calls::{argument_at, put_call};
 
 /// The word of an expression's value.
 #[cycle(expressions)]

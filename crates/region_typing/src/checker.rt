@@ -15,12 +15,12 @@ ghost use Rattle.region_typing.specs.Items.{walk as walk_of, Outside};
 use crate::cores::core_of;
 use crate::items::items;
 use crate::walk::Walk;
-use region_typing_scope::refusals::CheckError;
-use region_typing_scope::sites::Sites;
 use ckc_core::program::Core;
+use ckc_names::named::Named;
 use ckc_text::fault::Refused;
 use ckc_tree::item::Item;
-use ckc_names::named::Named;
+use region_typing_scope::refusals::CheckError;
+use region_typing_scope::sites::Sites;
 use std::alloc::Global;
 
 // The core of items, all of which are still to be walked.

@@ -12,13 +12,13 @@ ghost use Rattle.region_typing.specs.CoreParts.{import_as, trusted_place as trus
 use crate::functions::copied_result;
 use crate::signatures::copied_signature;
 use crate::walk::Walk;
+use ckc_core::program::{Core, Function, Import};
+use ckc_text::fault::NoMemory;
+use ckc_text::name::Name;
 use region_typing_scope::refusals::CheckError;
 use region_typing_scope::scope::Scope;
 use region_typing_scope::sides::is_import;
 use region_typing_scope::signature::Signature;
-use ckc_core::program::{Core, Function, Import};
-use ckc_text::fault::NoMemory;
-use ckc_text::name::Name;
 use std::alloc::Global;
 use std::mem;
 

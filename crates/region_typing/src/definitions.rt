@@ -5,9 +5,9 @@ ghost use Rattle.ckc_tree.specs.Items.{item as item_tree};
 ghost use Rattle.region_typing_rules.specs.Items.{is_defined as defined_in};
 ghost use Rattle.region_typing.specs.Definitions.{Knows};
 
-use region_typing_scope::name_table::NameTable;
 use ckc_text::fault::NoMemory;
 use ckc_tree::item::Item;
+use region_typing_scope::name_table::NameTable;
 use std::alloc::Global;
 
 /// The items of a source, with the names of the functions that have bodies among them.

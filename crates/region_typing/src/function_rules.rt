@@ -4,9 +4,9 @@ ghost use Rattle.region_typing_scope.specs.Answering.{Answers};
 ghost use Rattle.ckc_text.specs.declared.code.Code.TheVariants.{E10, E13, E15};
 ghost use Rattle.region_typing_rules.specs.Verdicts.{Passes, needs};
 
-use region_typing_scope::refusals::{CheckError, refusal};
 use ckc_text::code::Code;
 use ckc_text::place::Span;
+use region_typing_scope::refusals::{CheckError, refusal};
 
 /// The first rule that a function breaks: its declaration fits the others and has scalars (E13), its body is there where
 /// it needs one (E10), and neither it nor its region is unchecked (E15).

@@ -13,11 +13,6 @@ ghost use Rattle.region_typing.specs.Items.{walk as walk_of, Outside, one_parame
 
 use crate::signatures::copied_signature;
 use crate::walk::Walk;
-use region_typing_scope::refusals::{CheckError, needs};
-use region_typing_scope::scope::{Scope, Variable};
-use region_typing_scope::signature::Signature;
-use region_typing_scope::sites::Sites;
-use region_typing_scope::types::{base_type, copied, type_named, without_stars};
 use ckc_core::program::{Function, Stmt};
 use ckc_text::code::Code;
 use ckc_text::fault::NoMemory;
@@ -25,6 +20,11 @@ use ckc_text::name::Name;
 use ckc_tree::item::{Block, Parameter, Parameters, ResultForm};
 use ckc_tree::stmt;
 use pointer_modes::ctype::CType;
+use region_typing_scope::refusals::{CheckError, needs};
+use region_typing_scope::scope::{Scope, Variable};
+use region_typing_scope::signature::Signature;
+use region_typing_scope::sites::Sites;
+use region_typing_scope::types::{base_type, copied, type_named, without_stars};
 use region_typing_statements::marks::is_checked;
 use region_typing_statements::statements::statements;
 use std::alloc::Global;

@@ -16,10 +16,6 @@ ghost use Rattle.region_typing.specs.Items.{walk as walk_of, with_one, judged_in
 
 use crate::initials::{Judged, cells_of, judged_value};
 use crate::walk::Walk;
-use region_typing_scope::refusals::{CheckError, meant, needs};
-use region_typing_scope::scope::Scope;
-use region_typing_scope::sites::Sites;
-use region_typing_scope::types::{base_type, copied};
 use ckc_core::program::Object;
 use ckc_text::code::Code;
 use ckc_text::fault::NoMemory;
@@ -27,8 +23,12 @@ use ckc_text::place::Span;
 use ckc_tree::item::Global as Declaration;
 use ckc_tree::stmt::{Declarator, Initializer};
 use ckc_tree::type_form::TypeForm;
-use region_typing_expressions::expressions::typed;
 use pointer_modes::ctype::CType;
+use region_typing_expressions::expressions::typed;
+use region_typing_scope::refusals::{CheckError, meant, needs};
+use region_typing_scope::scope::Scope;
+use region_typing_scope::sites::Sites;
+use region_typing_scope::types::{base_type, copied};
 use std::alloc::Global;
 
 /// How many file-level variables a program may have.

@@ -13,8 +13,6 @@ ghost use Rattle.region_typing_scope.specs.Answering.{Answers};
 ghost use Rattle.region_typing_values.specs.Typed.{typed as typed_view};
 ghost use Rattle.region_typing.specs.Initials.{IsSmall, IsStructOf, judged_as, judged_cells, cell_number as cell_number_as, constant_cells as constant_cells_as, judged as judged_of, stride_at};
 
-use region_typing_scope::refusals::{CheckError, refusal};
-use region_typing_scope::types::copied;
 use ckc_core::program::Initial;
 use ckc_text::code::Code;
 use ckc_text::fault::NoMemory;
@@ -22,8 +20,10 @@ use ckc_text::place::Span;
 use ckc_tree::expr::{Expr, UnaryOperator};
 use pointer_modes::ctype::{CType, Member};
 use pointer_modes::structs::Structs;
-use std::alloc::Global;
+use region_typing_scope::refusals::{CheckError, refusal};
+use region_typing_scope::types::copied;
 use region_typing_values::typed::{Typed, is_zero};
+use std::alloc::Global;
 
 /// What a variable is initialised with.
 #[derive(Drop, Clone, Copy)]

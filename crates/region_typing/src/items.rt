@@ -13,19 +13,19 @@ ghost use Rattle.region_typing.specs.Items.{walk as walk_of, Outside, kept_rules
 ghost use Rattle.region_typing.specs.Signatures.{declared as declared_view};
 
 use crate::definitions::{Listing, defined_names};
+use crate::function_rules::keep_function_rules;
 use crate::functions::function_body;
 use crate::globals::global;
 use crate::prototype::Prototype;
 use crate::signatures::{agrees, declare, declared, is_scalar_signature};
 use crate::structures::structure;
 use crate::walk::Walk;
+use ckc_text::code::Code;
+use ckc_tree::item::{Function, FunctionKind, Item, Region};
 use region_typing_scope::refusals::{CheckError, needs};
 use region_typing_scope::scope::Scope;
 use region_typing_scope::signature::Signature;
 use region_typing_scope::sites::Sites;
-use ckc_text::code::Code;
-use ckc_tree::item::{Function, FunctionKind, Item, Region};
-use crate::function_rules::keep_function_rules;
 use region_typing_statements::marks::is_checked;
 use std::alloc::Global;
 

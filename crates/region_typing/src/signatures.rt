@@ -12,14 +12,14 @@ ghost use Rattle.region_typing.specs.Signatures.{declared as declared_view, decl
 
 use crate::functions::{copied_result, parameter_types, result_type};
 use crate::prototype::Prototype;
-use region_typing_scope::refusals::CheckError;
-use region_typing_scope::scope::{Scope, Variable};
-use region_typing_scope::signature::Signature;
-use region_typing_scope::types::{copied, is_scalar, same_type};
 use ckc_text::fault::NoMemory;
 use ckc_text::name::Name;
 use ckc_tree::item::{Function, FunctionKind};
 use pointer_modes::ctype::CType;
+use region_typing_scope::refusals::CheckError;
+use region_typing_scope::scope::{Scope, Variable};
+use region_typing_scope::signature::Signature;
+use region_typing_scope::types::{copied, is_scalar, same_type};
 use std::alloc::Global;
 
 fn same_types(a: &[CType], b: &[CType]) -> bool

@@ -5,10 +5,10 @@ ghost use Rattle.region_typing_rules.specs.Items.{start};
 ghost use Rattle.region_typing.specs.Items.{walk as walk_of};
 
 use crate::walk::Walk;
-use region_typing_scope::scope::Scope;
 use ckc_text::fault::NoMemory;
-use std::alloc::Global;
+use region_typing_scope::scope::Scope;
 use region_typing_values::on_heap::boxed;
+use std::alloc::Global;
 
 impl Walk {
     /// Nothing known, on the heap, so that the many parts are one word to who holds them.

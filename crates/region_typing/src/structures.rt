@@ -10,14 +10,14 @@ ghost use Rattle.region_typing_scope.specs.Views.{scope as scope_of};
 ghost use Rattle.region_typing.specs.Items.{walk as walk_of, one_member};
 
 use crate::walk::Walk;
-use region_typing_scope::refusals::{CheckError, needs};
-use region_typing_scope::scope::Scope;
-use region_typing_scope::types::type_named;
 use ckc_text::code::Code;
 use ckc_text::name::Name;
 use ckc_tree::item;
 use ckc_tree::item::Structure;
 use pointer_modes::ctype::{CType, Member};
+use region_typing_scope::refusals::{CheckError, needs};
+use region_typing_scope::scope::Scope;
+use region_typing_scope::types::type_named;
 use std::alloc::Global;
 
 /// How many members a struct may have.

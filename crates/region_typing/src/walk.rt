@@ -2,8 +2,8 @@
 
 ghost use Rattle.std.specs.Prelude.{◌≤◌};
 
-use region_typing_scope::scope::Scope;
 use ckc_core::program::{Function, Object};
+use region_typing_scope::scope::Scope;
 
 /// What is known behind an item: what stands at file level, the cells of the file-level variables with the bytes that
 /// their blocks take, and the functions that have bodies, in the order of these.

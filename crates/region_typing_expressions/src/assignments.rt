@@ -15,10 +15,6 @@ ghost use Rattle.region_typing_expressions.specs.Targets.{target as target_view,
 
 use crate::expressions::typed;
 use crate::operand_tests::is_pointer_value;
-use region_typing_scope::refusals::{CheckError, refusal};
-use region_typing_scope::scope::Scope;
-use region_typing_scope::sites::Sites;
-use region_typing_scope::types::{is_number, is_pointer};
 use ckc_core::program;
 use ckc_core::program::{CellPlace, Operator, Site, Stmt};
 use ckc_text::code::Code;
@@ -27,11 +23,15 @@ use ckc_text::place::Span;
 use ckc_tree::expr::Expr;
 use ckc_tree::stmt::{Assignment, StepOperator, StoreOperator};
 use pointer_modes::ctype::CType;
-use std::alloc::Global;
+use region_typing_scope::refusals::{CheckError, refusal};
+use region_typing_scope::scope::Scope;
+use region_typing_scope::sites::Sites;
+use region_typing_scope::types::{is_number, is_pointer};
 use region_typing_values::conversions::converted;
 use region_typing_values::on_heap::boxed;
 use region_typing_values::operands::{number, scalar};
 use region_typing_values::typed::{Typed, plain};
+use std::alloc::Global;
 
 /// Where a value may be stored.
 #[derive(Drop)]

@@ -13,21 +13,21 @@ ghost use Rattle.region_typing_values.specs.Typed.{typed as inline_typed};
 ghost use Rattle.region_typing_values.specs.OnHeap.{typed};
 ghost use Rattle.region_typing_expressions.specs.Calls.{argument, called as called_as, converted_call, only_number, call_value, call_statement};
 
-use region_typing_scope::refusals::{CheckError, needs, refusal};
-use region_typing_scope::scope::Scope;
-use region_typing_scope::sides::is_import;
-use region_typing_scope::signature::Signature;
-use region_typing_scope::types::{copied, is_checked_pointer};
 use ckc_core::program::{Expr, Site, Stmt};
 use ckc_text::code::Code;
 use ckc_text::fault::NoMemory;
 use ckc_text::place::Span;
 use pointer_modes::ctype::CType;
-use std::alloc::Global;
-use std::collections::VecDeque;
+use region_typing_scope::refusals::{CheckError, needs, refusal};
+use region_typing_scope::scope::Scope;
+use region_typing_scope::sides::is_import;
+use region_typing_scope::signature::Signature;
+use region_typing_scope::types::{copied, is_checked_pointer};
 use region_typing_values::conversions::converted;
 use region_typing_values::on_heap::boxed;
 use region_typing_values::typed::Typed;
+use std::alloc::Global;
+use std::collections::VecDeque;
 
 /// What a call is: a value of a type, or a statement where it has no result.
 #[derive(Drop)]

@@ -8,14 +8,14 @@ ghost use Rattle.region_typing_expressions.specs.Comparing.{is_number_value as n
 ghost use Rattle.region_typing_expressions.specs.Equality.{equality as equality_in, equated_by as equated_as};
 
 use crate::operand_tests::{are_comparable_values, is_number_value, is_pointer_value};
-use region_typing_scope::refusals::{CheckError, needs};
 use ckc_core::program::{Comparison, Expr};
 use ckc_text::code::Code;
 use ckc_text::fault::NoMemory;
 use ckc_text::place::Span;
-use std::alloc::Global;
+use region_typing_scope::refusals::{CheckError, needs};
 use region_typing_values::on_heap::boxed;
 use region_typing_values::typed::{Typed, is_zero};
+use std::alloc::Global;
 
 /// How two operands are compared.
 #[derive(Drop, Clone, Copy)]

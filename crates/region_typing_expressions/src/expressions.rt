@@ -18,10 +18,6 @@ ghost use Rattle.region_typing_expressions.specs.Slices.{expression_list};
 use crate::calls::{Argument, Called, call, with_result};
 use crate::members::{arrowed, dotted};
 use crate::operators::{binary, indexed, unary};
-use region_typing_scope::refusals::{CheckError, refusal};
-use region_typing_scope::scope::Scope;
-use region_typing_scope::sites::Sites;
-use region_typing_scope::types::{copied, type_named};
 use ckc_core::program;
 use ckc_text::code::Code;
 use ckc_text::fault::NoMemory;
@@ -29,9 +25,13 @@ use ckc_text::place::Span;
 use ckc_tree::expr::Expr;
 use ckc_tree::type_form::TypeName;
 use pointer_modes::ctype::CType;
-use std::alloc::Global;
+use region_typing_scope::refusals::{CheckError, refusal};
+use region_typing_scope::scope::Scope;
+use region_typing_scope::sites::Sites;
+use region_typing_scope::types::{copied, type_named};
 use region_typing_values::on_heap::boxed;
 use region_typing_values::typed::{Base, Typed, at_base, at_local};
+use std::alloc::Global;
 
 // A constant, which is 0 or not.
 fn constant(alloc: Global, zero: bool, number: i32) -> Result<Box<Typed>, NoMemory>

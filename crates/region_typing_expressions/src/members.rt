@@ -9,18 +9,18 @@ ghost use Rattle.region_typing_scope.specs.Views.{scope as scope_of};
 ghost use Rattle.region_typing_values.specs.Typed.{base_place, struct_place, struct_of, struct_behind};
 ghost use Rattle.region_typing_values.specs.OnHeap.{typed};
 
-use region_typing_scope::refusals::{CheckError, refusal};
-use region_typing_scope::scope::Scope;
-use region_typing_scope::types::copied;
 use ckc_core::program::{CellPlace, Expr, Site};
 use ckc_text::code::Code;
 use ckc_text::fault::NoMemory;
 use ckc_text::place::Span;
 use pointer_modes::ctype::{CType, Member};
-use std::alloc::Global;
+use region_typing_scope::refusals::{CheckError, refusal};
+use region_typing_scope::scope::Scope;
+use region_typing_scope::types::copied;
 use region_typing_values::on_heap::boxed;
 use region_typing_values::operands::{Operand, value_of};
 use region_typing_values::typed::{Base, StructPlace, Typed};
+use std::alloc::Global;
 
 /// The place of the first of members that has this name.
 fn member_place(members: &[Member], name: &[u8]) -> Option<usize>

@@ -6,8 +6,8 @@ ghost use Rattle.region_typing_rules.specs.Expressions.{is_pointer_value as poin
 ghost use Rattle.region_typing_values.specs.Typed.{typed};
 ghost use Rattle.region_typing_expressions.specs.Comparing.{is_number_value as number_value_of, is_comparable_value, are_comparable_values as comparable_values};
 
-use region_typing_scope::types::{are_comparable, is_number, is_pointer};
 use pointer_modes::ctype::CType;
+use region_typing_scope::types::{are_comparable, is_number, is_pointer};
 use region_typing_values::typed::Typed;
 
 /// Whether an expression is a pointer.

@@ -12,16 +12,16 @@ ghost use Rattle.region_typing_expressions.specs.Comparing.{compared as comparis
 use crate::equality::{equality_of, equated_by};
 use crate::operand_tests::{are_comparable_values, has_pointer, is_number_value, is_pointer_value};
 use crate::places::{address, pointed_at};
-use region_typing_scope::refusals::{CheckError, needs, refusal};
 use ckc_core::program::{Comparison, Expr, Operator, Site};
 use ckc_text::code::Code;
 use ckc_text::place::Span;
 use ckc_tree::expr::{BinaryOperator, UnaryOperator};
 use pointer_modes::ctype::CType;
-use std::alloc::Global;
+use region_typing_scope::refusals::{CheckError, needs, refusal};
 use region_typing_values::on_heap::boxed;
 use region_typing_values::operands::{number, scalar};
 use region_typing_values::typed::{Typed, plain};
+use std::alloc::Global;
 
 // A number.
 fn numeric(alloc: Global, value: Expr) -> Result<Box<Typed>, CheckError>

@@ -8,16 +8,16 @@ ghost use Rattle.region_typing_scope.specs.Answering.{Answers};
 ghost use Rattle.region_typing_values.specs.Typed.{pointer_value};
 ghost use Rattle.region_typing_values.specs.OnHeap.{typed};
 
-use region_typing_scope::refusals::{CheckError, refusal};
 use ckc_core::program::{CellPlace, Expr, Site};
 use ckc_text::code::Code;
 use ckc_text::fault::NoMemory;
 use ckc_text::place::Span;
 use pointer_modes::ctype::{CType, Kind, Mode};
-use std::alloc::Global;
+use region_typing_scope::refusals::{CheckError, refusal};
 use region_typing_values::on_heap::boxed;
 use region_typing_values::operands::{Operand, value_of};
 use region_typing_values::typed::{Base, StructPlace, Typed, at_base, first_cell, plain};
+use std::alloc::Global;
 
 /// What a pointer points to.
 pub fn pointed_at(

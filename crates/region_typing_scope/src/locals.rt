@@ -6,11 +6,11 @@ ghost use Rattle.region_typing_rules.specs.Statements.{with_local};
 ghost use Rattle.region_typing_scope.specs.Views.{scope as scope_of, visible as visible_of};
 
 use crate::scope::{BlockStart, Scope};
+use crate::visible::Visible;
 use ckc_text::fault::NoMemory;
 use ckc_text::name::Name;
 use pointer_modes::ctype::CType;
 use std::alloc::Global;
-use crate::visible::Visible;
 
 impl Scope {
     /// A local more, which is visible from now on.

@@ -10,8 +10,8 @@ ghost use Rattle.region_typing_rules.specs.Expressions.{side_number as side_numb
 
 use crate::scope::Scope;
 use crate::signature::Signature;
-use pointer_modes::ctype::CType;
 use crate::visible::innermost;
+use pointer_modes::ctype::CType;
 
 /// A variable that a name stands for: its number, and its type.
 #[derive(Clone, Copy)]

@@ -9,10 +9,10 @@ ghost use Rattle.region_typing_scope.specs.Tables.{Finds, Counts};
 
 use crate::name_table::NameTable;
 use crate::signature::Signature;
+use crate::visible::Visible;
 use ckc_text::name::Name;
 use pointer_modes::ctype::CType;
 use pointer_modes::structs::Structs;
-use crate::visible::Visible;
 
 /// A variable that has a name, and its type.
 #[derive(Drop)]

@@ -7,8 +7,8 @@ ghost use Rattle.region_typing_values.specs.OnHeap.{expression as expression_of,
 
 use ckc_core::program::{Expr, Stmt};
 use ckc_text::fault::NoMemory;
-use std::alloc::Global;
 use region_typing_values::on_heap::boxed;
+use std::alloc::Global;
 
 /// Statements in their order.
 pub fn block(alloc: Global, statements: Vec<Stmt>) -> Result<Box<Stmt>, NoMemory>

@@ -14,18 +14,18 @@ ghost use Rattle.region_typing_statements.specs.Walks.{Walks, declared_local};
 
 use crate::core_forms::both;
 use crate::initial_values::from_zero;
-use region_typing_scope::refusals::{CheckError, needs};
-use region_typing_scope::scope::Scope;
-use region_typing_scope::sites::Sites;
-use region_typing_scope::types::{base_type, copied, without_stars};
 use ckc_core::program::Stmt;
 use ckc_text::code::Code;
 use ckc_text::place::Span;
 use ckc_tree::stmt::{Declaration, Declarator};
 use ckc_tree::type_form::TypeForm;
 use pointer_modes::ctype::CType;
-use std::alloc::Global;
+use region_typing_scope::refusals::{CheckError, needs};
+use region_typing_scope::scope::Scope;
+use region_typing_scope::sites::Sites;
+use region_typing_scope::types::{base_type, copied, without_stars};
 use region_typing_values::on_heap::boxed;
+use std::alloc::Global;
 
 /// How many locals a function may have.
 const MOST_LOCALS: usize = 256;

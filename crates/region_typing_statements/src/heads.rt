@@ -10,15 +10,15 @@ ghost use Rattle.region_typing_values.specs.OnHeap.{expression, statement};
 ghost use Rattle.region_typing_statements.specs.Walks.{Walks};
 
 use crate::declarations::declaration;
-use region_typing_scope::refusals::CheckError;
-use region_typing_scope::scope::Scope;
-use region_typing_scope::sites::Sites;
 use ckc_core::program::{Expr, Stmt};
 use ckc_tree::expr;
 use ckc_tree::stmt::{Assignment, ForInitial};
 use region_typing_expressions::assignments::{assignment, condition};
-use std::alloc::Global;
+use region_typing_scope::refusals::CheckError;
+use region_typing_scope::scope::Scope;
+use region_typing_scope::sites::Sites;
 use region_typing_values::on_heap::boxed;
+use std::alloc::Global;
 
 /// The condition of a loop, which holds where it isn't written.
 pub fn optional_condition(

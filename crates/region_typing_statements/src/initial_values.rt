@@ -12,21 +12,21 @@ ghost use Rattle.region_typing_values.specs.OnHeap.{statement as statement_of};
 ghost use Rattle.region_typing_statements.specs.Walks.{initial_value as initial_value_as, from_zero as from_zero_as};
 
 use crate::core_forms::both;
-use region_typing_scope::refusals::{CheckError, needs, refusal};
-use region_typing_scope::scope::Scope;
-use region_typing_scope::sites::Sites;
-use region_typing_scope::types::is_scalar;
+use crate::zero_values::set_to_zero;
 use ckc_core::program::Stmt;
 use ckc_text::code::Code;
 use ckc_text::place::Span;
 use ckc_tree::expr::Expr;
 use ckc_tree::stmt::Initializer;
-use region_typing_expressions::expressions::typed;
 use pointer_modes::ctype::CType;
-use std::alloc::Global;
+use region_typing_expressions::expressions::typed;
+use region_typing_scope::refusals::{CheckError, needs, refusal};
+use region_typing_scope::scope::Scope;
+use region_typing_scope::sites::Sites;
+use region_typing_scope::types::is_scalar;
 use region_typing_values::conversions::converted;
 use region_typing_values::on_heap::boxed;
-use crate::set_to_zero;
+use std::alloc::Global;
 
 // The value that a local is given.
 fn initial_value(

@@ -8,3 +8,4 @@ mod initial_values;
 pub mod marks;
 mod simple_statements;
 pub mod statements;
+mod zero_values;

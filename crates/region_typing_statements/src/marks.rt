@@ -3,8 +3,8 @@
 ghost use Rattle.std.specs.Prelude.{◌≡◌, ◌||◌, not};
 ghost use Rattle.region_typing_rules.specs.Statements.{is_unchecked as unchecked_mark};
 
-use region_typing_scope::scope::Scope;
 use ckc_tree::stmt::Mark;
+use region_typing_scope::scope::Scope;
 
 // Whether a mark says unchecked.
 fn is_unchecked(mark: Option<Mark>) -> bool

@@ -14,20 +14,20 @@ ghost use Rattle.region_typing_expressions.specs.Calls.{called as called_as};
 ghost use Rattle.region_typing_values.specs.OnHeap.{statement};
 ghost use Rattle.region_typing_statements.specs.Parts.{call_statement, needs_loop, value_returned as value_returned_in, converted_return, refused_value as refused_value_in};
 
-use region_typing_scope::refusals::{CheckError, needs, refusal};
-use region_typing_scope::scope::Scope;
-use region_typing_scope::sites::Sites;
 use ckc_core::program::Stmt;
 use ckc_text::code::Code;
 use ckc_text::fault::NoMemory;
 use ckc_text::place::Span;
 use ckc_tree::expr::Expr;
+use pointer_modes::ctype::CType;
 use region_typing_expressions::calls::Called;
 use region_typing_expressions::expressions::{call_typed, typed};
-use pointer_modes::ctype::CType;
-use std::alloc::Global;
+use region_typing_scope::refusals::{CheckError, needs, refusal};
+use region_typing_scope::scope::Scope;
+use region_typing_scope::sites::Sites;
 use region_typing_values::conversions::converted;
 use region_typing_values::on_heap::boxed;
+use std::alloc::Global;
 
 // A call whose result is left.
 fn alone(alloc: Global, call: Called) -> Result<Box<Stmt>, NoMemory>

@@ -18,17 +18,17 @@ use crate::declarations::declaration;
 use crate::heads::{first_part, optional_condition, optional_step};
 use crate::marks::is_checked;
 use crate::simple_statements::{break_from, call_alone, continue_with, return_from};
-use region_typing_scope::refusals::{CheckError, needs, refusal};
-use region_typing_scope::scope::Scope;
-use region_typing_scope::sites::Sites;
 use ckc_core::program::Stmt;
 use ckc_text::code::Code;
 use ckc_text::place::Span;
 use ckc_tree::stmt::{Assignment, ForInitial, Mark};
 use ckc_tree::{expr, stmt};
 use region_typing_expressions::assignments::{assignment, condition};
-use std::alloc::Global;
+use region_typing_scope::refusals::{CheckError, needs, refusal};
+use region_typing_scope::scope::Scope;
+use region_typing_scope::sites::Sites;
 use region_typing_values::on_heap::boxed;
+use std::alloc::Global;
 
 /// A statement.
 #[cycle(statements)]

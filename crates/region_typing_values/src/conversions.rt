@@ -10,12 +10,12 @@ ghost use Rattle.region_typing_values.specs.OnHeap.{typed};
 
 use crate::operands::{Operand, value_of};
 use crate::typed::Typed;
-use region_typing_scope::refusals::{CheckError, needs};
-use region_typing_scope::types::{converts, is_number};
 use ckc_core::program::Expr;
 use ckc_text::code::Code;
 use ckc_text::place::Span;
 use pointer_modes::ctype::CType;
+use region_typing_scope::refusals::{CheckError, needs};
+use region_typing_scope::types::{converts, is_number};
 use std::alloc::Global;
 
 // A value as one of a type.

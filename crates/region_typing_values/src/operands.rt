@@ -11,12 +11,12 @@ ghost use Rattle.region_typing_values.specs.Operands.{operand as operand_view, o
 
 use crate::on_heap::boxed;
 use crate::typed::Typed;
-use region_typing_scope::refusals::{CheckError, needs, refusal};
-use region_typing_scope::types::{copied, is_number};
 use ckc_core::program::Expr;
 use ckc_text::code::Code;
 use ckc_text::place::Span;
 use pointer_modes::ctype::CType;
+use region_typing_scope::refusals::{CheckError, needs, refusal};
+use region_typing_scope::types::{copied, is_number};
 use std::alloc::Global;
 
 /// A value of a scalar type, which may be the constant 0.

@@ -20,9 +20,6 @@ use act_words::settings::Settings;
 use ckc_io::shelf::Shelf;
 use ckc_text::fault::NoMemory;
 use code_words::image::Image;
-use two_memory_machine_steps::running;
-use two_memory_machine_acts::acts;
-use two_memory_machine_acts::ending::ending_of;
 use run_core_interaction::ask::ask;
 use run_core_interaction::input::next_input;
 use run_core_interaction::touch::touch;
@@ -30,8 +27,11 @@ use run_core_transcript::fault::RunFault;
 use run_core_transcript::transcript;
 use sandbox_actor::actor::{Actor, Now};
 use std::alloc::Global;
+use two_memory_machine_acts::acts;
+use two_memory_machine_acts::ending::ending_of;
 use two_memory_machine_states::event::{Event, Waiting};
 use two_memory_machine_states::machine::Machine;
+use two_memory_machine_steps::running;
 
 /// A run so far.
 #[derive(Drop)]

@@ -11,9 +11,9 @@ use ckc_text::fault::NoMemory;
 use ckc_text::place::Place;
 use code_words::image::Func;
 use code_words::op::Op;
-use two_memory_machine_arithmetic::limits::MAX_DEPTH;
 use std::alloc::Global;
 use std::marker::Model;
+use two_memory_machine_arithmetic::limits::MAX_DEPTH;
 
 /// Why a call waits.
 #[derive(Clone, Copy)]

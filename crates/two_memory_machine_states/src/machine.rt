@@ -24,12 +24,12 @@ use ckc_text::fault::NoMemory;
 use ckc_text::place::Place;
 use code_words::image::Image;
 use code_words::op::Op;
-use two_memory_machine_arithmetic::blocks::BlockRow;
-use two_memory_machine_memory::calls::CallWords;
-use two_memory_machine_memory::memory;
 use std::alloc::Global;
 use std::marker::Model;
 use trusted_memory::memory::Trusted;
+use two_memory_machine_arithmetic::blocks::BlockRow;
+use two_memory_machine_memory::calls::CallWords;
+use two_memory_machine_memory::memory;
 
 /// A touch whose acts are still to be taken.
 #[derive(Clone, Copy)]
