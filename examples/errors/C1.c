@@ -1,0 +1,1 @@
+int main(void) { ptr<int> p = 0; return *p; }

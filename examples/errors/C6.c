@@ -1,0 +1,1 @@
+int main(void) { int x = 2147483647; x = x + 1; return 0; }

@@ -1,0 +1,1 @@
+int main(void) { int z = 0; return 1 / z; }

@@ -1,0 +1,2 @@
+_Tainted char t(void);
+int main(void) { return t(); }

@@ -1,0 +1,1 @@
+/* a comment without an end

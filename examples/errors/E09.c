@@ -1,0 +1,1 @@
+int main(void) { array_ptr<int> a; return 0; }

@@ -1,0 +1,2 @@
+int f(int x) { return x; }
+int main(void) { return f(); }

@@ -1,0 +1,1 @@
+int main(void) { int x = 0; ptr<int> p = &x; return 0; }

@@ -1,0 +1,3 @@
+_Tainted int t(int x);
+int g;
+int main(void) { return t(&g); }

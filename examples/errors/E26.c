@@ -1,0 +1,2 @@
+int g;
+int main(void) { ptr<int> p = &g; return p < &g; }

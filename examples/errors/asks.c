@@ -1,0 +1,2 @@
+_Tainted int t(void);
+int main(void) { return t(); }

@@ -1,0 +1,2 @@
+_Tainted int t(int x);
+int main(void) { return t(1) + 1; }
