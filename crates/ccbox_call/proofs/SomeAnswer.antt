@@ -7,7 +7,7 @@ use Rattle.ckc_lexer_tokens.specs.declared.token.Token.{Token}
 use Rattle.ckc_lexer.specs.Tokens.{Lexes}
 use Rattle.ckc_lexer.proofs.Cutting.{some_answer as some_cut}
 use Rattle.ckc_tree.specs.Items.{Tree}
-use Rattle.ckc_parser_grammar.proofs.Neither.{never_neither}
+use Rattle.ckc_parser_grammar.proofs.ReadItems.{tree_or_fault}
 use Rattle.ckc_io.specs.Files.{Files, file_at}
 use Rattle.built_forms.specs.Built.{is_built}
 use Rattle.ckc_names_rules.specs.Naming.{naming_fault}
@@ -17,7 +17,7 @@ use Rattle.region_typing_rules.proofs.NamedItems.{all_named}
 use Rattle.ckc_core.specs.Core.{Core}
 use Rattle.sandbox_actor.specs.ActLists.{ActList}
 use Rattle.ccbox_call_words.specs.Requests.{Request, Run, Options, request_of}
-use Rattle.ccbox_call.specs.Acceptance.{HasTree, Accepts, IsRefused, CoreOrFault, no_tokens, no_tree, not_built, misnamed, breaks}
+use Rattle.ccbox_call.specs.Acceptance.{HasTree, Accepts, CoreOrFault, no_tokens, no_tree, not_built, misnamed, breaks}
 use Rattle.ccbox_call.specs.Answers.{acts_at, AsksToRun, ran, acts_missing, acts, refused, accepted, missing, source, Answer, usage, asked}
 use Rattle.ccbox_call.proofs.Runs.{ends_over}
 
@@ -41,44 +41,45 @@ module _ (src : List ℕ) where
 pub core_or_fault_of : (src : List ℕ) (tree : Tree) → HasTree src tree → CoreOrFault src
 core_or_fault_of src tree has = by_forms src tree has (is_built tree) refl
 
-module _ (src : List ℕ) (no_core : (c : Core) → Accepts src c → ⊥) (no_fault : (f : SourceFault) → IsRefused src f → ⊥) where
-  by_cut : (answer : Result (List Token) SourceFault) → Lexes src answer → ⊥
-  by_cut (Err fault) h = no_fault fault (no_tokens h)
-  by_cut (Ok tokens) h =
-      never_neither (length src) tokens
-      (λ tree is. ⊎_elim (λ x. no_core x.0 x.1) (λ x. no_fault x.0 x.1) (core_or_fault_of src tree (record { tokens = tokens; are_tokens = h; is_tree = is })))
-      (λ fault is. no_fault fault (no_tree tokens h is))
+by_cut : (src : List ℕ) (answer : Result (List Token) SourceFault) → Lexes src answer → CoreOrFault src
+by_cut src (Err fault) h = inr (fault, no_tokens h)
+by_cut src (Ok tokens) h =
+    ⊎_elim (λ x. core_or_fault_of src x.0 (record { tokens = tokens; are_tokens = h; is_tree = x.1 })) (λ x. inr (x.0, no_tree tokens h x.1)) (tree_or_fault (length src) tokens)
 
-pub some_core_or_fault : (src : List ℕ) → ((c : Core) → Accepts src c → ⊥) → ((f : SourceFault) → IsRefused src f → ⊥) → ⊥
-some_core_or_fault src no_core no_fault = let cut = some_cut src in by_cut src no_core no_fault cut.0 cut.1
+pub some_core_or_fault : (src : List ℕ) → CoreOrFault src
+some_core_or_fault src = let cut = some_cut src in by_cut src cut.0 cut.1
 
 -- ---- words have an Answer
 
-module _ (files : Files) (words : List (List ℕ)) (none : (text : List ℕ) (status : ℕ) → Answer files words text status → ⊥) where
+-- the Answer of these words
+abbrev HasAnswer : Files → List (List ℕ) → Type 0
+HasAnswer files words = (text : List ℕ) × (status : ℕ) × Answer files words text status
+
+module _ (files : Files) (words : List (List ℕ)) where
   by_acts : (name : List ℕ) (options : Options) (src : List ℕ) (c : Core) → request_of words ≡ Some (Run name options) → file_at files name ≡ Some src → Accepts src c
-      → (o : Option (List ℕ)) → options.acts ≡ o → (list : Option ActList) → acts_at files o ≡ list → ⊥
+      → (o : Option (List ℕ)) → options.acts ≡ o → (list : Option ActList) → acts_at files o ≡ list → HasAnswer files words
   by_acts name options src c request there is None e None acts_are = absurd (cc)
   by_acts name options src c request there is (Some file) e None acts_are = by_file (file_at files file) refl
     where
-      by_file : (o : Option (List ℕ)) → file_at files file ≡ o → ⊥
-      by_file None gone = none _ _ (asked (Run name options) request (source src there (accepted c is (acts_missing file e gone))))
+      by_file : (o : Option (List ℕ)) → file_at files file ≡ o → HasAnswer files words
+      by_file None gone = (_, _, asked (Run name options) request (source src there (accepted c is (acts_missing file e gone))))
       by_file (Some text) found = absurd (cc)
   by_acts name options src c request there is o e (Some list) acts_are =
       let at : acts_at files options.acts ≡ Some list = cc in
       let asks : AsksToRun files words options src = record { name = name; request = request; there = there } in
       let end = ends_over files words options list c (record { src = src; asks = asks; accepted = is; acts = at }) in
-      none _ _ (asked (Run name options) request (source src there (accepted c is (acts list at (ran end.0 end.1 end.2)))))
+      (_, _, asked (Run name options) request (source src there (accepted c is (acts list at (ran end.0 end.1 end.2)))))
 
-  by_source : (name : List ℕ) (options : Options) → request_of words ≡ Some (Run name options) → (o : Option (List ℕ)) → file_at files name ≡ o → ⊥
-  by_source name options request None gone = none _ _ (asked (Run name options) request (missing gone))
+  by_source : (name : List ℕ) (options : Options) → request_of words ≡ Some (Run name options) → (o : Option (List ℕ)) → file_at files name ≡ o → HasAnswer files words
+  by_source name options request None gone = (_, _, asked (Run name options) request (missing gone))
   by_source name options request (Some src) there =
-      some_core_or_fault src
-      (λ c is. by_acts name options src c request there is options.acts refl (acts_at files options.acts) refl)
-      (λ fault is. none _ _ (asked (Run name options) request (source src there (refused fault is))))
+      ⊎_elim (λ x. by_acts name options src x.0 request there x.1 options.acts refl (acts_at files options.acts) refl)
+      (λ x. (_, _, asked (Run name options) request (source src there (refused x.0 x.1))))
+      (some_core_or_fault src)
 
-  by_request : (o : Option Request) → request_of words ≡ o → ⊥
-  by_request None e = none _ _ (usage e)
+  by_request : (o : Option Request) → request_of words ≡ o → HasAnswer files words
+  by_request None e = (_, _, usage e)
   by_request (Some (Run name options)) e = by_source name options e (file_at files name) refl
 
-pub some_answer : (files : Files) (words : List (List ℕ)) → ((text : List ℕ) (status : ℕ) → Answer files words text status → ⊥) → ⊥
-some_answer files words none = by_request files words none (request_of words) refl
+pub some_answer : (files : Files) (words : List (List ℕ)) → (text : List ℕ) × (status : ℕ) × Answer files words text status
+some_answer files words = by_request files words (request_of words) refl

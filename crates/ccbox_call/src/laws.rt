@@ -17,10 +17,9 @@ pub fn at_most_one_answer()
     ensures status { (files : Files) (words : List (List ℕ)) (t u : List ℕ) (m n : ℕ) → Answer files words t m → Answer files words u n → m ≡ n }
 {}
 
-/// A source with a tree has a core or a fault. A source has a core or a fault, and words have an Answer over every map of
-/// files: it can't be that they have none. Which it is, isn't decided by these two.
+/// Each source has a core or a fault, one with a tree among them; and words have an Answer over every map of files.
 pub fn some_answer()
     ensures tree { (src : List ℕ) (tree : Tree) → HasTree src tree → CoreOrFault src }
-    ensures core_or_fault { (src : List ℕ) → ((c : Core) → Accepts src c → ⊥) → ((f : SourceFault) → IsRefused src f → ⊥) → ⊥ }
-    ensures answer { (files : Files) (words : List (List ℕ)) → ((text : List ℕ) (status : ℕ) → Answer files words text status → ⊥) → ⊥ }
+    ensures core_or_fault { (src : List ℕ) → CoreOrFault src }
+    ensures answer { (files : Files) (words : List (List ℕ)) → (text : List ℕ) × (status : ℕ) × Answer files words text status }
 {}

@@ -43,11 +43,11 @@ same_bytes x y so = grind (arith, bytes_eq-Decides x y, so)
 pub equal_bytes : (x y : List ℕ) → x ≡ y → bytes_eq x y ≡ true
 equal_bytes x y same = grind (arith, bytes_eq-Decides x y, same)
 
-record Worded (k : TokenKind) : Type 0 where
-  head : Head
-  is : IsHead k head
+pub record Worded (k : TokenKind) : Type 0 where
+  pub head : Head
+  pub is : IsHead k head
 
-word_at : (k : TokenKind) → bounds_word k ≡ true → Worded k
+pub word_at : (k : TokenKind) → bounds_word k ≡ true → Worded k
 word_at (kinds.Name x) so = by_first (bytes_eq x (codes "count")) refl
   where
     by_third : bytes_eq x (codes "bounds") ≡ true → Worded (kinds.Name x)
@@ -62,7 +62,7 @@ word_at (kinds.Name x) so = by_first (bytes_eq x (codes "count")) refl
     by_first false first = by_second (bytes_eq x (codes "byte_count")) refl first
 word_at _ so = absurd cc
 
-head_word : {k : TokenKind} {h : Head} → IsHead k h → bounds_word k ≡ true
+pub head_word : {k : TokenKind} {h : Head} → IsHead k h → bounds_word k ≡ true
 head_word (bounds.count same) = rw same refl
 head_word (bounds.byte_count same) = rw same refl
 head_word (bounds.bounds same) = rw same refl
@@ -128,7 +128,7 @@ name_begins (suc n) = b.first (name_begins n)
 name_pair : {y : List ℕ} {q : Span} {rest : List Token} → PairB (token (kinds.Name y) q ∷ rest) rest (node q.from)
 name_pair = before_end (in_first (before_end (name_begins 10)))
 
-is_word : {y : List ℕ} → y ≡ codes "unknown" → unknown_word (kinds.Name y) ≡ true
+pub is_word : {y : List ℕ} → y ≡ codes "unknown" → unknown_word (kinds.Name y) ≡ true
 is_word same = rw same refl
 
 unknown_is : {y : List ℕ} (q t : Span) (m : List Token) → y ≡ codes "unknown" → is_unknown (token (kinds.Name y) q ∷ token kinds.CloseParen t ∷ m) ≡ true
@@ -154,27 +154,27 @@ pair_fails {d} {ts} other room (too_deep {behind = rest} {start} begun low deep 
     each other room every (unknown {q} {t} y) = never (unknown_is q t rest y) other
     each other room every (range c) = every _ c
 
-data UnknownTokens : List Token → Type 0 where
-  known : {y : List ℕ} {s t : Span} {m : List Token} → UnknownTokens (token (kinds.Name y) s ∷ token kinds.CloseParen t ∷ m)
+pub data UnknownTokens : List Token → Type 0 where
+  known : {y : List ℕ} {s t : Span} {m : List Token} → y ≡ codes "unknown" → UnknownTokens (token (kinds.Name y) s ∷ token kinds.CloseParen t ∷ m)
 
-and_true : (a c : Bool) → a && c ≡ true → (a ≡ true) × (c ≡ true)
+pub and_true : (a c : Bool) → a && c ≡ true → (a ≡ true) × (c ≡ true)
 and_true true c so = (refl, so)
 and_true false c so = absurd cc
 
-unknown_tokens : (ts : List Token) → is_unknown ts ≡ true → UnknownTokens ts
+pub unknown_tokens : (ts : List Token) → is_unknown ts ≡ true → UnknownTokens ts
 unknown_tokens [] so = absurd cc
 unknown_tokens (t ∷ ts) so = by_kind t.kind t.span ts so
   where
-    by_second : (y : List ℕ) (s : Span) (k : TokenKind) (p : Span) (m : List Token) → close_paren k ≡ true → UnknownTokens (token (kinds.Name y) s ∷ token k p ∷ m)
-    by_second y s kinds.CloseParen p m so = known
-    by_second y s _ p m so = absurd cc
+    by_second : (y : List ℕ) (s : Span) (k : TokenKind) (p : Span) (m : List Token) → y ≡ codes "unknown" → close_paren k ≡ true → UnknownTokens (token (kinds.Name y) s ∷ token k p ∷ m)
+    by_second y s kinds.CloseParen p m same so = known same
+    by_second y s _ p m same so = absurd cc
 
-    by_rest : (y : List ℕ) (s : Span) (us : List Token) → next_is close_paren us ≡ true → UnknownTokens (token (kinds.Name y) s ∷ us)
-    by_rest y s [] so = absurd cc
-    by_rest y s (u ∷ us) so = by_second y s u.kind u.span us so
+    by_rest : (y : List ℕ) (s : Span) (us : List Token) → y ≡ codes "unknown" → next_is close_paren us ≡ true → UnknownTokens (token (kinds.Name y) s ∷ us)
+    by_rest y s [] same so = absurd cc
+    by_rest y s (u ∷ us) same so = by_second y s u.kind u.span us same so
 
     by_kind : (k : TokenKind) (s : Span) (us : List Token) → unknown_word k && next_is close_paren us ≡ true → UnknownTokens (token k s ∷ us)
-    by_kind (kinds.Name y) s us so = by_rest y s us (and_true (bytes_eq y (codes "unknown")) (next_is close_paren us) so).1
+    by_kind (kinds.Name y) s us so = let both = and_true (bytes_eq y (codes "unknown")) (next_is close_paren us) so in by_rest y s us (same_bytes y (codes "unknown") both.0) both.1
     by_kind _ s us so = absurd cc
 
 pub no_unknown : (ts : List Token) → next_is unknown_word ts ≡ false → is_unknown ts ≡ false
@@ -186,7 +186,7 @@ pub not_unknown : {ts us : List Token} {e : Expression} {o q : Span} → SpellsB
 not_unknown {ts} {us} {e = i} {o} {q} e = by_test (is_unknown ts) refl
   where
     no_tokens : {xs : List Token} → UnknownTokens xs → SpellsBinary 10 xs i o (token kinds.Comma q ∷ us) → is_unknown xs ≡ false
-    no_tokens known j = let h : kinds.CloseParen ≡ kinds.Comma = ap first_kind (behind (binary_same (name_spells 10) j)) in absurd cc
+    no_tokens (known same) j = let h : kinds.CloseParen ≡ kinds.Comma = ap first_kind (behind (binary_same (name_spells 10) j)) in absurd cc
 
     by_test : (so : Bool) → is_unknown ts ≡ so → is_unknown ts ≡ false
     by_test true so = no_tokens (unknown_tokens ts so) e

@@ -86,7 +86,7 @@ Linked {A} reach S us m r = (a : A) × S a us m × (r ≡ reach a)
 
 -- ---- what stands beside an expression so far, in a node around both
 
-low_in : (d start : ℕ) (p q : Reach) → d + p.height < 200 → IsLow (suc d) q → IsLow d (around start (p beside q))
+pub low_in : (d start : ℕ) (p q : Reach) → d + p.height < 200 → IsLow (suc d) q → IsLow d (around start (p beside q))
 low_in d start p q room low = low_around d start (p beside q) (omega (arith, room, low, (beside_height p q).2))
 
 start_in : (start : ℕ) (p q : Reach) → p.height < q.height → q.start ≡ (around start (p beside q)).start

@@ -42,13 +42,13 @@ type_takes (t.pointer w d n) = omega (arith, type_takes d, stars_take n)
 type_name_takes : {ts rest : List Token} {x : TypeName} → SpellsTypeName ts x rest → Takes (type_weight x.base) ts rest
 type_name_takes (t.type_name d n) = omega (arith, type_takes d, stars_take n)
 
-angled_takes : {ts rest : List Token} {x : TypeName} → SpellsAngled ts x rest → Takes (type_weight x.base) ts rest
+pub angled_takes : {ts rest : List Token} {x : TypeName} → SpellsAngled ts x rest → Takes (type_weight x.base) ts rest
 angled_takes (t.angled d) = omega (arith, type_name_takes d)
 
 -- ---- expressions. Behind an expression so far, the nodes of that are counted as if they were tokens.
 
 mutual
-  binary_takes : {n : ℕ} {ts rest : List Token} {x : Expression} {o : Span} → SpellsBinary n ts x o rest → Takes (expression_weight x) ts rest
+  pub binary_takes : {n : ℕ} {ts rest : List Token} {x : Expression} {o : Span} → SpellsBinary n ts x o rest → Takes (expression_weight x) ts rest
   binary_takes (e.operand d) = unary_takes d
   binary_takes (e.operators d u) = omega (arith, binary_takes d, tail_takes u)
 
@@ -66,7 +66,7 @@ mutual
   selectors_take (e.dot u) = omega (arith, selectors_take u)
   selectors_take (e.arrow u) = omega (arith, selectors_take u)
 
-  primary_takes : {ts rest : List Token} {x : Expression} {o : Span} → SpellsPrimary ts x o rest → Takes (expression_weight x) ts rest
+  pub primary_takes : {ts rest : List Token} {x : Expression} {o : Span} → SpellsPrimary ts x o rest → Takes (expression_weight x) ts rest
   primary_takes e.number = omega arith
   primary_takes e.character = omega arith
   primary_takes e.text = omega arith
@@ -106,7 +106,7 @@ array_takes : {ts rest : List Token} {a : Option ArrayForm} {o w : Span} → Spe
 array_takes (s.absent f) = omega arith
 array_takes (s.present w) = omega arith
 
-signed_takes : {ts rest : List Token} {x : SignedConstant} → SpellsSigned ts x rest → Takes 0 ts rest
+pub signed_takes : {ts rest : List Token} {x : SignedConstant} → SpellsSigned ts x rest → Takes 0 ts rest
 signed_takes (s.plain c) = omega arith
 signed_takes (s.minus c) = omega arith
 
@@ -119,7 +119,7 @@ optional_initializer_takes (s.absent f) = omega arith
 optional_initializer_takes (s.value d) = omega (arith, binary_takes d)
 optional_initializer_takes (s.constants d) = omega (arith, constants_take d)
 
-declarator_takes : {ts rest : List Token} {d : Declarator} → SpellsDeclarator ts d rest → Takes (declarator_weight d) ts rest
+pub declarator_takes : {ts rest : List Token} {d : Declarator} → SpellsDeclarator ts d rest → Takes (declarator_weight d) ts rest
 declarator_takes (s.declarator n a b x) = omega (arith, stars_take n, array_takes a, optional_bounds_take b, optional_initializer_takes x)
 
 declarators_take : {ts rest : List Token} {ds : List Declarator} {w : Span} → SpellsDeclarators ts ds w rest → Takes (declarators_weight ds) ts rest
@@ -130,7 +130,7 @@ declarators_take (s.more d m) = omega (arith, declarator_takes d, declarators_ta
 declaration_takes : {ts rest : List Token} {d : Declaration} → SpellsDeclaration ts d rest → declaration_weight d + length rest ≤ 1 + length ts
 declaration_takes (s.declaration d m) = omega (arith, type_takes d, declarators_take m)
 
-assignment_takes : {ts rest : List Token} {a : Assignment} → SpellsAssignment ts a rest → Takes (assignment_weight a) ts rest
+pub assignment_takes : {ts rest : List Token} {a : Assignment} → SpellsAssignment ts a rest → Takes (assignment_weight a) ts rest
 assignment_takes (s.store d w u) = omega (arith, unary_takes d, binary_takes u)
 assignment_takes (s.after d w) = omega (arith, unary_takes d)
 assignment_takes (s.before w d) = omega (arith, unary_takes d)
@@ -141,23 +141,23 @@ assignments_take (s.more d m) = omega (arith, assignment_takes d, assignments_ta
 
 -- ---- the head of a for
 
-for_initial_takes : {ts rest : List Token} {x : ForInitial} → SpellsForInitial ts x rest → Takes (for_initial_weight x) ts rest
+pub for_initial_takes : {ts rest : List Token} {x : ForInitial} → SpellsForInitial ts x rest → Takes (for_initial_weight x) ts rest
 for_initial_takes s.nothing = omega arith
 for_initial_takes (s.declares d) = omega (arith, declaration_takes d)
 for_initial_takes (s.assigns d) = omega (arith, assignment_takes d)
 
-for_condition_takes : {ts rest : List Token} {x : Option Expression} → SpellsForCondition ts x rest → Takes (optional_expression_weight x) ts rest
+pub for_condition_takes : {ts rest : List Token} {x : Option Expression} → SpellsForCondition ts x rest → Takes (optional_expression_weight x) ts rest
 for_condition_takes s.absent = omega arith
 for_condition_takes (s.present d) = omega (arith, binary_takes d)
 
-for_step_takes : {ts rest : List Token} {x : Option Assignment} → SpellsForStep ts x rest → Takes (optional_assignment_weight x) ts rest
+pub for_step_takes : {ts rest : List Token} {x : Option Assignment} → SpellsForStep ts x rest → Takes (optional_assignment_weight x) ts rest
 for_step_takes s.absent = omega arith
 for_step_takes (s.present d) = omega (arith, assignment_takes d)
 
 -- ---- statements
 
 mutual
-  statement_takes : {ts rest : List Token} {x : Statement} → SpellsStatement ts x rest → Takes (statement_weight x) ts rest
+  pub statement_takes : {ts rest : List Token} {x : Statement} → SpellsStatement ts x rest → Takes (statement_weight x) ts rest
   statement_takes (s.block d) = omega (arith, statements_take d)
   statement_takes (s.marked_block w d) = omega (arith, statements_take d)
   statement_takes (s.bundle d) = omega (arith, assignments_take d)
@@ -194,7 +194,7 @@ mark_takes (i.absent f) = omega arith
 mark_takes (i.present w) = omega arith
 
 -- the node of a member has its name
-member_takes : {ts rest : List Token} {type : TypeName} {name : Identifier} {b : Option Bounds} {o : Span} → SpellsMember ts type name b o rest → Takes (1 + type_weight type.base + optional_bounds_weight b) ts rest
+pub member_takes : {ts rest : List Token} {type : TypeName} {name : Identifier} {b : Option Bounds} {o : Span} → SpellsMember ts type name b o rest → Takes (1 + type_weight type.base + optional_bounds_weight b) ts rest
 member_takes (i.member d b) = omega (arith, type_name_takes d, optional_bounds_take b)
 
 members_take : {ts rest : List Token} {ms : List Member} → SpellsMembers ts ms rest → Takes (members_weight ms) ts rest
@@ -218,7 +218,7 @@ body_takes : {ts rest : List Token} {x : Option Body} {q : Span} → SpellsBody 
 body_takes i.absent = omega arith
 body_takes (i.present m d) = omega (arith, mark_takes m, statements_take d)
 
-item_takes : {ts rest : List Token} {x : Item} → SpellsItem ts x rest → Takes (item_weight x) ts rest
+pub item_takes : {ts rest : List Token} {x : Item} → SpellsItem ts x rest → Takes (item_weight x) ts rest
 item_takes (i.region r) = omega arith
 item_takes (i.structure a m) = omega (arith, tainted_takes a, members_take m)
 item_takes (i.global a d m) = omega (arith, tainted_takes a, type_takes d, declarators_take m)

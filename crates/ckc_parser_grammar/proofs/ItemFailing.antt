@@ -69,7 +69,7 @@ no_structure (tg.pointer words.t_ptr d e) none = refl
 no_structure (tg.pointer words.t_array_ptr d e) none = refl
 no_structure (tg.pointer words.t_nt_array_ptr d e) none = refl
 
-data Ahead : List Token → Type 0 where
+pub data Ahead : List Token → Type 0 where
   call : {n : ℕ} {x : List ℕ} {s p : Span} {us ws : List Token} → SpellsStars us n (token (kinds.Name x) s ∷ token kinds.OpenParen p ∷ ws) → Ahead us
 
 more_ahead : {s : Span} {us : List Token} → Ahead us → Ahead (token kinds.Star s ∷ us)
@@ -88,7 +88,7 @@ kind_ahead kinds.Star s us more so = more_ahead (more so)
 kind_ahead (kinds.Name x) s us more so = name_ahead x s us so
 kind_ahead _ s us more so = absurd cc
 
-function_ahead : (us : List Token) → is_function us ≡ true → Ahead us
+pub function_ahead : (us : List Token) → is_function us ≡ true → Ahead us
 function_ahead [] so = absurd cc
 function_ahead (t ∷ us) so = kind_ahead t.kind t.span us (λ h. function_ahead us h) so
 

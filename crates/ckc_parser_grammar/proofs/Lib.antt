@@ -44,4 +44,10 @@ mod ItemForms
 mod ItemPasts
 mod ItemFailing
 pub mod WholeForms
-pub mod Neither
+mod Prefixes
+mod Reading
+mod ReadTypes
+mod ReadExpressions
+mod ReadDeclarations
+mod ReadStatements
+pub mod ReadItems

@@ -155,7 +155,7 @@ primary_call so (eg.bounded_cast w a d c) is = absurd cc
 primary_call so (eg.malloc w a d) is = absurd cc
 primary_call so (eg.calloc w a d c) is = absurd cc
 
-call_of : {x : Expression} {o : Span} {ts m : List Token} → next_is name_token ts ≡ true → SpellsUnary ts x o m → is_call x ≡ true → SpellsCall ts x o m
+pub call_of : {x : Expression} {o : Span} {ts m : List Token} → next_is name_token ts ≡ true → SpellsUnary ts x o m → is_call x ≡ true → SpellsCall ts x o m
 call_of so (eg.operator w d) is = absurd cc
 call_of so (eg.postfix p (eg.unselected f)) is = primary_call so p is
 call_of so (eg.postfix p (eg.index d s)) is = never is (selected_call s refl)

@@ -47,11 +47,11 @@ plain_is return = refl
 plain_is break = refl
 plain_is continue = refl
 
-record PlainAt (k : TokenKind) : Type 0 where
-  plain : Plain
-  is : IsPlain k plain
+pub record PlainAt (k : TokenKind) : Type 0 where
+  pub plain : Plain
+  pub is : IsPlain k plain
 
-plain_at : (k : TokenKind) → plain_word k ≡ true → PlainAt k
+pub plain_at : (k : TokenKind) → plain_word k ≡ true → PlainAt k
 plain_at kinds.Checked so = record { plain = marks; is = mark words.checked }
 plain_at kinds.Unchecked so = record { plain = marks; is = mark words.unchecked }
 plain_at kinds.OpenBrace so = record { plain = blocks; is = block }
@@ -90,7 +90,7 @@ declared_fails {ts} so f = statement_as (fails_no (next_apart (turned plain_type
 simple_fails : {d : ℕ} {ts : List Token} {f : Failure} → next_is assignment_word ts ≡ true → Fails d SimpleS SimpleB ts f → Fails d StatementS BeginsStatement ts f
 simple_fails {ts} so f = statement_as (fails_no (next_apart (turned plain_assignment) ts so) (fails_no (next_apart (turned type_assignment) ts so) f))
 
-either_other : (a c : Bool) → a || c ≡ true → a ≡ false → c ≡ true
+pub either_other : (a c : Bool) → a || c ≡ true → a ≡ false → c ≡ true
 either_other true c so none = absurd cc
 either_other false c so none = so
 

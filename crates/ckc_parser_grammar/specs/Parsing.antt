@@ -1,5 +1,5 @@
 -- What reading a tree from tokens answers.
-use Rattle.std.specs.Prelude.{◌≡◌, ◌≤◌, ◌<◌, ℕ, List, [], ◌∷◌, ◌++◌, Result, Ok, Err}
+use Rattle.std.specs.Prelude.{◌≡◌, ◌≤◌, ◌<◌, ◌⊎◌, ℕ, List, [], ◌∷◌, ◌++◌, Result, Ok, Err}
 use Rattle.ckc_text.specs.declared.code.Code.TheVariants.{E06, E07}
 use Rattle.ckc_text.specs.declared.fault.Refused.{Refused}
 use Rattle.ckc_text.specs.declared.fault.Refused.TheVariants.{Source, NoMemory}
@@ -57,9 +57,9 @@ AtMostOneFault = (length : ℕ) (tokens : List Token) (f g : SourceFault) → Is
 abbrev pub NeverBoth : Type 0
 NeverBoth = (length : ℕ) (tokens : List Token) (f : SourceFault) (t : Tree) → IsFault length tokens f → IsTree length tokens t → ⊥
 
--- no list of tokens has neither a tree that is low enough nor a refusal: a double negation, since which of the two it has isn't decided here
-abbrev pub NeverNeither : Type 0
-NeverNeither = (length : ℕ) (tokens : List Token) → ((t : Tree) → IsTree length tokens t → ⊥) → ((f : SourceFault) → IsFault length tokens f → ⊥) → ⊥
+-- a list of tokens has a tree that is low enough or a refusal
+abbrev pub TreeOrFault : Type 0
+TreeOrFault = (length : ℕ) (tokens : List Token) → ((t : Tree) × IsTree length tokens t) ⊎ ((f : SourceFault) × IsFault length tokens f)
 
 -- what is spelled begins, and the tokens have put the nodes of the tree and no others
 abbrev pub SpelledBegins : Type 0

@@ -11,7 +11,7 @@ ghost use Rattle.ckc_parser_grammar.specs.TypeGrammar.{SpellsTypeName};
 ghost use Rattle.ckc_parser_grammar.specs.ExpressionGrammar.{SpellsExpression};
 ghost use Rattle.ckc_parser_grammar.specs.StatementGrammar.{SpellsStatement};
 ghost use Rattle.ckc_parser_grammar.specs.ItemGrammar.{SpellsProgram};
-ghost use Rattle.ckc_parser_grammar.specs.Parsing.{IsFault, point, AtMostOneTree, AtMostOneFault, NeverBoth, NeverNeither, SpelledBegins, PrefixBegins, WholeBegins, SpelledPlaced};
+ghost use Rattle.ckc_parser_grammar.specs.Parsing.{IsFault, point, AtMostOneTree, AtMostOneFault, NeverBoth, TreeOrFault, SpelledBegins, PrefixBegins, WholeBegins, SpelledPlaced};
 
 /// No list of tokens spells two trees.
 pub fn at_most_one_tree()
@@ -28,9 +28,9 @@ pub fn never_both()
     ensures { NeverBoth }
 {}
 
-/// No list of tokens has neither a tree that is low enough nor a refusal.
-pub fn never_neither()
-    ensures { NeverNeither }
+/// Each list of tokens has a tree that is low enough or a refusal.
+pub fn tree_or_fault()
+    ensures { TreeOrFault }
 {}
 
 /// What spells a tree begins, and has put its nodes.
