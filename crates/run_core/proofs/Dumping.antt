@@ -8,7 +8,7 @@ use Rattle.std.proofs.lemmas.Option.{slice_get_within, get_or_from_slice_get, sl
 use Rattle.flat_bytes.specs.Blocks.{Block}
 use Rattle.trusted_memory.specs.Memories.{Memory, byte_of}
 use Rattle.act_words.specs.Shown.{Shown}
-use Rattle.two_memory_machine_states.specs.Machines.{Machine, block_of}
+use Rattle.two_memory_machine.specs.Machines.{Machine, block_of}
 use Rattle.run_core_transcript.specs.Texts.{block_text}
 use Rattle.run_core.specs.Progress.{blocks_of}
 

@@ -13,10 +13,10 @@ use Rattle.code_words.specs.Table.{Frame, Loads, Stores, Passes, Replies, State,
 use Rattle.code_words.specs.Moves.{move}
 use Rattle.code_words.specs.Dumps.{blocks_held}
 use Rattle.code_words.specs.Runs.{Run, Unfinished, Finished, CodeRun, exec, go_on, started, events_of}
-use Rattle.two_memory_machine_states.specs.declared.event.Event.{Event as MachineEvent}
-use Rattle.two_memory_machine_states.specs.declared.event.Event.TheVariants as told_by
-use Rattle.two_memory_machine_states.specs.declared.event.Waiting.TheVariants as waiting
-use Rattle.two_memory_machine_states.specs.Machines.{Machine, Doing, Running, NeedsNumber, HasNumber, Touching, Suspended, IsStart, TakesAct, TakesEnd, TellsAct, state_of, turn_of, waiting_of, told_behind}
+use Rattle.two_memory_machine.specs.declared.event.Event.{Event as MachineEvent}
+use Rattle.two_memory_machine.specs.declared.event.Event.TheVariants as told_by
+use Rattle.two_memory_machine.specs.declared.event.Waiting.TheVariants as waiting
+use Rattle.two_memory_machine.specs.Machines.{Machine, Doing, Running, NeedsNumber, HasNumber, Touching, Suspended, IsStart, TakesAct, TakesEnd, TellsAct, state_of, turn_of, waiting_of, told_behind}
 use Rattle.run_core.specs.Moments.{due_from, due_in, before_due, IsDue}
 use Rattle.run_core.specs.Runs.{EndsBefore}
 use Rattle.run_core_interaction.specs.Touched.{last_of}

@@ -5,7 +5,7 @@ use Rattle.act_words.specs.declared.act.Turn.TheVariants as turns
 use Rattle.act_words.specs.Acts.{Act, Go, Read, Write, Call, Return, Stop}
 use Rattle.code_words.specs.Left.{LeavesTurn}
 use Rattle.sandbox_actor.specs.Answers.{Lowers}
-use Rattle.two_memory_machine_states.specs.Machines.{Machine, Sooner, moves_left, turn_of}
+use Rattle.two_memory_machine.specs.Machines.{Machine, Sooner, moves_left, turn_of}
 use Rattle.run_core.specs.declared.play.Progressed.{Progressed}
 use Rattle.run_core.specs.declared.play.Progressed.TheVariants as progressed
 use Rattle.run_core.specs.Progress.{IsAsked, IsOnward, FallsUnless, NearsBy, Nears, ending_in}

@@ -8,8 +8,8 @@ use Rattle.act_words.specs.Acts.{Act, Seen, seen_view}
 use Rattle.act_words.specs.World.{Event, NoAct}
 use Rattle.sandbox_actor.specs.Answers.{Gives}
 use Rattle.code_words.specs.declared.image.Image.{Image}
-use Rattle.two_memory_machine_states.specs.declared.event.Event.{Event as MachineEvent}
-use Rattle.two_memory_machine_states.specs.Machines.{Machine, IsStart, turn_of}
+use Rattle.two_memory_machine.specs.declared.event.Event.{Event as MachineEvent}
+use Rattle.two_memory_machine.specs.Machines.{Machine, IsStart, turn_of}
 use Rattle.run_core_transcript.specs.declared.fault.RunFault.{RunFault}
 use Rattle.run_core_transcript.specs.declared.fault.RunFault.TheVariants as faults
 use Rattle.run_core.specs.declared.play.Play.{Play}

@@ -8,12 +8,12 @@ use Rattle.code_words.specs.declared.image.Image.{Image}
 use Rattle.code_words.specs.Table.{State, Step, Goes, Over}
 use Rattle.code_words.specs.Moves.{move}
 use Rattle.code_words.specs.Runs.{Run, Unfinished, Finished, exec, go_on}
-use Rattle.two_memory_machine_states.specs.declared.event.Event.{Event as MachineEvent}
-use Rattle.two_memory_machine_states.specs.declared.event.Event.TheVariants as told_by
-use Rattle.two_memory_machine_states.specs.declared.event.Waiting.TheVariants as waiting
-use Rattle.two_memory_machine_states.specs.Machines.{Machine, Doing, Running, NeedsNumber, HasNumber, Touching, Suspended, Gives, TellsStep, Steps as MachineSteps, StepsIf, IsOfSame, state_of, waiting_of, waiting_for, waits_for_number, told_behind, next_op_of}
-use Rattle.two_memory_machine_states.proofs.Moving.{gives_at, number_of}
-use Rattle.two_memory_machine_steps.specs.Running.{StepsOn}
+use Rattle.two_memory_machine.specs.declared.event.Event.{Event as MachineEvent}
+use Rattle.two_memory_machine.specs.declared.event.Event.TheVariants as told_by
+use Rattle.two_memory_machine.specs.declared.event.Waiting.TheVariants as waiting
+use Rattle.two_memory_machine.specs.Machines.{Machine, Doing, Running, NeedsNumber, HasNumber, Touching, Suspended, Gives, TellsStep, Steps as MachineSteps, StepsIf, IsOfSame, state_of, waiting_of, waiting_for, waits_for_number, told_behind, next_op_of}
+use Rattle.two_memory_machine.proofs.Moving.{gives_at, number_of}
+use Rattle.two_memory_machine.specs.Running.{StepsOn}
 use Rattle.run_core_interaction.specs.Inputs.{TakesInput}
 use Rattle.run_core.specs.Progress.{IsAt, Reaches, Leads, told}
 

@@ -13,10 +13,10 @@ use Rattle.code_words.specs.Table.{State}
 use Rattle.code_words.specs.Left.{LeavesTurn}
 use Rattle.code_words.specs.Dumps.{blocks_held}
 use Rattle.code_words.specs.Runs.{Run, Unfinished, Finished, exec, started}
-use Rattle.two_memory_machine_states.specs.declared.event.Event.{Event as MachineEvent}
-use Rattle.two_memory_machine_states.specs.declared.event.Event.TheVariants as told_by
-use Rattle.two_memory_machine_states.specs.declared.event.Waiting.TheVariants as waiting
-use Rattle.two_memory_machine_states.specs.Machines.{Machine, IsOfSame, state_of, world_of, turn_of, waiting_of, told_behind, TakesAct, TakesEnd, moves_left}
+use Rattle.two_memory_machine.specs.declared.event.Event.{Event as MachineEvent}
+use Rattle.two_memory_machine.specs.declared.event.Event.TheVariants as told_by
+use Rattle.two_memory_machine.specs.declared.event.Waiting.TheVariants as waiting
+use Rattle.two_memory_machine.specs.Machines.{Machine, IsOfSame, state_of, world_of, turn_of, waiting_of, told_behind, TakesAct, TakesEnd, moves_left}
 use Rattle.run_core.specs.declared.play.Progressed.{Progressed}
 use Rattle.run_core.specs.declared.play.Progressed.TheVariants as progressed
 use Rattle.run_core_transcript.specs.declared.fault.RunFault.{RunFault}

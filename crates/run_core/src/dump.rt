@@ -6,7 +6,7 @@ ghost use Rattle.run_core.specs.Progress.{blocks_of};
 
 use ckc_text::fault::NoMemory;
 use std::alloc::Global;
-use two_memory_machine_states::machine::Machine;
+use two_memory_machine::machine::Machine;
 
 /// Adds a line for each block of a machine's trusted memory, in the order in which they were made.
 pub fn add_blocks(alloc: Global, machine: &Machine, text: &mut Vec<u8>) -> Result<(), NoMemory>

@@ -7,7 +7,7 @@ ghost use Rattle.act_words.specs.Acts.{act_view};
 ghost use Rattle.code_words.specs.declared.image.Image.{Image as ImageData};
 ghost use Rattle.code_words.specs.Fitting.{Fits};
 ghost use Rattle.code_words.specs.Left.{LeavesTurn};
-ghost use Rattle.two_memory_machine_states.specs.Machines.{IsStart, waiting_of, turn_of, moves_left};
+ghost use Rattle.two_memory_machine.specs.Machines.{IsStart, waiting_of, turn_of, moves_left};
 ghost use Rattle.run_core_transcript.specs.Texts.{dump_text};
 ghost use Rattle.run_core_interaction.specs.Asked.{AskAnswers, AskLowers, PlayCounts};
 ghost use Rattle.run_core_interaction.specs.Inputs.{TakesInput};
@@ -27,11 +27,8 @@ use run_core_transcript::fault::RunFault;
 use run_core_transcript::transcript;
 use sandbox_actor::actor::{Actor, Now};
 use std::alloc::Global;
-use two_memory_machine_acts::acts;
-use two_memory_machine_acts::ending::ending_of;
-use two_memory_machine_states::event::{Event, Waiting};
-use two_memory_machine_states::machine::Machine;
-use two_memory_machine_steps::running;
+use two_memory_machine::event::{Event, Waiting};
+use two_memory_machine::machine::Machine;
 
 /// A run so far.
 #[derive(Drop)]
@@ -169,9 +166,9 @@ impl<'a> Play<'a> {
         ensures sooner { IfOk result (λ ending. FallsUnless ending self.old.machine self.new.machine) }
         ensures settings { self.new.settings ≡ self.old.settings }
     {
-        let event = running::run_on(&mut self.machine);
+        let event = self.machine.run_on();
         self.tell(alloc, &event)?;
-        Ok(ending_of(&event))
+        Ok(event.ending())
     }
 
     // Gives the machine the number that it waits for, which it takes.
@@ -184,9 +181,9 @@ impl<'a> Play<'a> {
     {
         let number = self.next_input();
         self.machine.give(number);
-        let event = running::step(&mut self.machine);
+        let event = self.machine.step();
         self.tell(alloc, &event)?;
-        Ok(ending_of(&event))
+        Ok(event.ending())
     }
 
     // The next input number, and 0 behind the last.
@@ -275,9 +272,9 @@ impl<'a> Play<'a> {
         ensures settings { self.new.settings ≡ self.old.settings }
     {
         let turn = self.machine.turn();
-        let event = acts::act(&mut self.machine, act);
+        let event = self.machine.act(act);
         self.tell(alloc, &event)?;
-        if let Some(ending) = ending_of(&event) {
+        if let Some(ending) = event.ending() {
             return Ok(Progressed::Ends { ending });
         }
         if leaves_turn(act, turn) && self.is_asked() {
@@ -306,7 +303,7 @@ impl<'a> Play<'a> {
         self.ended = true;
         let event = self.machine.no_more_acts();
         self.tell(alloc, &event)?;
-        match ending_of(&event) {
+        match event.ending() {
             Some(ending) => Ok(Progressed::Ends { ending }),
             None => Ok(Progressed::Moves),
         }

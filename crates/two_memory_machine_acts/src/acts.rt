@@ -12,10 +12,10 @@ use act_words::act::{Act, Turn};
 use ckc_text::code::Code;
 use two_memory_machine_states::acts::SANDBOX_ENDED;
 use two_memory_machine_states::event::{Event, Waiting};
-use two_memory_machine_states::machine::Machine;
+use two_memory_machine_states::running_image::RunningImage;
 
 /// Takes an act of the sandbox.
-pub fn act(machine: &mut Machine, act: &Act) -> Event
+pub fn act(machine: &mut RunningImage, act: &Act) -> Event
     requires { waiting_of machine.old ≡ Waiting.Act }
     ensures takes { TakesAct machine.old (act_view act.now) result machine.new }
     ensures over { machine.new.over ≡ ending_given result }
@@ -29,7 +29,7 @@ pub fn act(machine: &mut Machine, act: &Act) -> Event
 }
 
 // Does what an act says before a touch.
-fn act_before_touch(machine: &mut Machine, act: &Act) -> Event
+fn act_before_touch(machine: &mut RunningImage, act: &Act) -> Event
     requires going { machine.old.over ≡ None }
     requires touches { (touch : Touch) × (machine.old.doing ≡ Touching touch) }
     ensures { (touch : Touch) → machine.old.doing ≡ Touching touch
@@ -45,7 +45,7 @@ fn act_before_touch(machine: &mut Machine, act: &Act) -> Event
 }
 
 // Does what an act says while the sandbox has the turn.
-fn act_in_sandbox(machine: &mut Machine, act: &Act) -> Event
+fn act_in_sandbox(machine: &mut RunningImage, act: &Act) -> Event
     requires going { machine.old.over ≡ None }
     requires suspended { IsSuspended machine.old.doing }
     ensures { MovesBy (λ s. in_sandbox_by machine.old.image machine.old.settings (in_sandbox (act_view act.now) s.world) s) machine.old result machine.new }

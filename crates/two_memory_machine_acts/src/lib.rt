@@ -2,6 +2,5 @@
 #![tactic(auto)]
 
 pub mod acts;
-pub mod ending;
 pub mod told;
 pub mod touches;

@@ -1,17 +1,17 @@
 // Instructions that write, or take an input number.
 
 ghost use Rattle.std.specs.Prelude.{◌≡◌, ◌<◌, Some};
-ghost use Rattle.two_memory_machine_states.specs.Machines.{Running, Steps, waiting_of, next_op_of, ending_given, moves_left};
-ghost use Rattle.two_memory_machine_states.specs.Steps.{IsReady, Tells, TellsSomething};
+ghost use Rattle.two_memory_machine_states.specs.Machines.{Running, Steps, waiting_of, next_op_of, ending_given, moves_left, TellsSomething};
+ghost use Rattle.two_memory_machine_states.specs.Steps.{IsReady, Tells};
 ghost use Rattle.two_memory_machine_acts.specs.Told.{Writes, IsTold};
 
 use code_words::op::Op;
 use two_memory_machine_states::event::{Event, Waiting};
-use two_memory_machine_states::machine::Machine;
+use two_memory_machine_states::running_image::RunningImage;
 
 /// Makes the next step, which writes, or takes a number or waits for one.
 #[inline(never)]
-pub fn told_step(machine: &mut Machine) -> Event
+pub fn told_step(machine: &mut RunningImage) -> Event
     requires runs { waiting_of machine.old ≡ Waiting.Runs }
     requires told { IsTold (next_op_of machine.old) }
     ensures steps { Steps machine.old result machine.new }
@@ -29,7 +29,7 @@ pub fn told_step(machine: &mut Machine) -> Event
 }
 
 // Does what an instruction says that writes.
-fn write(machine: &mut Machine, op: &Op) -> Event
+fn write(machine: &mut RunningImage, op: &Op) -> Event
     requires ready { IsReady machine.old }
     requires writes { Writes op.now }
     ensures line { Tells op.now machine.old result machine.new }

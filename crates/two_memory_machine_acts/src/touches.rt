@@ -6,8 +6,8 @@ ghost use Rattle.two_memory_machine_states.specs.Steps.{Acts, IsReady};
 
 use act_words::octets::Octets;
 use code_words::op::Op;
-use two_memory_machine_states::machine::Machine;
 use two_memory_machine_states::outcome::Outcome;
+use two_memory_machine_states::running_image::RunningImage;
 
 /// The lowest byte of a word.
 fn low_byte(word: u32) -> Octets
@@ -25,7 +25,7 @@ fn word_bytes(word: u32) -> Octets
 }
 
 /// A load of a byte waits.
-pub fn touch_load_1(machine: &mut Machine) -> Outcome
+pub fn touch_load_1(machine: &mut RunningImage) -> Outcome
     requires { IsReady machine.old }
     ensures { Acts Op.TouchLoad1 machine.old result machine.new }
 {
@@ -33,7 +33,7 @@ pub fn touch_load_1(machine: &mut Machine) -> Outcome
 }
 
 /// A load of a word waits.
-pub fn touch_load_4(machine: &mut Machine) -> Outcome
+pub fn touch_load_4(machine: &mut RunningImage) -> Outcome
     requires { IsReady machine.old }
     ensures { Acts Op.TouchLoad4 machine.old result machine.new }
 {
@@ -41,7 +41,7 @@ pub fn touch_load_4(machine: &mut Machine) -> Outcome
 }
 
 /// A store of a byte waits.
-pub fn touch_store_1(machine: &mut Machine) -> Outcome
+pub fn touch_store_1(machine: &mut RunningImage) -> Outcome
     requires { IsReady machine.old }
     ensures { Acts Op.TouchStore1 machine.old result machine.new }
 {
@@ -52,7 +52,7 @@ pub fn touch_store_1(machine: &mut Machine) -> Outcome
 }
 
 /// A store of a word waits.
-pub fn touch_store_4(machine: &mut Machine) -> Outcome
+pub fn touch_store_4(machine: &mut RunningImage) -> Outcome
     requires { IsReady machine.old }
     ensures { Acts Op.TouchStore4 machine.old result machine.new }
 {

@@ -20,8 +20,8 @@ use Rattle.code_words.specs.declared.image.Param.{Param}
 use Rattle.code_words.specs.Table.{State, Over, wild}
 use Rattle.two_memory_machine_memory.specs.declared.calls.Link.{Link}
 use Rattle.two_memory_machine_memory.specs.declared.calls.Link.TheVariants.{Called, CallsBack}
-use Rattle.two_memory_machine_states.specs.declared.machine.Phase.{Phase}
-use Rattle.two_memory_machine_states.specs.declared.machine.Phase.TheVariants as phases
+use Rattle.two_memory_machine_states.specs.declared.running_image.Phase.{Phase}
+use Rattle.two_memory_machine_states.specs.declared.running_image.Phase.TheVariants as phases
 use Rattle.two_memory_machine_memory.specs.CallStacks.{Behind, callers_with, callers_of}
 use Rattle.two_memory_machine_states.specs.Insides.{doing_of}
 use Rattle.two_memory_machine_states.specs.Machines.{Running, NeedsNumber, HasNumber}

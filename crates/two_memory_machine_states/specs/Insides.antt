@@ -5,11 +5,11 @@ use Rattle.code_words.specs.Table.{Touch, Loads, Stores, Passes, Replies, addres
 use Rattle.code_words.specs.declared.op.Op.TheVariants.{NextInput}
 use Rattle.two_memory_machine_memory.specs.declared.calls.Link.{Link}
 use Rattle.two_memory_machine_memory.specs.declared.calls.Link.TheVariants.{Called, CallsBack}
-use Rattle.two_memory_machine_states.specs.declared.machine.Pending.{Pending}
-use Rattle.two_memory_machine_states.specs.declared.machine.Pending.TheVariants as pending
-use Rattle.two_memory_machine_states.specs.declared.machine.Phase.{Phase}
-use Rattle.two_memory_machine_states.specs.declared.machine.Phase.TheVariants as phases
-use Rattle.two_memory_machine_states.specs.declared.machine.Machine.TheInside.{Inside}
+use Rattle.two_memory_machine_states.specs.declared.running_image.Pending.{Pending}
+use Rattle.two_memory_machine_states.specs.declared.running_image.Pending.TheVariants as pending
+use Rattle.two_memory_machine_states.specs.declared.running_image.Phase.{Phase}
+use Rattle.two_memory_machine_states.specs.declared.running_image.Phase.TheVariants as phases
+use Rattle.two_memory_machine_states.specs.declared.running_image.RunningImage.TheInside.{Inside}
 use Rattle.two_memory_machine_memory.specs.Places.{block_row}
 use Rattle.two_memory_machine_memory.specs.CallStacks.{CallStack, callers_of, link_of}
 use Rattle.two_memory_machine_states.specs.Machines.{Doing, Running, NeedsNumber, HasNumber, Touching, Suspended, Machine}

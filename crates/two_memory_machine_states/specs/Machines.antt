@@ -1,4 +1,4 @@
--- A running image, as its callers see it, and what its calls do by the instruction table.
+-- A machine, as its callers see it, and what its calls do by the instruction table.
 use Rattle.std.specs.Prelude.{◌≡◌, ℕ, ◌+◌, ◌*◌, ◌<◌, ◌⊎◌, Bool, true, false, List, [], ◌∷◌, ◌++◌, Option, Some, None, slice_get}
 use Rattle.std.proofs.Common.{ℤ, pos}
 use Rattle.ckc_text.specs.declared.place.Place.{Place}
@@ -151,6 +151,11 @@ ending_given (Out bytes) = None
 ending_given (Showed seen) = None
 ending_given (Touched release seen) = None
 ending_given (Ended ending) = Some ending
+
+-- the event tells something
+abbrev pub TellsSomething : Event → Type 0
+TellsSomething Ran = ⊥
+TellsSomething _ = Unit {0}
 
 -- an instruction that doesn't end the run goes on to the next one, with what it wrote, or its touch waits from now on
 abbrev pub TellsStep : Event → Doing → Type 0

@@ -48,11 +48,6 @@ event_of outcomes.Asks over = Asks
 event_of outcomes.Ended None = Ran
 event_of outcomes.Ended (Some ending) = Ended ending
 
--- the event tells something
-abbrev pub TellsSomething : Event → Type 0
-TellsSomething Ran = ⊥
-TellsSomething _ = Unit {0}
-
 -- the innermost call is one of this function
 abbrev pub IsIn : Machine → Func → Type 0
 IsIn m f = slice_get m.image.trusted.funs m.frame.function ≡ Some f

@@ -14,7 +14,7 @@ ghost use Rattle.two_memory_machine_states.specs.Pushes.{HasPushed};
 ghost use Rattle.two_memory_machine_states.specs.Steps.{MovesBy, IsIn, IsSuspended, moved_if, bytes_if, EndsBy, EventBy};
 
 use crate::event::Event;
-use crate::machine::{Machine, Pending, Phase};
+use crate::running_image::{Pending, Phase, RunningImage};
 use act_words::act::{Release, Seen};
 use act_words::ending::Ending;
 use act_words::octets::Octets;
@@ -38,7 +38,7 @@ pub const SANDBOX_ENDED: Ending = Ending::Stop {
     act: None,
 };
 
-impl<'a> Machine<'a> {
+impl<'a> RunningImage<'a> {
     /// Makes the touch that waits.
     pub fn make_touch(&mut self) -> Event
         requires going { self.old.over ≡ None }

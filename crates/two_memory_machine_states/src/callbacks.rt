@@ -6,7 +6,7 @@ ghost use Rattle.two_memory_machine_states.specs.Steps.{MovesBy, IsSuspended};
 
 use crate::acts::WILD;
 use crate::event::Event;
-use crate::machine::{Machine, Phase};
+use crate::running_image::{Phase, RunningImage};
 use act_words::ending::Ending;
 use ckc_text::code::Code;
 use code_words::image::Callback;
@@ -14,7 +14,7 @@ use two_memory_machine_arithmetic::limits;
 use two_memory_machine_memory::callbacks;
 use two_memory_machine_memory::calls::Link;
 
-impl<'a> Machine<'a> {
+impl<'a> RunningImage<'a> {
     /// Calls a callback for the sandbox: the count of arguments (S5), a tick (S1), an open call (S2), the arguments (C9, C4).
     pub fn call_back(&mut self, k: u32, words: &[u32]) -> Event
         requires going { self.old.over ≡ None }

@@ -44,3 +44,18 @@ pub enum Event {
         ending: Ending,
     },
 }
+
+impl Event {
+    ghost use Rattle.std.specs.Prelude.{◌≡◌};
+    ghost use Rattle.two_memory_machine_states.specs.Machines.{ending_given};
+
+    /// The ending that the event gave the run, if it ended it.
+    pub fn ending(&self) -> Option<Ending>
+        ensures { result ≡ ending_given self.now }
+    {
+        match self {
+            Event::Ended { ending } => Some(*ending),
+            _ => None,
+        }
+    }
+}

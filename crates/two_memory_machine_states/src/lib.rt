@@ -4,8 +4,8 @@
 pub mod acts;
 mod callbacks;
 pub mod event;
-pub mod machine;
 pub mod outcome;
 mod output;
+pub mod running_image;
 mod touches;
 mod transfers;

@@ -7,13 +7,13 @@ ghost use Rattle.trusted_memory.specs.Memories.{made, address_made};
 ghost use Rattle.act_words.specs.Touches.{offset_unless};
 ghost use Rattle.code_words.specs.Table.{pop, allocate, blocks_made};
 ghost use Rattle.code_words.specs.declared.image.Func.{Func as FuncData};
-ghost use Rattle.two_memory_machine_states.specs.Machines.{HasNumber, Running, Steps, waiting_of, next_op_of, ending_given};
-ghost use Rattle.two_memory_machine_states.specs.Steps.{Acts, Tells, TellsSomething, IsReady, IsIn, GoesBy};
+ghost use Rattle.two_memory_machine_states.specs.Machines.{HasNumber, Running, Steps, waiting_of, next_op_of, ending_given, TellsSomething};
+ghost use Rattle.two_memory_machine_states.specs.Steps.{Acts, Tells, IsReady, IsIn, GoesBy};
 
 use crate::acts::WILD;
 use crate::event::{Event, Waiting};
-use crate::machine::{Machine, Phase};
 use crate::outcome::Outcome;
+use crate::running_image::{Phase, RunningImage};
 use act_words::ending::Ending;
 use act_words::octets::Octets;
 use ckc_text::code::Code;
@@ -42,7 +42,7 @@ fn byte_of(word: u32) -> Octets
     Octets::from_slice(&[(word % 256) as u8]).unwrap()
 }
 
-impl<'a> Machine<'a> {
+impl<'a> RunningImage<'a> {
     /// Pops a number, and writes its line.
     pub fn print(&mut self) -> Event
         requires { IsReady self.old }

@@ -4,11 +4,11 @@ ghost use Rattle.std.specs.Prelude.{◌≡◌, ◌≤◌, ◌⊎◌, drop, lengt
 ghost use Rattle.code_words.specs.Table.{pop, touch_if, is_touchable, Loads, Stores};
 ghost use Rattle.two_memory_machine_states.specs.Steps.{IsReady, GoesBy};
 
-use crate::machine::{Machine, Pending, Phase};
 use crate::outcome::Outcome;
+use crate::running_image::{Pending, Phase, RunningImage};
 use act_words::octets::Octets;
 
-impl<'a> Machine<'a> {
+impl<'a> RunningImage<'a> {
     /// Pops an offset, and a load of so many bytes from it on waits for its acts.
     #[tactic(auto, using(std::proofs::lemmas::Bool::Decides::nat_tests))]
     #[inline(never)]

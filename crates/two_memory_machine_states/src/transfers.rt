@@ -4,8 +4,8 @@ ghost use Rattle.std.specs.Prelude.{◌≡◌, ◌≤◌, drop, length, slice_ge
 ghost use Rattle.code_words.specs.Table.{return_to, reply_of, exit_with};
 ghost use Rattle.two_memory_machine_states.specs.Steps.{Acts, IsReady, GoesBy};
 
-use crate::machine::{Machine, Pending, Phase};
 use crate::outcome::Outcome;
+use crate::running_image::{Pending, Phase, RunningImage};
 use act_words::ending::Ending;
 use ckc_text::code::Code;
 use ckc_text::place::Place;
@@ -14,7 +14,7 @@ use code_words::op::Op;
 use two_memory_machine_arithmetic::limits;
 use two_memory_machine_memory::calls::Link;
 
-impl<'a> Machine<'a> {
+impl<'a> RunningImage<'a> {
     /// Calls a function of the same side with the words that it pops (S2).
     #[inline(never)]
     pub fn call(&mut self, k: u32) -> Outcome

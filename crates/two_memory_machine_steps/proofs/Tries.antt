@@ -11,9 +11,9 @@ use Rattle.two_memory_machine_states.specs.declared.event.Waiting.TheVariants as
 use Rattle.two_memory_machine_states.specs.declared.outcome.Outcome.{Outcome}
 use Rattle.two_memory_machine_states.specs.declared.outcome.Outcome.TheVariants as outcomes
 use Rattle.act_words.specs.declared.ending.Ending.{Ending}
-use Rattle.two_memory_machine_states.specs.Machines.{Machine, Running, Gives, TellsStep, Steps, StepsIf, is_input, waits_for_number, next_op_of, state_of, waiting_of}
+use Rattle.two_memory_machine_states.specs.Machines.{Machine, Running, Gives, TellsStep, Steps, StepsIf, is_input, waits_for_number, next_op_of, state_of, waiting_of, TellsSomething}
 use Rattle.two_memory_machine_steps.specs.Families.{ActsUnlessTold}
-use Rattle.two_memory_machine_states.specs.Steps.{EventBy, GoesBy, Brings, Acts, IsGivenTo, Tells, TellsSomething, event_of}
+use Rattle.two_memory_machine_states.specs.Steps.{EventBy, GoesBy, Brings, Acts, IsGivenTo, Tells, event_of}
 use Rattle.two_memory_machine_acts.specs.Told.{IsStep}
 use Rattle.two_memory_machine_steps.specs.Running.{IsEndedIf, TriesStep}
 use Rattle.two_memory_machine_states.proofs.Moving.{stands_in, runs_of, runs_other, steps_wild, step_over, gives_told, event_told}

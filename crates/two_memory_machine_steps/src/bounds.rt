@@ -8,11 +8,11 @@ use ckc_text::place::Place;
 use code_words::op::Op;
 use two_memory_machine_arithmetic::limits;
 use two_memory_machine_memory::bounds::Ends;
-use two_memory_machine_states::machine::Machine;
 use two_memory_machine_states::outcome::Outcome;
+use two_memory_machine_states::running_image::RunningImage;
 
 /// Goes on if the topmost word isn't 0 (C1).
-pub fn non_null(machine: &mut Machine, place: Place) -> Outcome
+pub fn non_null(machine: &mut RunningImage, place: Place) -> Outcome
     requires { IsReady machine.old }
     ensures { Acts (Op.NonNull place) machine.old result machine.new }
 {
@@ -24,7 +24,7 @@ pub fn non_null(machine: &mut Machine, place: Place) -> Outcome
 
 /// Goes on if an element lies between ends (C2).
 pub fn check_in(
-    machine: &mut Machine,
+    machine: &mut RunningImage,
     low_plus: i64,
     high_plus: i64,
     size: u32,
@@ -50,7 +50,7 @@ pub fn check_in(
 
 /// Goes on if an element lies between ends, or at the upper one (C2).
 pub fn check_up_to(
-    machine: &mut Machine,
+    machine: &mut RunningImage,
     low_plus: i64,
     high_plus: i64,
     size: u32,
@@ -75,7 +75,7 @@ pub fn check_up_to(
 }
 
 /// Goes on if the value is 0 or the element doesn't lie at the upper end (C3).
-pub fn check_term(machine: &mut Machine, high_plus: i64, size: u32, place: Place) -> Outcome
+pub fn check_term(machine: &mut RunningImage, high_plus: i64, size: u32, place: Place) -> Outcome
     requires { IsReady machine.old }
     ensures { Acts (Op.Term high_plus size place) machine.old result machine.new }
 {
@@ -96,7 +96,7 @@ pub fn check_term(machine: &mut Machine, high_plus: i64, size: u32, place: Place
 
 /// Goes on if new ends lie within old ones, unless they are turned or the pointer below is null (C5).
 pub fn check_contain(
-    machine: &mut Machine,
+    machine: &mut RunningImage,
     old_low: i64,
     old_high: i64,
     new_low: i64,
@@ -133,7 +133,7 @@ pub fn check_contain(
 /// Goes on if ends lie in the sandbox's memory, with so many bytes more, unless they are turned or the pointer below is
 /// null (C5).
 pub fn check_lies(
-    machine: &mut Machine,
+    machine: &mut RunningImage,
     low_plus: i64,
     high_plus: i64,
     size: u32,
@@ -160,7 +160,7 @@ pub fn check_lies(
 }
 
 /// Goes on if the bytes from the topmost word on lie in the sandbox's memory (C4).
-pub fn check_range(machine: &mut Machine, offset: u32, len: u32, place: Place) -> Outcome
+pub fn check_range(machine: &mut RunningImage, offset: u32, len: u32, place: Place) -> Outcome
     requires { IsReady machine.old }
     ensures { Acts (Op.Range offset len place) machine.old result machine.new }
 {

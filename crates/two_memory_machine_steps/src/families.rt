@@ -7,11 +7,11 @@ ghost use Rattle.two_memory_machine_states.specs.Steps.{IsReady};
 use crate::{bounds, memory, operations, stack};
 use code_words::op::Op;
 use two_memory_machine_acts::touches;
-use two_memory_machine_states::machine::Machine;
 use two_memory_machine_states::outcome::Outcome;
+use two_memory_machine_states::running_image::RunningImage;
 
 /// Makes the step of an instruction, unless it writes or waits for a number.
-pub fn perform(machine: &mut Machine, op: &Op) -> Option<Outcome>
+pub fn perform(machine: &mut RunningImage, op: &Op) -> Option<Outcome>
     requires ready { IsReady machine.old }
     ensures { ActsUnlessTold op.now machine.old result machine.new }
 {
@@ -81,7 +81,7 @@ pub fn perform(machine: &mut Machine, op: &Op) -> Option<Outcome>
 
 // Makes the step of a check, and none of an instruction that writes or waits for a number.
 #[inline(never)]
-fn check_operands(machine: &mut Machine, op: &Op) -> Option<Outcome>
+fn check_operands(machine: &mut RunningImage, op: &Op) -> Option<Outcome>
     requires ready { IsReady machine.old }
     requires family { 2 ≤ family op.now }
     ensures { ActsUnlessTold op.now machine.old result machine.new }

@@ -3,11 +3,11 @@
 ghost use Rattle.two_memory_machine_states.specs.Steps.{Acts, IsReady};
 
 use code_words::op::Op;
-use two_memory_machine_states::machine::Machine;
 use two_memory_machine_states::outcome::Outcome;
+use two_memory_machine_states::running_image::RunningImage;
 
 /// Pops an address, and pushes the byte there.
-pub fn load_1(machine: &mut Machine) -> Outcome
+pub fn load_1(machine: &mut RunningImage) -> Outcome
     requires { IsReady machine.old }
     ensures { Acts Op.Load1 machine.old result machine.new }
 {
@@ -15,7 +15,7 @@ pub fn load_1(machine: &mut Machine) -> Outcome
 }
 
 /// Pops an address, and pushes the word there.
-pub fn load_4(machine: &mut Machine) -> Outcome
+pub fn load_4(machine: &mut RunningImage) -> Outcome
     requires { IsReady machine.old }
     ensures { Acts Op.Load4 machine.old result machine.new }
 {
@@ -23,7 +23,7 @@ pub fn load_4(machine: &mut Machine) -> Outcome
 }
 
 /// Pops a value and an address, and stores the lowest byte of the value there.
-pub fn store_1(machine: &mut Machine) -> Outcome
+pub fn store_1(machine: &mut RunningImage) -> Outcome
     requires { IsReady machine.old }
     ensures { Acts Op.Store1 machine.old result machine.new }
 {
@@ -31,7 +31,7 @@ pub fn store_1(machine: &mut Machine) -> Outcome
 }
 
 /// Pops a value and an address, and stores the value there.
-pub fn store_4(machine: &mut Machine) -> Outcome
+pub fn store_4(machine: &mut RunningImage) -> Outcome
     requires { IsReady machine.old }
     ensures { Acts Op.Store4 machine.old result machine.new }
 {
@@ -39,7 +39,7 @@ pub fn store_4(machine: &mut Machine) -> Outcome
 }
 
 /// Pops a count, and pushes the address of a block of so many elements, or 0 where there are none.
-pub fn alloc(machine: &mut Machine, size: u32) -> Outcome
+pub fn alloc(machine: &mut RunningImage, size: u32) -> Outcome
     requires { IsReady machine.old }
     ensures { Acts (Op.Alloc size) machine.old result machine.new }
 {
@@ -47,7 +47,7 @@ pub fn alloc(machine: &mut Machine, size: u32) -> Outcome
 }
 
 /// The same with one element more.
-pub fn alloc_terminated(machine: &mut Machine, size: u32) -> Outcome
+pub fn alloc_terminated(machine: &mut RunningImage, size: u32) -> Outcome
     requires { IsReady machine.old }
     ensures { Acts (Op.AllocTerminated size) machine.old result machine.new }
 {
@@ -55,7 +55,7 @@ pub fn alloc_terminated(machine: &mut Machine, size: u32) -> Outcome
 }
 
 /// Returns the topmost word.
-pub fn return_word(machine: &mut Machine) -> Outcome
+pub fn return_word(machine: &mut RunningImage) -> Outcome
     requires { IsReady machine.old }
     ensures { Acts Op.Return machine.old result machine.new }
 {
@@ -66,7 +66,7 @@ pub fn return_word(machine: &mut Machine) -> Outcome
 }
 
 /// Returns nothing.
-pub fn return_nothing(machine: &mut Machine) -> Outcome
+pub fn return_nothing(machine: &mut RunningImage) -> Outcome
     requires { IsReady machine.old }
     ensures { Acts Op.ReturnNothing machine.old result machine.new }
 {

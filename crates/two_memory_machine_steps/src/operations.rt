@@ -6,11 +6,11 @@ use crate::stack;
 use ckc_text::place::Place;
 use code_words::op::Op;
 use two_memory_machine_arithmetic::arithmetic;
-use two_memory_machine_states::machine::Machine;
 use two_memory_machine_states::outcome::Outcome;
+use two_memory_machine_states::running_image::RunningImage;
 
 /// Pops two numbers, and pushes their sum.
-pub fn add(machine: &mut Machine, place: Place) -> Outcome
+pub fn add(machine: &mut RunningImage, place: Place) -> Outcome
     requires { IsReady machine.old }
     ensures { Acts (Op.Add place) machine.old result machine.new }
 {
@@ -22,7 +22,7 @@ pub fn add(machine: &mut Machine, place: Place) -> Outcome
 }
 
 /// Pops two numbers, and pushes their difference.
-pub fn subtract(machine: &mut Machine, place: Place) -> Outcome
+pub fn subtract(machine: &mut RunningImage, place: Place) -> Outcome
     requires { IsReady machine.old }
     ensures { Acts (Op.Sub place) machine.old result machine.new }
 {
@@ -34,7 +34,7 @@ pub fn subtract(machine: &mut Machine, place: Place) -> Outcome
 }
 
 /// Pops two numbers, and pushes their product.
-pub fn multiply(machine: &mut Machine, place: Place) -> Outcome
+pub fn multiply(machine: &mut RunningImage, place: Place) -> Outcome
     requires { IsReady machine.old }
     ensures { Acts (Op.Mul place) machine.old result machine.new }
 {
@@ -46,7 +46,7 @@ pub fn multiply(machine: &mut Machine, place: Place) -> Outcome
 }
 
 /// Pops two numbers, and pushes their quotient.
-pub fn divide(machine: &mut Machine, place: Place) -> Outcome
+pub fn divide(machine: &mut RunningImage, place: Place) -> Outcome
     requires { IsReady machine.old }
     ensures { Acts (Op.Div place) machine.old result machine.new }
 {
@@ -58,7 +58,7 @@ pub fn divide(machine: &mut Machine, place: Place) -> Outcome
 }
 
 /// Pops two numbers, and pushes their remainder.
-pub fn remainder(machine: &mut Machine, place: Place) -> Outcome
+pub fn remainder(machine: &mut RunningImage, place: Place) -> Outcome
     requires { IsReady machine.old }
     ensures { Acts (Op.Rem place) machine.old result machine.new }
 {
@@ -70,7 +70,7 @@ pub fn remainder(machine: &mut Machine, place: Place) -> Outcome
 }
 
 /// Pops two numbers, and pushes their shifted number.
-pub fn shift_left(machine: &mut Machine, place: Place) -> Outcome
+pub fn shift_left(machine: &mut RunningImage, place: Place) -> Outcome
     requires { IsReady machine.old }
     ensures { Acts (Op.Shl place) machine.old result machine.new }
 {
@@ -82,7 +82,7 @@ pub fn shift_left(machine: &mut Machine, place: Place) -> Outcome
 }
 
 /// Pops two numbers, and pushes their shifted number.
-pub fn shift_right(machine: &mut Machine, place: Place) -> Outcome
+pub fn shift_right(machine: &mut RunningImage, place: Place) -> Outcome
     requires { IsReady machine.old }
     ensures { Acts (Op.Shr place) machine.old result machine.new }
 {
@@ -94,7 +94,7 @@ pub fn shift_right(machine: &mut Machine, place: Place) -> Outcome
 }
 
 /// Pops a number, and pushes it negated.
-pub fn negate(machine: &mut Machine, place: Place) -> Outcome
+pub fn negate(machine: &mut RunningImage, place: Place) -> Outcome
     requires { IsReady machine.old }
     ensures { Acts (Op.Neg place) machine.old result machine.new }
 {
@@ -106,7 +106,7 @@ pub fn negate(machine: &mut Machine, place: Place) -> Outcome
 }
 
 /// Pops an address and an index, and pushes the address of the element.
-pub fn index(machine: &mut Machine, size: u32) -> Outcome
+pub fn index(machine: &mut RunningImage, size: u32) -> Outcome
     requires { IsReady machine.old }
     ensures { Acts (Op.Index size) machine.old result machine.new }
 {
@@ -118,7 +118,7 @@ pub fn index(machine: &mut Machine, size: u32) -> Outcome
 }
 
 /// Pushes the topmost word again.
-pub fn duplicate(machine: &mut Machine) -> Outcome
+pub fn duplicate(machine: &mut RunningImage) -> Outcome
     requires { IsReady machine.old }
     ensures { Acts Op.Duplicate machine.old result machine.new }
 {
@@ -129,7 +129,7 @@ pub fn duplicate(machine: &mut Machine) -> Outcome
 }
 
 /// Pops a word.
-pub fn discard(machine: &mut Machine) -> Outcome
+pub fn discard(machine: &mut RunningImage) -> Outcome
     requires { IsReady machine.old }
     ensures { Acts Op.Discard machine.old result machine.new }
 {
@@ -140,7 +140,7 @@ pub fn discard(machine: &mut Machine) -> Outcome
 }
 
 /// Pops a word, and pushes the negated word.
-pub fn wrapping_negate(machine: &mut Machine) -> Outcome
+pub fn wrapping_negate(machine: &mut RunningImage) -> Outcome
     requires { IsReady machine.old }
     ensures { Acts Op.WrapNeg machine.old result machine.new }
 {
@@ -151,7 +151,7 @@ pub fn wrapping_negate(machine: &mut Machine) -> Outcome
 }
 
 /// Pops a word, and pushes the word with each bit turned.
-pub fn complement(machine: &mut Machine) -> Outcome
+pub fn complement(machine: &mut RunningImage) -> Outcome
     requires { IsReady machine.old }
     ensures { Acts Op.Not machine.old result machine.new }
 {
@@ -162,7 +162,7 @@ pub fn complement(machine: &mut Machine) -> Outcome
 }
 
 /// Pops a word, and pushes whether it is 0.
-pub fn is_zero(machine: &mut Machine) -> Outcome
+pub fn is_zero(machine: &mut RunningImage) -> Outcome
     requires { IsReady machine.old }
     ensures { Acts Op.Zero machine.old result machine.new }
 {
@@ -173,7 +173,7 @@ pub fn is_zero(machine: &mut Machine) -> Outcome
 }
 
 /// Pops a word, and pushes its lowest byte.
-pub fn low_byte(machine: &mut Machine) -> Outcome
+pub fn low_byte(machine: &mut RunningImage) -> Outcome
     requires { IsReady machine.old }
     ensures { Acts Op.Byte machine.old result machine.new }
 {
@@ -184,7 +184,7 @@ pub fn low_byte(machine: &mut Machine) -> Outcome
 }
 
 /// Pops two words, and pushes their sum modulo 2^32.
-pub fn wrapping_add(machine: &mut Machine) -> Outcome
+pub fn wrapping_add(machine: &mut RunningImage) -> Outcome
     requires { IsReady machine.old }
     ensures { Acts Op.WrapAdd machine.old result machine.new }
 {
@@ -195,7 +195,7 @@ pub fn wrapping_add(machine: &mut Machine) -> Outcome
 }
 
 /// Pops two words, and pushes their difference modulo 2^32.
-pub fn wrapping_subtract(machine: &mut Machine) -> Outcome
+pub fn wrapping_subtract(machine: &mut RunningImage) -> Outcome
     requires { IsReady machine.old }
     ensures { Acts Op.WrapSub machine.old result machine.new }
 {
@@ -206,7 +206,7 @@ pub fn wrapping_subtract(machine: &mut Machine) -> Outcome
 }
 
 /// Pops two words, and pushes their product modulo 2^32.
-pub fn wrapping_multiply(machine: &mut Machine) -> Outcome
+pub fn wrapping_multiply(machine: &mut RunningImage) -> Outcome
     requires { IsReady machine.old }
     ensures { Acts Op.WrapMul machine.old result machine.new }
 {
@@ -217,7 +217,7 @@ pub fn wrapping_multiply(machine: &mut Machine) -> Outcome
 }
 
 /// Pops two words, and pushes the lower one shifted left.
-pub fn wrapping_shift_left(machine: &mut Machine) -> Outcome
+pub fn wrapping_shift_left(machine: &mut RunningImage) -> Outcome
     requires { IsReady machine.old }
     ensures { Acts Op.WrapShl machine.old result machine.new }
 {
@@ -228,7 +228,7 @@ pub fn wrapping_shift_left(machine: &mut Machine) -> Outcome
 }
 
 /// Pops two words, and pushes the lower one shifted right.
-pub fn wrapping_shift_right(machine: &mut Machine) -> Outcome
+pub fn wrapping_shift_right(machine: &mut RunningImage) -> Outcome
     requires { IsReady machine.old }
     ensures { Acts Op.WrapShr machine.old result machine.new }
 {
@@ -239,7 +239,7 @@ pub fn wrapping_shift_right(machine: &mut Machine) -> Outcome
 }
 
 /// Pops two words, and pushes the bits that both have.
-pub fn and(machine: &mut Machine) -> Outcome
+pub fn and(machine: &mut RunningImage) -> Outcome
     requires { IsReady machine.old }
     ensures { Acts Op.And machine.old result machine.new }
 {
@@ -250,7 +250,7 @@ pub fn and(machine: &mut Machine) -> Outcome
 }
 
 /// Pops two words, and pushes the bits that one of them has.
-pub fn or(machine: &mut Machine) -> Outcome
+pub fn or(machine: &mut RunningImage) -> Outcome
     requires { IsReady machine.old }
     ensures { Acts Op.Or machine.old result machine.new }
 {
@@ -261,7 +261,7 @@ pub fn or(machine: &mut Machine) -> Outcome
 }
 
 /// Pops two words, and pushes the bits that just one of them has.
-pub fn xor(machine: &mut Machine) -> Outcome
+pub fn xor(machine: &mut RunningImage) -> Outcome
     requires { IsReady machine.old }
     ensures { Acts Op.Xor machine.old result machine.new }
 {
@@ -272,7 +272,7 @@ pub fn xor(machine: &mut Machine) -> Outcome
 }
 
 /// Pops two words, and pushes whether they are equal.
-pub fn equal(machine: &mut Machine) -> Outcome
+pub fn equal(machine: &mut RunningImage) -> Outcome
     requires { IsReady machine.old }
     ensures { Acts Op.Equal machine.old result machine.new }
 {
@@ -283,7 +283,7 @@ pub fn equal(machine: &mut Machine) -> Outcome
 }
 
 /// Pops two words, and pushes whether they differ.
-pub fn not_equal(machine: &mut Machine) -> Outcome
+pub fn not_equal(machine: &mut RunningImage) -> Outcome
     requires { IsReady machine.old }
     ensures { Acts Op.NotEqual machine.old result machine.new }
 {
@@ -294,7 +294,7 @@ pub fn not_equal(machine: &mut Machine) -> Outcome
 }
 
 /// Pops two words, and pushes whether the lower number is the less.
-pub fn less(machine: &mut Machine) -> Outcome
+pub fn less(machine: &mut RunningImage) -> Outcome
     requires { IsReady machine.old }
     ensures { Acts Op.Less machine.old result machine.new }
 {
@@ -305,7 +305,7 @@ pub fn less(machine: &mut Machine) -> Outcome
 }
 
 /// Pops two words, and pushes whether the lower number is no more.
-pub fn less_equal(machine: &mut Machine) -> Outcome
+pub fn less_equal(machine: &mut RunningImage) -> Outcome
     requires { IsReady machine.old }
     ensures { Acts Op.LessEqual machine.old result machine.new }
 {
@@ -316,7 +316,7 @@ pub fn less_equal(machine: &mut Machine) -> Outcome
 }
 
 /// Pops two words, and pushes whether the lower number is the greater.
-pub fn greater(machine: &mut Machine) -> Outcome
+pub fn greater(machine: &mut RunningImage) -> Outcome
     requires { IsReady machine.old }
     ensures { Acts Op.Greater machine.old result machine.new }
 {
@@ -327,7 +327,7 @@ pub fn greater(machine: &mut Machine) -> Outcome
 }
 
 /// Pops two words, and pushes whether the lower number is no less.
-pub fn greater_equal(machine: &mut Machine) -> Outcome
+pub fn greater_equal(machine: &mut RunningImage) -> Outcome
     requires { IsReady machine.old }
     ensures { Acts Op.GreaterEqual machine.old result machine.new }
 {
@@ -338,7 +338,7 @@ pub fn greater_equal(machine: &mut Machine) -> Outcome
 }
 
 /// Pops two words, and pushes whether the lower word is the less.
-pub fn unsigned_less(machine: &mut Machine) -> Outcome
+pub fn unsigned_less(machine: &mut RunningImage) -> Outcome
     requires { IsReady machine.old }
     ensures { Acts Op.UnsignedLess machine.old result machine.new }
 {
@@ -349,7 +349,7 @@ pub fn unsigned_less(machine: &mut Machine) -> Outcome
 }
 
 /// Pops two words, and pushes whether the lower word is no more.
-pub fn unsigned_less_equal(machine: &mut Machine) -> Outcome
+pub fn unsigned_less_equal(machine: &mut RunningImage) -> Outcome
     requires { IsReady machine.old }
     ensures { Acts Op.UnsignedLessEqual machine.old result machine.new }
 {
@@ -360,7 +360,7 @@ pub fn unsigned_less_equal(machine: &mut Machine) -> Outcome
 }
 
 /// Pops two words, and pushes whether the lower word is the greater.
-pub fn unsigned_greater(machine: &mut Machine) -> Outcome
+pub fn unsigned_greater(machine: &mut RunningImage) -> Outcome
     requires { IsReady machine.old }
     ensures { Acts Op.UnsignedGreater machine.old result machine.new }
 {
@@ -371,7 +371,7 @@ pub fn unsigned_greater(machine: &mut Machine) -> Outcome
 }
 
 /// Pops two words, and pushes whether the lower word is no less.
-pub fn unsigned_greater_equal(machine: &mut Machine) -> Outcome
+pub fn unsigned_greater_equal(machine: &mut RunningImage) -> Outcome
     requires { IsReady machine.old }
     ensures { Acts Op.UnsignedGreaterEqual machine.old result machine.new }
 {

@@ -1,19 +1,18 @@
 // Many steps at once.
 
 ghost use Rattle.std.specs.Prelude.{◌≡◌, ◌<◌};
-ghost use Rattle.two_memory_machine_states.specs.Machines.{Steps, waiting_of, ending_given, moves_left};
-ghost use Rattle.two_memory_machine_states.specs.Steps.{TellsSomething};
+ghost use Rattle.two_memory_machine_states.specs.Machines.{Steps, waiting_of, ending_given, moves_left, TellsSomething};
 ghost use Rattle.two_memory_machine_steps.specs.Running.{StepsOn, TriesStep};
 
 use crate::families;
 use code_words::op::Op;
 use two_memory_machine_acts::told::told_step;
 use two_memory_machine_states::event::{Event, Waiting};
-use two_memory_machine_states::machine::Machine;
 use two_memory_machine_states::outcome::Outcome;
+use two_memory_machine_states::running_image::RunningImage;
 
 /// Makes the next step.
-pub fn step(machine: &mut Machine) -> Event
+pub fn step(machine: &mut RunningImage) -> Event
     requires { waiting_of machine.old ≡ Waiting.Runs }
     ensures steps { Steps machine.old result machine.new }
     ensures over { machine.new.over ≡ ending_given result }
@@ -26,7 +25,7 @@ pub fn step(machine: &mut Machine) -> Event
 }
 
 /// Makes steps up to one that has to be told.
-pub fn run_on(machine: &mut Machine) -> Event
+pub fn run_on(machine: &mut RunningImage) -> Event
     requires { waiting_of machine.old ≡ Waiting.Runs }
     ensures steps { StepsOn machine.old result machine.new }
     ensures over { machine.new.over ≡ ending_given result }
@@ -47,7 +46,7 @@ pub fn run_on(machine: &mut Machine) -> Event
 }
 
 // Makes the next step, unless it writes or takes an input number. An `Outcome` goes from hand to hand in a register.
-fn try_step(machine: &mut Machine) -> Option<Outcome>
+fn try_step(machine: &mut RunningImage) -> Option<Outcome>
     requires { waiting_of machine.old ≡ Waiting.Runs }
     ensures { TriesStep machine.old result machine.new }
 {

@@ -10,11 +10,15 @@ use act_words::ending::Ending;
 use ckc_text::code::Code;
 use ckc_text::place::Place;
 use code_words::op::Op;
-use two_memory_machine_states::machine::Machine;
 use two_memory_machine_states::outcome::Outcome;
+use two_memory_machine_states::running_image::RunningImage;
 
 /// Pops words, and pushes the number of a check that holds.
-pub fn push_number(machine: &mut Machine, popped: usize, number: Result<i32, Ending>) -> Outcome
+pub fn push_number(
+    machine: &mut RunningImage,
+    popped: usize,
+    number: Result<i32, Ending>,
+) -> Outcome
     requires ready { IsReady machine.old }
     requires there { popped ≤ length machine.old.frame.stack }
     ensures { (f : FuncData) → IsIn machine.old f
@@ -28,7 +32,13 @@ pub fn push_number(machine: &mut Machine, popped: usize, number: Result<i32, End
 
 /// Pops words, and goes on where a check holds.
 #[tactic(auto, using(std::proofs::lemmas::Bool::Decides::nat_tests))]
-pub fn check(machine: &mut Machine, popped: usize, holds: bool, code: Code, place: Place) -> Outcome
+pub fn check(
+    machine: &mut RunningImage,
+    popped: usize,
+    holds: bool,
+    code: Code,
+    place: Place,
+) -> Outcome
     requires ready { IsReady machine.old }
     requires there { popped ≤ length machine.old.frame.stack }
     ensures { GoesBy (check_line holds code place (drop popped machine.old.frame.stack) machine.old.frame) machine.old result machine.new }
@@ -40,7 +50,7 @@ pub fn check(machine: &mut Machine, popped: usize, holds: bool, code: Code, plac
 }
 
 /// Goes on at an instruction of the same function.
-pub fn jump(machine: &mut Machine, target: u32) -> Outcome
+pub fn jump(machine: &mut RunningImage, target: u32) -> Outcome
     requires { IsReady machine.old }
     ensures { Acts (Op.Jump target) machine.old result machine.new }
 {
@@ -49,7 +59,7 @@ pub fn jump(machine: &mut Machine, target: u32) -> Outcome
 
 /// Pops a word, and goes on there where it is 0.
 #[tactic(auto, using(std::proofs::lemmas::Bool::Decides::nat_tests))]
-pub fn jump_if_zero(machine: &mut Machine, target: u32) -> Outcome
+pub fn jump_if_zero(machine: &mut RunningImage, target: u32) -> Outcome
     requires { IsReady machine.old }
     ensures { Acts (Op.JumpIfZero target) machine.old result machine.new }
 {
@@ -64,7 +74,7 @@ pub fn jump_if_zero(machine: &mut Machine, target: u32) -> Outcome
 
 /// Spends a tick.
 #[tactic(auto, using(std::proofs::lemmas::Bool::Decides::nat_tests))]
-pub fn tick(machine: &mut Machine) -> Outcome
+pub fn tick(machine: &mut RunningImage) -> Outcome
     requires { IsReady machine.old }
     ensures { Acts Op.Tick machine.old result machine.new }
 {

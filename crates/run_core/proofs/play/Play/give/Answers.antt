@@ -2,7 +2,7 @@ use Rattle.std.proofs.Common.{◌≡◌, to_z, of_z, rules, sym, ap, subst, ◌�
 use Rattle.std.specs.Prelude.{FitsSigned}
 use Rattle.std.proofs.lemmas.Int.{to_z-of_z}
 use mir.Syntax.{w32}
-use Rattle.two_memory_machine_states.specs.Machines.{Machine, HasNumber}
+use Rattle.two_memory_machine.specs.Machines.{Machine, HasNumber}
 use Rattle.run_core.specs.declared.play.Play.{Play}
 use Rattle.run_core_interaction.specs.Inputs.{TakesInput}
 use Rattle.run_core.specs.Progress.{Tells}
@@ -14,7 +14,7 @@ returns-clause-steps c =
     let e = c.in_ok-tell.ensures in
     let n = c.next_input-number.ensures in
     let event = c.step-event.result in
-    let new = c.step-event.new.machine in
+    let new = c.step-event.new.self in
     let given = c.next_input-number.result in
     let fits : FitsSigned w32 given = search rules in
     let number = to_z w32 (of_z w32 given) in

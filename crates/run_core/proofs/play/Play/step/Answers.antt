@@ -6,7 +6,7 @@ returns-clause-steps c =
     let e = c.in_ok-tell.ensures in
     record {
       event = c.run_on-event.result;
-      leads = rw (e.machine, e.inputs) (steps_lead c.args.self.now.machine c.run_on-event.new.machine c.run_on-event.result c.args.self.now.inputs.now c.requires c.run_on-event.ensures.steps);
+      leads = rw (e.machine, e.inputs) (steps_lead c.args.self.now.machine c.run_on-event.new.self c.run_on-event.result c.args.self.now.inputs.now c.requires c.run_on-event.ensures.steps);
       tells = record { settings = e.tells.settings; text = e.tells.text; last = e.tells.last };
       ended = e.ended;
     }

@@ -1,7 +1,7 @@
 use Rattle.std.proofs.Common.{◌≡◌, ◌≤◌, List, ℤ}
 use Rattle.act_words.specs.declared.settings.Settings.{Settings}
 use Rattle.code_words.specs.declared.image.Image.{Image}
-use Rattle.two_memory_machine_states.specs.Machines.{moves_left}
+use Rattle.two_memory_machine.specs.Machines.{moves_left}
 use Rattle.run_core.specs.Progress.{IsAsked, Played}
 use Rattle.run_core.proofs.play.Play.take_turn.Given as goal
 

@@ -1,0 +1,1 @@
+pub use Rattle.two_memory_machine_states.proofs.Moving

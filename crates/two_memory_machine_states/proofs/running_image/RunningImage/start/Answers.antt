@@ -1,0 +1,112 @@
+use Rattle.std.proofs.Common.{◌≡◌, ℕ, ◌+◌, Some, [], length, map, take, refl, sym, ap, ◌∙◌, arith}
+use Rattle.std.specs.Prelude.{slice_get}
+use Rattle.std.proofs.lemmas.Option.{slice_get_within}
+use Rattle.act_words.specs.declared.settings.Settings.{Settings}
+use Rattle.flat_bytes.specs.Blocks.{blocks_of}
+use Rattle.trusted_memory.specs.Memories.{Memory}
+use Rattle.code_words.specs.declared.image.Image.{Image}
+use Rattle.code_words.specs.Fitting.{Fits}
+use Rattle.code_words.specs.Runs.{memory_of, counter_behind}
+use Rattle.code_words.specs.Table.{frame_for}
+use Rattle.two_memory_machine_memory.specs.CallStacks.{CallStack}
+use Rattle.two_memory_machine_memory.specs.Places.{block_row}
+use Rattle.two_memory_machine_memory.proofs.Statics.{counter_at_base, counter_room, places_listed, offsets_listed}
+use Rattle.two_memory_machine_states.proofs.running_image.RunningImage.start.Goals as goal
+use Rattle.two_memory_machine_states.proofs.running_image.RunningImage.start.Goals.{After-counter_of}
+
+-- the function that was read is `main`
+main_there : (image : Image) (settings : Settings) (fits : Fits image settings) (function : ℕ) → image.layout.main ≡ Some function → slice_get image.trusted.funs function ≡ Some fits.main.1
+main_there image settings fits function named =
+    let m = fits.main.2 in
+    let same : fits.main.0 ≡ function = cc in
+    ap (slice_get image.trusted.funs) (sym same) ∙ m.there
+
+pub memory_with-requires : goal.memory_with-requires
+memory_with-requires c = rw c.as_slice-blocks.ensures c.requires.trusted.blocks
+
+pub counter_of-counter-requires : goal.counter_of-counter-requires
+counter_of-counter-requires c = rw c.as_slice-blocks.ensures (omega (arith, c.requires.trusted.blocks, c.requires.allowed.most_trusted))
+
+pub rows_with-requires-clause-fits : goal.rows_with-requires-clause-fits
+rows_with-requires-clause-fits c = rw c.as_slice-blocks.ensures c.requires.trusted.blocks
+
+pub rows_with-requires-clause-not_empty : goal.rows_with-requires-clause-not_empty
+rows_with-requires-clause-not_empty c = rw c.as_slice-blocks.ensures c.requires.trusted.not_empty
+
+pub offsets_with-requires-2 : goal.offsets_with-requires-2
+offsets_with-requires-2 c = rw c.as_slice-statics.ensures (omega (arith, c.requires.sandbox.blocks, c.requires.allowed.most_sandbox))
+
+pub start-requires-clause-frames : goal.start-requires-clause-frames
+start-requires-clause-frames c = rw c.as_slice.ensures c.requires.trusted.frames
+
+pub memory_with-requires-2 : goal.memory_with-requires-2
+memory_with-requires-2 c = rw c.as_slice-statics.ensures c.requires.sandbox.blocks
+
+pub counter_of-requires : goal.counter_of-requires
+counter_of-requires c = rw c.as_slice-statics.ensures (omega (arith, c.requires.sandbox.blocks, c.requires.allowed.most_sandbox))
+
+pub offsets_with-requires : goal.offsets_with-requires
+offsets_with-requires c =
+    rw c.as_slice-blocks.ensures (omega (arith, counter_at_base c.args.settings.now.base 16 c.args.image.now.trusted.blocks, c.requires.trusted.blocks, c.requires.allowed.most_base, c.requires.allowed.most_trusted))
+
+pub start-requires-clause-there : goal.start-requires-clause-there
+start-requires-clause-there c =
+    let there = main_there c.args.image.now c.args.settings.now c.requires c.unwrap-function.result c.unwrap-function.ensures in
+    rw c.as_slice.ensures (slice_get_within c.args.image.now.trusted.funs c.unwrap-function.result c.requires.main.1 there)
+
+-- the call of `main`
+first : (c : After-counter_of) → c.in_ok-start.field-0 ≡ record { funs = c.args.image.now.trusted.funs; fun = c.requires.main.1; frame = frame_for c.unwrap-function.result c.requires.main.1 []; behind = [] }
+first c =
+    let there = main_there c.args.image.now c.args.settings.now c.requires c.unwrap-function.result c.unwrap-function.ensures in
+    let found : slice_get c.as_slice.result.now c.unwrap-function.result ≡ Some c.requires.main.1 = ap (λ funs. slice_get funs c.unwrap-function.result) c.as_slice.ensures ∙ there in
+    c.in_ok-start.ensures c.requires.main.1 found ∙ rw c.as_slice.ensures refl
+
+pub invariant_of-result : goal.invariant_of-result
+invariant_of-result c =
+    let image = c.args.image.now in
+    let settings = c.args.settings.now in
+    let there = main_there image settings c.requires c.unwrap-function.result c.unwrap-function.ensures in
+    let counter : c.from_bytes.result.counter ≡ counter_behind 16 image.trusted.blocks = ap (λ (m : Memory). m.counter) c.from_bytes.ensures ∙ c.counter_of-counter.ensures ∙ ap (counter_behind 16) c.as_slice-blocks.ensures in
+    let room : c.counter_of.result ≡ counter_behind 16 image.sandbox.blocks = c.counter_of.ensures ∙ ap (counter_behind 16) c.as_slice-statics.ensures in
+    let places = c.in_ok-offsets_with.ensures in
+    let offsets = c.in_ok-offsets_with-2.ensures in
+    record {
+      fits = c.requires;
+      addresses = λ k. ap (λ xs. slice_get xs k) places ∙ rw c.as_slice-blocks.ensures (places_listed image.trusted.blocks settings.base 16 (settings.base + 16) k refl);
+      offsets = λ k. ap (λ xs. slice_get xs k) offsets ∙ rw c.as_slice-statics.ensures (offsets_listed image.sandbox.blocks 16 k);
+      base = ap (λ (m : Memory). m.base) c.from_bytes.ensures;
+      bytes = ap (λ (m : Memory). length m.bytes) c.from_bytes.ensures ∙ omega (arith, c.in_ok-bytes.ensures.len, c.in_ok-bytes.bytes.ok.0);
+      counter = omega (arith, counter, c.requires.trusted.blocks);
+      made = omega (arith, counter, counter_room 16 image.trusted.blocks c.requires.trusted.not_empty, ap length c.as_slice-blocks.ensures);
+      blocks = c.in_ok-rows_with.ensures.len;
+      rows = c.in_ok-rows_with.ensures.low;
+      funs = ap (λ (s : CallStack). s.funs) (first c);
+      there = rw (first c) there;
+      depth = rw (first c) refl;
+      few = omega arith;
+      phase = _;
+      sandbox = omega (arith, c.in_ok-memory_with.ensures.len, c.in_ok-memory_with.field-0.ok.0);
+      room = omega (arith, room, c.requires.sandbox.blocks);
+      ticks = omega arith;
+    }
+
+pub returns : goal.returns
+returns c =
+    let b = (goal.at.returns c).After-counter_of in
+    let image = c.args.image.now in
+    let settings = c.args.settings.now in
+    let there = main_there image settings c.requires c.unwrap-function.result c.unwrap-function.ensures in
+    let named : image.layout.main ≡ Some c.unwrap-function.result = c.unwrap-function.ensures in
+    let bytes : c.in_ok-bytes.bytes.items ≡ memory_of settings.trusted image.trusted.blocks = c.in_ok-bytes.ensures.bytes ∙ ap (memory_of settings.trusted) c.as_slice-blocks.ensures in
+    let counter : c.counter_of-counter.result ≡ counter_behind 16 image.trusted.blocks = c.counter_of-counter.ensures ∙ ap (counter_behind 16) c.as_slice-blocks.ensures in
+    let rows : map block_row (take (length c.as_slice-blocks.result.now) c.in_ok-rows_with.field-0.items) ≡ blocks_of settings.trusted (map length image.trusted.blocks) =
+    c.in_ok-rows_with.ensures.rows ∙ ap (λ bs. blocks_of settings.trusted (map length bs)) c.as_slice-blocks.ensures in
+    let sandbox : c.in_ok-memory_with.field-0.items ≡ memory_of settings.sandbox image.sandbox.blocks = c.in_ok-memory_with.ensures.bytes ∙ ap (memory_of settings.sandbox) c.as_slice-statics.ensures in
+    let room : c.counter_of.result ≡ counter_behind 16 image.sandbox.blocks = c.counter_of.ensures ∙ ap (counter_behind 16) c.as_slice-statics.ensures in
+    record {
+      image_is = refl;
+      settings_are = refl;
+      state = λ acts inputs. rw (c.from_bytes.ensures, bytes, counter, rows, first b, sandbox, room, named, there) refl;
+      runs = refl;
+      over = refl;
+    }
