@@ -5,10 +5,11 @@ ghost use Rattle.std.specs.Process.{exit_status};
 ghost use Rattle.std.specs.String.{string_bytes};
 ghost use Rattle.std.specs.Vec.Iter.{into_iter_items};
 ghost use Rattle.ccbox_call.specs.Calls.{CallEnds};
+ghost use Rattle.ccbox_call_status.specs.Statuses.{number_of};
 ghost use Rattle.ccbox_call.specs.Process.{Answers, IsUnmade, ProcessEnds, words_given};
 
 use crate::call::status_of_call;
-use ccbox_call_status::status::NO_MEMORY;
+use ccbox_call_status::status::Status;
 use ckc_io::shelf::Shelf;
 use ckc_io::sink::Sink;
 use std::alloc::{AllocError, Global};
@@ -38,7 +39,7 @@ pub fn process<F: Shelf, K: Sink>(
         (record { misses = F.misses shelf.new; faults = F.faults shelf.new; sink = K.faults sink.new }) (exit_status result) }
 {
     let status = status_by_words(alloc, arguments, shelf, sink);
-    ExitCode::from(status)
+    ExitCode::from(status.number())
 }
 
 // The status of a call with the words that were read, if they were.
@@ -47,14 +48,14 @@ fn status_by_words<F: Shelf, K: Sink>(
     arguments: io::Result<Args>,
     shelf: &mut F,
     sink: &mut K,
-) -> u8
+) -> Status
     ensures { ProcessEnds (words_given arguments) (F.files shelf.old) (K.written sink.old) (K.written sink.new)
         (record { misses = F.misses shelf.old; faults = F.faults shelf.old; sink = K.faults sink.old })
-        (record { misses = F.misses shelf.new; faults = F.faults shelf.new; sink = K.faults sink.new }) result }
+        (record { misses = F.misses shelf.new; faults = F.faults shelf.new; sink = K.faults sink.new }) (number_of result) }
 {
     match arguments {
         Ok(arguments) => status_of_arguments(alloc, arguments, shelf, sink),
-        Err(error) if error.kind() == io::ErrorKind::OutOfMemory => NO_MEMORY,
+        Err(error) if error.kind() == io::ErrorKind::OutOfMemory => Status::NoMemory,
         // A word that is no text spells no request.
         Err(_) => status_of_call(alloc, &[], shelf, sink),
     }
@@ -66,14 +67,14 @@ fn status_of_arguments<F: Shelf, K: Sink>(
     arguments: Args,
     shelf: &mut F,
     sink: &mut K,
-) -> u8
+) -> Status
     ensures { CallEnds (drop 1 (map string_bytes (into_iter_items arguments))) (F.files shelf.old) (K.written sink.old) (K.written sink.new)
         (record { misses = F.misses shelf.old; faults = F.faults shelf.old; sink = K.faults sink.old })
-        (record { misses = F.misses shelf.new; faults = F.faults shelf.new; sink = K.faults sink.new }) result }
+        (record { misses = F.misses shelf.new; faults = F.faults shelf.new; sink = K.faults sink.new }) (number_of result) }
 {
     match texts_behind_first(alloc, arguments) {
         Ok(texts) => status_of_texts(alloc, texts.as_slice(), shelf, sink),
-        Err(_) => NO_MEMORY,
+        Err(_) => Status::NoMemory,
     }
 }
 
@@ -83,14 +84,14 @@ fn status_of_texts<F: Shelf, K: Sink>(
     texts: &[String],
     shelf: &mut F,
     sink: &mut K,
-) -> u8
+) -> Status
     ensures { CallEnds (map string_bytes texts.now) (F.files shelf.old) (K.written sink.old) (K.written sink.new)
         (record { misses = F.misses shelf.old; faults = F.faults shelf.old; sink = K.faults sink.old })
-        (record { misses = F.misses shelf.new; faults = F.faults shelf.new; sink = K.faults sink.new }) result }
+        (record { misses = F.misses shelf.new; faults = F.faults shelf.new; sink = K.faults sink.new }) (number_of result) }
 {
     match words_of(alloc, texts) {
         Ok(words) => status_of_call(alloc, words.as_slice(), shelf, sink),
-        Err(_) => NO_MEMORY,
+        Err(_) => Status::NoMemory,
     }
 }
 

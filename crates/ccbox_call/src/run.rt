@@ -10,13 +10,14 @@ ghost use Rattle.ckc_io.specs.Files.{Told};
 ghost use Rattle.ckc_core.specs.Core.{core};
 ghost use Rattle.ccbox_call.specs.Acceptance.{IsAcceptedCore, IsRefused};
 ghost use Rattle.ccbox_call.specs.Answers.{ListAnswer, CoreAnswer, SourceAnswer, FileAnswer};
+ghost use Rattle.ccbox_call_status.specs.Statuses.{number_of};
 ghost use Rattle.ccbox_call_words.specs.Requested.{options as options_view};
 ghost use Rattle.ccbox_call.specs.Calls.{MayRun, Gives};
 
 use crate::front::front;
 use act_words::settings::Settings;
 use ccbox_call_status::output::{give_missing, give_outcome, give_refused};
-use ccbox_call_status::status::{FILES_FAILED, NO_MEMORY};
+use ccbox_call_status::status::Status;
 use ccbox_call_words::request::Options;
 use ckc_core::program::Core;
 use ckc_io::shelf::Shelf;
@@ -38,18 +39,18 @@ pub fn run_file<F: Shelf, K: Sink>(
     options: &Options,
     shelf: &mut F,
     sink: &mut K,
-) -> u8
+) -> Status
     requires { MayRun (options_view options.now) }
     ensures { Gives (λ text status. Told (F.files shelf.old) (λ files. FileAnswer files (options_view options.now) file.now text status))
         (K.written sink.old) (K.written sink.new)
         (record { misses = F.misses shelf.old; faults = F.faults shelf.old; sink = K.faults sink.old })
-        (record { misses = F.misses shelf.new; faults = F.faults shelf.new; sink = K.faults sink.new }) result }
+        (record { misses = F.misses shelf.new; faults = F.faults shelf.new; sink = K.faults sink.new }) (number_of result) }
 {
     match read_whole(alloc, shelf, file, MAX_SOURCE + 1) {
         Ok(src) => run_source(alloc, src.as_slice(), options, shelf, sink),
         Err(ReadFault::Missing) => give_missing(alloc, file, sink),
-        Err(ReadFault::Failed) => FILES_FAILED,
-        Err(ReadFault::NoMemory) => NO_MEMORY,
+        Err(ReadFault::Failed) => Status::FilesFailed,
+        Err(ReadFault::NoMemory) => Status::NoMemory,
     }
 }
 
@@ -60,12 +61,12 @@ fn run_source<F: Shelf, K: Sink>(
     options: &Options,
     shelf: &mut F,
     sink: &mut K,
-) -> u8
+) -> Status
     requires { MayRun (options_view options.now) }
     ensures { Gives (λ text status. Told (F.files shelf.old) (λ files. SourceAnswer files (options_view options.now) src.now text status))
         (K.written sink.old) (K.written sink.new)
         (record { misses = F.misses shelf.old; faults = F.faults shelf.old; sink = K.faults sink.old })
-        (record { misses = F.misses shelf.new; faults = F.faults shelf.new; sink = K.faults sink.new }) result }
+        (record { misses = F.misses shelf.new; faults = F.faults shelf.new; sink = K.faults sink.new }) (number_of result) }
 {
     match front(alloc, src) {
         Ok(program) => run_program(alloc, &program, options, shelf, sink),
@@ -73,7 +74,7 @@ fn run_source<F: Shelf, K: Sink>(
             let place = place_of_fault(src, &fault);
             give_refused(alloc, fault.code, place, sink)
         }
-        Err(Refused::NoMemory) => NO_MEMORY,
+        Err(Refused::NoMemory) => Status::NoMemory,
     }
 }
 
@@ -94,17 +95,17 @@ fn run_program<F: Shelf, K: Sink>(
     options: &Options,
     shelf: &mut F,
     sink: &mut K,
-) -> u8
+) -> Status
     requires allowed { MayRun (options_view options.now) }
     requires accepted { IsAcceptedCore (core program.now) }
     ensures { Gives (λ text status. Told (F.files shelf.old) (λ files. CoreAnswer files (options_view options.now) (core program.now) text status))
         (K.written sink.old) (K.written sink.new)
         (record { misses = F.misses shelf.old; faults = F.faults shelf.old; sink = K.faults sink.old })
-        (record { misses = F.misses shelf.new; faults = F.faults shelf.new; sink = K.faults sink.new }) result }
+        (record { misses = F.misses shelf.new; faults = F.faults shelf.new; sink = K.faults sink.new }) (number_of result) }
 {
     let settings = options.settings();
     let Ok(inputs) = options.inputs(alloc) else {
-        return NO_MEMORY;
+        return Status::NoMemory;
     };
     let inputs = inputs.as_slice();
     let Some(name) = options.acts else {
@@ -114,8 +115,8 @@ fn run_program<F: Shelf, K: Sink>(
     match ListActor::start(alloc, shelf, name) {
         Ok(mut actor) => run_with(alloc, program, &settings, inputs, &mut actor, shelf, sink),
         Err(ActorFault::Missing) => give_missing(alloc, name, sink),
-        Err(ActorFault::Failed) => FILES_FAILED,
-        Err(ActorFault::NoMemory) => NO_MEMORY,
+        Err(ActorFault::Failed) => Status::FilesFailed,
+        Err(ActorFault::NoMemory) => Status::NoMemory,
         // No act is asked for yet.
         Err(ActorFault::Ended | ActorFault::Line { line: _, code: _ }) => unreachable!(),
     }
@@ -130,7 +131,7 @@ fn run_with<F: Shelf, K: Sink>(
     actor: &mut ListActor,
     shelf: &mut F,
     sink: &mut K,
-) -> u8
+) -> Status
     requires allowed { AreAllowed settings.now }
     requires accepted { IsAcceptedCore (core program.now) }
     requires words { All (λ z. IsTrue (is_word_number z)) inputs.now }
@@ -138,10 +139,10 @@ fn run_with<F: Shelf, K: Sink>(
     ensures { Gives (ListAnswer (core program.now) settings.now inputs.now actor.old)
         (K.written sink.old) (K.written sink.new)
         (record { misses = F.misses shelf.old; faults = F.faults shelf.old; sink = K.faults sink.old })
-        (record { misses = F.misses shelf.new; faults = F.faults shelf.new; sink = K.faults sink.new }) result }
+        (record { misses = F.misses shelf.new; faults = F.faults shelf.new; sink = K.faults sink.new }) (number_of result) }
 {
     let Ok(image) = lower(alloc, program) else {
-        return NO_MEMORY;
+        return Status::NoMemory;
     };
     let outcome = run(alloc, &image, settings, inputs, actor, shelf, sink);
     give_outcome(alloc, outcome, sink)

@@ -1,7 +1,22 @@
--- The statuses of runs.
+-- The statuses.
 use Rattle.std.specs.Prelude.{ℕ}
 use Rattle.act_words.specs.declared.ending.Ending.{Ending}
 use Rattle.act_words.specs.declared.ending.Ending.TheVariants.{Exit, Check, Stop}
+use Rattle.ccbox_call_status.specs.declared.status.Status.{Status}
+use Rattle.ccbox_call_status.specs.declared.status.Status.TheVariants as statuses
+
+-- the number with which the program ends
+abbrev pub number_of : Status → ℕ
+number_of statuses.Exited = 0
+number_of statuses.SourceRefused = 1
+number_of statuses.Usage = 2
+number_of statuses.FileMissing = 3
+number_of statuses.FilesFailed = 4
+number_of statuses.OutputFailed = 5
+number_of statuses.CheckFailed = 6
+number_of statuses.Stopped = 7
+number_of statuses.LineRefused = 8
+number_of statuses.NoMemory = 9
 
 -- the status of a run that ended so
 abbrev pub status_of : Ending → ℕ

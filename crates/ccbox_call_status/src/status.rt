@@ -1,38 +1,62 @@
 // The statuses.
 
 ghost use Rattle.std.specs.Prelude.{◌≡◌};
-ghost use Rattle.ccbox_call_status.specs.Statuses.{status_of as status_of_ending};
+ghost use Rattle.ccbox_call_status.specs.Statuses.{number_of, status_of as status_of_ending};
 
 use act_words::ending::Ending;
 
-/// The status where a source is refused.
-pub const SOURCE_REFUSED: u8 = 1;
+/// How a call ended. The program ends with its number.
+#[derive(Clone, Copy)]
+pub enum Status {
+    /// 0: the run exited.
+    Exited,
+    /// 1: the source is refused.
+    SourceRefused,
+    /// 2: the words spell no request.
+    Usage,
+    /// 3: a file isn't there.
+    FileMissing,
+    /// 4: the files failed.
+    FilesFailed,
+    /// 5: the output failed.
+    OutputFailed,
+    /// 6: a check failed.
+    CheckFailed,
+    /// 7: the run was stopped.
+    Stopped,
+    /// 8: a line of the acts that the run needs is refused.
+    LineRefused,
+    /// 9: memory ran out.
+    NoMemory,
+}
 
-/// The status where the words spell no request.
-pub const USAGE: u8 = 2;
-
-/// The status where a file is missing.
-pub const FILE_MISSING: u8 = 3;
-
-/// The status where the files failed.
-pub const FILES_FAILED: u8 = 4;
-
-/// The status where the output failed.
-pub const OUTPUT_FAILED: u8 = 5;
-
-/// The status where a line of the acts is refused.
-pub const LINE_REFUSED: u8 = 8;
-
-/// The status where memory ran out.
-pub const NO_MEMORY: u8 = 9;
+impl Status {
+    /// The number with which the program ends.
+    pub fn number(self) -> u8
+        ensures { result ≡ number_of self }
+    {
+        match self {
+            Status::Exited => 0,
+            Status::SourceRefused => 1,
+            Status::Usage => 2,
+            Status::FileMissing => 3,
+            Status::FilesFailed => 4,
+            Status::OutputFailed => 5,
+            Status::CheckFailed => 6,
+            Status::Stopped => 7,
+            Status::LineRefused => 8,
+            Status::NoMemory => 9,
+        }
+    }
+}
 
 /// The status of a run that ended so.
-pub fn status_of(ending: &Ending) -> u8
-    ensures { result ≡ status_of_ending ending.now }
+pub fn status_of(ending: &Ending) -> Status
+    ensures { number_of result ≡ status_of_ending ending.now }
 {
     match ending {
-        Ending::Exit { value: _ } => 0,
-        Ending::Check { code: _, place: _ } => 6,
-        Ending::Stop { code: _, act: _ } => 7,
+        Ending::Exit { value: _ } => Status::Exited,
+        Ending::Check { code: _, place: _ } => Status::CheckFailed,
+        Ending::Stop { code: _, act: _ } => Status::Stopped,
     }
 }

@@ -56,7 +56,7 @@ pub fn answers_over<F: Shelf>(alloc: Global, call: &Call, shelf: &mut F) -> bool
 fn answers_into<F: Shelf>(alloc: Global, call: &Call, shelf: &mut F, sink: &mut MemSink) -> bool {
     let _ = sink.fail_at(call.put);
     let words = words_of(alloc, call.words);
-    let status = ccbox(alloc, words.as_slice(), shelf, sink).number;
+    let status = ccbox(alloc, words.as_slice(), shelf, sink).number();
     status == call.status && sink.bytes() == call.text
 }
 

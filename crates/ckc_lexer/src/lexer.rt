@@ -15,7 +15,7 @@ use ckc_lexer_tokens::piece::{Definition, Piece, ScopeWord};
 use ckc_lexer_tokens::scope;
 use ckc_lexer_tokens::token::{CheckedScope, Token, TokenKind};
 use ckc_text::code::Code;
-use ckc_text::fault::{Refused, SourceFault};
+use ckc_text::fault::Refused;
 use ckc_text::name::Name;
 use ckc_text::place::Span;
 use std::alloc::Global;
@@ -35,8 +35,7 @@ struct Lexer {
 fn fault_at(code: Code, at: u32) -> Refused
     ensures { result ≡ Source (fault_at code at) }
 {
-    let span = Span { from: at, to: at };
-    Refused::Source(SourceFault { code, span })
+    Refused::at(code, Span { from: at, to: at })
 }
 
 impl Lexer {

@@ -17,7 +17,7 @@ use ckc_parser_cursor::faults::{first_span, point};
 use ckc_parser_cursor::memory::push;
 use ckc_parser_cursor::stuck::Stuck;
 use ckc_text::code::Code;
-use ckc_text::fault::{Refused, SourceFault};
+use ckc_text::fault::Refused;
 use ckc_text::place::Span;
 use ckc_tree::item::{Item, Program};
 use std::alloc::Global;
@@ -64,13 +64,11 @@ fn refused(source_len: u32, stuck: Stuck, rest: &[Token]) -> Refused
     match stuck {
         Stuck::Unexpected => {
             let span = first_span(source_len, rest);
-            let code = Code::E06;
-            Refused::Source(SourceFault { code, span })
+            Refused::at(Code::E06, span)
         }
         Stuck::TooDeep { start } => {
-            let code = Code::E07;
             let span = point(start);
-            Refused::Source(SourceFault { code, span })
+            Refused::at(Code::E07, span)
         }
         Stuck::NoMemory => Refused::NoMemory,
     }

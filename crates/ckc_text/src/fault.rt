@@ -74,13 +74,17 @@ impl<T: Drop> From<AllocFailed<T>> for Refused {
 }
 
 impl Refused {
+    /// The refusal of a source by this code, at these bytes.
+    pub fn at(code: Code, span: Span) -> Refused
+        ensures { result ≡ Refused.Source (record { code = code; span = span }) }
+    {
+        Refused::Source(SourceFault { code, span })
+    }
+
     /// The refusal of what stands outside the language: E09 at the start of the source.
     pub fn not_built() -> Refused
         ensures { result ≡ Refused.Source not_built }
     {
-        Refused::Source(SourceFault {
-            code: Code::E09,
-            span: Span { from: 0, to: 0 },
-        })
+        Refused::at(Code::E09, Span { from: 0, to: 0 })
     }
 }

@@ -486,10 +486,12 @@ fn is_placed(program: &Program, len: u32) -> bool
     cursor.in_order
 }
 
-/// Whether each span lies in that of the form around it, those of the parts of a form stand in order, and all lie in
-/// a source of `len` bytes.
-pub fn well_placed(program: &Program, len: u32) -> bool
-    ensures { IsTrue result ↔ IsPlaced len (tree program.now) }
-{
-    is_placed(program, len)
+impl Program {
+    /// Whether each span lies in that of the form around it, those of the parts of a form stand in order, and all lie in
+    /// a source of `len` bytes.
+    pub fn well_placed(&self, len: u32) -> bool
+        ensures { IsTrue result ↔ IsPlaced len (tree self.now) }
+    {
+        is_placed(self, len)
+    }
 }

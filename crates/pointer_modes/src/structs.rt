@@ -6,7 +6,7 @@ ghost use Rattle.pointer_modes.specs.Declaring.{Declares, Adds, MayBe, first_twi
 
 use crate::ctype::{CType, Member};
 use ckc_text::code::Code;
-use ckc_text::fault::{Refused, SourceFault};
+use ckc_text::fault::Refused;
 use ckc_text::name::Name;
 use ckc_text::place::Span;
 use std::alloc::Global;
@@ -62,7 +62,7 @@ impl Structs {
     {
         let number = self.items.len();
         if number >= MOST_STRUCTS {
-            return Err(refusal(Code::E08, span));
+            return Err(Refused::at(Code::E08, span));
         }
         let members = Vec::new(*self.items.allocator());
         self.items.push(Declared { tainted, members })?;
@@ -121,13 +121,13 @@ fn may_be_members(members: &[Member]) -> Result<(), Refused>
     ensures few { IfOk result (λ _. length members.now ≤ 64) }
 {
     if let Some(member) = members.get(MOST_MEMBERS) {
-        return Err(refusal(Code::E08, member.span));
+        return Err(Refused::at(Code::E08, member.span));
     }
     if let Some(span) = first_twice(members) {
-        return Err(refusal(Code::E11, span));
+        return Err(Refused::at(Code::E11, span));
     }
     if let Some(span) = first_struct(members) {
-        return Err(refusal(Code::E27, span));
+        return Err(Refused::at(Code::E27, span));
     }
     Ok(())
 }
@@ -166,11 +166,4 @@ fn first_struct(members: &[Member]) -> Option<Span>
         }
     }
     None
-}
-
-/// What is wrong at a span.
-fn refusal(code: Code, span: Span) -> Refused
-    ensures { result ≡ Refused.Source (record { code = code; span = span }) }
-{
-    Refused::Source(SourceFault { code, span })
 }

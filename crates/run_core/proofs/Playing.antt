@@ -13,7 +13,8 @@ use Rattle.two_memory_machine.specs.Machines.{Machine, IsStart, turn_of}
 use Rattle.run_core_transcript.specs.declared.fault.RunFault.{RunFault}
 use Rattle.run_core_transcript.specs.declared.fault.RunFault.TheVariants as faults
 use Rattle.run_core.specs.declared.play.Play.{Play}
-use Rattle.run_core_transcript.specs.Texts.{event_text, events_text, ending_text, dump_text, with_last_line}
+use Rattle.act_recorder.specs.Endings.{ending_text}
+use Rattle.run_core_transcript.specs.Texts.{event_text, events_text, dump_text, with_last_line}
 use Rattle.run_core_interaction.specs.Asked.{Answering, HasEnded, AskAnswers}
 use Rattle.run_core.specs.Chains.{Chain}
 use Rattle.run_core.specs.Runs.{Comes, Ends, ShelfFault, CameTo}

@@ -22,7 +22,8 @@ use Rattle.run_core.specs.declared.play.Progressed.TheVariants as progressed
 use Rattle.run_core_transcript.specs.declared.fault.RunFault.{RunFault}
 use Rattle.run_core_transcript.specs.declared.fault.RunFault.TheVariants as faults
 use Rattle.run_core.specs.declared.play.Play.{Play}
-use Rattle.run_core_transcript.specs.Texts.{events_text, ending_text, dump_text, with_last_line}
+use Rattle.act_recorder.specs.Endings.{ending_text}
+use Rattle.run_core_transcript.specs.Texts.{events_text, dump_text, with_last_line}
 use Rattle.run_core.specs.Moments.{due_in, IsDue}
 use Rattle.run_core_interaction.specs.Asked.{Answering}
 use Rattle.run_core_interaction.specs.Touched.{last_of, touched}

@@ -6,7 +6,8 @@ ghost use Rattle.act_words.specs.declared.act.Turn.TheVariants as turns;
 ghost use Rattle.act_words.specs.declared.ending.Ending.TheVariants.{Exit, Check, Stop};
 ghost use Rattle.act_words.specs.Acts.{Looked, SeenReply};
 ghost use Rattle.act_words.specs.World.{Output, Released, Showed, NoAct};
-ghost use Rattle.run_core_transcript.specs.Texts.{ending_text, run_text, front_text};
+ghost use Rattle.act_recorder.specs.Endings.{ending_text};
+ghost use Rattle.run_core_transcript.specs.Texts.{run_text, front_text};
 ghost use Rattle.run_core.specs.Moments.{due_in, before_due};
 ghost use Rattle.run_core.specs.Examples.{plain, viewed, dumped, written, echo, text_by};
 

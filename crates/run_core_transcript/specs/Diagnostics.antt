@@ -3,7 +3,7 @@ use Rattle.std.specs.Prelude.{ℕ, List, ◌++◌, codes, decimal}
 use Rattle.ckc_text.specs.declared.place.Place.{Place}
 use Rattle.ckc_text.specs.declared.code.Code.{Code}
 use Rattle.ckc_text.specs.Texts.{number_of, name_of}
-use Rattle.run_core_transcript.specs.Texts.{line, placed_text}
+use Rattle.act_recorder.specs.Endings.{line, placed_text}
 
 -- a refused source, at its place, as `[refused E17 2:3 bounds not proved]`
 abbrev pub refused_text : Code → Place → List ℕ

@@ -7,7 +7,8 @@ use Rattle.act_words.specs.declared.settings.Settings.{Settings}
 use Rattle.act_words.specs.Shown.{Shown}
 use Rattle.run_core_transcript.specs.declared.fault.RunFault.{RunFault}
 use Rattle.run_core_transcript.specs.declared.fault.RunFault.TheVariants as faults
-use Rattle.run_core_transcript.specs.Texts.{ending_text, dump_text, with_last_line}
+use Rattle.act_recorder.specs.Endings.{ending_text}
+use Rattle.run_core_transcript.specs.Texts.{dump_text, with_last_line}
 
 -- a front of a text was written
 pub record Fronts (text : List ℕ) (old new : Option (List ℕ)) : Type 0 where

@@ -3,11 +3,13 @@
 ghost use Rattle.std.specs.Prelude.{◌≡◌, ◌++◌, List, IfOk, Ok, Err};
 ghost use Rattle.act_words.specs.declared.settings.Settings.{Settings as SettingsData};
 ghost use Rattle.act_words.specs.Shown.{Shown};
-ghost use Rattle.run_core_transcript.specs.Texts.{ending_text, with_last_line};
+ghost use Rattle.act_recorder.specs.Endings.{ending_text};
+ghost use Rattle.run_core_transcript.specs.Texts.{with_last_line};
 ghost use Rattle.run_core_transcript.specs.Finishes.{Finish, Finishes};
 
 use crate::fault::RunFault;
-use crate::texts::{add_last_line, answer_text};
+use crate::texts::add_last_line;
+use act_recorder::endings::answer_text;
 use act_words::ending::Ending;
 use ckc_io::sink::{Sink, SinkFault};
 use ckc_io::whole::write_whole;

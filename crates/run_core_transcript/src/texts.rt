@@ -1,59 +1,10 @@
 // The lines of a run.
 
-ghost use Rattle.std.specs.Prelude.{◌≡◌, ◌++◌, ◌∷◌, [], if◌then◌else◌, IfOk, OnOk, codes, None, Some};
-ghost use Rattle.run_core_transcript.specs.Texts.{ending_text, placed_text, output_line, missing_feed, with_last_line};
+ghost use Rattle.std.specs.Prelude.{◌≡◌, ◌++◌, ◌∷◌, [], if◌then◌else◌, IfOk, OnOk};
+ghost use Rattle.run_core_transcript.specs.Texts.{output_line, missing_feed, with_last_line};
 
-use act_words::ending::Ending;
-use ckc_text::code::Code;
 use ckc_text::fault::NoMemory;
-use ckc_text::place::Place;
 use std::alloc::Global;
-
-/// The line that says how a run ended.
-pub fn answer_text(alloc: Global, ending: &Ending) -> Result<Vec<u8>, NoMemory>
-    ensures { IfOk result (λ text. text.items ≡ ending_text ending.now) }
-{
-    match *ending {
-        Ending::Exit { value } => exit_line(alloc, value),
-        Ending::Check { code, place } => check_line(alloc, code, place),
-        Ending::Stop { code, act: None } => stop_line(alloc, code),
-        Ending::Stop {
-            code,
-            act: Some(act),
-        } => act_stop_line(alloc, code, act),
-    }
-}
-
-fn exit_line(alloc: Global, value: i32) -> Result<Vec<u8>, NoMemory>
-    ensures { IfOk result (λ text. text.items ≡ ending_text (Ending.Exit value)) }
-{
-    Ok(format!(in alloc; "[exit {value}]\n")?.into_bytes())
-}
-
-fn check_line(alloc: Global, code: Code, place: Place) -> Result<Vec<u8>, NoMemory>
-    ensures { IfOk result (λ text. text.items ≡ placed_text (codes "check") code place) }
-{
-    let number = code.number();
-    let Place { line, col } = place;
-    let name = code.text();
-    Ok(format!(in alloc; "[check {number} {line}:{col} {name}]\n")?.into_bytes())
-}
-
-fn stop_line(alloc: Global, code: Code) -> Result<Vec<u8>, NoMemory>
-    ensures { IfOk result (λ text. text.items ≡ ending_text (Ending.Stop code None)) }
-{
-    let number = code.number();
-    let name = code.text();
-    Ok(format!(in alloc; "[stop {number} {name}]\n")?.into_bytes())
-}
-
-fn act_stop_line(alloc: Global, code: Code, act: u64) -> Result<Vec<u8>, NoMemory>
-    ensures { IfOk result (λ text. text.items ≡ ending_text (Ending.Stop code (Some act))) }
-{
-    let number = code.number();
-    let name = code.text();
-    Ok(format!(in alloc; "[stop {number} act {act} {name}]\n")?.into_bytes())
-}
 
 /// The line of what a program wrote.
 pub fn output_line(alloc: Global, bytes: &[u8]) -> Result<Vec<u8>, NoMemory>
