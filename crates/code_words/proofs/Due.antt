@@ -11,7 +11,7 @@ use Rattle.act_words.specs.Acting.{BeforeTouch, InSandbox, lies_in, bytes_at, sh
 use Rattle.act_words.specs.Touches.{released}
 use Rattle.act_words.specs.View.{due_front, view_fold, view_of, releases_of}
 use Rattle.act_words.proofs.Views.{Ready, HasFolded, told_at_start, shown}
-use Rattle.code_words.specs.declared.image.Image.{Image}
+use Rattle.code_words.specs.Images.{Image}
 use Rattle.code_words.specs.Table.{State}
 use Rattle.code_words.specs.Runs.{started, CodeRun}
 use Rattle.code_words.proofs.Keeps.{AreKept, BeforeKeeps, InKeeps, ReleaseKeeps, RunKeeps, run-keeps}

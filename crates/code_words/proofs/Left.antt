@@ -23,7 +23,7 @@ use Rattle.code_words.specs.declared.image.Func.{Func}
 use Rattle.code_words.specs.declared.image.Import.{Import}
 use Rattle.code_words.specs.declared.image.Callback.{Callback}
 use Rattle.code_words.specs.declared.image.Param.{Param}
-use Rattle.code_words.specs.declared.image.Image.{Image}
+use Rattle.code_words.specs.Images.{Image}
 use Rattle.code_words.specs.Marshalling.{Fault, Count, TooLarge, OutOfRange, arguments_fault, fits_kind}
 use Rattle.code_words.specs.Table.{Frame, Caller, Calls, Waits, CalledBack, Touch, Loads, Stores, Passes, Replies, Control, Runs, Touches, Away, State, Step, Goes, Over, wild, holds, depth, is_positive, asked, push, push_if, push_some, push_checked, pop, on_with, pop_2, pop_3, pop_5, pop_6, pop_if, peek, set_if, load_if, load, store_if, store, check, touch_if, behind, enter, call_function, call_tainted, push_result, reply_of, reply_with, return_to, allocate_if, allocate, allocate_sandbox_if, byte_at, by_byte, count_from, jump_if, jump, jump_if_zero, of_two, of_one, checked_of_two, act, act_next, step_in, step, frame_for}
 use Rattle.code_words.specs.Moves.{in_world, without_first, make_touch, before_touch_by, run_if, run_callback, at_place_of, tested, call_back_if, call_back, reply_if, reply_to, answer, in_sandbox_by, take_before_touch, take_in_sandbox, before_touch, in_sandbox, move, move_by}

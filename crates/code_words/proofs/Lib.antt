@@ -4,3 +4,4 @@ pub mod Worlds
 mod Paces
 pub mod Left
 pub mod Due
+pub mod Fitting

@@ -6,7 +6,7 @@ use Rattle.act_words.specs.declared.settings.Settings.{Settings}
 use Rattle.code_words.specs.Table.{State, Step, Goes, Over}
 use Rattle.code_words.specs.Moves.{move}
 use Rattle.code_words.specs.Runs.{Run, Finished, exec, go_on}
-use Rattle.code_words.specs.declared.image.Image.{Image}
+use Rattle.code_words.specs.Images.{Image}
 
 module _ (image : Image) (settings : Settings) where
   -- what a move leads to, where the rest of the run isn't cut off

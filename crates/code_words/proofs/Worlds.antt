@@ -11,7 +11,7 @@ use Rattle.act_words.specs.Acting.{BeforeTouch, InSandbox, lies_in, bytes_at, sh
 use Rattle.act_words.specs.Touches.{released}
 use Rattle.act_words.specs.View.{ViewIsFold}
 use Rattle.act_words.proofs.Views.{Told, Ready, HasFolded, BeforeTold, InTold, told_at_start, shown, none_left, at_the_end, released_told, act_before_told, act_in_told, told_in, write_told, ready_turn, view_in_turn}
-use Rattle.code_words.specs.declared.image.Image.{Image}
+use Rattle.code_words.specs.Images.{Image}
 use Rattle.code_words.specs.Table.{State, Step, Goes, Over, Control, Runs, Touches, Away}
 use Rattle.code_words.specs.Moves.{move}
 use Rattle.code_words.specs.Runs.{Run, Unfinished, Finished, go_on, exec, started, CodeRun, events_of}

@@ -13,7 +13,7 @@ use Rattle.code_words.specs.declared.image.WordKind.TheVariants as kinds
 use Rattle.code_words.specs.declared.image.Region.{Region}
 use Rattle.code_words.specs.declared.image.Param.{Param}
 use Rattle.code_words.specs.declared.image.Func.{Func}
-use Rattle.code_words.specs.declared.image.Image.{Image}
+use Rattle.code_words.specs.Images.{Image}
 use Rattle.code_words.specs.Runs.{Run, Unfinished, Finished, exec, started, events_of}
 use Rattle.code_words.specs.SandboxCode.{State, answered}
 

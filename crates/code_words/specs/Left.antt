@@ -8,7 +8,7 @@ use Rattle.code_words.specs.Paced.{is_tick, is_call, tested}
 use Rattle.code_words.specs.Table.{Frame, Caller, Calls, Waits, CalledBack, Control, Runs, Touches, Away, State, behind}
 use Rattle.code_words.specs.declared.op.Op.{Op}
 use Rattle.code_words.specs.declared.image.Func.{Func}
-use Rattle.code_words.specs.declared.image.Image.{Image}
+use Rattle.code_words.specs.Images.{Image}
 
 -- the number of instructions of the longest function
 abbrev pub longest : List Func → ℕ

@@ -1,3 +1,4 @@
+pub mod Images
 pub mod Marshalling
 pub mod Table
 pub mod Moves
@@ -5,6 +6,8 @@ pub mod SandboxCode
 pub mod Runs
 pub mod Paced
 pub mod Left
+pub mod Formats
+pub mod Parts
 pub mod Fitting
 pub mod Dumps
 pub mod Examples

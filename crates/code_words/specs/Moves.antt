@@ -18,7 +18,7 @@ use Rattle.code_words.specs.declared.image.WordKind.TheVariants as kinds
 use Rattle.code_words.specs.declared.image.Func.{Func}
 use Rattle.code_words.specs.declared.image.Import.{Import}
 use Rattle.code_words.specs.declared.image.Callback.{Callback}
-use Rattle.code_words.specs.declared.image.Image.{Image}
+use Rattle.code_words.specs.Images.{Image}
 
 -- the state in another world
 abbrev pub in_world : World → State → State

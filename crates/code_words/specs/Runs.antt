@@ -9,7 +9,7 @@ use Rattle.act_words.specs.World.{Event, new_world}
 use Rattle.code_words.specs.Table.{Frame, Runs, State, Step, Goes, Over, frame_for}
 use Rattle.code_words.specs.Moves.{move}
 use Rattle.code_words.specs.declared.image.Func.{Func}
-use Rattle.code_words.specs.declared.image.Image.{Image}
+use Rattle.code_words.specs.Images.{Image}
 
 -- ---- static blocks
 

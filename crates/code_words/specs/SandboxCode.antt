@@ -17,7 +17,7 @@ use Rattle.code_words.specs.declared.image.WordKind.{WordKind}
 use Rattle.code_words.specs.declared.image.WordKind.TheVariants as kinds
 use Rattle.code_words.specs.declared.image.Func.{Func}
 use Rattle.code_words.specs.declared.image.Callback.{Callback}
-use Rattle.code_words.specs.declared.image.Image.{Image}
+use Rattle.code_words.specs.Images.{Image}
 
 -- an open call of a sandbox function
 pub record Frame : Type 0 where

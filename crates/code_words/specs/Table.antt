@@ -26,7 +26,7 @@ use Rattle.code_words.specs.declared.image.WordKind.TheVariants as kinds
 use Rattle.code_words.specs.declared.image.Func.{Func}
 use Rattle.code_words.specs.declared.image.Import.{Import}
 use Rattle.code_words.specs.declared.image.Callback.{Callback}
-use Rattle.code_words.specs.declared.image.Image.{Image}
+use Rattle.code_words.specs.Images.{Image}
 
 -- an open call of a trusted function: its function, its next instruction, its slots, and its stack with the topmost word
 -- first

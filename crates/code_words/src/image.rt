@@ -1,9 +1,13 @@
 // What a compiled program consists of.
 
+ghost use Rattle.std.specs.Prelude.{◌≡◌};
+ghost use Rattle.code_words.specs.Formats.{KeepsFormat};
+
 use crate::lists::Listed;
 use crate::op::Op;
 use ckc_text::name::Name;
 use ckc_text::place::Place;
+use std::marker::Model;
 
 /// What a word stands for that crosses between the sides, and what a function returns.
 #[derive(Clone, Copy)]
@@ -98,10 +102,71 @@ pub struct Layout {
     pub main: Option<u32>,
 }
 
-/// A whole compiled program.
+/// A whole compiled program. It keeps the orders and limits of a listing: functions, tainted functions and callbacks are
+/// numbered from 0, frames and counts of arguments are small, and between two ticks control moves forward only, or returns.
 #[derive(Drop)]
 pub struct Image {
     pub trusted: SideCode,
     pub sandbox: SideCode,
     pub layout: Layout,
+}
+
+impl Model for Image {
+    ghost use Rattle.code_words.specs.Images.{Image};
+
+    ghost Value = { Image };
+
+    ghost use Rattle.code_words.specs.Parts.{image, IsImage};
+
+    ghost view = { image };
+
+    ghost invariant = { IsImage };
+}
+
+impl Image {
+    /// The functions of the trusted side.
+    #[inline]
+    pub fn functions(&self) -> &[Func]
+        ensures functions { result.now ≡ self.now.trusted.funs }
+        ensures format { KeepsFormat self.now }
+    {
+        self.trusted.funs.as_slice()
+    }
+
+    /// The static blocks of the trusted memory.
+    pub fn trusted_blocks(&self) -> &[Listed<u8>]
+        ensures { result.now ≡ self.now.trusted.blocks }
+    {
+        self.trusted.blocks.as_slice()
+    }
+
+    /// The static blocks of the sandbox's memory.
+    pub fn sandbox_blocks(&self) -> &[Listed<u8>]
+        ensures { result.now ≡ self.now.sandbox.blocks }
+    {
+        self.sandbox.blocks.as_slice()
+    }
+
+    /// The tainted functions.
+    #[inline]
+    pub fn imports(&self) -> &[Import]
+        ensures { result.now ≡ self.now.layout.imports }
+    {
+        self.layout.imports.as_slice()
+    }
+
+    /// The callbacks.
+    #[inline]
+    pub fn callbacks(&self) -> &[Callback]
+        ensures { result.now ≡ self.now.layout.callbacks }
+    {
+        self.layout.callbacks.as_slice()
+    }
+
+    /// The number of `main`, if there is one.
+    pub fn main(&self) -> Option<u32>
+        ensures { result ≡ self.now.layout.main }
+    {
+        self.layout.main
+    }
 }

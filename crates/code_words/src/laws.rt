@@ -8,7 +8,7 @@ ghost use Rattle.act_words.specs.declared.settings.Settings.{Settings};
 ghost use Rattle.act_words.specs.Acts.{Act};
 ghost use Rattle.act_words.specs.World.{Event};
 ghost use Rattle.act_words.specs.View.{ViewIsFold, IsFront, releases_of, view_of, due_front, view_fold};
-ghost use Rattle.code_words.specs.declared.image.Image.{Image};
+ghost use Rattle.code_words.specs.Images.{Image};
 ghost use Rattle.code_words.specs.Table.{Frame, Touch, State, Runs, Touches, Away, Goes};
 ghost use Rattle.code_words.specs.Moves.{move};
 ghost use Rattle.code_words.specs.Paced.{is_paced};

@@ -2,6 +2,7 @@
 #![tactic(auto)]
 
 pub mod examples;
+mod fits;
 pub mod image;
 pub mod laws;
 pub mod lists;

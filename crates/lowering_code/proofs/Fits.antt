@@ -1,15 +1,17 @@
--- The images of programs that can be lowered may run under all settings that are allowed.
+-- The images of programs that can be lowered keep the format, and may run under all settings that are allowed.
 use Rattle.std.proofs.Common.{◌≡◌, ℕ, suc, ◌+◌, ◌<◌, ◌≤◌, List, [], ◌∷◌, length, map, Some, refl, ap, ◌∙◌, arith}
 use Rattle.std.specs.Prelude.{sum}
 use Rattle.std.specs.List.{AllByRecursion}
-use Rattle.std.proofs.lemmas.List.Elements.{recursion_from_All, All-from_recursion}
+use Rattle.std.proofs.lemmas.List.Elements.{recursion_from_All, All-from_recursion, All-nil}
 use Rattle.act_words.specs.declared.settings.Settings.{Settings}
 use Rattle.act_words.specs.Limits.{AreAllowed}
 use Rattle.flat_bytes.specs.Blocks.{first_offset, grown}
 use Rattle.ckc_core.specs.Core.{Core, Initial, Function, Import}
 use Rattle.ckc_core.specs.States.{object_block}
 use Rattle.code_words.specs.Runs.{counter_behind}
-use Rattle.code_words.specs.Fitting.{Fits, HasSmallFrame}
+use Rattle.code_words.specs.Fitting.{Fits}
+use Rattle.code_words.specs.Formats.{HasSmallFrame, IsCallable, Follow, KeepsFormat}
+use Rattle.code_words.specs.declared.image.Func.{Func}
 use Rattle.code_words.specs.declared.image.Import as code
 use Rattle.lowering_code.specs.Images.{object_bytes, function_code, functions_from, imports_from, image_of}
 use Rattle.lowering_code.specs.Correct.{counted_from, IsFunction, IsLowerable, IsCell, KeepsMeaning}
@@ -42,6 +44,29 @@ imported : (number : ℕ) (imports : List Import) → AllByRecursion (λ (i : Im
 imported number [] all = tt
 imported number (i ∷ imports) all = (all.0, imported (suc number) imports all.1)
 
+functions_follow : (number : ℕ) (functions : List Function) → Follow number (map (λ (f : Func). f.number) (functions_from number functions))
+functions_follow number [] = tt
+functions_follow number (f ∷ functions) = (refl, functions_follow (suc number) functions)
+
+imports_follow : (number : ℕ) (imports : List Import) → Follow number (map (λ (i : code.Import). i.number) (imports_from number imports))
+imports_follow number [] = tt
+imports_follow number (i ∷ imports) = (refl, imports_follow (suc number) imports)
+
+pub keeps_format : (program : Core) → IsLowerable program → KeepsFormat (image_of program)
+keeps_format program lowerable =
+    record {
+      functions = functions_follow 0 program.functions;
+      imports = imports_follow 0 program.imports;
+      callbacks = tt;
+      bodies = tt;
+      imported = All-nil _;
+      frames = All-from_recursion HasSmallFrame (functions_from 0 program.functions) (frames 0 program.functions (recursion_from_All IsFunction program.functions lowerable.functions));
+      sandbox_frames = All-nil HasSmallFrame;
+      few_arguments = All-from_recursion (λ (i : code.Import). i.args ≤ 16) (imports_from 0 program.imports) (imported 0 program.imports (recursion_from_All (λ (i : Import). i.parameters ≤ 16) program.imports lowerable.imports));
+      callable = All-nil IsCallable;
+      paced = rw (paced_functions 0 program.functions) refl;
+    }
+
 pub image_fits : (program : Core) → IsLowerable program → (settings : Settings) → AreAllowed settings → Fits (image_of program) settings
 image_fits program lowerable settings allowed =
     let objects = recursion_from_All IsObject program.objects lowerable.cells in
@@ -51,20 +76,12 @@ image_fits program lowerable settings allowed =
       allowed = allowed;
       trusted = record {
         not_empty = All-from_recursion (λ (block : List ℕ). 0 < length block) blocks (not_empty program.objects objects);
-        blocks = omega (arith, counted first_offset program.objects objects, lowerable.objects, allowed.least_trusted);
-        frames = All-from_recursion HasSmallFrame (functions_from 0 program.functions) (frames 0 program.functions (recursion_from_All IsFunction program.functions lowerable.functions));
+        low = omega (arith, counted first_offset program.objects objects, lowerable.objects, allowed.least_trusted);
       };
-      sandbox = record {
-        not_empty = All-from_recursion (λ (block : List ℕ). 0 < length block) [] tt;
-        blocks = omega (arith, allowed.least_sandbox);
-        frames = All-from_recursion HasSmallFrame [] tt;
-      };
-      imports = All-from_recursion (λ (i : code.Import). i.args ≤ 16) (imports_from 0 program.imports) (imported 0 program.imports (recursion_from_All (λ (i : Import). i.parameters ≤ 16) program.imports lowerable.imports));
-      callbacks = All-from_recursion (λ c. length c.signature ≤ 16) [] tt;
+      sandbox = record { not_empty = All-nil (λ (block : List ℕ). 0 < length block); low = omega (arith, allowed.least_sandbox) };
       main = (program.main, function_code program.main main.0, record { named = refl; there = (let e : 0 + program.main ≡ program.main = omega arith in function_there 0 program.main program.functions main.0 main.1 ∙ ap (λ m. Some (function_code m main.0)) e); no_argument = main.2 });
-      paced = rw (paced_functions 0 program.functions) refl;
     }
 
--- the image of a program that can be lowered fits, and ends wherever the program does
+-- the image of a program that can be lowered keeps the format, fits, and ends wherever the program does
 pub image_keeps : (program : Core) → IsLowerable program → KeepsMeaning program (image_of program)
-image_keeps program lowerable = record { fits = image_fits program lowerable; ends = keeps_meaning program lowerable }
+image_keeps program lowerable = record { format = keeps_format program lowerable; fits = image_fits program lowerable; ends = keeps_meaning program lowerable }

@@ -19,6 +19,7 @@ use Rattle.code_words.specs.Table.{State}
 use Rattle.code_words.specs.Runs.{CodeRun}
 use Rattle.code_words.specs.Dumps.{blocks_held}
 use Rattle.code_words.specs.Fitting.{Fits}
+use Rattle.code_words.specs.Formats.{KeepsFormat}
 use Rattle.code_words.specs.declared.image.Image.{Image}
 use Rattle.lowering_code.specs.Images.{word_bytes_if, padded}
 use Rattle.ckc_core.specs.Stacks.{body_stack}
@@ -110,6 +111,7 @@ pub record IsLowerable (program : Core) : Type 0 where
 
 -- wherever the program's run over inputs and acts ends, so does the image's, at every base address
 pub record KeepsMeaning (program : Core) (image : Image) : Type 0 where
+  pub format : KeepsFormat image
   pub fits : (settings : Settings) → AreAllowed settings → Fits image settings
   pub ends : (settings : Settings) (inputs : List ℤ) (acts : List Act) (ending : Ending) (s : meaning_states.State) → AreAllowed settings → All (λ z. IsTrue (is_word_number z)) inputs → All IsAct acts
       → meaning program settings inputs acts ≡ Ends ending s → (t : State) × CodeRun image settings inputs acts ending t × SameEnd settings.base s t

@@ -6,11 +6,8 @@ use Rattle.std.proofs.Common.{drop-cons}
 use Rattle.flat_bytes.specs.Blocks.{grown, is_refused, blocks_from}
 use Rattle.code_words.specs.Runs.{counter_behind}
 use Rattle.code_words.specs.Table.{offset_from, at_base}
+use Rattle.code_words.proofs.Fitting.{counter_grows}
 use Rattle.two_memory_machine_memory.specs.Places.{offsets_from}
-
-pub counter_grows : (counter : ℕ) (blocks : List (List ℕ)) → counter ≤ counter_behind counter blocks
-counter_grows counter [] = omega arith
-counter_grows counter (block ∷ blocks) = omega (arith, counter_grows (grown counter (length block)) blocks)
 
 -- the list of places has the place of each block
 pub places_listed : (blocks : List (List ℕ)) (base offset place k : ℕ) → base + offset ≡ place → slice_get (offsets_from place blocks) k ≡ at_base base (offset_from offset blocks k)

@@ -2,7 +2,7 @@
 
 ghost use Rattle.std.specs.Prelude.{◌≡◌, ◌+◌, ◌-◌, ◌^◌, ◌<◌, ◌≤◌, ◌++◌, ◌∷◌, List, length, take, drop, replicate, nat_lt, if◌then◌else◌, IfOk, IfSome, Some, [], slice_get, slice_set, All};
 ghost use Rattle.std.specs.Option.{option_copied};
-ghost use Rattle.code_words.specs.Fitting.{HasSmallFrame};
+ghost use Rattle.code_words.specs.Formats.{HasSmallFrame};
 ghost use Rattle.code_words.specs.declared.image.Func.{Func as FuncData};
 ghost use Rattle.two_memory_machine_memory.specs.CallInsides.{window};
 ghost use Rattle.two_memory_machine_memory.specs.CallStacks.{Behind, CallStack, framed, with_stack, pushed_if, slot_set_if, at_next, link_of, entered, IsFirstCall};

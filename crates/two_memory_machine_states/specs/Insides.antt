@@ -1,6 +1,7 @@
 -- What callers see of a machine's fields, and what is always true of them.
 use Rattle.std.specs.Prelude.{◌≡◌, ℕ, ◌+◌, ◌*◌, ◌^◌, ◌<◌, ◌≤◌, ◌⊎◌, length, take, map, Option, Some, None, slice_get, All}
 use Rattle.code_words.specs.Fitting.{Fits}
+use Rattle.code_words.specs.Formats.{KeepsFormat}
 use Rattle.code_words.specs.Table.{Touch, Loads, Stores, Passes, Replies, address_of, offset_of}
 use Rattle.code_words.specs.declared.op.Op.TheVariants.{NextInput}
 use Rattle.two_memory_machine_memory.specs.declared.calls.Link.{Link}
@@ -80,6 +81,7 @@ IsPhaseOf (phases.Suspended import place) c size depth = depth < 1000
 
 -- the fields agree with the image and with one another
 pub record IsConsistent (m : Inside) : Type 0 where
+  pub format : KeepsFormat m.image.now
   pub fits : Fits m.image.now m.settings
   -- where the static blocks of both memories stand
   pub addresses : (k : ℕ) → slice_get m.addresses.items k ≡ address_of m.image.now m.settings.base k

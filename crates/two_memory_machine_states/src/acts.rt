@@ -209,7 +209,7 @@ impl<'a> RunningImage<'a> {
         let Phase::Suspended { import, place } = self.phase else {
             return Event::Ran;
         };
-        let tainted = self.image.layout.imports.as_slice().get(import as usize);
+        let tainted = self.image.imports().get(import as usize);
         self.phase = Phase::Running;
         match tainted {
             Some(tainted) => self.take_reply(tainted.result, place, value),

@@ -21,7 +21,7 @@ impl<'a> RunningImage<'a> {
         requires suspended { IsSuspended self.old.doing }
         ensures { MovesBy (λ s. call_back self.old.image self.old.settings k (slice_get self.old.image.layout.callbacks k) words.now s) self.old result self.new }
     {
-        let Some(callback) = self.image.layout.callbacks.as_slice().get(k as usize) else {
+        let Some(callback) = self.image.callbacks().get(k as usize) else {
             return self.stop_by_act(Code::S5);
         };
         let signature = callback.signature.as_slice();
@@ -60,13 +60,7 @@ impl<'a> RunningImage<'a> {
         let Phase::Suspended { import, place } = self.phase else {
             return Event::Ran;
         };
-        let Some(fun) = self
-            .image
-            .trusted
-            .funs
-            .as_slice()
-            .get(callback.fun as usize)
-        else {
+        let Some(fun) = self.image.functions().get(callback.fun as usize) else {
             return self.end_move(WILD);
         };
         if fun.args as usize != words.len() {

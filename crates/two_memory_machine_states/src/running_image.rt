@@ -110,9 +110,9 @@ impl<'a> RunningImage<'a> {
         requires { Fits image.now settings.now }
         ensures { IfOk result (λ m. IsStart image.now settings.now m) }
     {
-        let blocks = image.trusted.blocks.as_slice();
-        let statics = image.sandbox.blocks.as_slice();
-        let function = image.layout.main.unwrap();
+        let blocks = image.trusted_blocks();
+        let statics = image.sandbox_blocks();
+        let function = image.main().unwrap();
         let bytes = memory::memory_with(alloc, settings.trusted, blocks)?;
         let counter = memory::counter_of(blocks);
         Ok(RunningImage {
@@ -123,7 +123,7 @@ impl<'a> RunningImage<'a> {
             made: blocks.len(),
             addresses: memory::offsets_with(alloc, settings.base + memory::FIRST_OFFSET, blocks)?,
             offsets: memory::offsets_with(alloc, memory::FIRST_OFFSET, statics)?,
-            calls: CallWords::start(alloc, image.trusted.funs.as_slice(), function)?,
+            calls: CallWords::start(alloc, image.functions(), function)?,
             phase: Phase::Running,
             depth: 1,
             sandbox: memory::memory_with(alloc, settings.sandbox, statics)?,

@@ -21,7 +21,7 @@ impl<'a> RunningImage<'a> {
         requires { IsReady self.old }
         ensures { Acts (Op.Call k) self.old result self.new }
     {
-        let Some(fun) = self.image.trusted.funs.as_slice().get(k as usize) else {
+        let Some(fun) = self.image.functions().get(k as usize) else {
             return self.end_wild();
         };
         let args = fun.args as usize;
@@ -47,7 +47,7 @@ impl<'a> RunningImage<'a> {
         requires { IsReady self.old }
         ensures { Acts (Op.TaintedCall import place) self.old result self.new }
     {
-        let Some(tainted) = self.image.layout.imports.as_slice().get(import as usize) else {
+        let Some(tainted) = self.image.imports().get(import as usize) else {
             return self.end_wild();
         };
         let args = tainted.args as usize;
@@ -129,12 +129,7 @@ impl<'a> RunningImage<'a> {
     fn reply_word(&self, callback: u32, value: Option<u32>) -> Option<u32>
         ensures { result ≡ reply_of (slice_get self.now.image.layout.callbacks callback) value }
     {
-        let callback = self
-            .image
-            .layout
-            .callbacks
-            .as_slice()
-            .get(callback as usize)?;
+        let callback = self.image.callbacks().get(callback as usize)?;
         match callback.result {
             WordKind::Void => Some(0),
             WordKind::Int | WordKind::Char | WordKind::Pointer => value,

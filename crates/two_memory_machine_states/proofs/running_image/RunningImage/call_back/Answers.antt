@@ -13,7 +13,7 @@ use Rattle.two_memory_machine_states.proofs.running_image.RunningImage.call_back
 use Rattle.two_memory_machine_states.proofs.running_image.RunningImage.call_back.Goals.{After-fault_of, In-Some}
 
 there : (c : After-fault_of) → slice_get c.self.inside.image.now.layout.callbacks c.args.k ≡ Some c.in-Some.callback.now
-there c = rw c.as_slice.ensures at (sym (item_found c.as_slice.result.now c.args.k (Some c.in-Some.callback) c.in-Some.ensures.lookup))
+there c = rw c.callbacks.ensures at (sym (item_found c.callbacks.result.now c.args.k (Some c.in-Some.callback) c.in-Some.ensures.lookup))
 
 count : (c : After-fault_of) → (length c.in-Some.callback.now.signature == length c.args.words.now) ≡ true
 count c = let signature = ap length c.as_slice-signature.ensures in grind (arith, nat_tests, signature, c.if-signature-words.false)
@@ -57,12 +57,12 @@ returns-in-None c = λ acts inputs events.
 pub returns-in_default : goal.returns-in_default
 returns-in_default c = rw (← c.self.view_is)
     (λ acts inputs events.
-    let none : slice_get c.self.inside.image.now.layout.callbacks c.args.k ≡ None = rw c.as_slice.ensures at (sym (item_found c.as_slice.result.now c.args.k None c.in_default.ensures.lookup)) in
+    let none : slice_get c.self.inside.image.now.layout.callbacks c.args.k ≡ None = rw c.callbacks.ensures at (sym (item_found c.callbacks.result.now c.args.k None c.in_default.ensures.lookup)) in
     rw none ((rw (← c.self.view_is) at c.stop_by_act.ensures.line) acts inputs events))
 
 -- the callback is there
 named : (c : In-Some) → slice_get c.self.inside.image.now.layout.callbacks c.args.k ≡ Some c.in-Some.callback.now
-named c = rw c.as_slice.ensures at (sym (item_found c.as_slice.result.now c.args.k (Some c.in-Some.callback) c.in-Some.ensures.lookup))
+named c = rw c.callbacks.ensures at (sym (item_found c.callbacks.result.now c.args.k (Some c.in-Some.callback) c.in-Some.ensures.lookup))
 
 pub returns-then-signature-words : goal.returns-then-signature-words
 returns-then-signature-words c = rw (← c.self.view_is)

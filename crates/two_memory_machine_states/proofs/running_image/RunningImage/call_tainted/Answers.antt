@@ -13,20 +13,20 @@ use Rattle.two_memory_machine_states.proofs.running_image.RunningImage.call_tain
 pub returns-in_default : goal.returns-in_default
 returns-in_default c = rw (← c.self.view_is)
     (λ f here acts inputs events.
-    let none : slice_get c.self.inside.image.now.layout.imports c.args.import ≡ None = rw c.as_slice.ensures at (sym (item_found c.as_slice.result.now c.args.import None c.in_default.ensures.lookup)) in
+    let none : slice_get c.self.inside.image.now.layout.imports c.args.import ≡ None = rw c.imports.ensures at (sym (item_found c.imports.result.now c.args.import None c.in_default.ensures.lookup)) in
     rw none ((rw (← c.self.view_is) at c.end_wild.ensures.line) acts inputs events))
 
 pub returns-in_default-top_words : goal.returns-in_default-top_words
 returns-in_default-top_words c = rw (← c.self.view_is)
     (λ f here acts inputs events.
     let i = c.self.inside in
-    let there : slice_get i.image.now.layout.imports c.args.import ≡ Some c.in-Some.tainted.now = rw c.as_slice.ensures at (sym (item_found c.as_slice.result.now c.args.import (Some c.in-Some.tainted) c.in-Some.ensures.lookup)) in
+    let there : slice_get i.image.now.layout.imports c.args.import ≡ Some c.in-Some.tainted.now = rw c.imports.ensures at (sym (item_found c.imports.result.now c.args.import (Some c.in-Some.tainted) c.in-Some.ensures.lookup)) in
     let few : nat_le c.in-Some.tainted.now.args (length i.calls.frame.stack) ≡ false = none_on_top c.in-Some.tainted.now.args i.calls.frame.stack (rw (← c.self.view_is) at c.in_default-top_words.ensures) in
     rw (there, few) ((rw (← c.self.view_is) at c.end_wild-in_default-top_words.ensures.line) acts inputs events))
 
 -- the function is there
 there : (c : In-Some-top_words) → slice_get c.self.inside.image.now.layout.imports c.args.import ≡ Some c.in-Some.tainted.now
-there c = rw c.as_slice.ensures at (sym (item_found c.as_slice.result.now c.args.import (Some c.in-Some.tainted) c.in-Some.ensures.lookup))
+there c = rw c.imports.ensures at (sym (item_found c.imports.result.now c.args.import (Some c.in-Some.tainted) c.in-Some.ensures.lookup))
 
 top : (c : In-Some-top_words) → AreTop c.in-Some.tainted.now.args c.self.inside.calls.frame.stack c.in-Some-top_words.words
 top c = are_top c.in-Some.tainted.now.args c.self.inside.calls.frame.stack c.in-Some-top_words.words (rw (← c.self.view_is) at c.in-Some-top_words.ensures)

@@ -6,4 +6,4 @@ pub returns-clause-counts : goal.returns-clause-counts
 returns-clause-counts c = rw (← c.self.view_is) (ap (λ n. record (machine c.self.inside) { taken = n }) c.saturating_add-self-inside.ensures)
 
 pub returns-clause-paced : goal.returns-clause-paced
-returns-clause-paced c = rw (← c.self.view_is) c.self.invariant.fits.paced
+returns-clause-paced c = rw (← c.self.view_is) c.self.invariant.format.paced

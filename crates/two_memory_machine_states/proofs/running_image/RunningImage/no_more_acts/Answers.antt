@@ -33,10 +33,10 @@ returns-in-Suspended-clause-over c = act_over [] _ _ _ c.args.self.now c.end_mov
 
 pub returns-in-Touching-clause-sooner : goal.returns-in-Touching-clause-sooner
 returns-in-Touching-clause-sooner c =
-    let paced : IsTrue (is_paced c.args.self.now.image) = rw (← c.self.view_is) c.self.invariant.fits.paced in
+    let paced : IsTrue (is_paced c.args.self.now.image) = rw (← c.self.view_is) c.self.invariant.format.paced in
     end_sooner c.args.self.now c.make_touch.new.self c.make_touch.result paced c.requires (touched c)
 
 pub returns-in-Suspended-clause-sooner : goal.returns-in-Suspended-clause-sooner
 returns-in-Suspended-clause-sooner c =
-    let paced : IsTrue (is_paced c.args.self.now.image) = rw (← c.self.view_is) c.self.invariant.fits.paced in
+    let paced : IsTrue (is_paced c.args.self.now.image) = rw (← c.self.view_is) c.self.invariant.format.paced in
     end_sooner c.args.self.now c.end_move.new.self c.end_move.result paced c.requires (ended c)

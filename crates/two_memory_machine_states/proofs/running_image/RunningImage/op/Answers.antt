@@ -32,4 +32,4 @@ pub returns-clause-given : goal.returns-clause-given
 returns-clause-given c = rw (← c.self.view_is) (given_to c.self.inside c.self.invariant)
 
 pub returns-clause-paced : goal.returns-clause-paced
-returns-clause-paced c = rw (← c.self.view_is) c.self.invariant.fits.paced
+returns-clause-paced c = rw (← c.self.view_is) c.self.invariant.format.paced

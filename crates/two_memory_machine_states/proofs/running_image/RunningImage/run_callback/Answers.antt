@@ -2,7 +2,7 @@ use Rattle.std.proofs.Common.{◌≡◌, Some, None, true, false, length, refl, 
 use Rattle.std.specs.Prelude.{slice_get, ◌==◌}
 use Rattle.std.proofs.lemmas.Bool.Decides.{nat_tests}
 use Rattle.code_words.specs.declared.image.Func.{Func}
-use Rattle.code_words.specs.Fitting.{HasSmallFrame}
+use Rattle.code_words.specs.Formats.{HasSmallFrame}
 use Rattle.two_memory_machine_memory.specs.CallStacks.{CallStack, callers_of}
 use Rattle.two_memory_machine_states.specs.Machines.{Machine}
 use Rattle.two_memory_machine_states.proofs.Callers.{item_found, one_found, all_found, length-callers}
@@ -11,7 +11,7 @@ use Rattle.two_memory_machine_states.proofs.running_image.RunningImage.run_callb
 
 -- the function is there
 there : (c : Else-fun-words) → slice_get c.self.inside.image.now.trusted.funs c.args.callback.now.fun ≡ Some c.in-Some.fun.now
-there c = rw c.as_slice.ensures at (sym (item_found c.as_slice.result.now c.args.callback.now.fun (Some c.in-Some.fun) c.in-Some.ensures.lookup))
+there c = rw c.functions.ensures.functions at (sym (item_found c.functions.result.now c.args.callback.now.fun (Some c.in-Some.fun) c.in-Some.ensures.lookup))
 
 found : (c : Else-fun-words) → slice_get c.self.inside.calls.funs c.args.callback.now.fun ≡ Some c.in-Some.fun.now
 found c = ap (λ funs. slice_get funs c.args.callback.now.fun) c.self.invariant.funs ∙ there c
@@ -26,7 +26,7 @@ enter-requires-clause-fits c = λ f e.
     let b = (goal.at.enter-requires-clause-fits c).Else-fun-words in
     let same : c.in-Some.fun.now ≡ f = one_found c.self.inside.calls.funs c.args.callback.now.fun c.in-Some.fun.now f (found b) e in
     let here : slice_get c.self.inside.image.now.trusted.funs c.args.callback.now.fun ≡ Some f = there b ∙ ap Some same in
-    let frame = all_found HasSmallFrame c.self.inside.image.now.trusted.funs c.args.callback.now.fun f c.self.invariant.fits.trusted.frames here in
+    let frame = all_found HasSmallFrame c.self.inside.image.now.trusted.funs c.args.callback.now.fun f c.self.invariant.format.frames here in
     omega (arith, frame.held, ap (λ (g : Func). g.args) same, c.if-fun-words.false)
 
 pub invariant_of-self : goal.invariant_of-self
@@ -37,6 +37,7 @@ invariant_of-self c =
     let e = c.enter.ensures c.in-Some.fun.now (found b) in
     let few = rw (← c.self.view_is) at c.requires.few in
     record {
+      format = h.format;
       fits = h.fits;
       addresses = h.addresses;
       offsets = h.offsets;
@@ -69,12 +70,12 @@ returns c = λ acts inputs events.
 pub returns-in_default-get : goal.returns-in_default-get
 returns-in_default-get c = rw (← c.self.view_is)
     (λ acts inputs events.
-    let none : slice_get c.self.inside.image.now.trusted.funs c.args.callback.now.fun ≡ None = rw c.as_slice.ensures at (sym (item_found c.as_slice.result.now c.args.callback.now.fun None c.in_default-get.ensures.lookup)) in
+    let none : slice_get c.self.inside.image.now.trusted.funs c.args.callback.now.fun ≡ None = rw c.functions.ensures.functions at (sym (item_found c.functions.result.now c.args.callback.now.fun None c.in_default-get.ensures.lookup)) in
     rw none ((rw (← c.self.view_is) at c.end_move.ensures.line) acts inputs events))
 
 pub returns-then-fun-words : goal.returns-then-fun-words
 returns-then-fun-words c = rw (← c.self.view_is)
     (λ acts inputs events.
-    let named : slice_get c.self.inside.image.now.trusted.funs c.args.callback.now.fun ≡ Some c.in-Some.fun.now = rw c.as_slice.ensures at (sym (item_found c.as_slice.result.now c.args.callback.now.fun (Some c.in-Some.fun) c.in-Some.ensures.lookup)) in
+    let named : slice_get c.self.inside.image.now.trusted.funs c.args.callback.now.fun ≡ Some c.in-Some.fun.now = rw c.functions.ensures.functions at (sym (item_found c.functions.result.now c.args.callback.now.fun (Some c.in-Some.fun) c.in-Some.ensures.lookup)) in
     let other : (c.in-Some.fun.now.args == length c.args.words.now) ≡ false = grind (arith, nat_tests, c.if-fun-words.true) in
     rw (named, other) ((rw (← c.self.view_is) at c.end_move-then-fun-words.ensures.line) acts inputs events))

@@ -22,62 +22,63 @@ main_there image settings fits function named =
     ap (slice_get image.trusted.funs) (sym same) ∙ m.there
 
 pub memory_with-requires : goal.memory_with-requires
-memory_with-requires c = rw c.as_slice-blocks.ensures c.requires.trusted.blocks
+memory_with-requires c = rw c.trusted_blocks-blocks.ensures c.requires.trusted.low
 
 pub counter_of-counter-requires : goal.counter_of-counter-requires
-counter_of-counter-requires c = rw c.as_slice-blocks.ensures (omega (arith, c.requires.trusted.blocks, c.requires.allowed.most_trusted))
+counter_of-counter-requires c = rw c.trusted_blocks-blocks.ensures (omega (arith, c.requires.trusted.low, c.requires.allowed.most_trusted))
 
 pub rows_with-requires-clause-fits : goal.rows_with-requires-clause-fits
-rows_with-requires-clause-fits c = rw c.as_slice-blocks.ensures c.requires.trusted.blocks
+rows_with-requires-clause-fits c = rw c.trusted_blocks-blocks.ensures c.requires.trusted.low
 
 pub rows_with-requires-clause-not_empty : goal.rows_with-requires-clause-not_empty
-rows_with-requires-clause-not_empty c = rw c.as_slice-blocks.ensures c.requires.trusted.not_empty
+rows_with-requires-clause-not_empty c = rw c.trusted_blocks-blocks.ensures c.requires.trusted.not_empty
 
 pub offsets_with-requires-2 : goal.offsets_with-requires-2
-offsets_with-requires-2 c = rw c.as_slice-statics.ensures (omega (arith, c.requires.sandbox.blocks, c.requires.allowed.most_sandbox))
+offsets_with-requires-2 c = rw c.sandbox_blocks-statics.ensures (omega (arith, c.requires.sandbox.low, c.requires.allowed.most_sandbox))
 
 pub start-requires-clause-frames : goal.start-requires-clause-frames
-start-requires-clause-frames c = rw c.as_slice.ensures c.requires.trusted.frames
+start-requires-clause-frames c = rw c.functions.ensures.functions c.functions.ensures.format.frames
 
 pub memory_with-requires-2 : goal.memory_with-requires-2
-memory_with-requires-2 c = rw c.as_slice-statics.ensures c.requires.sandbox.blocks
+memory_with-requires-2 c = rw c.sandbox_blocks-statics.ensures c.requires.sandbox.low
 
 pub counter_of-requires : goal.counter_of-requires
-counter_of-requires c = rw c.as_slice-statics.ensures (omega (arith, c.requires.sandbox.blocks, c.requires.allowed.most_sandbox))
+counter_of-requires c = rw c.sandbox_blocks-statics.ensures (omega (arith, c.requires.sandbox.low, c.requires.allowed.most_sandbox))
 
 pub offsets_with-requires : goal.offsets_with-requires
 offsets_with-requires c =
-    rw c.as_slice-blocks.ensures (omega (arith, counter_at_base c.args.settings.now.base 16 c.args.image.now.trusted.blocks, c.requires.trusted.blocks, c.requires.allowed.most_base, c.requires.allowed.most_trusted))
+    rw c.trusted_blocks-blocks.ensures (omega (arith, counter_at_base c.args.settings.now.base 16 c.args.image.now.trusted.blocks, c.requires.trusted.low, c.requires.allowed.most_base, c.requires.allowed.most_trusted))
 
 pub start-requires-clause-there : goal.start-requires-clause-there
 start-requires-clause-there c =
-    let there = main_there c.args.image.now c.args.settings.now c.requires c.unwrap-function.result c.unwrap-function.ensures in
-    rw c.as_slice.ensures (slice_get_within c.args.image.now.trusted.funs c.unwrap-function.result c.requires.main.1 there)
+    let there = main_there c.args.image.now c.args.settings.now c.requires c.unwrap-function.result (sym c.main.ensures ∙ c.unwrap-function.ensures) in
+    rw c.functions.ensures.functions (slice_get_within c.args.image.now.trusted.funs c.unwrap-function.result c.requires.main.1 there)
 
 -- the call of `main`
 first : (c : After-counter_of) → c.in_ok-start.field-0 ≡ record { funs = c.args.image.now.trusted.funs; fun = c.requires.main.1; frame = frame_for c.unwrap-function.result c.requires.main.1 []; behind = [] }
 first c =
-    let there = main_there c.args.image.now c.args.settings.now c.requires c.unwrap-function.result c.unwrap-function.ensures in
-    let found : slice_get c.as_slice.result.now c.unwrap-function.result ≡ Some c.requires.main.1 = ap (λ funs. slice_get funs c.unwrap-function.result) c.as_slice.ensures ∙ there in
-    c.in_ok-start.ensures c.requires.main.1 found ∙ rw c.as_slice.ensures refl
+    let there = main_there c.args.image.now c.args.settings.now c.requires c.unwrap-function.result (sym c.main.ensures ∙ c.unwrap-function.ensures) in
+    let found : slice_get c.functions.result.now c.unwrap-function.result ≡ Some c.requires.main.1 = ap (λ funs. slice_get funs c.unwrap-function.result) c.functions.ensures.functions ∙ there in
+    c.in_ok-start.ensures c.requires.main.1 found ∙ rw c.functions.ensures.functions refl
 
 pub invariant_of-result : goal.invariant_of-result
 invariant_of-result c =
     let image = c.args.image.now in
     let settings = c.args.settings.now in
-    let there = main_there image settings c.requires c.unwrap-function.result c.unwrap-function.ensures in
-    let counter : c.from_bytes.result.counter ≡ counter_behind 16 image.trusted.blocks = ap (λ (m : Memory). m.counter) c.from_bytes.ensures ∙ c.counter_of-counter.ensures ∙ ap (counter_behind 16) c.as_slice-blocks.ensures in
-    let room : c.counter_of.result ≡ counter_behind 16 image.sandbox.blocks = c.counter_of.ensures ∙ ap (counter_behind 16) c.as_slice-statics.ensures in
+    let there = main_there image settings c.requires c.unwrap-function.result (sym c.main.ensures ∙ c.unwrap-function.ensures) in
+    let counter : c.from_bytes.result.counter ≡ counter_behind 16 image.trusted.blocks = ap (λ (m : Memory). m.counter) c.from_bytes.ensures ∙ c.counter_of-counter.ensures ∙ ap (counter_behind 16) c.trusted_blocks-blocks.ensures in
+    let room : c.counter_of.result ≡ counter_behind 16 image.sandbox.blocks = c.counter_of.ensures ∙ ap (counter_behind 16) c.sandbox_blocks-statics.ensures in
     let places = c.in_ok-offsets_with.ensures in
     let offsets = c.in_ok-offsets_with-2.ensures in
     record {
+      format = c.functions.ensures.format;
       fits = c.requires;
-      addresses = λ k. ap (λ xs. slice_get xs k) places ∙ rw c.as_slice-blocks.ensures (places_listed image.trusted.blocks settings.base 16 (settings.base + 16) k refl);
-      offsets = λ k. ap (λ xs. slice_get xs k) offsets ∙ rw c.as_slice-statics.ensures (offsets_listed image.sandbox.blocks 16 k);
+      addresses = λ k. ap (λ xs. slice_get xs k) places ∙ rw c.trusted_blocks-blocks.ensures (places_listed image.trusted.blocks settings.base 16 (settings.base + 16) k refl);
+      offsets = λ k. ap (λ xs. slice_get xs k) offsets ∙ rw c.sandbox_blocks-statics.ensures (offsets_listed image.sandbox.blocks 16 k);
       base = ap (λ (m : Memory). m.base) c.from_bytes.ensures;
       bytes = ap (λ (m : Memory). length m.bytes) c.from_bytes.ensures ∙ omega (arith, c.in_ok-bytes.ensures.len, c.in_ok-bytes.bytes.ok.0);
-      counter = omega (arith, counter, c.requires.trusted.blocks);
-      made = omega (arith, counter, counter_room 16 image.trusted.blocks c.requires.trusted.not_empty, ap length c.as_slice-blocks.ensures);
+      counter = omega (arith, counter, c.requires.trusted.low);
+      made = omega (arith, counter, counter_room 16 image.trusted.blocks c.requires.trusted.not_empty, ap length c.trusted_blocks-blocks.ensures);
       blocks = c.in_ok-rows_with.ensures.len;
       rows = c.in_ok-rows_with.ensures.low;
       funs = ap (λ (s : CallStack). s.funs) (first c);
@@ -86,7 +87,7 @@ invariant_of-result c =
       few = omega arith;
       phase = _;
       sandbox = omega (arith, c.in_ok-memory_with.ensures.len, c.in_ok-memory_with.field-0.ok.0);
-      room = omega (arith, room, c.requires.sandbox.blocks);
+      room = omega (arith, room, c.requires.sandbox.low);
       ticks = omega arith;
     }
 
@@ -95,14 +96,14 @@ returns c =
     let b = (goal.at.returns c).After-counter_of in
     let image = c.args.image.now in
     let settings = c.args.settings.now in
-    let there = main_there image settings c.requires c.unwrap-function.result c.unwrap-function.ensures in
-    let named : image.layout.main ≡ Some c.unwrap-function.result = c.unwrap-function.ensures in
-    let bytes : c.in_ok-bytes.bytes.items ≡ memory_of settings.trusted image.trusted.blocks = c.in_ok-bytes.ensures.bytes ∙ ap (memory_of settings.trusted) c.as_slice-blocks.ensures in
-    let counter : c.counter_of-counter.result ≡ counter_behind 16 image.trusted.blocks = c.counter_of-counter.ensures ∙ ap (counter_behind 16) c.as_slice-blocks.ensures in
-    let rows : map block_row (take (length c.as_slice-blocks.result.now) c.in_ok-rows_with.field-0.items) ≡ blocks_of settings.trusted (map length image.trusted.blocks) =
-    c.in_ok-rows_with.ensures.rows ∙ ap (λ bs. blocks_of settings.trusted (map length bs)) c.as_slice-blocks.ensures in
-    let sandbox : c.in_ok-memory_with.field-0.items ≡ memory_of settings.sandbox image.sandbox.blocks = c.in_ok-memory_with.ensures.bytes ∙ ap (memory_of settings.sandbox) c.as_slice-statics.ensures in
-    let room : c.counter_of.result ≡ counter_behind 16 image.sandbox.blocks = c.counter_of.ensures ∙ ap (counter_behind 16) c.as_slice-statics.ensures in
+    let there = main_there image settings c.requires c.unwrap-function.result (sym c.main.ensures ∙ c.unwrap-function.ensures) in
+    let named : image.layout.main ≡ Some c.unwrap-function.result = sym c.main.ensures ∙ c.unwrap-function.ensures in
+    let bytes : c.in_ok-bytes.bytes.items ≡ memory_of settings.trusted image.trusted.blocks = c.in_ok-bytes.ensures.bytes ∙ ap (memory_of settings.trusted) c.trusted_blocks-blocks.ensures in
+    let counter : c.counter_of-counter.result ≡ counter_behind 16 image.trusted.blocks = c.counter_of-counter.ensures ∙ ap (counter_behind 16) c.trusted_blocks-blocks.ensures in
+    let rows : map block_row (take (length c.trusted_blocks-blocks.result.now) c.in_ok-rows_with.field-0.items) ≡ blocks_of settings.trusted (map length image.trusted.blocks) =
+    c.in_ok-rows_with.ensures.rows ∙ ap (λ bs. blocks_of settings.trusted (map length bs)) c.trusted_blocks-blocks.ensures in
+    let sandbox : c.in_ok-memory_with.field-0.items ≡ memory_of settings.sandbox image.sandbox.blocks = c.in_ok-memory_with.ensures.bytes ∙ ap (memory_of settings.sandbox) c.sandbox_blocks-statics.ensures in
+    let room : c.counter_of.result ≡ counter_behind 16 image.sandbox.blocks = c.counter_of.ensures ∙ ap (counter_behind 16) c.sandbox_blocks-statics.ensures in
     record {
       image_is = refl;
       settings_are = refl;
