@@ -1,5 +1,5 @@
 -- Worked examples of normal bounds and of terms.
-use Rattle.std.specs.Prelude.{◌≡◌, ◌^◌, pos, true, None, Some}
+use Rattle.std.specs.Prelude.{◌+◌, ◌^◌, ◌≡◌, pos, negsuc, true, None, Some}
 use Rattle.bounds_exprs.specs.Terms.{substituted}
 use Rattle.bounds_exprs.specs.Sums.{Number, Variable, Pointer, Size, Plus, Minus, Times}
 use Rattle.bounds_exprs.specs.Normal.{Count, ByteCount, Pair, bounds_of, constant}
@@ -34,3 +34,16 @@ PartsAreLimited = let large = Times (Number (pos (2 ^ 21))) (Number (pos (2 ^ 20
 abbrev pub PastTheLimitIsNone : Type 0
 PastTheLimitIsNone = (substituted (record { var = Some 7; plus = pos (2 ^ 40) }) 7 (record { var = None; plus = pos 1 }) ≡ None)
     × (substituted (record { var = Some 7; plus = pos (2 ^ 40) }) 8 (record { var = None; plus = pos 1 }) ≡ Some (record { var = Some 7; plus = pos (2 ^ 40) }))
+
+-- a constant may come to 2^40, and to -2^40, where it stood one short of it; one less than -2^40 is past the limit
+abbrev pub LimitsAreReached : Type 0
+LimitsAreReached = (substituted (record { var = Some 7; plus = pos 1099511627775 }) 7 (record { var = None; plus = pos 1 }) ≡ Some (record { var = None; plus = pos (2 ^ 40) }))
+    × (substituted (record { var = Some 7; plus = negsuc 1099511627774 }) 7 (record { var = None; plus = negsuc 0 }) ≡ Some (record { var = None; plus = negsuc 1099511627775 }))
+    × (substituted (record { var = Some 7; plus = negsuc 1099511627775 }) 7 (record { var = None; plus = negsuc 0 }) ≡ None)
+
+-- an end may stand 2^31 behind the pointer or before it, and no further
+abbrev pub EndsAreLimited : Type 0
+EndsAreLimited = (bounds_of (Count (Number (pos (2 ^ 31)))) 4 ≡ Some (record { base = None; lo = constant (pos 0); hi = constant (pos (2 ^ 31)) }))
+    × (bounds_of (Count (Number (pos (2 ^ 31 + 1)))) 4 ≡ None)
+    × (bounds_of (Pair (Minus (Pointer (Some 3)) (Number (pos (2 ^ 31)))) (Pointer (Some 3))) 4 ≡ Some (record { base = Some 3; lo = constant (negsuc 2147483647); hi = constant (pos 0) }))
+    × (bounds_of (Pair (Minus (Pointer (Some 3)) (Number (pos (2 ^ 31 + 1)))) (Pointer (Some 3))) 4 ≡ None)

@@ -1,6 +1,6 @@
 // The definitions on worked examples: each function proves what its contract says, and does nothing.
 
-ghost use Rattle.bounds_exprs.specs.Examples.{TenBytesAreTwo, TwoAreCounted, SizesCountElements, TwiceAVariableIsNone, EndsGoByTheTree, PartsAreLimited, PastTheLimitIsNone};
+ghost use Rattle.bounds_exprs.specs.Examples.{TenBytesAreTwo, TwoAreCounted, SizesCountElements, TwiceAVariableIsNone, EndsGoByTheTree, PartsAreLimited, PastTheLimitIsNone, LimitsAreReached, EndsAreLimited};
 ghost use Rattle.bounds_exprs.specs.StepExamples.{ConstantsAreAdded, EndsMove, NamesStandForSums, ProductsAreConstants, ShiftsMoveBack, SumsAreLimited, TermsAreFilledIn};
 ghost use Rattle.bounds_exprs.specs.Steps.{TermsAgree};
 ghost use Rattle.bounds_exprs.specs.Values.{FillingKeepsValues, PartsAddUp, ShiftsKeepValues};
@@ -18,6 +18,8 @@ pub fn counts()
 pub fn limits()
     ensures parts { PartsAreLimited }
     ensures terms { PastTheLimitIsNone }
+    ensures reached { LimitsAreReached }
+    ensures ends { EndsAreLimited }
 {}
 
 /// Sums in bounds have the terms that they have as expressions.

@@ -6,16 +6,13 @@ use Rattle.std.proofs.lemmas.List.{length_push}
 use Rattle.std.proofs.lemmas.List.Elements.{All-push, All-contains, Contains-append_left, Contains-append_right}
 use Rattle.std.specs.Int.Signed.{le_z}
 use Rattle.std.specs.List.{All, Contains}
-use Rattle.difference_constraints.specs.declared.fact.Fact.{Fact}
-use Rattle.difference_constraints.specs.Graphs.{node_of, at, IsEdge}
-use Rattle.subsumption.specs.Closures.{at_index}
+use Rattle.subsumption.specs.declared.fact.Fact.{Fact}
+use Rattle.subsumption.specs.Graphs.{node_of, at, IsEdge, at_index}
 use Rattle.subsumption.specs.Facts.{HoldsBy}
 use Rattle.subsumption.specs.Models.{AreEdges, IsContradiction}
 use Rattle.subsumption.specs.Relaxation.{last_of, IsStep, IsRelaxed, AreNamed, with_last}
-use Rattle.subsumption.proofs.Closures.{node_of-at_index}
-use Rattle.subsumption.proofs.Lists.{node_same, le_from, lt_of}
-use Rattle.subsumption.proofs.Gaps.{gap}
-use Rattle.subsumption.proofs.Raising.{climbed-is}
+use Rattle.subsumption.proofs.Lists.{node_same, le_from, lt_of, node_of-at_index}
+use Rattle.subsumption.proofs.Gaps.{gap, climbed-is}
 
 -- from each of these nodes one of them is lower, or as low and of a round before
 abbrev Descends : (Option ℕ → Type 0) → (Option ℕ → ℤ) → (Option ℕ → ℕ) → Type 0

@@ -1,6 +1,7 @@
 -- Among n numbers that span much there is a gap, and what lies on one side of it can be moved by one.
-use Rattle.std.proofs.Common.{ℕ, zero, suc, ◌+◌, ◌<◌, ◌≤◌, ◌≡◌, ℤ, pos, ◌+ℤ◌, ◌≤ℤ◌, ◌<ℤ◌, Bool, true, false, refl, ap, arith, ◌⊎◌, inl, inr}
+use Rattle.std.proofs.Common.{ℕ, zero, suc, ◌+◌, ◌*◌, ◌<◌, ◌≤◌, ◌≡◌, ℤ, pos, ◌+ℤ◌, ◌≤ℤ◌, ◌<ℤ◌, Bool, true, false, refl, ap, arith, ◌⊎◌, inl, inr}
 use Rattle.std.proofs.lemmas.Int.{ints}
+use Rattle.std.proofs.Math.Nat.{suc-mul, zero-mul}
 use Rattle.std.proofs.lemmas.Bool.{cases_eq}
 use Rattle.std.specs.Int.Signed.{lt_z}
 
@@ -110,3 +111,7 @@ gap a base width n = elim (gap_from a base width n n) [
     λ y lt h. absurd (omega (arith, above_some a (climbed base width n) n y lt h)),
   )
 ]
+
+pub climbed-is : (base : ℤ) (width m : ℕ) → climbed base width m ≡ base +ℤ pos (m * width)
+climbed-is base width zero = omega (arith, ints, zero-mul width)
+climbed-is base width (suc m) = let rest = climbed-is base width m in omega (arith, ints, suc-mul m width, rest)

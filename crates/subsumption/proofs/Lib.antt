@@ -1,21 +1,17 @@
 mod Lists
 mod Gaps
-mod Raising
-mod Valuations
 mod Ones
-mod Closures
-mod Rows
-mod Settling
 mod Tables
-mod Shifts
-mod Eliminations
-mod Narrow
-mod Joins
-mod Pruning
 mod Rounds
 mod Circles
 mod Paths
-mod Leasts
+mod Matrices
+mod MatrixSteps
+mod MatrixFacts
+mod MatrixWays
+mod MatrixNumbers
+mod KeptTables
+mod MatrixAnswers
 pub mod TableConstants
 pub mod TableNumbers
 pub mod TableChanges

@@ -1,13 +1,13 @@
 -- Lists, nodes and comparisons.
-use Rattle.std.proofs.Common.{ℕ, ◌+◌, ◌<◌, ◌≡◌, ℤ, pos, ◌≤ℤ◌, ◌<ℤ◌, true, false, Option, None, Some, List, [], ◌∷◌, ◌++◌, length, get_or, refl, sym, ◌∙◌, ap, arith, inl, inr}
+use Rattle.std.proofs.Common.{ℕ, zero, suc, ◌+◌, ◌<◌, ◌≡◌, ℤ, pos, ◌≤ℤ◌, ◌<ℤ◌, true, false, Option, None, Some, List, [], ◌∷◌, ◌++◌, length, get_or, refl, sym, ◌∙◌, ap, arith, inl, inr}
 use Rattle.std.proofs.lemmas.Int.{ints}
 use Rattle.std.proofs.lemmas.List.Elements.{All-from_recursion, recursion_from_All, All-contains}
 use Rattle.std.proofs.lemmas.Bool.{cases_eq}
 use Rattle.std.proofs.lemmas.List.{get_or_push, get_or_append_left, length_push}
 use Rattle.std.specs.Int.Signed.{le_z}
 use Rattle.std.specs.List.{All, Contains, AllByRecursion as ByRecursion}
-use Rattle.difference_constraints.specs.declared.fact.Fact.{Fact}
-use Rattle.difference_constraints.specs.Graphs.{node_of}
+use Rattle.subsumption.specs.declared.fact.Fact.{Fact}
+use Rattle.subsumption.specs.Graphs.{node_of, at_index}
 use Rattle.subsumption.specs.Facts.{HoldsBy}
 
 pub front_by_recursion : {X : Type 0} (P : X → Type 0) (xs ys : List X) → ByRecursion P (xs ++ ys) → ByRecursion P xs
@@ -50,3 +50,7 @@ push_each xs i F v size each here = (
 
 pub met_among : (a : Option ℕ → ℤ) (F T : List Fact) → All (Contains F) T → All (HoldsBy a) F → All (HoldsBy a) T
 met_among a F T among met i d lt = All-contains (HoldsBy a) F (get_or T i d) met (among i d lt)
+
+pub node_of-at_index : (i : ℕ) → node_of (at_index i) ≡ i
+node_of-at_index zero = refl
+node_of-at_index (suc i) = refl

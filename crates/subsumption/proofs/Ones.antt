@@ -1,10 +1,9 @@
 -- Lists with one fact for each two.
-use Rattle.std.proofs.Common.{ℕ, ◌<◌, ◌≡◌, ℤ, List, [], ◌∷◌, ◌++◌, length, map, get_or, sym, ◌∙◌, ap, arith, inl, inr}
+use Rattle.std.proofs.Common.{◌≡◌, List, [], ◌∷◌, ◌++◌, length, get_or, sym, ◌∙◌, ap, arith, inl, inr}
 use Rattle.std.proofs.lemmas.Bool.{cases_eq}
-use Rattle.std.proofs.lemmas.List.{get_or_append_left, get_or_push, get_or-map, length-map, length_push}
+use Rattle.std.proofs.lemmas.List.{get_or_append_left, get_or_push, length_push}
 use Rattle.std.specs.List.{All}
-use Rattle.difference_constraints.specs.declared.fact.Fact.{Fact}
-use Rattle.difference_constraints.specs.Shifts.{moved}
+use Rattle.subsumption.specs.declared.fact.Fact.{Fact}
 use Rattle.subsumption.specs.Facts.{IsAlike, HasOneEach}
 
 pub alike_along : (f f' g g' : Fact) → f ≡ f' → g ≡ g' → IsAlike f g → IsAlike f' g'
@@ -23,15 +22,3 @@ one_push F f one new = record {
             one.apart i j d lt (omega (arith, size)) (alike_along _ _ _ _ left right h))
       ]);
 }
-
--- what leaves the two of each fact leaves one for each
-pub one_along : (F G : List Fact) → length G ≡ length F → ((k : ℕ) (d : Fact) → k < length F → IsAlike (get_or F k d) (get_or G k d)) → HasOneEach F → HasOneEach G
-one_along F G size same one = record {
-  apart = λ i j d lt in' h. (let p = same i d (omega (arith, size)) in
-      let q = same j d (omega (arith, size)) in
-      one.apart i j d lt (omega (arith, size)) (record { left = p.left ∙ h.left ∙ sym q.left; right = p.right ∙ h.right ∙ sym q.right }));
-}
-
-pub one_moved : (x : ℕ) (c : ℤ) (F : List Fact) → HasOneEach F → HasOneEach (map (moved x c) F)
-one_moved x c F one = one_along F (map (moved x c) F) (length-map F (moved x c)) (λ k d lt. (let e = get_or-map (moved x c) F k d d lt in
-    record { left = sym (ap (λ f. f.left) e); right = sym (ap (λ f. f.right) e) })) one

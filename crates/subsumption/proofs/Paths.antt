@@ -4,8 +4,8 @@ use Rattle.std.proofs.lemmas.Int.{ints}
 use Rattle.std.proofs.lemmas.List.{length_push}
 use Rattle.std.proofs.lemmas.List.Elements.{All-push, All-contains}
 use Rattle.std.specs.List.{All, Contains}
-use Rattle.difference_constraints.specs.declared.fact.Fact.{Fact}
-use Rattle.difference_constraints.specs.Graphs.{node_of, at, IsEdge}
+use Rattle.subsumption.specs.declared.fact.Fact.{Fact}
+use Rattle.subsumption.specs.Graphs.{node_of, at, IsEdge}
 use Rattle.subsumption.specs.declared.relaxation.Outcome.{Outcome}
 use Rattle.subsumption.specs.declared.relaxation.Outcome.TheVariants.{Contradictory}
 use Rattle.subsumption.specs.Facts.{value_of, numbers_of, HoldsBy, Holds, Meets, Entails}

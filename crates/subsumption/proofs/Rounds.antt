@@ -7,14 +7,12 @@ use Rattle.std.proofs.lemmas.List.Elements.{All-push, All-contains, All-contains
 use Rattle.std.proofs.Math.Nat.{suc-mul}
 use Rattle.std.specs.Int.Signed.{lt_z}
 use Rattle.std.specs.List.{All, Contains}
-use Rattle.difference_constraints.specs.declared.fact.Fact.{Fact}
-use Rattle.difference_constraints.specs.Graphs.{node_of, at, IsEdge, IsWithin}
+use Rattle.subsumption.specs.declared.fact.Fact.{Fact}
+use Rattle.subsumption.specs.Graphs.{node_of, at, IsEdge, IsWithin, at_index}
 use Rattle.subsumption.specs.Facts.{HoldsBy}
 use Rattle.subsumption.specs.Models.{AreEdges}
 use Rattle.subsumption.specs.Relaxation.{far_away, last_of, Relaxes, IsSame, IsLowered, IsRound, IsRoot, IsStep, IsRelaxed, IsSettled}
-use Rattle.subsumption.specs.Closures.{at_index}
-use Rattle.subsumption.proofs.Closures.{node_of-at_index}
-use Rattle.subsumption.proofs.Lists.{node_same}
+use Rattle.subsumption.proofs.Lists.{node_same, node_of-at_index}
 use Rattle.subsumption.proofs.Gaps.{lt_not}
 
 pub round_start : (F : List Fact) (B : List ℤ) (L : List (Option Fact)) → IsRound F [] B L B L false

@@ -2,19 +2,16 @@
 use Rattle.std.proofs.Common.{ℕ, Option, Some, ◌+◌, ◌<◌, ◌≡◌, ℤ, pos, negsuc, ◌-ℤ◌, Bool, true, false, None, List, [], ◌∷◌, ◌++◌, get_or, refl, sym, subst, arith, inl, inr}
 use Rattle.std.specs.Prelude.{◌↔◌}
 use Rattle.std.specs.List.{All, AllByRecursion}
-use Rattle.std.proofs.lemmas.Int.{ints}
 use Rattle.std.proofs.lemmas.List.Elements.{All-from_recursion, recursion_from_All, All-contains}
-use Rattle.bounds_exprs.specs.declared.term.Term.{Term}
-use Rattle.difference_constraints.specs.declared.fact.Fact.{Fact}
-use Rattle.difference_constraints.specs.Graphs.{fact_at, node_of}
-use Rattle.difference_constraints.specs.Shifts.{moved}
+use Rattle.subsumption.specs.declared.fact.Fact.{Fact}
+use Rattle.subsumption.specs.Graphs.{fact_at, node_of}
+use Rattle.subsumption.specs.Shifts.{moved}
 use Rattle.subsumption.specs.declared.fact.Answer.TheVariants.{Yes, No}
-use Rattle.subsumption.specs.Closures.{IsKept}
-use Rattle.subsumption.specs.Facts.{IsBelow, Holds, Meets, Entails, IsAbout, IsWide, Leaves, TermsHold, fact_of, numbers_of}
-use Rattle.subsumption.specs.Tables.{FollowsWithout, Joins, Table}
-use Rattle.subsumption.specs.ClosedTables.{ClosedTable, no_facts, entails_fact, entails_terms, with_fact, without, shifted, joined}
+use Rattle.subsumption.specs.Facts.{IsBelow, Holds, Meets, Entails, IsAbout, BothEntail, IsKept, IsWide, Leaves, numbers_of, IsKept}
+use Rattle.subsumption.specs.Tables.{FollowsWithout}
+use Rattle.subsumption.specs.ClosedTables.{ClosedTable, no_facts, entails_fact, with_fact, without, shifted, joined}
 use Rattle.subsumption.specs.TableLaws.{IsTable, MeetsTable, SaysExactly, IsLeft, FollowsWith, FollowsWithoutNamed}
-use Rattle.subsumption.specs.ShownTables.{Follow, Shows, ShowAll, ShowOne, NewShowsNone, AnswersAreShown}
+use Rattle.subsumption.specs.ShownTables.{Shows, ShowOne, AnswersAreShown}
 use Rattle.subsumption.proofs.TableSteps.{entails_exactly, no_facts_met, have_one_form, are_exact, give_tables, stays_left, met_with_some}
 
 -- ---- what is entailed in two ways
@@ -49,14 +46,16 @@ none_same vars goal about =
       (λ h. exact.1 (λ v met. h v (λ i d lt. absurd (omega (arith, lt))))),
     )
 
-shown_left : (vars : ℕ) (first second : Fact → Type 0) (new : List Fact) (t : ClosedTable) → Alike vars first second → Leaves vars first new → IsLeft vars second t → SaysExactly vars (Entails new) t
-shown_left vars first second new t alike leaves (inl (wide, none)) =
-    let empty : new ≡ [] = leaves.none (wide_alike vars second first (turned vars first second alike) wide) in
-    subst (λ t. SaysExactly vars (Entails new) t) (sym none) (subst (λ facts. SaysExactly vars (Entails facts) (no_facts vars)) (sym empty) (none_same vars))
-shown_left vars first second new t alike leaves (inr (narrow, says)) = λ goal about.
-    let left = leaves.same (λ wide. narrow (wide_alike vars first second alike wide)) goal about in
-    let same = alike goal about in let said = says goal about in
-    ((λ e. left.1 (same.1 (said.0 e))), (λ h. said.1 (same.0 (left.0 h))))
+-- what a step leaves, by the closed table that is shown after it
+leaves_shown : (vars : ℕ) (E second : Fact → Type 0) (G : List Fact) (u : ClosedTable) → Alike vars E second → IsLeft vars second u → SaysExactly vars (Entails G) u → (u ≡ no_facts vars → G ≡ []) → Leaves vars E G
+leaves_shown vars E second G u alike (inl (wide, none)) says empty = record {
+  none = λ w. empty none;
+  same = λ narrow goal about. absurd (narrow (wide_alike vars second E (turned vars E second alike) wide));
+}
+leaves_shown vars E second G u alike (inr (narrow, said)) says empty = record {
+  none = λ w. absurd (narrow (wide_alike vars E second alike w));
+  same = λ n goal about. (let p = says goal about in let q = said goal about in let r = alike goal about in ((λ h. r.1 (q.0 (p.1 h))), (λ h. p.0 (q.1 (r.0 h)))));
+}
 
 -- ---- facts and one more
 
@@ -88,35 +87,29 @@ module _ (vars : ℕ) (facts : List Fact) (t : ClosedTable) (all_about : All (Is
     (λ h v all. h v (λ f ab without e. all f without ((same f ab).0 e))),
   )
 
-pub show_all : ShowAll
-show_all before t shows = record {
-  add = λ f after about kept becomes. shown before.vars after (with_fact before.vars f t) becomes.vars kept ((give_tables before.vars).add t f shows.closed about)
-      (shown_left before.vars (Entails (before.facts ++ f ∷ [])) (FollowsWith before.vars f t) after.facts (with_fact before.vars f t)
-      (add_alike before.vars before.facts t shows.about shows.closed shows.same f) becomes.facts ((are_exact before.vars t shows.closed).add f about));
-  kill = λ x after lt kept becomes. (let closed = (give_tables before.vars).kill t x shows.closed in shown before.vars after (without before.vars x t) becomes.vars kept closed
-      (shown_left before.vars (FollowsWithout x before.facts) (FollowsWithoutNamed before.vars x t) after.facts (without before.vars x t)
-      (kill_alike before.vars before.facts t shows.about shows.closed shows.same x lt) becomes.facts
-      (stays_left before.vars (FollowsWithoutNamed before.vars x t) (without before.vars x t) closed ((are_exact before.vars t shows.closed).kill x lt))));
-  shift = λ x c after lt kept becomes. shown before.vars after (shifted before.vars x c t) becomes.vars kept ((give_tables before.vars).shift t x c shows.closed)
-      (shown_left before.vars (λ goal. Entails before.facts (moved x c goal)) (λ goal. entails_fact (moved x c goal) t ≡ true) after.facts (shifted before.vars x c t)
-      (λ goal about. (let s = shows.same (moved x c goal) (record { left = about.left; right = about.right }) in (s.1, s.0))) becomes.facts ((are_exact before.vars t shows.closed).shift x c lt));
-  join = λ other after u vars others kept joins.
-      let table : IsTable before.vars u = subst (λ n. IsTable n u) vars others.closed in
-      let same : SaysExactly before.vars (Entails other.facts) u = subst (λ n. SaysExactly n (Entails other.facts) u) vars others.same in
-      shown before.vars after (joined before.vars t u) joins.vars kept ((give_tables before.vars).join t u shows.closed table) (λ goal about.
-      let says = (are_exact before.vars t shows.closed).join u table goal about in
-      let p = shows.same goal about in let q = same goal about in let j = joins.same goal about in (
-        (λ e. let both = says.0 e in j.1 (p.0 both.0, q.0 both.1)),
-        (λ h. let both = j.0 h in says.1 (p.1 both.0, q.1 both.1)),
-      ));
-}
-  where
-    shown : (vars : ℕ) (after : Table) (u : ClosedTable) → after.vars ≡ vars → All (IsAbout after.vars) after.facts → IsTable vars u → SaysExactly vars (Entails after.facts) u → Shows after u
-    shown vars after u e kept closed same = record {
-      about = kept;
-      closed = subst (λ n. IsTable n u) (sym e) closed;
-      same = subst (λ n. SaysExactly n (Entails after.facts) u) (sym e) same;
-    }
+-- ---- steps
+
+module _ (vars : ℕ) (F G : List Fact) (t u : ClosedTable) (before : Shows vars F t) (after : Shows vars G u) (empty : u ≡ no_facts vars → G ≡ []) where
+  pub add_leaves : (f : Fact) → IsAbout vars f → u ≡ with_fact vars f t → Leaves vars (Entails (F ++ f ∷ [])) G
+  add_leaves f about e = leaves_shown vars (Entails (F ++ f ∷ [])) (FollowsWith vars f t) G u (add_alike vars F t before.about before.closed before.same f)
+      (subst (IsLeft vars (FollowsWith vars f t)) (sym e) ((are_exact vars t before.closed).add f about)) after.same empty
+
+  pub kill_leaves : (x : ℕ) → x < vars → u ≡ without vars x t → Leaves vars (FollowsWithout x F) G
+  kill_leaves x lt e = leaves_shown vars (FollowsWithout x F) (FollowsWithoutNamed vars x t) G u (kill_alike vars F t before.about before.closed before.same x lt)
+      (subst (IsLeft vars (FollowsWithoutNamed vars x t)) (sym e) (stays_left vars (FollowsWithoutNamed vars x t) (without vars x t) ((give_tables vars).kill t x before.closed) ((are_exact vars t before.closed).kill x lt))) after.same empty
+
+  pub shift_leaves : (x : ℕ) (c : ℤ) → x < vars → u ≡ shifted vars x c t → Leaves vars (λ goal. Entails F (moved x c goal)) G
+  shift_leaves x c lt e = leaves_shown vars (λ goal. Entails F (moved x c goal)) (λ goal. entails_fact (moved x c goal) t ≡ true) G u
+      (λ goal about. (let s = before.same (moved x c goal) (record { left = about.left; right = about.right }) in (s.1, s.0)))
+      (subst (IsLeft vars (λ goal. entails_fact (moved x c goal) t ≡ true)) (sym e) ((are_exact vars t before.closed).shift x c lt)) after.same empty
+
+  pub join_same : (K : List Fact) (w : ClosedTable) → Shows vars K w → u ≡ joined vars t w → (goal : Fact) → IsAbout vars goal → Entails G goal ↔ BothEntail F K goal
+  join_same K w other e goal about =
+      let says = subst (λ u. (entails_fact goal u ≡ true) ↔ ((entails_fact goal t ≡ true) × (entails_fact goal w ≡ true))) (sym e) ((are_exact vars t before.closed).join w other.closed goal about) in
+      let p = before.same goal about in let q = other.same goal about in let r = after.same goal about in (
+        (λ h. let both = says.0 (r.1 h) in (p.0 both.0, q.0 both.1)),
+        (λ h. r.0 (says.1 (p.1 h.0, q.1 h.1))),
+      )
 
 both_true : (a b : Bool) → (a ≡ true → b ≡ true) → (b ≡ true → a ≡ true) → a ≡ b
 both_true true b f g = sym (f refl)
@@ -124,49 +117,27 @@ both_true false true f g = g refl
 both_true false false f g = refl
 
 pub show_one : ShowOne
-show_one table t u a b = have_one_form table.vars t u a.closed b.closed (λ goal about. both_true (entails_fact goal t) (entails_fact goal u)
+show_one vars facts t u a b = have_one_form vars t u a.closed b.closed (λ goal about. both_true (entails_fact goal t) (entails_fact goal u)
     (λ e. (b.same goal about).1 ((a.same goal about).0 e)) (λ e. (a.same goal about).1 ((b.same goal about).0 e)))
-
-pub new_shows_none : NewShowsNone
-new_shows_none vars = record { about = λ i d lt. absurd (omega (arith, lt)); closed = (give_tables vars).none; same = none_same vars }
 
 not_true : (b : Bool) → (b ≡ true → ⊥) → false ≡ b
 not_true true h = absurd (h refl)
 not_true false h = refl
 
-terms_hold : (v : ℕ → ℤ) (a b : Term) → TermsHold v a b → Holds v (fact_of a b)
-terms_hold v a b h = omega (arith, ints, h)
-
-hold_terms : (v : ℕ → ℤ) (a b : Term) → Holds v (fact_of a b) → TermsHold v a b
-hold_terms v a b h = omega (arith, ints, h)
-
 pub answers_are_shown : AnswersAreShown
-answers_are_shown table t a b (Yes path) shows la lb h =
-    sym ((shows.same (fact_of a b) (record { left = la; right = lb })).1 (λ v m. terms_hold v a b (h.1 v (λ i d lt. All-contains (Holds v) table.facts (get_or path.facts.items i d) m (h.0 i d lt)))))
-answers_are_shown table t a b (No valuation) shows la lb h =
-    not_true (entails_terms a b t) (λ e. h.1 (hold_terms (numbers_of valuation.values.items) a b ((shows.same (fact_of a b) (record { left = la; right = lb })).0 e (numbers_of valuation.values.items) h.0)))
+answers_are_shown vars facts t goal (Yes path) shows about h =
+    sym ((shows.same goal about).1 (λ v m. h.1 v (λ i d lt. All-contains (Holds v) facts (get_or path.facts.items i d) m (h.0 i d lt))))
+answers_are_shown vars facts t goal (No valuation) shows about h =
+    not_true (entails_fact goal t) (λ e. h.1 ((shows.same goal about).0 e (numbers_of valuation.values.items) h.0))
 
--- ---- the calls
+-- ---- facts about the variables
 
-kept_about : (vars : ℕ) (facts : List Fact) → All (IsKept (vars + 1)) facts → All (IsAbout vars) facts
-kept_about vars facts kept = λ i d lt. (let h = kept i d lt in let f = get_or facts i d in record { left = below f.left h.left; right = below f.right h.right })
-  where
-    below : (o : Option ℕ) → node_of o < vars + 1 → IsBelow vars o
-    below None h = tt
-    below (Some x) h = omega (arith, h)
+below_of : (vars : ℕ) (o : Option ℕ) → node_of o < vars + 1 → IsBelow vars o
+below_of vars None h = tt
+below_of vars (Some x) h = omega (arith, h)
 
-module _ (before after : Table) (same : after.vars ≡ before.vars) (kept : All (IsKept (before.vars + 1)) after.facts) where
-  about_after : All (IsAbout after.vars) after.facts
-  about_after = subst (λ n. All (IsAbout n) after.facts) (sym same) (kept_about before.vars after.facts kept)
+pub about_nodes : (vars : ℕ) (f : Fact) → node_of f.left < vars + 1 → node_of f.right < vars + 1 → IsAbout vars f
+about_nodes vars f left right = record { left = below_of vars f.left left; right = below_of vars f.right right }
 
-  pub add_follows : (f : Fact) → IsAbout before.vars f → Leaves before.vars (Entails (before.facts ++ f ∷ [])) after.facts → Follow before (with_fact before.vars f) after
-  add_follows f about leaves t shows = (show_all before t shows).add f after about about_after (record { vars = same; facts = leaves })
-
-  pub kill_follows : (x : ℕ) → x < before.vars → Leaves before.vars (FollowsWithout x before.facts) after.facts → Follow before (without before.vars x) after
-  kill_follows x lt leaves t shows = (show_all before t shows).kill x after lt about_after (record { vars = same; facts = leaves })
-
-  pub shift_follows : (x : ℕ) (c : ℤ) → x < before.vars → Leaves before.vars (λ goal. Entails before.facts (moved x c goal)) after.facts → Follow before (shifted before.vars x c) after
-  shift_follows x c lt leaves t shows = (show_all before t shows).shift x c after lt about_after (record { vars = same; facts = leaves })
-
-  pub join_follows : (other : Table) → other.vars ≡ before.vars → Joins before other after → (u : ClosedTable) → Shows other u → Follow before (λ t. joined before.vars t u) after
-  join_follows other vars joins u others t shows = (show_all before t shows).join other after u vars others about_after joins
+pub kept_about : (vars : ℕ) (facts : List Fact) → All (IsKept (vars + 1)) facts → All (IsAbout vars) facts
+kept_about vars facts kept = λ i d lt. (let h = kept i d lt in about_nodes vars (get_or facts i d) h.left h.right)

@@ -2,7 +2,7 @@
 use Rattle.std.proofs.Common.{ℕ, zero, suc, ◌<◌, ◌≡◌, ◌≢◌, ℤ, pos, ◌+ℤ◌, ◌-ℤ◌, ◌≤ℤ◌, ◌<ℤ◌, Bool, true, false, cond, ◌==◌, Option, None, Some, [], get_or, refl, sym, ◌∙◌, ap, subst, arith, ◌⊎◌, inl, inr}
 use Rattle.std.proofs.lemmas.Int.{ints}
 use Rattle.std.proofs.lemmas.Bool.Decides.{nat_tests}
-use Rattle.difference_constraints.specs.Distances.{longer_of}
+use Rattle.subsumption.specs.Distances.{longer_of}
 use Rattle.subsumption.specs.ClosedTables.{AtMost, sum_of, Pairs, no_pairs, added, killed, raised, shared, values_below, entry, rows_of, is_broken}
 use Rattle.subsumption.specs.TableLaws.{IsClosed}
 use Rattle.subsumption.proofs.TableConstants.{MeetsPairs, put, at_most_up, smaller_from, smaller_to, longer_from, longer_to, sum_from, sum_to}
@@ -18,7 +18,7 @@ pub entry_is : (n : ℕ) (t : Pairs) (i j : ℕ) → i < n → j < n → entry (
 entry_is n t i j li lj = ap (λ r. get_or r j None) (made_at n (λ i. values_below n (λ j. t i j)) i [] li) ∙ made_at n (λ j. t i j) j None lj
 
 -- two tables with the same constants
-abbrev AreSame : ℕ → Pairs → Pairs → Type 0
+abbrev pub AreSame : ℕ → Pairs → Pairs → Type 0
 AreSame n t u = (i j : ℕ) → i < n → j < n → u i j ≡ t i j
 
 pub to_same : (o p : Option ℤ) (c : ℤ) → p ≡ o → AtMost o c → AtMost p c
@@ -27,7 +27,7 @@ to_same o p c e h = let P : Option ℤ → Type 0 = λ x. AtMost x c in subst P 
 pub from_same : (o p : Option ℤ) (c : ℤ) → p ≡ o → AtMost p c → AtMost o c
 from_same o p c e h = let P : Option ℤ → Type 0 = λ x. AtMost x c in subst P e h
 
-closed_same : (n : ℕ) (t u : Pairs) → AreSame n t u → IsClosed n t → IsClosed n u
+pub closed_same : (n : ℕ) (t u : Pairs) → AreSame n t u → IsClosed n t → IsClosed n u
 closed_same n t u same h = record {
   diagonal = λ i li. same i i li li ∙ h.diagonal i li;
   triangle = λ i j k c e li lj lk a b. to_same (t i k) (u i k) (c +ℤ e) (same i k li lk) (h.triangle i j k c e li lj lk (from_same (t i j) (u i j) c (same i j li lj) a) (from_same (t j k) (u j k) e (same j k lj lk) b));
@@ -94,7 +94,7 @@ added_new x y c t i j a b e h k le =
 zero_at : (o : Option ℤ) → o ≡ Some (pos 0) → AtMost o (pos 0)
 zero_at o e = let P : Option ℤ → Type 0 = λ x. AtMost x (pos 0) in subst P (sym e) (omega (arith, ints))
 
-not_broken : (o : Option ℤ) (c d : ℤ) → is_broken o c ≡ false → AtMost o d → pos 0 ≤ℤ (d +ℤ c)
+pub not_broken : (o : Option ℤ) (c d : ℤ) → is_broken o c ≡ false → AtMost o d → pos 0 ≤ℤ (d +ℤ c)
 not_broken None c d e h = absurd h
 not_broken (Some a) c d e h = (let le : pos 0 ≤ℤ (a +ℤ c) = grind (arith, ints) in omega (arith, ints, le, h))
 

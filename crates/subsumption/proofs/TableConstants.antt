@@ -2,7 +2,7 @@
 use Rattle.std.proofs.Common.{ℕ, ◌<◌, ◌≡◌, ℤ, ◌+ℤ◌, ◌≤ℤ◌, ◌<ℤ◌, Bool, true, false, cond, ◌==◌, Option, None, Some, refl, arith, ◌⊎◌, inl, inr}
 use Rattle.std.proofs.lemmas.Int.{ints}
 use Rattle.std.specs.Int.Signed.{le_z}
-use Rattle.difference_constraints.specs.Distances.{longer_of}
+use Rattle.subsumption.specs.Distances.{longer_of}
 use Rattle.subsumption.specs.ClosedTables.{AtMost, is_at_most, smaller_of, sum_of, Pairs}
 
 pub le_from : (a b : ℤ) → le_z a b ≡ true → a ≤ℤ b

@@ -6,10 +6,10 @@ use Rattle.std.proofs.lemmas.Int.{ints}
 use Rattle.std.proofs.lemmas.Bool.{cases_eq}
 use Rattle.std.proofs.lemmas.Bool.Decides.{nat_tests}
 use Rattle.std.specs.Int.Signed.{le_z}
-use Rattle.difference_constraints.specs.declared.fact.Fact.{Fact}
-use Rattle.difference_constraints.specs.Distances.{is_near, longer_of}
-use Rattle.difference_constraints.specs.Graphs.{fact_at, node_of}
-use Rattle.difference_constraints.specs.Shifts.{moved, is_variable}
+use Rattle.subsumption.specs.declared.fact.Fact.{Fact}
+use Rattle.subsumption.specs.Distances.{is_near, longer_of}
+use Rattle.subsumption.specs.Graphs.{fact_at, node_of}
+use Rattle.subsumption.specs.Shifts.{moved, is_variable}
 use Rattle.subsumption.specs.Facts.{value_of, Holds, IsAbout, IsBelow, IsWide, fact_of}
 use Rattle.subsumption.specs.Tables.{IsWithout}
 use Rattle.subsumption.specs.ClosedTables.{AtMost, is_at_most, Pairs, no_pairs, sum_of, added, killed, raised, shared, values_below, Rows, entry, rows_of, are_near, ClosedTable, Contradiction, Least, no_facts, table_of, is_broken, entails_fact, with_fact, without, shifted, joined}
@@ -20,36 +20,36 @@ use Rattle.subsumption.proofs.TableChanges.{entry_is, to_same, from_same, none_c
 
 -- ---- nodes
 
-abbrev unnode : ℕ → Option ℕ
+abbrev pub unnode : ℕ → Option ℕ
 unnode zero = None
 unnode (suc x) = Some x
 
-node_unnode : (i : ℕ) → node_of (unnode i) ≡ i
+pub node_unnode : (i : ℕ) → node_of (unnode i) ≡ i
 node_unnode zero = refl
 node_unnode (suc x) = refl
 
-below_node : (vars : ℕ) (o : Option ℕ) → IsBelow vars o → node_of o < vars + 1
+pub below_node : (vars : ℕ) (o : Option ℕ) → IsBelow vars o → node_of o < vars + 1
 below_node vars None h = omega arith
 below_node vars (Some x) h = omega (arith, h)
 
-node_below : (vars : ℕ) (o : Option ℕ) → node_of o < vars + 1 → IsBelow vars o
+pub node_below : (vars : ℕ) (o : Option ℕ) → node_of o < vars + 1 → IsBelow vars o
 node_below vars None h = tt
 node_below vars (Some x) h = omega (arith, h)
 
 -- numbers of nodes
-nodes : (ℕ → ℤ) → ℕ → ℤ
+unfoldable pub nodes : (ℕ → ℤ) → ℕ → ℤ
 nodes v zero = pos 0
 nodes v (suc x) = v x
 
-nodes_value : (v : ℕ → ℤ) (o : Option ℕ) → nodes v (node_of o) ≡ value_of v o
+pub nodes_value : (v : ℕ → ℤ) (o : Option ℕ) → nodes v (node_of o) ≡ value_of v o
 unfolding nodes
 nodes_value v None = refl
 nodes_value v (Some x) = refl
 
-counted : (ℕ → ℤ) → ℕ → ℤ
+pub counted : (ℕ → ℤ) → ℕ → ℤ
 counted a i = a (suc i) -ℤ a 0
 
-counted_is : (a : ℕ → ℤ) (i : ℕ) → nodes (counted a) i ≡ a i -ℤ a 0
+pub counted_is : (a : ℕ → ℤ) (i : ℕ) → nodes (counted a) i ≡ a i -ℤ a 0
 unfolding nodes counted
 counted_is a zero = omega (arith, ints)
 counted_is a (suc i) = refl
@@ -96,10 +96,10 @@ module _ {A : Type 0} (p : A → Bool) where
 abbrev AreNear : ℕ → Pairs → Type 0
 AreNear n t = (i j : ℕ) → i < n → j < n → is_near (t i j) ≡ true
 
-rows_near : (n : ℕ) (t : Pairs) → are_near (rows_of n t) ≡ true → AreNear n t
+pub rows_near : (n : ℕ) (t : Pairs) → are_near (rows_of n t) ≡ true → AreNear n t
 rows_near n t e i j li lj = all_below is_near n (t i) (all_below (list_all is_near) n (λ i. values_below n (λ j. t i j)) e i li) j lj
 
-near_rows : (n : ℕ) (t : Pairs) → AreNear n t → are_near (rows_of n t) ≡ true
+pub near_rows : (n : ℕ) (t : Pairs) → AreNear n t → are_near (rows_of n t) ≡ true
 near_rows n t h = below_all (list_all is_near) n (λ i. values_below n (λ j. t i j)) (λ i li. below_all is_near n (t i) (λ j lj. h i j li lj))
 
 rows_far : (n : ℕ) (t : Pairs) → are_near (rows_of n t) ≡ false → (i j : ℕ) × (i < n) × (j < n) × (is_near (t i j) ≡ false)
@@ -107,7 +107,7 @@ rows_far n t e =
     let x = not_all (list_all is_near) n (λ i. values_below n (λ j. t i j)) e in
     let y = not_all is_near n (t x.0) x.2 in (x.0, y.0, x.1, y.1, y.2)
 
-none_near : (n : ℕ) → AreNear n no_pairs
+pub none_near : (n : ℕ) → AreNear n no_pairs
 none_near n i j li lj = by (i == j)
   where
     by : (b : Bool) → is_near (cond b (Some (pos 0)) None) ≡ true
@@ -118,7 +118,7 @@ far_constant : (o : Option ℤ) → is_near o ≡ false → (d : ℤ) × (o ≡ 
 far_constant None e = absurd (cc)
 far_constant (Some d) e = (d, refl, grind (arith, nat_tests))
 
-least_near : (o : Option ℤ) (k : ℤ) → is_near o ≡ true → AtMost o k → (AtMost o (k -ℤ pos 1) → ⊥) → unsigned_abs k ≤ 2 ^ 100
+pub least_near : (o : Option ℤ) (k : ℤ) → is_near o ≡ true → AtMost o k → (AtMost o (k -ℤ pos 1) → ⊥) → unsigned_abs k ≤ 2 ^ 100
 least_near None k e h l = absurd h
 least_near (Some d) k e h l = by (le_z d (k -ℤ pos 1)) refl
   where
@@ -141,16 +141,16 @@ below_same : {A : Type 0} (n : ℕ) (f g : ℕ → A) → ((i : ℕ) → i < n �
 below_same zero f g h = refl
 below_same (suc n) f g h = ap (λ x. x ∷ values_below n (λ i. f (suc i))) (h 0 (omega arith)) ∙ ap (λ xs. g 0 ∷ xs) (below_same n (λ i. f (suc i)) (λ i. g (suc i)) (λ i lt. h (suc i) (omega (arith, lt))))
 
-rows_same : (n : ℕ) (t u : Pairs) → ((i j : ℕ) → i < n → j < n → t i j ≡ u i j) → rows_of n t ≡ rows_of n u
+pub rows_same : (n : ℕ) (t u : Pairs) → ((i j : ℕ) → i < n → j < n → t i j ≡ u i j) → rows_of n t ≡ rows_of n u
 rows_same n t u h = below_same n (λ i. values_below n (λ j. t i j)) (λ i. values_below n (λ j. u i j)) (λ i li. below_same n (t i) (u i) (λ j lj. h i j li lj))
 
-made_closed : (n : ℕ) (t : Pairs) → IsClosed n t → are_near (rows_of n t) ≡ true → AreClosed n (rows_of n t)
+pub made_closed : (n : ℕ) (t : Pairs) → IsClosed n t → are_near (rows_of n t) ≡ true → AreClosed n (rows_of n t)
 made_closed n t closed near = record { shape = rows_same n (entry (rows_of n t)) t (entry_is n t); closed = rows_closed n t closed; near = near }
 
-none_table : (vars : ℕ) → IsTable vars (no_facts vars)
+pub none_table : (vars : ℕ) → IsTable vars (no_facts vars)
 none_table vars = made_closed (vars + 1) no_pairs (none_closed (vars + 1)) (near_rows (vars + 1) no_pairs (none_near (vars + 1)))
 
-guarded_table : (vars : ℕ) (t : Pairs) → IsClosed (vars + 1) t → IsTable vars (table_of vars t)
+pub guarded_table : (vars : ℕ) (t : Pairs) → IsClosed (vars + 1) t → IsTable vars (table_of vars t)
 guarded_table vars t closed = by (are_near (rows_of (vars + 1) t)) refl
   where
     by : (b : Bool) → are_near (rows_of (vars + 1) t) ≡ b → IsTable vars (cond b (Least (rows_of (vars + 1) t)) (no_facts vars))
@@ -159,14 +159,14 @@ guarded_table vars t closed = by (are_near (rows_of (vars + 1) t)) refl
 
 -- ---- what a table entails
 
-holds_node : (v : ℕ → ℤ) (f : Fact) → Holds v f → nodes v (node_of f.left) ≤ℤ (nodes v (node_of f.right) +ℤ f.plus)
+pub holds_node : (v : ℕ → ℤ) (f : Fact) → Holds v f → nodes v (node_of f.left) ≤ℤ (nodes v (node_of f.right) +ℤ f.plus)
 holds_node v f h = (let p = nodes_value v f.left in let q = nodes_value v f.right in omega (arith, ints, h, p, q))
 
-node_holds : (v : ℕ → ℤ) (f : Fact) → nodes v (node_of f.left) ≤ℤ (nodes v (node_of f.right) +ℤ f.plus) → Holds v f
+pub node_holds : (v : ℕ → ℤ) (f : Fact) → nodes v (node_of f.left) ≤ℤ (nodes v (node_of f.right) +ℤ f.plus) → Holds v f
 node_holds v f h = (let p = nodes_value v f.left in let q = nodes_value v f.right in omega (arith, ints, h, p, q))
 
 -- a valuation meets a table exactly where the numbers of its nodes meet each two's constant
-to_pairs : (vars : ℕ) (rows : Rows) (v : ℕ → ℤ) → MeetsTable vars v (Least rows) → MeetsPairs (vars + 1) (nodes v) (entry rows)
+pub to_pairs : (vars : ℕ) (rows : Rows) (v : ℕ → ℤ) → MeetsTable vars v (Least rows) → MeetsPairs (vars + 1) (nodes v) (entry rows)
 to_pairs vars rows v met i j c li lj at =
     let left = unnode i in let right = unnode j in
     let ei = node_unnode i in let ej = node_unnode j in
@@ -177,7 +177,7 @@ to_pairs vars rows v met i j c li lj at =
     let q : nodes v j ≡ value_of v right = ap (nodes v) (sym ej) ∙ nodes_value v right in
     omega (arith, ints, holds, p, q)
 
-from_pairs : (vars : ℕ) (rows : Rows) (v : ℕ → ℤ) → MeetsPairs (vars + 1) (nodes v) (entry rows) → MeetsTable vars v (Least rows)
+pub from_pairs : (vars : ℕ) (rows : Rows) (v : ℕ → ℤ) → MeetsPairs (vars + 1) (nodes v) (entry rows) → MeetsTable vars v (Least rows)
 from_pairs vars rows v met f about e = node_holds v f (met (node_of f.left) (node_of f.right) f.plus (below_node vars f.left about.left) (below_node vars f.right about.right)
     (at_most_from (entry rows (node_of f.left) (node_of f.right)) f.plus e))
 
@@ -292,7 +292,7 @@ module _ (vars : ℕ) (entailed : Fact → Type 0) (t : Pairs) (closed : IsClose
 all_left : (vars : ℕ) (entailed : Fact → Type 0) → ((goal : Fact) → IsAbout vars goal → entailed goal) → IsLeft vars entailed Contradiction
 all_left vars entailed all = inr ((λ wide. wide.met (all (fact_at None None (negsuc 0)) (record { left = tt; right = tt }))), (λ goal about. ((λ x. all goal about), (λ x. refl))))
 
-entries_near : (vars : ℕ) (rows : Rows) → AreClosed (vars + 1) rows → AreNear (vars + 1) (entry rows)
+pub entries_near : (vars : ℕ) (rows : Rows) → AreClosed (vars + 1) rows → AreNear (vars + 1) (entry rows)
 entries_near vars rows table = rows_near (vars + 1) (entry rows) (ap are_near table.shape ∙ table.near)
 
 -- where a table entails it already
@@ -411,7 +411,7 @@ module _ (vars : ℕ) (rows : Rows) (table : AreClosed (vars + 1) rows) where
   variable_node : (x : ℕ) (o : Option ℕ) → o ≡ Some x → node_of o ≡ suc x
   variable_node x o e = ap node_of e
 
-  near_killed : (x i j : ℕ) (o : Option ℤ) (p q r : Bool) → is_near o ≡ true → is_near (cond p o (cond q None (cond r None o))) ≡ true
+  pub near_killed : (x i j : ℕ) (o : Option ℤ) (p q r : Bool) → is_near o ≡ true → is_near (cond p o (cond q None (cond r None o))) ≡ true
   near_killed x i j o true q r h = h
   near_killed x i j o false true r h = refl
   near_killed x i j o false false true h = refl
@@ -441,7 +441,7 @@ module _ (vars : ℕ) (rows : Rows) (table : AreClosed (vars + 1) rows) where
 abbrev Both : ClosedTable → ClosedTable → Fact → Type 0
 Both t u goal = (entails_fact goal t ≡ true) × (entails_fact goal u ≡ true)
 
-near_longer : (o p : Option ℤ) → is_near o ≡ true → is_near p ≡ true → is_near (longer_of o p) ≡ true
+pub near_longer : (o p : Option ℤ) → is_near o ≡ true → is_near p ≡ true → is_near (longer_of o p) ≡ true
 near_longer None p h k = refl
 near_longer (Some d) None h k = refl
 near_longer (Some d) (Some e) h k = by (le_z d e)

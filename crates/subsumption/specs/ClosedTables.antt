@@ -5,9 +5,9 @@ use Rattle.std.specs.Prelude.{ℕ, zero, suc, ◌+◌, ◌==◌, ℤ, pos, ◌+�
 use Rattle.std.specs.Int.Signed.{le_z, lt_z}
 use Rattle.std.specs.List.{list_all}
 use Rattle.bounds_exprs.specs.declared.term.Term.{Term}
-use Rattle.difference_constraints.specs.declared.fact.Fact.{Fact}
-use Rattle.difference_constraints.specs.Graphs.{node_of}
-use Rattle.difference_constraints.specs.Distances.{longer_of, is_near}
+use Rattle.subsumption.specs.declared.fact.Fact.{Fact}
+use Rattle.subsumption.specs.Graphs.{node_of}
+use Rattle.subsumption.specs.Distances.{longer_of, is_near}
 use Rattle.subsumption.specs.Facts.{fact_of}
 
 -- ---- least constants, where there are any

@@ -2,8 +2,8 @@
 use Rattle.std.specs.Prelude.{ℕ, ◌+◌, ◌^◌, ◌<◌, ◌≤◌, ◌≡◌, ◌↔◌, ℤ, pos, negsuc, unsigned_abs, ◌+ℤ◌, ◌-ℤ◌, ◌≤ℤ◌, Option, None, Some, List, [], length, slice_index_or}
 use Rattle.std.specs.List.{All, Contains}
 use Rattle.bounds_exprs.specs.declared.term.Term.{Term}
-use Rattle.difference_constraints.specs.declared.fact.Fact.{Fact}
-use Rattle.difference_constraints.specs.Graphs.{fact_at}
+use Rattle.subsumption.specs.declared.fact.Fact.{Fact}
+use Rattle.subsumption.specs.Graphs.{fact_at, node_of, IsWithin}
 use Rattle.subsumption.specs.declared.fact.Answer.{Answer}
 use Rattle.subsumption.specs.declared.fact.Answer.TheVariants.{Yes, No}
 
@@ -59,6 +59,16 @@ IsBelow vars (Some x) = x < vars
 pub record IsAbout (vars : ℕ) (f : Fact) : Type 0 where
   pub left : IsBelow vars f.left
   pub right : IsBelow vars f.right
+
+-- both nodes of the fact are among the first n, and the constant isn't outside -2^100 to 2^100
+pub record IsKept (n : ℕ) (f : Fact) : Type 0 where
+  pub left : node_of f.left < n
+  pub right : node_of f.right < n
+  pub plus : IsWithin (2 ^ 100) f.plus
+
+-- both lists entail it
+abbrev pub BothEntail : List Fact → List Fact → Fact → Type 0
+BothEntail first second goal = Entails first goal × Entails second goal
 
 -- the facts are about the same two, in the same order
 pub record IsAlike (f g : Fact) : Type 0 where

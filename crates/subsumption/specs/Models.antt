@@ -1,8 +1,8 @@
 -- Whether facts can be met.
 use Rattle.std.specs.Prelude.{ℕ, ◌<◌, ◌≤◌, ℤ, Option, List, length}
 use Rattle.std.specs.List.{All, Contains}
-use Rattle.difference_constraints.specs.declared.fact.Fact.{Fact}
-use Rattle.difference_constraints.specs.Graphs.{IsEdge}
+use Rattle.subsumption.specs.declared.fact.Fact.{Fact}
+use Rattle.subsumption.specs.Graphs.{IsEdge}
 use Rattle.subsumption.specs.Facts.{HoldsBy}
 
 -- a graph of n nodes

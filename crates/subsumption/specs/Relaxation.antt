@@ -1,8 +1,8 @@
 -- Distances by rounds in which all facts are relaxed, after Bellman and Ford.
 use Rattle.std.specs.Prelude.{ℕ, suc, ◌+◌, ◌*◌, ◌^◌, ◌<◌, ◌≤◌, ◌≡◌, ◌⊎◌, ℤ, pos, neg_ℤ, ◌+ℤ◌, ◌-ℤ◌, ◌≤ℤ◌, ◌<ℤ◌, Bool, true, false, Option, None, Some, List, [], ◌∷◌, ◌++◌, length, slice_index_or, slice_set}
 use Rattle.std.specs.List.{All, Contains}
-use Rattle.difference_constraints.specs.declared.fact.Fact.{Fact}
-use Rattle.difference_constraints.specs.Graphs.{node_of, at, IsWithin}
+use Rattle.subsumption.specs.declared.fact.Fact.{Fact}
+use Rattle.subsumption.specs.Graphs.{node_of, at, IsWithin}
 use Rattle.subsumption.specs.declared.relaxation.Outcome.{Outcome}
 use Rattle.subsumption.specs.declared.relaxation.Outcome.TheVariants.{Settled, Contradictory}
 use Rattle.subsumption.specs.Facts.{HoldsBy}

@@ -1,8 +1,8 @@
 -- What closed tables say, over all valuations.
 use Rattle.std.specs.Prelude.{ℕ, ◌+◌, ◌<◌, ◌≡◌, ◌↔◌, ◌⊎◌, ℤ, pos, ◌+ℤ◌, true, Some}
 use Rattle.bounds_exprs.specs.declared.term.Term.{Term}
-use Rattle.difference_constraints.specs.declared.fact.Fact.{Fact}
-use Rattle.difference_constraints.specs.Shifts.{moved}
+use Rattle.subsumption.specs.declared.fact.Fact.{Fact}
+use Rattle.subsumption.specs.Shifts.{moved}
 use Rattle.subsumption.specs.Facts.{Holds, IsAbout, IsBelow, IsWide, TermsHold}
 use Rattle.subsumption.specs.Tables.{IsWithout}
 use Rattle.subsumption.specs.ClosedTables.{AtMost, Pairs, Rows, rows_of, entry, are_near, ClosedTable, Contradiction, Least, no_facts, entails_fact, entails_terms, with_fact, without, shifted, joined}

@@ -2,16 +2,17 @@
 use Rattle.std.specs.Prelude.{ℕ, ◌+◌, ◌≤◌, ◌≡◌, ◌≢◌, ◌↔◌, ℤ, Some, List, length}
 use Rattle.std.specs.List.{All, Contains}
 use Rattle.bounds_exprs.specs.declared.term.Term.{Term}
-use Rattle.difference_constraints.specs.declared.fact.Fact.{Fact}
+use Rattle.subsumption.specs.declared.fact.Fact.{Fact}
 use Rattle.subsumption.specs.declared.fact.Answer.{Answer}
 use Rattle.subsumption.specs.declared.fact.Answer.TheVariants.{Yes, No}
-use Rattle.subsumption.specs.Facts.{Meets, Entails, Holds, TermsHold, numbers_of, IsAbout, HasOneEach, IsWide, Leaves}
-use Rattle.subsumption.specs.Closures.{BothEntail, IsKept}
+use Rattle.subsumption.specs.Facts.{Meets, Entails, Holds, TermsHold, numbers_of, IsAbout, Leaves, BothEntail}
+use Rattle.subsumption.specs.ClosedTables.{ClosedTable}
 
--- the number of variables, and the facts
+-- the number of variables, the facts, and the closed table: the least constants that they entail
 pub record Table : Type 0 where
   pub vars : ℕ
   pub facts : List Fact
+  pub table : ClosedTable
 
 -- an answer to whether the one term is at most the other: facts of the table that alone entail it, at most as many as
 -- there are variables and zero, or a number for each variable, which meet the facts and break it
@@ -28,13 +29,6 @@ pub record Becomes (before : Table) (entailed : Fact → Type 0) (after : Table)
 pub record Joins (first second after : Table) : Type 0 where
   pub vars : after.vars ≡ first.vars
   pub same : (goal : Fact) → IsAbout first.vars goal → Entails after.facts goal ↔ BothEntail first.facts second.facts goal
-
--- what holds of each table: one fact at most for each two in their order, and no least constant outside -2^100 to 2^100
-pub record IsNarrow (table : Table) : Type 0 where
-  pub few : table.vars ≤ 4096
-  pub kept : All (IsKept (table.vars + 1)) table.facts
-  pub one_each : HasOneEach table.facts
-  pub narrow : IsWide table.vars (Entails table.facts) → ⊥
 
 -- the fact doesn't name x
 pub record IsWithout (x : ℕ) (f : Fact) : Type 0 where

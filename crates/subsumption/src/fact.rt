@@ -1,6 +1,23 @@
-// The answers to a question about facts.
+// Facts, and the answers to a question about them.
 
-use difference_constraints::fact::Fact;
+ghost use Rattle.std.specs.Prelude.{◌≡◌};
+
+/// `left` is at most `right` plus a constant. `None` is zero.
+#[derive(Clone, Copy)]
+pub struct Fact {
+    pub left: Option<u32>,
+    pub right: Option<u32>,
+    pub plus: i128,
+}
+
+impl Fact {
+    /// The node at which the fact's edge starts: its right.
+    pub fn start(&self) -> Option<u32>
+        ensures { result ≡ self.now.right }
+    {
+        self.right
+    }
+}
 
 /// Facts that show a goal.
 #[derive(Drop)]

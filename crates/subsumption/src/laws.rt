@@ -1,8 +1,8 @@
 // What closed tables of facts say: each function proves what its contract says, and does nothing.
 
 ghost use Rattle.std.specs.Prelude.{ℕ};
-ghost use Rattle.subsumption.specs.TableExamples.{ChainsEntail, ContradictionsEntailAll, ShiftsMoveFacts};
-ghost use Rattle.subsumption.specs.ShownTables.{AnswersAreShown, NewShowsNone, ShowAll, ShowOne};
+ghost use Rattle.subsumption.specs.TableExamples.{ChainsEntail, ConstantsAreLimited, ContradictionsEntailAll, JoinsKeepTheWeaker, ShiftsMoveFacts};
+ghost use Rattle.subsumption.specs.ShownTables.{AnswersAreShown, ShowOne};
 ghost use Rattle.subsumption.specs.TableLaws.{AreExact, EntailsExactly, EntailsTermsExactly, GiveTables, HaveOneForm, NoFactsAreMet};
 
 /// Worked examples.
@@ -10,6 +10,8 @@ pub fn closed_tables()
     ensures chain { ChainsEntail }
     ensures contradiction { ContradictionsEntailAll }
     ensures shift { ShiftsMoveFacts }
+    ensures limits { ConstantsAreLimited }
+    ensures join { JoinsKeepTheWeaker }
 {}
 
 /// A table entails exactly what each valuation that meets its facts meets, and none is kept from meeting no facts.
@@ -34,11 +36,8 @@ pub fn tables_have_one_form()
     ensures { HaveOneForm }
 {}
 
-/// A table of facts shows one closed table at most: a new one that without facts, and after each call what the change makes
-/// of it. Its answers are what that says.
+/// Facts show one closed table at most, and an exact answer to a question about them is what that says.
 pub fn facts_show_tables()
-    ensures none { NewShowsNone }
-    ensures calls { ShowAll }
     ensures answers { AnswersAreShown }
     ensures one { ShowOne }
 {}

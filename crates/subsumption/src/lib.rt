@@ -1,11 +1,12 @@
 // Facts that say of two terms that the one is at most the other, and what follows from them.
 #![tactic(auto)]
 
-mod changes;
-mod closure;
+mod answers;
 pub mod fact;
 pub mod facts;
 pub mod laws;
-mod question;
+mod matrix;
+mod numbers;
 mod relaxation;
-mod settle;
+pub mod search;
+mod walks;

@@ -1,14 +1,13 @@
 // Distances by rounds in which all facts are relaxed, after Bellman and Ford.
 
-ghost use Rattle.std.specs.Prelude.{◌≡◌, ◌<◌, ◌^◌, ◌+ℤ◌, None, length, replicate, IfOk, OnOk};
+ghost use Rattle.std.specs.Prelude.{◌≡◌, ◌<◌, ◌^◌, ◌+ℤ◌, ◌||◌, None, length, replicate, IfOk, OnOk};
 ghost use Rattle.std.specs.List.{All};
-ghost use Rattle.difference_constraints.specs.Graphs.{node_of, at, IsEdge, IsWithin};
+ghost use Rattle.subsumption.specs.Graphs.{node_of, at, IsEdge, IsWithin};
 ghost use Rattle.subsumption.specs.Models.{AreEdges};
 ghost use Rattle.subsumption.specs.Relaxation.{far_away, Relaxes, IsRound, IsRelaxed, AreNamed, ShowsSearch, with_last};
 
+use crate::fact::Fact;
 use ckc_text::fault::NoMemory;
-use difference_constraints::distance::either;
-use difference_constraints::fact::Fact;
 use std::alloc::Global;
 
 /// Where the nodes stand at first that aren't the start: 2^118.
@@ -61,6 +60,13 @@ fn relax(
     distances[left] = allowed;
     last[left] = Some(*fact);
     true
+}
+
+/// Whether a distance fell: now, or before in the same round.
+fn either(a: bool, b: bool) -> bool
+    ensures { result ≡ a || b }
+{
+    a || b
 }
 
 /// Relaxes all facts, by the distances of the round before. Whether a distance fell.

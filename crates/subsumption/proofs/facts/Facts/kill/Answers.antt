@@ -1,20 +1,25 @@
-use Rattle.subsumption.proofs.Narrow.{narrow_left}
-use Rattle.std.proofs.Common.{◌<◌, refl, sym, subst}
-use Rattle.subsumption.specs.Tables.{Table, FollowsWithout}
-use Rattle.subsumption.specs.Facts.{Leaves}
-use Rattle.subsumption.specs.ShownTables.{Follow}
+use Rattle.std.proofs.Common.{◌<◌, ◌≡◌, sym, subst}
+use Rattle.subsumption.specs.Tables.{Becomes, FollowsWithout, Table}
 use Rattle.subsumption.specs.ClosedTables.{without}
-use Rattle.subsumption.proofs.ShownTables.{kill_follows}
+use Rattle.subsumption.specs.MatrixPaths.{table_by}
+use Rattle.subsumption.proofs.KeptTables.{broken_killed, kept_after, kill_becomes, kill_table, view}
 use Rattle.subsumption.proofs.facts.Facts.kill.Goals as goal
 
-pub invariant_of-self : goal.invariant_of-self
-invariant_of-self c = narrow_left _ _ _ c.self.invariant.few c.in_ok-facts.ensures.kept c.in_ok-facts.ensures.one c.in_ok-facts.ensures.leaves
+pub returns-then-self-clause-ok : goal.returns-then-self-clause-ok
+returns-then-self-clause-ok c =
+    let lt : c.args.var < c.self.inside.vars = subst (λ (t : Table). c.args.var < t.vars) (sym c.self.view_is) c.requires in
+    let P : Table → Type 0 = λ t. Becomes t (FollowsWithout c.args.var t.facts) t in
+    subst P c.self.view_is (kill_becomes _ _ _ _ _ _ _ c.self.invariant c.self.invariant c.args.var lt (broken_killed c.self.inside.vars c.args.var c.self.inside.broken c.self.inside.matrix c.if-self.true))
 
-pub returns-clause-shows : goal.returns-clause-shows
-returns-clause-shows c =
-    let first : Table = record { vars = c.self.inside.vars; facts = c.self.inside.facts.items } in
-    let after : Table = record { vars = c.self.inside.vars; facts = c.in_ok-facts.facts.items } in
-    let lt : c.args.var < first.vars = subst (λ (t : Table). c.args.var < t.vars) (sym c.self.view_is) c.requires in
-    let leaves : Leaves first.vars (FollowsWithout c.args.var first.facts) after.facts = rw (← c.as_slice.ensures.value) c.in_ok-facts.ensures.leaves in
-    let P : Table → Type 0 = λ t. Follow t (without t.vars c.args.var) after in
-    subst P c.self.view_is (kill_follows first after refl c.in_ok-facts.ensures.kept c.args.var lt leaves)
+pub returns-clause-table : goal.returns-clause-table
+returns-clause-table c =
+    let P : Table → Type 0 = λ t. table_by c.self.inside.broken c.apply.new.self ≡ without t.vars c.args.var t.table in
+    subst P c.self.view_is (kill_table _ c.self.inside.path.items _ _ _ _ c.if-self.false c.self.invariant c.apply.ensures.table)
+
+pub returns-clause-ok : goal.returns-clause-ok
+returns-clause-ok c =
+    let lt : c.args.var < c.self.inside.vars = subst (λ (t : Table). c.args.var < t.vars) (sym c.self.view_is) c.requires in
+    let table = kill_table _ c.self.inside.path.items _ _ _ _ c.if-self.false c.self.invariant c.apply.ensures.table in
+    let left = kept_after _ _ _ _ _ c.if-self.false c.self.invariant c.apply.ensures.size c.apply.ensures.canonical in
+    let P : Table → Type 0 = λ t. Becomes t (FollowsWithout c.args.var t.facts) (view c.self.inside.vars c.self.inside.broken c.self.inside.path.items c.apply.new.self) in
+    subst P c.self.view_is (kill_becomes _ _ _ _ _ _ _ c.self.invariant left c.args.var lt table)

@@ -1,35 +1,29 @@
-use Rattle.std.proofs.Common.{ℕ, ℤ, ◌≡◌, ◌∙◌, List, ap, subst, ◌<◌, refl, sym}
-use Rattle.std.specs.Int.{w64}
+use Rattle.std.proofs.Common.{◌<◌, ◌≡◌, FitsSigned, to_z, of_z, ap, sym, subst, rules, ◌∙◌}
+use Rattle.std.specs.Int.{w64, w128}
 use Rattle.std.proofs.lemmas.Int.{to_z-of_z}
-use Rattle.difference_constraints.specs.declared.fact.Fact.{Fact}
-use Rattle.difference_constraints.specs.Shifts.{moved}
-use Rattle.subsumption.specs.Facts.{Entails, Leaves}
-use Rattle.subsumption.specs.Tables.{Table}
-use Rattle.subsumption.proofs.Narrow.{narrow_left}
-use Rattle.subsumption.specs.ShownTables.{Follow}
+use Rattle.subsumption.specs.Facts.{Entails}
+use Rattle.subsumption.specs.Shifts.{moved}
+use Rattle.subsumption.specs.Tables.{Becomes, Table}
 use Rattle.subsumption.specs.ClosedTables.{shifted}
-use Rattle.subsumption.proofs.ShownTables.{shift_follows}
+use Rattle.subsumption.specs.MatrixPaths.{table_by}
+use Rattle.subsumption.proofs.KeptTables.{broken_shifted, kept_after, shift_becomes, shift_table, view}
 use Rattle.subsumption.proofs.facts.Facts.shift.Goals as goal
 
-pub invariant_of-self : goal.invariant_of-self
-invariant_of-self c = narrow_left _ _ _ c.self.invariant.few c.in_ok-facts.ensures.kept c.in_ok-facts.ensures.one c.in_ok-facts.ensures.leaves
+pub returns-then-self-clause-ok : goal.returns-then-self-clause-ok
+returns-then-self-clause-ok c =
+    let lt : c.args.var < c.self.inside.vars = subst (λ (t : Table). c.args.var < t.vars) (sym c.self.view_is) c.requires in
+    let P : Table → Type 0 = λ t. Becomes t (λ goal. Entails t.facts (moved c.args.var c.args.c goal)) t in
+    subst P c.self.view_is (shift_becomes _ _ _ _ _ _ _ c.self.invariant c.self.invariant c.args.var c.args.c lt (broken_shifted c.self.inside.vars c.args.var c.args.c c.self.inside.broken c.self.inside.matrix c.if-self.true))
+
+pub returns-clause-table : goal.returns-clause-table
+returns-clause-table c =
+    let P : Table → Type 0 = λ t. table_by c.self.inside.broken c.apply.new.self ≡ shifted t.vars c.args.var c.args.c t.table in
+    subst P c.self.view_is (shift_table _ c.self.inside.path.items _ _ _ _ _ _ c.if-self.false (let e = to_z-of_z w64 c.args.c c.ranges.c in let fits : FitsSigned w128 c.args.c = search rules in ap (λ z. to_z w128 (of_z w128 z)) e ∙ to_z-of_z w128 c.args.c fits) c.self.invariant c.apply.ensures.table)
 
 pub returns-clause-ok : goal.returns-clause-ok
 returns-clause-ok c =
-    let n : c.self.inside.vars ≡ c.args.self.now.vars = ap (λ (t : Table). t.vars) c.self.view_is in
-    let e : c.as_slice.result.now ≡ c.args.self.now.facts = c.as_slice.ensures.value ∙ ap (λ (t : Table). t.facts) c.self.view_is in
-    let P : List Fact → Type 0 = λ F. Leaves c.self.inside.vars (λ goal. Entails F (moved c.args.var c.args.c goal)) c.in_ok-facts.facts.items in
-    let R : ℤ → Type 0 = λ z. Leaves c.self.inside.vars (λ goal. Entails c.as_slice.result.now (moved c.args.var z goal)) c.in_ok-facts.facts.items in
-    let Q : ℕ → Type 0 = λ m. Leaves m (λ goal. Entails c.args.self.now.facts (moved c.args.var c.args.c goal)) c.in_ok-facts.facts.items in
-    record { vars = n; facts = subst Q n (subst P e (subst R (to_z-of_z w64 c.args.c c.ranges.c) c.in_ok-facts.ensures.leaves)) }
-
-pub returns-clause-shows : goal.returns-clause-shows
-returns-clause-shows c =
-    let first : Table = record { vars = c.self.inside.vars; facts = c.self.inside.facts.items } in
-    let after : Table = record { vars = c.self.inside.vars; facts = c.in_ok-facts.facts.items } in
-    let lt : c.args.var < first.vars = subst (λ (t : Table). c.args.var < t.vars) (sym c.self.view_is) c.requires in
-    let R : ℤ → Type 0 = λ z. Leaves first.vars (λ goal. Entails c.as_slice.result.now (moved c.args.var z goal)) after.facts in
-    let P : List Fact → Type 0 = λ F. Leaves first.vars (λ goal. Entails F (moved c.args.var c.args.c goal)) after.facts in
-    let leaves = subst P c.as_slice.ensures.value (subst R (to_z-of_z w64 c.args.c c.ranges.c) c.in_ok-facts.ensures.leaves) in
-    let Q : Table → Type 0 = λ t. Follow t (shifted t.vars c.args.var c.args.c) after in
-    subst Q c.self.view_is (shift_follows first after refl c.in_ok-facts.ensures.kept c.args.var c.args.c lt leaves)
+    let lt : c.args.var < c.self.inside.vars = subst (λ (t : Table). c.args.var < t.vars) (sym c.self.view_is) c.requires in
+    let table = shift_table _ c.self.inside.path.items _ _ _ _ _ _ c.if-self.false (let e = to_z-of_z w64 c.args.c c.ranges.c in let fits : FitsSigned w128 c.args.c = search rules in ap (λ z. to_z w128 (of_z w128 z)) e ∙ to_z-of_z w128 c.args.c fits) c.self.invariant c.apply.ensures.table in
+    let left = kept_after _ _ _ _ _ c.if-self.false c.self.invariant c.apply.ensures.size c.apply.ensures.canonical in
+    let P : Table → Type 0 = λ t. Becomes t (λ goal. Entails t.facts (moved c.args.var c.args.c goal)) (view c.self.inside.vars c.self.inside.broken c.self.inside.path.items c.apply.new.self) in
+    subst P c.self.view_is (shift_becomes _ _ _ _ _ _ _ c.self.invariant left c.args.var c.args.c lt table)

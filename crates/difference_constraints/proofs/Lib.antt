@@ -1,2 +1,0 @@
-mod Eliminations
-mod Shifts

@@ -1,4 +1,0 @@
-pub mod Graphs
-pub mod Shifts
-pub mod Eliminations
-pub mod Distances
