@@ -2,8 +2,9 @@
 // itself.
 //
 // Words: `read` or `print`, and the number of functions (at most 4,000); or `facts`, and the numbers of variables (1 to
-// 4,096), of facts and of questions. `read` prints how many functions were read, `print` the source, and `facts` how
-// many questions are answered by yes.
+// 4,096), of facts and of questions; or `changes` or `joins`, and the numbers of variables and of rounds or joins in a
+// dense table. `read` prints how many functions were read, `print` the source, `facts` and `changes` how many questions
+// are answered by yes, and `joins` how many joins were done.
 #![tactic(auto)]
 
 ghost use Rattle.std.specs.Prelude.{◌<◌, ◌≤◌};
@@ -11,7 +12,7 @@ ghost use Rattle.std.specs.Prelude.{◌<◌, ◌≤◌};
 mod facts;
 mod source;
 
-use facts::entailed;
+use facts::{changed, entailed, joined};
 use source::{functions_read, source_of};
 use std::env;
 use std::io::{self, Write};
@@ -23,7 +24,7 @@ fn main(rt: HostRuntime) -> ExitCode {
         ExitCode::SUCCESS
     } else {
         let _ = eprintln!(rt;
-            "wanted: read N, print N or facts N N N, with numbers that aren't too great"
+            "wanted: read N, print N, facts N N N, changes N N or joins N N, with numbers that aren't too great"
         );
         ExitCode::FAILURE
     }
@@ -50,6 +51,12 @@ fn does(rt: &HostRuntime, words: &[String]) -> bool {
     match words {
         [what, functions] => match number(functions) {
             Some(functions) if functions <= 4000 => does_source(rt, what.as_str(), functions),
+            _ => false,
+        },
+        [what, vars, count] => match (number(vars), number(count)) {
+            (Some(vars), Some(count)) if vars > 0 && vars <= 4096 => {
+                does_dense(rt, what.as_str(), vars, count)
+            }
             _ => false,
         },
         [what, vars, facts, questions] if what.as_str() == "facts" => {
@@ -89,5 +96,23 @@ fn asks(rt: &HostRuntime, vars: u32, facts: u32, questions: u32) -> bool
     match entailed(rt.alloc(), vars, facts, questions) {
         Some(entailed) => println!(rt; "{entailed} of {questions} are entailed").is_ok(),
         None => false,
+    }
+}
+
+// Changes or joins dense tables so often.
+fn does_dense(rt: &HostRuntime, what: &str, vars: u32, count: u32) -> bool
+    requires some { 0 < vars }
+    requires few { vars ≤ 4096 }
+{
+    match what {
+        "changes" => match changed(rt.alloc(), vars, count) {
+            Some(entailed) => println!(rt; "{entailed} of {count} are entailed").is_ok(),
+            None => false,
+        },
+        "joins" => match joined(rt.alloc(), vars, count) {
+            Some(done) => println!(rt; "{done} joins were done").is_ok(),
+            None => false,
+        },
+        _ => false,
     }
 }
