@@ -13,7 +13,8 @@ line text = text ++ 10 ∷ []
 
 -- a line about what stands at a place, as `[check C2 6:5 bounds]`
 abbrev pub placed_text : List ℕ → Code → Place → List ℕ
-placed_text word code place = line (codes "[" ++ word ++ codes " " ++ number_of code ++ codes " " ++ decimal place.line ++ codes ":" ++ decimal place.col ++ codes " " ++ name_of code ++ codes "]")
+placed_text word code place = line (codes "[" ++ word ++ codes " " ++ number_of code ++ codes " " ++ decimal place.line ++ codes ":" ++ decimal place.col
+    ++ codes " " ++ name_of code ++ codes "]")
 
 -- the number of an act, where a stop names one
 abbrev pub act_number_text : Option ℕ → List ℕ

@@ -24,7 +24,8 @@ and_then-gives Stuck = refl
 and_then-gives Short = refl
 
 -- it doesn't matter how steps are grouped
-pub and_then-and_then : {S A B C : Type 0} (o : Outcome S A) (f : A → S → Outcome S B) (g : B → S → Outcome S C) → and_then (and_then o f) g ≡ and_then o (λ a s. and_then (f a s) g)
+pub and_then-and_then : {S A B C : Type 0} (o : Outcome S A) (f : A → S → Outcome S B) (g : B → S → Outcome S C)
+    → and_then (and_then o f) g ≡ and_then o (λ a s. and_then (f a s) g)
 and_then-and_then (Gives value state) f g = refl
 and_then-and_then (Ends ending state) f g = refl
 and_then-and_then Stuck f g = refl

@@ -21,7 +21,8 @@ pub cells_back : (n limit : ℕ) (cells : List ℕ) (len : ℕ) → IsRow n limi
 cells_back n limit cells len h = rw (length_back n limit cells len h, ← h.padded) (take-append-drop len cells)
 
 -- a list put over the first of n zeros
-pub row_of : (n limit : ℕ) (items : List ℕ) → 0 < limit → All (λ c. c < limit) items → length items ≤ n → IsRow n limit (items ++ drop (length items) (replicate n 0)) (length items)
+pub row_of : (n limit : ℕ) (items : List ℕ) → 0 < limit → All (λ c. c < limit) items → length items ≤ n
+    → IsRow n limit (items ++ drop (length items) (replicate n 0)) (length items)
 row_of n limit items some small h =
     record {
       fits = h;

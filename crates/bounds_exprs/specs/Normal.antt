@@ -53,7 +53,8 @@ elements_of size (Pointer var) = None
 elements_of size (Size bytes element) = elements_in size (term_of (Size bytes element))
 elements_of size (Plus left right) = elements_in size (term_of (Plus left right))
 elements_of size (Minus left right) = elements_in size (term_of (Minus left right))
-elements_of size (Times left right) = cond (is_element_size right) (term_of left) (cond (is_element_size left) (term_of right) (elements_in size (term_of (Times left right))))
+elements_of size (Times left right) =
+    cond (is_element_size right) (term_of left) (cond (is_element_size left) (term_of right) (elements_in size (term_of (Times left right))))
 elements_of size Other = None
 
 -- an end of a pair: a pointer variable, or the pointer that the bounds are for, and how far from it

@@ -1,5 +1,6 @@
 -- Sums in bounds as plain data, and what they come to over the whole numbers.
-use Rattle.std.specs.Prelude.{ℕ, ℤ, pos, ◌+ℤ◌, ◌-ℤ◌, ◌*ℤ◌, Bool, true, false, cond, ◌&&◌, nat_lt, nat_le, List, [], ◌∷◌, ◌++◌, length, slice_get, Option, None, Some}
+use Rattle.std.specs.Prelude.{ℕ, ℤ, pos, ◌+ℤ◌, ◌-ℤ◌, ◌*ℤ◌, Bool, true, false, cond, ◌&&◌, nat_lt, nat_le, List, [], ◌∷◌, ◌++◌, length, slice_get}
+use Rattle.std.specs.Prelude.{Option, None, Some}
 use Rattle.bounds_exprs.specs.declared.term.Term.{Term}
 use Rattle.bounds_exprs.specs.declared.form as code
 use Rattle.bounds_exprs.specs.declared.form.SumForm.TheVariants as forms
@@ -65,7 +66,8 @@ is_term (Number value) = is_within term_limit value
 is_term (Variable var) = true
 is_term (Pointer var) = false
 is_term (Size bytes element) = nat_lt 0 bytes
-is_term (Plus left right) = is_term left && is_term right && nat_le (length (variables_of left ++ variables_of right)) 1 && is_within term_limit (constant_of left +ℤ constant_of right)
+is_term (Plus left right) =
+    is_term left && is_term right && nat_le (length (variables_of left ++ variables_of right)) 1 && is_within term_limit (constant_of left +ℤ constant_of right)
 is_term (Minus left right) = is_term left && is_term right && is_closed right && is_within term_limit (constant_of left -ℤ constant_of right)
 is_term (Times left right) = is_term left && is_term right && is_closed left && is_closed right && is_within term_limit (constant_of left *ℤ constant_of right)
 is_term Other = false

@@ -36,7 +36,8 @@ pub data IsRefused (src : List ℕ) : SourceFault → Type 0 where
   no_tree : {fault : SourceFault} (tokens : List Token) → AreTokens src tokens → IsFault (length src) tokens fault → IsRefused src fault
   not_built : (tree : Tree) → HasTree src tree → is_built tree ≡ false → IsRefused src refusals.not_built
   misnamed : {fault : SourceFault} (tree : Tree) → HasTree src tree → is_built tree ≡ true → naming_fault tree ≡ Some fault → IsRefused src fault
-  breaks : {fault : SourceFault} (tree : Tree) → HasTree src tree → is_built tree ≡ true → naming_fault tree ≡ None → checked (place_at src) tree ≡ Breaks fault → IsRefused src fault
+  breaks : {fault : SourceFault} (tree : Tree) → HasTree src tree → is_built tree ≡ true → naming_fault tree ≡ None
+      → checked (place_at src) tree ≡ Breaks fault → IsRefused src fault
 
 -- the source has a core, or a fault
 abbrev pub CoreOrFault : List ℕ → Type 0

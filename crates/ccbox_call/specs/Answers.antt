@@ -66,12 +66,14 @@ status_with (Some refused) ending = 8
 
 -- the text and the status of a core with input numbers over a list of acts
 pub data ListAnswer (c : Core) (settings : Settings) (inputs : List ℤ) (list : ActList) : List ℕ → ℕ → Type 0 where
-  ran : (ending : Ending) (s : State) → RunsTo c settings inputs list ending s → ListAnswer c settings inputs list (text_of settings list ending s) (status_with (needed_line list s.world.events) ending)
+  ran : (ending : Ending) (s : State) → RunsTo c settings inputs list ending s
+      → ListAnswer c settings inputs list (text_of settings list ending s) (status_with (needed_line list s.world.events) ending)
 
 -- of a core
 pub data CoreAnswer (files : Files) (options : Options) (c : Core) : List ℕ → ℕ → Type 0 where
   acts_missing : (name : List ℕ) → options.acts ≡ Some name → file_at files name ≡ None → CoreAnswer files options c (missing_text name) 3
-  acts : {text : List ℕ} {status : ℕ} (list : ActList) → acts_at files options.acts ≡ Some list → ListAnswer c (settings_of options) (inputs_of options) list text status → CoreAnswer files options c text status
+  acts : {text : List ℕ} {status : ℕ} (list : ActList) → acts_at files options.acts ≡ Some list
+      → ListAnswer c (settings_of options) (inputs_of options) list text status → CoreAnswer files options c text status
 
 -- of a source
 pub data SourceAnswer (files : Files) (options : Options) (src : List ℕ) : List ℕ → ℕ → Type 0 where
@@ -81,7 +83,8 @@ pub data SourceAnswer (files : Files) (options : Options) (src : List ℕ) : Lis
 -- of a file
 pub data FileAnswer (files : Files) (options : Options) (name : List ℕ) : List ℕ → ℕ → Type 0 where
   missing : file_at files name ≡ None → FileAnswer files options name (missing_text name) 3
-  source : {text : List ℕ} {status : ℕ} (src : List ℕ) → file_at files name ≡ Some src → SourceAnswer files options src text status → FileAnswer files options name text status
+  source : {text : List ℕ} {status : ℕ} (src : List ℕ) → file_at files name ≡ Some src → SourceAnswer files options src text status
+      → FileAnswer files options name text status
 
 -- of a request
 abbrev pub RequestAnswer : Files → Request → List ℕ → ℕ → Type 0
@@ -90,7 +93,8 @@ RequestAnswer files (Run name options) text status = FileAnswer files options na
 -- of the words
 pub data Answer (files : Files) (words : List (List ℕ)) : List ℕ → ℕ → Type 0 where
   usage : request_of words ≡ None → Answer files words usage_text 2
-  asked : {text : List ℕ} {status : ℕ} (request : Request) → request_of words ≡ Some request → RequestAnswer files request text status → Answer files words text status
+  asked : {text : List ℕ} {status : ℕ} (request : Request) → request_of words ≡ Some request → RequestAnswer files request text status
+      → Answer files words text status
 
 -- ---- what a call gives
 
@@ -138,7 +142,8 @@ SourceIsRefused files words = (options : Options) × (src : List ℕ) × (fault 
 -- the source is accepted, and its run ends so, or needs this refused line before
 abbrev pub RunEndsWith : Files → List (List ℕ) → Option RefusedLine → Ending → Type 0
 RunEndsWith files words needed ending =
-    (options : Options) × (list : ActList) × (c : Core) × (s : State) × AsksFor files words options list c × RunsTo c (settings_of options) (inputs_of options) list ending s × (needed_line list s.world.events ≡ needed)
+    (options : Options) × (list : ActList) × (c : Core) × (s : State) × AsksFor files words options list c
+        × RunsTo c (settings_of options) (inputs_of options) list ending s × (needed_line list s.world.events ≡ needed)
 
 abbrev pub RunExits : Files → List (List ℕ) → Type 0
 RunExits files words = (value : ℤ) × RunEndsWith files words None (Exit value)
@@ -158,7 +163,8 @@ SourceIsMissing files words = (name : List ℕ) × (options : Options) × (reque
 -- the source is accepted, and the file of acts isn't there
 abbrev pub ActsAreMissing : Files → List (List ℕ) → Type 0
 ActsAreMissing files words =
-    (name : List ℕ) × (options : Options) × (src : List ℕ) × (c : Core) × AsksToRun files words options src × Accepts src c × (options.acts ≡ Some name) × (file_at files name ≡ None)
+    (name : List ℕ) × (options : Options) × (src : List ℕ) × (c : Core) × AsksToRun files words options src × Accepts src c × (options.acts ≡ Some name)
+        × (file_at files name ≡ None)
 
 abbrev pub FileIsMissing : Files → List (List ℕ) → Type 0
 FileIsMissing files words = SourceIsMissing files words ⊎ ActsAreMissing files words
@@ -181,16 +187,20 @@ pub record PrintsRun (options : Options) (list : ActList) (c : Core) (old new : 
   pub last : State
   pub runs : RunsTo c (settings_of options) (inputs_of options) list ending last
   pub view : ViewIsFold (replicate (settings_of options).sandbox 0) list.acts last.world
-  pub view_before : (refused : RefusedLine) → needed_line list last.world.events ≡ Some refused → ViewIsFoldOf (replicate (settings_of options).sandbox 0) list.acts (before_due last.world.events)
-  pub printed : ((status ≡ status_with (needed_line list last.world.events) ending) × (new ≡ grown old (text_of (settings_of options) list ending last))) ⊎ IsFailure status
+  pub view_before : (refused : RefusedLine) → needed_line list last.world.events ≡ Some refused
+      → ViewIsFoldOf (replicate (settings_of options).sandbox 0) list.acts (before_due last.world.events)
+  pub printed : ((status ≡ status_with (needed_line list last.world.events) ending) × (new ≡ grown old (text_of (settings_of options) list ending last)))
+      ⊎ IsFailure status
 
 abbrev pub PrintedRun : Files → List (List ℕ) → Option (List ℕ) → Option (List ℕ) → ℕ → Type 0
-PrintedRun files words old new status = (options : Options) (list : ActList) (c : Core) → AsksFor files words options list c → PrintsRun options list c old new status
+PrintedRun files words old new status =
+    (options : Options) (list : ActList) (c : Core) → AsksFor files words options list c → PrintsRun options list c old new status
 
 -- where no failure is counted, the run of an accepted source is printed whole, unless memory runs out
 abbrev pub IsComplete : Files → List (List ℕ) → Option (List ℕ) → Option (List ℕ) → ℕ → Type 0
 IsComplete files words old new status =
-    (options : Options) (list : ActList) (c : Core) (ending : Ending) (s : State) → AsksFor files words options list c → RunsTo c (settings_of options) (inputs_of options) list ending s →
+    (options : Options) (list : ActList) (c : Core) (ending : Ending) (s : State) → AsksFor files words options list c
+        → RunsTo c (settings_of options) (inputs_of options) list ending s →
     ((status ≡ status_with (needed_line list s.world.events) ending) × (new ≡ grown old (text_of (settings_of options) list ending s))) ⊎ (status ≡ 9)
 
 -- a count of failures didn't rise

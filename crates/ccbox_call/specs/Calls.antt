@@ -22,24 +22,31 @@ IsFoundStatus status = (status ≡ 0) ⊎ ((status ≡ 1) ⊎ ((status ≡ 6) �
 
 -- what the status of an answer says of the files' counts: a missing file is counted
 abbrev pub StatusCounts : ℕ → Counts → Counts → Type 0
-StatusCounts status before after = (after.faults ≡ before.faults) × (((status ≡ 3) × Rises before.misses after.misses) ⊎ (IsFoundStatus status × (after.misses ≡ before.misses)))
+StatusCounts status before after =
+    (after.faults ≡ before.faults) × (((status ≡ 3) × Rises before.misses after.misses) ⊎ (IsFoundStatus status × (after.misses ≡ before.misses)))
 
 -- an answer was given: its text and its status meet Is. Or something failed
 pub data Gives (Is : List ℕ → ℕ → Type 0) (old new : Option (List ℕ)) (before after : Counts) : ℕ → Type 0 where
   -- the answer was written whole
-  answered : (text : List ℕ) (status : ℕ) → Is text status → StatusCounts status before after → new ≡ grown old text → after.sink ≡ before.sink → Gives Is old new before after status
+  answered : (text : List ℕ) (status : ℕ) → Is text status → StatusCounts status before after → new ≡ grown old text → after.sink ≡ before.sink
+      → Gives Is old new before after status
   -- the output failed, behind a front of the answer
-  output_failed : (text : List ℕ) (status k : ℕ) → Is text status → before.misses ≤ after.misses → after.faults ≡ before.faults → k ≤ length text → new ≡ grown old (take k text) → Rises before.sink after.sink → Gives Is old new before after 5
+  output_failed : (text : List ℕ) (status k : ℕ) → Is text status → before.misses ≤ after.misses → after.faults ≡ before.faults → k ≤ length text
+      → new ≡ grown old (take k text) → Rises before.sink after.sink → Gives Is old new before after 5
   -- the files failed, and nothing was written
   files_failed : new ≡ old → after.misses ≡ before.misses → Rises before.faults after.faults → after.sink ≡ before.sink → Gives Is old new before after 4
   -- memory ran out, and nothing was written
   no_memory : new ≡ old → before.misses ≤ after.misses → after.faults ≡ before.faults → after.sink ≡ before.sink → Gives Is old new before after 9
   -- memory ran out behind a front of the answer
-  no_memory_behind : (text : List ℕ) (status k : ℕ) → Is text status → k ≤ length text → new ≡ grown old (take k text) → before.misses ≤ after.misses → after.faults ≡ before.faults → after.sink ≡ before.sink → Gives Is old new before after 9
+  no_memory_behind : (text : List ℕ) (status k : ℕ) → Is text status → k ≤ length text → new ≡ grown old (take k text) → before.misses ≤ after.misses
+      → after.faults ≡ before.faults → after.sink ≡ before.sink → Gives Is old new before after 9
 
 -- how a call ends
 pub data CallEnds (words : List (List ℕ)) (told : Option Files) (old new : Option (List ℕ)) (before after : Counts) (result : ℕ) : Type 0 where
   -- the words spell no request, and no file was touched
-  usage : request_of words ≡ None → LineGiven usage_text 2 old new before.sink after.sink result → after.misses ≡ before.misses → after.faults ≡ before.faults → CallEnds words told old new before after result
+  usage : request_of words ≡ None → LineGiven usage_text 2 old new before.sink after.sink result → after.misses ≡ before.misses → after.faults ≡ before.faults
+      → CallEnds words told old new before after result
   -- they spell a request, which has an answer
-  asked : (request : Request) → request_of words ≡ Some request → Gives (λ text status. Told told (λ files. RequestAnswer files request text status)) old new before after result → CallEnds words told old new before after result
+  asked : (request : Request) → request_of words ≡ Some request
+      → Gives (λ text status. Told told (λ files. RequestAnswer files request text status)) old new before after result
+      → CallEnds words told old new before after result

@@ -14,7 +14,8 @@ use Rattle.run_core_transcript.specs.Diagnostics.{usage_text}
 use Rattle.ccbox_call_status.specs.Given.{LineGiven}
 use Rattle.ccbox_call_words.specs.Requests.{request_of}
 use Rattle.ccbox_call.specs.Calls.{CallEnds}
-use Rattle.ccbox_call.specs.Answers.{GivesFront, GivesWhole, IsFailure, IsStatus, Exactly, Tells, SourceIsRefused, FileIsMissing, RunExits, CheckFails, RunStops, LineIsRefused, PrintedRun, IsComplete, IsQuiet, IsUntouched}
+use Rattle.ccbox_call.specs.Answers.{GivesFront, GivesWhole, IsFailure, IsStatus, Exactly, Tells, SourceIsRefused, FileIsMissing, RunExits}
+use Rattle.ccbox_call.specs.Answers.{CheckFails, RunStops, LineIsRefused, PrintedRun, IsComplete, IsQuiet, IsUntouched}
 
 -- the words of an outcome without any: memory ran out, or one of them is no text, and then they count as none
 abbrev pub words_without : ErrorKind → Option (List (List ℕ))

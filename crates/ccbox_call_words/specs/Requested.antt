@@ -2,7 +2,8 @@
 use Rattle.std.specs.Prelude.{ℕ, List, [], Option, Some, None, option_map, unwrap_or}
 use Rattle.std.proofs.Common.{ℤ}
 use Rattle.std.specs.Borrow.{Bor}
-use Rattle.ccbox_call_words.specs.Requests.{Request, Run, Options, Choice, ActsFrom, InputOf, BudgetOf, SandboxOf, TrustedOf, BaseOf, View, Releases, Dump, input_list}
+use Rattle.ccbox_call_words.specs.Requests.{Request, Run, Options, Choice, ActsFrom, InputOf, BudgetOf, SandboxOf, TrustedOf, BaseOf, View}
+use Rattle.ccbox_call_words.specs.Requests.{Releases, Dump, input_list}
 use Rattle.ccbox_call_words.specs.declared.inputs.InputList.{InputList}
 use Rattle.ccbox_call_words.specs.declared.request.Request as code
 use Rattle.ccbox_call_words.specs.declared.request.Options as code_options

@@ -1,5 +1,6 @@
 -- What the words of the command line ask for.
-use Rattle.std.specs.Prelude.{ℕ, zero, suc, ◌%◌, Bool, true, false, not, ◌&&◌, ◌==◌, nat_le, if◌then◌else◌, List, [], ◌∷◌, codes, drop, length, Option, Some, None, option_map, unwrap_or, pos, negsuc}
+use Rattle.std.specs.Prelude.{ℕ, zero, suc, ◌%◌, Bool, true, false, not, ◌&&◌, ◌==◌, nat_le, if◌then◌else◌, List, [], ◌∷◌, codes, drop, length}
+use Rattle.std.specs.Prelude.{Option, Some, None, option_map, unwrap_or, pos, negsuc}
 use Rattle.std.proofs.Common.{ℤ}
 use Rattle.std.specs.Option.{option_and_then}
 use Rattle.std.specs.List.{list_all, starts_with}

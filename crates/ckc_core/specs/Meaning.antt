@@ -1,5 +1,6 @@
 -- What a program means: values with places, each check at its place, and stuck where nothing is meant.
-use Rattle.std.specs.Prelude.{ℕ, zero, suc, ◌+◌, ◌%◌, Bool, true, false, not, ◌&&◌, ◌==◌, List, [], ◌∷◌, ◌++◌, Option, Some, None, option_map, slice_get, slice_set, nat_lt, length, map, drop, replicate, int_lt, int_le, bit_and, bit_or, bit_xor, pos}
+use Rattle.std.specs.Prelude.{ℕ, zero, suc, ◌+◌, ◌%◌, Bool, true, false, not, ◌&&◌, ◌==◌, List, [], ◌∷◌, ◌++◌, Option, Some, None, option_map}
+use Rattle.std.specs.Prelude.{slice_get, slice_set, nat_lt, length, map, drop, replicate, int_lt, int_le, bit_and, bit_or, bit_xor, pos}
 use Rattle.std.proofs.Common.{ℤ}
 use Rattle.ckc_text.specs.declared.code.Code.TheVariants.{C1, C9}
 use Rattle.act_words.specs.declared.ending.Ending.TheVariants.{Check, Exit}
@@ -19,7 +20,8 @@ use Rattle.ckc_core.specs.declared.program.Operator.TheVariants as operators
 use Rattle.ckc_core.specs.declared.program.Comparison.{Comparison}
 use Rattle.ckc_core.specs.declared.program.Comparison.TheVariants as comparisons
 use Rattle.ckc_core.specs.Core as core
-use Rattle.ckc_core.specs.States.{Value, Number, Null, At, Cell, State, in_world, cell_at, with_cell, stands_at, stands_behind, same_type, has_type, zero_of, object_block}
+use Rattle.ckc_core.specs.States.{Value, Number, Null, At, Cell, State, in_world, cell_at, with_cell, stands_at, stands_behind, same_type, has_type}
+use Rattle.ckc_core.specs.States.{zero_of, object_block}
 
 -- the outcome of a step of the meaning
 abbrev pub Result : Type 0 → Type 0
@@ -234,12 +236,15 @@ abbrev mutual
   value g k (core.Compare comparison left right) s = and_then (value g k left s) (λ a t. and_then (value g k right t) (compared comparison a))
   value g k (core.Same left right) s = and_then (value g k left s) (λ a t. and_then (value g k right t) (λ b u. test_given (same_place a b) u))
   value g k (core.AndAlso left right) s =
-      and_then (value g k left s) (λ a t. choose (truth a) (and_then (value g k right t) (λ b u. Gives (number_of_test (truth b)) u)) (Gives (number_of_test false) t))
+      and_then (value g k left s) (λ a t. choose (truth a) (and_then (value g k right t) (λ b u. Gives (number_of_test (truth b)) u))
+          (Gives (number_of_test false) t))
   value g k (core.OrElse left right) s =
-      and_then (value g k left s) (λ a t. choose (truth a) (Gives (number_of_test true) t) (and_then (value g k right t) (λ b u. Gives (number_of_test (truth b)) u)))
+      and_then (value g k left s) (λ a t. choose (truth a) (Gives (number_of_test true) t)
+          (and_then (value g k right t) (λ b u. Gives (number_of_test (truth b)) u)))
   value g k (core.LowByte operand) s = and_then (value g k operand s) low_byte_of
   value g k (core.Call function arguments) s = and_then (values g k arguments s) (λ vs t. and_then (call_trusted g k function vs t) result_given)
-  value g k (core.TaintedCall import arguments site) s = and_then (values g k arguments s) (λ vs t. and_then (call_tainted g import (slice_get g.program.imports import) site vs t) result_given)
+  value g k (core.TaintedCall import arguments site) s =
+      and_then (values g k arguments s) (λ vs t. and_then (call_tainted g import (slice_get g.program.imports import) site vs t) result_given)
   value g k core.NextInput s = asked (next_input s.world) s (λ number t. Gives (Number number) t)
 
   -- the values of arguments, from left to right
@@ -330,11 +335,14 @@ abbrev mutual
   pub effect : Setting → Knot → core.Statement → State → Result Flow
   effect g k core.Nothing s = Gives Next s
   effect g k (core.SetLocal local e) s = and_then (value g k e s) (set_local local)
-  effect g k (core.Store type p e) s = and_then (pointer_of g k p s) (λ q t. and_then (value g k e t) (λ v u. and_then (place_from p q u) (λ place w. store_at type place v w)))
+  effect g k (core.Store type p e) s =
+      and_then (pointer_of g k p s) (λ q t. and_then (value g k e t) (λ v u. and_then (place_from p q u) (λ place w. store_at type place v w)))
   effect g k (core.UpdateLocal char local operator e site) s =
-      and_then (given (slice_get s.locals local) s) (λ old t. and_then (value g k e t) (λ v u. and_then (arithmetic_of operator site old v u) (λ new w. and_then (kept_if char new w) (set_local local))))
+      and_then (given (slice_get s.locals local) s) (λ old t. and_then (value g k e t)
+          (λ v u. and_then (arithmetic_of operator site old v u) (λ new w. and_then (kept_if char new w) (set_local local))))
   effect g k (core.Update type p operator e site) s =
-      and_then (place g k p s) (λ at t. and_then (load_at type at t) (λ old u. and_then (value g k e u) (λ v w. and_then (arithmetic_of operator site old v w) (λ new x. and_then (kept_if (is_char type) new x) (store_at type at)))))
+      and_then (place g k p s) (λ at t. and_then (load_at type at t) (λ old u. and_then (value g k e u)
+          (λ v w. and_then (arithmetic_of operator site old v w) (λ new x. and_then (kept_if (is_char type) new x) (store_at type at)))))
   effect g k (core.Evaluate e) s = and_then (value g k e s) (λ _ t. Gives Next t)
   effect g k (core.CallAlone function arguments) s = and_then (values g k arguments s) (λ vs t. and_then (call_trusted g k function vs t) no_result)
   effect g k (core.TaintedAlone import arguments site) s =
@@ -346,7 +354,8 @@ abbrev mutual
       and_then (value g k condition s) (λ v t. choose (truth v) (effect g k consequent t) (effect g k alternative t))
   effect g k (core.Loop condition body step) s =
       and_then (value g k condition s) (λ v t. choose (truth v)
-      (asked (spend_tick g.budget t.world) t (λ _ u. and_then (effect g k body u) (behind_turn (λ w. and_then (effect g k step w) (on_next (k.turn condition body step))))))
+      (asked (spend_tick g.budget t.world) t (λ _ u. and_then (effect g k body u)
+          (behind_turn (λ w. and_then (effect g k step w) (on_next (k.turn condition body step))))))
       (Gives Next t))
   effect g k (core.Return e) s = and_then (value g k e s) (λ v t. Gives (Returned (Some v)) t)
   effect g k core.ReturnNothing s = Gives (Returned None) s
@@ -380,7 +389,8 @@ abbrev pub back : State → Option Value → State → Result (Option Value)
 back before v after = Gives v (record after { locals = before.locals; depth = before.depth })
 
 abbrev pub body_if : Bool → Setting → Knot → core.Function → List Value → State → Result (Option Value)
-body_if true g k f values s = and_then (and_then (effects g k f.body (record s { locals = locals_for f values; depth = s.depth + 1 })) (answer f.result)) (back s)
+body_if true g k f values s =
+    and_then (and_then (effects g k f.body (record s { locals = locals_for f values; depth = s.depth + 1 })) (answer f.result)) (back s)
 body_if false g k f values s = Stuck
 
 abbrev pub body_of : Setting → Knot → Option core.Function → List Value → State → Result (Option Value)

@@ -1,5 +1,6 @@
 -- The states of the meaning: blocks of typed cells, local variables, and the world. No address stands in a state.
-use Rattle.std.specs.Prelude.{ℕ, zero, suc, ◌+◌, ◌==◌, ◌&&◌, Bool, true, false, List, [], ◌∷◌, Option, Some, None, map, slice_get, slice_set, nat_lt, pos, negsuc}
+use Rattle.std.specs.Prelude.{ℕ, zero, suc, ◌+◌, ◌==◌, ◌&&◌, Bool, true, false, List, [], ◌∷◌, Option, Some, None, map, slice_get, slice_set}
+use Rattle.std.specs.Prelude.{nat_lt, pos, negsuc}
 use Rattle.std.specs.Option.{option_and_then}
 use Rattle.std.proofs.Common.{ℤ}
 use Rattle.act_words.specs.Checks.{is_word_number}

@@ -1,5 +1,6 @@
 -- Directives by their parts: words, and other bytes one by one, with blanks between.
-use Rattle.std.specs.Prelude.{ℕ, min, max, Bool, true, false, not, ◌||◌, ◌&&◌, cond, List, length, take, drop, codes, Option, Some, None, is_some, Result, Ok, Err}
+use Rattle.std.specs.Prelude.{ℕ, min, max, Bool, true, false, not, ◌||◌, ◌&&◌, cond, List, length, take, drop, codes, Option, Some, None, is_some}
+use Rattle.std.specs.Prelude.{Result, Ok, Err}
 use Rattle.std.specs.List.{list_all, prefix_len}
 use Rattle.std.specs.Str.{bytes_eq, str_eq_ignore_ascii_case}
 use Rattle.ckc_text.specs.declared.code.Code.{Code}
@@ -61,4 +62,5 @@ pragma_of (word, rest) = cond (bytes_eq word (codes "CHECKED_SCOPE")) (scope_of 
 -- a directive other than `#include`, by its first part
 unfoldable pub named_directive : List ℕ × List ℕ → Piece
 named_directive (word, rest) =
-    cond (bytes_eq word (codes "define")) (definition_of (part rest).0 (part (part rest).1)) (cond (bytes_eq word (codes "pragma")) (pragma_of (part rest)) (Fault E05))
+    cond (bytes_eq word (codes "define")) (definition_of (part rest).0 (part (part rest).1))
+        (cond (bytes_eq word (codes "pragma")) (pragma_of (part rest)) (Fault E05))

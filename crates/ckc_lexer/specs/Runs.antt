@@ -9,7 +9,8 @@ abbrev pub pair_width : List ℕ → ℕ
 pair_width [] = 0
 pair_width (c ∷ cs) = cond (is_line_feed c) 0 2
 
--- how many bytes belong together at the front of the text; none where the run ends there: a comment at `*/`, a directive at the end of its line or at a comment, what is quoted at the quote or the end of its line
+-- how many bytes belong together at the front of the text; none where the run ends there: a comment at `*/`, a directive
+-- at the end of its line or at a comment, what is quoted at the quote or the end of its line
 abbrev pub width : Run → List ℕ → ℕ
 width Comment [] = 0
 width Comment (b ∷ bs) = cond (b == 42 && begins_with (λ c. c == 47) bs) 0 1

@@ -24,7 +24,8 @@ use Rattle.ckc_lexer_tokens.specs.declared.piece.Piece.TheVariants.{Gap, Lexeme,
 use Rattle.ckc_lexer.specs.declared.line.Line.{Line}
 use Rattle.ckc_lexer.specs.declared.line.Line.TheVariants.{Fresh, Marked, Behind}
 
--- what stands before a place of the source: the tokens, the definitions, the scope, the scopes that were kept, the last one first, and what its line has before it
+-- what stands before a place of the source: the tokens, the definitions, the scope, the scopes that were kept, the last
+-- one first, and what its line has before it
 pub record State : Type 0 where
   pub at : ℕ
   pub line : Line
@@ -54,7 +55,8 @@ go_on n line (Err fault) = Err fault
 unfoldable pub push : State → TokenKind → ℕ → Result State SourceFault
 push s kind n =
     cond (nat_lt (length s.tokens) 200000)
-    (Ok (record { at = s.at; line = s.line; tokens = s.tokens ++ token_at s.at (s.at + n) kind ∷ []; definitions = s.definitions; scope = s.scope; kept = s.kept }))
+    (Ok (record { at = s.at; line = s.line; tokens = s.tokens ++ token_at s.at (s.at + n) kind
+        ∷ []; definitions = s.definitions; scope = s.scope; kept = s.kept }))
     (Err (fault_at E08 s.at))
 
 abbrev pub push_after : Result State SourceFault → TokenKind → ℕ → Result State SourceFault
@@ -166,8 +168,10 @@ LexAnswers src (Ok tokens) = AreTokens src tokens.items
 LexAnswers src (Err (Source fault)) = HasFault src fault
 LexAnswers src (Err NoMemory) = Unit {0}
 
--- the tokens stand one behind the other, each with a byte at least, and end before a place; only behind a minus may one stand on the same bytes, as the number of a definition does
+-- the tokens stand one behind the other, each with a byte at least, and end before a place; only behind a minus may one
+-- stand on the same bytes, as the number of a definition does
 pub data InOrder : List Token → ℕ → Type 0 where
   none : {end : ℕ} → InOrder [] end
   token : (tokens : List Token) {end : ℕ} (t : Token) → InOrder tokens t.span.from → t.span.from < t.span.to → t.span.to ≤ end → InOrder (tokens ++ t ∷ []) end
-  again : (tokens : List Token) {end : ℕ} (t u : Token) → InOrder (tokens ++ t ∷ []) end → t.kind ≡ kind.Minus → u.span ≡ t.span → InOrder ((tokens ++ t ∷ []) ++ u ∷ []) end
+  again : (tokens : List Token) {end : ℕ} (t u : Token) → InOrder (tokens ++ t ∷ []) end → t.kind ≡ kind.Minus → u.span ≡ t.span
+      → InOrder ((tokens ++ t ∷ []) ++ u ∷ []) end

@@ -4,7 +4,11 @@ use Rattle.ckc_text.specs.declared.code.Code.TheVariants.{E02}
 use Rattle.ckc_lexer_tokens.specs.Bytes.{is_forbidden}
 use Rattle.ckc_lexer_tokens.specs.Words.{listed}
 use Rattle.ckc_lexer_tokens.specs.declared.token.TokenKind.{TokenKind}
-use Rattle.ckc_lexer_tokens.specs.declared.token.TokenKind.TheVariants.{OpenBrace, CloseBrace, OpenParen, CloseParen, OpenBracket, CloseBracket, Less, Greater, LessEqual, GreaterEqual, EqualEqual, NotEqual, Equal, PlusEqual, MinusEqual, PlusPlus, MinusMinus, Plus, Minus, Star, Slash, Percent, Ampersand, AndAnd, Bar, OrOr, Caret, Tilde, Not, ShiftLeft, Dot, Arrow, Comma, Semicolon, Colon}
+use Rattle.ckc_lexer_tokens.specs.declared.token.TokenKind.TheVariants.{OpenBrace, CloseBrace, OpenParen, CloseParen, OpenBracket, CloseBracket}
+use Rattle.ckc_lexer_tokens.specs.declared.token.TokenKind.TheVariants.{Less, Greater, LessEqual, GreaterEqual, EqualEqual, NotEqual, Equal}
+use Rattle.ckc_lexer_tokens.specs.declared.token.TokenKind.TheVariants.{PlusEqual, MinusEqual, PlusPlus, MinusMinus, Plus, Minus, Star, Slash}
+use Rattle.ckc_lexer_tokens.specs.declared.token.TokenKind.TheVariants.{Percent, Ampersand, AndAnd, Bar, OrOr, Caret, Tilde, Not, ShiftLeft, Dot}
+use Rattle.ckc_lexer_tokens.specs.declared.token.TokenKind.TheVariants.{Arrow, Comma, Semicolon, Colon}
 use Rattle.ckc_lexer_tokens.specs.declared.piece.Piece.{Piece}
 use Rattle.ckc_lexer_tokens.specs.declared.piece.Piece.TheVariants.{Lexeme, Forbidden, Fault}
 

@@ -7,7 +7,10 @@ use Rattle.ckc_text.specs.declared.code.Code.{Code}
 use Rattle.ckc_text.specs.declared.code.Code.TheVariants.{E02, E04}
 use Rattle.ckc_lexer_tokens.specs.Bytes.{is_digit, is_hexadecimal_digit, begins_with}
 use Rattle.ckc_lexer_tokens.specs.declared.token.TokenKind.{TokenKind}
-use Rattle.ckc_lexer_tokens.specs.declared.token.TokenKind.TheVariants.{Int, Char, Void, Struct, If, Else, While, For, Return, Break, Continue, Sizeof, Malloc, Calloc, NtCalloc, TMalloc, Ptr, ArrayPtr, NtArrayPtr, TPtr, TArrayPtr, TNtArrayPtr, Checked, NtChecked, Unchecked, Bundled, Tainted, Callback, DynamicBoundsCast, AssumeBoundsCast, Number}
+use Rattle.ckc_lexer_tokens.specs.declared.token.TokenKind.TheVariants.{Int, Char, Void, Struct, If, Else, While, For, Return, Break, Continue}
+use Rattle.ckc_lexer_tokens.specs.declared.token.TokenKind.TheVariants.{Sizeof, Malloc, Calloc, NtCalloc, TMalloc, Ptr, ArrayPtr, NtArrayPtr, TPtr}
+use Rattle.ckc_lexer_tokens.specs.declared.token.TokenKind.TheVariants.{TArrayPtr, TNtArrayPtr, Checked, NtChecked, Unchecked, Bundled, Tainted}
+use Rattle.ckc_lexer_tokens.specs.declared.token.TokenKind.TheVariants.{Callback, DynamicBoundsCast, AssumeBoundsCast, Number}
 use Rattle.ckc_lexer_tokens.specs.declared.piece.Piece.{Piece}
 use Rattle.ckc_lexer_tokens.specs.declared.piece.Piece.TheVariants.{Lexeme, Named, Fault}
 

@@ -35,7 +35,8 @@ own_initialiser = (wrong (Declare (a 1) ∷ (Use (a 2) ∷ [])) ≡ None) × (wr
 
 -- a name twice in a block, and once in each of two
 abbrev pub twice : Type 0
-twice = (wrong (Declare (a 1) ∷ (Declare (a 2) ∷ [])) ≡ at E11 2) × (wrong (Declare (a 1) ∷ (Open ∷ (Declare (a 2) ∷ (Use (a 3) ∷ (Close ∷ (Use (a 4) ∷ [])))))) ≡ None)
+twice = (wrong (Declare (a 1) ∷ (Declare (a 2) ∷ [])) ≡ at E11 2) × (wrong (Declare (a 1)
+    ∷ (Open ∷ (Declare (a 2) ∷ (Use (a 3) ∷ (Close ∷ (Use (a 4) ∷ [])))))) ≡ None)
 
 -- a name that is left behind with its block
 abbrev pub left_behind : Type 0

@@ -32,7 +32,8 @@ name_place number (held.Name other stands hides ∷ before) = cond (other == num
 abbrev pub Settled : ℕ → List Held → Type 0
 Settled count [] = Unit {0}
 Settled count (held.Block outer ∷ before) = (outer ≡ block_place before) × Settled count before
-Settled count (held.Name number stands hides ∷ before) = (number < count) × ((hides ≡ name_place number before) × (IsSome (block_place before) × Settled count before))
+Settled count (held.Name number stands hides ∷ before) =
+    (number < count) × ((hides ≡ name_place number before) × (IsSome (block_place before) × Settled count before))
 
 -- ---- the parts of a table
 

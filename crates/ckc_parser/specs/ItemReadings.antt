@@ -77,13 +77,15 @@ pub record IsNamed (stars : ℕ) (name : List ℕ) (span : Span) (ts rest : List
 
 pub data StuckNamed : List Token → Failure → Type 0 where
   name : {n : ℕ} {ts rest : List Token} → SpellsStars ts n rest → next_is name_token rest ≡ false → StuckNamed ts (unexpected rest)
-  opens : {n : ℕ} {x : List ℕ} {s : Span} {ts rest : List Token} → SpellsStars ts n (token (kinds.Name x) s ∷ rest) → next_is open_paren rest ≡ false → StuckNamed ts (unexpected rest)
+  opens : {n : ℕ} {x : List ℕ} {s : Span} {ts rest : List Token} → SpellsStars ts n (token (kinds.Name x) s ∷ rest) → next_is open_paren rest ≡ false
+      → StuckNamed ts (unexpected rest)
 
 pub data StuckResult : List Token → Failure → Type 0 where
   value : {ts : List Token} {f : Failure} → next_is void_word ts ≡ false → StuckType 0 ts f → StuckResult ts f
 
 -- a function up to the parenthesis that opens
-pub record IsHead (whole : List Token) (kind : FunctionKind) (mark : Option Mark) (result : ResultForm) (stars : ℕ) (name : List ℕ) (span : Span) (rest : List Token) : Type 0 where
+pub record IsHead (whole : List Token) (kind : FunctionKind) (mark : Option Mark) (result : ResultForm) (stars : ℕ) (name : List ℕ) (span : Span)
+    (rest : List Token) : Type 0 where
   pub typed : List Token
   pub named : List Token
   pub led : IsLed whole kind mark typed

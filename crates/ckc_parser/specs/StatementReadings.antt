@@ -20,19 +20,23 @@ use Rattle.ckc_parser_grammar.specs.StuckStatements.{assign_word, is_call, is_ca
 -- ---- what stands behind the target of an assignment
 
 pub data SpellsAssigned : Expression → Span → List Token → Assignment → List Token → Type 0 where
-  store : {k : TokenKind} {s o w : Span} {us rest : List Token} {e target : Expression} {store_operator : StoreOperator} → IsStoreOperator k store_operator → SpellsExpression us e w rest → SpellsAssigned target o (token k s ∷ us) (Store store_operator target e (join o w)) rest
-  after : {k : TokenKind} {s o : Span} {rest : List Token} {target : Expression} {step_operator : StepOperator} → IsStepOperator k step_operator → SpellsAssigned target o (token k s ∷ rest) (Step step_operator After target (join o s)) rest
+  store : {k : TokenKind} {s o w : Span} {us rest : List Token} {e target : Expression} {store_operator : StoreOperator} → IsStoreOperator k store_operator
+      → SpellsExpression us e w rest → SpellsAssigned target o (token k s ∷ us) (Store store_operator target e (join o w)) rest
+  after : {k : TokenKind} {s o : Span} {rest : List Token} {target : Expression} {step_operator : StepOperator} → IsStepOperator k step_operator
+      → SpellsAssigned target o (token k s ∷ rest) (Step step_operator After target (join o s)) rest
 
 pub data StuckAssigned : ℕ → List Token → Failure → Type 0 where
   no_room : {d : ℕ} {ts : List Token} → StuckAssigned d ts no_memory
   operator : {d : ℕ} {rest : List Token} → next_is assign_word rest ≡ false → StuckAssigned d rest (unexpected rest)
-  value : {d : ℕ} {k : TokenKind} {s : Span} {us : List Token} {store_operator : StoreOperator} {f : Failure} → IsStoreOperator k store_operator → StuckExpression (suc d) us f → StuckAssigned d (token k s ∷ us) f
+  value : {d : ℕ} {k : TokenKind} {s : Span} {us : List Token} {store_operator : StoreOperator} {f : Failure} → IsStoreOperator k store_operator
+      → StuckExpression (suc d) us f → StuckAssigned d (token k s ∷ us) f
 
 -- ---- parts of statements
 
 -- the condition of an if or a while, with its parentheses
 pub data SpellsCondition : List Token → Expression → List Token → Type 0 where
-  condition : {p q o : Span} {ts rest : List Token} {e : Expression} → SpellsExpression ts e o (token kinds.CloseParen q ∷ rest) → SpellsCondition (token kinds.OpenParen p ∷ ts) e rest
+  condition : {p q o : Span} {ts rest : List Token} {e : Expression} → SpellsExpression ts e o (token kinds.CloseParen q ∷ rest)
+      → SpellsCondition (token kinds.OpenParen p ∷ ts) e rest
 
 -- an expression or none, and the semicolon with its span
 pub data SpellsEnd : List Token → Option Expression → Span → List Token → Type 0 where
@@ -60,7 +64,8 @@ jump true span = Break span
 jump false span = Continue span
 
 -- what stands in the parentheses of a for, with so many nodes around the for
-pub record IsForHead (depth : ℕ) (ts : List Token) (initial : ForInitial) (condition : Option Expression) (step : Option Assignment) (rest : List Token) : Type 0 where
+pub record IsForHead (depth : ℕ) (ts : List Token) (initial : ForInitial) (condition : Option Expression) (step : Option Assignment)
+    (rest : List Token) : Type 0 where
   pub opening : Span
   pub first : List Token
   pub second : List Token

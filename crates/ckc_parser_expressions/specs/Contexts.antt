@@ -55,7 +55,8 @@ abbrev pub Fits : ℕ → ℕ → List Frame → Type 0
 Fits loosest depth [] = (loosest ≤ 10) × (depth ≤ 200)
 Fits loosest depth (InParens start ∷ p) = Fits loosest depth p
 Fits loosest depth (OperandOf operator start ∷ p) = (depth_in depth p < 200) × Fits loosest depth p
-Fits loosest depth (RightOf operator left outer ∷ p) = (level operator ≤ limit loosest p) × (IsLow (suc (depth_in depth p)) (expression_reach left) × Fits loosest depth p)
+Fits loosest depth (RightOf operator left outer ∷ p) =
+    (level operator ≤ limit loosest p) × (IsLow (suc (depth_in depth p)) (expression_reach left) × Fits loosest depth p)
 
 -- the level of the operator that stands next, and 11 where none does
 abbrev pub looseness : Option (BinaryOperator × List Token) → ℕ
@@ -80,25 +81,31 @@ paren_start _ = None
 -- from an expression of a level to one of a looser level, by the operators of the levels between
 pub data Climbs : ℕ → ℕ → Expression → Span → List Token → Expression → Span → List Token → Type 0 where
   there : {n : ℕ} {o : Span} {ts : List Token} {e : Expression} → Climbs n n e o ts e o ts
-  up : {n m : ℕ} {o p w : Span} {ts mid rest : List Token} {e higher whole : Expression} → SpellsTail n e o ts higher p mid → Climbs (suc n) m higher p mid whole w rest → Climbs n m e o ts whole w rest
+  up : {n m : ℕ} {o p w : Span} {ts mid rest : List Token} {e higher whole : Expression} → SpellsTail n e o ts higher p mid
+      → Climbs (suc n) m higher p mid whole w rest → Climbs n m e o ts whole w rest
 
 pub data StuckClimb : ℕ → ℕ → Expression → Span → ℕ → List Token → Failure → Type 0 where
   stuck_here : {n m d : ℕ} {o : Span} {ts : List Token} {e : Expression} {f : Failure} → n < m → StuckTail n e o d ts f → StuckClimb n m e o d ts f
-  stuck_above : {n m d : ℕ} {o p : Span} {ts mid : List Token} {e higher : Expression} {f : Failure} → SpellsTail n e o ts higher p mid → IsLow d (expression_reach higher) → StuckClimb (suc n) m higher p d mid f → StuckClimb n m e o d ts f
+  stuck_above : {n m d : ℕ} {o p : Span} {ts mid : List Token} {e higher : Expression} {f : Failure} → SpellsTail n e o ts higher p mid
+      → IsLow d (expression_reach higher) → StuckClimb (suc n) m higher p d mid f → StuckClimb n m e o d ts f
 
 -- Each way on from an expression of level n to one of level m leads to a complete form, and where one fails the whole fails
 -- so, with d nodes around it.
-pub record Goes (Complete : Expression → Span → List Token → Type 0) (Fails : Failure → Type 0) (d n m : ℕ) (e : Expression) (o : Span) (ts : List Token) : Type 0 where
+pub record Goes (Complete : Expression → Span → List Token → Type 0) (Fails : Failure → Type 0) (d n m : ℕ) (e : Expression) (o : Span)
+    (ts : List Token) : Type 0 where
   pub goes : {w : Span} {whole : Expression} {rest : List Token} → Climbs n m e o ts whole w rest → IsLow d (expression_reach whole) → Complete whole w rest
   pub fails : {f : Failure} → StuckClimb n m e o d ts f → Fails f
 
 -- the same from an expression that selectors may follow
-pub record Selects (Complete : Expression → Span → List Token → Type 0) (Fails : Failure → Type 0) (d m : ℕ) (e : Expression) (o : Span) (ts : List Token) : Type 0 where
-  pub selects : {w : Span} {whole : Expression} {rest : List Token} → SpellsSelectors e o ts whole w rest → IsLow d (expression_reach whole) → Goes Complete Fails d 0 m whole w rest
+pub record Selects (Complete : Expression → Span → List Token → Type 0) (Fails : Failure → Type 0) (d m : ℕ) (e : Expression) (o : Span)
+    (ts : List Token) : Type 0 where
+  pub selects : {w : Span} {whole : Expression} {rest : List Token} → SpellsSelectors e o ts whole w rest → IsLow d (expression_reach whole)
+      → Goes Complete Fails d 0 m whole w rest
   pub fails : {f : Failure} → StuckSelectors e o d ts f → Fails f
 
 -- the same from an expression that a parenthesis has to follow
-pub record Closes (Complete : Expression → Span → List Token → Type 0) (Fails : Failure → Type 0) (d m : ℕ) (start : Span) (e : Expression) (ts : List Token) : Type 0 where
+pub record Closes (Complete : Expression → Span → List Token → Type 0) (Fails : Failure → Type 0) (d m : ℕ) (start : Span) (e : Expression)
+    (ts : List Token) : Type 0 where
   pub closed : {t : Span} {rest : List Token} → ts ≡ token kinds.CloseParen t ∷ rest → Selects Complete Fails d m e (join start t) rest
   pub unclosed : next_is close_paren ts ≡ false → Fails (unexpected ts)
 
@@ -115,12 +122,15 @@ Fails b f = StuckBinary b.loosest b.depth b.tokens f
 abbrev pub Completes : Base → List Frame → Expression → Span → List Token → Type 0
 Completes b [] e o ts = SpellsBinary b.loosest b.tokens e o ts
 Completes b (InParens start ∷ p) e o ts = Closes (Completes b p) (Fails b) (depth_in b.depth p) (limit b.loosest p) start e ts
-Completes b (OperandOf operator start ∷ p) e o ts = Goes (Completes b p) (Fails b) (depth_in b.depth p) 0 (limit b.loosest p) (Unary operator e (join start o)) (join start o) ts
-Completes b (RightOf operator left outer ∷ p) e o ts = Goes (Completes b p) (Fails b) (depth_in b.depth p) (level operator - 1) (limit b.loosest p) (Binary operator left e (join outer o)) (join outer o) ts
+Completes b (OperandOf operator start ∷ p) e o ts =
+    Goes (Completes b p) (Fails b) (depth_in b.depth p) 0 (limit b.loosest p) (Unary operator e (join start o)) (join start o) ts
+Completes b (RightOf operator left outer ∷ p) e o ts =
+    Goes (Completes b p) (Fails b) (depth_in b.depth p) (level operator - 1) (limit b.loosest p) (Binary operator left e (join outer o)) (join outer o) ts
 
 -- each operand of the forms that wait completes them, and where reading one fails the whole fails so
 pub record Needs (b : Base) (p : List Frame) (ts : List Token) : Type 0 where
-  pub spelled : {o : Span} {rest : List Token} {e : Expression} → SpellsBinary (limit b.loosest p) ts e o rest → IsLow (depth_in b.depth p) (expression_reach e) → Completes b p e o rest
+  pub spelled : {o : Span} {rest : List Token} {e : Expression} → SpellsBinary (limit b.loosest p) ts e o rest
+      → IsLow (depth_in b.depth p) (expression_reach e) → Completes b p e o rest
   pub stuck : {f : Failure} → StuckBinary (limit b.loosest p) (depth_in b.depth p) ts f → Fails b f
 
 abbrev pub GoesIn : Base → List Frame → ℕ → Expression → Span → List Token → Type 0
@@ -143,7 +153,8 @@ pub record NeedsOperand (b : Base) (a : Around) (ts : List Token) : Type 0 where
 pub record HasOperand (b : Base) (a : Around) (e : Expression) (o : Span) (ts : List Token) : Type 0 where
   pub around : IsAround b a
   pub low : IsLow a.depth (expression_reach e)
-  pub selects : Selects (Completes b (waiting a.pending.items)) (Fails b) (depth_in b.depth (waiting a.pending.items)) (limit b.loosest (waiting a.pending.items)) e o ts
+  pub selects : Selects (Completes b (waiting a.pending.items)) (Fails b) (depth_in b.depth (waiting a.pending.items))
+      (limit b.loosest (waiting a.pending.items)) e o ts
 
 -- an expression is read that binds tighter than an operator of this level
 pub record HasTight (b : Base) (a : Around) (looser : ℕ) (e : Expression) (o : Span) (ts : List Token) : Type 0 where

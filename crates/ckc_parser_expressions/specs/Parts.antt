@@ -25,7 +25,8 @@ pub record IsTyped (d : ℕ) (ts : List Token) (found : Typed) (rest : List Toke
 
 pub data StuckTyped : ℕ → List Token → Failure → Type 0 where
   no_type : {d : ℕ} {ts : List Token} {f : Failure} → StuckAngled d ts f → StuckTyped d ts f
-  no_operand : {d : ℕ} {ts us : List Token} {type : TypeName} {f : Failure} → SpellsAngled ts type us → IsLow d (type_reach type.base) → StuckBinary 10 d us f → StuckTyped d ts f
+  no_operand : {d : ℕ} {ts us : List Token} {type : TypeName} {f : Failure} → SpellsAngled ts type us → IsLow d (type_reach type.base) → StuckBinary 10 d us f
+      → StuckTyped d ts f
 
 -- a comma, bounds, and a parenthesis with its span
 pub record IsLastBounds (d : ℕ) (ts : List Token) (found : ReadBounds × Span) (rest : List Token) : Type 0 where
@@ -38,4 +39,5 @@ pub record IsLastBounds (d : ℕ) (ts : List Token) (found : ReadBounds × Span)
 pub data StuckLastBounds : ℕ → List Token → Failure → Type 0 where
   no_comma : {d : ℕ} {ts : List Token} → next_is comma ts ≡ false → StuckLastBounds d ts (unexpected ts)
   no_bounds : {d : ℕ} {p : Span} {us : List Token} {f : Failure} → StuckBounds d us f → StuckLastBounds d (token kinds.Comma p ∷ us) f
-  unended : {d : ℕ} {p w : Span} {us rest : List Token} {written : Bounds} → SpellsBounds us written w rest → IsLow d (bounds_reach written) → next_is close_paren rest ≡ false → StuckLastBounds d (token kinds.Comma p ∷ us) (unexpected rest)
+  unended : {d : ℕ} {p w : Span} {us rest : List Token} {written : Bounds} → SpellsBounds us written w rest → IsLow d (bounds_reach written)
+      → next_is close_paren rest ≡ false → StuckLastBounds d (token kinds.Comma p ∷ us) (unexpected rest)

@@ -17,7 +17,8 @@ use Rattle.ckc_tree.specs.Expressions.{Expression, Expressions, NoMore, Then, Do
 use Rattle.ckc_tree.specs.Heights.{type_reach, expression_reach, expressions_reach, bounds_reach}
 use Rattle.ckc_parser_expressions.specs.declared.operand.Operand.{Operand}
 use Rattle.ckc_parser_grammar.specs.TypeGrammar.{SpellsType, SpellsTypeName, SpellsAngled}
-use Rattle.ckc_parser_grammar.specs.ExpressionGrammar.{SpellsBinary, SpellsUnary, SpellsSelectors, SpellsPrimary, SpellsArguments, SpellsMoreArguments, SpellsBounds}
+use Rattle.ckc_parser_grammar.specs.ExpressionGrammar.{SpellsBinary, SpellsUnary, SpellsSelectors, SpellsPrimary, SpellsArguments}
+use Rattle.ckc_parser_grammar.specs.ExpressionGrammar.{SpellsMoreArguments, SpellsBounds}
 use Rattle.ckc_parser_cursor.specs.declared.stuck.Stuck.{Stuck}
 use Rattle.ckc_parser_grammar.specs.Failures.{Failure, unexpected, too_deep, IsLow}
 use Rattle.ckc_parser_cursor.specs.Answers.{failure, OrNoMemory}
@@ -119,4 +120,5 @@ IsRefusal q rest false f = f ≡ unexpected rest
 -- the word `unknown` where no node may stand: too deep, where it goes on as an expression
 abbrev pub RefusesUnknown : ℕ → List Token → Result (Unit {0}) Stuck → List Token → Type 0
 RefusesUnknown d ts (Ok done) rest = (rest ≡ ts) × (200 ≤ d → next_is unknown_word ts ≡ false)
-RefusesUnknown d ts (Err e) rest = (q : Span) × (us : List Token) × (200 ≤ d) × (ts ≡ token (kinds.Name (codes "unknown")) q ∷ us) × IsRefusal q us (goes_on us) (failure e rest)
+RefusesUnknown d ts (Err e) rest =
+    (q : Span) × (us : List Token) × (200 ≤ d) × (ts ≡ token (kinds.Name (codes "unknown")) q ∷ us) × IsRefusal q us (goes_on us) (failure e rest)

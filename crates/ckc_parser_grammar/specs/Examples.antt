@@ -44,7 +44,8 @@ product_tree = Binary Add (name_tree 0 (codes "a")) (Binary Multiply (name_tree 
 
 -- (a + b) * c, of which the product holds the parentheses, and the sum doesn't
 abbrev pub paren_tokens : List Token
-paren_tokens = at 0 1 kinds.OpenParen ∷ name_token 1 (codes "a") ∷ at 3 4 kinds.Plus ∷ name_token 5 (codes "b") ∷ at 6 7 kinds.CloseParen ∷ at 8 9 kinds.Star ∷ name_token 10 (codes "c") ∷ []
+paren_tokens = at 0 1 kinds.OpenParen ∷ name_token 1 (codes "a") ∷ at 3 4 kinds.Plus ∷ name_token 5 (codes "b") ∷ at 6 7 kinds.CloseParen ∷ at 8 9 kinds.Star
+    ∷ name_token 10 (codes "c") ∷ []
 
 abbrev pub paren_tree : Expression
 paren_tree = Binary Multiply (Binary Add (name_tree 1 (codes "a")) (name_tree 5 (codes "b")) (span 1 6)) (name_tree 10 (codes "c")) (span 0 11)
@@ -58,7 +59,8 @@ shift_tree = Binary ShiftRight (name_tree 0 (codes "a")) (name_tree 5 (codes "b"
 
 -- ptr<ptr<int>> p: the two marks that touch end two types
 abbrev pub nested_tokens : List Token
-nested_tokens = at 0 3 kinds.Ptr ∷ at 3 4 kinds.Less ∷ at 4 7 kinds.Ptr ∷ at 7 8 kinds.Less ∷ at 8 11 kinds.Int ∷ at 11 12 kinds.Greater ∷ at 12 13 kinds.Greater ∷ name_token 14 (codes "p") ∷ []
+nested_tokens = at 0 3 kinds.Ptr ∷ at 3 4 kinds.Less ∷ at 4 7 kinds.Ptr ∷ at 7 8 kinds.Less ∷ at 8 11 kinds.Int ∷ at 11 12 kinds.Greater
+    ∷ at 12 13 kinds.Greater ∷ name_token 14 (codes "p") ∷ []
 
 abbrev checked_pointer : PointerWord
 checked_pointer = record { mode = Checked; kind = One }
@@ -68,14 +70,16 @@ nested_type = record { base = PointerType checked_pointer (PointerType checked_p
 
 -- if (a) if (b) ; else ; of which the else belongs to the second if
 abbrev pub else_tokens : List Token
-else_tokens = at 0 2 kinds.If ∷ at 3 4 kinds.OpenParen ∷ name_token 4 (codes "a") ∷ at 5 6 kinds.CloseParen ∷ at 7 9 kinds.If ∷ at 10 11 kinds.OpenParen ∷ name_token 11 (codes "b") ∷ at 12 13 kinds.CloseParen ∷ at 14 15 kinds.Semicolon ∷ at 16 20 kinds.Else ∷ at 21 22 kinds.Semicolon ∷ []
+else_tokens = at 0 2 kinds.If ∷ at 3 4 kinds.OpenParen ∷ name_token 4 (codes "a") ∷ at 5 6 kinds.CloseParen ∷ at 7 9 kinds.If ∷ at 10 11 kinds.OpenParen
+    ∷ name_token 11 (codes "b") ∷ at 12 13 kinds.CloseParen ∷ at 14 15 kinds.Semicolon ∷ at 16 20 kinds.Else ∷ at 21 22 kinds.Semicolon ∷ []
 
 abbrev pub else_tree : Statement
 else_tree = If (name_tree 4 (codes "a")) (IfElse (name_tree 11 (codes "b")) (Empty (span 14 15)) (Empty (span 21 22)) (span 7 22)) (span 0 22)
 
 -- int main(void) { return 0; with and without the brace that ends it; without it 26 bytes, and a refusal at the end
 abbrev pub early_tokens : List Token → List Token
-early_tokens more = at 0 3 kinds.Int ∷ at 4 8 (kinds.Name (codes "main")) ∷ at 8 9 kinds.OpenParen ∷ at 9 13 kinds.Void ∷ at 13 14 kinds.CloseParen ∷ at 15 16 kinds.OpenBrace ∷ at 17 23 kinds.Return ∷ at 24 25 (kinds.Number 0) ∷ at 25 26 kinds.Semicolon ∷ more
+early_tokens more = at 0 3 kinds.Int ∷ at 4 8 (kinds.Name (codes "main")) ∷ at 8 9 kinds.OpenParen ∷ at 9 13 kinds.Void ∷ at 13 14 kinds.CloseParen
+    ∷ at 15 16 kinds.OpenBrace ∷ at 17 23 kinds.Return ∷ at 24 25 (kinds.Number 0) ∷ at 25 26 kinds.Semicolon ∷ more
 
 abbrev pub whole_tokens : List Token
 whole_tokens = early_tokens (at 27 28 kinds.CloseBrace ∷ [])

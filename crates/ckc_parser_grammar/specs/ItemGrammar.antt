@@ -25,7 +25,8 @@ use Rattle.ckc_tree.specs.declared.item.FunctionKind.TheVariants.{Trusted, Taint
 use Rattle.ckc_tree.specs.Types.{TypeTree, TypeName}
 use Rattle.ckc_tree.specs.Expressions.{Bounds}
 use Rattle.ckc_tree.specs.Statements.{Statements, Declarator}
-use Rattle.ckc_tree.specs.Items.{Member, ResultForm, Void, Value, Parameters, Nothing, VoidAlone, Listed, Body, Item, RegionItem, StructureItem, GlobalItem, FunctionItem, Tree}
+use Rattle.ckc_tree.specs.Items.{Member, ResultForm, Void, Value, Parameters, Nothing, VoidAlone, Listed, Body, Item, RegionItem, StructureItem}
+use Rattle.ckc_tree.specs.Items.{GlobalItem, FunctionItem, Tree}
 use Rattle.ckc_parser_grammar.specs.Tokens.{token, join, identifier, from_first, IsMark, next_is, mark_word, kind_word, tainted_word}
 use Rattle.ckc_parser_grammar.specs.TypeGrammar.{SpellsStars, SpellsType, SpellsTypeName}
 use Rattle.ckc_parser_grammar.specs.StatementGrammar.{SpellsOptionalBounds, SpellsDeclarators, SpellsStatements}
@@ -51,12 +52,18 @@ pub data SpellsOptionalMark : List Token → Option Mark → List Token → Type
 --
 --     type stars NAME [':' bounds]
 pub data SpellsMember : List Token → TypeName → Identifier → Option Bounds → Span → List Token → Type 0 where
-  member : {x : List ℕ} {s w : Span} {ts us rest : List Token} {written : Option Bounds} {type : TypeName} → SpellsTypeName ts type (token (kinds.Name x) s ∷ us) → SpellsOptionalBounds (from_first ts s) us written w rest → SpellsMember ts type (identifier x s) written w rest
+  member : {x : List ℕ} {s w : Span} {ts us rest : List Token} {written : Option Bounds} {type : TypeName}
+      → SpellsTypeName ts type (token (kinds.Name x) s ∷ us) → SpellsOptionalBounds (from_first ts s) us written w rest
+      → SpellsMember ts type (identifier x s) written w rest
 
 -- at least one member, and the brace behind them
 pub data SpellsMembers : List Token → List Member → List Token → Type 0 where
-  one : {name : Identifier} {t p o : Span} {ts rest : List Token} {written : Option Bounds} {type : TypeName} → SpellsMember ts type name written o (token kinds.Semicolon t ∷ token kinds.CloseBrace p ∷ rest) → SpellsMembers ts (record { type = type; name = name; bounds = written; span = join o t } ∷ []) rest
-  more : {name : Identifier} {t o : Span} {ts us rest : List Token} {written : Option Bounds} {type : TypeName} {members : List Member} → SpellsMember ts type name written o (token kinds.Semicolon t ∷ us) → SpellsMembers us members rest → SpellsMembers ts (record { type = type; name = name; bounds = written; span = join o t } ∷ members) rest
+  one : {name : Identifier} {t p o : Span} {ts rest : List Token} {written : Option Bounds} {type : TypeName}
+      → SpellsMember ts type name written o (token kinds.Semicolon t ∷ token kinds.CloseBrace p ∷ rest)
+      → SpellsMembers ts (record { type = type; name = name; bounds = written; span = join o t } ∷ []) rest
+  more : {name : Identifier} {t o : Span} {ts us rest : List Token} {written : Option Bounds} {type : TypeName} {members : List Member}
+      → SpellsMember ts type name written o (token kinds.Semicolon t ∷ us) → SpellsMembers us members rest
+      → SpellsMembers ts (record { type = type; name = name; bounds = written; span = join o t } ∷ members) rest
 
 -- ---- functions
 
@@ -66,8 +73,12 @@ pub data SpellsResult : List Token → ResultForm → List Token → Type 0 wher
 
 -- at least one parameter, and the parenthesis behind them
 pub data SpellsListed : List Token → List Member → Span → List Token → Type 0 where
-  one : {name : Identifier} {t o : Span} {ts rest : List Token} {written : Option Bounds} {type : TypeName} → SpellsMember ts type name written o (token kinds.CloseParen t ∷ rest) → SpellsListed ts (record { type = type; name = name; bounds = written; span = o } ∷ []) t rest
-  more : {name : Identifier} {t p o : Span} {ts us rest : List Token} {written : Option Bounds} {type : TypeName} {members : List Member} → SpellsMember ts type name written o (token kinds.Comma p ∷ us) → SpellsListed us members t rest → SpellsListed ts (record { type = type; name = name; bounds = written; span = o } ∷ members) t rest
+  one : {name : Identifier} {t o : Span} {ts rest : List Token} {written : Option Bounds} {type : TypeName}
+      → SpellsMember ts type name written o (token kinds.CloseParen t ∷ rest)
+      → SpellsListed ts (record { type = type; name = name; bounds = written; span = o } ∷ []) t rest
+  more : {name : Identifier} {t p o : Span} {ts us rest : List Token} {written : Option Bounds} {type : TypeName} {members : List Member}
+      → SpellsMember ts type name written o (token kinds.Comma p ∷ us) → SpellsListed us members t rest
+      → SpellsListed ts (record { type = type; name = name; bounds = written; span = o } ∷ members) t rest
 
 -- the parameters and the parenthesis behind them
 pub data SpellsParameters : List Token → Parameters → Span → List Token → Type 0 where
@@ -78,7 +89,9 @@ pub data SpellsParameters : List Token → Parameters → Span → List Token �
 -- what ends a function: a semicolon, or a body; the span is that of the semicolon or the body
 pub data SpellsBody : List Token → Option Body → Span → List Token → Type 0 where
   absent : {t : Span} {rest : List Token} → SpellsBody (token kinds.Semicolon t ∷ rest) None t rest
-  present : {s t : Span} {ts us rest : List Token} {statements : Statements} {optional_mark : Option Mark} → SpellsOptionalMark ts optional_mark (token kinds.OpenBrace s ∷ us) → SpellsStatements us statements t rest → SpellsBody ts (Some (record { mark = optional_mark; statements = statements; span = from_first ts t })) (from_first ts t) rest
+  present : {s t : Span} {ts us rest : List Token} {statements : Statements} {optional_mark : Option Mark}
+      → SpellsOptionalMark ts optional_mark (token kinds.OpenBrace s ∷ us) → SpellsStatements us statements t rest
+      → SpellsBody ts (Some (record { mark = optional_mark; statements = statements; span = from_first ts t })) (from_first ts t) rest
 
 -- ---- items
 
@@ -87,13 +100,21 @@ pub data SpellsRegion : CheckedScope → Region → Type 0 where
   off : SpellsRegion scopes.Off regions.Off
 
 pub data SpellsItem : List Token → Item → List Token → Type 0 where
-  region : {s : Span} {rest : List Token} {region : Region} {scope : CheckedScope} → SpellsRegion scope region → SpellsItem (token (kinds.Scope scope) s ∷ rest) (RegionItem region s) rest
-  structure : {x : List ℕ} {s t p q : Span} {ts rest tokens : List Token} {tainted : Bool} {members : List Member} → SpellsTainted tokens tainted (token kinds.Struct s ∷ token (kinds.Name x) t ∷ token kinds.OpenBrace p ∷ ts) → SpellsMembers ts members (token kinds.Semicolon q ∷ rest)
+  region : {s : Span} {rest : List Token} {region : Region} {scope : CheckedScope} → SpellsRegion scope region
+      → SpellsItem (token (kinds.Scope scope) s ∷ rest) (RegionItem region s) rest
+  structure : {x : List ℕ} {s t p q : Span} {ts rest tokens : List Token} {tainted : Bool} {members : List Member}
+      → SpellsTainted tokens tainted (token kinds.Struct s ∷ token (kinds.Name x) t ∷ token kinds.OpenBrace p ∷ ts)
+      → SpellsMembers ts members (token kinds.Semicolon q ∷ rest)
       → SpellsItem tokens (StructureItem (record { tainted = tainted; tag = identifier x t; members = members; span = from_first tokens q })) rest
-  global : {q w : Span} {ts us rest tokens : List Token} {base : TypeTree} {tainted : Bool} {declarators : List Declarator} → SpellsTainted tokens tainted ts → SpellsType ts base us → SpellsDeclarators us declarators w (token kinds.Semicolon q ∷ rest)
+  global : {q w : Span} {ts us rest tokens : List Token} {base : TypeTree} {tainted : Bool} {declarators : List Declarator} → SpellsTainted tokens tainted ts
+      → SpellsType ts base us → SpellsDeclarators us declarators w (token kinds.Semicolon q ∷ rest)
       → SpellsItem tokens (GlobalItem (record { tainted = tainted; base = base; declarators = declarators; span = from_first tokens q })) rest
-  function : {n : ℕ} {x : List ℕ} {s t p q w : Span} {ts us vs ws xs ys rest tokens : List Token} {written : Option Bounds} {optional_mark : Option Mark} {result : ResultForm} {parameters : Parameters} {body : Option Body} {function_kind : FunctionKind} → SpellsKind tokens function_kind ts → SpellsOptionalMark ts optional_mark us → SpellsResult us result vs → SpellsStars vs n (token (kinds.Name x) s ∷ token kinds.OpenParen p ∷ ws) → SpellsParameters ws parameters t xs → SpellsOptionalBounds (from_first tokens t) xs written w ys → SpellsBody ys body q rest
-      → SpellsItem tokens (FunctionItem (record { kind = function_kind; mark = optional_mark; result = result; stars = n; name = identifier x s; parameters = parameters; bounds = written; body = body; span = from_first tokens q })) rest
+  function : {n : ℕ} {x : List ℕ} {s t p q w : Span} {ts us vs ws xs ys rest tokens : List Token} {written : Option Bounds} {optional_mark : Option Mark}
+      {result : ResultForm} {parameters : Parameters} {body : Option Body} {function_kind : FunctionKind} → SpellsKind tokens function_kind ts
+      → SpellsOptionalMark ts optional_mark us → SpellsResult us result vs → SpellsStars vs n (token (kinds.Name x) s ∷ token kinds.OpenParen p ∷ ws)
+      → SpellsParameters ws parameters t xs → SpellsOptionalBounds (from_first tokens t) xs written w ys → SpellsBody ys body q rest
+      → SpellsItem tokens (FunctionItem (record { kind = function_kind; mark = optional_mark; result = result; stars = n; name = identifier x s;
+          parameters = parameters; bounds = written; body = body; span = from_first tokens q })) rest
 
 -- all items, up to the end
 pub data SpellsItems : List Token → List Item → Type 0 where
@@ -102,4 +123,5 @@ pub data SpellsItems : List Token → List Item → Type 0 where
 
 -- the tokens of a source of so many bytes spell the tree
 pub data SpellsProgram : ℕ → List Token → Tree → Type 0 where
-  program : {length : ℕ} {tokens : List Token} {items : List Item} → SpellsItems tokens items → SpellsProgram length tokens (record { items = items; span = record { from = 0; to = length } })
+  program : {length : ℕ} {tokens : List Token} {items : List Item} → SpellsItems tokens items
+      → SpellsProgram length tokens (record { items = items; span = record { from = 0; to = length } })

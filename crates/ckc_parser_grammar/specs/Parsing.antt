@@ -35,9 +35,11 @@ point at = record { from = at; to = at }
 -- starts first. A token makes nodes deeper by one, or puts one node or two that start together (a statement and its
 -- expression or type), so the first of the deepest starts where that node does.
 pub data IsFault (length : ℕ) (tokens : List Token) : SourceFault → Type 0 where
-  unexpected : {first : Token} {rest : List Token} → BeginsLow tokens (first ∷ rest) → ((r : Reach) → BeginsItems tokens rest r → ⊥) → IsFault length tokens (record { code = E06; span = first.span })
+  unexpected : {first : Token} {rest : List Token} → BeginsLow tokens (first ∷ rest) → ((r : Reach) → BeginsItems tokens rest r → ⊥)
+      → IsFault length tokens (record { code = E06; span = first.span })
   ended : BeginsLow tokens [] → ((t : Tree) → SpellsProgram length tokens t → ⊥) → IsFault length tokens (record { code = E06; span = point length })
-  too_deep : {first : Token} {rest : List Token} {r : Reach} → BeginsLow tokens (first ∷ rest) → BeginsItems tokens rest r → ((q : Reach) → BeginsItems tokens rest q → (200 < q.height) × (r.start ≤ q.start)) → IsFault length tokens (record { code = E07; span = point r.start })
+  too_deep : {first : Token} {rest : List Token} {r : Reach} → BeginsLow tokens (first ∷ rest) → BeginsItems tokens rest r
+      → ((q : Reach) → BeginsItems tokens rest q → (200 < q.height) × (r.start ≤ q.start)) → IsFault length tokens (record { code = E07; span = point r.start })
 
 -- what parsing answers
 abbrev pub ParseAnswers : ℕ → List Token → Result Program Refused → Type 0

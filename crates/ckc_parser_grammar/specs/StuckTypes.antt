@@ -41,9 +41,12 @@ pub data StuckType : ℕ → List Token → Failure → Type 0 where
   no_type : {d : ℕ} {ts : List Token} → next_is type_word ts ≡ false → StuckType d ts (unexpected ts)
   deep : {d : ℕ} {k : TokenKind} {s : Span} {rest : List Token} → type_word k ≡ true → 200 ≤ d → StuckType d (token k s ∷ rest) (too_deep s.from)
   tag : {d : ℕ} {s : Span} {rest : List Token} → d < 200 → next_is name_token rest ≡ false → StuckType d (token kinds.Struct s ∷ rest) (unexpected rest)
-  opens : {d : ℕ} {k : TokenKind} {s : Span} {rest : List Token} {word : PointerWord} → d < 200 → IsPointerWord k word → next_is less rest ≡ false → StuckType d (token k s ∷ rest) (unexpected rest)
-  element : {d : ℕ} {k : TokenKind} {s p : Span} {ts : List Token} {word : PointerWord} {f : Failure} → d < 200 → IsPointerWord k word → StuckType (suc d) ts f → StuckType d (token k s ∷ token kinds.Less p ∷ ts) f
-  close : {d n : ℕ} {k : TokenKind} {s p : Span} {ts mid rest : List Token} {element : TypeTree} {word : PointerWord} → IsPointerWord k word → SpellsType ts element mid → IsLow (suc d) (type_reach element) → SpellsStars mid n rest → next_is greater rest ≡ false
+  opens : {d : ℕ} {k : TokenKind} {s : Span} {rest : List Token} {word : PointerWord} → d < 200 → IsPointerWord k word → next_is less rest ≡ false
+      → StuckType d (token k s ∷ rest) (unexpected rest)
+  element : {d : ℕ} {k : TokenKind} {s p : Span} {ts : List Token} {word : PointerWord} {f : Failure} → d < 200 → IsPointerWord k word → StuckType (suc d) ts f
+      → StuckType d (token k s ∷ token kinds.Less p ∷ ts) f
+  close : {d n : ℕ} {k : TokenKind} {s p : Span} {ts mid rest : List Token} {element : TypeTree} {word : PointerWord} → IsPointerWord k word
+      → SpellsType ts element mid → IsLow (suc d) (type_reach element) → SpellsStars mid n rest → next_is greater rest ≡ false
       → StuckType d (token k s ∷ token kinds.Less p ∷ ts) (unexpected rest)
 
 -- behind a type stars can always end
@@ -54,5 +57,7 @@ pub data StuckAngled : ℕ → List Token → Failure → Type 0 where
   no_room : {d : ℕ} {ts : List Token} → StuckAngled d ts no_memory
   opens : {d : ℕ} {ts : List Token} → next_is less ts ≡ false → StuckAngled d ts (unexpected ts)
   inside : {d : ℕ} {p : Span} {ts : List Token} {f : Failure} → StuckTypeName d ts f → StuckAngled d (token kinds.Less p ∷ ts) f
-  close : {d : ℕ} {p : Span} {ts rest : List Token} {type : TypeName} → SpellsTypeName ts type rest → IsLow d (type_reach type.base) → next_is greater rest ≡ false → StuckAngled d (token kinds.Less p ∷ ts) (unexpected rest)
-  paren : {d : ℕ} {p q : Span} {ts rest : List Token} {type : TypeName} → SpellsTypeName ts type (token kinds.Greater q ∷ rest) → IsLow d (type_reach type.base) → next_is open_paren rest ≡ false → StuckAngled d (token kinds.Less p ∷ ts) (unexpected rest)
+  close : {d : ℕ} {p : Span} {ts rest : List Token} {type : TypeName} → SpellsTypeName ts type rest → IsLow d (type_reach type.base)
+      → next_is greater rest ≡ false → StuckAngled d (token kinds.Less p ∷ ts) (unexpected rest)
+  paren : {d : ℕ} {p q : Span} {ts rest : List Token} {type : TypeName} → SpellsTypeName ts type (token kinds.Greater q ∷ rest)
+      → IsLow d (type_reach type.base) → next_is open_paren rest ≡ false → StuckAngled d (token kinds.Less p ∷ ts) (unexpected rest)

@@ -31,9 +31,13 @@ pub data BeginsType : List Token → List Token → Reach → Type 0 where
   struct_word : {s : Span} {rest : List Token} → BeginsType (token kinds.Struct s ∷ rest) rest (node s.from)
   struct : {x : List ℕ} {s t : Span} {rest : List Token} → BeginsType (token kinds.Struct s ∷ token (kinds.Name x) t ∷ rest) rest (node s.from)
   pointer_word : {k : TokenKind} {s : Span} {rest : List Token} {word : PointerWord} → IsPointerWord k word → BeginsType (token k s ∷ rest) rest (node s.from)
-  element : {k : TokenKind} {s p : Span} {ts rest : List Token} {word : PointerWord} {r : Reach} → IsPointerWord k word → BeginsType ts rest r → BeginsType (token k s ∷ token kinds.Less p ∷ ts) rest (around s.from r)
-  stars : {k : TokenKind} {s p : Span} {ts mid rest : List Token} {element : TypeTree} {word : PointerWord} → IsPointerWord k word → SpellsType ts element mid → BeginsStars mid rest → BeginsType (token k s ∷ token kinds.Less p ∷ ts) rest (around s.from (type_reach element))
-  pointer : {n : ℕ} {k : TokenKind} {s t p : Span} {ts mid rest : List Token} {element : TypeTree} {word : PointerWord} → IsPointerWord k word → SpellsType ts element mid → SpellsStars mid n (token kinds.Greater t ∷ rest) → BeginsType (token k s ∷ token kinds.Less p ∷ ts) rest (around s.from (type_reach element))
+  element : {k : TokenKind} {s p : Span} {ts rest : List Token} {word : PointerWord} {r : Reach} → IsPointerWord k word → BeginsType ts rest r
+      → BeginsType (token k s ∷ token kinds.Less p ∷ ts) rest (around s.from r)
+  stars : {k : TokenKind} {s p : Span} {ts mid rest : List Token} {element : TypeTree} {word : PointerWord} → IsPointerWord k word → SpellsType ts element mid
+      → BeginsStars mid rest → BeginsType (token k s ∷ token kinds.Less p ∷ ts) rest (around s.from (type_reach element))
+  pointer : {n : ℕ} {k : TokenKind} {s t p : Span} {ts mid rest : List Token} {element : TypeTree} {word : PointerWord} → IsPointerWord k word
+      → SpellsType ts element mid → SpellsStars mid n (token kinds.Greater t ∷ rest)
+      → BeginsType (token k s ∷ token kinds.Less p ∷ ts) rest (around s.from (type_reach element))
 
 pub data BeginsTypeName : List Token → List Token → Reach → Type 0 where
   base : {ts rest : List Token} {r : Reach} → BeginsType ts rest r → BeginsTypeName ts rest r
@@ -42,5 +46,7 @@ pub data BeginsTypeName : List Token → List Token → Reach → Type 0 where
 pub data BeginsAngled : List Token → List Token → Reach → Type 0 where
   nothing : {ts : List Token} → BeginsAngled ts ts nowhere
   inside : {p : Span} {ts rest : List Token} {r : Reach} → BeginsTypeName ts rest r → BeginsAngled (token kinds.Less p ∷ ts) rest r
-  closed : {p q : Span} {ts rest : List Token} {type : TypeName} → SpellsTypeName ts type (token kinds.Greater q ∷ rest) → BeginsAngled (token kinds.Less p ∷ ts) rest (type_reach type.base)
-  angled : {t p q : Span} {ts rest : List Token} {type : TypeName} → SpellsTypeName ts type (token kinds.Greater q ∷ token kinds.OpenParen t ∷ rest) → BeginsAngled (token kinds.Less p ∷ ts) rest (type_reach type.base)
+  closed : {p q : Span} {ts rest : List Token} {type : TypeName} → SpellsTypeName ts type (token kinds.Greater q ∷ rest)
+      → BeginsAngled (token kinds.Less p ∷ ts) rest (type_reach type.base)
+  angled : {t p q : Span} {ts rest : List Token} {type : TypeName} → SpellsTypeName ts type (token kinds.Greater q ∷ token kinds.OpenParen t ∷ rest)
+      → BeginsAngled (token kinds.Less p ∷ ts) rest (type_reach type.base)

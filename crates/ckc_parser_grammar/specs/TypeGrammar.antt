@@ -20,15 +20,20 @@ pub data SpellsStars : List Token → ℕ → List Token → Type 0 where
 pub data SpellsType : List Token → TypeTree → List Token → Type 0 where
   int : {s : Span} {rest : List Token} → SpellsType (token kinds.Int s ∷ rest) (IntType s) rest
   char : {s : Span} {rest : List Token} → SpellsType (token kinds.Char s ∷ rest) (CharType s) rest
-  struct : {x : List ℕ} {s t : Span} {rest : List Token} → SpellsType (token kinds.Struct s ∷ token (kinds.Name x) t ∷ rest) (StructType (identifier x t) (join s t)) rest
-  pointer : {n : ℕ} {k : TokenKind} {s t p : Span} {ts mid rest : List Token} {element : TypeTree} {word : PointerWord} → IsPointerWord k word → SpellsType ts element mid → SpellsStars mid n (token kinds.Greater t ∷ rest) → SpellsType (token k s ∷ token kinds.Less p ∷ ts) (PointerType word element n (join s t)) rest
+  struct : {x : List ℕ} {s t : Span} {rest : List Token} → SpellsType (token kinds.Struct s ∷ token (kinds.Name x) t
+      ∷ rest) (StructType (identifier x t) (join s t)) rest
+  pointer : {n : ℕ} {k : TokenKind} {s t p : Span} {ts mid rest : List Token} {element : TypeTree} {word : PointerWord} → IsPointerWord k word
+      → SpellsType ts element mid → SpellsStars mid n (token kinds.Greater t ∷ rest)
+      → SpellsType (token k s ∷ token kinds.Less p ∷ ts) (PointerType word element n (join s t)) rest
 
 -- a type and the stars behind it
 pub data SpellsTypeName : List Token → TypeName → List Token → Type 0 where
-  type_name : {n : ℕ} {ts mid rest : List Token} {base : TypeTree} → SpellsType ts base mid → SpellsStars mid n rest → SpellsTypeName ts (record { base = base; stars = n }) rest
+  type_name : {n : ℕ} {ts mid rest : List Token} {base : TypeTree} → SpellsType ts base mid → SpellsStars mid n rest
+      → SpellsTypeName ts (record { base = base; stars = n }) rest
 
 -- what stands behind the word of a cast or an allocation, up to the parenthesis: a type in angle brackets
 --
 --     '<' type stars '>' '('
 pub data SpellsAngled : List Token → TypeName → List Token → Type 0 where
-  angled : {t p q : Span} {ts rest : List Token} {type : TypeName} → SpellsTypeName ts type (token kinds.Greater q ∷ token kinds.OpenParen t ∷ rest) → SpellsAngled (token kinds.Less p ∷ ts) type rest
+  angled : {t p q : Span} {ts rest : List Token} {type : TypeName} → SpellsTypeName ts type (token kinds.Greater q ∷ token kinds.OpenParen t ∷ rest)
+      → SpellsAngled (token kinds.Less p ∷ ts) type rest

@@ -49,7 +49,8 @@ main_function = FunctionItem (record {
   body = Some (record {
     mark = None;
     statements =
-        Then (Declare (record { base = pointer_to_int; declarators = initialised (codes "p") (Unary AddressOf (name_of (codes "g")) here) ∷ []; span = here }) here)
+        Then (Declare (record { base = pointer_to_int; declarators = initialised (codes "p") (Unary AddressOf (name_of (codes "g")) here)
+            ∷ []; span = here }) here)
         (Then (Assign (Store Set (Unary Deref (name_of (codes "p")) here) (Number 41 here) here) here)
         (Then (Return (Some (Binary Add (name_of (codes "g")) (Number 1 here) here)) here) NoMore));
     span = here;
@@ -73,7 +74,8 @@ shift = Binary ShiftRight (name_of (codes "a")) (name_of (codes "b")) here
 
 -- (a + b * c) * - d, with parentheses around all operands that are operators themselves
 abbrev pub nested : Expression
-nested = Binary Multiply (Binary Add (name_of (codes "a")) (Binary Multiply (name_of (codes "b")) (name_of (codes "c")) here) here) (Unary Negate (name_of (codes "d")) here) here
+nested = Binary Multiply (Binary Add (name_of (codes "a")) (Binary Multiply (name_of (codes "b")) (name_of (codes "c")) here) here)
+    (Unary Negate (name_of (codes "d")) here) here
 
 -- a string of a letter, both quotes, a backslash, a line feed and a byte of 255
 abbrev pub string : Expression

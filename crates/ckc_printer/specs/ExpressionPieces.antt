@@ -12,7 +12,8 @@ use Rattle.ckc_tree.specs.declared.expr.MallocWord.{MallocWord}
 use Rattle.ckc_tree.specs.declared.expr.MallocWord.TheVariants as mallocs
 use Rattle.ckc_tree.specs.declared.expr.CallocWord.{CallocWord}
 use Rattle.ckc_tree.specs.declared.expr.CallocWord.TheVariants as callocs
-use Rattle.ckc_tree.specs.Expressions.{Expression, Expressions, NoMore, Then, Number, Character, Text, Name, Call, SizeOf, Cast, BoundedCast, Malloc, Calloc, Index, Dot, Arrow, Unary, Binary, Bounds, Count, ByteCount, Unknown, Range}
+use Rattle.ckc_tree.specs.Expressions.{Expression, Expressions, NoMore, Then, Number, Character, Text, Name, Call, SizeOf, Cast, BoundedCast}
+use Rattle.ckc_tree.specs.Expressions.{Malloc, Calloc, Index, Dot, Arrow, Unary, Binary, Bounds, Count, ByteCount, Unknown, Range}
 use Rattle.ckc_printer.specs.Pieces.{Sign, One, RightShift, around}
 use Rattle.ckc_printer.specs.TypePieces.{name_sign, type_name_pieces, angled_pieces}
 
@@ -104,11 +105,13 @@ abbrev mutual
   expression_pieces (Cast word type operand span) =
       One (cast_kind word) ∷ (angled_pieces type ++ One kinds.OpenParen ∷ (expression_pieces operand ++ One kinds.CloseParen ∷ []))
   expression_pieces (BoundedCast word type operand bounds span) =
-      One (cast_kind word) ∷ (angled_pieces type ++ One kinds.OpenParen ∷ (expression_pieces operand ++ One kinds.Comma ∷ (bounds_pieces bounds ++ One kinds.CloseParen ∷ [])))
+      One (cast_kind word) ∷ (angled_pieces type ++ One kinds.OpenParen
+          ∷ (expression_pieces operand ++ One kinds.Comma ∷ (bounds_pieces bounds ++ One kinds.CloseParen ∷ [])))
   expression_pieces (Malloc word type size span) =
       One (malloc_kind word) ∷ (angled_pieces type ++ One kinds.OpenParen ∷ (expression_pieces size ++ One kinds.CloseParen ∷ []))
   expression_pieces (Calloc word type count size span) =
-      One (calloc_kind word) ∷ (angled_pieces type ++ One kinds.OpenParen ∷ (expression_pieces count ++ One kinds.Comma ∷ (expression_pieces size ++ One kinds.CloseParen ∷ [])))
+      One (calloc_kind word) ∷ (angled_pieces type ++ One kinds.OpenParen
+          ∷ (expression_pieces count ++ One kinds.Comma ∷ (expression_pieces size ++ One kinds.CloseParen ∷ [])))
   expression_pieces (Index base index span) =
       around (is_compound base) (expression_pieces base) ++ One kinds.OpenBracket ∷ (expression_pieces index ++ One kinds.CloseBracket ∷ [])
   expression_pieces (Dot base member span) = around (is_compound base) (expression_pieces base) ++ One kinds.Dot ∷ name_sign member ∷ []
@@ -132,7 +135,8 @@ abbrev mutual
   bounds_pieces (ByteCount count span) = One (kinds.Name (codes "byte_count")) ∷ One kinds.OpenParen ∷ (expression_pieces count ++ One kinds.CloseParen ∷ [])
   bounds_pieces (Unknown span) = One (kinds.Name (codes "bounds")) ∷ One kinds.OpenParen ∷ One (kinds.Name (codes "unknown")) ∷ One kinds.CloseParen ∷ []
   bounds_pieces (Range low high span) =
-      One (kinds.Name (codes "bounds")) ∷ One kinds.OpenParen ∷ (expression_pieces low ++ One kinds.Comma ∷ (expression_pieces high ++ One kinds.CloseParen ∷ []))
+      One (kinds.Name (codes "bounds")) ∷ One kinds.OpenParen ∷ (expression_pieces low
+          ++ One kinds.Comma ∷ (expression_pieces high ++ One kinds.CloseParen ∷ []))
 
 -- an operand or a base
 abbrev pub operand_pieces : Expression → List Sign

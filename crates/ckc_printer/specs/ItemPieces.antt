@@ -8,7 +8,8 @@ use Rattle.ckc_tree.specs.declared.item.Region.{Region}
 use Rattle.ckc_tree.specs.declared.item.Region.TheVariants as regions
 use Rattle.ckc_tree.specs.declared.item.FunctionKind.{FunctionKind}
 use Rattle.ckc_tree.specs.declared.item.FunctionKind.TheVariants.{Trusted, Tainted, Callback}
-use Rattle.ckc_tree.specs.Items.{Member, Structure, Global, ResultForm, Void, Value, Parameters, Nothing, VoidAlone, Listed, Body, Function, Item, RegionItem, StructureItem, GlobalItem, FunctionItem, Tree}
+use Rattle.ckc_tree.specs.Items.{Member, Structure, Global, ResultForm, Void, Value, Parameters, Nothing, VoidAlone, Listed, Body, Function, Item}
+use Rattle.ckc_tree.specs.Items.{RegionItem, StructureItem, GlobalItem, FunctionItem, Tree}
 use Rattle.ckc_printer.specs.Pieces.{Sign, One, Piece, InLine, ScopeLine, with_commas, text_of}
 use Rattle.ckc_printer.specs.TypePieces.{name_sign, stars_pieces, type_pieces, type_name_pieces}
 use Rattle.ckc_printer.specs.StatementPieces.{optional_bounds_pieces, declarator_pieces, mark_pieces, statements_pieces}
@@ -26,7 +27,8 @@ ended_member_pieces m = member_pieces m ++ One kinds.Semicolon ∷ []
 
 abbrev pub structure_pieces : Structure → List Sign
 structure_pieces s =
-    tainted_pieces s.tainted ++ One kinds.Struct ∷ name_sign s.tag ∷ One kinds.OpenBrace ∷ (flat_map ended_member_pieces s.members ++ One kinds.CloseBrace ∷ One kinds.Semicolon ∷ [])
+    tainted_pieces s.tainted ++ One kinds.Struct ∷ name_sign s.tag ∷ One kinds.OpenBrace
+        ∷ (flat_map ended_member_pieces s.members ++ One kinds.CloseBrace ∷ One kinds.Semicolon ∷ [])
 
 abbrev pub global_pieces : Global → List Sign
 global_pieces g = tainted_pieces g.tainted ++ (type_pieces g.base ++ (with_commas declarator_pieces g.declarators ++ One kinds.Semicolon ∷ []))

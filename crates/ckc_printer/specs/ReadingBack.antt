@@ -27,7 +27,8 @@ Behind to (t ∷ ts) = to < t.span.from
 pub data AreSigns : List Sign → List Token → Type 0 where
   none : AreSigns [] []
   one : {k : TokenKind} {s : Span} {signs : List Sign} {ts : List Token} → Behind s.to ts → AreSigns signs ts → AreSigns (One k ∷ signs) (token k s ∷ ts)
-  shift : {s t : Span} {signs : List Sign} {ts : List Token} → s.to ≡ t.from → Behind t.to ts → AreSigns signs ts → AreSigns (RightShift ∷ signs) (token kinds.Greater s ∷ token kinds.Greater t ∷ ts)
+  shift : {s t : Span} {signs : List Sign} {ts : List Token} → s.to ≡ t.from → Behind t.to ts → AreSigns signs ts
+      → AreSigns (RightShift ∷ signs) (token kinds.Greater s ∷ token kinds.Greater t ∷ ts)
 
 -- the token that a line of its own is read as is a sign as well
 abbrev pub sign_of : Piece → Sign
@@ -78,7 +79,8 @@ TokensAreLexical = (src : List ℕ) (tokens : List Token) → AreBytes src → A
 
 -- so can be the pieces of a tree that such tokens spell
 abbrev pub TreesCanPrint : Type 0
-TreesCanPrint = (length : ℕ) (tokens : List Token) (t : Tree) → AllByRecursion (λ t. IsLexical t.kind) tokens → SpellsProgram length tokens t → AllByRecursion CanPrint (program_pieces t)
+TreesCanPrint = (length : ℕ) (tokens : List Token) (t : Tree) → AllByRecursion (λ t. IsLexical t.kind) tokens → SpellsProgram length tokens t
+    → AllByRecursion CanPrint (program_pieces t)
 
 -- pieces that can be printed are read as the tokens that they are, within the limits of a source
 abbrev pub PiecesLexBack : Type 0

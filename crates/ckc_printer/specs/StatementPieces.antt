@@ -17,7 +17,9 @@ use Rattle.ckc_tree.specs.declared.stmt.StepOperator.{StepOperator}
 use Rattle.ckc_tree.specs.declared.stmt.StepOperator.TheVariants as steps
 use Rattle.ckc_tree.specs.declared.stmt.StepSide.TheVariants.{Before, After}
 use Rattle.ckc_tree.specs.Expressions.{Expression, Bounds}
-use Rattle.ckc_tree.specs.Statements.{Initializer, Value, Constants, Declarator, Declaration, Assignment, Store, Step, ForInitial, Nothing, Declares, Assigns, Statement, Block, Bundle, Declare, Assign, CallAlone, Empty, If, IfElse, While, For, Return, Break, Continue, Statements, NoMore, Then}
+use Rattle.ckc_tree.specs.Statements.{Initializer, Value, Constants, Declarator, Declaration, Assignment, Store, Step, ForInitial, Nothing}
+use Rattle.ckc_tree.specs.Statements.{Declares, Assigns, Statement, Block, Bundle, Declare, Assign, CallAlone, Empty, If, IfElse, While, For}
+use Rattle.ckc_tree.specs.Statements.{Return, Break, Continue, Statements, NoMore, Then}
 use Rattle.ckc_printer.specs.Pieces.{Sign, One, with_commas}
 use Rattle.ckc_printer.specs.TypePieces.{name_sign, stars_pieces, type_pieces}
 use Rattle.ckc_printer.specs.ExpressionPieces.{expression_pieces, bounds_pieces, target_pieces}
@@ -106,7 +108,8 @@ optional_assignment_pieces (Some assignment) = assignment_pieces assignment
 -- the head of a for, from its word to its parenthesis
 abbrev pub for_head_pieces : ForInitial → Option Expression → Option Assignment → List Sign
 for_head_pieces initial condition step =
-    One kinds.For ∷ One kinds.OpenParen ∷ (initial_pieces initial ++ One kinds.Semicolon ∷ (optional_expression_pieces condition ++ One kinds.Semicolon ∷ (optional_assignment_pieces step ++ One kinds.CloseParen ∷ [])))
+    One kinds.For ∷ One kinds.OpenParen ∷ (initial_pieces initial ++ One kinds.Semicolon
+        ∷ (optional_expression_pieces condition ++ One kinds.Semicolon ∷ (optional_assignment_pieces step ++ One kinds.CloseParen ∷ [])))
 
 -- the word of an if or a while, and the condition in parentheses
 abbrev pub tested_pieces : TokenKind → Expression → List Sign

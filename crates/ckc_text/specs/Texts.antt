@@ -1,7 +1,9 @@
 -- The number and the name of each answer, as they are printed.
 use Rattle.std.specs.Prelude.{ℕ, List, codes}
 use Rattle.ckc_text.specs.declared.code.Code.{Code}
-use Rattle.ckc_text.specs.declared.code.Code.TheVariants.{E01, E02, E03, E04, E05, E06, E07, E08, E09, E10, E11, E12, E13, E14, E15, E16, E17, E18, E19, E20, E21, E22, E23, E24, E25, E26, E27, E28, E29, E30, C1, C2, C3, C4, C5, C6, C7, C8, C9, S1, S2, S3, S4, S5, S6, A1, A2, A3, A4, A5}
+use Rattle.ckc_text.specs.declared.code.Code.TheVariants.{E01, E02, E03, E04, E05, E06, E07, E08, E09, E10, E11, E12, E13, E14, E15, E16, E17, E18}
+use Rattle.ckc_text.specs.declared.code.Code.TheVariants.{E19, E20, E21, E22, E23, E24, E25, E26, E27, E28, E29, E30, C1, C2, C3, C4, C5, C6, C7}
+use Rattle.ckc_text.specs.declared.code.Code.TheVariants.{C8, C9, S1, S2, S3, S4, S5, S6, A1, A2, A3, A4, A5}
 
 -- the number
 abbrev pub number_of : Code → List ℕ

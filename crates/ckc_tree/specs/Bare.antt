@@ -38,7 +38,8 @@ abbrev mutual
   bare_expression (e.Call callee arguments span) = e.Call (bare_name callee) (bare_expressions arguments) nowhere
   bare_expression (e.SizeOf type span) = e.SizeOf (bare_type_name type) nowhere
   bare_expression (e.Cast word type operand span) = e.Cast word (bare_type_name type) (bare_expression operand) nowhere
-  bare_expression (e.BoundedCast word type operand bounds span) = e.BoundedCast word (bare_type_name type) (bare_expression operand) (bare_bounds bounds) nowhere
+  bare_expression (e.BoundedCast word type operand bounds span) =
+      e.BoundedCast word (bare_type_name type) (bare_expression operand) (bare_bounds bounds) nowhere
   bare_expression (e.Malloc word type size span) = e.Malloc word (bare_type_name type) (bare_expression size) nowhere
   bare_expression (e.Calloc word type count size span) = e.Calloc word (bare_type_name type) (bare_expression count) (bare_expression size) nowhere
   bare_expression (e.Index base index span) = e.Index (bare_expression base) (bare_expression index) nowhere
@@ -68,7 +69,8 @@ bare_initializer (s.Value value) = s.Value (bare_expression value)
 bare_initializer (s.Constants constants span) = s.Constants (map bare_constant constants) nowhere
 
 abbrev pub bare_declarator : Declarator → Declarator
-bare_declarator d = record { stars = d.stars; name = bare_name d.name; array = option_map bare_array d.array; bounds = option_map bare_bounds d.bounds; initializer = option_map bare_initializer d.initializer; span = nowhere }
+bare_declarator d = record { stars = d.stars; name = bare_name d.name; array = option_map bare_array d.array; bounds = option_map bare_bounds d.bounds;
+    initializer = option_map bare_initializer d.initializer; span = nowhere }
 
 abbrev pub bare_declaration : Declaration → Declaration
 bare_declaration d = record { base = bare_type d.base; declarators = map bare_declarator d.declarators; span = nowhere }
@@ -91,9 +93,11 @@ abbrev mutual
   bare_statement (s.CallAlone call span) = s.CallAlone (bare_expression call) nowhere
   bare_statement (s.Empty span) = s.Empty nowhere
   bare_statement (s.If condition consequent span) = s.If (bare_expression condition) (bare_statement consequent) nowhere
-  bare_statement (s.IfElse condition consequent alternative span) = s.IfElse (bare_expression condition) (bare_statement consequent) (bare_statement alternative) nowhere
+  bare_statement (s.IfElse condition consequent alternative span) =
+      s.IfElse (bare_expression condition) (bare_statement consequent) (bare_statement alternative) nowhere
   bare_statement (s.While condition body span) = s.While (bare_expression condition) (bare_statement body) nowhere
-  bare_statement (s.For initial condition step body span) = s.For (bare_initial initial) (option_map bare_expression condition) (option_map bare_assignment step) (bare_statement body) nowhere
+  bare_statement (s.For initial condition step body span) =
+      s.For (bare_initial initial) (option_map bare_expression condition) (option_map bare_assignment step) (bare_statement body) nowhere
   bare_statement (s.Return value span) = s.Return (option_map bare_expression value) nowhere
   bare_statement (s.Break span) = s.Break nowhere
   bare_statement (s.Continue span) = s.Continue nowhere
@@ -124,7 +128,8 @@ abbrev pub bare_body : Body → Body
 bare_body b = record { mark = b.mark; statements = bare_statements b.statements; span = nowhere }
 
 abbrev pub bare_function : Function → Function
-bare_function f = record { kind = f.kind; mark = f.mark; result = bare_result f.result; stars = f.stars; name = bare_name f.name; parameters = bare_parameters f.parameters; bounds = option_map bare_bounds f.bounds; body = option_map bare_body f.body; span = nowhere }
+bare_function f = record { kind = f.kind; mark = f.mark; result = bare_result f.result; stars = f.stars; name = bare_name f.name;
+    parameters = bare_parameters f.parameters; bounds = option_map bare_bounds f.bounds; body = option_map bare_body f.body; span = nowhere }
 
 abbrev pub bare_item : Item → Item
 bare_item (i.RegionItem region span) = i.RegionItem region nowhere

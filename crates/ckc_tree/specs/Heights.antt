@@ -55,7 +55,8 @@ abbrev mutual
   expression_reach (e.Call callee arguments span) = around span.from (expressions_reach arguments)
   expression_reach (e.SizeOf type span) = around span.from (type_reach type.base)
   expression_reach (e.Cast word type operand span) = around span.from (type_reach type.base beside expression_reach operand)
-  expression_reach (e.BoundedCast word type operand bounds span) = around span.from (type_reach type.base beside expression_reach operand beside bounds_reach bounds)
+  expression_reach (e.BoundedCast word type operand bounds span) =
+      around span.from (type_reach type.base beside expression_reach operand beside bounds_reach bounds)
   expression_reach (e.Malloc word type size span) = around span.from (type_reach type.base beside expression_reach size)
   expression_reach (e.Calloc word type count size span) = around span.from (type_reach type.base beside expression_reach count beside expression_reach size)
   expression_reach (e.Index base index span) = around span.from (expression_reach base beside expression_reach index)
@@ -132,9 +133,11 @@ abbrev mutual
   statement_reach (s.CallAlone call span) = around span.from (expression_reach call)
   statement_reach (s.Empty span) = node span.from
   statement_reach (s.If condition consequent span) = around span.from (expression_reach condition beside statement_reach consequent)
-  statement_reach (s.IfElse condition consequent alternative span) = around span.from (expression_reach condition beside statement_reach consequent beside statement_reach alternative)
+  statement_reach (s.IfElse condition consequent alternative span) =
+      around span.from (expression_reach condition beside statement_reach consequent beside statement_reach alternative)
   statement_reach (s.While condition body span) = around span.from (expression_reach condition beside statement_reach body)
-  statement_reach (s.For initial condition step body span) = around span.from (for_initial_reach initial beside optional_expression_reach condition beside optional_assignment_reach step beside statement_reach body)
+  statement_reach (s.For initial condition step body span) =
+      around span.from (for_initial_reach initial beside optional_expression_reach condition beside optional_assignment_reach step beside statement_reach body)
   statement_reach (s.Return value span) = around span.from (optional_expression_reach value)
   statement_reach (s.Break span) = node span.from
   statement_reach (s.Continue span) = node span.from
@@ -171,7 +174,9 @@ abbrev pub item_reach : Item → Reach
 item_reach (i.RegionItem region span) = nowhere
 item_reach (i.StructureItem structure) = members_reach structure.members
 item_reach (i.GlobalItem global) = type_reach global.base beside declarators_reach global.declarators
-item_reach (i.FunctionItem function) = result_reach function.result beside parameters_reach function.parameters beside optional_bounds_reach function.bounds beside optional_body_reach function.body
+item_reach (i.FunctionItem function) =
+    result_reach function.result beside parameters_reach function.parameters beside optional_bounds_reach function.bounds
+    beside optional_body_reach function.body
 
 abbrev pub items_reach : List Item → Reach
 items_reach [] = nowhere

@@ -48,15 +48,19 @@ abbrev mutual
   ExpressionPlaced (e.Name name) = Holds name.span []
   ExpressionPlaced (e.Call callee arguments span) = Holds span (callee.span ∷ expressions_spans arguments) × ExpressionsPlaced arguments
   ExpressionPlaced (e.SizeOf type span) = Holds span (type_span type.base ∷ []) × TypePlaced type.base
-  ExpressionPlaced (e.Cast word type operand span) = Holds span (type_span type.base ∷ expression_span operand ∷ []) × TypePlaced type.base × ExpressionPlaced operand
-  ExpressionPlaced (e.BoundedCast word type operand bounds span) = Holds span (type_span type.base ∷ expression_span operand ∷ bounds_span bounds ∷ []) × TypePlaced type.base × ExpressionPlaced operand × BoundsPlaced bounds
+  ExpressionPlaced (e.Cast word type operand span) =
+      Holds span (type_span type.base ∷ expression_span operand ∷ []) × TypePlaced type.base × ExpressionPlaced operand
+  ExpressionPlaced (e.BoundedCast word type operand bounds span) = Holds span (type_span type.base ∷ expression_span operand ∷ bounds_span bounds ∷ [])
+      × TypePlaced type.base × ExpressionPlaced operand × BoundsPlaced bounds
   ExpressionPlaced (e.Malloc word type size span) = Holds span (type_span type.base ∷ expression_span size ∷ []) × TypePlaced type.base × ExpressionPlaced size
-  ExpressionPlaced (e.Calloc word type count size span) = Holds span (type_span type.base ∷ expression_span count ∷ expression_span size ∷ []) × TypePlaced type.base × ExpressionPlaced count × ExpressionPlaced size
+  ExpressionPlaced (e.Calloc word type count size span) = Holds span (type_span type.base ∷ expression_span count ∷ expression_span size ∷ [])
+      × TypePlaced type.base × ExpressionPlaced count × ExpressionPlaced size
   ExpressionPlaced (e.Index base index span) = Holds span (expression_span base ∷ expression_span index ∷ []) × ExpressionPlaced base × ExpressionPlaced index
   ExpressionPlaced (e.Dot base member span) = Holds span (expression_span base ∷ member.span ∷ []) × ExpressionPlaced base
   ExpressionPlaced (e.Arrow base member span) = Holds span (expression_span base ∷ member.span ∷ []) × ExpressionPlaced base
   ExpressionPlaced (e.Unary operator operand span) = Holds span (expression_span operand ∷ []) × ExpressionPlaced operand
-  ExpressionPlaced (e.Binary operator left right span) = Holds span (expression_span left ∷ expression_span right ∷ []) × ExpressionPlaced left × ExpressionPlaced right
+  ExpressionPlaced (e.Binary operator left right span) =
+      Holds span (expression_span left ∷ expression_span right ∷ []) × ExpressionPlaced left × ExpressionPlaced right
 
   pub ExpressionsPlaced : Expressions → Type 0
   ExpressionsPlaced e.NoMore = Unit {0}
@@ -92,7 +96,8 @@ abbrev pub DeclarationPlaced : Declaration → Type 0
 DeclarationPlaced d = Holds d.span (type_span d.base ∷ map declarator_span d.declarators) × TypePlaced d.base × AllByRecursion DeclaratorPlaced d.declarators
 
 abbrev pub AssignmentPlaced : Assignment → Type 0
-AssignmentPlaced (s.Store operator target value span) = Holds span (expression_span target ∷ expression_span value ∷ []) × ExpressionPlaced target × ExpressionPlaced value
+AssignmentPlaced (s.Store operator target value span) =
+    Holds span (expression_span target ∷ expression_span value ∷ []) × ExpressionPlaced target × ExpressionPlaced value
 AssignmentPlaced (s.Step operator side target span) = Holds span (expression_span target ∷ []) × ExpressionPlaced target
 
 abbrev pub initial_spans : ForInitial → List Span
@@ -117,9 +122,12 @@ abbrev mutual
   StatementPlaced (s.Assign assignment span) = Holds span (assignment_span assignment ∷ []) × AssignmentPlaced assignment
   StatementPlaced (s.CallAlone call span) = Holds span (expression_span call ∷ []) × ExpressionPlaced call
   StatementPlaced (s.Empty span) = Holds span []
-  StatementPlaced (s.If condition consequent span) = Holds span (expression_span condition ∷ statement_span consequent ∷ []) × ExpressionPlaced condition × StatementPlaced consequent
-  StatementPlaced (s.IfElse condition consequent alternative span) = Holds span (expression_span condition ∷ statement_span consequent ∷ statement_span alternative ∷ []) × ExpressionPlaced condition × StatementPlaced consequent × StatementPlaced alternative
-  StatementPlaced (s.While condition body span) = Holds span (expression_span condition ∷ statement_span body ∷ []) × ExpressionPlaced condition × StatementPlaced body
+  StatementPlaced (s.If condition consequent span) =
+      Holds span (expression_span condition ∷ statement_span consequent ∷ []) × ExpressionPlaced condition × StatementPlaced consequent
+  StatementPlaced (s.IfElse condition consequent alternative span) = Holds span (expression_span condition ∷ statement_span consequent
+      ∷ statement_span alternative ∷ []) × ExpressionPlaced condition × StatementPlaced consequent × StatementPlaced alternative
+  StatementPlaced (s.While condition body span) =
+      Holds span (expression_span condition ∷ statement_span body ∷ []) × ExpressionPlaced condition × StatementPlaced body
   StatementPlaced (s.For initial condition step body span) =
       Holds span (initial_spans initial ++ optional expression_span condition ++ optional assignment_span step ++ statement_span body ∷ [])
       × InitialPlaced initial
@@ -135,7 +143,8 @@ abbrev mutual
   StatementsPlaced (s.Then first others) = StatementPlaced first × StatementsPlaced others
 
 abbrev pub MemberPlaced : Member → Type 0
-MemberPlaced m = Holds m.span (type_span m.type.base ∷ m.name.span ∷ optional bounds_span m.bounds) × TypePlaced m.type.base × OptionalPlaced BoundsPlaced m.bounds
+MemberPlaced m =
+    Holds m.span (type_span m.type.base ∷ m.name.span ∷ optional bounds_span m.bounds) × TypePlaced m.type.base × OptionalPlaced BoundsPlaced m.bounds
 
 abbrev pub member_span : Member → Span
 member_span m = m.span
@@ -167,10 +176,13 @@ item_span (i.FunctionItem function) = function.span
 
 abbrev pub ItemPlaced : Item → Type 0
 ItemPlaced (i.RegionItem region span) = Holds span []
-ItemPlaced (i.StructureItem structure) = Holds structure.span (structure.tag.span ∷ map member_span structure.members) × AllByRecursion MemberPlaced structure.members
-ItemPlaced (i.GlobalItem global) = Holds global.span (type_span global.base ∷ map declarator_span global.declarators) × TypePlaced global.base × AllByRecursion DeclaratorPlaced global.declarators
+ItemPlaced (i.StructureItem structure) =
+    Holds structure.span (structure.tag.span ∷ map member_span structure.members) × AllByRecursion MemberPlaced structure.members
+ItemPlaced (i.GlobalItem global) = Holds global.span (type_span global.base ∷ map declarator_span global.declarators) × TypePlaced global.base
+    × AllByRecursion DeclaratorPlaced global.declarators
 ItemPlaced (i.FunctionItem function) =
-    Holds function.span (result_span function.result ∷ function.name.span ∷ map member_span (listed function.parameters) ++ optional bounds_span function.bounds ++ optional body_span function.body)
+    Holds function.span (result_span function.result ∷ function.name.span ∷ map member_span (listed function.parameters)
+        ++ optional bounds_span function.bounds ++ optional body_span function.body)
     × ResultPlaced function.result
     × AllByRecursion MemberPlaced (listed function.parameters)
     × OptionalPlaced BoundsPlaced function.bounds

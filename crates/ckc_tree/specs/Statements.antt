@@ -104,7 +104,8 @@ initializer (initializers.Value value) = Value (expression value.value)
 initializer (initializers.List constants span) = Constants constants.items span
 
 abbrev pub declarator : code.Declarator.Declarator → Declarator
-declarator d = record { stars = d.stars; name = d.name; array = d.array; bounds = option_map bounds d.bounds; initializer = option_map initializer d.initializer; span = d.span }
+declarator d = record { stars = d.stars; name = d.name; array = d.array; bounds = option_map bounds d.bounds;
+    initializer = option_map initializer d.initializer; span = d.span }
 
 abbrev pub declaration : code.Declaration.Declaration → Declaration
 declaration d = record { base = type_tree d.base; declarators = map declarator d.declarators.items; span = d.span }
@@ -133,7 +134,8 @@ abbrev mutual
   statement (stmts.Empty span) = Empty span
   statement (stmts.If' condition p consequent written span) = if_of (expression condition.value) (statement consequent) (alternative_of written) span
   statement (stmts.While' condition p body span) = While (expression condition.value) (statement body) span
-  statement (stmts.For' initial condition step p body span) = For (for_initial initial) (option_map on_heap condition) (option_map assignment step) (statement body) span
+  statement (stmts.For' initial condition step p body span) =
+      For (for_initial initial) (option_map on_heap condition) (option_map assignment step) (statement body) span
   statement (stmts.Return value span) = Return (option_map on_heap value) span
   statement (stmts.Break span) = Break span
   statement (stmts.Continue span) = Continue span

@@ -46,14 +46,18 @@ abbrev mutual
   expression_parts (e.Call callee arguments span) cursor = arguments_walked arguments (passed cursor callee.span)
   expression_parts (e.SizeOf type span) cursor = type_walked type.base cursor
   expression_parts (e.Cast word type operand span) cursor = around (expression_span operand) (expression_parts operand) (type_walked type.base cursor)
-  expression_parts (e.BoundedCast word type operand bounds span) cursor = around (bounds_span bounds) (bounds_parts bounds) (around (expression_span operand) (expression_parts operand) (type_walked type.base cursor))
+  expression_parts (e.BoundedCast word type operand bounds span) cursor =
+      around (bounds_span bounds) (bounds_parts bounds) (around (expression_span operand) (expression_parts operand) (type_walked type.base cursor))
   expression_parts (e.Malloc word type size span) cursor = around (expression_span size) (expression_parts size) (type_walked type.base cursor)
-  expression_parts (e.Calloc word type count size span) cursor = around (expression_span size) (expression_parts size) (around (expression_span count) (expression_parts count) (type_walked type.base cursor))
-  expression_parts (e.Index base index span) cursor = around (expression_span index) (expression_parts index) (around (expression_span base) (expression_parts base) cursor)
+  expression_parts (e.Calloc word type count size span) cursor =
+      around (expression_span size) (expression_parts size) (around (expression_span count) (expression_parts count) (type_walked type.base cursor))
+  expression_parts (e.Index base index span) cursor =
+      around (expression_span index) (expression_parts index) (around (expression_span base) (expression_parts base) cursor)
   expression_parts (e.Dot base member span) cursor = passed (around (expression_span base) (expression_parts base) cursor) member.span
   expression_parts (e.Arrow base member span) cursor = passed (around (expression_span base) (expression_parts base) cursor) member.span
   expression_parts (e.Unary operator operand span) cursor = around (expression_span operand) (expression_parts operand) cursor
-  expression_parts (e.Binary operator left right span) cursor = around (expression_span right) (expression_parts right) (around (expression_span left) (expression_parts left) cursor)
+  expression_parts (e.Binary operator left right span) cursor =
+      around (expression_span right) (expression_parts right) (around (expression_span left) (expression_parts left) cursor)
 
   pub arguments_walked : Expressions → Cursor → Cursor
   arguments_walked e.NoMore cursor = cursor
@@ -63,7 +67,8 @@ abbrev mutual
   bounds_parts (e.Count count span) cursor = around (expression_span count) (expression_parts count) cursor
   bounds_parts (e.ByteCount count span) cursor = around (expression_span count) (expression_parts count) cursor
   bounds_parts (e.Unknown span) cursor = cursor
-  bounds_parts (e.Range low high span) cursor = around (expression_span high) (expression_parts high) (around (expression_span low) (expression_parts low) cursor)
+  bounds_parts (e.Range low high span) cursor =
+      around (expression_span high) (expression_parts high) (around (expression_span low) (expression_parts low) cursor)
 
 abbrev pub expression_walked : Expression → Cursor → Cursor
 expression_walked x cursor = around (expression_span x) (expression_parts x) cursor
@@ -82,7 +87,8 @@ abbrev pub array_walked : ArrayForm → Cursor → Cursor
 array_walked array cursor = passed cursor array.span
 
 abbrev pub declarator_parts : Declarator → Cursor → Cursor
-declarator_parts d cursor = optional_walked initializer_walked d.initializer (optional_walked bounds_walked d.bounds (optional_walked array_walked d.array (passed cursor d.name.span)))
+declarator_parts d cursor =
+    optional_walked initializer_walked d.initializer (optional_walked bounds_walked d.bounds (optional_walked array_walked d.array (passed cursor d.name.span)))
 
 abbrev pub declarator_walked : Declarator → Cursor → Cursor
 declarator_walked d cursor = around d.span (declarator_parts d) cursor
@@ -116,9 +122,11 @@ abbrev mutual
   statement_parts (s.CallAlone call span) cursor = expression_walked call cursor
   statement_parts (s.Empty span) cursor = cursor
   statement_parts (s.If condition consequent span) cursor = around (statement_span consequent) (statement_parts consequent) (expression_walked condition cursor)
-  statement_parts (s.IfElse condition consequent alternative span) cursor = around (statement_span alternative) (statement_parts alternative) (around (statement_span consequent) (statement_parts consequent) (expression_walked condition cursor))
+  statement_parts (s.IfElse condition consequent alternative span) cursor = around (statement_span alternative) (statement_parts alternative)
+      (around (statement_span consequent) (statement_parts consequent) (expression_walked condition cursor))
   statement_parts (s.While condition body span) cursor = around (statement_span body) (statement_parts body) (expression_walked condition cursor)
-  statement_parts (s.For initial condition step body span) cursor = around (statement_span body) (statement_parts body) (head_walked initial condition step cursor)
+  statement_parts (s.For initial condition step body span) cursor =
+      around (statement_span body) (statement_parts body) (head_walked initial condition step cursor)
   statement_parts (s.Return value span) cursor = optional_walked expression_walked value cursor
   statement_parts (s.Break span) cursor = cursor
   statement_parts (s.Continue span) cursor = cursor
@@ -132,7 +140,8 @@ statement_walked x cursor = around (statement_span x) (statement_parts x) cursor
 
 -- what members and parameters have in common
 abbrev pub declared_walked : Span → TypeTree → Span → Option Bounds → Cursor → Cursor
-declared_walked span base name written cursor = reached (optional_walked bounds_walked written (passed (type_walked base (reached cursor span.from)) name)) span.to
+declared_walked span base name written cursor =
+    reached (optional_walked bounds_walked written (passed (type_walked base (reached cursor span.from)) name)) span.to
 
 abbrev pub member_walked : Member → Cursor → Cursor
 member_walked m cursor = declared_walked m.span m.type.base m.name.span m.bounds cursor
@@ -150,13 +159,15 @@ abbrev pub body_walked : Body → Cursor → Cursor
 body_walked b cursor = around b.span (statements_walked b.statements) cursor
 
 abbrev pub function_parts : Function → Cursor → Cursor
-function_parts f cursor = optional_walked body_walked f.body (optional_walked bounds_walked f.bounds (parameters_walked f.parameters (passed (result_walked f.result cursor) f.name.span)))
+function_parts f cursor = optional_walked body_walked f.body (optional_walked bounds_walked f.bounds
+    (parameters_walked f.parameters (passed (result_walked f.result cursor) f.name.span)))
 
 abbrev pub function_walked : Function → Cursor → Cursor
 function_walked f cursor = around f.span (function_parts f) cursor
 
 abbrev pub structure_walked : Structure → Cursor → Cursor
-structure_walked structure cursor = reached (each_walked member_walked structure.members (passed (reached cursor structure.span.from) structure.tag.span)) structure.span.to
+structure_walked structure cursor =
+    reached (each_walked member_walked structure.members (passed (reached cursor structure.span.from) structure.tag.span)) structure.span.to
 
 abbrev pub global_walked : Global → Cursor → Cursor
 global_walked global cursor = around global.span (declared_parts global.base global.declarators) cursor

@@ -117,7 +117,8 @@ sandboxed funs =
       layout =
           record {
             imports = [];
-            callbacks = (record { number = 0; fun = 0; signature = param kinds.Int 1 None ∷ []; result = kinds.Int }) ∷ (record { number = 1; fun = 1; signature = []; result = kinds.Void }) ∷ [];
+            callbacks = (record { number = 0; fun = 0; signature = param kinds.Int 1 None ∷ []; result = kinds.Int })
+                ∷ (record { number = 1; fun = 1; signature = []; result = kinds.Void }) ∷ [];
             main = None;
           };
     }

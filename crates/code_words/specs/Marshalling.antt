@@ -1,5 +1,6 @@
 -- Words that cross between the sides.
-use Rattle.std.specs.Prelude.{ℕ, suc, Bool, true, false, ◌&&◌, ◌||◌, ◌==◌, nat_lt, int_lt, int_le, List, [], ◌∷◌, length, Option, Some, None, slice_get, unwrap_or, pos}
+use Rattle.std.specs.Prelude.{ℕ, suc, Bool, true, false, ◌&&◌, ◌||◌, ◌==◌, nat_lt, int_lt, int_le, List, [], ◌∷◌, length, Option, Some, None}
+use Rattle.std.specs.Prelude.{slice_get, unwrap_or, pos}
 use Rattle.std.proofs.Common.{ℤ, ◌+ℤ◌, ◌*ℤ◌}
 use Rattle.act_words.specs.Numbers.{signed}
 use Rattle.code_words.specs.declared.image.WordKind.{WordKind}
@@ -43,7 +44,8 @@ lie_in size pointer low high more = pointer == 0 || (int_lt high low || (int_le 
 
 abbrev pub region_lies : ℕ → List ℕ → ℕ → Region → Bool
 region_lies size words pointer r =
-    lie_in size pointer (end_at (unwrap_or (slice_get words r.base) 0) r.size (added r.low_var words) r.low_plus) (end_at (unwrap_or (slice_get words r.base) 0) r.size (added r.high_var words) r.high_plus) r.more
+    lie_in size pointer (end_at (unwrap_or (slice_get words r.base) 0) r.size (added r.low_var words) r.low_plus)
+        (end_at (unwrap_or (slice_get words r.base) 0) r.size (added r.high_var words) r.high_plus) r.more
 
 abbrev pub optional_region_lies : ℕ → List ℕ → ℕ → Option Region → Bool
 optional_region_lies size words pointer None = true
@@ -58,7 +60,8 @@ abbrev pub fault_from : ℕ → ℕ → List ℕ → List Param → List ℕ →
 fault_from number size words [] left = None
 fault_from number size words (p ∷ params) [] = None
 fault_from number size words (p ∷ params) (w ∷ left) =
-    fault_unless (fits_kind p.kind w) (TooLarge number) (fault_unless (optional_region_lies size words w p.region) (OutOfRange number) (fault_from (suc number) size words params left))
+    fault_unless (fits_kind p.kind w) (TooLarge number) (fault_unless (optional_region_lies size words w p.region) (OutOfRange number)
+        (fault_from (suc number) size words params left))
 
 -- what is wrong with the words that the sandbox passes, if anything is
 abbrev pub arguments_fault : List Param → List ℕ → ℕ → Option Fault

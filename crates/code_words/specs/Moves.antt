@@ -11,7 +11,8 @@ use Rattle.act_words.specs.Acting.{BeforeTouch, InSandbox, act_before_touch, act
 use Rattle.act_words.specs.Touches.{released, spend_tick, enter_call}
 use Rattle.flat_bytes.specs.Words.{word_at}
 use Rattle.code_words.specs.Marshalling.{Fault, Count, TooLarge, OutOfRange, fits_kind, arguments_fault}
-use Rattle.code_words.specs.Table.{Frame, Caller, Calls, Waits, CalledBack, Touch, Loads, Stores, Passes, Replies, Control, Runs, Touches, Away, State, Step, Goes, Over, depth, wild, asked, behind, enter, push_result, step}
+use Rattle.code_words.specs.Table.{Frame, Caller, Calls, Waits, CalledBack, Touch, Loads, Stores, Passes, Replies, Control, Runs, Touches, Away}
+use Rattle.code_words.specs.Table.{State, Step, Goes, Over, depth, wild, asked, behind, enter, push_result, step}
 use Rattle.code_words.specs.declared.image.Param.{Param}
 use Rattle.code_words.specs.declared.image.WordKind.{WordKind}
 use Rattle.code_words.specs.declared.image.WordKind.TheVariants as kinds
@@ -70,7 +71,8 @@ tested image k callback (Some (OutOfRange param)) words s = at_place_of (slice_g
 abbrev pub call_back_if : Bool → Image → Settings → ℕ → Callback → List ℕ → State → Step
 call_back_if false image settings k callback words s = Over (stopped_by_act S5 s.world) s
 call_back_if true image settings k callback words s =
-    asked (spend_tick settings.budget s.world) s (λ _ t. asked (enter_call (depth t) t.world) t (λ _ u. tested image k callback (arguments_fault callback.signature words (length u.world.sandbox)) words u))
+    asked (spend_tick settings.budget s.world) s (λ _ t. asked (enter_call (depth t) t.world) t
+        (λ _ u. tested image k callback (arguments_fault callback.signature words (length u.world.sandbox)) words u))
 
 -- the sandbox calls a callback: the count of arguments (S5), the tick (S1), the depth (S2), the arguments (C9, C4)
 abbrev pub call_back : Image → Settings → ℕ → Option Callback → List ℕ → State → Step
@@ -98,7 +100,8 @@ reply_to image f place (Some import) value s = reply_if (fits_kind import.result
 abbrev pub answer : Image → List Caller → ℕ → State → Step
 answer image [] value s = wild s
 answer image (Calls frame ∷ callers) value s = wild s
-answer image (Waits frame import place ∷ callers) value s = reply_to image frame place (slice_get image.layout.imports import) value (record s { callers = callers })
+answer image (Waits frame import place ∷ callers) value s =
+    reply_to image frame place (slice_get image.layout.imports import) value (record s { callers = callers })
 answer image (CalledBack k ∷ callers) value s = wild s
 
 -- what an act does that is taken while the sandbox has the turn

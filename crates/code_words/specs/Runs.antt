@@ -45,7 +45,8 @@ main_frame number (Some fun) = frame_for number fun []
 abbrev pub started : Image → Settings → List ℤ → List Act → State
 started image settings inputs acts =
     record {
-      memory = record { bytes = memory_of settings.trusted image.trusted.blocks; base = settings.base; counter = counter_behind first_offset image.trusted.blocks };
+      memory =
+          record { bytes = memory_of settings.trusted image.trusted.blocks; base = settings.base; counter = counter_behind first_offset image.trusted.blocks };
       blocks = blocks_of settings.trusted (map length image.trusted.blocks);
       control = Runs (main_frame (main_of image) (slice_get image.trusted.funs (main_of image)));
       callers = [];

@@ -1,6 +1,8 @@
 -- The sandbox's own code as an actor: its instructions, of which loads, stores, calls of callbacks and the return to the
 -- trusted side are acts. Where a line has no result, the act is `stop`.
-use Rattle.std.specs.Prelude.{◌≡◌, ℕ, zero, suc, ◌+◌, ◌-◌, ◌*◌, ◌%◌, Bool, true, false, not, ◌&&◌, ◌==◌, nat_lt, nat_le, int_lt, int_le, bit_and, bit_or, bit_xor, List, [], ◌∷◌, ◌++◌, length, replicate, reverse, take, drop, Option, Some, None, slice_get, slice_set, find, option_map}
+use Rattle.std.specs.Prelude.{◌≡◌, ℕ, zero, suc, ◌+◌, ◌-◌, ◌*◌, ◌%◌, Bool, true, false, not, ◌&&◌, ◌==◌, nat_lt, nat_le, int_lt, int_le, bit_and}
+use Rattle.std.specs.Prelude.{bit_or, bit_xor, List, [], ◌∷◌, ◌++◌, length, replicate, reverse, take, drop, Option, Some, None, slice_get}
+use Rattle.std.specs.Prelude.{slice_set, find, option_map}
 use Rattle.std.proofs.Common.{ℤ}
 use Rattle.std.specs.Int.{to_le_bytes, w8, w32}
 use Rattle.act_words.specs.declared.act.Turn.{Turn}
@@ -128,7 +130,8 @@ behind f stack = record f { next = f.next + 1; stack = stack }
 -- ---- calls
 
 abbrev enter_if : Bool → Func → List ℕ → List Held → State → Step
-enter_if true fun words held s = Goes (record s { doing = Runs (record { function = fun.number; next = 0; slots = slots_for fun words; stack = [] }); held = held })
+enter_if true fun words held s =
+    Goes (record s { doing = Runs (record { function = fun.number; next = 0; slots = slots_for fun words; stack = [] }); held = held })
 enter_if false fun words held s = stop s
 
 -- a function runs with these words, unless 1,000 sandbox calls are open
@@ -142,7 +145,8 @@ call_function (Some fun) f s = pop_words fun.args f.stack (λ words stack. enter
 abbrev call_back : ℕ → Option Callback → Frame → State → Step
 call_back k None f s = stop s
 call_back k (Some callback) f s =
-    pop_words (length callback.signature) f.stack (λ words stack. Acts (Call k words) (record s { doing = Rests; held = CallsBack (behind f stack) k ∷ s.held })) s
+    pop_words (length callback.signature) f.stack (λ words stack. Acts (Call k words) (record s { doing = Rests; held = CallsBack (behind f stack) k
+        ∷ s.held })) s
 
 -- pushes what came back, if something did
 abbrev push_result : Option Func → Option ℕ → Frame → State → Step

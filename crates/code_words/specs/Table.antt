@@ -1,6 +1,8 @@
 -- The instruction table: what each instruction does, over one memory at a base address, words of 32 bits, and the world
 -- that the sandbox shares. A run goes in moves: an instruction, or an act of the sandbox.
-use Rattle.std.specs.Prelude.{ℕ, zero, suc, ◌+◌, ◌-◌, ◌*◌, ◌%◌, Bool, true, false, not, ◌&&◌, ◌||◌, ◌==◌, nat_lt, nat_le, int_lt, int_le, bit_and, bit_or, bit_xor, List, [], ◌∷◌, ◌++◌, length, replicate, reverse, take, drop, Option, Some, None, slice_get, slice_index, slice_set, pos}
+use Rattle.std.specs.Prelude.{ℕ, zero, suc, ◌+◌, ◌-◌, ◌*◌, ◌%◌, Bool, true, false, not, ◌&&◌, ◌||◌, ◌==◌, nat_lt, nat_le, int_lt, int_le, bit_and}
+use Rattle.std.specs.Prelude.{bit_or, bit_xor, List, [], ◌∷◌, ◌++◌, length, replicate, reverse, take, drop, Option, Some, None, slice_get}
+use Rattle.std.specs.Prelude.{slice_index, slice_set, pos}
 use Rattle.std.proofs.Common.{ℤ, ◌+ℤ◌, ◌*ℤ◌}
 use Rattle.std.specs.Int.{to_le_bytes, w8, w32}
 use Rattle.ckc_text.specs.declared.place.Place.{Place}
@@ -342,7 +344,8 @@ by_byte (Some (suc byte)) outside end more = more
 abbrev pub count_from : ℕ → Func → ℕ → ℕ → ℕ → List ℕ → Frame → State → Step
 count_from zero fun budget address count stack f s = asked (spend_tick budget s.world) s (λ _ t. wild t)
 count_from (suc left) fun budget address count stack f s =
-    asked (spend_tick budget s.world) s (λ _ t. by_byte (byte_at t address) (wild t) (push fun count stack f t) (count_from left fun budget (address + 1) (count + 1) stack f t))
+    asked (spend_tick budget s.world) s (λ _ t. by_byte (byte_at t address) (wild t) (push fun count stack f t)
+        (count_from left fun budget (address + 1) (count + 1) stack f t))
 
 -- ---- jumps
 
@@ -421,9 +424,11 @@ act image settings fun (ops.UpTo low high size place) f s =
 act image settings fun (ops.Term high size place) f s =
     pop_5 f.stack (λ p i b h v stack. check (v == 0 || not (same_number (place_at p i size) (end_of b h high size))) C3 place stack f s) s
 act image settings fun (ops.Contain low1 high1 low2 high2 size place) f s =
-    pop_6 f.stack (λ b1 l1 h1 b2 l2 h2 stack. peek stack (λ p. check (contains p (end_of b1 l1 low1 size) (end_of b1 h1 high1 size) (end_of b2 l2 low2 size) (end_of b2 h2 high2 size)) C5 place stack f s) s) s
+    pop_6 f.stack (λ b1 l1 h1 b2 l2 h2 stack. peek stack (λ p. check (contains p (end_of b1 l1 low1 size) (end_of b1 h1 high1 size) (end_of b2 l2 low2 size)
+        (end_of b2 h2 high2 size)) C5 place stack f s) s) s
 act image settings fun (ops.Lies low high size more place) f s =
-    pop_3 f.stack (λ b l h stack. peek stack (λ p. check (lie_in (length s.world.sandbox) p (end_of b l low size) (end_of b h high size) more) C5 place stack f s) s) s
+    pop_3 f.stack (λ b l h stack. peek stack (λ p. check (lie_in (length s.world.sandbox) p (end_of b l low size)
+        (end_of b h high size) more) C5 place stack f s) s) s
 act image settings fun (ops.Range offset len place) f s = peek f.stack (λ w. check (nat_le (w + offset + len) (length s.world.sandbox)) C4 place f.stack f s) s
 act image settings fun ops.Load1 f s = pop f.stack (λ address stack. load fun 1 address stack f s) s
 act image settings fun ops.Load4 f s = pop f.stack (λ address stack. load fun 4 address stack f s) s

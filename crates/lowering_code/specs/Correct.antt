@@ -1,5 +1,6 @@
 -- What it means that code does what a program means.
-use Rattle.std.specs.Prelude.{◌≡◌, ℕ, zero, suc, ◌+◌, ◌^◌, ◌<◌, ◌≤◌, Bool, true, false, IsTrue, List, [], ◌∷◌, length, flat_map, map, sum, All, Some, slice_get, unwrap_or, pos}
+use Rattle.std.specs.Prelude.{◌≡◌, ℕ, zero, suc, ◌+◌, ◌^◌, ◌<◌, ◌≤◌, Bool, true, false, IsTrue, List, [], ◌∷◌, length, flat_map, map, sum, All}
+use Rattle.std.specs.Prelude.{Some, slice_get, unwrap_or, pos}
 use Rattle.std.proofs.Common.{ℤ}
 use Rattle.act_words.specs.declared.ending.Ending.{Ending}
 use Rattle.act_words.specs.declared.settings.Settings.{Settings}
@@ -113,7 +114,8 @@ pub record IsLowerable (program : Core) : Type 0 where
 pub record KeepsMeaning (program : Core) (image : Image) : Type 0 where
   pub format : KeepsFormat image
   pub fits : (settings : Settings) → AreAllowed settings → Fits image settings
-  pub ends : (settings : Settings) (inputs : List ℤ) (acts : List Act) (ending : Ending) (s : meaning_states.State) → AreAllowed settings → All (λ z. IsTrue (is_word_number z)) inputs → All IsAct acts
+  pub ends : (settings : Settings) (inputs : List ℤ) (acts : List Act) (ending : Ending) (s : meaning_states.State) → AreAllowed settings
+      → All (λ z. IsTrue (is_word_number z)) inputs → All IsAct acts
       → meaning program settings inputs acts ≡ Ends ending s → (t : State) × CodeRun image settings inputs acts ending t × SameEnd settings.base s t
 
 -- two runs that nobody who sees them can tell apart: they end the same, wrote the same, took the same acts with the same left,

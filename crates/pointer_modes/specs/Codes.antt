@@ -92,4 +92,5 @@ coded_member =
 
 -- declared structs are stored as the pairs of their fields
 abbrev pub coded_structs : Coded (List Structure)
-coded_structs = coded_list (code_by (Bool × List Member) (coded× coded_bool (coded_list coded_member)) (λ s. (s.tainted, s.members)) (λ p. record { tainted = p.0; members = p.1 }) (λ _. refl))
+coded_structs = coded_list (code_by (Bool
+    × List Member) (coded× coded_bool (coded_list coded_member)) (λ s. (s.tainted, s.members)) (λ p. record { tainted = p.0; members = p.1 }) (λ _. refl))

@@ -71,7 +71,8 @@ IsStructOf structs (Pointer mode kind target) members = ⊥
 
 -- the place of the cell behind one, or the end
 abbrev pub next_place : List Structure → CType → ℕ → ℕ
-next_place structs t k = picked (nat_lt (k + 1) (length (cells_of structs t))) (slice_index (map (λ c. c.offset) (cells_of structs t)) (k + 1)) (size_of structs t)
+next_place structs t k =
+    picked (nat_lt (k + 1) (length (cells_of structs t))) (slice_index (map (λ c. c.offset) (cells_of structs t)) (k + 1)) (size_of structs t)
 
 -- the bytes from a cell to the next one, or to the end
 abbrev pub stride_at : List Structure → CType → ℕ → ℕ

@@ -14,7 +14,8 @@ use Rattle.region_typing_rules.specs.Scopes.{Scope, Signature, Variable, functio
 use Rattle.region_typing_rules.specs.Types.{type_named, without_stars}
 use Rattle.region_typing_rules.specs.Expressions.{Places, is_tainted}
 use Rattle.region_typing_rules.specs.Statements.{statements, is_unchecked}
-use Rattle.region_typing_rules.specs.Items.{Walk, with_variable, room_for, initializer, inside, core_function, function_body, with_function, agrees, all_scalar, scalar_result, is_defined, in_checked_region}
+use Rattle.region_typing_rules.specs.Items.{Walk, with_variable, room_for, initializer, inside, core_function, function_body, with_function, agrees}
+use Rattle.region_typing_rules.specs.Items.{all_scalar, scalar_result, is_defined, in_checked_region}
 use Rattle.region_typing_scope.specs.Views.{scope}
 use Rattle.region_typing.specs.declared.walk as code
 use Rattle.region_typing.specs.declared.initials.Judged as code_judged
@@ -59,16 +60,19 @@ judged_initializer at g written = passing (initializer at g written) (λ x. Pass
 abbrev pub one_variable : Places → Walk → TypeTree → CType → Span → Declarator → Verdict (Walk × JudgedVariable)
 one_variable at w base type span d =
     passing (room_for w base span d) (λ taken. passing (without_stars base d.stars type) (λ t.
-    passing (judged_initializer at (with_variable d.name.name t w.scope) d.initializer) (λ initial. Passes (with_one d.name.name t taken w, record { type = t; initial = initial }))))
+    passing (judged_initializer at (with_variable d.name.name t w.scope) d.initializer)
+        (λ initial. Passes (with_one d.name.name t taken w, record { type = t; initial = initial }))))
 
 -- the variables of a declaration
 abbrev pub judged_variables : Places → TypeTree → CType → Span → List Declarator → Walk × List JudgedVariable → Verdict (Walk × List JudgedVariable)
 judged_variables at base type span [] x = Passes x
-judged_variables at base type span (d ∷ ds) x = passing (one_variable at x.0 base type span d) (λ y. judged_variables at base type span ds (y.0, x.1 ++ y.1 ∷ []))
+judged_variables at base type span (d ∷ ds) x =
+    passing (one_variable at x.0 base type span d) (λ y. judged_variables at base type span ds (y.0, x.1 ++ y.1 ∷ []))
 
 -- the cells of a variable more
 abbrev pub one_object : Span → JudgedVariable → Walk → Verdict Walk
-one_object span v w = passing (judged_cells w.scope.structs v.type v.initial span) (λ cells. needs (nat_lt 0 (length cells)) E10 span (Passes (record w { objects = w.objects ++ cells ∷ [] })))
+one_object span v w = passing (judged_cells w.scope.structs v.type v.initial span)
+    (λ cells. needs (nat_lt 0 (length cells)) E10 span (Passes (record w { objects = w.objects ++ cells ∷ [] })))
 
 abbrev pub judged_objects : Span → List JudgedVariable → Walk → Verdict Walk
 judged_objects span [] w = Passes w
@@ -89,4 +93,5 @@ kept_rules all d fits g =
 abbrev pub behind_declaration : Places → List i.Item → Walk → i.Function → Signature × List Variable → Verdict Walk
 behind_declaration at all w d x =
     passing (function_body at (record w { scope = with_function (function_named w.scope.functions x.0.name) x.0 w.scope }) x.0 x.1 d.body) (λ v.
-    passing (kept_rules all d (agrees (function_named w.scope.functions x.0.name) x.0 && (all_scalar x.0.parameters && scalar_result x.0.result)) v.scope) (λ u. Passes v))
+    passing (kept_rules all d (agrees (function_named w.scope.functions x.0.name) x.0
+        && (all_scalar x.0.parameters && scalar_result x.0.result)) v.scope) (λ u. Passes v))

@@ -12,4 +12,5 @@ declared d = (signature d.signature, map variable d.parameters.items)
 
 -- the signature of a function, and its parameters
 abbrev pub declared_function : Scope → i.Function → Verdict (Signature × List Variable)
-declared_function g d = passing (result_type g d.result d.stars) (λ result. passing (parameter_types g (listed d.parameters) []) (λ parameters. Passes (signature_of d result parameters, parameters)))
+declared_function g d = passing (result_type g d.result d.stars) (λ result. passing (parameter_types g (listed d.parameters) [])
+    (λ parameters. Passes (signature_of d result parameters, parameters)))

@@ -9,7 +9,8 @@ use Rattle.region_typing_rules.specs.Scopes.{Scope, Signature, named, function_n
 use Rattle.ckc_tree.specs.Expressions.{Expressions}
 use Rattle.pointer_modes.specs.Types.{Int, ctype}
 use Rattle.ckc_core.specs.Core.{expression, statement}
-use Rattle.region_typing_rules.specs.Expressions.{Places, Typed, Called, Gives, GivesNothing, name_typed, converted, arguments_as, is_import, side_number, call_of, all_typed, called as called_in, site_at}
+use Rattle.region_typing_rules.specs.Expressions.{Places, Typed, Called, Gives, GivesNothing, name_typed, converted, arguments_as, is_import}
+use Rattle.region_typing_rules.specs.Expressions.{side_number, call_of, all_typed, called as called_in, site_at}
 use Rattle.region_typing_expressions.specs.declared.calls.Called as code
 use Rattle.region_typing_expressions.specs.declared.calls.Called.TheVariants as calls
 use Rattle.region_typing_expressions.specs.declared.calls.Argument as code_argument
@@ -40,7 +41,8 @@ call_statement false number site arguments = core.CallAlone number arguments
 -- a call of a declared function, where the arguments convert (E13)
 abbrev pub converted_call : Scope → Signature → List (Typed × Span) → Site → Verdict Called
 converted_call s f arguments site =
-    passing (arguments_as arguments f.parameters) (λ values. Passes (call_of (is_import f) (side_number (is_import f) s.functions f.name 0) f.result site values))
+    passing (arguments_as arguments f.parameters) (λ values. Passes (call_of (is_import f)
+        (side_number (is_import f) s.functions f.name 0) f.result site values))
 
 -- what a name stands for, as an expression
 abbrev pub name_verdict : Scope → List ℕ → Verdict Typed

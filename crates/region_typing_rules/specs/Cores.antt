@@ -27,7 +27,8 @@ trusted_functions bodies (f ∷ functions) = picked (is_import f) (trusted_funct
 -- tainted functions in that order
 abbrev pub tainted_functions : List Signature → List core.Import
 tainted_functions [] = []
-tainted_functions (f ∷ functions) = picked (is_import f) (record { name = f.name; parameters = length f.parameters; result = f.result } ∷ tainted_functions functions) (tainted_functions functions)
+tainted_functions (f ∷ functions) = picked (is_import f) (record { name = f.name; parameters = length f.parameters; result = f.result }
+    ∷ tainted_functions functions) (tainted_functions functions)
 
 -- `main` is there where naming finds no fault
 abbrev pub core_of : Walk → Core

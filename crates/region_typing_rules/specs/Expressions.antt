@@ -1,5 +1,6 @@
 -- The rules of expressions, each with its name, in the order in which they are asked of a node behind its children.
-use Rattle.std.specs.Prelude.{ℕ, suc, ◌+◌, ◌^◌, nat_lt, Bool, true, false, not, ◌&&◌, ◌||◌, ◌==◌, bytes_eq, codes, List, [], ◌∷◌, length, Option, Some, None, pos}
+use Rattle.std.specs.Prelude.{ℕ, suc, ◌+◌, ◌^◌, nat_lt, Bool, true, false, not, ◌&&◌, ◌||◌, ◌==◌, bytes_eq, codes, List, [], ◌∷◌, length, Option}
+use Rattle.std.specs.Prelude.{Some, None, pos}
 use Rattle.ckc_text.specs.declared.place.Place.{Place}
 use Rattle.ckc_text.specs.declared.place.Span.{Span}
 use Rattle.ckc_text.specs.declared.code.Code.TheVariants.{E04, E10, E12, E13, E14, E19, E22, E24, E26}
@@ -131,7 +132,8 @@ dereferenced (AStruct number place) site span = breaks E13 span
 -- a pointer to a place
 abbrev pub pointer_to : CType → core.Place → Site → Typed
 pointer_to type (core.Direct object cell offset) site = Value (Pointer modes.Checked kinds.One type) false (core.AddressOf object cell offset) None
-pointer_to type (core.Through pointer cell offset before) site = Value (Pointer modes.Checked kinds.One type) false (core.AddressThrough pointer cell offset site) None
+pointer_to type (core.Through pointer cell offset before) site =
+    Value (Pointer modes.Checked kinds.One type) false (core.AddressThrough pointer cell offset site) None
 
 abbrev pub address_at : CType → Option Lvalue → Site → Span → Verdict Typed
 address_at type None site span = breaks E12 span
@@ -286,7 +288,8 @@ same_side false other = not other
 
 abbrev pub side_number : Bool → List Signature → List ℕ → ℕ → ℕ
 side_number side [] name number = number
-side_number side (f ∷ functions) name number = picked (bytes_eq name f.name) number (side_number side functions name (counted (same_side side (is_import f)) number))
+side_number side (f ∷ functions) name number =
+    picked (bytes_eq name f.name) number (side_number side functions name (counted (same_side side (is_import f)) number))
 
 -- no-checked-pointer-to-tainted: E24, at the argument. The constant 0 and `NULL` are numbers
 abbrev pub is_checked_argument : Typed → Bool
@@ -313,7 +316,8 @@ abbrev pub declared_call : Scope → Signature → List (Typed × Span) → Site
 declared_call s f arguments site span =
     needs (length f.parameters == length arguments) E14 span
     (crossing (is_import f) arguments
-    (passing (arguments_as arguments f.parameters) (λ values. Passes (call_of (is_import f) (side_number (is_import f) s.functions f.name 0) f.result site values))))
+    (passing (arguments_as arguments f.parameters) (λ values. Passes (call_of (is_import f)
+        (side_number (is_import f) s.functions f.name 0) f.result site values))))
 
 abbrev pub first_of : (core.Expression → core.Statement) → core.Arguments → core.Statement
 first_of of core.Done = core.Nothing
@@ -321,7 +325,8 @@ first_of of (core.More v others) = of v
 
 -- a predefined function that takes a number and gives nothing
 abbrev pub writes : (core.Expression → core.Statement) → List (Typed × Span) → Span → Verdict Called
-writes of arguments span = needs (length arguments == 1) E14 span (passing (arguments_as arguments (Int ∷ [])) (λ values. Passes (GivesNothing (first_of of values))))
+writes of arguments span =
+    needs (length arguments == 1) E14 span (passing (arguments_as arguments (Int ∷ [])) (λ values. Passes (GivesNothing (first_of of values))))
 
 -- a call of a name that isn't declared. `strlen` isn't a form of which rules speak here
 abbrev pub predefined_call : List ℕ → List (Typed × Span) → Span → Verdict Called
@@ -356,7 +361,8 @@ abbrev mutual
   typed at s (e.Character value span) = constant value false span
   typed at s (e.Text bytes span) = breaks E13 span
   typed at s (e.Name name) = passing (named s name.name) (λ n. Passes (name_typed n))
-  typed at s (e.Call callee arguments span) = passing (all_typed at s arguments) (λ ts. passing (called s (function_named s.functions callee.name) callee.name ts (site_at at span) span) (λ c. with_result c span))
+  typed at s (e.Call callee arguments span) = passing (all_typed at s arguments)
+      (λ ts. passing (called s (function_named s.functions callee.name) callee.name ts (site_at at span) span) (λ c. with_result c span))
   typed at s (e.SizeOf type span) = passing (type_named s type) (λ t. number (core.Number (pos (size_of s.structs t))))
   typed at s (e.Cast word type operand span) = breaks E13 span
   typed at s (e.BoundedCast word type operand bounds span) = breaks E13 span
@@ -366,7 +372,8 @@ abbrev mutual
   typed at s (e.Dot base member span) = passing (typed at s base) (λ a. dotted s a member.name (site_at at span) span)
   typed at s (e.Arrow base member span) = passing (typed at s base) (λ a. arrowed s a member.name (site_at at span) span)
   typed at s (e.Unary operator operand span) = passing (typed at s operand) (λ a. unary_typed operator a (site_at at span) span)
-  typed at s (e.Binary operator left right span) = passing (typed at s left) (λ a. passing (typed at s right) (λ b. binary_typed operator a b (site_at at span) span))
+  typed at s (e.Binary operator left right span) =
+      passing (typed at s left) (λ a. passing (typed at s right) (λ b. binary_typed operator a b (site_at at span) span))
 
   -- arguments, each with its span
   pub all_typed : Places → Scope → Expressions → Verdict (List (Typed × Span))
@@ -375,5 +382,6 @@ abbrev mutual
 
 -- a call that stands alone, as the grammar has nothing else there
 abbrev pub call_typed : Places → Scope → Expression → Verdict Called
-call_typed at s (e.Call callee arguments span) = passing (all_typed at s arguments) (λ ts. called s (function_named s.functions callee.name) callee.name ts (site_at at span) span)
+call_typed at s (e.Call callee arguments span) =
+    passing (all_typed at s arguments) (λ ts. called s (function_named s.functions callee.name) callee.name ts (site_at at span) span)
 call_typed at s _ = breaks E13 (record { from = 0; to = 0 })

@@ -1,5 +1,6 @@
 -- The rules of what stands at file level.
-use Rattle.std.specs.Prelude.{ℕ, zero, suc, ◌+◌, ◌-◌, Bool, true, false, not, ◌&&◌, ◌||◌, ◌==◌, nat_lt, nat_le, bytes_eq, List, [], ◌∷◌, ◌++◌, length, map, Option, Some, None, is_some, pos, negsuc}
+use Rattle.std.specs.Prelude.{ℕ, zero, suc, ◌+◌, ◌-◌, Bool, true, false, not, ◌&&◌, ◌||◌, ◌==◌, nat_lt, nat_le, bytes_eq, List, [], ◌∷◌, ◌++◌}
+use Rattle.std.specs.Prelude.{length, map, Option, Some, None, is_some, pos, negsuc}
 use Rattle.std.proofs.Common.{ℤ}
 use Rattle.ckc_text.specs.declared.place.Span.{Span}
 use Rattle.ckc_text.specs.declared.code.Code.TheVariants.{E08, E10, E13, E15, E27}
@@ -191,7 +192,8 @@ variables at w base type span (d ∷ ds) done =
     passing (room_for w base span d) (λ taken.
     passing (without_stars base d.stars type) (λ t.
     passing (initializer at (with_variable d.name.name t w.scope) d.initializer) (λ initial.
-    variables at (record w { scope = with_variable d.name.name t w.scope; taken = taken }) base type span ds (done ++ record { type = t; initial = initial } ∷ []))))
+    variables at (record w { scope = with_variable d.name.name t w.scope; taken = taken }) base type span ds (done
+        ++ record { type = t; initial = initial } ∷ []))))
 
 -- whether there is room for the first variable is asked before the type that all share is walked
 abbrev pub room_for_first : Walk → i.Global → List Declarator → Verdict ℕ

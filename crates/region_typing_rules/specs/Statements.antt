@@ -20,7 +20,8 @@ use Rattle.ckc_core.specs.Core as core
 use Rattle.region_typing_rules.specs.Verdicts.{Verdict, Passes, passing, needs, breaks}
 use Rattle.region_typing_rules.specs.Scopes.{Scope}
 use Rattle.region_typing_rules.specs.Types.{is_scalar, without_stars, base_type}
-use Rattle.region_typing_rules.specs.Expressions.{Places, Typed, Value, AStruct, Called, Gives, GivesNothing, Lvalue, OfLocal, OfCell, site_at, typed, call_typed, scalar_of, converted, summands}
+use Rattle.region_typing_rules.specs.Expressions.{Places, Typed, Value, AStruct, Called, Gives, GivesNothing, Lvalue, OfLocal, OfCell, site_at}
+use Rattle.region_typing_rules.specs.Expressions.{typed, call_typed, scalar_of, converted, summands}
 
 -- what a statement becomes, and what is known behind it
 abbrev pub Walked : Type 0
@@ -63,7 +64,8 @@ set_to target right span = assigned target span (λ type place. converted right 
 
 -- updates-as-sum: the rules of the sum or the difference of both (E19, E13)
 abbrev pub updated : Places → Operator → Typed → Typed → Span → Verdict core.Statement
-updated at operator target right span = assigned target span (λ type place. summands target right span (λ old value. Passes (update place type operator value (site_at at span))))
+updated at operator target right span =
+    assigned target span (λ type place. summands target right span (λ old value. Passes (update place type operator value (site_at at span))))
 
 abbrev pub stored : Places → StoreOperator → Typed → Typed → Span → Verdict core.Statement
 stored at stores.Set target right span = set_to target right span
@@ -113,7 +115,8 @@ declarator at g base type span d =
 
 abbrev pub declarators : Places → Scope → TypeTree → CType → Span → List Declarator → Verdict Walked
 declarators at g base type span [] = Passes (core.Nothing, g)
-declarators at g base type span (d ∷ ds) = passing (declarator at g base type span d) (λ first. passing (declarators at first.1 base type span ds) (λ rest. Passes (both first.0 rest.0, rest.1)))
+declarators at g base type span (d ∷ ds) =
+    passing (declarator at g base type span d) (λ first. passing (declarators at first.1 base type span ds) (λ rest. Passes (both first.0 rest.0, rest.1)))
 
 -- whether there is room for the first local is asked before the type that all share is walked
 abbrev pub declaration : Places → Scope → Declaration → Verdict Walked
@@ -183,7 +186,8 @@ abbrev mutual
   statement at g (s.If test consequent span) =
       passing (condition at g test) (λ c. passing (statement at g consequent) (λ x. Passes (core.If c x.0 core.Nothing, behind_block g x.1)))
   statement at g (s.IfElse test consequent alternative span) =
-      passing (condition at g test) (λ c. passing (statement at g consequent) (λ x. passing (statement at (behind_block g x.1) alternative) (λ y. Passes (core.If c x.0 y.0, behind_block g y.1))))
+      passing (condition at g test) (λ c. passing (statement at g consequent)
+          (λ x. passing (statement at (behind_block g x.1) alternative) (λ y. Passes (core.If c x.0 y.0, behind_block g y.1))))
   statement at g (s.While test body span) =
       passing (condition at g test) (λ c. passing (statement at (in_loop g) body) (λ x. Passes (core.Loop c x.0 core.Nothing, behind_block g x.1)))
   statement at g (s.For initial test step body span) =

@@ -46,7 +46,8 @@ slots structs (Struct number) = slots_from (members_of structs number) (cells_of
 -- in a variable with these cells such scalars stand, from a cell on, and there is one
 pub record Stands (cells : List Initial) (first : ℕ) (row : List Slot) : Type 0 where
   pub there : 0 < length row
-  pub each : (k : ℕ) (slot : Slot) → slice_get row k ≡ Some slot → (i : Initial) × (slice_get cells (first + k) ≡ Some i) × (i.type ≡ slot.type) × (byte_place (object_block cells) (first + k) ≡ byte_place (object_block cells) first + slot.offset)
+  pub each : (k : ℕ) (slot : Slot) → slice_get row k ≡ Some slot → (i : Initial) × (slice_get cells (first + k) ≡ Some i) × (i.type ≡ slot.type)
+      × (byte_place (object_block cells) (first + k) ≡ byte_place (object_block cells) first + slot.offset)
 
 -- a place at which a value of the type stands
 pub record IsPlace (g : Frame) (type : CType) (block cell : ℕ) : Type 0 where
@@ -79,32 +80,44 @@ mutual
     -- each char is an int
     widened : {e : Expression} → HasType g locals e Char → HasType g locals e Int
     load : {t : CType} {p : Place} → is_scalar t ≡ true → HasPlace g locals p t → HasType g locals (core.Load t p) t
-    address_of : {mode : Mode} {kind : Kind} {t : CType} {object cell offset : ℕ} → HasPlace g locals (core.Direct object cell offset) t → HasType g locals (core.AddressOf object cell offset) (Pointer mode kind t)
-    address_through : {mode : Mode} {kind : Kind} {t : CType} {e : Expression} {cell offset : ℕ} {before site : Site} → HasPlace g locals (core.Through e cell offset before) t → HasType g locals (core.AddressThrough e cell offset site) (Pointer mode kind t)
+    address_of : {mode : Mode} {kind : Kind} {t : CType} {object cell offset : ℕ} → HasPlace g locals (core.Direct object cell offset) t
+        → HasType g locals (core.AddressOf object cell offset) (Pointer mode kind t)
+    address_through : {mode : Mode} {kind : Kind} {t : CType} {e : Expression} {cell offset : ℕ} {before site : Site}
+        → HasPlace g locals (core.Through e cell offset before) t → HasType g locals (core.AddressThrough e cell offset site) (Pointer mode kind t)
     negate : {e : Expression} {site : Site} → HasType g locals e Int → HasType g locals (core.Negate e site) Int
     complement : {e : Expression} → HasType g locals e Int → HasType g locals (core.Complement e) Int
     inverse : {e : Expression} {t : CType} → HasType g locals e t → HasType g locals (core.Not e) Int
-    arithmetic : {operator : Operator} {a b : Expression} {site : Site} → HasType g locals a Int → HasType g locals b Int → HasType g locals (core.Arithmetic operator a b site) Int
-    compare : {comparison : Comparison} {a b : Expression} → HasType g locals a Int → HasType g locals b Int → HasType g locals (core.Compare comparison a b) Int
-    same : {mode mode' : Mode} {kind kind' : Kind} {t t' : CType} {a b : Expression} → HasType g locals a (Pointer mode kind t) → HasType g locals b (Pointer mode' kind' t') → HasType g locals (core.Same a b) Int
+    arithmetic : {operator : Operator} {a b : Expression} {site : Site} → HasType g locals a Int → HasType g locals b Int
+        → HasType g locals (core.Arithmetic operator a b site) Int
+    compare : {comparison : Comparison} {a b : Expression} → HasType g locals a Int → HasType g locals b Int
+        → HasType g locals (core.Compare comparison a b) Int
+    same : {mode mode' : Mode} {kind kind' : Kind} {t t' : CType} {a b : Expression} → HasType g locals a (Pointer mode kind t)
+        → HasType g locals b (Pointer mode' kind' t') → HasType g locals (core.Same a b) Int
     both : {a b : Expression} {t t' : CType} → HasType g locals a t → HasType g locals b t' → HasType g locals (core.AndAlso a b) Int
     either : {a b : Expression} {t t' : CType} → HasType g locals a t → HasType g locals b t' → HasType g locals (core.OrElse a b) Int
     low_byte : {e : Expression} → HasType g locals e Int → HasType g locals (core.LowByte e) Char
-    call : {n : ℕ} {f : Function} {arguments : Arguments} {t : CType} → slice_get g.program.functions n ≡ Some f → f.result ≡ Some t → HaveTypes g locals arguments (take f.parameters f.locals) → HasType g locals (core.Call n arguments) t
+    call : {n : ℕ} {f : Function} {arguments : Arguments} {t : CType} → slice_get g.program.functions n ≡ Some f → f.result ≡ Some t
+        → HaveTypes g locals arguments (take f.parameters f.locals) → HasType g locals (core.Call n arguments) t
     -- only numbers cross to the sandbox and back
-    tainted_call : {n : ℕ} {i : Import} {arguments : Arguments} {site : Site} {t : CType} → slice_get g.program.imports n ≡ Some i → i.result ≡ Some t → is_number t ≡ true → HaveTypes g locals arguments (replicate i.parameters Int) → HasType g locals (core.TaintedCall n arguments site) t
+    tainted_call : {n : ℕ} {i : Import} {arguments : Arguments} {site : Site} {t : CType} → slice_get g.program.imports n ≡ Some i → i.result ≡ Some t
+        → is_number t ≡ true → HaveTypes g locals arguments (replicate i.parameters Int) → HasType g locals (core.TaintedCall n arguments site) t
     next_input : HasType g locals core.NextInput Int
 
   -- arguments, and the types of the parameters
   pub data HaveTypes (g : Frame) (locals : List CType) : Arguments → List CType → Type 0 where
     done : HaveTypes g locals core.Done []
-    more : {e : Expression} {rest : Arguments} {t : CType} {ts : List CType} → HasType g locals e t → HaveTypes g locals rest ts → HaveTypes g locals (core.More e rest) (t ∷ ts)
+    more : {e : Expression} {rest : Arguments} {t : CType} {ts : List CType} → HasType g locals e t → HaveTypes g locals rest ts
+        → HaveTypes g locals (core.More e rest) (t ∷ ts)
 
   -- a place, and the type of what stands there: in a variable, behind a pointer, or at a member of the struct behind it
   pub data HasPlace (g : Frame) (locals : List CType) : Place → CType → Type 0 where
-    direct : {object cell offset : ℕ} {t : CType} {cells : List Initial} → slice_get g.program.objects object ≡ Some cells → Stands cells cell (slots g.structs t) → byte_place (object_block cells) cell ≡ offset → HasPlace g locals (core.Direct object cell offset) t
-    pointed : {mode : Mode} {kind : Kind} {e : Expression} {t : CType} {site : Site} → HasType g locals e (Pointer mode kind t) → HasPlace g locals (core.Through e 0 0 site) t
-    member : {mode : Mode} {kind : Kind} {e : Expression} {n cell offset : ℕ} {t : CType} {site : Site} → HasType g locals e (Pointer mode kind (Struct n)) → slice_get (slots g.structs (Struct n)) cell ≡ Some (record { type = t; offset = offset }) → is_scalar t ≡ true → HasPlace g locals (core.Through e cell offset site) t
+    direct : {object cell offset : ℕ} {t : CType} {cells : List Initial} → slice_get g.program.objects object ≡ Some cells
+        → Stands cells cell (slots g.structs t) → byte_place (object_block cells) cell ≡ offset → HasPlace g locals (core.Direct object cell offset) t
+    pointed : {mode : Mode} {kind : Kind} {e : Expression} {t : CType} {site : Site} → HasType g locals e (Pointer mode kind t)
+        → HasPlace g locals (core.Through e 0 0 site) t
+    member : {mode : Mode} {kind : Kind} {e : Expression} {n cell offset : ℕ} {t : CType} {site : Site} → HasType g locals e (Pointer mode kind (Struct n))
+        → slice_get (slots g.structs (Struct n)) cell ≡ Some (record { type = t; offset = offset }) → is_scalar t ≡ true
+        → HasPlace g locals (core.Through e cell offset site) t
 
 -- ---- statements
 
@@ -112,18 +125,26 @@ mutual
   -- a statement in a function with these locals and this result, in a loop or not
   pub data IsStatement (g : Frame) (locals : List CType) (result : Option CType) : Bool → Statement → Type 0 where
     nothing : {loop : Bool} → IsStatement g locals result loop core.Nothing
-    set_local : {loop : Bool} {k : ℕ} {t : CType} {e : Expression} → slice_get locals k ≡ Some t → HasType g locals e t → IsStatement g locals result loop (core.SetLocal k e)
-    store : {loop : Bool} {t : CType} {p : Place} {e : Expression} → is_scalar t ≡ true → HasPlace g locals p t → HasType g locals e t → IsStatement g locals result loop (core.Store t p e)
-    update_local : {loop char : Bool} {k : ℕ} {t : CType} {operator : Operator} {e : Expression} {site : Site} → slice_get locals k ≡ Some t → is_number t ≡ true → is_char t ≡ char → HasType g locals e Int → IsStatement g locals result loop (core.UpdateLocal char k operator e site)
-    update : {loop : Bool} {t : CType} {p : Place} {operator : Operator} {e : Expression} {site : Site} → is_number t ≡ true → HasPlace g locals p t → HasType g locals e Int → IsStatement g locals result loop (core.Update t p operator e site)
+    set_local : {loop : Bool} {k : ℕ} {t : CType} {e : Expression} → slice_get locals k ≡ Some t → HasType g locals e t
+        → IsStatement g locals result loop (core.SetLocal k e)
+    store : {loop : Bool} {t : CType} {p : Place} {e : Expression} → is_scalar t ≡ true → HasPlace g locals p t → HasType g locals e t
+        → IsStatement g locals result loop (core.Store t p e)
+    update_local : {loop char : Bool} {k : ℕ} {t : CType} {operator : Operator} {e : Expression} {site : Site} → slice_get locals k ≡ Some t
+        → is_number t ≡ true → is_char t ≡ char → HasType g locals e Int → IsStatement g locals result loop (core.UpdateLocal char k operator e site)
+    update : {loop : Bool} {t : CType} {p : Place} {operator : Operator} {e : Expression} {site : Site} → is_number t ≡ true → HasPlace g locals p t
+        → HasType g locals e Int → IsStatement g locals result loop (core.Update t p operator e site)
     evaluate : {loop : Bool} {e : Expression} {t : CType} → HasType g locals e t → IsStatement g locals result loop (core.Evaluate e)
-    call_alone : {loop : Bool} {n : ℕ} {f : Function} {arguments : Arguments} → slice_get g.program.functions n ≡ Some f → f.result ≡ None → HaveTypes g locals arguments (take f.parameters f.locals) → IsStatement g locals result loop (core.CallAlone n arguments)
-    tainted_alone : {loop : Bool} {n : ℕ} {i : Import} {arguments : Arguments} {site : Site} → slice_get g.program.imports n ≡ Some i → i.result ≡ None → HaveTypes g locals arguments (replicate i.parameters Int) → IsStatement g locals result loop (core.TaintedAlone n arguments site)
+    call_alone : {loop : Bool} {n : ℕ} {f : Function} {arguments : Arguments} → slice_get g.program.functions n ≡ Some f → f.result ≡ None
+        → HaveTypes g locals arguments (take f.parameters f.locals) → IsStatement g locals result loop (core.CallAlone n arguments)
+    tainted_alone : {loop : Bool} {n : ℕ} {i : Import} {arguments : Arguments} {site : Site} → slice_get g.program.imports n ≡ Some i → i.result ≡ None
+        → HaveTypes g locals arguments (replicate i.parameters Int) → IsStatement g locals result loop (core.TaintedAlone n arguments site)
     print : {loop : Bool} {e : Expression} → HasType g locals e Int → IsStatement g locals result loop (core.Print e)
     put_byte : {loop : Bool} {e : Expression} → HasType g locals e Int → IsStatement g locals result loop (core.PutByte e)
     block : {loop : Bool} {xs : Statements} → AreStatements g locals result loop xs → IsStatement g locals result loop (core.Block xs)
-    choice : {loop : Bool} {e : Expression} {t : CType} {x y : Statement} → HasType g locals e t → IsStatement g locals result loop x → IsStatement g locals result loop y → IsStatement g locals result loop (core.If e x y)
-    repeat : {loop : Bool} {e : Expression} {t : CType} {x y : Statement} → HasType g locals e t → IsStatement g locals result true x → IsStatement g locals result false y → IsStatement g locals result loop (core.Loop e x y)
+    choice : {loop : Bool} {e : Expression} {t : CType} {x y : Statement} → HasType g locals e t → IsStatement g locals result loop x
+        → IsStatement g locals result loop y → IsStatement g locals result loop (core.If e x y)
+    repeat : {loop : Bool} {e : Expression} {t : CType} {x y : Statement} → HasType g locals e t → IsStatement g locals result true x
+        → IsStatement g locals result false y → IsStatement g locals result loop (core.Loop e x y)
     returned : {loop : Bool} {e : Expression} {t : CType} → result ≡ Some t → HasType g locals e t → IsStatement g locals result loop (core.Return e)
     returned_nothing : {loop : Bool} → result ≡ None → IsStatement g locals result loop core.ReturnNothing
     broken : IsStatement g locals result true core.Break
@@ -131,7 +152,8 @@ mutual
 
   pub data AreStatements (g : Frame) (locals : List CType) (result : Option CType) : Bool → Statements → Type 0 where
     no_more : {loop : Bool} → AreStatements g locals result loop core.NoMore
-    then_more : {loop : Bool} {x : Statement} {xs : Statements} → IsStatement g locals result loop x → AreStatements g locals result loop xs → AreStatements g locals result loop (core.Then x xs)
+    then_more : {loop : Bool} {x : Statement} {xs : Statements} → IsStatement g locals result loop x → AreStatements g locals result loop xs
+        → AreStatements g locals result loop (core.Then x xs)
 
 -- ---- programs
 

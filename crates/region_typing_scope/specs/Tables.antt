@@ -1,5 +1,6 @@
 -- Inside: tables of names, and numbers of functions on their side of the boundary.
-use Rattle.std.specs.Prelude.{◌≡◌, ℕ, zero, suc, ◌<◌, Bool, true, cond, bytes_eq, is_some, List, [], ◌∷◌, ◌++◌, length, map, slice_index, Option, Some, None, Vec}
+use Rattle.std.specs.Prelude.{◌≡◌, ℕ, zero, suc, ◌<◌, Bool, true, cond, bytes_eq, is_some, List, [], ◌∷◌, ◌++◌, length, map, slice_index, Option}
+use Rattle.std.specs.Prelude.{Some, None, Vec}
 use Rattle.std.specs.Option.{option_map}
 use Rattle.std.proofs.Common.{Global}
 use Rattle.region_typing_rules.specs.Scopes.{Signature}

@@ -38,14 +38,16 @@ otherwise at b alternative = passing (nested at b.1 b.1.in_loop alternative) (λ
 -- the turns of a loop
 abbrev pub turns : Places → Scope → Statement → Option Expression → Option Assignment → Verdict (core.Statement × Scope)
 turns at g body test step =
-    passing (optional_condition at g test) (λ c. passing (nested at g true body) (λ x. passing (optional_step at x.1 step) (λ y. Passes (core.Loop c x.0 y, x.1))))
+    passing (optional_condition at g test) (λ c. passing (nested at g true body)
+        (λ x. passing (optional_step at x.1 step) (λ y. Passes (core.Loop c x.0 y, x.1))))
 
 -- a loop with a condition alone, and one with a head
 abbrev pub while_loop : Places → Scope → Expression → Statement → Verdict (core.Statement × Scope)
 while_loop at g test body = passing (condition at g test) (λ c. passing (nested at g true body) (λ x. Passes (core.Loop c x.0 core.Nothing, x.1)))
 
 abbrev pub for_loop : Places → Scope → ForInitial → Option Expression → Option Assignment → Statement → Verdict (core.Statement × Scope)
-for_loop at g initial test step body = passing (first_part at g initial) (λ first. passing (turns at first.1 body test step) (λ t. Passes (both first.0 t.0, behind_block g t.1)))
+for_loop at g initial test step body =
+    passing (first_part at g initial) (λ first. passing (turns at first.1 body test step) (λ t. Passes (both first.0 t.0, behind_block g t.1)))
 
 -- statements before others
 abbrev pub joined : List Stmt → core.Statements → core.Statements

@@ -25,7 +25,8 @@ walks_so view verdict old (Err errors.NoMemory) new = Unit {0}
 
 -- the answer is the verdict's value with what is known behind it, or the fault of the rule that is broken, or that a name stands
 -- for nothing
-pub record Walks {C A : Type 0} (view : C → A) (verdict : Verdict (A × Scope)) (old : code.Scope.Scope) (result : Result C CheckError) (new : code.Scope.Scope) : Type 0 where
+pub record Walks {C A : Type 0} (view : C → A) (verdict : Verdict (A × Scope)) (old : code.Scope.Scope) (result : Result C CheckError)
+    (new : code.Scope.Scope) : Type 0 where
   pub so : walks_so view verdict old result new
 
 -- the value that a local is given
@@ -34,8 +35,10 @@ initial_value at g value t local span = passing (typed at g value) (λ u. conver
 
 -- what a local is before it is given a value, and then its initial value
 abbrev pub from_zero : Places → Scope → Option Initializer → CType → ℕ → Span → Verdict core.Statement
-from_zero at g written t local span = passing (initialised at g written t local span) (λ initial. needs (is_scalar t) E13 span (Passes (both (core.SetLocal local (zero_value t)) initial)))
+from_zero at g written t local span =
+    passing (initialised at g written t local span) (λ initial. needs (is_scalar t) E13 span (Passes (both (core.SetLocal local (zero_value t)) initial)))
 
 -- a local more, which is given what it is at first
 abbrev pub declared_local : Places → Scope → Declarator → CType → Span → Verdict (core.Statement × Scope)
-declared_local at g d t span = passing (from_zero at (with_local d.name.name t g) d.initializer t (length g.locals) span) (λ x. Passes (x, with_local d.name.name t g))
+declared_local at g d t span =
+    passing (from_zero at (with_local d.name.name t g) d.initializer t (length g.locals) span) (λ x. Passes (x, with_local d.name.name t g))

@@ -11,6 +11,9 @@ use Rattle.run_core_interaction.specs.Asked.{Answering}
 use Rattle.run_core.specs.Moments.{IsDue}
 
 -- while the image ran, the actor gave these acts, and went from the first state to the second
-pub data Chain {S : Type 0} (answers : Answering S) (files : Option Files) (image : Image) (settings : Settings) (inputs : List ℤ) : S → List Act → S → Type 0 where
+pub data Chain {S : Type 0} (answers : Answering S) (files : Option Files) (image : Image) (settings : Settings) (inputs : List ℤ)
+    : S → List Act → S → Type 0 where
   none : {state : S} → Chain answers files image settings inputs state [] state
-  more : {first mid last : S} {acts : List Act} {act : Act} {moment : Moment} {events : List Event} → Chain answers files image settings inputs first acts mid → IsDue image settings inputs acts moment events → answers mid files moment (Gives act) last → Chain answers files image settings inputs first (acts ++ act ∷ []) last
+  more : {first mid last : S} {acts : List Act} {act : Act} {moment : Moment} {events : List Event} → Chain answers files image settings inputs first acts mid
+      → IsDue image settings inputs acts moment events → answers mid files moment (Gives act) last
+      → Chain answers files image settings inputs first (acts ++ act ∷ []) last

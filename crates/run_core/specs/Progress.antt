@@ -35,7 +35,8 @@ use Rattle.run_core.specs.Runs.{Ends, LineRefused, FileMissing, Comes, ShelfFaul
 -- a run stands where a machine does, with these acts and input numbers left, behind these events
 abbrev pub IsAt : Run → Machine → List Act → List ℤ → List Event → Type 0
 IsAt (Unfinished s) m acts inputs events = (m.over ≡ None) × (s ≡ state_of m acts inputs events)
-IsAt (Finished ending s) m acts inputs events = (m.over ≡ Some ending) × (s.memory ≡ m.memory) × (s.blocks ≡ m.blocks) × (s.world ≡ world_of m acts inputs events)
+IsAt (Finished ending s) m acts inputs events =
+    (m.over ≡ Some ending) × (s.memory ≡ m.memory) × (s.blocks ≡ m.blocks) × (s.world ≡ world_of m acts inputs events)
 
 -- from this state the run comes to where the machine stands
 pub record Reaches (image : Image) (settings : Settings) (s : State) (m : Machine) (acts : List Act) (inputs : List ℤ) (events : List Event) : Type 0 where
@@ -43,7 +44,8 @@ pub record Reaches (image : Image) (settings : Settings) (s : State) (m : Machin
   pub there : IsAt (exec image settings moves s) m acts inputs events
 
 -- over these acts, whichever follow them, the image's run comes to where the machine stands, behind these events
-pub record Going (image : Image) (settings : Settings) (inputs : List ℤ) (acts : List Act) (events : List Event) (last : Option Seen) (left : List ℤ) (m : Machine) : Type 0 where
+pub record Going (image : Image) (settings : Settings) (inputs : List ℤ) (acts : List Act) (events : List Event) (last : Option Seen)
+    (left : List ℤ) (m : Machine) : Type 0 where
   pub image_is : m.image ≡ image
   pub settings_is : m.settings ≡ settings
   pub reaches : (rest : List Act) → Reaches image settings (started image settings inputs (acts ++ rest)) m rest left events
@@ -64,9 +66,15 @@ blocks_of m = blocks_held (state_of m [] [] [])
 
 -- the run has come so far: to the actor's state now, to a machine, the input numbers that are left, a text, what was shown
 -- last, and whether the actor has ended
-pub data Progress {S : Type 0} (answers : Answering S) (files : Option Files) (image : Image) (settings : Settings) (inputs : List ℤ) (first now : S) (m : Machine) (left : List ℤ) (text : List ℕ) : Option Seen → Bool → Type 0 where
-  going : {last : Option Seen} (acts : List Act) (events : List Event) → Chain answers files image settings inputs first acts now → Going image settings inputs acts events last left m → text ≡ events_text settings events → Progress answers files image settings inputs first now m left text last false
-  out_of_acts : {last : Option Seen} {mid : S} {moment : Moment} {before : List Event} (acts : List Act) (events : List Event) → Chain answers files image settings inputs first acts mid → IsDue image settings inputs acts moment before → answers mid files moment Ended now → RunsOut image settings inputs acts events left m → text ≡ events_text settings events → Progress answers files image settings inputs first now m left text last true
+pub data Progress {S : Type 0} (answers : Answering S) (files : Option Files) (image : Image) (settings : Settings) (inputs : List ℤ)
+    (first now : S) (m : Machine) (left : List ℤ) (text : List ℕ) : Option Seen → Bool → Type 0 where
+  going : {last : Option Seen} (acts : List Act) (events : List Event) → Chain answers files image settings inputs first acts now
+      → Going image settings inputs acts events last left m → text ≡ events_text settings events
+      → Progress answers files image settings inputs first now m left text last false
+  out_of_acts : {last : Option Seen} {mid : S} {moment : Moment} {before : List Event} (acts : List Act) (events : List Event)
+      → Chain answers files image settings inputs first acts mid → IsDue image settings inputs acts moment before → answers mid files moment Ended now
+      → RunsOut image settings inputs acts events left m → text ≡ events_text settings events
+      → Progress answers files image settings inputs first now m left text last true
 
 -- the same of what is played
 abbrev pub Played : {S : Type 0} → Answering S → Option Files → Image → Settings → List ℤ → S → S → Play → Type 0
@@ -98,7 +106,8 @@ pub record Tells (event : MachineEvent) (old new : Play) : Type 0 where
 -- wherever a run comes to the one machine, it comes to the other, behind what the event tells
 pub record Leads (old : Machine) (before : List ℤ) (event : MachineEvent) (new : Machine) (after : List ℤ) : Type 0 where
   pub same : IsOfSame old new
-  pub goes : (s : State) (acts : List Act) (events : List Event) → Reaches old.image old.settings s old acts before events → Reaches old.image old.settings s new acts after (told_behind event events)
+  pub goes : (s : State) (acts : List Act) (events : List Event) → Reaches old.image old.settings s old acts before events
+      → Reaches old.image old.settings s new acts after (told_behind event events)
 
 -- instructions were done, and what came of the last one was told
 pub record Steps (old new : Play) : Type 0 where
@@ -127,8 +136,10 @@ pub record TakesNone (old new : Play) : Type 0 where
 
 -- what the run comes to where it stops without an ending, and its whole text
 abbrev pub Stops : {S : Type 0} → Answering S → Option Files → Image → Settings → List ℤ → S → S → List ℕ → RunFault → Type 0
-Stops answers files image settings inputs first now text (faults.Line line code) = Comes answers files image settings inputs first now (LineRefused line code) (with_last_line text [])
-Stops answers files image settings inputs first now text faults.Missing = Comes answers files image settings inputs first now FileMissing (with_last_line text [])
+Stops answers files image settings inputs first now text (faults.Line line code) =
+    Comes answers files image settings inputs first now (LineRefused line code) (with_last_line text [])
+Stops answers files image settings inputs first now text faults.Missing =
+    Comes answers files image settings inputs first now FileMissing (with_last_line text [])
 Stops answers files image settings inputs first now text faults.ShelfFailed = ShelfFault answers files image settings inputs first now
 Stops answers files image settings inputs first now text faults.SinkFailed = ⊥
 Stops answers files image settings inputs first now text faults.NoMemory = CameTo answers files image settings inputs first now
@@ -140,7 +151,8 @@ PlayGoes answers files image settings inputs first now p (Err fault) = Stops ans
 
 -- the run ends, with these blocks, or stops
 abbrev pub PlayEnds : {S : Type 0} → Answering S → Option Files → Image → Settings → List ℤ → S → S → List ℕ → List Shown → Result Ending RunFault → Type 0
-PlayEnds answers files image settings inputs first now text blocks (Ok ending) = Comes answers files image settings inputs first now (Ends ending) (with_last_line text (ending_text ending) ++ dump_text settings blocks)
+PlayEnds answers files image settings inputs first now text blocks (Ok ending) =
+    Comes answers files image settings inputs first now (Ends ending) (with_last_line text (ending_text ending) ++ dump_text settings blocks)
 PlayEnds answers files image settings inputs first now text blocks (Err fault) = Stops answers files image settings inputs first now text fault
 
 -- ---- that a run ends

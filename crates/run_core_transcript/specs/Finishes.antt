@@ -24,10 +24,14 @@ pub data Finish (text : List ℕ) (outcome : Result Ending RunFault) (old new : 
 
 -- with these blocks behind the line of the ending, where they are asked for; nothing is written where the shelf failed or
 -- memory ran out
-abbrev pub Finishes : List ℕ → Settings → List Shown → Result Ending RunFault → (old new : Option (List ℕ)) → (before after : ℕ) → Result Ending RunFault → Type 0
-Finishes text settings blocks (Ok ending) old new before after result = Finish (with_last_line text (ending_text ending ++ dump_text settings blocks)) (Ok ending) old new before after result
-Finishes text settings blocks (Err (faults.Line line code)) old new before after result = Finish (with_last_line text []) (Err (faults.Line line code)) old new before after result
-Finishes text settings blocks (Err faults.Missing) old new before after result = Finish (with_last_line text []) (Err faults.Missing) old new before after result
+abbrev pub Finishes : List ℕ → Settings → List Shown → Result Ending RunFault → (old new : Option (List ℕ)) → (before after : ℕ) → Result Ending RunFault
+    → Type 0
+Finishes text settings blocks (Ok ending) old new before after result =
+    Finish (with_last_line text (ending_text ending ++ dump_text settings blocks)) (Ok ending) old new before after result
+Finishes text settings blocks (Err (faults.Line line code)) old new before after result =
+    Finish (with_last_line text []) (Err (faults.Line line code)) old new before after result
+Finishes text settings blocks (Err faults.Missing) old new before after result =
+    Finish (with_last_line text []) (Err faults.Missing) old new before after result
 Finishes text settings blocks (Err faults.ShelfFailed) old new before after result = (result ≡ Err faults.ShelfFailed) × (new ≡ old) × (after ≡ before)
 Finishes text settings blocks (Err faults.SinkFailed) old new before after result = (result ≡ Err faults.SinkFailed) × (new ≡ old) × (after ≡ before)
 Finishes text settings blocks (Err faults.NoMemory) old new before after result = (result ≡ Err faults.NoMemory) × (new ≡ old) × (after ≡ before)

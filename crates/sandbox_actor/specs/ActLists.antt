@@ -97,4 +97,5 @@ ListAnswers before Missing after = ⊥
 -- one act after another is answered, from the first list to the second
 pub data Given : ActList → List Act → ActList → Type 0 where
   none : {list : ActList} → Given list [] list
-  more : {list left rest : ActList} {acts : List Act} {act : Act} → Given list acts left → ListAnswers left (Gives act) rest → Given list (acts ++ act ∷ []) rest
+  more : {list left rest : ActList} {acts : List Act} {act : Act} → Given list acts left → ListAnswers left (Gives act) rest
+      → Given list (acts ++ act ∷ []) rest

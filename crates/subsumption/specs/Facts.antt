@@ -1,5 +1,6 @@
 -- Facts, valuations, and what facts entail.
-use Rattle.std.specs.Prelude.{ℕ, ◌+◌, ◌^◌, ◌<◌, ◌≤◌, ◌≡◌, ◌↔◌, ℤ, pos, negsuc, unsigned_abs, ◌+ℤ◌, ◌-ℤ◌, ◌≤ℤ◌, Option, None, Some, List, [], length, slice_index_or}
+use Rattle.std.specs.Prelude.{ℕ, ◌+◌, ◌^◌, ◌<◌, ◌≤◌, ◌≡◌, ◌↔◌, ℤ, pos, negsuc, unsigned_abs, ◌+ℤ◌, ◌-ℤ◌, ◌≤ℤ◌, Option, None, Some, List, [], length}
+use Rattle.std.specs.Prelude.{slice_index_or}
 use Rattle.std.specs.List.{All, Contains}
 use Rattle.bounds_exprs.specs.declared.term.Term.{Term}
 use Rattle.subsumption.specs.declared.fact.Fact.{Fact}
@@ -48,7 +49,8 @@ TermsHold v a b = term_value v a ≤ℤ term_value v b
 -- a number for each variable, which meet all of these and break the goal
 abbrev pub AnswersFact : ℕ → List Fact → Fact → Answer → Type 0
 AnswersFact n facts goal (Yes path) = All (Contains facts) path.facts.items × Entails path.facts.items goal × (length path.facts.items ≤ n)
-AnswersFact n facts goal (No valuation) = Meets (numbers_of valuation.values.items) facts × (Holds (numbers_of valuation.values.items) goal → ⊥) × (length valuation.values.items + 1 ≡ n)
+AnswersFact n facts goal (No valuation) =
+    Meets (numbers_of valuation.values.items) facts × (Holds (numbers_of valuation.values.items) goal → ⊥) × (length valuation.values.items + 1 ≡ n)
 
 -- the variable, if it is one, is below this number
 abbrev pub IsBelow : ℕ → Option ℕ → Type 0

@@ -65,7 +65,8 @@ killed_step x s i j = cond (i == j) s (cond (i == x) None (cond (j == x) None s)
 
 abbrev pub changed : Change → Cells → ℕ → ℕ → Option Step
 changed Clear m i j = cleared i j
-changed (Add x y c) m i j = better_of (cell m i j) (sum_of (sum_of (constants_of m i x) (Some c)) (constants_of m y j)) (cond (i == x) y (first_of (cell m i x)))
+changed (Add x y c) m i j =
+    better_of (cell m i j) (sum_of (sum_of (constants_of m i x) (Some c)) (constants_of m y j)) (cond (i == x) y (first_of (cell m i x)))
 changed (Kill x) m i j = own j (killed_step x (cell m i j) i j)
 changed (Shift x c) m i j = more_of (cell m i j) (cond (i == x) c (pos 0) -ℤ cond (j == x) c (pos 0))
 

@@ -1,5 +1,6 @@
 -- Distances by rounds in which all facts are relaxed, after Bellman and Ford.
-use Rattle.std.specs.Prelude.{ℕ, suc, ◌+◌, ◌*◌, ◌^◌, ◌<◌, ◌≤◌, ◌≡◌, ◌⊎◌, ℤ, pos, neg_ℤ, ◌+ℤ◌, ◌-ℤ◌, ◌≤ℤ◌, ◌<ℤ◌, Bool, true, false, Option, None, Some, List, [], ◌∷◌, ◌++◌, length, slice_index_or, slice_set}
+use Rattle.std.specs.Prelude.{ℕ, suc, ◌+◌, ◌*◌, ◌^◌, ◌<◌, ◌≤◌, ◌≡◌, ◌⊎◌, ℤ, pos, neg_ℤ, ◌+ℤ◌, ◌-ℤ◌, ◌≤ℤ◌, ◌<ℤ◌, Bool, true, false, Option, None}
+use Rattle.std.specs.Prelude.{Some, List, [], ◌∷◌, ◌++◌, length, slice_index_or, slice_set}
 use Rattle.std.specs.List.{All, Contains}
 use Rattle.subsumption.specs.declared.fact.Fact.{Fact}
 use Rattle.subsumption.specs.Graphs.{node_of, at, IsWithin}
@@ -19,7 +20,8 @@ last_of last x = slice_index_or last (node_of x) None
 -- one fact relaxed by the distances of the round before
 abbrev pub Relaxes : List ℤ → Fact → List ℤ → List (Option Fact) → Bool → List ℤ → List (Option Fact) → Type 0
 Relaxes before f old last false new next = (new ≡ old) × (next ≡ last) × (at old f.left ≤ℤ (at before f.right +ℤ f.plus))
-Relaxes before f old last true new next = (new ≡ slice_set old (node_of f.left) (at before f.right +ℤ f.plus)) × (next ≡ slice_set last (node_of f.left) (Some f)) × ((at before f.right +ℤ f.plus) <ℤ at old f.left)
+Relaxes before f old last true new next = (new ≡ slice_set old (node_of f.left) (at before f.right +ℤ f.plus))
+    × (next ≡ slice_set last (node_of f.left) (Some f)) × ((at before f.right +ℤ f.plus) <ℤ at old f.left)
 
 -- a node that a round left where it was
 pub record IsSame (before after : List ℤ) (last next : List (Option Fact)) (x : Option ℕ) : Type 0 where
@@ -41,7 +43,8 @@ ShowsFall before last after next false = (after ≡ before) × (next ≡ last)
 ShowsFall before last after next true = (x : Option ℕ) × (node_of x < length before) × (at after x <ℤ at before x)
 
 -- a round as far as these facts of it were relaxed
-pub record IsRound (facts done : List Fact) (before : List ℤ) (last : List (Option Fact)) (after : List ℤ) (next : List (Option Fact)) (fell : Bool) : Type 0 where
+pub record IsRound (facts done : List Fact) (before : List ℤ) (last : List (Option Fact)) (after : List ℤ) (next : List (Option Fact)) (fell : Bool)
+    : Type 0 where
   pub size : length after ≡ length before
   pub last_size : length next ≡ length last
   pub each : (x : Option ℕ) → node_of x < length before → IsSame before after last next x ⊎ IsLowered facts before after next x

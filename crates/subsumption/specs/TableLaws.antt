@@ -5,7 +5,8 @@ use Rattle.subsumption.specs.declared.fact.Fact.{Fact}
 use Rattle.subsumption.specs.Shifts.{moved}
 use Rattle.subsumption.specs.Facts.{Holds, IsAbout, IsBelow, IsWide, TermsHold}
 use Rattle.subsumption.specs.Tables.{IsWithout}
-use Rattle.subsumption.specs.ClosedTables.{AtMost, Pairs, Rows, rows_of, entry, are_near, ClosedTable, Contradiction, Least, no_facts, entails_fact, entails_terms, with_fact, without, shifted, joined}
+use Rattle.subsumption.specs.ClosedTables.{AtMost, Pairs, Rows, rows_of, entry, are_near, ClosedTable, Contradiction, Least, no_facts, entails_fact}
+use Rattle.subsumption.specs.ClosedTables.{entails_terms, with_fact, without, shifted, joined}
 
 -- ---- closed tables
 

@@ -17,8 +17,10 @@ pub record Table : Type 0 where
 -- an answer to whether the one term is at most the other: facts of the table that alone entail it, at most as many as
 -- there are variables and zero, or a number for each variable, which meet the facts and break it
 abbrev pub AnswersTerms : Table → Term → Term → Answer → Type 0
-AnswersTerms table a b (Yes path) = All (Contains table.facts) path.facts.items × ((v : ℕ → ℤ) → Meets v path.facts.items → TermsHold v a b) × (length path.facts.items ≤ table.vars + 1)
-AnswersTerms table a b (No valuation) = Meets (numbers_of valuation.values.items) table.facts × (TermsHold (numbers_of valuation.values.items) a b → ⊥) × (length valuation.values.items ≡ table.vars)
+AnswersTerms table a b (Yes path) =
+    All (Contains table.facts) path.facts.items × ((v : ℕ → ℤ) → Meets v path.facts.items → TermsHold v a b) × (length path.facts.items ≤ table.vars + 1)
+AnswersTerms table a b (No valuation) = Meets (numbers_of valuation.values.items) table.facts × (TermsHold (numbers_of valuation.values.items) a b → ⊥)
+    × (length valuation.values.items ≡ table.vars)
 
 -- after a step that leaves so much entailed
 pub record Becomes (before : Table) (entailed : Fact → Type 0) (after : Table) : Type 0 where

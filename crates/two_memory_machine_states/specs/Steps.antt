@@ -1,5 +1,6 @@
 -- What a step does, part by part.
-use Rattle.std.specs.Prelude.{◌≡◌, ℕ, ◌+◌, ◌^◌, ◌<◌, nat_le, if◌then◌else◌, Bool, true, false, List, [], ◌∷◌, length, take, reverse, Option, Some, None, slice_get}
+use Rattle.std.specs.Prelude.{◌≡◌, ℕ, ◌+◌, ◌^◌, ◌<◌, nat_le, if◌then◌else◌, Bool, true, false, List, [], ◌∷◌, length, take, reverse, Option, Some}
+use Rattle.std.specs.Prelude.{None, slice_get}
 use Rattle.std.proofs.Common.{ℤ}
 use Rattle.act_words.specs.Acts.{Act}
 use Rattle.act_words.specs.World
@@ -15,7 +16,8 @@ use Rattle.two_memory_machine_states.specs.declared.event.Event.{Event}
 use Rattle.two_memory_machine_states.specs.declared.outcome.Outcome.{Outcome}
 use Rattle.two_memory_machine_states.specs.declared.outcome.Outcome.TheVariants as outcomes
 use Rattle.two_memory_machine_states.specs.declared.event.Event.TheVariants.{Ran, Asks, Ended}
-use Rattle.two_memory_machine_states.specs.Machines.{Machine, Doing, Running, NeedsNumber, HasNumber, Touching, Suspended, Gives, TellsStep, TellsAct, IsOfSame, state_of, world_of}
+use Rattle.two_memory_machine_states.specs.Machines.{Machine, Doing, Running, NeedsNumber, HasNumber, Touching, Suspended, Gives, TellsStep}
+use Rattle.two_memory_machine_states.specs.Machines.{TellsAct, IsOfSame, state_of, world_of}
 
 -- the step goes as a line of the table, and an event tells it
 abbrev pub EventBy : (State → Step) → Machine → Event → Machine → Type 0
@@ -34,7 +36,8 @@ abbrev pub Brings : List Act → List ℤ → List World.Event → Step → Mach
 Brings acts inputs events (Goes s) old outcome new =
     (s ≡ state_of new acts inputs events) × IsLeft outcome new.doing × (new.over ≡ None) × IsOfSame old new
 Brings acts inputs events (Over ending s) old outcome new =
-    (outcome ≡ outcomes.Ended) × (new.over ≡ Some ending) × (s.memory ≡ new.memory) × (s.blocks ≡ new.blocks) × (s.world ≡ world_of new acts inputs events) × IsOfSame old new
+    (outcome ≡ outcomes.Ended) × (new.over ≡ Some ending) × (s.memory ≡ new.memory) × (s.blocks ≡ new.blocks) × (s.world ≡ world_of new acts inputs events)
+        × IsOfSame old new
 
 -- the step goes as a line of the table, whichever acts and inputs are left and whatever came before
 abbrev pub GoesBy : (State → Step) → Machine → Outcome → Machine → Type 0

@@ -1,7 +1,7 @@
 use Rattle.std.proofs.Common.{sym, ◌∙◌}
 use Rattle.ckc_tree.specs.Items.{tree}
 use Rattle.ckc_tree.proofs.Decided.{in_order_placed, placed_in_order}
-use Rattle.ckc_tree.proofs.placement.Program.well_placed.Goals as goal
+use Rattle.ckc_tree.proofs.item.Program.well_placed.Goals as goal
 
 pub returns : goal.returns
 returns c =
