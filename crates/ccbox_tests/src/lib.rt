@@ -34,6 +34,8 @@ mod printing;
 #[cfg(test)]
 mod questions;
 #[cfg(test)]
+mod random_facts;
+#[cfg(test)]
 mod rows;
 #[cfg(test)]
 mod rules;

@@ -233,21 +233,11 @@ broken_joined vars true false m other new e f same = ap (table_by false) same
 broken_joined vars true true m other new e f same = absurd (cc)
 broken_joined vars false d m other new e f same = absurd (cc)
 
--- a join with facts that nothing meets
-pub joined_broken : (vars : ℕ) (b d : Bool) (m other : Cells) → d ≡ true → table_by b m ≡ joined vars (table_by b m) (table_by d other)
-joined_broken vars true true m other e = refl
-joined_broken vars false true m other e = refl
-joined_broken vars b false m other e = absurd (cc)
-
 pub taken_over : (vars : ℕ) (path others : List Fact) (d : Bool) (other new : Cells) → d ≡ false → new ≡ other → IsKeptClosed vars d others other → IsKeptClosed vars false path new
 taken_over vars path others true other new e same kept = absurd (cc)
 taken_over vars path others false other new e same kept = subst (IsKeptClosed vars false path) (sym same) (record { few = kept.few; size = kept.size; sound = kept.sound })
 
 -- a contradiction comes up
-pub canonical_of : (vars : ℕ) (path : List Fact) (b : Bool) (m : Cells) → b ≡ false → IsKeptClosed vars b path m → IsCanonical m
-canonical_of vars path true m e kept = absurd (cc)
-canonical_of vars path false m e kept = kept.sound
-
 pub contradicted : (vars : ℕ) (m : Cells) (f : Fact) (path before : List Fact) (b : Bool) → IsKeptClosed vars b before m → Contradicts m f path → IsKeptClosed vars true path m
 contradicted vars m f path before b kept h = record {
   few = kept.few;

@@ -48,9 +48,6 @@ push_each xs i F v size each here = (
   ],
 )
 
-pub met_among : (a : Option ℕ → ℤ) (F T : List Fact) → All (Contains F) T → All (HoldsBy a) F → All (HoldsBy a) T
-met_among a F T among met i d lt = All-contains (HoldsBy a) F (get_or T i d) met (among i d lt)
-
 pub node_of-at_index : (i : ℕ) → node_of (at_index i) ≡ i
 node_of-at_index zero = refl
 node_of-at_index (suc i) = refl

@@ -101,11 +101,6 @@ near_more new n k i j false true li lj here e h = (i, j, li, lj, sym e)
 near_more new n k i j true false li lj here e h = h
 near_more new n k i j false false li lj here e h = h
 
-near_is : (b r : Bool) → (b ≡ true → r ≡ true) → (b ≡ false → r ≡ true → ⊥) → b ≡ r
-near_is true r f g = sym (f refl)
-near_is false true f g = absurd (g refl refl)
-near_is false false f g = refl
-
 pub near_all : (new : ℕ → ℕ → Option Step) (m now : Cells) (k : ℕ) (b : Bool) → m.n * m.n ≤ k → AreChanged new m now → ShowsNear b new m.n k → b ≡ are_near (rows_of m.n (constants_of now))
 near_all new m now k true all h shows = sym (near_rows m.n (constants_of now) (λ i j li lj.
     let lt = mul-add-lt i m.n j m.n li lj in ap (λ s. is_near (plus_of s)) (h.done i j li lj) ∙ shows i j li lj (omega (arith, lt, all))))

@@ -14,7 +14,7 @@ use Rattle.subsumption.specs.Matrices.{cell, plus_of, constants_of, AreNear}
 use Rattle.subsumption.specs.MatrixPaths.{facts_of, IsCanonical}
 use Rattle.subsumption.specs.MatrixWays.{start_of, cost_of, least_below, or_zero, number_of, AreNumbers}
 use Rattle.subsumption.proofs.TableConstants.{at_most_up, smaller_from, smaller_to, sum_from, sum_to}
-use Rattle.subsumption.proofs.TableChanges.{to_same}
+use Rattle.subsumption.proofs.TableChanges.{to_same, from_same}
 use Rattle.subsumption.proofs.TableNumbers.{at_least, numbers, numbers_below, numbers_reached, numbers_meet}
 use Rattle.subsumption.proofs.TableSteps.{nodes, holds_node}
 use Rattle.subsumption.proofs.MatrixFacts.{meets_facts}
@@ -57,6 +57,40 @@ least_some : (o : Option ℤ) (d : ℤ) → AtMost o d → ((e : ℤ) → AtMost
 least_some None d h low = absurd h
 least_some (Some c) d h low = (let le = low c (omega (arith, ints)) in let e : c ≡ d = omega (arith, ints, le, h) in ap Some e)
 
+start_here : (y : ℕ) (b : Bool) → (y == y) ≡ b → cond b (pos 0) (pos (2 ^ 102)) ≡ pos 0
+start_here y true e = refl
+start_here y false e = absurd (grind (arith, nat_tests))
+
+start_by : (y w : ℕ) (b : Bool) → (w == y) ≡ b → ((w ≡ y) × (cond b (pos 0) (pos (2 ^ 102)) ≡ pos 0)) ⊎ (cond b (pos 0) (pos (2 ^ 102)) ≡ pos (2 ^ 102))
+start_by y w true e = inl ((grind (arith, nat_tests)), refl)
+start_by y w false e = inr refl
+
+-- where a path leads to y, no other node allows less
+pub least_direct : (m : Cells) (y z : ℕ) (o : Option Step) (s : Step) → AreNear m → y < m.n → z < m.n → o ≡ cell m z y → o ≡ Some s → Some s.plus ≡ least_below (cost_of m y z) m.n
+least_direct m y z o s near ly lz e f =
+    let there : constants_of m z y ≡ Some s.plus = ap plus_of (sym e ∙ f) in
+    let small = cell_within m z y o s near lz ly e f in
+    let high = small.high in
+    let zero_y : start_of y y ≡ pos 0 = start_here y (y == y) refl in
+    let at = sum_to (constants_of m z y) (Some (start_of y y)) s.plus (start_of y y) (to_same (Some s.plus) (constants_of m z y) s.plus there (omega (arith, ints))) (omega (arith, ints)) in
+    sym (least_some (least_below (cost_of m y z) m.n) s.plus
+    (least_at (cost_of m y z) m.n y s.plus ly (at_most_up (cost_of m y z y) (s.plus +ℤ start_of y y) s.plus at (omega (arith, ints, zero_y))))
+    (λ e h. let w = least_from (cost_of m y z) m.n e h in
+    let sum = sum_from (constants_of m z w.0) (Some (start_of y w.0)) e w.2 in
+    let right = sum.right in let fits = sum.fits in
+    elim (start_by y w.0 (w.0 == y) refl) [
+      | inl same ↦ (
+          let q : start_of y w.0 ≡ pos 0 = same.1 in
+          let le : s.plus ≤ℤ sum.first = from_same (Some s.plus) (constants_of m z y) sum.first there (subst (λ w. AtMost (constants_of m z w) sum.first) same.0 sum.left) in
+          omega (arith, ints, q, le, right, fits))
+      | inr q ↦ (
+          let r : start_of y w.0 ≡ pos (2 ^ 102) = q in
+          let d = at_least (constants_of m z w.0) sum.first sum.left in
+          let within = near_within d.0 (ap is_near (sym d.1) ∙ near z w.0 lz w.1) in
+          let low = within.low in let le = d.2 in
+          omega (arith, ints, high, r, low, le, right, fits))
+    ]))
+
 module _ (m : Cells) (canonical : IsCanonical m) (y : ℕ) where
   abbrev v : ℕ → ℤ
   v = numbers m.n (constants_of m) canonical.closed (start_of y)
@@ -72,22 +106,14 @@ module _ (m : Cells) (canonical : IsCanonical m) (y : ℕ) where
       let below = numbers_below m.n (constants_of m) canonical.closed (start_of y) z w.0 sum.first lz w.1 sum.left in
       let a = sum.right in let b = sum.fits in omega (arith, ints, below, a, b)))
 
-  start_here : (b : Bool) → (y == y) ≡ b → cond b (pos 0) (pos (2 ^ 102)) ≡ pos 0
-  start_here true e = refl
-  start_here false e = absurd (grind (arith, nat_tests))
-
-  start_by : (w : ℕ) (b : Bool) → (w == y) ≡ b → ((w ≡ y) × (cond b (pos 0) (pos (2 ^ 102)) ≡ pos 0)) ⊎ (cond b (pos 0) (pos (2 ^ 102)) ≡ pos (2 ^ 102))
-  start_by w true e = inl ((grind (arith, nat_tests)), refl)
-  start_by w false e = inr refl
-
   -- what isn't known is broken
   broken : (x : ℕ) (c : ℤ) → x < m.n → y < m.n → IsWithin (2 ^ 66) c → (AtMost (constants_of m x y) c → ⊥) → v x ≤ℤ (v y +ℤ c) → ⊥
   broken x c lx ly small unknown h =
-      let zero_y : start_of y y ≡ pos 0 = start_here (y == y) refl in
+      let zero_y : start_of y y ≡ pos 0 = start_here y (y == y) refl in
       let low = numbers_below m.n (constants_of m) canonical.closed (start_of y) y y (pos 0) ly ly (to_same (Some (pos 0)) (constants_of m y y) (pos 0) (canonical.closed.diagonal y ly) (omega (arith, ints))) in
       let r = numbers_reached m.n (constants_of m) canonical.closed (start_of y) x lx in
       let w = r.0 in let d = r.2.0 in let fits = r.2.2 in
-      elim (start_by w (w == y) refl) [
+      elim (start_by y w (w == y) refl) [
         | inl same ↦ (let q = same.1 in unknown (at_most_up (constants_of m x y) d c (subst (λ w. AtMost (constants_of m x w) d) same.0 r.2.1) (omega (arith, ints, h, zero_y, low, fits, q))))
         | inr q ↦ (
             let e = at_least (constants_of m x w) d r.2.1 in

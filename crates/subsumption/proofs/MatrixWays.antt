@@ -130,9 +130,6 @@ module _ (m : Cells) (i j : ℕ) where
       } in
       subst (λ n. LeadsTo m i j n after) (sym goes.next_is) (subst (LeadsTo m i j s.first) is to)
 
-  pub leads_reaches : (here : ℕ) (path : List Fact) → LeadsTo m i j here path → Reaches m here j
-  leads_reaches here path leads = (leads.rest, leads.behind)
-
   pub leads_shorter : (here next : ℕ) (path after : List Fact) → IsCanonical m → LeadsTo m i j here path → GoesOn m here j next path after → m.n - length after < m.n - length path
   leads_shorter here next path after canonical leads goes =
       let c = leads.count canonical.paths in

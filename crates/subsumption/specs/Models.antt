@@ -11,11 +11,6 @@ pub record AreEdges (n : ℕ) (facts : List Fact) : Type 0 where
   pub some : 0 < n
   pub edges : All (IsEdge n) facts
 
--- numbers of the nodes meet the facts
-pub record CanBeMet (facts : List Fact) : Type 0 where
-  pub numbers : Option ℕ → ℤ
-  pub met : All (HoldsBy numbers) facts
-
 -- facts among these that no numbers meet
 pub record IsContradiction (facts : List Fact) (n : ℕ) (path : List Fact) : Type 0 where
   pub among : All (Contains facts) path

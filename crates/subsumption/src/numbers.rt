@@ -61,8 +61,8 @@ fn smaller(first: Option<i128>, second: Option<i128>) -> Option<i128>
     }
 }
 
-/// The least of what all nodes allow for `z`.
-fn least(matrix: &Matrix, y: usize, z: usize) -> Option<i128>
+/// The least of what all nodes allow for `z`, one after another.
+fn searched(matrix: &Matrix, y: usize, z: usize) -> Option<i128>
     requires z { z < matrix.now.n }
     requires near { AreNear matrix.now }
     ensures value { result ≡ least_below (cost_of matrix.now y z) matrix.now.n }
@@ -75,8 +75,23 @@ fn least(matrix: &Matrix, y: usize, z: usize) -> Option<i128>
     least
 }
 
+/// The least of what all nodes allow for `z`. Where a path leads to `y`, no other node allows less.
+fn least(matrix: &Matrix, y: usize, z: usize) -> Option<i128>
+    requires y { y < matrix.now.n }
+    requires z { z < matrix.now.n }
+    requires near { AreNear matrix.now }
+    ensures value { result ≡ least_below (cost_of matrix.now y z) matrix.now.n }
+    ensures small { IsSmall result }
+{
+    match matrix.step(z, y) {
+        None => searched(matrix, y, z),
+        Some(step) => Some(step.plus),
+    }
+}
+
 /// The number of a node.
 fn number(matrix: &Matrix, y: usize, z: usize) -> i128
+    requires y { y < matrix.now.n }
     requires z { z < matrix.now.n }
     requires near { AreNear matrix.now }
     ensures value { result ≡ number_of matrix.now y z }
@@ -91,6 +106,7 @@ fn number(matrix: &Matrix, y: usize, z: usize) -> i128
 /// The number of a variable, counted from that of zero.
 fn counted(matrix: &Matrix, y: usize, i: usize, zero: i128) -> i128
     requires few { matrix.now.n ≤ 4097 }
+    requires y { y < matrix.now.n }
     requires i { i + 1 < matrix.now.n }
     requires near { AreNear matrix.now }
     requires zero { IsWithin (2 ^ 103) zero }
@@ -101,7 +117,7 @@ fn counted(matrix: &Matrix, y: usize, i: usize, zero: i128) -> i128
 
 /// The numbers of the variables.
 pub fn numbers(alloc: Global, matrix: &Matrix, y: usize) -> Result<Vec<i128>, NoMemory>
-    requires some { 0 < matrix.now.n }
+    requires y { y < matrix.now.n }
     requires near { AreNear matrix.now }
     ensures { IfOk result (λ v. AreNumbers matrix.now y v.items) }
 {
