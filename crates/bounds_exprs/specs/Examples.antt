@@ -40,7 +40,7 @@ abbrev pub LimitsAreReached : Type 0
 LimitsAreReached = (substituted (record { var = Some 7; plus = pos 1099511627775 }) 7 (record { var = None; plus = pos 1 }) ≡ Some
     (record { var = None; plus = pos (2 ^ 40) }))
     × (substituted (record { var = Some 7; plus = negsuc 1099511627774 }) 7 (record { var = None; plus = negsuc 0 }) ≡ Some
-        (record { var = None; plus = negsuc 1099511627775 }))
+    (record { var = None; plus = negsuc 1099511627775 }))
     × (substituted (record { var = Some 7; plus = negsuc 1099511627775 }) 7 (record { var = None; plus = negsuc 0 }) ≡ None)
 
 -- an end may stand 2^31 behind the pointer or before it, and no further
@@ -48,5 +48,5 @@ abbrev pub EndsAreLimited : Type 0
 EndsAreLimited = (bounds_of (Count (Number (pos (2 ^ 31)))) 4 ≡ Some (record { base = None; lo = constant (pos 0); hi = constant (pos (2 ^ 31)) }))
     × (bounds_of (Count (Number (pos (2 ^ 31 + 1)))) 4 ≡ None)
     × (bounds_of (Pair (Minus (Pointer (Some 3)) (Number (pos (2 ^ 31)))) (Pointer (Some 3))) 4 ≡ Some
-        (record { base = Some 3; lo = constant (negsuc 2147483647); hi = constant (pos 0) }))
+    (record { base = Some 3; lo = constant (negsuc 2147483647); hi = constant (pos 0) }))
     × (bounds_of (Pair (Minus (Pointer (Some 3)) (Number (pos (2 ^ 31 + 1)))) (Pointer (Some 3))) 4 ≡ None)

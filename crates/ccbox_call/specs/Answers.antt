@@ -143,7 +143,7 @@ SourceIsRefused files words = (options : Options) × (src : List ℕ) × (fault 
 abbrev pub RunEndsWith : Files → List (List ℕ) → Option RefusedLine → Ending → Type 0
 RunEndsWith files words needed ending =
     (options : Options) × (list : ActList) × (c : Core) × (s : State) × AsksFor files words options list c
-        × RunsTo c (settings_of options) (inputs_of options) list ending s × (needed_line list s.world.events ≡ needed)
+    × RunsTo c (settings_of options) (inputs_of options) list ending s × (needed_line list s.world.events ≡ needed)
 
 abbrev pub RunExits : Files → List (List ℕ) → Type 0
 RunExits files words = (value : ℤ) × RunEndsWith files words None (Exit value)
@@ -164,7 +164,7 @@ SourceIsMissing files words = (name : List ℕ) × (options : Options) × (reque
 abbrev pub ActsAreMissing : Files → List (List ℕ) → Type 0
 ActsAreMissing files words =
     (name : List ℕ) × (options : Options) × (src : List ℕ) × (c : Core) × AsksToRun files words options src × Accepts src c × (options.acts ≡ Some name)
-        × (file_at files name ≡ None)
+    × (file_at files name ≡ None)
 
 abbrev pub FileIsMissing : Files → List (List ℕ) → Type 0
 FileIsMissing files words = SourceIsMissing files words ⊎ ActsAreMissing files words
@@ -200,7 +200,7 @@ PrintedRun files words old new status =
 abbrev pub IsComplete : Files → List (List ℕ) → Option (List ℕ) → Option (List ℕ) → ℕ → Type 0
 IsComplete files words old new status =
     (options : Options) (list : ActList) (c : Core) (ending : Ending) (s : State) → AsksFor files words options list c
-        → RunsTo c (settings_of options) (inputs_of options) list ending s →
+    → RunsTo c (settings_of options) (inputs_of options) list ending s →
     ((status ≡ status_with (needed_line list s.world.events) ending) × (new ≡ grown old (text_of (settings_of options) list ending s))) ⊎ (status ≡ 9)
 
 -- a count of failures didn't rise

@@ -30,9 +30,17 @@ alone =
 abbrev pub together : Type 0
 together =
     run_with (codes "--view" ∷ codes "--acts=f" ∷ codes "--dump" ∷ codes "--sandbox" ∷ codes "65536" ∷ codes "--input=1" ∷ codes "--releases" ∷ codes "--base"
-        ∷ codes "1048576" ∷ [])
-    ≡ asks (record no_options { acts = Some (codes "f"); input = Some (pos 1
-        ∷ []); sandbox = Some 65536; base = Some 1048576; view = true; releases = true; dump = true })
+    ∷ codes "1048576" ∷ [])
+    ≡ asks (record no_options {
+      acts = Some (codes "f");
+      input = Some (pos 1
+          ∷ []);
+      sandbox = Some 65536;
+      base = Some 1048576;
+      view = true;
+      releases = true;
+      dump = true;
+    })
 
 -- words that spell no request
 abbrev pub refused : Type 0

@@ -182,8 +182,13 @@ statements_of [] = NoMore
 statements_of (first ∷ rest) = Then (statement first) (statements_of rest)
 
 abbrev pub function : code.Function.Function → Function
-function f = record { name = f.name; parameters = f.parameters; locals = map ctype f.locals.items; result = option_map ctype f.result;
-    body = statements_of f.body.items }
+function f = record {
+  name = f.name;
+  parameters = f.parameters;
+  locals = map ctype f.locals.items;
+  result = option_map ctype f.result;
+  body = statements_of f.body.items;
+}
 
 abbrev pub import_of : code.Import.Import → Import
 import_of i = record { name = i.name; parameters = i.parameters; result = option_map ctype i.result }

@@ -76,7 +76,7 @@ counting =
     one (Int ∷ []) []
     (Core.SetLocal 0 (number 0)
     ∷ (Core.Loop (Core.Compare comparisons.Less (Core.Local 0) (number 3))
-        (Core.SetLocal 0 (Core.Arithmetic operators.Add (Core.Local 0) (number 1) (site 1 46))) Core.Nothing
+    (Core.SetLocal 0 (Core.Arithmetic operators.Add (Core.Local 0) (number 1) (site 1 46))) Core.Nothing
     ∷ (Core.Return (Core.Local 0) ∷ [])))
 
 abbrev pub loop_ends : Type 0
@@ -92,8 +92,14 @@ falling =
       objects = [];
       imports = [];
       functions =
-          (record { name = codes "f"; parameters = 1; locals = Int
-              ∷ []; result = Some Int; body = body (Core.Return (Core.Call 0 (Core.More (Core.Local 0) Core.Done)) ∷ []) })
+          (record {
+            name = codes "f";
+            parameters = 1;
+            locals = Int
+                ∷ [];
+            result = Some Int;
+            body = body (Core.Return (Core.Call 0 (Core.More (Core.Local 0) Core.Done)) ∷ []);
+          })
           ∷ (main_with [] (Core.Return (Core.Call 0 (Core.More (number 0) Core.Done)) ∷ []) ∷ []);
       main = 1;
     }
@@ -109,7 +115,7 @@ members =
     ∷ (Core.Store Int (Core.Through (Core.Local 0) 1 4 (site 3 40)) (number 7)
     ∷ (Core.Store Char (Core.Direct 0 0 0) (Core.LowByte (number 300))
     ∷ (Core.Return (Core.Arithmetic operators.Add (Core.Load Int (Core.Through (Core.Local 0) 1 4 (site 3 65))) (Core.Load Char (Core.Direct 0 0 0))
-        (site 3 65)) ∷ [])))))
+    (site 3 65)) ∷ [])))))
 
 abbrev pub struct_ends : Type 0
 struct_ends = ends_as (runs members 100) (Exit (pos 51))

@@ -237,10 +237,10 @@ abbrev mutual
   value g k (core.Same left right) s = and_then (value g k left s) (λ a t. and_then (value g k right t) (λ b u. test_given (same_place a b) u))
   value g k (core.AndAlso left right) s =
       and_then (value g k left s) (λ a t. choose (truth a) (and_then (value g k right t) (λ b u. Gives (number_of_test (truth b)) u))
-          (Gives (number_of_test false) t))
+      (Gives (number_of_test false) t))
   value g k (core.OrElse left right) s =
       and_then (value g k left s) (λ a t. choose (truth a) (Gives (number_of_test true) t)
-          (and_then (value g k right t) (λ b u. Gives (number_of_test (truth b)) u)))
+      (and_then (value g k right t) (λ b u. Gives (number_of_test (truth b)) u)))
   value g k (core.LowByte operand) s = and_then (value g k operand s) low_byte_of
   value g k (core.Call function arguments) s = and_then (values g k arguments s) (λ vs t. and_then (call_trusted g k function vs t) result_given)
   value g k (core.TaintedCall import arguments site) s =
@@ -339,10 +339,10 @@ abbrev mutual
       and_then (pointer_of g k p s) (λ q t. and_then (value g k e t) (λ v u. and_then (place_from p q u) (λ place w. store_at type place v w)))
   effect g k (core.UpdateLocal char local operator e site) s =
       and_then (given (slice_get s.locals local) s) (λ old t. and_then (value g k e t)
-          (λ v u. and_then (arithmetic_of operator site old v u) (λ new w. and_then (kept_if char new w) (set_local local))))
+      (λ v u. and_then (arithmetic_of operator site old v u) (λ new w. and_then (kept_if char new w) (set_local local))))
   effect g k (core.Update type p operator e site) s =
       and_then (place g k p s) (λ at t. and_then (load_at type at t) (λ old u. and_then (value g k e u)
-          (λ v w. and_then (arithmetic_of operator site old v w) (λ new x. and_then (kept_if (is_char type) new x) (store_at type at)))))
+      (λ v w. and_then (arithmetic_of operator site old v w) (λ new x. and_then (kept_if (is_char type) new x) (store_at type at)))))
   effect g k (core.Evaluate e) s = and_then (value g k e s) (λ _ t. Gives Next t)
   effect g k (core.CallAlone function arguments) s = and_then (values g k arguments s) (λ vs t. and_then (call_trusted g k function vs t) no_result)
   effect g k (core.TaintedAlone import arguments site) s =
@@ -355,7 +355,7 @@ abbrev mutual
   effect g k (core.Loop condition body step) s =
       and_then (value g k condition s) (λ v t. choose (truth v)
       (asked (spend_tick g.budget t.world) t (λ _ u. and_then (effect g k body u)
-          (behind_turn (λ w. and_then (effect g k step w) (on_next (k.turn condition body step))))))
+      (behind_turn (λ w. and_then (effect g k step w) (on_next (k.turn condition body step))))))
       (Gives Next t))
   effect g k (core.Return e) s = and_then (value g k e s) (λ v t. Gives (Returned (Some v)) t)
   effect g k core.ReturnNothing s = Gives (Returned None) s

@@ -63,4 +63,4 @@ pragma_of (word, rest) = cond (bytes_eq word (codes "CHECKED_SCOPE")) (scope_of 
 unfoldable pub named_directive : List ℕ × List ℕ → Piece
 named_directive (word, rest) =
     cond (bytes_eq word (codes "define")) (definition_of (part rest).0 (part (part rest).1))
-        (cond (bytes_eq word (codes "pragma")) (pragma_of (part rest)) (Fault E05))
+    (cond (bytes_eq word (codes "pragma")) (pragma_of (part rest)) (Fault E05))

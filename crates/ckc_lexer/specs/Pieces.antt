@@ -93,7 +93,7 @@ IsString inner m content piece n =
 abbrev pub IsCharacter : List ℕ → ℕ → Option (List ℕ) → Piece → ℕ → Type 0
 IsCharacter inner m content piece n =
     (piece ≡ character_piece (list_any is_forbidden (take m inner)) content (is_quote 39 (drop m inner)))
-        × (n ≡ 1 + (m + quote_len (is_quote 39 (drop m inner))))
+    × (n ≡ 1 + (m + quote_len (is_quote 39 (drop m inner))))
 
 abbrev pub word_len : List ℕ → ℕ
 word_len text = prefix_len is_word_byte text
@@ -123,10 +123,10 @@ StandsAs LineComment first text piece n = IsLineComment (drop 2 text) piece n
 StandsAs BlockComment first text piece n = (m : ℕ) × Extent Comment (drop 2 text) m × IsBlockComment (drop 2 text) m piece n
 StandsAs StringQuote first text piece n =
     (m : ℕ) × Extent (Quoted 34) (drop 1 text) m × (content : Option (List ℕ)) × IsContent (take m (drop 1 text)) content
-        × IsString (drop 1 text) m content piece n
+    × IsString (drop 1 text) m content piece n
 StandsAs CharacterQuote first text piece n =
     (m : ℕ) × Extent (Quoted 39) (drop 1 text) m × (content : Option (List ℕ)) × IsContent (take m (drop 1 text)) content
-        × IsCharacter (drop 1 text) m content piece n
+    × IsCharacter (drop 1 text) m content piece n
 StandsAs Word first text piece n = IsWord text piece n
 StandsAs Hash first text piece n = IsHash first (drop 1 text) piece n
 StandsAs Mark first text piece n = (piece, n) ≡ mark_piece text

@@ -55,8 +55,15 @@ go_on n line (Err fault) = Err fault
 unfoldable pub push : State → TokenKind → ℕ → Result State SourceFault
 push s kind n =
     cond (nat_lt (length s.tokens) 200000)
-    (Ok (record { at = s.at; line = s.line; tokens = s.tokens ++ token_at s.at (s.at + n) kind
-        ∷ []; definitions = s.definitions; scope = s.scope; kept = s.kept }))
+    (Ok (record {
+      at = s.at;
+      line = s.line;
+      tokens = s.tokens ++ token_at s.at (s.at + n) kind
+          ∷ [];
+      definitions = s.definitions;
+      scope = s.scope;
+      kept = s.kept;
+    }))
     (Err (fault_at E08 s.at))
 
 abbrev pub push_after : Result State SourceFault → TokenKind → ℕ → Result State SourceFault

@@ -106,7 +106,7 @@ abbrev mutual
   statement_mentions (s.While condition body span) = expression_mentions condition ++ in_block (statement_mentions body)
   statement_mentions (s.For initial condition step body span) =
       in_block (for_initial_mentions initial ++ (optional_mentions expression_mentions condition
-          ++ (optional_mentions assignment_mentions step ++ in_block (statement_mentions body))))
+      ++ (optional_mentions assignment_mentions step ++ in_block (statement_mentions body))))
   statement_mentions (s.Return value span) = optional_mentions expression_mentions value
   statement_mentions (s.Break span) = []
   statement_mentions (s.Continue span) = []
@@ -138,7 +138,7 @@ function_mentions f =
     result_mentions f.result
     ++ DeclareFunction f.name (is_some f.body)
     ∷ in_block (parameters_mentions f.parameters ++ (optional_mentions bounds_mentions f.bounds
-        ++ optional_mentions (λ (b : Body). statements_mentions b.statements) f.body))
+    ++ optional_mentions (λ (b : Body). statements_mentions b.statements) f.body))
 
 -- a tag is visible from its name on, so a member may point to its own struct
 abbrev pub item_mentions : Item → List Mention

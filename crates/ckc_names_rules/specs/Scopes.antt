@@ -134,7 +134,7 @@ mentioned (Reveal name) s = Ok (revealed_if (is_none (innermost s.blocks name.na
 mentioned (Declare name) s = unless_refused (is_reserved name.name || is_taken (innermost s.blocks name.name)) E11 name (standing_for name Variable s)
 mentioned (DeclareFunction name defined) s =
     unless_refused (is_reserved name.name || is_taken_for defined (innermost s.blocks name.name)) E11 name (standing_for name (Function (defined
-        || was_defined (innermost s.blocks name.name))) s)
+    || was_defined (innermost s.blocks name.name))) s)
 mentioned (DeclareTag name) s =
     unless_refused (is_reserved name.name || is_among s.tags name.name) E11 name (record { blocks = s.blocks; tags = name.name ∷ s.tags })
 mentioned (Use name) s = unless_refused (not_so (bytes_eq name.name null || is_value (visible s.blocks name.name))) E10 name s

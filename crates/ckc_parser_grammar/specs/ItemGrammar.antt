@@ -113,8 +113,17 @@ pub data SpellsItem : List Token → Item → List Token → Type 0 where
       {result : ResultForm} {parameters : Parameters} {body : Option Body} {function_kind : FunctionKind} → SpellsKind tokens function_kind ts
       → SpellsOptionalMark ts optional_mark us → SpellsResult us result vs → SpellsStars vs n (token (kinds.Name x) s ∷ token kinds.OpenParen p ∷ ws)
       → SpellsParameters ws parameters t xs → SpellsOptionalBounds (from_first tokens t) xs written w ys → SpellsBody ys body q rest
-      → SpellsItem tokens (FunctionItem (record { kind = function_kind; mark = optional_mark; result = result; stars = n; name = identifier x s;
-          parameters = parameters; bounds = written; body = body; span = from_first tokens q })) rest
+      → SpellsItem tokens (FunctionItem (record {
+        kind = function_kind;
+        mark = optional_mark;
+        result = result;
+        stars = n;
+        name = identifier x s;
+        parameters = parameters;
+        bounds = written;
+        body = body;
+        span = from_first tokens q;
+      })) rest
 
 -- all items, up to the end
 pub data SpellsItems : List Token → List Item → Type 0 where

@@ -178,7 +178,7 @@ mutual
         → IsCastWord k cast → SpellsAngled ts type us → IsLow (suc d) (type_reach type.base) → SpellsBinary 10 us e o (token kinds.Comma p ∷ vs)
         → IsLow (suc d) (expression_reach e)
         → SpellsBounds vs bounds w rest → IsLow (suc d) (bounds_reach bounds) → next_is close_paren rest ≡ false
-            → StuckPrimary d (token k s ∷ ts) (unexpected rest)
+        → StuckPrimary d (token k s ∷ ts) (unexpected rest)
     malloc_type : {d : ℕ} {k : TokenKind} {s : Span} {ts : List Token} {malloc_word : MallocWord} {f : Failure} → IsMallocWord k malloc_word → d < 200
         → StuckAngled (suc d) ts f → StuckPrimary d (token k s ∷ ts) f
     malloc_size : {d : ℕ} {k : TokenKind} {s : Span} {ts us : List Token} {type : TypeName} {malloc_word : MallocWord} {f : Failure}
@@ -205,7 +205,7 @@ mutual
         → IsCallocWord k calloc_word → SpellsAngled ts type us → IsLow (suc d) (type_reach type.base) → SpellsBinary 10 us count o (token kinds.Comma p ∷ vs)
         → IsLow (suc d) (expression_reach count)
         → SpellsBinary 10 vs size w rest → IsLow (suc d) (expression_reach size) → next_is close_paren rest ≡ false
-            → StuckPrimary d (token k s ∷ ts) (unexpected rest)
+        → StuckPrimary d (token k s ∷ ts) (unexpected rest)
 
   -- the arguments of a call behind its parenthesis, with the nodes around them
   pub data StuckArguments : ℕ → List Token → Failure → Type 0 where

@@ -144,13 +144,13 @@ pub data StuckItem : List Token → Failure → Type 0 where
       {parameters : Parameters} {function_kind : FunctionKind} {f : Failure} → SpellsKind tokens function_kind ts → SpellsOptionalMark ts optional_mark us
       → SpellsResult us result vs → IsLow 0 (result_reach result)
       → SpellsStars vs n (token (kinds.Name x) s ∷ token kinds.OpenParen p ∷ ws) → SpellsParameters ws parameters t xs → IsLow 0 (parameters_reach parameters)
-          → StuckOptionalBounds 0 xs f → StuckItem tokens f
+      → StuckOptionalBounds 0 xs f → StuckItem tokens f
   function_body : {n : ℕ} {x : List ℕ} {s t p w : Span} {ts us vs ws xs ys tokens : List Token} {written : Option Bounds} {optional_mark : Option Mark}
       {result : ResultForm} {parameters : Parameters} {function_kind : FunctionKind} {f : Failure} → SpellsKind tokens function_kind ts
       → SpellsOptionalMark ts optional_mark us → SpellsResult us result vs
       → IsLow 0 (result_reach result) → SpellsStars vs n (token (kinds.Name x) s ∷ token kinds.OpenParen p ∷ ws) → SpellsParameters ws parameters t xs
-          → IsLow 0 (parameters_reach parameters) → SpellsOptionalBounds (from_first tokens t) xs written w ys → IsLow 0 (optional_bounds_reach written)
-          → StuckBody ys f → StuckItem tokens f
+      → IsLow 0 (parameters_reach parameters) → SpellsOptionalBounds (from_first tokens t) xs written w ys → IsLow 0 (optional_bounds_reach written)
+      → StuckBody ys f → StuckItem tokens f
 
 pub data StuckItems : List Token → Failure → Type 0 where
   no_room : {ts : List Token} → StuckItems ts no_memory

@@ -281,7 +281,7 @@ mutual
         → d < 200 → SpellsForInitial ts initial us → IsLow (suc d) (for_initial_reach initial) → SpellsForCondition us optional vs
         → IsLow (suc d) (optional_expression_reach optional)
         → SpellsForStep vs step ws → IsLow (suc d) (optional_assignment_reach step) → StuckStatement (suc d) ws f
-            → StuckStatement d (token kinds.For s ∷ token kinds.OpenParen p ∷ ts) f
+        → StuckStatement d (token kinds.For s ∷ token kinds.OpenParen p ∷ ts) f
     return : {d : ℕ} {s : Span} {ts : List Token} {f : Failure} → d < 200 → StuckForCondition (suc d) ts f → StuckStatement d (token kinds.Return s ∷ ts) f
     break : {d : ℕ} {s : Span} {rest : List Token} → d < 200 → next_is semicolon rest ≡ false → StuckStatement d (token kinds.Break s ∷ rest) (unexpected rest)
     continue : {d : ℕ} {s : Span} {rest : List Token} → d < 200 → next_is semicolon rest ≡ false

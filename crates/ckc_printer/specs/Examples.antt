@@ -49,8 +49,12 @@ main_function = FunctionItem (record {
   body = Some (record {
     mark = None;
     statements =
-        Then (Declare (record { base = pointer_to_int; declarators = initialised (codes "p") (Unary AddressOf (name_of (codes "g")) here)
-            ∷ []; span = here }) here)
+        Then (Declare (record {
+          base = pointer_to_int;
+          declarators = initialised (codes "p") (Unary AddressOf (name_of (codes "g")) here)
+              ∷ [];
+          span = here;
+        }) here)
         (Then (Assign (Store Set (Unary Deref (name_of (codes "p")) here) (Number 41 here) here) here)
         (Then (Return (Some (Binary Add (name_of (codes "g")) (Number 1 here) here)) here) NoMore));
     span = here;

@@ -106,12 +106,12 @@ abbrev mutual
       One (cast_kind word) ∷ (angled_pieces type ++ One kinds.OpenParen ∷ (expression_pieces operand ++ One kinds.CloseParen ∷ []))
   expression_pieces (BoundedCast word type operand bounds span) =
       One (cast_kind word) ∷ (angled_pieces type ++ One kinds.OpenParen
-          ∷ (expression_pieces operand ++ One kinds.Comma ∷ (bounds_pieces bounds ++ One kinds.CloseParen ∷ [])))
+      ∷ (expression_pieces operand ++ One kinds.Comma ∷ (bounds_pieces bounds ++ One kinds.CloseParen ∷ [])))
   expression_pieces (Malloc word type size span) =
       One (malloc_kind word) ∷ (angled_pieces type ++ One kinds.OpenParen ∷ (expression_pieces size ++ One kinds.CloseParen ∷ []))
   expression_pieces (Calloc word type count size span) =
       One (calloc_kind word) ∷ (angled_pieces type ++ One kinds.OpenParen
-          ∷ (expression_pieces count ++ One kinds.Comma ∷ (expression_pieces size ++ One kinds.CloseParen ∷ [])))
+      ∷ (expression_pieces count ++ One kinds.Comma ∷ (expression_pieces size ++ One kinds.CloseParen ∷ [])))
   expression_pieces (Index base index span) =
       around (is_compound base) (expression_pieces base) ++ One kinds.OpenBracket ∷ (expression_pieces index ++ One kinds.CloseBracket ∷ [])
   expression_pieces (Dot base member span) = around (is_compound base) (expression_pieces base) ++ One kinds.Dot ∷ name_sign member ∷ []
@@ -136,7 +136,7 @@ abbrev mutual
   bounds_pieces (Unknown span) = One (kinds.Name (codes "bounds")) ∷ One kinds.OpenParen ∷ One (kinds.Name (codes "unknown")) ∷ One kinds.CloseParen ∷ []
   bounds_pieces (Range low high span) =
       One (kinds.Name (codes "bounds")) ∷ One kinds.OpenParen ∷ (expression_pieces low
-          ++ One kinds.Comma ∷ (expression_pieces high ++ One kinds.CloseParen ∷ []))
+      ++ One kinds.Comma ∷ (expression_pieces high ++ One kinds.CloseParen ∷ []))
 
 -- an operand or a base
 abbrev pub operand_pieces : Expression → List Sign

@@ -28,7 +28,7 @@ ended_member_pieces m = member_pieces m ++ One kinds.Semicolon ∷ []
 abbrev pub structure_pieces : Structure → List Sign
 structure_pieces s =
     tainted_pieces s.tainted ++ One kinds.Struct ∷ name_sign s.tag ∷ One kinds.OpenBrace
-        ∷ (flat_map ended_member_pieces s.members ++ One kinds.CloseBrace ∷ One kinds.Semicolon ∷ [])
+    ∷ (flat_map ended_member_pieces s.members ++ One kinds.CloseBrace ∷ One kinds.Semicolon ∷ [])
 
 abbrev pub global_pieces : Global → List Sign
 global_pieces g = tainted_pieces g.tainted ++ (type_pieces g.base ++ (with_commas declarator_pieces g.declarators ++ One kinds.Semicolon ∷ []))

@@ -109,7 +109,7 @@ optional_assignment_pieces (Some assignment) = assignment_pieces assignment
 abbrev pub for_head_pieces : ForInitial → Option Expression → Option Assignment → List Sign
 for_head_pieces initial condition step =
     One kinds.For ∷ One kinds.OpenParen ∷ (initial_pieces initial ++ One kinds.Semicolon
-        ∷ (optional_expression_pieces condition ++ One kinds.Semicolon ∷ (optional_assignment_pieces step ++ One kinds.CloseParen ∷ [])))
+    ∷ (optional_expression_pieces condition ++ One kinds.Semicolon ∷ (optional_assignment_pieces step ++ One kinds.CloseParen ∷ [])))
 
 -- the word of an if or a while, and the condition in parentheses
 abbrev pub tested_pieces : TokenKind → Expression → List Sign

@@ -69,8 +69,14 @@ bare_initializer (s.Value value) = s.Value (bare_expression value)
 bare_initializer (s.Constants constants span) = s.Constants (map bare_constant constants) nowhere
 
 abbrev pub bare_declarator : Declarator → Declarator
-bare_declarator d = record { stars = d.stars; name = bare_name d.name; array = option_map bare_array d.array; bounds = option_map bare_bounds d.bounds;
-    initializer = option_map bare_initializer d.initializer; span = nowhere }
+bare_declarator d = record {
+  stars = d.stars;
+  name = bare_name d.name;
+  array = option_map bare_array d.array;
+  bounds = option_map bare_bounds d.bounds;
+  initializer = option_map bare_initializer d.initializer;
+  span = nowhere;
+}
 
 abbrev pub bare_declaration : Declaration → Declaration
 bare_declaration d = record { base = bare_type d.base; declarators = map bare_declarator d.declarators; span = nowhere }
@@ -128,8 +134,17 @@ abbrev pub bare_body : Body → Body
 bare_body b = record { mark = b.mark; statements = bare_statements b.statements; span = nowhere }
 
 abbrev pub bare_function : Function → Function
-bare_function f = record { kind = f.kind; mark = f.mark; result = bare_result f.result; stars = f.stars; name = bare_name f.name;
-    parameters = bare_parameters f.parameters; bounds = option_map bare_bounds f.bounds; body = option_map bare_body f.body; span = nowhere }
+bare_function f = record {
+  kind = f.kind;
+  mark = f.mark;
+  result = bare_result f.result;
+  stars = f.stars;
+  name = bare_name f.name;
+  parameters = bare_parameters f.parameters;
+  bounds = option_map bare_bounds f.bounds;
+  body = option_map bare_body f.body;
+  span = nowhere;
+}
 
 abbrev pub bare_item : Item → Item
 bare_item (i.RegionItem region span) = i.RegionItem region nowhere

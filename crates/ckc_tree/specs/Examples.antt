@@ -22,8 +22,11 @@ difference left right = record {
     name = record { name = codes "main"; span = span 4 8 };
     parameters = VoidAlone;
     bounds = None;
-    body = Some (record { mark = None; statements = Then (Return (Some (Binary Subtract (Number 2 left) (Number 1 right) (span 24 29))) (span 17 30)) NoMore;
-        span = span 15 32 });
+    body = Some (record {
+      mark = None;
+      statements = Then (Return (Some (Binary Subtract (Number 2 left) (Number 1 right) (span 24 29))) (span 17 30)) NoMore;
+      span = span 15 32;
+    });
     span = span 0 32;
   }) ∷ [];
   span = span 0 32;

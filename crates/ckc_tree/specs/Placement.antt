@@ -182,7 +182,7 @@ ItemPlaced (i.GlobalItem global) = Holds global.span (type_span global.base ∷ 
     × AllByRecursion DeclaratorPlaced global.declarators
 ItemPlaced (i.FunctionItem function) =
     Holds function.span (result_span function.result ∷ function.name.span ∷ map member_span (listed function.parameters)
-        ++ optional bounds_span function.bounds ++ optional body_span function.body)
+    ++ optional bounds_span function.bounds ++ optional body_span function.body)
     × ResultPlaced function.result
     × AllByRecursion MemberPlaced (listed function.parameters)
     × OptionalPlaced BoundsPlaced function.bounds

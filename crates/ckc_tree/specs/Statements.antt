@@ -104,8 +104,14 @@ initializer (initializers.Value value) = Value (expression value.value)
 initializer (initializers.List constants span) = Constants constants.items span
 
 abbrev pub declarator : code.Declarator.Declarator → Declarator
-declarator d = record { stars = d.stars; name = d.name; array = d.array; bounds = option_map bounds d.bounds;
-    initializer = option_map initializer d.initializer; span = d.span }
+declarator d = record {
+  stars = d.stars;
+  name = d.name;
+  array = d.array;
+  bounds = option_map bounds d.bounds;
+  initializer = option_map initializer d.initializer;
+  span = d.span;
+}
 
 abbrev pub declaration : code.Declaration.Declaration → Declaration
 declaration d = record { base = type_tree d.base; declarators = map declarator d.declarators.items; span = d.span }

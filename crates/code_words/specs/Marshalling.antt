@@ -45,7 +45,7 @@ lie_in size pointer low high more = pointer == 0 || (int_lt high low || (int_le 
 abbrev pub region_lies : ℕ → List ℕ → ℕ → Region → Bool
 region_lies size words pointer r =
     lie_in size pointer (end_at (unwrap_or (slice_get words r.base) 0) r.size (added r.low_var words) r.low_plus)
-        (end_at (unwrap_or (slice_get words r.base) 0) r.size (added r.high_var words) r.high_plus) r.more
+    (end_at (unwrap_or (slice_get words r.base) 0) r.size (added r.high_var words) r.high_plus) r.more
 
 abbrev pub optional_region_lies : ℕ → List ℕ → ℕ → Option Region → Bool
 optional_region_lies size words pointer None = true
@@ -61,7 +61,7 @@ fault_from number size words [] left = None
 fault_from number size words (p ∷ params) [] = None
 fault_from number size words (p ∷ params) (w ∷ left) =
     fault_unless (fits_kind p.kind w) (TooLarge number) (fault_unless (optional_region_lies size words w p.region) (OutOfRange number)
-        (fault_from (suc number) size words params left))
+    (fault_from (suc number) size words params left))
 
 -- what is wrong with the words that the sandbox passes, if anything is
 abbrev pub arguments_fault : List Param → List ℕ → ℕ → Option Fault

@@ -72,7 +72,7 @@ abbrev pub call_back_if : Bool → Image → Settings → ℕ → Callback → L
 call_back_if false image settings k callback words s = Over (stopped_by_act S5 s.world) s
 call_back_if true image settings k callback words s =
     asked (spend_tick settings.budget s.world) s (λ _ t. asked (enter_call (depth t) t.world) t
-        (λ _ u. tested image k callback (arguments_fault callback.signature words (length u.world.sandbox)) words u))
+    (λ _ u. tested image k callback (arguments_fault callback.signature words (length u.world.sandbox)) words u))
 
 -- the sandbox calls a callback: the count of arguments (S5), the tick (S1), the depth (S2), the arguments (C9, C4)
 abbrev pub call_back : Image → Settings → ℕ → Option Callback → List ℕ → State → Step

@@ -145,8 +145,11 @@ call_function (Some fun) f s = pop_words fun.args f.stack (λ words stack. enter
 abbrev call_back : ℕ → Option Callback → Frame → State → Step
 call_back k None f s = stop s
 call_back k (Some callback) f s =
-    pop_words (length callback.signature) f.stack (λ words stack. Acts (Call k words) (record s { doing = Rests; held = CallsBack (behind f stack) k
-        ∷ s.held })) s
+    pop_words (length callback.signature) f.stack (λ words stack. Acts (Call k words) (record s {
+      doing = Rests;
+      held = CallsBack (behind f stack) k
+          ∷ s.held;
+    })) s
 
 -- pushes what came back, if something did
 abbrev push_result : Option Func → Option ℕ → Frame → State → Step

@@ -345,7 +345,7 @@ abbrev pub count_from : ℕ → Func → ℕ → ℕ → ℕ → List ℕ → Fr
 count_from zero fun budget address count stack f s = asked (spend_tick budget s.world) s (λ _ t. wild t)
 count_from (suc left) fun budget address count stack f s =
     asked (spend_tick budget s.world) s (λ _ t. by_byte (byte_at t address) (wild t) (push fun count stack f t)
-        (count_from left fun budget (address + 1) (count + 1) stack f t))
+    (count_from left fun budget (address + 1) (count + 1) stack f t))
 
 -- ---- jumps
 
@@ -425,10 +425,10 @@ act image settings fun (ops.Term high size place) f s =
     pop_5 f.stack (λ p i b h v stack. check (v == 0 || not (same_number (place_at p i size) (end_of b h high size))) C3 place stack f s) s
 act image settings fun (ops.Contain low1 high1 low2 high2 size place) f s =
     pop_6 f.stack (λ b1 l1 h1 b2 l2 h2 stack. peek stack (λ p. check (contains p (end_of b1 l1 low1 size) (end_of b1 h1 high1 size) (end_of b2 l2 low2 size)
-        (end_of b2 h2 high2 size)) C5 place stack f s) s) s
+    (end_of b2 h2 high2 size)) C5 place stack f s) s) s
 act image settings fun (ops.Lies low high size more place) f s =
     pop_3 f.stack (λ b l h stack. peek stack (λ p. check (lie_in (length s.world.sandbox) p (end_of b l low size)
-        (end_of b h high size) more) C5 place stack f s) s) s
+    (end_of b h high size) more) C5 place stack f s) s) s
 act image settings fun (ops.Range offset len place) f s = peek f.stack (λ w. check (nat_le (w + offset + len) (length s.world.sandbox)) C4 place f.stack f s) s
 act image settings fun ops.Load1 f s = pop f.stack (λ address stack. load fun 1 address stack f s) s
 act image settings fun ops.Load4 f s = pop f.stack (λ address stack. load fun 4 address stack f s) s

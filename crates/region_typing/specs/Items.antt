@@ -61,7 +61,7 @@ abbrev pub one_variable : Places → Walk → TypeTree → CType → Span → De
 one_variable at w base type span d =
     passing (room_for w base span d) (λ taken. passing (without_stars base d.stars type) (λ t.
     passing (judged_initializer at (with_variable d.name.name t w.scope) d.initializer)
-        (λ initial. Passes (with_one d.name.name t taken w, record { type = t; initial = initial }))))
+    (λ initial. Passes (with_one d.name.name t taken w, record { type = t; initial = initial }))))
 
 -- the variables of a declaration
 abbrev pub judged_variables : Places → TypeTree → CType → Span → List Declarator → Walk × List JudgedVariable → Verdict (Walk × List JudgedVariable)
@@ -94,4 +94,4 @@ abbrev pub behind_declaration : Places → List i.Item → Walk → i.Function �
 behind_declaration at all w d x =
     passing (function_body at (record w { scope = with_function (function_named w.scope.functions x.0.name) x.0 w.scope }) x.0 x.1 d.body) (λ v.
     passing (kept_rules all d (agrees (function_named w.scope.functions x.0.name) x.0
-        && (all_scalar x.0.parameters && scalar_result x.0.result)) v.scope) (λ u. Passes v))
+    && (all_scalar x.0.parameters && scalar_result x.0.result)) v.scope) (λ u. Passes v))

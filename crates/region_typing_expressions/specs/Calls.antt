@@ -42,7 +42,7 @@ call_statement false number site arguments = core.CallAlone number arguments
 abbrev pub converted_call : Scope → Signature → List (Typed × Span) → Site → Verdict Called
 converted_call s f arguments site =
     passing (arguments_as arguments f.parameters) (λ values. Passes (call_of (is_import f)
-        (side_number (is_import f) s.functions f.name 0) f.result site values))
+    (side_number (is_import f) s.functions f.name 0) f.result site values))
 
 -- what a name stands for, as an expression
 abbrev pub name_verdict : Scope → List ℕ → Verdict Typed

@@ -64,8 +64,12 @@ main_function = i.FunctionItem (record {
   body = Some (record {
     mark = None;
     statements =
-        s.Then (s.Declare (record { base = pointer_to_int; declarators = initialised (codes "p") (e.Unary unary.AddressOf (name_of (codes "g")) here)
-            ∷ []; span = here }) here)
+        s.Then (s.Declare (record {
+          base = pointer_to_int;
+          declarators = initialised (codes "p") (e.Unary unary.AddressOf (name_of (codes "g")) here)
+              ∷ [];
+          span = here;
+        }) here)
         (s.Then (s.Assign (s.Store stores.Set (e.Unary unary.Deref (name_of (codes "p")) here) (e.Number 41 here) here) here)
         (s.Then (s.Return (Some (e.Binary binary.Add (name_of (codes "g")) (e.Number 1 here) here)) here) s.NoMore));
     span = here;
@@ -106,7 +110,7 @@ first_run =
         result = Some Int;
         body =
             core.Then (core.Block (core.Then (core.Block (core.Then (core.SetLocal 0 core.Null)
-                (core.Then (core.SetLocal 0 (core.AddressOf 0 0 0)) core.NoMore))) (core.Then core.Nothing core.NoMore)))
+            (core.Then (core.SetLocal 0 (core.AddressOf 0 0 0)) core.NoMore))) (core.Then core.Nothing core.NoMore)))
             (core.Then (core.Store Int (core.Through (core.Local 0) 0 0 place) (core.Number (pos 41)))
             (core.Then (core.Return (core.Arithmetic operators.Add (core.Load Int (core.Direct 0 0 0)) (core.Number (pos 1)) place)) core.NoMore));
       } ∷ [];

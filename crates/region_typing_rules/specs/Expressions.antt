@@ -317,7 +317,7 @@ declared_call s f arguments site span =
     needs (length f.parameters == length arguments) E14 span
     (crossing (is_import f) arguments
     (passing (arguments_as arguments f.parameters) (λ values. Passes (call_of (is_import f)
-        (side_number (is_import f) s.functions f.name 0) f.result site values))))
+    (side_number (is_import f) s.functions f.name 0) f.result site values))))
 
 abbrev pub first_of : (core.Expression → core.Statement) → core.Arguments → core.Statement
 first_of of core.Done = core.Nothing

@@ -193,7 +193,7 @@ variables at w base type span (d ∷ ds) done =
     passing (without_stars base d.stars type) (λ t.
     passing (initializer at (with_variable d.name.name t w.scope) d.initializer) (λ initial.
     variables at (record w { scope = with_variable d.name.name t w.scope; taken = taken }) base type span ds (done
-        ++ record { type = t; initial = initial } ∷ []))))
+    ++ record { type = t; initial = initial } ∷ []))))
 
 -- whether there is room for the first variable is asked before the type that all share is walked
 abbrev pub room_for_first : Walk → i.Global → List Declarator → Verdict ℕ

@@ -187,7 +187,7 @@ abbrev mutual
       passing (condition at g test) (λ c. passing (statement at g consequent) (λ x. Passes (core.If c x.0 core.Nothing, behind_block g x.1)))
   statement at g (s.IfElse test consequent alternative span) =
       passing (condition at g test) (λ c. passing (statement at g consequent)
-          (λ x. passing (statement at (behind_block g x.1) alternative) (λ y. Passes (core.If c x.0 y.0, behind_block g y.1))))
+      (λ x. passing (statement at (behind_block g x.1) alternative) (λ y. Passes (core.If c x.0 y.0, behind_block g y.1))))
   statement at g (s.While test body span) =
       passing (condition at g test) (λ c. passing (statement at (in_loop g) body) (λ x. Passes (core.Loop c x.0 core.Nothing, behind_block g x.1)))
   statement at g (s.For initial test step body span) =

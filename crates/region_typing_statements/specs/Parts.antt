@@ -39,7 +39,7 @@ otherwise at b alternative = passing (nested at b.1 b.1.in_loop alternative) (λ
 abbrev pub turns : Places → Scope → Statement → Option Expression → Option Assignment → Verdict (core.Statement × Scope)
 turns at g body test step =
     passing (optional_condition at g test) (λ c. passing (nested at g true body)
-        (λ x. passing (optional_step at x.1 step) (λ y. Passes (core.Loop c x.0 y, x.1))))
+    (λ x. passing (optional_step at x.1 step) (λ y. Passes (core.Loop c x.0 y, x.1))))
 
 -- a loop with a condition alone, and one with a head
 abbrev pub while_loop : Places → Scope → Expression → Statement → Verdict (core.Statement × Scope)

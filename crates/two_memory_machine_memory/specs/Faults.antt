@@ -26,7 +26,7 @@ ending_unless false ending later = Some ending
 abbrev pub param_ending : ℕ → List ℕ → ℕ → Param → Option Ending
 param_ending size words word p =
     ending_unless (fits_kind p.kind word) (endings.Check C9 p.place) (ending_unless (optional_region_lies size words word p.region)
-        (endings.Check C4 p.place) None)
+    (endings.Check C4 p.place) None)
 
 -- how the first word from a parameter on ends the run that doesn't fit its parameter
 abbrev pub ending_from : List Param → List ℕ → ℕ → ℕ → Option Ending

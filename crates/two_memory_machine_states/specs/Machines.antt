@@ -90,13 +90,26 @@ inputs_in (Suspended import place) inputs = inputs
 -- the machine's world where these acts and these input numbers are left, and these events happened, none of which it keeps
 abbrev pub world_of : Machine → List Act → List ℤ → List World.Event → World
 world_of m acts inputs events =
-    record { sandbox = m.sandbox; room = m.room; turn = turn_of m.doing; acts = acts; taken = m.taken; inputs = inputs_in m.doing inputs; ticks = m.ticks;
-        events = events }
+    record {
+      sandbox = m.sandbox;
+      room = m.room;
+      turn = turn_of m.doing;
+      acts = acts;
+      taken = m.taken;
+      inputs = inputs_in m.doing inputs;
+      ticks = m.ticks;
+      events = events;
+    }
 
 abbrev pub state_of : Machine → List Act → List ℤ → List World.Event → State
 state_of m acts inputs events =
-    record { memory = m.memory; blocks = m.blocks; control = control_of m.doing m.frame; callers = callers_in m.doing m.frame m.callers;
-        world = world_of m acts inputs events }
+    record {
+      memory = m.memory;
+      blocks = m.blocks;
+      control = control_of m.doing m.frame;
+      callers = callers_in m.doing m.frame m.callers;
+      world = world_of m acts inputs events;
+    }
 
 -- a machine that has made no move
 pub record IsStart (image : Image) (settings : Settings) (m : Machine) : Type 0 where
@@ -192,7 +205,7 @@ Gives Tells acts inputs events (Goes s) old event new =
     (s ≡ state_of new acts inputs (told_behind event events)) × Tells event new.doing × (new.over ≡ None) × IsOfSame old new
 Gives Tells acts inputs events (Over ending s) old event new =
     (event ≡ Ended ending) × (new.over ≡ Some ending) × (s.memory ≡ new.memory) × (s.blocks ≡ new.blocks) × (s.world ≡ world_of new acts inputs events)
-        × IsOfSame old new
+    × IsOfSame old new
 
 -- the instruction that is next takes an input number, and none was given yet
 abbrev pub waits_for_number : Doing → Option Op → Bool

@@ -37,7 +37,7 @@ Brings acts inputs events (Goes s) old outcome new =
     (s ≡ state_of new acts inputs events) × IsLeft outcome new.doing × (new.over ≡ None) × IsOfSame old new
 Brings acts inputs events (Over ending s) old outcome new =
     (outcome ≡ outcomes.Ended) × (new.over ≡ Some ending) × (s.memory ≡ new.memory) × (s.blocks ≡ new.blocks) × (s.world ≡ world_of new acts inputs events)
-        × IsOfSame old new
+    × IsOfSame old new
 
 -- the step goes as a line of the table, whichever acts and inputs are left and whatever came before
 abbrev pub GoesBy : (State → Step) → Machine → Outcome → Machine → Type 0
