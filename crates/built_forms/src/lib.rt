@@ -3,4 +3,5 @@
 
 pub mod expressions;
 pub mod items;
+pub mod laws;
 pub mod statements;

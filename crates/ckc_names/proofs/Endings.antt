@@ -5,9 +5,11 @@ use Rattle.ckc_text.specs.declared.fault.Refused.TheVariants.{Source, NoMemory}
 use Rattle.ckc_text.specs.declared.code.Code.TheVariants.{E28}
 use Rattle.ckc_text.specs.declared.fault.SourceFault.{SourceFault}
 use Rattle.ckc_tree.specs.Items.{Tree}
+use Rattle.ckc_tree.specs.Numbers.{numbered}
+use Rattle.ckc_names_rules.specs.Given.{number_in}
 use Rattle.ckc_names_rules.specs.Mentions.{Mention, Open, tree_mentions}
 use Rattle.ckc_names_rules.specs.Scopes.{Scopes, mentioned, then_mentioned, all_mentioned, at_file_level}
-use Rattle.ckc_names_rules.specs.Naming.{name_in, with_all, names_seen, has_main, start, need_main, names_if, naming_fault_in, NamedTree, Names}
+use Rattle.ckc_names_rules.specs.Naming.{name_in, with_all, names_seen, has_main, start, need_main, names_if, naming_fault_in, names_of, NamedTree, Names}
 use Rattle.ckc_names.specs.State.{State}
 use Rattle.ckc_names.specs.Progress.{Progress, Passes, Finishes, beginning, after, known_behind}
 
@@ -24,9 +26,6 @@ after_is (m ∷ ms) s = by (mentioned m s.scopes) (λ u. after_is ms (record { s
         → after ms (known_behind (with_all (name_in m) s.names) q) ≡ known_behind (names_seen ms (with_all (name_in m) s.names)) (then_mentioned q (all_mentioned ms))
     by (Ok u) rest = rest u
     by (Err f) rest = after_fault ms f
-
-abbrev names_of : Tree → List (List ℕ)
-names_of t = names_seen (tree_mentions t) []
 
 abbrev visible_in : Tree → Result Scopes SourceFault
 visible_in t = all_mentioned (tree_mentions t) at_file_level
@@ -56,11 +55,11 @@ found : (t : Tree) (a b : Progress) (names : List (List ℕ)) → Passes (Open �
 found t a b names opens goes ends = all_found (names_of t) names ends.1.0 (visible_in t) (sym ends.1.1 ∙ whole_walk t a b opens goes ends.0)
 
 -- where the walk finds none, the names are those of the program, if it has a `main`
-pub main_names : (t : Tree) (a b : Progress) (names : List (List ℕ)) → Passes (Open ∷ []) beginning a → Passes (tree_mentions t) a b → Finishes b (Ok names) → Names (λ names. record { tree = t; names = names }) t (names_if (has_main t) names)
+pub main_names : (t : Tree) (a b : Progress) (names : List (List ℕ)) → Passes (Open ∷ []) beginning a → Passes (tree_mentions t) a b → Finishes b (Ok names) → Names (λ names. record { tree = numbered (number_in names) t; names = names }) t (names_if (has_main t) names)
 main_names t a b names opens goes ends = by (has_main t) refl (found t a b names opens goes ends)
   where
-    by : (main : Bool) → has_main t ≡ main → (visible_in t ≡ Ok ends.1.0) × (names ≡ names_of t) → Names (λ names. record { tree = t; names = names }) t (names_if main names)
-    by true is all = (ap (λ m. naming_fault_in m (visible_in t)) is ∙ ap (naming_fault_in true) all.0, ap (λ (names : List (List ℕ)). record { tree = t; names = names }) all.1)
+    by : (main : Bool) → has_main t ≡ main → (visible_in t ≡ Ok ends.1.0) × (names ≡ names_of t) → Names (λ names. record { tree = numbered (number_in names) t; names = names }) t (names_if main names)
+    by true is all = (ap (λ m. naming_fault_in m (visible_in t)) is ∙ ap (naming_fault_in true) all.0, ap (λ (names : List (List ℕ)). record { tree = numbered (number_in names) t; names = names }) all.1)
     by false is all = ap (λ m. naming_fault_in m (visible_in t)) is ∙ ap (naming_fault_in false) all.0
 
 -- ---- `main`

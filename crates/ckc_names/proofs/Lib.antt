@@ -5,3 +5,4 @@ pub mod Endings
 pub mod Names
 pub mod Tables
 pub mod Shown
+pub mod Numbered

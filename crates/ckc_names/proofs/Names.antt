@@ -1,9 +1,10 @@
 -- Names in a list, as the keys of a set hold them.
-use Rattle.std.proofs.Common.{◌≡◌, ℕ, zero, suc, ◌+◌, ◌<◌, Bool, true, false, not, ◌||◌, cond, if◌then◌else◌, nat_lt, position, is_some, bytes_eq, List, [], ◌∷◌, ◌++◌, length, slice_get, Vec, Global, Some, None, refl, sym, ap, ◌∙◌, true≢false, arith}
+use Rattle.std.proofs.Common.{◌≡◌, ℕ, zero, suc, ◌+◌, ◌<◌, ◌≤◌, Bool, true, false, not, ◌||◌, cond, if◌then◌else◌, nat_lt, position, is_some, bytes_eq, List, [], ◌∷◌, ◌++◌, length, slice_get, Vec, Global, Some, None, refl, sym, ap, ◌∙◌, true≢false, arith}
 use Rattle.std.specs.List.{position_or_len, list_any, AllByRecursion, IsDistinct}
 use Rattle.std.proofs.lemmas.List.{length-map, map-append}
 use Rattle.std.proofs.lemmas.List.Quantifiers.{position-Some}
 use Rattle.std.proofs.lemmas.Slice.Eq.{bytes_eq-Decides}
+use Rattle.std.proofs.lemmas.Bool.{ltb-false}
 use Rattle.std.proofs.lemmas.Bool.Decides.{nat_tests}
 use Rattle.ckc_names_rules.specs.Scopes.{is_among}
 use Rattle.ckc_names_rules.specs.Naming.{with_new}
@@ -44,6 +45,34 @@ place_in p (v ∷ keys) = ap (λ (n : ℕ). cond (not (p v.items)) (1 + n) 0) (p
 
 position_in : (p : List ℕ → Bool) (keys : List (Vec ℕ Global)) → position (λ v. p v.items) keys ≡ position p (names_in keys)
 position_in p keys = rw (place_in p keys, length-map keys (λ v. v.items)) refl
+
+some_place : (b : Bool) (k n : ℕ) → cond b (Some k) None ≡ Some n → n ≡ k
+some_place true k n is = let same : k ≡ n = cc in sym same
+some_place false k n is = absurd (cc)
+
+-- the number that a set finds, or that behind its last
+pub found_number : (name : List ℕ) (keys : List (Vec ℕ Global)) (number : ℕ) → position (λ v. bytes_eq name v.items) keys ≡ Some number → number ≡ position_or_len (bytes_eq name) (names_in keys)
+found_number name keys number found =
+    some_place (nat_lt (position_or_len (λ v. bytes_eq name v.items) keys) (length keys)) (position_or_len (λ v. bytes_eq name v.items) keys) number found ∙ place_in (bytes_eq name) keys
+
+none_place : (b : Bool) (k : ℕ) → cond b (Some k) None ≡ None → b ≡ false
+none_place true k is = absurd (cc)
+none_place false k is = refl
+
+place_or_end : {X : Type 0} (p : X → Bool) (xs : List X) → position_or_len p xs ≤ length xs
+place_or_end p [] = omega arith
+place_or_end p (x ∷ xs) = by (p x) (place_or_end p xs)
+  where
+    by : (b : Bool) → position_or_len p xs ≤ length xs → cond (not b) (1 + position_or_len p xs) 0 ≤ suc (length xs)
+    by true rest = omega arith
+    by false rest = omega arith
+
+pub end_number : (name : List ℕ) (keys : List (Vec ℕ Global)) → position (λ v. bytes_eq name v.items) keys ≡ None → length keys ≡ position_or_len (bytes_eq name) (names_in keys)
+end_number name keys none =
+    let p : Vec ℕ Global → Bool = λ v. bytes_eq name v.items in
+    let past = ltb-false (position_or_len p keys) (length keys) (none_place (nat_lt (position_or_len p keys) (length keys)) (position_or_len p keys) none) in
+    let last : length keys ≡ position_or_len p keys = omega (arith, past, place_or_end p keys) in
+    last ∙ place_in (bytes_eq name) keys
 
 pub number_in : (name : List ℕ) (keys : List (Vec ℕ Global)) (number : ℕ) → position (λ v. bytes_eq name v.items) keys ≡ Some number → name_at (names_in keys) number ≡ name
 number_in name keys number found =

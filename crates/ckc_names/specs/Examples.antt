@@ -10,7 +10,7 @@ use Rattle.ckc_names_rules.specs.Naming.{names_seen}
 
 -- a name at a place
 abbrev pub named : List ℕ → ℕ → Identifier
-named name at = record { name = name; span = record { from = at; to = at } }
+named name at = record { name = name; number = 0; span = record { from = at; to = at } }
 
 abbrev pub a : ℕ → Identifier
 a at = named (codes "a") at

@@ -7,6 +7,7 @@ ghost use Rattle.ckc_tree.specs.Items.{result_form as result_of, parameters as p
 ghost use Rattle.ckc_names_rules.specs.Naming as naming;
 
 use crate::name_list::NameList;
+use ckc_names_rules::given::MAIN;
 use ckc_names_rules::refusals::need_main;
 use ckc_text::fault::Refused;
 use ckc_tree::item::{Function, FunctionKind, Item, Parameters, Program, ResultForm};
@@ -37,7 +38,7 @@ fn is_main_function(written: &Function) -> bool
     matches!(written.kind, FunctionKind::Trusted)
         && is_int(&written.result)
         && written.stars == 0
-        && written.name.name.as_bytes() == b"main".as_slice()
+        && written.name.name.as_bytes() == MAIN.as_slice()
         && takes_nothing(&written.parameters)
         && written.body.is_some()
 }

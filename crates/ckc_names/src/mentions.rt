@@ -2,11 +2,13 @@
 
 ghost use Rattle.std.specs.Prelude.{◌≡◌, ◌||◌, ◌<◌, ◌∷◌, [], length, bytes_eq, Ok};
 ghost use Rattle.ckc_names_rules.specs.Mentions as m;
+ghost use Rattle.ckc_names_rules.specs.Given as given;
 ghost use Rattle.ckc_names_rules.specs.Scopes as scopes;
 ghost use Rattle.ckc_names.specs.NameLists.{name_at};
 ghost use Rattle.ckc_names.specs.State.{Goes};
 
 use crate::table::Table;
+use ckc_names_rules::given::{NEXT_INPUT, NULL, PRINT_INT, PUTCHAR, STRLEN};
 use ckc_names_rules::meaning::{
     Meaning, is_function, is_taken, is_taken_for, is_value, was_defined,
 };
@@ -20,16 +22,16 @@ use ckc_tree::identifier::Identifier;
 fn is_predefined(name: &[u8]) -> bool
     ensures { result ≡ scopes.is_among scopes.predefined name.now }
 {
-    name == b"next_input".as_slice()
-        || name == b"print_int".as_slice()
-        || name == b"putchar".as_slice()
-        || name == b"strlen".as_slice()
+    name == NEXT_INPUT.as_slice()
+        || name == PRINT_INT.as_slice()
+        || name == PUTCHAR.as_slice()
+        || name == STRLEN.as_slice()
 }
 
 fn is_null(name: &[u8]) -> bool
-    ensures { result ≡ bytes_eq name.now scopes.null }
+    ensures { result ≡ bytes_eq name.now given.null }
 {
-    name == b"NULL".as_slice()
+    name == NULL.as_slice()
 }
 
 fn is_reserved(name: &[u8]) -> bool

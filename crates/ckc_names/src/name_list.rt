@@ -2,6 +2,7 @@
 
 ghost use Rattle.std.specs.Prelude.{◌≡◌, ◌<◌, ◌++◌, ◌∷◌, [], length, IfOk, OnOk, OnErr};
 ghost use Rattle.ckc_names_rules.specs.Scopes.{is_among};
+ghost use Rattle.ckc_names_rules.specs.Given.{number_in};
 ghost use Rattle.ckc_names_rules.specs.Naming.{with_new};
 ghost use Rattle.ckc_names.specs.NameLists.{name_at, Distinct};
 
@@ -53,6 +54,16 @@ impl NameList {
         ensures { result.now ≡ name_at self.now number }
     {
         self.names[number].as_slice()
+    }
+
+    /// The number of a name; a name that isn't in the list has that behind the last.
+    pub(crate) fn find(&self, name: &[u8]) -> usize
+        ensures { result ≡ number_in self.now name.now }
+    {
+        match self.names.get_index_of(name) {
+            Some(number) => number,
+            None => self.names.len(),
+        }
     }
 
     /// Whether a name is in the list.

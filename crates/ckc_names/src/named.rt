@@ -1,18 +1,24 @@
-// A program in which each name is visible where it stands.
+// A program in which each name is visible where it stands, and has a number.
 
-ghost use Rattle.std.specs.Prelude.{◌≡◌, None};
+ghost use Rattle.std.specs.Prelude.{◌≡◌};
 ghost use Rattle.ckc_tree.specs.Items.{tree};
-ghost use Rattle.ckc_names_rules.specs.Naming.{naming_fault};
+ghost use Rattle.ckc_names_rules.specs.Given.{given_in};
+ghost use Rattle.ckc_names_rules.specs.Naming.{IsNamed};
+ghost use Rattle.ckc_names.specs.Named.{named_tree};
 
+use crate::given_names::given_names;
 use crate::name_list::NameList;
+use ckc_names_rules::given::Given;
 use ckc_tree::item::Program;
 use std::marker::Model;
 
-/// A program in which each name is visible where it stands and none stands twice, with its names.
+/// A program in which each name is visible where it stands and none stands twice, with its names. Each name has its number,
+/// which is its place in the list of these.
 #[derive(Drop)]
 pub struct Named {
     program: Program,
     names: NameList,
+    given: Given,
 }
 
 impl Model for Named {
@@ -26,26 +32,29 @@ impl Model for Named {
 
     ghost view = { λ a. record { program = a.program; names = a.names } };
 
-    ghost use Rattle.std.specs.Prelude.{◌≡◌, None};
-    ghost use Rattle.ckc_tree.specs.Items.{tree};
-    ghost use Rattle.ckc_names_rules.specs.Naming.{naming_fault};
+    ghost use Rattle.ckc_names.specs.Named.{IsNamedProgram};
 
-    ghost invariant = { λ a. naming_fault (tree a.program) ≡ None };
+    ghost invariant = { λ a. IsNamedProgram a.program a.names a.given };
 }
 
 impl Named {
     /// The program with its names, with which nothing is wrong.
     pub(crate) fn new(program: Program, names: NameList) -> Named
-        requires { naming_fault (tree program) ≡ None }
+        requires { IsNamed (named_tree (record { program = program; names = names })) }
         ensures { result ≡ record { program = program; names = names } }
     {
-        Named { program, names }
+        let given = given_names(&names);
+        Named {
+            program,
+            names,
+            given,
+        }
     }
 
-    /// The program.
+    /// The program, whose names have numbers.
     pub fn program(&self) -> &Program
         ensures value { result.now ≡ self.now.program }
-        ensures named { naming_fault (tree result.now) ≡ None }
+        ensures named { IsNamed (record { tree = tree result.now; names = self.now.names }) }
     {
         &self.program
     }
@@ -55,5 +64,12 @@ impl Named {
         ensures { result.now ≡ self.now.names }
     {
         &self.names
+    }
+
+    /// The numbers of the names that have a meaning in every program.
+    pub fn given(&self) -> Given
+        ensures { result ≡ given_in self.now.names }
+    {
+        self.given
     }
 }

@@ -1,5 +1,5 @@
 -- What naming a program answers.
-use Rattle.std.specs.Prelude.{◌≡◌, ℕ, Bool, true, false, ◌&&◌, ◌==◌, bytes_eq, codes, List, [], ◌∷◌, ◌++◌, Option, Some, None, Result, Ok, Err, is_some}
+use Rattle.std.specs.Prelude.{◌≡◌, ℕ, Bool, true, false, ◌&&◌, ◌==◌, bytes_eq, List, [], ◌∷◌, ◌++◌, Option, Some, None, Result, Ok, Err, is_some}
 use Rattle.std.specs.List.{list_any}
 use Rattle.ckc_text.specs.declared.code.Code.TheVariants.{E28}
 use Rattle.ckc_text.specs.declared.fault.Refused.{Refused}
@@ -11,6 +11,8 @@ use Rattle.ckc_tree.specs.declared.item.FunctionKind.TheVariants as kinds
 use Rattle.ckc_tree.specs.Types.{TypeTree, IntType, CharType, StructType, PointerType}
 use Rattle.ckc_tree.specs.Items as i
 use Rattle.ckc_tree.specs.Items.{ResultForm, Parameters, Function, Item, Tree}
+use Rattle.ckc_tree.specs.Numbers.{numbered}
+use Rattle.ckc_names_rules.specs.Given.{main, number_in}
 use Rattle.ckc_names_rules.specs.Mentions.{Mention, Open, Close, Reveal, Declare, DeclareFunction, DeclareTag, Use, Call, UseTag, Select, tree_mentions}
 use Rattle.ckc_names_rules.specs.Scopes.{Scopes, at_file_level, all_mentioned, is_among}
 
@@ -38,7 +40,7 @@ takes_nothing (i.Listed parameters) = false
 -- a trusted `int main(void)` with a body
 abbrev pub is_main_function : Function → Bool
 is_main_function f =
-    is_trusted f.kind && (is_int f.result && (f.stars == 0 && (bytes_eq f.name.name (codes "main") && (takes_nothing f.parameters && is_some f.body))))
+    is_trusted f.kind && (is_int f.result && (f.stars == 0 && (bytes_eq f.name.name main && (takes_nothing f.parameters && is_some f.body))))
 
 abbrev pub is_main : Item → Bool
 is_main (i.RegionItem region span) = false
@@ -100,22 +102,32 @@ names_if false names = Err (Source (record { code = E28; span = start }))
 -- what is wrong with the names of a program: the first name that isn't visible where it stands or stands twice, else that
 -- there is no `main`
 abbrev pub naming_fault_in : Bool → Result Scopes SourceFault → Option SourceFault
-naming_fault_in main (Ok s) = main_or_fault main
-naming_fault_in main (Err f) = Some f
+naming_fault_in found (Ok s) = main_or_fault found
+naming_fault_in found (Err f) = Some f
 
 abbrev pub naming_fault : Tree → Option SourceFault
 naming_fault t = naming_fault_in (has_main t) (all_mentioned (tree_mentions t) at_file_level)
 
--- a named program: its tree, and its names in the order in which they were seen first
+-- a named program: its tree, in which each name has its number, and its names in the order in which they were seen first
 pub record NamedTree : Type 0 where
   pub tree : Tree
   pub names : List (List ℕ)
 
+-- the names of a program
+abbrev pub names_of : Tree → List (List ℕ)
+names_of t = names_seen (tree_mentions t) []
+
 abbrev pub named_of : Tree → NamedTree
-named_of t = record { tree = t; names = names_seen (tree_mentions t) [] }
+named_of t = record { tree = numbered (number_in (names_of t)) t; names = names_of t }
 
 -- what naming answers: the named tree exactly where nothing is wrong with its names, and else the fault
 abbrev pub Names : {N : Type 0} → (N → NamedTree) → Tree → Result N Refused → Type 0
 Names view t (Ok named) = (naming_fault t ≡ None) × (view named ≡ named_of t)
 Names view t (Err (Source f)) = naming_fault t ≡ Some f
 Names view t (Err NoMemory) = Unit {0}
+
+-- this is what naming answers for a program with whose names nothing is wrong
+pub record IsNamed (n : NamedTree) : Type 0 where
+  pub source : Tree
+  pub fine : naming_fault source ≡ None
+  pub named : n ≡ named_of source

@@ -1,9 +1,10 @@
 -- Which names are visible: those of the open blocks, the innermost first, and the tags of structs.
-use Rattle.std.specs.Prelude.{ℕ, Bool, true, false, ◌||◌, ◌&&◌, bytes_eq, codes, List, [], ◌∷◌, Option, Some, None, Result, Ok, Err, position, is_some, is_none}
+use Rattle.std.specs.Prelude.{ℕ, Bool, true, false, ◌||◌, ◌&&◌, bytes_eq, List, [], ◌∷◌, Option, Some, None, Result, Ok, Err, position, is_some, is_none}
 use Rattle.ckc_text.specs.declared.code.Code.{Code}
 use Rattle.ckc_text.specs.declared.code.Code.TheVariants.{E10, E11}
 use Rattle.ckc_text.specs.declared.fault.SourceFault.{SourceFault}
 use Rattle.ckc_tree.specs.declared.identifier.Identifier.{Identifier}
+use Rattle.ckc_names_rules.specs.Given.{null, next_input, print_int, putchar, strlen}
 use Rattle.ckc_names_rules.specs.Mentions.{Mention, Open, Close, Reveal, Declare, DeclareFunction, DeclareTag, Use, Call, UseTag, Select}
 
 -- what a name stands for
@@ -54,10 +55,7 @@ is_among names name = is_some (position (bytes_eq name) names)
 
 -- the functions that every program has
 abbrev pub predefined : List (List ℕ)
-predefined = codes "next_input" ∷ codes "print_int" ∷ codes "putchar" ∷ codes "strlen" ∷ []
-
-abbrev pub null : List ℕ
-null = codes "NULL"
+predefined = next_input ∷ print_int ∷ putchar ∷ strlen ∷ []
 
 -- `NULL` and the predefined functions can't be declared as anything
 abbrev pub is_reserved : List ℕ → Bool

@@ -37,7 +37,7 @@ join first last = record { from = first.from; to = last.to }
 
 -- a name with its span
 abbrev pub identifier : List ℕ → Span → Identifier
-identifier name span = record { name = name; span = span }
+identifier name span = record { name = name; number = 0; span = span }
 
 -- where the tokens start
 abbrev pub start_of : List Token → ℕ

@@ -1,3 +1,5 @@
 pub mod SameHeights
+pub mod NumberedHeights
+pub mod NumberedWeights
 mod Rows
 mod Decided

@@ -1,5 +1,5 @@
--- Trees without their places: each span is put to the start of the source. Two trees are the same but for their spans
--- where these are equal.
+-- Trees without places and numbers: each span is put to the start of the source, and each number of a name to 0. Two trees are
+-- the same but for their spans, and for numbers, where these are equal.
 use Rattle.std.specs.Prelude.{◌≡◌, map}
 use Rattle.std.specs.Option.{option_map}
 use Rattle.ckc_text.specs.declared.place.Span.{Span}
@@ -18,7 +18,7 @@ abbrev nowhere : Span
 nowhere = record { from = 0; to = 0 }
 
 abbrev pub bare_name : Identifier → Identifier
-bare_name name = record { name = name.name; span = nowhere }
+bare_name name = record { name = name.name; number = 0; span = nowhere }
 
 abbrev pub bare_type : TypeTree → TypeTree
 bare_type (IntType span) = IntType nowhere

@@ -19,7 +19,7 @@ difference left right = record {
     mark = None;
     result = Value (IntType (span 0 3));
     stars = 0;
-    name = record { name = codes "main"; span = span 4 8 };
+    name = record { name = codes "main"; number = 0; span = span 4 8 };
     parameters = VoidAlone;
     bounds = None;
     body = Some (record {

@@ -5,6 +5,7 @@ pub mod Items
 pub mod Heights
 pub mod Weights
 pub mod Bare
+pub mod Numbers
 pub mod Placement
 pub mod Examples
 pub mod Walks

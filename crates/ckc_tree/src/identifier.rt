@@ -3,9 +3,11 @@
 use ckc_text::name::Name;
 use ckc_text::place::Span;
 
-/// A name and the bytes that it stands on.
+/// A name, its number among the names of its program, and the bytes that it stands on. Before a program is named, its names
+/// have the number 0.
 #[derive(Drop)]
 pub struct Identifier {
     pub name: Name,
+    pub number: usize,
     pub span: Span,
 }

@@ -5,6 +5,7 @@ ghost use Rattle.ckc_tree.specs.Items.{Tree};
 ghost use Rattle.ckc_tree.specs.Heights.{height};
 ghost use Rattle.ckc_tree.specs.Weights.{tree_weight};
 ghost use Rattle.ckc_tree.specs.Bare.{SameTree};
+ghost use Rattle.ckc_tree.specs.Numbers.{Numbers, numbered};
 ghost use Rattle.ckc_tree.specs.Placement.{IsPlaced};
 ghost use Rattle.ckc_tree.specs.Examples.{span, difference};
 
@@ -25,4 +26,10 @@ pub fn example_of_weights()
 /// Trees that are the same but for their spans are equally high.
 pub fn same_heights()
     ensures { (t u : Tree) → SameTree t u → height t ≡ height u }
+{}
+
+/// A tree whose names have numbers is as high as it was, and has as many nodes.
+pub fn numbered_trees()
+    ensures heights { (of : Numbers) (t : Tree) → height (numbered of t) ≡ height t }
+    ensures weights { (of : Numbers) (t : Tree) → tree_weight (numbered of t) ≡ tree_weight t }
 {}

@@ -27,7 +27,8 @@ use Rattle.region_typing_scope.specs.Views.{scope, signature, variable}
 use Rattle.region_typing_scope.specs.Answering.{Answers, answers_so}
 use Rattle.region_typing_scope.specs.Locals.{Grows}
 use Rattle.region_typing_statements.specs.Walks.{Walks}
-use Rattle.region_typing.specs.Items.{Outside, body_core, kept_rules, behind_declaration}
+use Rattle.region_typing.specs.declared.walk as code_walk
+use Rattle.region_typing.specs.Items.{defined, Outside, body_core, kept_rules, behind_declaration}
 use Rattle.region_typing.specs.Signatures.{declared_function}
 use Rattle.region_typing_statements.proofs.Verdicts.{same_behind, in_parts}
 use Rattle.region_typing_scope.proofs.Steps.{parts_at, no_parts}
@@ -60,8 +61,8 @@ body_built at f ps body xs b old entered walked new inside_is same passes b_is =
     ap (λ g. passing (statements at g body) (λ x. Passes (core_function f ps x.0 x.1, scope old))) (sym inside_is) ∙ rw (passes, same, b_is) refl
 
 -- a body behind which its function is left
-pub function_body_parts : (at : Places) (w : Walk) (f : Signature) (ps : List Variable) (b : i.Body) → function_body at w f ps (Some b) ≡ passing (body_core at w.scope f ps b.statements) (λ x. needs (not (is_unchecked b.mark || w.scope.is_off)) E15 b.span (Passes (record w { bodies = w.bodies ++ x.0 ∷ [] })))
-function_body_parts at w f ps b = sym (in_parts (statements at (inside f ps w.scope) b.statements) (λ x. Passes (core_function f ps x.0 x.1, w.scope)) (λ x. needs (not (is_unchecked b.mark || w.scope.is_off)) E15 b.span (Passes (record w { bodies = w.bodies ++ x.0 ∷ [] }))))
+pub function_body_parts : (at : Places) (w : Walk) (f : Signature) (ps : List Variable) (b : i.Body) → function_body at w f ps (Some b) ≡ passing (body_core at w.scope f ps b.statements) (λ x. needs (not (is_unchecked b.mark || w.scope.is_off)) E15 b.span (Passes (record w { bodies = w.bodies ++ record { name = f.name; function = x.0 } ∷ [] })))
+function_body_parts at w f ps b = sym (in_parts (statements at (inside f ps w.scope) b.statements) (λ x. Passes (core_function f ps x.0 x.1, w.scope)) (λ x. needs (not (is_unchecked b.mark || w.scope.is_off)) E15 b.span (Passes (record w { bodies = w.bodies ++ record { name = f.name; function = x.0 } ∷ [] }))))
 
 -- ---- a declaration, its body, and its rules
 
@@ -81,27 +82,27 @@ rules_parts true true true true span w = refl
 -- a function by its declaration, its body and its rules
 pub function_parts : (at : Places) (all : List Item) (w : Walk) (d : i.Function)
     → function at all w d
-    ≡ needs (is_some (function_named w.scope.functions d.name.name) || nat_lt (length w.scope.functions) 4096) E08 d.span
-    (passing (declared_function w.scope d) (λ x. passing (function_body at (record w { scope = with_function (function_named w.scope.functions d.name.name) x.0 w.scope }) x.0 x.1 d.body)
-    (λ v. passing (kept_rules all d (agrees (function_named w.scope.functions d.name.name) x.0 && (all_scalar x.0.parameters && scalar_result x.0.result)) v.scope) (λ u. Passes v))))
+    ≡ needs (is_some (function_named w.scope.functions d.name.number) || nat_lt (length w.scope.functions) 4096) E08 d.span
+    (passing (declared_function w.scope d) (λ x. passing (function_body at (record w { scope = with_function (function_named w.scope.functions d.name.number) x.0 w.scope }) x.0 x.1 d.body)
+    (λ v. passing (kept_rules all d (agrees (function_named w.scope.functions d.name.number) x.0 && (all_scalar x.0.parameters && scalar_result x.0.result)) v.scope) (λ u. Passes v))))
 function_parts at all w d =
-    let known = function_named w.scope.functions d.name.name in
+    let known = function_named w.scope.functions d.name.number in
     let behind = λ (x : Signature × List Variable). passing (function_body at (record w { scope = with_function known x.0 w.scope }) x.0 x.1 d.body) (λ v. function_rules all d x.0 known v) in
     let judged = λ (x : Signature × List Variable). passing (function_body at (record w { scope = with_function known x.0 w.scope }) x.0 x.1 d.body) (λ v. passing (kept_rules all d (agrees known x.0 && (all_scalar x.0.parameters && scalar_result x.0.result)) v.scope) (λ u. Passes v)) in
     ap (λ v. needs (is_some known || nat_lt (length w.scope.functions) 4096) E08 d.span v)
     (declared_on (result_type w.scope d.result d.stars) (parameter_types w.scope (listed d.parameters) []) (λ r ps. signature_of d r ps) behind
     ∙ same_behind (declared_function w.scope d) behind judged
     (λ x. same_behind (function_body at (record w { scope = with_function known x.0 w.scope }) x.0 x.1 d.body) (λ v. function_rules all d x.0 known v) (λ v. passing (kept_rules all d (agrees known x.0 && (all_scalar x.0.parameters && scalar_result x.0.result)) v.scope) (λ u. Passes v))
-    (λ v. rules_parts (agrees known x.0 && (all_scalar x.0.parameters && scalar_result x.0.result)) (picked (is_tainted d.kind) true (is_defined all d.name.name)) (not (is_unchecked d.mark)) (not v.scope.is_off) d.span v)))
+    (λ v. rules_parts (agrees known x.0 && (all_scalar x.0.parameters && scalar_result x.0.result)) (picked (is_tainted d.kind) true (is_defined all d.name.number)) (not (is_unchecked d.mark)) (not v.scope.is_off) d.span v)))
 
-named_so : (v : Verdict (Option CType)) (w : Verdict (List Variable)) (of : Option CType → List Variable → Signature) (name : List ℕ) (x : Signature × List Variable) → ((r : Option CType) (ps : List Variable) → (of r ps).name ≡ name) → passing v (λ r. passing w (λ ps. Passes (of r ps, ps))) ≡ Passes x → x.0.name ≡ name
+named_so : (v : Verdict (Option CType)) (w : Verdict (List Variable)) (of : Option CType → List Variable → Signature) (name : ℕ) (x : Signature × List Variable) → ((r : Option CType) (ps : List Variable) → (of r ps).name ≡ name) → passing v (λ r. passing w (λ ps. Passes (of r ps, ps))) ≡ Passes x → x.0.name ≡ name
 named_so (Stops stop) w of name x named is = absurd (cc)
 named_so (Passes r) (Stops stop) of name x named is = absurd (cc)
 named_so (Passes r) (Passes ps) of name x named is = let same : (of r ps, ps) ≡ x = cc in ap (λ (y : Signature × List Variable). y.0.name) (sym same) ∙ named r ps
 
 -- a declared function has the name that is written
-pub declared_name : (g : Scope) (d : i.Function) (x : Signature × List Variable) → declared_function g d ≡ Passes x → x.0.name ≡ d.name.name
-declared_name g d x is = named_so (result_type g d.result d.stars) (parameter_types g (listed d.parameters) []) (λ r ps. signature_of d r ps) d.name.name x (λ r ps. refl) is
+pub declared_name : (g : Scope) (d : i.Function) (x : Signature × List Variable) → declared_function g d ≡ Passes x → x.0.name ≡ d.name.number
+declared_name g d x is = named_so (result_type g d.result d.stars) (parameter_types g (listed d.parameters) []) (λ r ps. signature_of d r ps) d.name.number x (λ r ps. refl) is
 
 -- a body in which a rule is broken
 broken_body : (at : Places) (f : Signature) (ps : List Variable) (body : Statements) (g : Scope) (h : Scope) (stop : Stop) → h ≡ inside f ps g → statements at h body ≡ Stops stop → body_core at g f ps body ≡ Stops stop
@@ -118,13 +119,13 @@ body_refused {view = view} {view' = view'} {mid = mid} {e = e} at f ps body old 
     rw (p.1, p.2) (body_refused_so view view' at f ps body old entered mid e is first)
 
 -- the core of a function, as it is put together
-pub core_built : (f heading : code_signature.Signature) (ps : List code.Variable.Variable) (n : ℕ) → n ≡ length ps → (locals : List code_type.CType) (g : Scope) → map ctype locals ≡ g.locals → (xs : List Stmt) (c : code_function.Function) → signature heading ≡ signature f → core.function c ≡ record { name = heading.name; parameters = n; locals = map ctype locals; result = option_map ctype heading.result; body = core.statements_of xs }
+pub core_built : (f heading : code_signature.Signature) (ps : List code.Variable.Variable) (n : ℕ) → n ≡ length ps → (locals : List code_type.CType) (g : Scope) → map ctype locals ≡ g.locals → (xs : List Stmt) (c : code_function.Function) → signature heading ≡ signature f → core.function c ≡ record { name = heading.text; parameters = n; locals = map ctype locals; result = option_map ctype heading.result; body = core.statements_of xs }
     → core.function c ≡ core_function (signature f) (map variable ps) (core.statements_of xs) g
 core_built f heading ps n count locals g are xs c same is =
     is
-    ∙ ap (λ (s : Signature). record { name = s.name; parameters = n; locals = map ctype locals; result = s.result; body = core.statements_of xs }) same
-    ∙ ap (λ ts. record { name = f.name; parameters = n; locals = ts; result = option_map ctype f.result; body = core.statements_of xs }) are
-    ∙ ap (λ k. record { name = f.name; parameters = k; locals = g.locals; result = option_map ctype f.result; body = core.statements_of xs }) (count ∙ sym (length-map ps variable))
+    ∙ ap (λ (s : Signature). record { name = s.text; parameters = n; locals = map ctype locals; result = s.result; body = core.statements_of xs }) same
+    ∙ ap (λ ts. record { name = f.text; parameters = n; locals = ts; result = option_map ctype f.result; body = core.statements_of xs }) are
+    ∙ ap (λ k. record { name = f.text; parameters = k; locals = g.locals; result = option_map ctype f.result; body = core.statements_of xs }) (count ∙ sym (length-map ps variable))
 
 -- ---- parameters as locals
 
@@ -147,9 +148,9 @@ scope_of_core (Stops stop) f ps g b h is = absurd (cc)
 pub scope_kept : (at : Places) (g : Scope) (f : Signature) (ps : List Variable) (body : Statements) (b : core.Function) (h : Scope) → body_core at g f ps body ≡ Passes (b, h) → h ≡ g
 scope_kept at g f ps body b h is = scope_of_core (statements at (inside f ps g) body) f ps g b h is
 
-pub bodies_more : (w : Walk) (g : Scope) (bs new : List code_function.Function) (b : code_function.Function) → g ≡ w.scope → new ≡ bs ++ b ∷ [] → ◌≡◌ {A = Verdict Walk} (Passes (record w { bodies = map core.function bs ++ core.function b ∷ [] })) (Passes (record w { scope = g; bodies = map core.function new }))
+pub bodies_more : (w : Walk) (g : Scope) (bs new : List code_walk.Defined.Defined) (b : code_walk.Defined.Defined) → g ≡ w.scope → new ≡ bs ++ b ∷ [] → ◌≡◌ {A = Verdict Walk} (Passes (record w { bodies = map defined bs ++ defined b ∷ [] })) (Passes (record w { scope = g; bodies = map defined new }))
 bodies_more w g bs new b same are =
-    ap (λ ys. Passes (record w { bodies = ys })) (sym (ap (map core.function) are ∙ map-append core.function bs (b ∷ []))) ∙ ap (λ h. Passes (record w { scope = h; bodies = map core.function new })) (sym same)
+    ap (λ ys. Passes (record w { bodies = ys })) (sym (ap (map defined) are ∙ map-append defined bs (b ∷ []))) ∙ ap (λ h. Passes (record w { scope = h; bodies = map defined new })) (sym same)
 
 -- ---- a function, step by step
 
@@ -169,7 +170,7 @@ checked_once false off span = refl
 
 -- behind a declaration, by the name that is written
 pub function_walk : {new : Walk} {r : Result (Unit {0}) CheckError} (at : Places) (all : List Item) (w : Walk) (d : i.Function) (x : Signature × List Variable) → declared_function w.scope d ≡ Passes x → Answers {C = Unit {0}} (λ u. new) (behind_declaration at all w d x) r
-    → Answers {C = Unit {0}} (λ u. new) (passing (declared_function w.scope d) (λ y. passing (function_body at (record w { scope = with_function (function_named w.scope.functions d.name.name) y.0 w.scope }) y.0 y.1 d.body) (λ v. passing (kept_rules all d (agrees (function_named w.scope.functions d.name.name) y.0 && (all_scalar y.0.parameters && scalar_result y.0.result)) v.scope) (λ u. Passes v)))) r
+    → Answers {C = Unit {0}} (λ u. new) (passing (declared_function w.scope d) (λ y. passing (function_body at (record w { scope = with_function (function_named w.scope.functions d.name.number) y.0 w.scope }) y.0 y.1 d.body) (λ v. passing (kept_rules all d (agrees (function_named w.scope.functions d.name.number) y.0 && (all_scalar y.0.parameters && scalar_result y.0.result)) v.scope) (λ u. Passes v)))) r
 function_walk {new = new} {r = r} at all w d x first rest =
     let named = declared_name w.scope d x first in
     rw first

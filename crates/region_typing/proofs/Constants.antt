@@ -17,6 +17,7 @@ use Rattle.ckc_core.specs.Meaning.{low_byte}
 use Rattle.region_typing_rules.specs.Verdicts.{Passes, needs, picked}
 use Rattle.region_typing_rules.specs.Types.{is_scalar}
 use Rattle.region_typing_rules.specs.Expressions.{Typed}
+use Rattle.ckc_names_rules.specs.declared.given.Given.{Given}
 use Rattle.region_typing_rules.specs.Items as rules
 use Rattle.region_typing_rules.specs.Items.{strides_from, strides_of, cells_with, numbered_cells, is_zero, signed_constant, number_or_break, object_cells}
 use Rattle.region_typing.specs.Initials.{IsStructOf, constant_cells, judged_as, judged_cells, stride_at}
@@ -24,24 +25,24 @@ use Rattle.region_typing_scope.proofs.Steps.{parts_at, no_parts}
 
 -- ---- cells by what is judged
 
-written_cells_judged : (structs : List Structure) (t : CType) (value : Expression) (u : Typed) (span : Span) → object_cells structs t (rules.Written value u) span ≡ judged_cells structs t (judged_as (rules.Written value u)) span
-written_cells_judged structs Int value u span = refl
-written_cells_judged structs Char value u span = by (signed_constant value)
+written_cells_judged : (given : Given) (structs : List Structure) (t : CType) (value : Expression) (u : Typed) (span : Span) → object_cells given structs t (rules.Written value u) span ≡ judged_cells structs t (judged_as given (rules.Written value u)) span
+written_cells_judged given structs Int value u span = refl
+written_cells_judged given structs Char value u span = by (signed_constant given value)
   where
     by : (number : Option ℤ) → number_or_break number span (λ n. cells_with structs Char (low_byte n)) ≡ constant_cells structs Char (is_zero u) number span
     by None = refl
     by (Some number) = refl
-written_cells_judged structs (Struct number) value u span = refl
-written_cells_judged structs (Pointer mode kind target) value u span = by (is_zero u)
+written_cells_judged given structs (Struct number) value u span = refl
+written_cells_judged given structs (Pointer mode kind target) value u span = by (is_zero u)
   where
-    by : (zero : Bool) → needs zero E13 span (Passes (cells_with structs (Pointer mode kind target) (pos 0))) ≡ constant_cells structs (Pointer mode kind target) zero (signed_constant value) span
+    by : (zero : Bool) → needs zero E13 span (Passes (cells_with structs (Pointer mode kind target) (pos 0))) ≡ constant_cells structs (Pointer mode kind target) zero (signed_constant given value) span
     by true = refl
     by false = refl
 
-pub cells_judged : (structs : List Structure) (t : CType) (w : rules.Walked) (span : Span) → object_cells structs t w span ≡ judged_cells structs t (judged_as w) span
-cells_judged structs t rules.Missing span = refl
-cells_judged structs t (rules.Written value u) span = written_cells_judged structs t value u span
-cells_judged structs t rules.Constants span = refl
+pub cells_judged : (given : Given) (structs : List Structure) (t : CType) (w : rules.Walked) (span : Span) → object_cells given structs t w span ≡ judged_cells structs t (judged_as given w) span
+cells_judged given structs t rules.Missing span = refl
+cells_judged given structs t (rules.Written value u) span = written_cells_judged given structs t value u span
+cells_judged given structs t rules.Constants span = refl
 
 -- ---- cells one by one
 

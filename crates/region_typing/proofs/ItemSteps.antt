@@ -26,7 +26,7 @@ pub member_by_step : (g : Scope) (m : i.Member) (ms : List i.Member) (done : Lis
 member_by_step g m ms done = needs_on (nat_lt (length done) 64) E08 (type_span m.type.base) (type_named g m.type) (λ t. done ++ record { name = m.name.name; ctype = t; span = m.span } ∷ []) (λ d. member_types g ms d)
 
 pub parameter_by_step : (g : Scope) (p : i.Member) (ps : List i.Member) (done : List Variable) → parameter_types g (p ∷ ps) done ≡ passing (one_parameter g p done) (λ d. parameter_types g ps d)
-parameter_by_step g p ps done = needs_on (nat_lt (length done) 16) E08 (type_span p.type.base) (type_named g p.type) (λ t. done ++ record { name = p.name.name; type = t } ∷ []) (λ d. parameter_types g ps d)
+parameter_by_step g p ps done = needs_on (nat_lt (length done) 16) E08 (type_span p.type.base) (type_named g p.type) (λ t. done ++ record { name = p.name.number; type = t } ∷ []) (λ d. parameter_types g ps d)
 
 -- no member is a struct
 abbrev pub scalar_member : types.Member → Unit {0} → Verdict (Unit {0})

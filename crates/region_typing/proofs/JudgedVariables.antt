@@ -13,6 +13,7 @@ use Rattle.ckc_core.specs.Core as core
 use Rattle.region_typing_rules.specs.Verdicts.{Stop, Broken, Verdict, Passes, Stops, passing, needs}
 use Rattle.region_typing_rules.specs.Types.{base_type, without_stars}
 use Rattle.region_typing_rules.specs.Expressions.{Places}
+use Rattle.ckc_names_rules.specs.declared.given.Given.{Given}
 use Rattle.region_typing_rules.specs.Items as rules
 use Rattle.region_typing_rules.specs.Items.{Walk, WalkedVariable, with_variable, room_for, room_for_first, initializer, variables, with_objects, global, in_checked_region}
 use Rattle.region_typing_scope.specs.Answering.{Answers, answers_so}
@@ -22,8 +23,8 @@ use Rattle.region_typing.specs.Items.{JudgedVariable, judged_variable, with_one,
 use Rattle.region_typing_statements.proofs.Verdicts.{same_behind, in_parts}
 use Rattle.region_typing.proofs.Constants.{cells_judged}
 
-abbrev as_judged : WalkedVariable → JudgedVariable
-as_judged v = record { type = v.type; initial = judged_as v.initial }
+abbrev as_judged : Given → WalkedVariable → JudgedVariable
+as_judged given v = record { type = v.type; initial = judged_as given v.initial }
 
 one_by_one : (v : Verdict (List core.Initial)) (span : Span) (w : Walk) (next : Walk → Verdict Walk)
     → passing v (λ cells. needs (nat_lt 0 (length cells)) E10 span (next (record w { objects = w.objects ++ cells ∷ [] })))
@@ -35,12 +36,14 @@ one_by_one (Passes cells) span w next = by (nat_lt 0 (length cells))
     by true = refl
     by false = refl
 
-objects_judged : (w : Walk) (span : Span) (vs : List WalkedVariable) → with_objects w span vs ≡ judged_objects span (map as_judged vs) w
+objects_judged : (w : Walk) (span : Span) (vs : List WalkedVariable) → with_objects w span vs ≡ judged_objects span (map (as_judged w.scope.given) vs) w
 objects_judged w span [] = refl
 objects_judged w span (v ∷ vs) =
-    ap (λ cells_are. passing cells_are (λ cells. needs (nat_lt 0 (length cells)) E10 span (with_objects (record w { objects = w.objects ++ cells ∷ [] }) span vs))) (cells_judged w.scope.structs v.type v.initial span)
-    ∙ one_by_one (judged_cells w.scope.structs v.type (judged_as v.initial) span) span w (λ x. with_objects x span vs)
-    ∙ same_behind (one_object span (as_judged v) w) (λ x. with_objects x span vs) (λ x. judged_objects span (map as_judged vs) x) (λ x. objects_judged x span vs)
+    let rest = judged_objects span (map (as_judged w.scope.given) vs) in
+    ap (λ cells_are. passing cells_are (λ cells. needs (nat_lt 0 (length cells)) E10 span (with_objects (record w { objects = w.objects ++ cells ∷ [] }) span vs))) (cells_judged w.scope.given w.scope.structs v.type v.initial span)
+    ∙ same_behind (judged_cells w.scope.structs v.type (judged_as w.scope.given v.initial) span) _ (λ cells. needs (nat_lt 0 (length cells)) E10 span (rest (record w { objects = w.objects ++ cells ∷ [] })))
+    (λ cells. ap (λ x. needs (nat_lt 0 (length cells)) E10 span x) (objects_judged (record w { objects = w.objects ++ cells ∷ [] }) span vs))
+    ∙ one_by_one (judged_cells w.scope.structs v.type (judged_as w.scope.given v.initial) span) span w rest
 
 in_turn : {A B C D : Type 0} (v : Verdict A) (f : A → Verdict B) (g : A → B → C) (next : C → Verdict D) → passing (passing v (λ a. passing (f a) (λ b. Passes (g a b)))) next ≡ passing v (λ a. passing (f a) (λ b. next (g a b)))
 in_turn (Stops stop) f g next = refl
@@ -50,32 +53,32 @@ in_turn (Passes a) f g next = by (f a)
     by (Passes b) = refl
     by (Stops stop) = refl
 
-judged_next : {B : Type 0} (v : Verdict rules.Walked) (next : rules.Walked → Verdict B) (next' : _ → Verdict B) → ((x : rules.Walked) → next x ≡ next' (judged_as x)) → passing v next ≡ passing (passing v (λ x. Passes (judged_as x))) next'
-judged_next (Passes x) next next' same = same x
-judged_next (Stops stop) next next' same = refl
+judged_next : {B : Type 0} (given : Given) (v : Verdict rules.Walked) (next : rules.Walked → Verdict B) (next' : _ → Verdict B) → ((x : rules.Walked) → next x ≡ next' (judged_as given x)) → passing v next ≡ passing (passing v (λ x. Passes (judged_as given x))) next'
+judged_next given (Passes x) next next' same = same x
+judged_next given (Stops stop) next next' same = refl
 
 variables_judged : {B : Type 0} (at : Places) (w : Walk) (base : TypeTree) (t : CType) (span : Span) (ds : List Declarator) (done : List WalkedVariable) (next : Walk × List WalkedVariable → Verdict B) (next' : Walk × List JudgedVariable → Verdict B)
-    → ((x : Walk × List WalkedVariable) → next x ≡ next' (x.0, map as_judged x.1)) → passing (variables at w base t span ds done) next ≡ passing (judged_variables at base t span ds (w, map as_judged done)) next'
+    → ((x : Walk × List WalkedVariable) → next x ≡ next' (x.0, map (as_judged x.0.scope.given) x.1)) → passing (variables at w base t span ds done) next ≡ passing (judged_variables at base t span ds (w, map (as_judged w.scope.given) done)) next'
 variables_judged at w base t span [] done next next' same = same (w, done)
 variables_judged at w base t span (d ∷ ds) done next next' same =
     let room = room_for w base span d in
     let starless = without_stars base d.stars t in
-    let inside = λ (u : CType). with_variable d.name.name u w.scope in
-    let begun = λ (taken : ℕ) (u : CType) (x : rules.Walked). variables at (with_one d.name.name u taken w) base t span ds (done ++ record { type = u; initial = x } ∷ []) in
+    let inside = λ (u : CType). with_variable d.name.number u w.scope in
+    let begun = λ (taken : ℕ) (u : CType) (x : rules.Walked). variables at (with_one d.name.number u taken w) base t span ds (done ++ record { type = u; initial = x } ∷ []) in
     let of_type = λ (taken : ℕ) (u : CType). passing (initializer at (inside u) d.initializer) (begun taken u) in
-    let behind = λ (y : Walk × JudgedVariable). passing (judged_variables at base t span ds (y.0, map as_judged done ++ y.1 ∷ [])) next' in
-    let judged : ℕ → CType → Judged → Walk × JudgedVariable = λ taken u j. (with_one d.name.name u taken w, record { type = u; initial = j }) in
+    let behind = λ (y : Walk × JudgedVariable). passing (judged_variables at base t span ds (y.0, map (as_judged w.scope.given) done ++ y.1 ∷ [])) next' in
+    let judged : ℕ → CType → Judged → Walk × JudgedVariable = λ taken u j. (with_one d.name.number u taken w, record { type = u; initial = j }) in
     in_parts room (λ taken. passing starless (of_type taken)) next
     ∙ same_behind room _ (λ taken. passing starless (λ u. passing (judged_initializer at (inside u) d.initializer) (λ j. behind (judged taken u j))))
     (λ taken. in_parts starless (of_type taken) next
     ∙ same_behind starless _ (λ u. passing (judged_initializer at (inside u) d.initializer) (λ j. behind (judged taken u j)))
     (λ u. in_parts (initializer at (inside u) d.initializer) (begun taken u) next
-    ∙ judged_next (initializer at (inside u) d.initializer) _ (λ j. behind (judged taken u j))
-    (λ x. variables_judged at (with_one d.name.name u taken w) base t span ds (done ++ record { type = u; initial = x } ∷ []) next next' same
-    ∙ ap (λ vs. passing (judged_variables at base t span ds (with_one d.name.name u taken w, vs)) next') (map-append as_judged done (record { type = u; initial = x } ∷ [])))))
+    ∙ judged_next w.scope.given (initializer at (inside u) d.initializer) _ (λ j. behind (judged taken u j))
+    (λ x. variables_judged at (with_one d.name.number u taken w) base t span ds (done ++ record { type = u; initial = x } ∷ []) next next' same
+    ∙ ap (λ vs. passing (judged_variables at base t span ds (with_one d.name.number u taken w, vs)) next') (map-append (as_judged w.scope.given) done (record { type = u; initial = x } ∷ [])))))
     ∙ sym (same_behind room _ _ (λ taken. in_turn starless (λ u. judged_initializer at (inside u) d.initializer) (judged taken) behind))
     ∙ sym (in_parts room (λ taken. passing starless (λ u. passing (judged_initializer at (inside u) d.initializer) (λ j. Passes (judged taken u j)))) behind)
-    ∙ sym (in_parts (one_variable at w base t span d) (λ y. judged_variables at base t span ds (y.0, map as_judged done ++ y.1 ∷ [])) next')
+    ∙ sym (in_parts (one_variable at w base t span d) (λ y. judged_variables at base t span ds (y.0, map (as_judged w.scope.given) done ++ y.1 ∷ [])) next')
 
 -- a declaration of variables, by what is judged
 pub global_judged : (at : Places) (w : Walk) (d : i.Global) → global at w d ≡ passing (room_for_first w d d.declarators) (λ taken. passing (base_type w.scope d.base) (λ t. passing (judged_variables at d.base t d.span d.declarators (w, [])) (λ x. passing (judged_objects d.span x.1 x.0) (λ v. in_checked_region v.scope d.span v))))
@@ -103,7 +106,7 @@ stars_break at base span d t taken old stop room breaks = by (d.stars == 0) refl
         rw (room, e) (ap Stops same)
 
 -- a variable more, behind its room and its type
-pub one_more_variable : (at : Places) (base : TypeTree) (span : Span) (d : Declarator) (t : CType) (taken : ℕ) (old new : Walk) (r : Result code.Judged CheckError) → new ≡ with_one d.name.name t taken old → room_for old base span d ≡ Passes taken → (d.stars == 0) ≡ true
+pub one_more_variable : (at : Places) (base : TypeTree) (span : Span) (d : Declarator) (t : CType) (taken : ℕ) (old new : Walk) (r : Result code.Judged CheckError) → new ≡ with_one d.name.number t taken old → room_for old base span d ≡ Passes taken → (d.stars == 0) ≡ true
     → Answers judged (judged_initializer at new.scope d.initializer) r → Answers (λ x. (new, judged_variable t x)) (one_variable at old base t span d) r
 one_more_variable at base span d t taken old new r is room starless rest =
     let view : code.Judged → Walk × JudgedVariable = λ x. (new, judged_variable t x) in

@@ -14,7 +14,7 @@ use Rattle.region_typing_rules.specs.Scopes.{Scope, Signature, Variable, functio
 use Rattle.region_typing_rules.specs.Types.{base_type, without_stars}
 use Rattle.region_typing_rules.specs.Expressions.{Places, is_tainted}
 use Rattle.region_typing_rules.specs.Statements.{is_unchecked, statements}
-use Rattle.region_typing_rules.specs.Items.{Walk, WalkedVariable, is_struct, member_types, scalar_members, with_struct, structure, with_variable, room_for, room_for_first, initializer, variables, object_cells, with_objects, global, listed, parameter_types, result_type, agrees, all_scalar, scalar_result, with_function, inside, function_body, is_defined, function_rules, signature_of, function, is_off, item}
+use Rattle.region_typing_rules.specs.Items.{Walk, WalkedVariable, is_struct, member_types, scalar_members, with_struct, member_names, structure, with_variable, room_for, room_for_first, initializer, variables, object_cells, with_objects, global, listed, parameter_types, result_type, agrees, all_scalar, scalar_result, with_function, inside, function_body, is_defined, function_rules, signature_of, function, is_off, item}
 use Rattle.region_typing_rules.proofs.Verdicts.{Promises, passing_promises, needs_promises, anything_promised}
 use Rattle.region_typing.specs.Items.{Outside}
 
@@ -28,8 +28,8 @@ scalars_promise P (m ∷ ms) next h = needs_promises P (not (is_struct m.ctype))
 structure_outside : (w : Walk) (d : i.Structure) → Outside w.scope → Promises OutsideBehind (structure w d)
 structure_outside w d o =
     needs_promises OutsideBehind (nat_lt (length w.scope.structs) 4096) E08 d.span _
-    (λ _. passing_promises (λ (ms : List types.Member). Unit {0}) OutsideBehind (member_types (with_struct d.tag.name d.tainted [] w.scope) d.members []) _ (anything_promised (member_types (with_struct d.tag.name d.tainted [] w.scope) d.members []))
-    (λ ms _. scalars_promise OutsideBehind ms _ (needs_promises OutsideBehind (not w.scope.is_off) E15 d.span _ (λ _. ap (with_struct d.tag.name d.tainted ms) o))))
+    (λ _. passing_promises (λ (ms : List types.Member). Unit {0}) OutsideBehind (member_types (with_struct d.tag.number (member_names d.members) d.tainted [] w.scope) d.members []) _ (anything_promised (member_types (with_struct d.tag.number (member_names d.members) d.tainted [] w.scope) d.members []))
+    (λ ms _. scalars_promise OutsideBehind ms _ (needs_promises OutsideBehind (not w.scope.is_off) E15 d.span _ (λ _. ap (with_struct d.tag.number (member_names d.members) d.tainted ms) o))))
 
 abbrev OutsideBoth : Walk × List WalkedVariable → Type 0
 OutsideBoth x = Outside x.0.scope
@@ -39,13 +39,13 @@ variables_outside at w base t span [] done o = o
 variables_outside at w base t span (d ∷ ds) done o =
     passing_promises (λ (n : ℕ). Unit {0}) OutsideBoth (room_for w base span d) _ (anything_promised (room_for w base span d))
     (λ taken _. passing_promises (λ (u : CType). Unit {0}) OutsideBoth (without_stars base d.stars t) _ (anything_promised (without_stars base d.stars t))
-    (λ u _. passing_promises (λ _. Unit {0}) OutsideBoth (initializer at (with_variable d.name.name u w.scope) d.initializer) _ (anything_promised (initializer at (with_variable d.name.name u w.scope) d.initializer))
-    (λ initial _. variables_outside at (record w { scope = with_variable d.name.name u w.scope; taken = taken }) base t span ds (done ++ record { type = u; initial = initial } ∷ []) (ap (with_variable d.name.name u) o))))
+    (λ u _. passing_promises (λ _. Unit {0}) OutsideBoth (initializer at (with_variable d.name.number u w.scope) d.initializer) _ (anything_promised (initializer at (with_variable d.name.number u w.scope) d.initializer))
+    (λ initial _. variables_outside at (record w { scope = with_variable d.name.number u w.scope; taken = taken }) base t span ds (done ++ record { type = u; initial = initial } ∷ []) (ap (with_variable d.name.number u) o))))
 
 objects_outside : (w : Walk) (span : Span) (vs : List WalkedVariable) → Outside w.scope → Promises OutsideBehind (with_objects w span vs)
 objects_outside w span [] o = o
 objects_outside w span (v ∷ vs) o =
-    passing_promises (λ (cells : List core.Initial). Unit {0}) OutsideBehind (object_cells w.scope.structs v.type v.initial span) _ (anything_promised (object_cells w.scope.structs v.type v.initial span))
+    passing_promises (λ (cells : List core.Initial). Unit {0}) OutsideBehind (object_cells w.scope.given w.scope.structs v.type v.initial span) _ (anything_promised (object_cells w.scope.given w.scope.structs v.type v.initial span))
     (λ cells _. needs_promises OutsideBehind (nat_lt 0 (length cells)) E10 span _ (λ _. objects_outside (record w { objects = w.objects ++ cells ∷ [] }) span vs o))
 
 global_outside : (at : Places) (w : Walk) (d : i.Global) → Outside w.scope → Promises OutsideBehind (global at w d)
@@ -73,12 +73,12 @@ body_outside at w f ps (Some body) o =
 rules_outside : (all : List Item) (d : i.Function) (f : Signature) (known : Option Signature) (w : Walk) → Outside w.scope → Promises OutsideBehind (function_rules all d f known w)
 rules_outside all d f known w o =
     needs_promises OutsideBehind (agrees known f && (all_scalar f.parameters && scalar_result f.result)) E13 d.span _
-    (λ _. needs_promises OutsideBehind (picked (is_tainted d.kind) true (is_defined all d.name.name)) E10 d.span _
+    (λ _. needs_promises OutsideBehind (picked (is_tainted d.kind) true (is_defined all d.name.number)) E10 d.span _
     (λ _. needs_promises OutsideBehind (not (is_unchecked d.mark)) E15 d.span _ (λ _. needs_promises OutsideBehind (not w.scope.is_off) E15 d.span _ (λ _. o))))
 
 function_outside : (at : Places) (all : List Item) (w : Walk) (d : i.Function) → Outside w.scope → Promises OutsideBehind (function at all w d)
 function_outside at all w d o =
-    let known = function_named w.scope.functions d.name.name in
+    let known = function_named w.scope.functions d.name.number in
     needs_promises OutsideBehind (is_some known || nat_lt (length w.scope.functions) 4096) E08 d.span _
     (λ _. passing_promises (λ (t : Option CType). Unit {0}) OutsideBehind (result_type w.scope d.result d.stars) _ (anything_promised (result_type w.scope d.result d.stars))
     (λ t _. passing_promises (λ (ps : List Variable). Unit {0}) OutsideBehind (parameter_types w.scope (listed d.parameters) []) _ (anything_promised (parameter_types w.scope (listed d.parameters) []))

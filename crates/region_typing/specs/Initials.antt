@@ -8,6 +8,7 @@ use Rattle.pointer_modes.specs.Layout.{cells_of, size_of}
 use Rattle.ckc_tree.specs.declared.expr.UnaryOperator.TheVariants as unary
 use Rattle.ckc_tree.specs.Expressions as e
 use Rattle.ckc_tree.specs.Expressions.{Expression}
+use Rattle.ckc_names_rules.specs.declared.given.Given.{Given}
 use Rattle.ckc_core.specs.Core as core
 use Rattle.ckc_core.specs.Meaning.{low_byte}
 use Rattle.region_typing_rules.specs.Verdicts.{Verdict, Passes, breaks, picked}
@@ -28,10 +29,10 @@ judged (forms.Constant zero number) = Constant zero number
 judged forms.List = Constants
 
 -- what is judged of an initialiser whose children were walked
-abbrev pub judged_as : rules.Walked → Judged
-judged_as rules.Missing = Missing
-judged_as (rules.Written value t) = Constant (is_zero t) (signed_constant value)
-judged_as rules.Constants = Constants
+abbrev pub judged_as : Given → rules.Walked → Judged
+judged_as given rules.Missing = Missing
+judged_as given (rules.Written value t) = Constant (is_zero t) (signed_constant given value)
+judged_as given rules.Constants = Constants
 
 -- the number modulo 256
 abbrev low_number : Option ℤ → Option ℤ
@@ -54,13 +55,13 @@ judged_cells structs type (Constant zero number) span = constant_cells structs t
 judged_cells structs type Constants span = breaks E13 span
 
 -- the number under a sign, or without one
-abbrev magnitude : Expression → Option ℕ
-magnitude (e.Unary unary.Negate operand span) = unsigned_constant operand
-magnitude a = unsigned_constant a
+abbrev magnitude : Given → Expression → Option ℕ
+magnitude given (e.Unary unary.Negate operand span) = unsigned_constant given operand
+magnitude given a = unsigned_constant given a
 
 -- a constant has at most 31 bits
-abbrev pub IsSmall : Expression → Type 0
-IsSmall a = (n : ℕ) → magnitude a ≡ Some n → n < 2147483648
+abbrev pub IsSmall : Given → Expression → Type 0
+IsSmall given a = (n : ℕ) → magnitude given a ≡ Some n → n < 2147483648
 
 -- a struct with these members
 abbrev pub IsStructOf : List Structure → CType → List Member → Type 0

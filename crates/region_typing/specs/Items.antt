@@ -14,15 +14,18 @@ use Rattle.region_typing_rules.specs.Scopes.{Scope, Signature, Variable, functio
 use Rattle.region_typing_rules.specs.Types.{type_named, without_stars}
 use Rattle.region_typing_rules.specs.Expressions.{Places, is_tainted}
 use Rattle.region_typing_rules.specs.Statements.{statements, is_unchecked}
-use Rattle.region_typing_rules.specs.Items.{Walk, with_variable, room_for, initializer, inside, core_function, function_body, with_function, agrees}
-use Rattle.region_typing_rules.specs.Items.{all_scalar, scalar_result, is_defined, in_checked_region}
+use Rattle.region_typing_rules.specs.Items.{Defined, Walk, with_variable, room_for, initializer, inside, core_function, function_body}
+use Rattle.region_typing_rules.specs.Items.{with_function, agrees, all_scalar, scalar_result, is_defined, in_checked_region}
 use Rattle.region_typing_scope.specs.Views.{scope}
 use Rattle.region_typing.specs.declared.walk as code
 use Rattle.region_typing.specs.declared.initials.Judged as code_judged
 use Rattle.region_typing.specs.Initials.{Judged, judged, judged_as, judged_cells}
 
+abbrev pub defined : code.Defined.Defined → Defined
+defined d = record { name = d.name; function = function d.function }
+
 abbrev pub walk : code.Walk.Walk → Walk
-walk w = record { scope = scope w.scope; objects = map object w.objects.items; taken = w.taken; bodies = map function w.bodies.items }
+walk w = record { scope = scope w.scope; objects = map object w.objects.items; taken = w.taken; bodies = map defined w.bodies.items }
 
 -- no function is walked
 abbrev pub Outside : Scope → Type 0
@@ -38,7 +41,7 @@ one_member g m done =
 abbrev pub one_parameter : Scope → i.Member → List Variable → Verdict (List Variable)
 one_parameter g p done =
     needs (nat_lt (length done) 16) E08 (type_span p.type.base)
-    (passing (type_named g p.type) (λ t. Passes (done ++ record { name = p.name.name; type = t } ∷ [])))
+    (passing (type_named g p.type) (λ t. Passes (done ++ record { name = p.name.number; type = t } ∷ [])))
 
 -- a variable of a type with what it is initialised with
 pub record JudgedVariable : Type 0 where
@@ -49,19 +52,19 @@ abbrev pub judged_variable : CType → code_judged.Judged → JudgedVariable
 judged_variable t v = record { type = t; initial = judged v }
 
 -- a variable more, with the bytes that are taken then
-abbrev pub with_one : List ℕ → CType → ℕ → Walk → Walk
+abbrev pub with_one : ℕ → CType → ℕ → Walk → Walk
 with_one name t taken w = record w { scope = with_variable name t w.scope; taken = taken }
 
 -- what a variable is initialised with, where it is known
 abbrev pub judged_initializer : Places → Scope → Option Initializer → Verdict Judged
-judged_initializer at g written = passing (initializer at g written) (λ x. Passes (judged_as x))
+judged_initializer at g written = passing (initializer at g written) (λ x. Passes (judged_as g.given x))
 
 -- one variable of a declaration
 abbrev pub one_variable : Places → Walk → TypeTree → CType → Span → Declarator → Verdict (Walk × JudgedVariable)
 one_variable at w base type span d =
     passing (room_for w base span d) (λ taken. passing (without_stars base d.stars type) (λ t.
-    passing (judged_initializer at (with_variable d.name.name t w.scope) d.initializer)
-    (λ initial. Passes (with_one d.name.name t taken w, record { type = t; initial = initial }))))
+    passing (judged_initializer at (with_variable d.name.number t w.scope) d.initializer)
+    (λ initial. Passes (with_one d.name.number t taken w, record { type = t; initial = initial }))))
 
 -- the variables of a declaration
 abbrev pub judged_variables : Places → TypeTree → CType → Span → List Declarator → Walk × List JudgedVariable → Verdict (Walk × List JudgedVariable)
@@ -86,7 +89,7 @@ body_core at g f parameters body = passing (statements at (inside f parameters g
 abbrev pub kept_rules : List i.Item → i.Function → Bool → Scope → Verdict (Unit {0})
 kept_rules all d fits g =
     needs fits E13 d.span
-    (needs (picked (is_tainted d.kind) true (is_defined all d.name.name)) E10 d.span
+    (needs (picked (is_tainted d.kind) true (is_defined all d.name.number)) E10 d.span
     (needs (not (is_unchecked d.mark)) E15 d.span (in_checked_region g d.span tt)))
 
 -- what is asked of a function behind its declaration

@@ -4,6 +4,7 @@ ghost use Rattle.std.specs.Prelude.{◌≡◌, ◌≤◌, true, length, map};
 ghost use Rattle.ckc_text.specs.Places.{place_at};
 ghost use Rattle.ckc_tree.specs.Items.{item as item_tree, tree};
 ghost use Rattle.built_forms.specs.Built.{is_built};
+ghost use Rattle.ckc_names.specs.Named.{named_tree};
 ghost use Rattle.ckc_core.specs.Core.{core as core_view};
 ghost use Rattle.region_typing_rules.specs.Verdicts.{Passes, passing};
 ghost use Rattle.region_typing_rules.specs.Items.{items as items_of};
@@ -29,12 +30,13 @@ fn core_of_items(
     sites: &Sites,
     walk: &mut Walk,
     written: &[Item],
+    entry: usize,
 ) -> Result<Core, CheckError>
     requires { Outside (scope_of walk.old.scope) }
-    ensures { Answers core_view (passing (items_of (place_at sites.now) (map item_tree written.now) (walk_of walk.old) (map item_tree written.now)) (λ w. Passes (core_of_walk w))) result }
+    ensures { Answers core_view (passing (items_of (place_at sites.now) (map item_tree written.now) (walk_of walk.old) (map item_tree written.now)) (λ w. Passes (core_of_walk entry w))) result }
 {
     items(alloc, sites, walk, written)?;
-    core_of(alloc, walk)
+    core_of(alloc, walk, entry)
 }
 
 /// The core of a program that has only forms that are built.
@@ -45,12 +47,19 @@ fn core_of_items(
 pub fn check(alloc: Global, src: &[u8], source: &Named) -> Result<Core, Refused>
     requires short { length src.now ≤ 1048576 }
     requires forms { is_built (tree source.now.program) ≡ true }
-    ensures { CheckAnswers core_view (place_at src.now) (tree source.now.program) result }
+    ensures { CheckAnswers core_view (place_at src.now) (named_tree source.now) result }
 {
     let sites = Sites::new(alloc, src)?;
-    let mut walk = Walk::new(alloc)?;
+    let given = source.given();
+    let mut walk = Walk::new(alloc, given)?;
     let program = source.program();
-    match core_of_items(alloc, &sites, &mut walk, program.items.as_slice()) {
+    match core_of_items(
+        alloc,
+        &sites,
+        &mut walk,
+        program.items.as_slice(),
+        given.main,
+    ) {
         Ok(core) => Ok(core),
         Err(CheckError::Source(fault)) => Err(Refused::Source(fault)),
         Err(CheckError::NoMemory) => Err(Refused::NoMemory),

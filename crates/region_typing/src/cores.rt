@@ -6,12 +6,12 @@ ghost use Rattle.region_typing_rules.specs.Cores.{without_body as without_body_o
 ghost use Rattle.region_typing_rules.specs.Verdicts.{Passes};
 ghost use Rattle.region_typing_scope.specs.Answering.{Answers};
 ghost use Rattle.region_typing_scope.specs.Views.{signature};
-ghost use Rattle.region_typing.specs.Items.{walk as walk_of};
+ghost use Rattle.region_typing.specs.Items.{walk as walk_of, defined};
 ghost use Rattle.region_typing.specs.CoreParts.{import_as, trusted_place as trusted_place_of};
 
 use crate::functions::copied_result;
 use crate::signatures::copied_signature;
-use crate::walk::Walk;
+use crate::walk::{Defined, Walk};
 use ckc_core::program::{Core, Function, Import};
 use ckc_text::fault::NoMemory;
 use ckc_text::name::Name;
@@ -28,7 +28,7 @@ fn without_body(alloc: Global, f: &Signature) -> Result<Function, NoMemory>
 {
     let heading = copied_signature(alloc, f)?;
     Ok(Function {
-        name: heading.name,
+        name: heading.text,
         parameters: heading.parameters.len() as u32,
         locals: heading.parameters,
         result: heading.result,
@@ -63,7 +63,7 @@ fn import(alloc: Global, f: &Signature) -> Result<Import, NoMemory>
     ensures { IfOk result (λ i. import_of i ≡ import_as (signature f.now)) }
 {
     Ok(Import {
-        name: Name::copied(alloc, f.name.as_bytes())?,
+        name: Name::copied(alloc, f.text.as_bytes())?,
         parameters: f.parameters.len() as u32,
         result: copied_result(alloc, &f.result)?,
     })
@@ -93,8 +93,8 @@ fn imports(alloc: Global, functions: &[Signature]) -> Result<Vec<Import>, NoMemo
 }
 
 // The place of a trusted function among those of its side.
-fn trusted_place(scope: &Scope, name: &[u8]) -> Option<usize>
-    ensures { result ≡ trusted_place_of (map signature scope.now.functions.items) name.now }
+fn trusted_place(scope: &Scope, name: usize) -> Option<usize>
+    ensures { result ≡ trusted_place_of (map signature scope.now.functions.items) name }
 {
     let f = scope.function(name)?;
     if is_import(f) {
@@ -113,13 +113,13 @@ fn put(built: &mut Vec<Function>, number: usize, f: Function)
 }
 
 // Puts a body in the place of its function.
-fn place(built: &mut Vec<Function>, scope: &Scope, body: Function)
+fn place(built: &mut Vec<Function>, scope: &Scope, body: Defined)
     requires { length built.old.items ≡ length (trusted_functions [] (map signature scope.now.functions.items)) }
     ensures all { length built.new.items ≡ length built.old.items }
-    ensures placed { (bodies : _) → map function_of built.old.items ≡ trusted_functions bodies (map signature scope.now.functions.items) → map function_of built.new.items ≡ trusted_functions (function_of body ∷ bodies) (map signature scope.now.functions.items) }
+    ensures placed { (bodies : _) → map function_of built.old.items ≡ trusted_functions bodies (map signature scope.now.functions.items) → map function_of built.new.items ≡ trusted_functions (defined body ∷ bodies) (map signature scope.now.functions.items) }
 {
-    match trusted_place(scope, body.name.as_bytes()) {
-        Some(number) => put(built, number, body),
+    match trusted_place(scope, body.name) {
+        Some(number) => put(built, number, body.function),
         None => drop(body),
     }
 }
@@ -128,9 +128,9 @@ fn place(built: &mut Vec<Function>, scope: &Scope, body: Function)
 fn functions(
     alloc: Global,
     scope: &Scope,
-    bodies: &mut Vec<Function>,
+    bodies: &mut Vec<Defined>,
 ) -> Result<Vec<Function>, NoMemory>
-    ensures { IfOk result (λ v. map function_of v.items ≡ trusted_functions (map function_of bodies.old.items) (map signature scope.now.functions.items)) }
+    ensures { IfOk result (λ v. map function_of v.items ≡ trusted_functions (map defined bodies.old.items) (map signature scope.now.functions.items)) }
 {
     let mut built = without_bodies(alloc, scope.functions.as_slice())?;
     while let Some(body) = bodies.pop() {
@@ -139,13 +139,13 @@ fn functions(
     Ok(built)
 }
 
-/// The core of what was walked. The cells and the bodies are moved into it.
-pub fn core_of(alloc: Global, walk: &mut Walk) -> Result<Core, CheckError>
-    ensures { Answers core_view (Passes (core_of_walk (walk_of walk.old))) result }
+/// The core of what was walked, where this is the name of `main`. The cells and the bodies are moved into it.
+pub fn core_of(alloc: Global, walk: &mut Walk, entry: usize) -> Result<Core, CheckError>
+    ensures { Answers core_view (Passes (core_of_walk entry (walk_of walk.old))) result }
 {
     let functions = functions(alloc, &walk.scope, &mut walk.bodies)?;
     let imports = imports(alloc, walk.scope.functions.as_slice())?;
-    let main = walk.scope.side_number(false, b"main".as_slice());
+    let main = walk.scope.side_number(false, entry);
     Ok(Core {
         objects: mem::replace(&mut walk.objects, Vec::new(alloc)),
         imports,

@@ -7,24 +7,24 @@ ghost use Rattle.region_typing.specs.Definitions.{Knows};
 
 use ckc_text::fault::NoMemory;
 use ckc_tree::item::Item;
-use region_typing_scope::name_table::NameTable;
+use region_typing_scope::number_table::NumberTable;
 use std::alloc::Global;
 
 /// The items of a source, with the names of the functions that have bodies among them.
 #[derive(Drop)]
 pub struct Listing<'a> {
     pub items: &'a [Item],
-    pub defined: NameTable,
+    pub defined: NumberTable,
     ghost known: { Knows defined (map item_tree items.now) },
 }
 
 // Notes the name of the function whose body an item is.
-fn note_definition(alloc: Global, item: &Item, defined: &mut NameTable) -> Result<(), NoMemory>
+fn note_definition(item: &Item, defined: &mut NumberTable) -> Result<(), NoMemory>
     ensures { OnOk result ((items : _) → Knows defined.old items → Knows defined.new (items ++ item_tree item.now ∷ [])) }
 {
     match item {
         Item::Function { function } => match &function.body {
-            Some(_) => defined.note(alloc, function.name.name.as_bytes(), 0),
+            Some(_) => defined.note(function.name.number, 0),
             None => Ok(()),
         },
         Item::Region { .. } | Item::Structure { .. } | Item::Global { .. } => Ok(()),
@@ -32,20 +32,20 @@ fn note_definition(alloc: Global, item: &Item, defined: &mut NameTable) -> Resul
 }
 
 /// The names of the functions that have bodies.
-pub fn defined_names(alloc: Global, items: &[Item]) -> Result<NameTable, NoMemory>
+pub fn defined_names(alloc: Global, items: &[Item]) -> Result<NumberTable, NoMemory>
     ensures { IfOk result (λ table. Knows table (map item_tree items.now)) }
 {
-    let mut defined = NameTable::new(alloc);
+    let mut defined = NumberTable::new(alloc);
     for item in items {
-        note_definition(alloc, item, &mut defined)?;
+        note_definition(item, &mut defined)?;
     }
     Ok(defined)
 }
 
 impl<'a> Listing<'a> {
     /// Whether a function of a name has a body.
-    pub fn is_defined(&self, name: &[u8]) -> bool
-        ensures { result ≡ defined_in (map item_tree self.now.items.now) name.now }
+    pub fn is_defined(&self, name: usize) -> bool
+        ensures { result ≡ defined_in (map item_tree self.now.items.now) name }
     {
         self.defined.get(name).is_some()
     }

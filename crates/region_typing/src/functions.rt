@@ -12,11 +12,10 @@ ghost use Rattle.region_typing_scope.specs.Views.{scope as scope_of, signature, 
 ghost use Rattle.region_typing.specs.Items.{walk as walk_of, Outside, one_parameter, body_core};
 
 use crate::signatures::copied_signature;
-use crate::walk::Walk;
+use crate::walk::{Defined, Walk};
 use ckc_core::program::{Function, Stmt};
 use ckc_text::code::Code;
 use ckc_text::fault::NoMemory;
-use ckc_text::name::Name;
 use ckc_tree::item::{Block, Parameter, Parameters, ResultForm};
 use ckc_tree::stmt;
 use pointer_modes::ctype::CType;
@@ -58,7 +57,7 @@ fn push_parameter(
         written.type_name.base.span(),
     )?;
     parameters.reserve(1)?;
-    let name = Name::copied(alloc, written.name.name.as_bytes())?;
+    let name = written.name.number;
     let ctype = type_named(alloc, scope, &written.type_name)?;
     parameters.push_reserved(Variable { name, ctype });
     Ok(())
@@ -119,7 +118,7 @@ fn add_parameters(alloc: Global, scope: &mut Scope, parameters: &[Variable]) -> 
 {
     for p in parameters {
         let ctype = copied(alloc, &p.ctype)?;
-        scope.add_local(alloc, p.name.as_bytes(), ctype)?;
+        scope.add_local(p.name, ctype)?;
     }
     Ok(())
 }
@@ -142,10 +141,10 @@ fn enter(
 // A function with its statements.
 fn core_function(f: Signature, parameters: usize, locals: Vec<CType>, body: Vec<Stmt>) -> Function
     requires { parameters ≤ 16 }
-    ensures { function_of result ≡ record { name = f.name; parameters = parameters; locals = map ctype_of locals.items; result = option_map ctype_of f.result; body = statements_of body.items } }
+    ensures { function_of result ≡ record { name = f.text; parameters = parameters; locals = map ctype_of locals.items; result = option_map ctype_of f.result; body = statements_of body.items } }
 {
     Function {
-        name: f.name,
+        name: f.text,
         parameters: parameters as u32,
         locals,
         result: f.result,
@@ -189,7 +188,10 @@ fn with_body(
     let checked = is_checked(&walk.scope, body.mark);
     let written = body.statements.as_slice();
     let built = body_of(alloc, sites, &mut walk.scope, f, parameters, written)?;
-    walk.bodies.push(built)?;
+    walk.bodies.push(Defined {
+        name: f.name,
+        function: built,
+    })?;
     needs(checked, Code::E15, body.span)
 }
 

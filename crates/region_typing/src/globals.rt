@@ -52,7 +52,7 @@ fn written_size(scope: &Scope, base: &TypeForm, stars: usize) -> Result<u32, Che
         TypeForm::Int { .. } => Ok(scope.structs.size_of(&CType::Int)),
         TypeForm::Char { .. } => Ok(scope.structs.size_of(&CType::Char)),
         TypeForm::Struct { tag, .. } => {
-            let number = meant(scope.struct_number(tag.name.as_bytes()))?;
+            let number = meant(scope.struct_number(tag.number))?;
             Ok(scope.structs.size_of(&CType::Struct(number)))
         }
         TypeForm::Pointer { .. } => Ok(POINTER_BYTES),
@@ -104,7 +104,7 @@ fn initializer(
         None => Ok(Judged::Missing),
         Some(Initializer::Value { value }) => {
             let t = typed(alloc, sites, scope, value)?;
-            Ok(judged_value(value, &t))
+            Ok(judged_value(scope.given, value, &t))
         }
         Some(Initializer::List { .. }) => Ok(Judged::List),
     }
@@ -114,15 +114,15 @@ fn initializer(
 fn add_variable(
     alloc: Global,
     walk: &mut Walk,
-    name: &[u8],
+    name: usize,
     t: &CType,
     taken: u32,
 ) -> Result<(), NoMemory>
     requires few { length walk.old.scope.variables.items < 4096 }
     requires room { taken ≤ 32768 }
-    ensures { OnOk result (walk_of walk.new ≡ with_one name.now (ctype_of t.now) taken (walk_of walk.old)) }
+    ensures { OnOk result (walk_of walk.new ≡ with_one name (ctype_of t.now) taken (walk_of walk.old)) }
 {
-    walk.scope.add_variable(alloc, name, copied(alloc, t)?)?;
+    walk.scope.add_variable(name, copied(alloc, t)?)?;
     walk.taken = taken;
     Ok(())
 }
@@ -141,7 +141,7 @@ fn variable(
 {
     let taken = room_for(walk, base, span, d)?;
     needs(d.stars == 0, Code::E15, base.span())?;
-    add_variable(alloc, walk, d.name.name.as_bytes(), t, taken)?;
+    add_variable(alloc, walk, d.name.number, t, taken)?;
     initializer(alloc, sites, &walk.scope, &d.initializer)
 }
 

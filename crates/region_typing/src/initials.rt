@@ -1,7 +1,6 @@
 // The cells of file-level variables before the run.
 
-ghost use Rattle.std.specs.Prelude.{◌≡◌, ◌<◌, ◌≤◌, true, pos, bytes_eq, length, map, IfOk, IfSome};
-ghost use Rattle.ckc_names_rules.specs.Scopes.{null};
+ghost use Rattle.std.specs.Prelude.{◌≡◌, ◌<◌, ◌≤◌, ◌==◌, true, pos, length, map, IfOk, IfSome};
 ghost use Rattle.ckc_tree.specs.Expressions.{expression as expression_tree};
 ghost use Rattle.pointer_modes.specs.Types.{ctype as ctype_of, member as member_of};
 ghost use Rattle.pointer_modes.specs.Layout.{cells_of as cells_in};
@@ -14,6 +13,7 @@ ghost use Rattle.region_typing_values.specs.Typed.{typed as typed_view};
 ghost use Rattle.region_typing.specs.Initials.{IsSmall, IsStructOf, judged_as, judged_cells, cell_number as cell_number_as, constant_cells as constant_cells_as, judged as judged_of, stride_at};
 
 use ckc_core::program::Initial;
+use ckc_names_rules::given::Given;
 use ckc_text::code::Code;
 use ckc_text::fault::NoMemory;
 use ckc_text::place::Span;
@@ -35,29 +35,23 @@ pub enum Judged {
 }
 
 // A constant without a sign.
-fn unsigned_constant(e: &Expr) -> Option<u32>
-    ensures { result ≡ unsigned_of (expression_tree e.now) }
+fn unsigned_constant(given: Given, e: &Expr) -> Option<u32>
+    ensures { result ≡ unsigned_of given (expression_tree e.now) }
 {
     match e {
         Expr::Number { value, .. } => Some(*value),
         Expr::Character { value, .. } => Some(u32::from(*value)),
-        Expr::Name { name } => null_number(name.name.as_bytes()),
+        Expr::Name { name } => null_number(given, name.number),
         _ => None,
     }
 }
 
-fn is_null(name: &[u8]) -> bool
-    ensures { result ≡ bytes_eq name.now null }
-{
-    name == b"NULL".as_slice()
-}
-
 // The number that `NULL` is.
-fn null_number(name: &[u8]) -> Option<u32>
-    ensures number { result ≡ null_number_of (bytes_eq name.now null) }
+fn null_number(given: Given, name: usize) -> Option<u32>
+    ensures number { result ≡ null_number_of (name == given.null) }
     ensures zero { IfSome result (λ n. n ≡ 0) }
 {
-    if is_null(name) { Some(0) } else { None }
+    if name == given.null { Some(0) } else { None }
 }
 
 // A number below 2^31.
@@ -77,31 +71,31 @@ fn negative(n: u32) -> i32
 }
 
 // A number with or without a minus.
-fn signed_constant(e: &Expr) -> Option<i32>
-    requires { IsSmall (expression_tree e.now) }
-    ensures { result ≡ signed_of (expression_tree e.now) }
+fn signed_constant(given: Given, e: &Expr) -> Option<i32>
+    requires { IsSmall given (expression_tree e.now) }
+    ensures { result ≡ signed_of given (expression_tree e.now) }
 {
     match e {
         Expr::Number { value, .. } => Some(positive(*value)),
         Expr::Character { value, .. } => Some(positive(u32::from(*value))),
-        Expr::Name { name } => Some(positive(null_number(name.name.as_bytes())?)),
+        Expr::Name { name } => Some(positive(null_number(given, name.number)?)),
         Expr::Unary {
             operator: UnaryOperator::Negate,
             operand,
             ..
-        } => Some(negative(unsigned_constant(operand)?)),
+        } => Some(negative(unsigned_constant(given, operand)?)),
         _ => None,
     }
 }
 
 /// What is judged of a value.
-pub fn judged_value(e: &Expr, t: &Typed) -> Judged
-    requires { IsSmall (expression_tree e.now) }
-    ensures { judged_of result ≡ judged_as (Written (expression_tree e.now) (typed_view t.now)) }
+pub fn judged_value(given: Given, e: &Expr, t: &Typed) -> Judged
+    requires { IsSmall given (expression_tree e.now) }
+    ensures { judged_of result ≡ judged_as given (Written (expression_tree e.now) (typed_view t.now)) }
 {
     Judged::Constant {
         zero: is_zero(t),
-        number: signed_constant(e),
+        number: signed_constant(given, e),
     }
 }
 

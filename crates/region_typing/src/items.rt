@@ -34,13 +34,11 @@ const MOST_FUNCTIONS: usize = 4096;
 
 // Whether a function has a body where it needs one.
 fn has_body(listing: &Listing, d: &Function) -> bool
-    ensures { result ≡ picked (tainted_kind d.now.kind) true (defined_in (map item_tree listing.now.items.now) d.now.name.name) }
+    ensures { result ≡ picked (tainted_kind d.now.kind) true (defined_in (map item_tree listing.now.items.now) d.now.name.number) }
 {
     match d.kind {
         FunctionKind::Tainted => true,
-        FunctionKind::Trusted | FunctionKind::Callback => {
-            listing.is_defined(d.name.name.as_bytes())
-        }
+        FunctionKind::Trusted | FunctionKind::Callback => { listing.is_defined(d.name.number) }
     }
 }
 
@@ -61,8 +59,8 @@ fn keep_rules(listing: &Listing, scope: &Scope, d: &Function, fits: bool) -> Res
 }
 
 // Whether a function is known, or there is room for one more.
-fn has_room(scope: &Scope, name: &[u8]) -> bool
-    ensures { result ≡ (is_some (function_named (scope_of scope.now).functions name.now) || nat_lt (length (scope_of scope.now).functions) 4096) }
+fn has_room(scope: &Scope, name: usize) -> bool
+    ensures { result ≡ (is_some (function_named (scope_of scope.now).functions name) || nat_lt (length (scope_of scope.now).functions) 4096) }
 {
     scope.function(name).is_some() || scope.functions.len() < MOST_FUNCTIONS
 }
@@ -98,11 +96,7 @@ fn function(
     requires { Outside (scope_of walk.old.scope) }
     ensures { Answers (λ _. walk_of walk.new) (function_of (place_at sites.now) (map item_tree listing.now.items.now) (walk_of walk.old) (function_tree d.now)) result }
 {
-    needs(
-        has_room(&walk.scope, d.name.name.as_bytes()),
-        Code::E08,
-        d.span,
-    )?;
+    needs(has_room(&walk.scope, d.name.number), Code::E08, d.span)?;
     let known = declared(alloc, &walk.scope, d)?;
     with_prototype(alloc, sites, listing, walk, &known, d)
 }

@@ -61,7 +61,7 @@ fn same_kind(a: FunctionKind, b: FunctionKind) -> bool
 pub fn agrees(scope: &Scope, f: &Signature) -> bool
     ensures { result ≡ agrees_of (function_named (scope_of scope.now).functions f.now.name) (signature f.now) }
 {
-    match scope.function(f.name.as_bytes()) {
+    match scope.function(f.name) {
         None => true,
         Some(known) => {
             same_kind(known.kind, f.kind)
@@ -125,7 +125,8 @@ pub fn declared(alloc: Global, scope: &Scope, d: &Function) -> Result<Prototype,
     let result = result_type(alloc, scope, &d.result, d.stars)?;
     let parameters = parameter_types(alloc, scope, &d.parameters)?;
     let signature = Signature {
-        name: Name::copied(alloc, d.name.name.as_bytes())?,
+        name: d.name.number,
+        text: Name::copied(alloc, d.name.name.as_bytes())?,
         kind: d.kind,
         parameters: types_of(alloc, parameters.as_slice())?,
         result,
@@ -141,7 +142,8 @@ pub fn copied_signature(alloc: Global, f: &Signature) -> Result<Signature, NoMem
     ensures { IfOk result (λ copy. signature copy ≡ signature f.now) }
 {
     Ok(Signature {
-        name: Name::copied(alloc, f.name.as_bytes())?,
+        name: f.name,
+        text: Name::copied(alloc, f.text.as_bytes())?,
         kind: f.kind,
         parameters: copied_types(alloc, f.parameters.as_slice())?,
         result: copied_result(alloc, &f.result)?,
@@ -153,11 +155,11 @@ pub fn declare(alloc: Global, scope: &mut Scope, f: &Signature) -> Result<(), No
     requires { function_named (scope_of scope.old).functions f.now.name ≡ None → length scope.old.functions.items < 4096 }
     ensures { IfOk result (λ _. scope_of scope.new ≡ with_function (function_named (scope_of scope.old).functions f.now.name) (signature f.now) (scope_of scope.old)) }
 {
-    match scope.function(f.name.as_bytes()) {
+    match scope.function(f.name) {
         Some(_) => Ok(()),
         None => {
             let copy = copied_signature(alloc, f)?;
-            scope.add_function(alloc, copy)
+            scope.add_function(copy)
         }
     }
 }

@@ -4,13 +4,14 @@ ghost use Rattle.std.specs.Prelude.{◌≡◌, ◌≤◌, [], length, map, IfOk}
 ghost use Rattle.ckc_tree.specs.Items.{member as member_tree, structure as structure_tree};
 ghost use Rattle.pointer_modes.specs.Types.{ctype as ctype_of, member as member_of};
 ghost use Rattle.region_typing_rules.specs.Verdicts.{Passes};
-ghost use Rattle.region_typing_rules.specs.Items.{is_struct as struct_type, member_types as member_types_of, scalar_members, structure as structure_of};
+ghost use Rattle.region_typing_rules.specs.Items.{is_struct as struct_type, member_types as member_types_of, member_names as member_names_of, scalar_members, structure as structure_of};
 ghost use Rattle.region_typing_scope.specs.Answering.{Answers};
 ghost use Rattle.region_typing_scope.specs.Views.{scope as scope_of};
 ghost use Rattle.region_typing.specs.Items.{walk as walk_of, one_member};
 
 use crate::walk::Walk;
 use ckc_text::code::Code;
+use ckc_text::fault::NoMemory;
 use ckc_text::name::Name;
 use ckc_tree::item;
 use ckc_tree::item::Structure;
@@ -81,14 +82,26 @@ fn are_scalar(members: &[Member]) -> Result<(), CheckError>
     Ok(())
 }
 
+// The names of members.
+fn member_names(alloc: Global, members: &[item::Member]) -> Result<Vec<usize>, NoMemory>
+    ensures { IfOk result (λ v. v.items ≡ member_names_of (map member_tree members.now)) }
+{
+    let mut names = Vec::new(alloc);
+    for member in members {
+        names.push(member.name.number)?;
+    }
+    Ok(names)
+}
+
 /// A struct.
 pub fn structure(alloc: Global, walk: &mut Walk, d: &Structure) -> Result<(), CheckError>
     ensures { Answers (λ _. walk_of walk.new) (structure_of (walk_of walk.old) (structure_tree d.now)) result }
 {
     let checked = !walk.scope.is_off;
+    let names = member_names(alloc, d.members.as_slice())?;
     let number = walk
         .scope
-        .add_struct(alloc, d.tag.name.as_bytes(), d.tainted, d.span)?;
+        .add_struct(d.tag.number, names, d.tainted, d.span)?;
     let members = member_types(alloc, &walk.scope, d.members.as_slice())?;
     are_scalar(members.as_slice())?;
     walk.scope.give_members(number, members);

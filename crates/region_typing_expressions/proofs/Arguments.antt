@@ -36,7 +36,7 @@ passing_twice (Stops stop) f g = refl
 
 -- the value of a call
 pub call_parts : (at : Places) (s : Scope) (x : Expr) (callee : Identifier) (arguments : Vec Expr Global) (span : Span) (slice : List Expr) → x ≡ exprs.Call callee arguments span → slice ≡ arguments.items
-    → typed at s (expression x) ≡ passing (called_with at s callee.name (expression_list slice) span) (λ c. with_result c span)
+    → typed at s (expression x) ≡ passing (called_with at s callee.number (expression_list slice) span) (λ c. with_result c span)
 call_parts at s x callee arguments span slice is same =
     ap (typed at s) (call_tree x callee arguments span slice is same) ∙ passing_twice (all_typed at s (expression_list slice)) _ _
 

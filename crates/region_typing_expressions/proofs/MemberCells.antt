@@ -1,7 +1,9 @@
 -- Members of structs, and their cells.
-use Rattle.std.proofs.Common.{◌≡◌, ℕ, zero, suc, ◌<◌, Bool, true, false, ◌&&◌, bytes_eq, List, [], ◌∷◌, length, map, slice_get, slice_index, position, Some, None, refl, sym, ap, ◌∙◌}
+use Rattle.std.proofs.Common.{◌≡◌, ℕ, zero, suc, ◌+◌, ◌≤◌, Bool, true, false, ◌&&◌, List, [], ◌∷◌, length, map, slice_get, slice_index, position, Option, Some, None, refl, sym, ap, ◌∙◌, arith}
+use Rattle.std.specs.Prelude.{◌==◌}
+use Rattle.std.specs.Option.{option_map}
 use Rattle.std.specs.List.{list_all}
-use Rattle.std.proofs.lemmas.List.Quantifiers.{position-Some}
+use Rattle.std.proofs.lemmas.Option.{slice_get_past}
 use Rattle.ckc_text.specs.declared.place.Span.{Span}
 use Rattle.ckc_text.specs.declared.code.Code.TheVariants.{E10}
 use Rattle.pointer_modes.specs.declared.ctype.Member as code
@@ -10,12 +12,11 @@ use Rattle.pointer_modes.specs.Layout.{Cell, cells_of}
 use Rattle.ckc_core.specs.declared.program.Site.{Site}
 use Rattle.ckc_core.specs.Core as core
 use Rattle.region_typing_rules.specs.Verdicts.{Passes, breaks}
-use Rattle.region_typing_rules.specs.Scopes.{Scope}
+use Rattle.region_typing_rules.specs.Scopes.{Scope, members_named}
 use Rattle.region_typing_rules.specs.Types.{is_scalar}
 use Rattle.region_typing_rules.specs.Expressions.{Value, OfCell, at_place, member_from, member_at, member_place, offset_among}
-use Rattle.region_typing_scope.specs.Tables.{place_of}
 use Rattle.region_typing_scope.specs.Searches.{member_at as member_found_at}
-use Rattle.region_typing_scope.proofs.Searches.{member_found, member_there, none_at}
+use Rattle.region_typing_scope.proofs.Searches.{place_found, member_found}
 
 and_first : (a b : Bool) → (a && b) ≡ true → a ≡ true
 and_first true b both = refl
@@ -46,23 +47,36 @@ scalar_cell Char p scalar = refl
 scalar_cell (Struct number) p scalar = absurd (cc)
 scalar_cell (Pointer mode kind target) p scalar = refl
 
+-- ---- the member of a name
+
+pub place_found_so : (name : ℕ) (names : List ℕ) (ms : List code.Member) (place : Option ℕ) → place ≡ position (λ other. name == other) names → member_found_at 0 ms place ≡ member_from 0 names (map member ms) name
+place_found_so name names ms place is = ap (member_found_at 0 ms) (is ∙ place_found (λ other. name == other) names) ∙ sym (member_found name 0 names ms)
+
+-- a place behind the last member is none
+pub place_behind : (name : ℕ) (names : List ℕ) (ms : List code.Member) (k : ℕ) → Some k ≡ position (λ other. name == other) names → length ms ≤ k → member_found_at 0 ms None ≡ member_from 0 names (map member ms) name
+place_behind name names ms k is past = sym none ∙ place_found_so name names ms (Some k) is
+  where
+    none : member_found_at 0 ms (Some k) ≡ None
+    none = rw (slice_get_past ms k past) refl
+
 -- no member of a name
-pub no_member : (s : Scope) (struct : ℕ) (base : core.Place) (name : List ℕ) (site : Site) (span : Span) (ms : List code.Member) → map member ms ≡ members_of s.structs struct → position (λ m. bytes_eq name m.name) ms ≡ None → member_at s struct base name site span ≡ breaks E10 span
-no_member s struct base name site span ms are none =
-    let e : member_from 0 (members_of s.structs struct) name ≡ None = ap (λ ws. member_from 0 ws name) (sym are) ∙ member_found name 0 ms ∙ ap (member_found_at 0 ms) (none_at (λ m. bytes_eq name m.name) ms ms none refl) in
+pub no_member : (s : Scope) (struct : ℕ) (base : core.Place) (name : ℕ) (site : Site) (span : Span) (names : List ℕ) (ms : List code.Member) → names ≡ members_named s struct → map member ms ≡ members_of s.structs struct
+    → None ≡ member_from 0 names (map member ms) name → member_at s struct base name site span ≡ breaks E10 span
+no_member s struct base name site span names ms named are none =
+    let e : member_from 0 (members_named s struct) (members_of s.structs struct) name ≡ None =
+    ap (λ ns. member_from 0 ns (members_of s.structs struct) name) (sym named) ∙ ap (λ ws. member_from 0 names ws name) (sym are) ∙ sym none in
     rw e refl
 
 -- the cell of a member that is there
-pub member_cell : (s : Scope) (struct k offset : ℕ) (base place : core.Place) (name : List ℕ) (site : Site) (span : Span) (ms : List code.Member) (m : code.Member) (t : CType) → map member ms ≡ members_of s.structs struct → place_of (λ w. bytes_eq name w.name) ms ≡ Some k → slice_get ms k ≡ Some m
+pub member_cell : (s : Scope) (struct k offset : ℕ) (base place : core.Place) (name : ℕ) (site : Site) (span : Span) (names : List ℕ) (ms : List code.Member) (m : code.Member) (t : CType) → names ≡ members_named s struct → map member ms ≡ members_of s.structs struct
+    → member_found_at 0 ms (Some k) ≡ member_from 0 names (map member ms) name → slice_get ms k ≡ Some m
     → list_all (λ d. list_all (λ w. is_scalar w.ctype) d.members) s.structs ≡ true → t ≡ ctype m.ctype → offset ≡ slice_index (map (λ c. c.offset) (cells_of s.structs (Struct struct))) k → place ≡ member_place base k offset site
     → member_at s struct base name site span ≡ Passes (Value t false (core.Load t place) (Some (OfCell place)))
-member_cell s struct k offset base place name site span ms m t are there at all same offset_is place_is =
-    let e : member_from 0 (members_of s.structs struct) name ≡ Some (k, ctype m.ctype) = ap (λ ws. member_from 0 ws name) (sym are) ∙ member_there name ms k m there at in
+member_cell s struct k offset base place name site span names ms m t named are there at all same offset_is place_is =
+    let first : 0 + k ≡ k = omega arith in
+    let e : member_from 0 (members_named s struct) (members_of s.structs struct) name ≡ Some (k, ctype m.ctype) =
+    ap (λ ns. member_from 0 ns (members_of s.structs struct) name) (sym named) ∙ ap (λ ws. member_from 0 names ws name) (sym are) ∙ sym there
+    ∙ ap (option_map (λ w. (0 + k, ctype w.ctype))) at ∙ ap (λ j. Some (j, ctype m.ctype)) first in
     let scalar : is_scalar t ≡ true = ap is_scalar same ∙ scalar_at ms k m (ap (list_all (λ w. is_scalar w.ctype)) are ∙ all_scalar_members s.structs struct all) at in
     let here : member_place base k (offset_among (cells_of s.structs (Struct struct)) k) site ≡ place = ap (λ o. member_place base k o site) (offset_at (cells_of s.structs (Struct struct)) k ∙ sym offset_is) ∙ sym place_is in
     rw (e, ← same, here) (ap Passes (scalar_cell t place scalar))
-
--- a member that is found stands among the members
-pub found_within : (name : List ℕ) (ms : List code.Member) (k : ℕ) → Some k ≡ position (λ m. bytes_eq name m.name) ms → k < length ms
-found_within name [] k found = absurd (cc)
-found_within name (m ∷ ms) k found = (position-Some (λ w. bytes_eq name w.name) (m ∷ ms) k m (sym found)).0

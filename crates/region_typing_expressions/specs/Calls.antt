@@ -45,9 +45,9 @@ converted_call s f arguments site =
     (side_number (is_import f) s.functions f.name 0) f.result site values))
 
 -- what a name stands for, as an expression
-abbrev pub name_verdict : Scope → List ℕ → Verdict Typed
+abbrev pub name_verdict : Scope → ℕ → Verdict Typed
 name_verdict s name = passing (named s name) (λ n. Passes (name_typed n))
 
 -- a call of a function by its name, with what its arguments are
-abbrev pub called_with : Places → Scope → List ℕ → Expressions → Span → Verdict Called
+abbrev pub called_with : Places → Scope → ℕ → Expressions → Span → Verdict Called
 called_with at s name arguments span = passing (all_typed at s arguments) (λ ts. called_in s (function_named s.functions name) name ts (site_at at span) span)

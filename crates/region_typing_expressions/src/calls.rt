@@ -14,6 +14,7 @@ ghost use Rattle.region_typing_values.specs.OnHeap.{typed};
 ghost use Rattle.region_typing_expressions.specs.Calls.{argument, called as called_as, converted_call, only_number, call_value, call_statement};
 
 use ckc_core::program::{Expr, Site, Stmt};
+use ckc_names_rules::given::Given;
 use ckc_text::code::Code;
 use ckc_text::fault::NoMemory;
 use ckc_text::place::Span;
@@ -99,13 +100,14 @@ fn puts_byte(alloc: Global, arguments: VecDeque<Argument>, span: Span) -> Result
 // A call of a function that is there before the program.
 fn predefined(
     alloc: Global,
-    name: &[u8],
+    given: Given,
+    name: usize,
     arguments: VecDeque<Argument>,
     span: Span,
 ) -> Result<Called, CheckError>
-    ensures { Answers called_as (predefined_in name.now (map argument arguments.items) span) result }
+    ensures { Answers called_as (predefined_in given name (map argument arguments.items) span) result }
 {
-    if name == b"next_input".as_slice() {
+    if name == given.next_input {
         needs(arguments.is_empty(), Code::E14, span)?;
         let value = boxed(alloc, Expr::NextInput)?;
         return Ok(Called::Gives {
@@ -113,10 +115,10 @@ fn predefined(
             value,
         });
     }
-    if name == b"print_int".as_slice() {
+    if name == given.print_int {
         return prints(alloc, arguments, span);
     }
-    if name == b"putchar".as_slice() {
+    if name == given.putchar {
         return puts_byte(alloc, arguments, span);
     }
     Err(CheckError::Unnamed)
@@ -233,7 +235,7 @@ fn call_with(
     let import = is_import(f);
     let arguments = VecDeque::from_vec(arguments);
     let values = arguments_as(alloc, arguments, f.parameters.as_slice())?;
-    let number = scope.side_number(import, f.name.as_bytes());
+    let number = scope.side_number(import, f.name);
     Ok(call_of(alloc, import, number, &f.result, site, values)?)
 }
 
@@ -259,16 +261,22 @@ fn declared(
 pub fn call(
     alloc: Global,
     scope: &Scope,
-    name: &[u8],
+    name: usize,
     arguments: Vec<Argument>,
     site: Site,
     span: Span,
 ) -> Result<Called, CheckError>
-    ensures { Answers called_as (called_in (scope_of scope.now) (function_named (scope_of scope.now).functions name.now) name.now (map argument arguments.items) site span) result }
+    ensures { Answers called_as (called_in (scope_of scope.now) (function_named (scope_of scope.now).functions name) name (map argument arguments.items) site span) result }
 {
     match scope.function(name) {
         Some(f) => declared(alloc, scope, f, arguments, site, span),
-        None => predefined(alloc, name, VecDeque::from_vec(arguments), span),
+        None => predefined(
+            alloc,
+            scope.given,
+            name,
+            VecDeque::from_vec(arguments),
+            span,
+        ),
     }
 }
 

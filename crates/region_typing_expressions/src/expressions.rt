@@ -75,8 +75,8 @@ fn size_of(alloc: Global, scope: &Scope, t: &TypeName) -> Result<Box<Typed>, Che
 }
 
 // What a name stands for.
-fn named(alloc: Global, scope: &Scope, name: &[u8]) -> Result<Box<Typed>, CheckError>
-    ensures { Answers typed_view (name_verdict (scope_of scope.now) name.now) result }
+fn named(alloc: Global, scope: &Scope, name: usize) -> Result<Box<Typed>, CheckError>
+    ensures { Answers typed_view (name_verdict (scope_of scope.now) name) result }
 {
     if let Some(local) = scope.local(name) {
         let ctype = copied(alloc, local.ctype)?;
@@ -86,7 +86,7 @@ fn named(alloc: Global, scope: &Scope, name: &[u8]) -> Result<Box<Typed>, CheckE
         let ctype = copied(alloc, object.ctype)?;
         return Ok(boxed(alloc, at_base(ctype, Base::Object(object.number)))?);
     }
-    if name == b"NULL".as_slice() {
+    if name == scope.given.null {
         Ok(constant(alloc, true, 0)?)
     } else {
         Err(CheckError::Unnamed)
@@ -110,21 +110,14 @@ pub fn typed(
         | Expr::Cast { span, .. }
         | Expr::Malloc { span, .. }
         | Expr::Calloc { span, .. } => Err(refusal(Code::E13, *span)),
-        Expr::Name { name } => named(alloc, scope, name.name.as_bytes()),
+        Expr::Name { name } => named(alloc, scope, name.number),
         Expr::Call {
             callee,
             arguments,
             span,
         } => {
             let arguments = arguments.as_slice();
-            let answer = called(
-                alloc,
-                sites,
-                scope,
-                callee.name.as_bytes(),
-                arguments,
-                *span,
-            )?;
+            let answer = called(alloc, sites, scope, callee.number, arguments, *span)?;
             with_result(alloc, answer, *span)
         }
         Expr::SizeOf { type_name, .. } => size_of(alloc, scope, type_name),
@@ -136,12 +129,12 @@ pub fn typed(
         Expr::Dot { base, member, span } => {
             let base = typed(alloc, sites, scope, base)?;
             let site = sites.site(*span);
-            dotted(alloc, scope, base, member.name.as_bytes(), site, *span)
+            dotted(alloc, scope, base, member.number, site, *span)
         }
         Expr::Arrow { base, member, span } => {
             let base = typed(alloc, sites, scope, base)?;
             let site = sites.site(*span);
-            arrowed(alloc, scope, base, member.name.as_bytes(), site, *span)
+            arrowed(alloc, scope, base, member.number, site, *span)
         }
         Expr::Unary {
             operator,
@@ -191,11 +184,11 @@ fn called(
     alloc: Global,
     sites: &Sites,
     scope: &Scope,
-    name: &[u8],
+    name: usize,
     arguments: &[Expr],
     span: Span,
 ) -> Result<Called, CheckError>
-    ensures { Answers called_as (called_with (place_at sites.now) (scope_of scope.now) name.now (expression_list arguments.now) span) result }
+    ensures { Answers called_as (called_with (place_at sites.now) (scope_of scope.now) name (expression_list arguments.now) span) result }
 {
     let arguments = all_typed(alloc, sites, scope, arguments)?;
     call(alloc, scope, name, arguments, sites.site(span), span)
@@ -217,14 +210,7 @@ pub fn call_typed(
             span,
         } => {
             let arguments = arguments.as_slice();
-            called(
-                alloc,
-                sites,
-                scope,
-                callee.name.as_bytes(),
-                arguments,
-                *span,
-            )
+            called(alloc, sites, scope, callee.number, arguments, *span)
         }
         _ => Err(refusal(Code::E13, Span { from: 0, to: 0 })),
     }

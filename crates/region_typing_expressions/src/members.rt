@@ -1,10 +1,11 @@
 // Members of structs.
 
-ghost use Rattle.std.specs.Prelude.{◌≡◌, bytes_eq, position, IfOk};
-ghost use Rattle.pointer_modes.specs.Types.{ctype as ctype_of};
+ghost use Rattle.std.specs.Prelude.{◌≡◌, ◌<◌, ◌==◌, length, map, position, IfOk, IfSome};
+ghost use Rattle.pointer_modes.specs.Types.{ctype as ctype_of, member as member_of};
 ghost use Rattle.ckc_core.specs.Core.{place as place_of};
-ghost use Rattle.region_typing_rules.specs.Expressions.{member_at as member_in, member_place as place_in, struct_place as cell_of_struct, dotted as dotted_in, arrowed as arrowed_in};
+ghost use Rattle.region_typing_rules.specs.Expressions.{member_from, member_at as member_in, member_place as place_in, struct_place as cell_of_struct, dotted as dotted_in, arrowed as arrowed_in};
 ghost use Rattle.region_typing_scope.specs.Answering.{Answers};
+ghost use Rattle.region_typing_scope.specs.Searches.{member_at as member_found_at};
 ghost use Rattle.region_typing_scope.specs.Views.{scope as scope_of};
 ghost use Rattle.region_typing_values.specs.Typed.{base_place, struct_place, struct_of, struct_behind};
 ghost use Rattle.region_typing_values.specs.OnHeap.{typed};
@@ -22,11 +23,24 @@ use region_typing_values::operands::{Operand, value_of};
 use region_typing_values::typed::{Base, StructPlace, Typed};
 use std::alloc::Global;
 
-/// The place of the first of members that has this name.
-fn member_place(members: &[Member], name: &[u8]) -> Option<usize>
-    ensures { result ≡ position (λ m. bytes_eq name.now m.name) members.now }
+// The place of the first of names that is this one.
+fn name_place(names: &[usize], name: usize) -> Option<usize>
+    ensures { result ≡ position (λ other. name == other) names.now }
 {
-    members.iter().position(|m| name == m.name.as_bytes())
+    names.iter().position(|other| name == *other)
+}
+
+// The place of the member that has a name, where these are the names of members.
+fn member_place(names: &[usize], members: &[Member], name: usize) -> Option<usize>
+    ensures found { member_found_at 0 members.now result ≡ member_from 0 names.now (map member_of members.now) name }
+    ensures within { IfSome result (λ place. place < length members.now) }
+{
+    let place = name_place(names, name)?;
+    if place < members.len() {
+        Some(place)
+    } else {
+        None
+    }
 }
 
 // A cell of a struct.
@@ -54,14 +68,15 @@ pub fn member_at(
     scope: &Scope,
     number: u32,
     base: Base,
-    name: &[u8],
+    name: usize,
     site: Site,
     span: Span,
 ) -> Result<Box<Typed>, CheckError>
-    ensures { Answers typed (member_in (scope_of scope.now) number (base_place base) name.now site span) result }
+    ensures { Answers typed (member_in (scope_of scope.now) number (base_place base) name site span) result }
 {
     let members = scope.structs.members(number);
-    match member_place(members, name) {
+    let names = scope.members_named(number);
+    match member_place(names, members, name) {
         None => Err(refusal(Code::E10, span)),
         Some(cell) => {
             let offset = scope
@@ -92,11 +107,11 @@ pub fn dotted(
     alloc: Global,
     scope: &Scope,
     t: Box<Typed>,
-    name: &[u8],
+    name: usize,
     site: Site,
     span: Span,
 ) -> Result<Box<Typed>, CheckError>
-    ensures { Answers typed (dotted_in (scope_of scope.now) (typed t) name.now site span) result }
+    ensures { Answers typed (dotted_in (scope_of scope.now) (typed t) name site span) result }
 {
     match Box::into_inner(t) {
         Typed::Struct { number, place } => {
@@ -112,11 +127,11 @@ pub fn arrowed(
     alloc: Global,
     scope: &Scope,
     t: Box<Typed>,
-    name: &[u8],
+    name: usize,
     site: Site,
     span: Span,
 ) -> Result<Box<Typed>, CheckError>
-    ensures { Answers typed (arrowed_in (scope_of scope.now) (typed t) name.now site span) result }
+    ensures { Answers typed (arrowed_in (scope_of scope.now) (typed t) name site span) result }
 {
     let Operand {
         ctype,

@@ -7,18 +7,20 @@ use Rattle.ckc_tree.specs.Items as i
 use Rattle.ckc_tree.specs.Items.{Item, Tree}
 use Rattle.ckc_core.specs.Core as core
 use Rattle.ckc_core.specs.Core.{Core}
+use Rattle.ckc_names_rules.specs.Given.{main, number_in, given_in}
+use Rattle.ckc_names_rules.specs.Naming.{named_of}
 use Rattle.region_typing_rules.specs.Verdicts.{Verdict, Passes, Stops, passing, picked}
 use Rattle.region_typing_rules.specs.Scopes.{Scope, Signature, Variable, function_named}
 use Rattle.region_typing_rules.specs.Expressions.{Places, is_import}
 use Rattle.region_typing_rules.specs.Statements.{statements, is_unchecked, is_checked}
-use Rattle.region_typing_rules.specs.Items.{Walk, with_function, inside, core_function, function_body, function, item, items, start, walked}
+use Rattle.region_typing_rules.specs.Items.{Defined, Walk, with_function, inside, core_function, function_body, function, item, items, start, walked}
 use Rattle.region_typing_rules.specs.Cores.{body_of, trusted_functions, tainted_functions, core_of}
 use Rattle.region_typing_rules.specs.Lowerable.{HasFewFunctions}
 use Rattle.region_typing_rules.specs.NeverStuck.{HasCore}
 use Rattle.region_typing_rules.proofs.Verdicts.{Promises, passing_promises, needs_promises}
 use Rattle.region_typing_rules.proofs.Kept.{passing_any, structure_kept, global_kept, function_kept}
 
-abbrev AreFew : List Signature → List core.Function → Type 0
+abbrev AreFew : List Signature → List Defined → Type 0
 AreFew functions bodies = length functions ≤ 4096
 
 abbrev HasFew : Walk → Type 0
@@ -30,17 +32,17 @@ with_few w None f h room = let low : length w.scope.functions ≤ 4095 = grind (
 with_few w (Some before) f h room = h
 
 abbrev behind_body : Walk → Signature → List Variable → i.Body → core.Statements × Scope → Verdict Walk
-behind_body w f parameters body x = is_checked w.scope body.mark body.span (Passes (record w { bodies = w.bodies ++ core_function f parameters x.0 x.1 ∷ [] }))
+behind_body w f parameters body x = is_checked w.scope body.mark body.span (Passes (record w { bodies = w.bodies ++ record { name = f.name; function = core_function f parameters x.0 x.1 } ∷ [] }))
 
 body_few : (at : Places) (w : Walk) (f : Signature) (parameters : List Variable) (body : Option i.Body) → HasFew w → Promises HasFew (function_body at w f parameters body)
 body_few at w f parameters None h = h
 body_few at w f parameters (Some body) h =
     passing_any HasFew (statements at (inside f parameters w.scope) body.statements) (behind_body w f parameters body) (λ x.
-    needs_promises HasFew (not (is_unchecked body.mark || w.scope.is_off)) E15 body.span (Passes (record w { bodies = w.bodies ++ core_function f parameters x.0 x.1 ∷ [] })) (λ e. h))
+    needs_promises HasFew (not (is_unchecked body.mark || w.scope.is_off)) E15 body.span (Passes (record w { bodies = w.bodies ++ record { name = f.name; function = core_function f parameters x.0 x.1 } ∷ [] })) (λ e. h))
 
 function_few : (at : Places) (all : List Item) (w : Walk) (d : i.Function) → HasFew w → Promises HasFew (function at all w d)
 function_few at all w d h =
-    function_kept AreFew at all w d (λ f room. with_few w (function_named w.scope.functions d.name.name) f h room) (λ v f parameters few. body_few at v f parameters d.body few)
+    function_kept AreFew at all w d (λ f room. with_few w (function_named w.scope.functions d.name.number) f h room) (λ v f parameters few. body_few at v f parameters d.body few)
 
 -- ---- the whole program
 
@@ -58,7 +60,7 @@ picked_length : {X : Type 0} (b : Bool) (xs ys : List X) (n : ℕ) → length xs
 picked_length true xs ys n h k = h
 picked_length false xs ys n h k = k
 
-trusted_fewer : (bodies : List core.Function) (functions : List Signature) → length (trusted_functions bodies functions) ≤ length functions
+trusted_fewer : (bodies : List Defined) (functions : List Signature) → length (trusted_functions bodies functions) ≤ length functions
 trusted_fewer bodies [] = omega arith
 trusted_fewer bodies (f ∷ functions) =
     let rest = trusted_fewer bodies functions in
@@ -68,13 +70,15 @@ tainted_fewer : (functions : List Signature) → length (tainted_functions funct
 tainted_fewer [] = omega arith
 tainted_fewer (f ∷ functions) =
     let rest = tainted_fewer functions in
-    picked_length (is_import f) (record { name = f.name; parameters = length f.parameters; result = f.result } ∷ tainted_functions functions) (tainted_functions functions) (length (f ∷ functions)) (omega (arith, rest)) (omega (arith, rest))
+    picked_length (is_import f) (record { name = f.text; parameters = length f.parameters; result = f.result } ∷ tainted_functions functions) (tainted_functions functions) (length (f ∷ functions)) (omega (arith, rest)) (omega (arith, rest))
 
-few_walked : (v : Verdict Walk) (c : Core) → Promises HasFew v → passing v (λ w. Passes (core_of w)) ≡ Passes c → HasFewFunctions c
-few_walked (Passes w) c h e =
-    let same : core_of w ≡ c = cc in
+few_walked : (entry : ℕ) (v : Verdict Walk) (c : Core) → Promises HasFew v → passing v (λ w. Passes (core_of entry w)) ≡ Passes c → HasFewFunctions c
+few_walked entry (Passes w) c h e =
+    let same : core_of entry w ≡ c = cc in
     subst HasFewFunctions same (record { functions = omega (arith, h, trusted_fewer w.bodies w.scope.functions); imports = omega (arith, h, tainted_fewer w.scope.functions) })
-few_walked (Stops stop) c h e = absurd (cc)
+few_walked entry (Stops stop) c h e = absurd (cc)
 
 pub few : (at : Places) (t : Tree) (c : Core) → HasCore at t c → HasFewFunctions c
-few at t c h = few_walked (walked at t) c (items_few at t.items start t.items (omega arith)) h.rules
+few at t c h =
+    let n = named_of t in
+    few_walked (number_in n.names main) (walked at n) c (items_few at n.tree.items (start (given_in n.names)) n.tree.items (omega arith)) h.rules

@@ -1,6 +1,6 @@
 -- Expressions that break no rule have types.
 use Rattle.std.proofs.Common.{◌≡◌, ℕ, ◌+◌, ◌^◌, Bool, true, false, List, [], ◌∷◌, replicate, length, Option, Some, None, pos, refl, sym, ap, ◌∙◌, subst, arith}
-use Rattle.std.specs.Prelude.{bytes_eq, codes, slice_get, nat_lt, not, ◌&&◌, ◌||◌, ◌==◌}
+use Rattle.std.specs.Prelude.{◌==◌, slice_get, nat_lt, not, ◌&&◌, ◌||◌}
 use Rattle.std.specs.List.{AllByRecursion}
 use Rattle.std.proofs.lemmas.Bool.{and_parts, eqb-true}
 use Rattle.ckc_text.specs.declared.place.Span.{Span}
@@ -22,8 +22,9 @@ use Rattle.ckc_core.specs.declared.program.Comparison.{Comparison}
 use Rattle.ckc_core.specs.declared.program.Comparison.TheVariants as comparisons
 use Rattle.ckc_core.specs.Core as core
 use Rattle.ckc_core.specs.States.{same_type}
+use Rattle.ckc_names_rules.specs.declared.given.Given.{Given}
 use Rattle.region_typing_rules.specs.Verdicts.{Verdict, Passes, breaks}
-use Rattle.region_typing_rules.specs.Scopes.{Scope, Signature, Named, Local, Object, Nothing, named, function_named}
+use Rattle.region_typing_rules.specs.Scopes.{Scope, Signature, Named, Local, Object, Nothing, named, function_named, members_named}
 use Rattle.region_typing_rules.specs.Types.{type_named, is_number, is_pointer, are_comparable, converts}
 use Rattle.region_typing_rules.specs.Expressions.{Places, Lvalue, OfLocal, OfCell, Typed, Value, AStruct, Called, Gives, GivesNothing, site_at, number, at_place, local_typed, name_typed, member_place, member_from, offset_among, member_at, dotted, pointed_by, arrowed, pointed_at, dereferenced, pointer_to, address, number_of, scalar_of, unary_typed, is_pointer_value, two_numbers, two_scalars, summands, as_pointer, equated_values, equated, ordered_values, ordered, arithmetic, binary_typed, indexed, in_type, converted, arguments_as, is_import, side_number, call_of, first_of, writes, predefined_call, called, with_result, constant, typed, all_typed, call_typed}
 use Rattle.region_typing_rules.specs.Typed as rules
@@ -301,10 +302,10 @@ module _ (g : Frame) (types : List CType) where
       needs_promises FitsCall (length arguments == 1) E14 span _
       (λ one. passing_promises (λ values. HaveTypes g types values (Int ∷ [])) FitsCall (arguments_as arguments (Int ∷ [])) _ (arguments_promise arguments (Int ∷ []) (sym (eqb-true (length arguments) 1 one)) all) (λ values typed. first_fits of h typed))
 
-  predefined_promises : (name : List ℕ) (arguments : List (Typed × Span)) (span : Span) → AllFit arguments → Promises FitsCall (predefined_call name arguments span)
-  predefined_promises name arguments span all = by (bytes_eq name (codes "next_input")) (bytes_eq name (codes "print_int")) (bytes_eq name (codes "putchar")) refl refl refl
+  predefined_promises : (given : Given) (name : ℕ) (arguments : List (Typed × Span)) (span : Span) → AllFit arguments → Promises FitsCall (predefined_call given name arguments span)
+  predefined_promises given name arguments span all = by (name == given.next_input) (name == given.print_int) (name == given.putchar) refl refl refl
     where
-      by : (input print put : Bool) → bytes_eq name (codes "next_input") ≡ input → bytes_eq name (codes "print_int") ≡ print → bytes_eq name (codes "putchar") ≡ put → Promises FitsCall (predefined_call name arguments span)
+      by : (input print put : Bool) → (name == given.next_input) ≡ input → (name == given.print_int) ≡ print → (name == given.putchar) ≡ put → Promises FitsCall (predefined_call given name arguments span)
       by true print put e e1 e2 = rw e (needs_promises FitsCall (length arguments == 0) E14 span (Passes (Gives Int core.NextInput)) (λ none. (rules.next_input, refl)))
       by false true put e e1 e2 = rw (e, e1) (writes_promise core.Print (λ v result loop h. rules.print h) arguments span all)
       by false false true e e1 e2 = rw (e, e1, e2) (writes_promise core.PutByte (λ v result loop h. rules.put_byte h) arguments span all)
@@ -326,19 +327,19 @@ module _ (g : Frame) (types : List CType) where
         let typed = subst (λ t. HasPlace g types (member_place p m.index (offset_among (cells_of s.structs (Struct n)) m.index) site) t) m.typed there in
         at_place_fits found.1 _ (subst (λ i. HasPlace g types (member_place p i (offset_among (cells_of s.structs (Struct n)) i) site) found.1) k typed)
 
-    member_at_promises : (n : ℕ) (p : core.Place) (name : List ℕ) (site : Site) (span : Span) → HasPlace g types p (Struct n) → Promises Fits (member_at s n p name site span)
-    member_at_promises n p name site span h = by (member_from 0 (members_of s.structs n) name) refl
+    member_at_promises : (n : ℕ) (p : core.Place) (name : ℕ) (site : Site) (span : Span) → HasPlace g types p (Struct n) → Promises Fits (member_at s n p name site span)
+    member_at_promises n p name site span h = by (member_from 0 (members_named s n) (members_of s.structs n) name) refl
       where
-        by : (o : Option (ℕ × CType)) → member_from 0 (members_of s.structs n) name ≡ o → Promises Fits (member_at s n p name site span)
+        by : (o : Option (ℕ × CType)) → member_from 0 (members_named s n) (members_of s.structs n) name ≡ o → Promises Fits (member_at s n p name site span)
         by None e = rw e tt
-        by (Some found) e = rw e (member_fits n p found site h (subst (IfMember (members_of s.structs n) 0) e (member_there 0 (members_of s.structs n) name)))
+        by (Some found) e = rw e (member_fits n p found site h (subst (IfMember (members_of s.structs n) 0) e (member_there 0 (members_named s n) (members_of s.structs n) name)))
 
-    dotted_promises : (a : Typed) (name : List ℕ) (site : Site) (span : Span) → Fits a → Promises Fits (dotted s a name site span)
+    dotted_promises : (a : Typed) (name : ℕ) (site : Site) (span : Span) → Fits a → Promises Fits (dotted s a name site span)
     dotted_promises (Value type zero value place) name site span h = tt
     dotted_promises (AStruct n (OfLocal k)) name site span h = absurd h
     dotted_promises (AStruct n (OfCell p)) name site span h = member_at_promises n p name site span h
 
-    pointed_by_promises : (type : CType) (value : core.Expression) (name : List ℕ) (site : Site) (span : Span) → HasType g types value type → Promises Fits (pointed_by s type value name site span)
+    pointed_by_promises : (type : CType) (value : core.Expression) (name : ℕ) (site : Site) (span : Span) → HasType g types value type → Promises Fits (pointed_by s type value name site span)
     pointed_by_promises Int value name site span h = tt
     pointed_by_promises Char value name site span h = tt
     pointed_by_promises (Struct n) value name site span h = tt
@@ -347,18 +348,18 @@ module _ (g : Frame) (types : List CType) where
     pointed_by_promises (Pointer m k (Pointer m' k' t)) value name site span h = tt
     pointed_by_promises (Pointer m k (Struct n)) value name site span h = member_at_promises n (core.Through value 0 0 site) name site span (rules.pointed h)
 
-    arrowed_promises : (a : Typed) (name : List ℕ) (site : Site) (span : Span) → Fits a → Promises Fits (arrowed s a name site span)
+    arrowed_promises : (a : Typed) (name : ℕ) (site : Site) (span : Span) → Fits a → Promises Fits (arrowed s a name site span)
     arrowed_promises (Value type zero value place) name site span h = pointed_by_promises type value name site span h.has_type
     arrowed_promises (AStruct n place) name site span h = tt
 
     -- ---- calls of functions that are declared
 
-    side_fits : (name : List ℕ) (f : Signature) (site : Site) (values : core.Arguments) (side : Bool) → is_import f ≡ side → function_named s.functions name ≡ Some f → HaveTypes g types values f.parameters → FitsCall (call_of side (side_number side s.functions f.name 0) f.result site values)
+    side_fits : (name : ℕ) (f : Signature) (site : Site) (values : core.Arguments) (side : Bool) → is_import f ≡ side → function_named s.functions name ≡ Some f → HaveTypes g types values f.parameters → FitsCall (call_of side (side_number side s.functions f.name 0) f.result site values)
     side_fits name f site values true e found h = tainted_fits (side_number true s.functions f.name 0) f site values f.result refl (knows.file.tainted name f found e) h
     side_fits name f site values false e found h = trusted_fits (side_number false s.functions f.name 0) f site values f.result refl (knows.file.trusted name f found e) h
 
-    called_promises : (o : Option Signature) (name : List ℕ) (arguments : List (Typed × Span)) (site : Site) (span : Span) → function_named s.functions name ≡ o → AllFit arguments → Promises FitsCall (called s o name arguments site span)
-    called_promises None name arguments site span e all = predefined_promises name arguments span all
+    called_promises : (o : Option Signature) (name : ℕ) (arguments : List (Typed × Span)) (site : Site) (span : Span) → function_named s.functions name ≡ o → AllFit arguments → Promises FitsCall (called s o name arguments site span)
+    called_promises None name arguments site span e all = predefined_promises s.given name arguments span all
     called_promises (Some f) name arguments site span e all =
         needs_promises FitsCall (length f.parameters == length arguments) E14 span _
         (λ many. crossing_promises FitsCall (is_import f) arguments _
@@ -376,10 +377,10 @@ module _ (g : Frame) (types : List CType) where
       typed_promises at (e.Number value span) = constant_promises value (value == 0) span
       typed_promises at (e.Character value span) = constant_promises value false span
       typed_promises at (e.Text bytes span) = tt
-      typed_promises at (e.Name name) = passing_promises (StandsFor g types) Fits (named s name.name) _ (name_stands g types s knows name.name) (name_fits knows.scalar)
+      typed_promises at (e.Name name) = passing_promises (StandsFor g types) Fits (named s name.number) _ (name_stands g types s knows name.number) (name_fits knows.scalar)
       typed_promises at (e.Call callee arguments span) =
           passing_promises AllFit Fits (all_typed at s arguments) _ (all_promise at arguments)
-          (λ ts all. passing_promises FitsCall Fits (called s (function_named s.functions callee.name) callee.name ts (site_at at span) span) _ (called_promises (function_named s.functions callee.name) callee.name ts (site_at at span) span refl all)
+          (λ ts all. passing_promises FitsCall Fits (called s (function_named s.functions callee.number) callee.number ts (site_at at span) span) _ (called_promises (function_named s.functions callee.number) callee.number ts (site_at at span) span refl all)
           (λ c h. with_result_promises c span h))
       typed_promises at (e.SizeOf type span) =
           passing_promises (λ (t : CType). Unit {0}) Fits (type_named s type) _ (anything_promised (type_named s type)) (λ t _. number_fits (core.Number (pos (size_of s.structs t))) (rules.word (size_fits s.structs t knows.file.few_members)))
@@ -389,8 +390,8 @@ module _ (g : Frame) (types : List CType) where
       typed_promises at (e.Calloc word type count size span) = tt
       typed_promises at (e.Index base index span) =
           passing_promises Fits Fits (typed at s base) _ (typed_promises at base) (λ a ha. passing_promises Fits Fits (typed at s index) _ (typed_promises at index) (λ b hb. indexed_promises a b span))
-      typed_promises at (e.Dot base member span) = passing_promises Fits Fits (typed at s base) _ (typed_promises at base) (λ a h. dotted_promises a member.name (site_at at span) span h)
-      typed_promises at (e.Arrow base member span) = passing_promises Fits Fits (typed at s base) _ (typed_promises at base) (λ a h. arrowed_promises a member.name (site_at at span) span h)
+      typed_promises at (e.Dot base member span) = passing_promises Fits Fits (typed at s base) _ (typed_promises at base) (λ a h. dotted_promises a member.number (site_at at span) span h)
+      typed_promises at (e.Arrow base member span) = passing_promises Fits Fits (typed at s base) _ (typed_promises at base) (λ a h. arrowed_promises a member.number (site_at at span) span h)
       typed_promises at (e.Unary operator operand span) = passing_promises Fits Fits (typed at s operand) _ (typed_promises at operand) (λ a h. unary_promises operator a (site_at at span) span h)
       typed_promises at (e.Binary operator left right span) =
           passing_promises Fits Fits (typed at s left) _ (typed_promises at left) (λ a ha. passing_promises Fits Fits (typed at s right) _ (typed_promises at right) (λ b hb. binary_promises operator a b (site_at at span) span ha hb))
@@ -403,7 +404,7 @@ module _ (g : Frame) (types : List CType) where
     pub call_promises : (at : Places) (x : Expression) → Promises FitsCall (call_typed at s x)
     call_promises at (e.Call callee arguments span) =
         passing_promises AllFit FitsCall (all_typed at s arguments) _ (all_promise at arguments)
-        (λ ts all. called_promises (function_named s.functions callee.name) callee.name ts (site_at at span) span refl all)
+        (λ ts all. called_promises (function_named s.functions callee.number) callee.number ts (site_at at span) span refl all)
     call_promises at (e.Number value span) = tt
     call_promises at (e.Character value span) = tt
     call_promises at (e.Text bytes span) = tt

@@ -60,7 +60,7 @@ scalars_append : (ts : List CType) (t : CType) → IsScalar t → AllByRecursion
 scalars_append [] t h all = (h, tt)
 scalars_append (u ∷ ts) t h all = (all.0, scalars_append ts t h all.1)
 
-pub local_grows : (name : List ℕ) (t : CType) (g : Scope) → IsScalar t → length g.locals < 256 → Grows g (with_local name t g)
+pub local_grows : (name : ℕ) (t : CType) (g : Scope) → IsScalar t → length g.locals < 256 → Grows g (with_local name t g)
 local_grows name t g h low = record { structs = refl; functions = refl; variables = refl; result = refl; loop = refl; locals = extends_append g.locals (t ∷ []); scalars = scalars_append g.locals t h; few = λ n. omega (arith, length-append g.locals (t ∷ [])) }
 
 -- behind a block
@@ -89,8 +89,8 @@ pub declarator_grows : (at : Places) (g : Scope) (base : TypeTree) (type : CType
 declarator_grows at g base type span d =
     needs_promises (GrowsTo {A = core.Statement} g) (nat_lt (length g.locals) 256) E08 span _
     (λ few. passing_promises (λ (t : CType). Unit {0}) (GrowsTo {A = core.Statement} g) (without_stars base d.stars type) _ (anything_promised (without_stars base d.stars type))
-    (λ t _. passing_promises (λ (x : core.Statement). Unit {0}) (GrowsTo {A = core.Statement} g) (initialised at (with_local d.name.name t g) d.initializer t (length g.locals) span) _ (anything_promised (initialised at (with_local d.name.name t g) d.initializer t (length g.locals) span))
-    (λ initial _. needs_promises (GrowsTo {A = core.Statement} g) (is_scalar t) E13 span _ (λ scalar. local_grows d.name.name t g scalar (ltb-true (length g.locals) 256 few)))))
+    (λ t _. passing_promises (λ (x : core.Statement). Unit {0}) (GrowsTo {A = core.Statement} g) (initialised at (with_local d.name.number t g) d.initializer t (length g.locals) span) _ (anything_promised (initialised at (with_local d.name.number t g) d.initializer t (length g.locals) span))
+    (λ initial _. needs_promises (GrowsTo {A = core.Statement} g) (is_scalar t) E13 span _ (λ scalar. local_grows d.name.number t g scalar (ltb-true (length g.locals) 256 few)))))
 
 pub declarators_grow : (at : Places) (g : Scope) (base : TypeTree) (type : CType) (span : Span) (ds : List Declarator) → Promises (GrowsTo {A = core.Statement} g) (declarators at g base type span ds)
 declarators_grow at g base type span [] = stays g

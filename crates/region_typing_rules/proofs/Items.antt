@@ -1,6 +1,6 @@
 -- Items that break no rule lead from a walk as it should be to another one.
 use Rattle.std.proofs.Common.{◌≡◌, ℕ, suc, ◌+◌, ◌*◌, ◌<◌, ◌≤◌, Bool, true, false, List, [], ◌∷◌, ◌++◌, map, take, length, Option, Some, None, refl, sym, ap, ◌∙◌, subst, append_assoc, ⊎_elim, arith}
-use Rattle.std.specs.Prelude.{bytes_eq, codes, nat_lt, nat_le, not, ◌&&◌, ◌||◌, ◌==◌, is_some, is_none}
+use Rattle.std.specs.Prelude.{◌==◌, bytes_eq, nat_lt, nat_le, not, ◌&&◌, ◌||◌, is_some, is_none}
 use Rattle.std.specs.List.{AllByRecursion, list_all, list_any}
 use Rattle.std.proofs.lemmas.Bool.{and_parts, or_cases, eqb-true, ltb-true, leb-true}
 use Rattle.std.proofs.lemmas.List.{length-append, length-map, append-nil}
@@ -13,6 +13,8 @@ use Rattle.ckc_tree.specs.Types.{TypeTree, IntType, CharType, StructType, Pointe
 use Rattle.ckc_tree.specs.Statements as trees
 use Rattle.ckc_tree.specs.Statements.{Initializer, Declarator}
 use Rattle.ckc_tree.specs.Items as i
+use Rattle.ckc_names_rules.specs.declared.given.Given.{Given}
+use Rattle.ckc_names_rules.specs.Given as names
 use Rattle.ckc_names_rules.specs.Naming as naming
 use Rattle.ckc_names_rules.specs.Naming.{is_int_type, is_int, takes_nothing, is_main_function, is_main}
 use Rattle.built_forms.specs.Built.{is_number_type, is_number_result, is_number_parameter, built_parameters, built_of_kind, built_function, built_item}
@@ -26,10 +28,10 @@ use Rattle.ckc_core.specs.Stacks.{statements_stack}
 use Rattle.region_typing_rules.specs.Verdicts.{Verdict, Passes, Stops, passing, meant, picked}
 use Rattle.region_typing_rules.specs.Scopes.{Scope, Signature, Variable, struct_named, function_named}
 use Rattle.region_typing_rules.specs.Types.{base_type, without_stars, type_named}
-use Rattle.region_typing_rules.specs.Expressions.{Places, typed, is_import, is_tainted}
+use Rattle.region_typing_rules.specs.Expressions.{Places, Typed, typed, is_import, is_tainted}
 use Rattle.region_typing_rules.specs.Statements.{statements, with_local, is_unchecked}
 use Rattle.region_typing_rules.specs.Items as items
-use Rattle.region_typing_rules.specs.Items.{Walk, in_checked_region, is_struct, member_types, scalar_members, with_struct, structure, Walked, Missing, Written, Constants, initializer, object_cells, with_variable, WalkedVariable, written_size, few_bytes, room_for, room_for_first, variables, with_objects, global, listed, parameter_types, result_type, with_function, with_parameters, inside, core_function, function_body, is_defined, agrees, all_scalar, scalar_result, function_rules, signature_of, function, item}
+use Rattle.region_typing_rules.specs.Items.{Walk, in_checked_region, is_struct, member_types, scalar_members, with_struct, member_names, signed_constant, structure, Walked, Missing, Written, Constants, initializer, object_cells, with_variable, WalkedVariable, written_size, few_bytes, room_for, room_for_first, variables, with_objects, global, listed, parameter_types, result_type, with_function, with_parameters, inside, core_function, function_body, is_defined, agrees, all_scalar, scalar_result, function_rules, signature_of, function, item}
 use Rattle.region_typing_rules.specs.Typed.{Frame, slots, Stands, IsScalar, IsScalarResult, AreStatements}
 use Rattle.region_typing_rules.specs.Lowerable.{cells_size, objects_size, IsRoomy}
 use Rattle.region_typing_rules.proofs.Verdicts.{Promises, passing_promises, needs_promises, anything_promised, promised_so, both_promise, later_promises, all_promised, Extends, extends_append}
@@ -38,11 +40,36 @@ use Rattle.region_typing_rules.proofs.Growth.{Grows, stays, grows_further, file_
 use Rattle.region_typing_rules.proofs.Statements.{statements_promise}
 use Rattle.region_typing_rules.proofs.Stacks.{beside_first, beside_second, around_higher, HasFew}
 use Rattle.region_typing_rules.proofs.StatementStacks.{HaveFew, statements_low}
-use Rattle.region_typing_rules.proofs.Layouts.{IsStart, AreCellsOf, IsWalked, of_members, cells_stand, whole_size, object_promises, constant_promises}
-use Rattle.region_typing_rules.proofs.Signatures.{named_further, named_last, side_further, Agrees, agrees_equal, scalars_all, result_scalar, bytes_equal, IsDeclared}
+use Rattle.region_typing_rules.proofs.Layouts.{ConstantFits, IsStart, AreCellsOf, IsWalked, of_members, cells_stand, whole_size, object_promises, constant_promises}
+use Rattle.region_typing_rules.proofs.Signatures.{named_further, named_last, side_further, Agrees, agrees_equal, scalars_all, result_scalar, IsDeclared}
 use Rattle.region_typing_rules.proofs.Walks.{FileGrows, file_stays, file_further, AreSettled, IsBody, IsWell, settled_later, bodies_later, all_append}
 
-module _ (height : ℕ) where
+-- what is so of `main`
+record MainParts (d : i.Function) : Type 0 where
+  trusted : naming.is_trusted d.kind ≡ true
+  int : is_int d.result ≡ true
+  pub name : bytes_eq d.name.name names.main ≡ true
+  nothing : takes_nothing d.parameters ≡ true
+
+main_parts : (d : i.Function) → is_main_function d ≡ true → MainParts d
+main_parts d h =
+    let a = and_parts (naming.is_trusted d.kind) (is_int d.result && (d.stars == 0 && (bytes_eq d.name.name names.main && (takes_nothing d.parameters && is_some d.body)))) h in
+    let b = and_parts (is_int d.result) (d.stars == 0 && (bytes_eq d.name.name names.main && (takes_nothing d.parameters && is_some d.body))) a.1 in
+    let c = and_parts (d.stars == 0) (bytes_eq d.name.name names.main && (takes_nothing d.parameters && is_some d.body)) b.1 in
+    let e = and_parts (bytes_eq d.name.name names.main) (takes_nothing d.parameters && is_some d.body) c.1 in
+    record { trusted = a.0; int = b.0; name = e.0; nothing = (and_parts (takes_nothing d.parameters) (is_some d.body) e.1).0 }
+
+pub main_name : (d : i.Function) → is_main_function d ≡ true → bytes_eq d.name.name names.main ≡ true
+main_name d h = (main_parts d h).name
+
+-- where an item is `main`, it has this name
+abbrev pub IsNamedMain : (entry : ℕ) → Item → Type 0
+IsNamedMain entry (i.RegionItem region span) = Unit {0}
+IsNamedMain entry (i.StructureItem d) = Unit {0}
+IsNamedMain entry (i.GlobalItem d) = Unit {0}
+IsNamedMain entry (i.FunctionItem d) = is_main_function d ≡ true → d.name.number ≡ entry
+
+module _ (height entry : ℕ) where
   -- a walk as it should be behind another one
   pub record Follows (a b : Walk) : Type 0 where
     pub well : IsWell height b
@@ -73,11 +100,11 @@ module _ (height : ℕ) where
   scalars_promised Q (m ∷ members) next h = needs_promises Q (not (is_struct m.ctype)) E27 m.span (scalar_members members next) (λ one. scalars_promised Q members next (λ all. h (no_struct m.ctype one, all)))
 
   -- one struct more
-  with_struct_follows : (w : Walk) (tag : List ℕ) (tainted : Bool) (members : List Member) → IsWell height w → AreSettled w.scope.structs w.scope.variables w.objects → length members ≤ 64 → AllByRecursion (λ (m : Member). IsScalar m.ctype) members → Follows w (record w { scope = with_struct tag tainted members w.scope })
-  with_struct_follows w tag tainted members well settled few scalars =
+  with_struct_follows : (w : Walk) (tag : ℕ) (names : List ℕ) (tainted : Bool) (members : List Member) → IsWell height w → AreSettled w.scope.structs w.scope.variables w.objects → length members ≤ 64 → AllByRecursion (λ (m : Member). IsScalar m.ctype) members → Follows w (record w { scope = with_struct tag names tainted members w.scope })
+  with_struct_follows w tag names tainted members well settled few scalars =
       let new : Structure = record { tainted = tainted; members = members } in
       let ext = extends_append w.scope.structs (new ∷ []) in
-      let after = with_struct tag tainted members w.scope in
+      let after = with_struct tag names tainted members w.scope in
       let grows : FileGrows w.scope after = record { structs = ext; variables = λ k x h. h; functions = λ name f h. h; numbers = λ side name f h. refl } in
       record {
         well = record {
@@ -96,17 +123,18 @@ module _ (height : ℕ) where
 
   structure_promises : (w : Walk) (d : i.Structure) → IsWell height w → AreSettled w.scope.structs w.scope.variables w.objects → Promises (Follows w) (structure w d)
   structure_promises w d well settled =
-      let inside = with_struct d.tag.name d.tainted [] w.scope in
+      let inside = with_struct d.tag.number (member_names d.members) d.tainted [] w.scope in
       needs_promises (Follows w) (nat_lt (length w.scope.structs) 4096) E08 d.span _
       (λ low. passing_promises (λ (ms : List Member). length ms ≤ 64) (Follows w) (member_types inside d.members []) _ (few_promised inside d.members [] (omega arith))
       (λ members few. scalars_promised (Follows w) members _
-      (λ scalars. region_promises (Follows w) w.scope d.span _ (with_struct_follows w d.tag.name d.tainted members well settled few scalars))))
+      (λ scalars. region_promises (Follows w) w.scope d.span _ (with_struct_follows w d.tag.number (member_names d.members) d.tainted members well settled few scalars))))
 
   -- ---- file-level variables
 
   initializer_promises : (at : Places) (s : Scope) (o : Option Initializer) → Promises IsWalked (initializer at s o)
   initializer_promises at s None = tt
-  initializer_promises at s (Some (trees.Value value)) = passing_promises _ IsWalked (typed at s value) _ (constant_promises at s value) (λ t h. h)
+  initializer_promises at s (Some (trees.Value value)) = passing_promises (λ (t : Typed). (given : Given) → ConstantFits (signed_constant given value)) IsWalked (typed at s value) _
+      (all_promised (λ (given : Given) (t : Typed). ConstantFits (signed_constant given value)) (typed at s value) (λ given. constant_promises given at s value)) (λ t h. h)
   initializer_promises at s (Some (trees.Constants constants span)) = tt
 
   -- variables that wait for their cells
@@ -156,13 +184,13 @@ module _ (height : ℕ) where
   base_sized g (PointerType word element stars span) =
       let target = passing (base_type g element) (without_stars element stars) in
       passing_promises (λ (t : CType). Unit {0}) (IsSized g (PointerType word element stars span)) target _ (anything_promised target) (λ t _ size h. let same : 4 ≡ size = cc in sym same)
-  base_sized g (StructType tag span) = by (struct_named g tag.name) refl
+  base_sized g (StructType tag span) = by (struct_named g tag.number) refl
     where
-      by : (o : Option ℕ) → struct_named g tag.name ≡ o → Promises (IsSized g (StructType tag span)) (passing (meant o) (λ n. Passes (Struct n)))
+      by : (o : Option ℕ) → struct_named g tag.number ≡ o → Promises (IsSized g (StructType tag span)) (passing (meant o) (λ n. Passes (Struct n)))
       by None e = tt
       by (Some n) e = λ size h. let h' = rw e at h in let same : size_of g.structs (Struct n) ≡ size = cc in sym same
 
-  sized_later : (g : Scope) (name : List ℕ) (t : CType) (base : TypeTree) (type : CType) → IsSized g base type → IsSized (with_variable name t g) base type
+  sized_later : (g : Scope) (name : ℕ) (t : CType) (base : TypeTree) (type : CType) → IsSized g base type → IsSized (with_variable name t g) base type
   sized_later g name t (IntType span) type h = h
   sized_later g name t (CharType span) type h = h
   sized_later g name t (StructType tag span) type h = h
@@ -193,7 +221,7 @@ module _ (height : ℕ) where
       let size = sized room.size (subst (λ n. written_size w.scope base n ≡ Passes room.size) none room.written) ∙ ap (size_of w.scope.structs) (sym same) in
       room.bytes ∙ ap (λ n. w.taken + (rounded_up n + 16)) size
 
-  with_variable_waits : (a w : Walk) (walked : List WalkedVariable) (name : List ℕ) (t : CType) (initial : Walked) (taken : ℕ) → taken ≡ w.taken + (rounded_up (size_of w.scope.structs t) + 16) → taken ≤ 32768 → Waits a (w, walked) → IsWalked initial → Waits a (record w { scope = with_variable name t w.scope; taken = taken }, walked ++ record { type = t; initial = initial } ∷ [])
+  with_variable_waits : (a w : Walk) (walked : List WalkedVariable) (name : ℕ) (t : CType) (initial : Walked) (taken : ℕ) → taken ≡ w.taken + (rounded_up (size_of w.scope.structs t) + 16) → taken ≤ 32768 → Waits a (w, walked) → IsWalked initial → Waits a (record w { scope = with_variable name t w.scope; taken = taken }, walked ++ record { type = t; initial = initial } ∷ [])
   with_variable_waits a w walked name t initial taken bytes within h is =
       let v : Variable = record { name = name; type = t } in
       let after = with_variable name t w.scope in
@@ -214,9 +242,9 @@ module _ (height : ℕ) where
   variables_promise at a w base type span (d ∷ ds) walked sized h =
       passing_promises (HasRoom w base d.stars) (Waits a) (room_for w base span d) _ (room_promises w base span d)
       (λ taken room. passing_promises (λ (t : CType). (d.stars ≡ 0) × (t ≡ type)) (Waits a) (without_stars base d.stars type) _ (starless base d.stars type)
-      (λ t plain. passing_promises IsWalked (Waits a) (initializer at (with_variable d.name.name t w.scope) d.initializer) _ (initializer_promises at (with_variable d.name.name t w.scope) d.initializer)
-      (λ initial is. variables_promise at a (record w { scope = with_variable d.name.name t w.scope; taken = taken }) base type span ds (walked ++ record { type = t; initial = initial } ∷ []) (sized_later w.scope d.name.name t base type sized)
-      (with_variable_waits a w walked d.name.name t initial taken (taken_by w base type t d.stars taken sized room plain.0 plain.1) room.within h is))))
+      (λ t plain. passing_promises IsWalked (Waits a) (initializer at (with_variable d.name.number t w.scope) d.initializer) _ (initializer_promises at (with_variable d.name.number t w.scope) d.initializer)
+      (λ initial is. variables_promise at a (record w { scope = with_variable d.name.number t w.scope; taken = taken }) base type span ds (walked ++ record { type = t; initial = initial } ∷ []) (sized_later w.scope d.name.number t base type sized)
+      (with_variable_waits a w walked d.name.number t initial taken (taken_by w base type t d.stars taken sized room plain.0 plain.1) room.within h is))))
 
   settled_append : (structs : List Structure) (vs : List Variable) (objects : List (List core.Initial)) (v : Variable) (cells : List core.Initial) → AreSettled structs vs objects → Stands cells 0 (slots structs v.type) → AreSettled structs (vs ++ v ∷ []) (objects ++ cells ∷ [])
   settled_append structs [] [] v cells h stands = (stands, tt)
@@ -263,7 +291,7 @@ module _ (height : ℕ) where
   with_objects_promises : (a w : Walk) (span : Span) (walked : List WalkedVariable) → Waits a (w, walked) → Promises (Follows a) (with_objects w span walked)
   with_objects_promises a w span [] h = none_waits a w h
   with_objects_promises a w span (x ∷ walked) h =
-      passing_promises (AreCellsOf w.scope.structs x.type) (Follows a) (object_cells w.scope.structs x.type x.initial span) _ (object_promises w.scope.structs x.type x.initial span h.well.scalars (first_walked h.waiting_ones h.waiting))
+      passing_promises (AreCellsOf w.scope.structs x.type) (Follows a) (object_cells w.scope.given w.scope.structs x.type x.initial span) _ (object_promises w.scope.given w.scope.structs x.type x.initial span h.well.scalars (first_walked h.waiting_ones h.waiting))
       (λ cells is. needs_promises (Follows a) (nat_lt 0 (length cells)) E10 span _
       (λ some. with_objects_promises a (record w { objects = w.objects ++ cells ∷ [] }) span walked (with_cells a w x walked cells h is (ltb-true 0 (length cells) some))))
     where
@@ -326,7 +354,7 @@ module _ (height : ℕ) where
       needs_promises (AllByRecursion HasNumber) (nat_lt (length before) 16) E08 (type_span p.type.base) _
       (λ low. passing_promises IsNumberType (AllByRecursion HasNumber) (type_named g p.type) _
       (passing_promises IsNumberType IsNumberType (base_type g p.type.base) (without_stars p.type.base p.type.stars) (number_base g p.type.base base) (starred_number p.type.base p.type.stars))
-      (λ t n. number_parameters g members (before ++ record { name = p.name.name; type = t } ∷ []) parts.1 (all_append HasNumber before (record { name = p.name.name; type = t }) all n)))
+      (λ t n. number_parameters g members (before ++ record { name = p.name.number; type = t } ∷ []) parts.1 (all_append HasNumber before (record { name = p.name.number; type = t }) all n)))
 
   number_types : (vs : List Variable) → AllByRecursion HasNumber vs → AllByRecursion IsNumberType (map (λ (p : Variable). p.type) vs)
   number_types [] all = tt
@@ -338,7 +366,7 @@ module _ (height : ℕ) where
   few_parameters g (p ∷ members) before few =
       needs_promises (λ (vs : List Variable). length vs ≤ 16) (nat_lt (length before) 16) E08 (type_span p.type.base) _
       (λ low. passing_promises (λ (t : CType). Unit {0}) (λ (vs : List Variable). length vs ≤ 16) (type_named g p.type) _ (anything_promised (type_named g p.type))
-      (λ t _. few_parameters g members (before ++ record { name = p.name.name; type = t } ∷ []) (let below = ltb-true (length before) 16 low in let new : Variable = record { name = p.name.name; type = t } in omega (arith, length-append before (new ∷ [])))))
+      (λ t _. few_parameters g members (before ++ record { name = p.name.number; type = t } ∷ []) (let below = ltb-true (length before) 16 low in let new : Variable = record { name = p.name.number; type = t } in omega (arith, length-append before (new ∷ [])))))
 
   -- what its form says of a function, for its signature
   record FitsForm (d : i.Function) (result : Option CType) (parameters : List Variable) : Type 0 where
@@ -373,7 +401,6 @@ module _ (height : ℕ) where
   record IsMain (d : i.Function) : Type 0 where
     trusted : is_tainted d.kind ≡ false
     int : is_int d.result ≡ true
-    name : bytes_eq d.name.name (codes "main") ≡ true
     nothing : takes_nothing d.parameters ≡ true
 
   kind_trusted : (kind : FunctionKind) → naming.is_trusted kind ≡ true → is_tainted kind ≡ false
@@ -382,12 +409,7 @@ module _ (height : ℕ) where
   kind_trusted function_kinds.Callback h = refl
 
   main_form : (d : i.Function) → is_main_function d ≡ true → IsMain d
-  main_form d h =
-      let a = and_parts (naming.is_trusted d.kind) (is_int d.result && (d.stars == 0 && (bytes_eq d.name.name (codes "main") && (takes_nothing d.parameters && is_some d.body)))) h in
-      let b = and_parts (is_int d.result) (d.stars == 0 && (bytes_eq d.name.name (codes "main") && (takes_nothing d.parameters && is_some d.body))) a.1 in
-      let c = and_parts (d.stars == 0) (bytes_eq d.name.name (codes "main") && (takes_nothing d.parameters && is_some d.body)) b.1 in
-      let e = and_parts (bytes_eq d.name.name (codes "main")) (takes_nothing d.parameters && is_some d.body) c.1 in
-      record { trusted = kind_trusted d.kind a.0; int = b.0; name = e.0; nothing = (and_parts (takes_nothing d.parameters) (is_some d.body) e.1).0 }
+  main_form d h = let parts = main_parts d h in record { trusted = kind_trusted d.kind parts.trusted; int = parts.int; nothing = parts.nothing }
 
   none_listed : (g : Scope) (ps : i.Parameters) → takes_nothing ps ≡ true → Promises (λ (vs : List Variable). vs ≡ []) (parameter_types g (listed ps) [])
   none_listed g i.Nothing h = refl
@@ -447,7 +469,7 @@ module _ (height : ℕ) where
     named : function_named s.functions f.name ≡ Some signature
     agrees : Agrees signature f
 
-  function_body_typed : (s : Scope) (f : Signature) (ps : List Variable) (x : core.Statements × Scope) → f.parameters ≡ map (λ (p : Variable). p.type) ps → IsKnownAs s f → AllByRecursion IsScalar f.parameters → IsScalarResult f.result → length ps ≤ 16 → IsWalkedBody (inside f ps s) x → IsBody height s (core_function f ps x.0 x.1)
+  function_body_typed : (s : Scope) (f : Signature) (ps : List Variable) (x : core.Statements × Scope) → f.parameters ≡ map (λ (p : Variable). p.type) ps → IsKnownAs s f → AllByRecursion IsScalar f.parameters → IsScalarResult f.result → length ps ≤ 16 → IsWalkedBody (inside f ps s) x → IsBody height s (record { name = f.name; function = core_function f ps x.0 x.1 })
   function_body_typed s f ps x same known scalars result few walked =
       let start : Scope = record s { locals = []; visible = []; result = f.result; in_loop = false } in
       let types = map (λ (p : Variable). p.type) ps in
@@ -479,13 +501,13 @@ module _ (height : ℕ) where
   -- `main` is known
   pub record HasMain (s : Scope) : Type 0 where
     pub signature : Signature
-    pub named : function_named s.functions (codes "main") ≡ Some signature
+    pub named : function_named s.functions entry ≡ Some signature
     pub trusted : is_import signature ≡ false
     pub none : signature.parameters ≡ []
     pub int : signature.result ≡ Some Int
 
   main_later : (a b : Scope) → FileGrows a b → HasMain a → HasMain b
-  main_later a b h main = record { signature = main.signature; named = h.functions (codes "main") main.signature main.named; trusted = main.trusted; none = main.none; int = main.int }
+  main_later a b h it = record { signature = it.signature; named = h.functions entry it.signature it.named; trusted = it.trusted; none = it.none; int = it.int }
 
   -- behind an item a walk is as it should be, and `main` is known if it was one
   pub record Passed (w : Walk) (is_main : Bool) (v : Walk) : Type 0 where
@@ -504,7 +526,7 @@ module _ (height : ℕ) where
       (λ ruled.
       let first = and_parts (agrees known f) (all_scalar f.parameters && scalar_result f.result) ruled in
       let second = and_parts (all_scalar f.parameters) (scalar_result f.result) first.1 in
-      needs_promises P (picked (is_tainted d.kind) true (is_defined all d.name.name)) E10 d.span _
+      needs_promises P (picked (is_tainted d.kind) true (is_defined all d.name.number)) E10 d.span _
       (λ defined. needs_promises P (not (is_unchecked d.mark)) E15 d.span _
       (λ on. region_promises P x.scope d.span x (h (record { agreed = first.0; scalars = second.0; scalar = second.1 })))))
 
@@ -540,7 +562,7 @@ module _ (height : ℕ) where
       is_known = record { signature = before; named = e; agrees = agrees_equal before f ruled.agreed };
     }
 
-    module _ (d : i.Function) (result : Option CType) (parameters : List Variable) (form : FitsForm d result parameters) (known : Option Signature) (found : function_named w.scope.functions d.name.name ≡ known) where
+    module _ (d : i.Function) (result : Option CType) (parameters : List Variable) (form : FitsForm d result parameters) (of_main : IsNamedMain entry (i.FunctionItem d)) (known : Option Signature) (found : function_named w.scope.functions d.name.number ≡ known) where
       abbrev signature : Signature
       signature = signature_of d result parameters
 
@@ -559,7 +581,7 @@ module _ (height : ℕ) where
       main_known : IsKnownAs with_it.scope signature → is_main_function d ≡ true → HasMain with_it.scope
       main_known it_is main =
           let it = main_form d main in
-          let name = bytes_equal d.name.name (codes "main") it.name in
+          let name = of_main main in
           record {
             signature = it_is.signature;
             named = subst (λ x. function_named with_it.scope.functions x ≡ Some it_is.signature) name it_is.named;
@@ -569,14 +591,14 @@ module _ (height : ℕ) where
           }
 
       -- with a body more
-      with_body : IsRuled known signature → (x : core.Statements × Scope) → IsWalkedBody (inside signature parameters with_it.scope) x → IsPassed (record with_it { bodies = with_it.bodies ++ core_function signature parameters x.0 x.1 ∷ [] })
+      with_body : IsRuled known signature → (x : core.Statements × Scope) → IsWalkedBody (inside signature parameters with_it.scope) x → IsPassed (record with_it { bodies = with_it.bodies ++ record { name = signature.name; function = core_function signature parameters x.0 x.1 } ∷ [] })
       with_body ruled x walked =
           let it = is_declared ruled in
           let body = function_body_typed with_it.scope signature parameters x refl it.is_known (scalars_all signature.parameters ruled.scalars) (result_scalar result ruled.scalar) form.few walked in
           let well' = it.follows.well in
           record {
             follows = record {
-              well = record { few = well'.few; scalars = well'.scalars; start = well'.start; declared = well'.declared; bodies = all_append (IsBody height with_it.scope) with_it.bodies (core_function signature parameters x.0 x.1) well'.bodies body; roomy = well'.roomy; bytes = well'.bytes; room = well'.room };
+              well = record { few = well'.few; scalars = well'.scalars; start = well'.start; declared = well'.declared; bodies = all_append (IsBody height with_it.scope) with_it.bodies (record { name = signature.name; function = core_function signature parameters x.0 x.1 }) well'.bodies body; roomy = well'.roomy; bytes = well'.bytes; room = well'.room };
               settled = it.follows.settled;
               grows = it.follows.grows;
             };
@@ -636,14 +658,14 @@ module _ (height : ℕ) where
         (later_promises (is_main_function d ≡ true) (λ (ps : List Variable). ps ≡ []) v (λ main. none_listed w.scope d.parameters (main_form d main).nothing))
         (few_parameters w.scope (listed d.parameters) [] (omega arith)))
 
-    function_promises : (at : Places) (all : List Item) (d : i.Function) → built_function d ≡ true → (optional_body_reach d.body).height ≤ height → Promises (Passed w (is_main_function d)) (function at all w d)
-    function_promises at all d built low =
-        needs_promises (Passed w (is_main_function d)) (is_some (function_named w.scope.functions d.name.name) || nat_lt (length w.scope.functions) 4096) E08 d.span _
+    function_promises : (at : Places) (all : List Item) (d : i.Function) → IsNamedMain entry (i.FunctionItem d) → built_function d ≡ true → (optional_body_reach d.body).height ≤ height → Promises (Passed w (is_main_function d)) (function at all w d)
+    function_promises at all d of_main built low =
+        needs_promises (Passed w (is_main_function d)) (is_some (function_named w.scope.functions d.name.number) || nat_lt (length w.scope.functions) 4096) E08 d.span _
         (λ few. passing_promises (ResultFits d) (Passed w (is_main_function d)) (result_type w.scope d.result d.stars) _ (result_fits d built)
         (λ result hr. passing_promises (ParametersFit d) (Passed w (is_main_function d)) (parameter_types w.scope (listed d.parameters) []) _ (parameters_fit d built)
         (λ parameters hp. declaration_promises d result parameters
-        (record { numbers = λ tainted. number_types parameters (hp.0 tainted); number_result = hr.0; int_result = hr.1; few = hp.1.1; none = hp.1.0 })
-        (function_named w.scope.functions d.name.name) refl at all low)))
+        (record { numbers = λ tainted. number_types parameters (hp.0 tainted); number_result = hr.0; int_result = hr.1; few = hp.1.1; none = hp.1.0 }) of_main
+        (function_named w.scope.functions d.name.number) refl at all low)))
 
     -- ---- items
 
@@ -651,8 +673,8 @@ module _ (height : ℕ) where
     no_main (Passes v) h = record { follows = h; main = λ e. absurd (cc) }
     no_main (Stops stop) h = tt
 
-    item_promises : (at : Places) (all : List Item) (x : Item) → built_item x ≡ true → (item_reach x).height ≤ height → Promises (Passed w (is_main x)) (item at all w x)
-    item_promises at all (i.RegionItem region span) built low = record {
+    item_promises : (at : Places) (all : List Item) (x : Item) → IsNamedMain entry x → built_item x ≡ true → (item_reach x).height ≤ height → Promises (Passed w (is_main x)) (item at all w x)
+    item_promises at all (i.RegionItem region span) of_main built low = record {
       follows = record {
         well = record {
           few = well.few;
@@ -672,9 +694,9 @@ module _ (height : ℕ) where
       where
         region_grows : (region : Region) → FileGrows w.scope (record w.scope { is_off = items.is_off region })
         region_grows region = record { structs = λ k x h. h; variables = λ k x h. h; functions = λ name f h. h; numbers = λ side name f h. refl }
-    item_promises at all (i.StructureItem d) built low = no_main (structure w d) (structure_promises w d well settled)
-    item_promises at all (i.GlobalItem d) built low = no_main (global at w d) (global_promises at w d well settled)
-    item_promises at all (i.FunctionItem d) built low = function_promises at all d built (let last = beside_second (result_reach d.result beside parameters_reach d.parameters beside optional_bounds_reach d.bounds) (optional_body_reach d.body) in omega arith)
+    item_promises at all (i.StructureItem d) of_main built low = no_main (structure w d) (structure_promises w d well settled)
+    item_promises at all (i.GlobalItem d) of_main built low = no_main (global at w d) (global_promises at w d well settled)
+    item_promises at all (i.FunctionItem d) of_main built low = function_promises at all d of_main built (let last = beside_second (result_reach d.result beside parameters_reach d.parameters beside optional_bounds_reach d.bounds) (optional_body_reach d.body) in omega arith)
 
   -- behind one item and others
   further_passed : (w v u : Walk) (first rest : Bool) → Passed w first v → Passed v rest u → Passed w (first || rest) u
@@ -683,12 +705,12 @@ module _ (height : ℕ) where
     main = λ e. ⊎_elim (λ one. main_later v.scope u.scope h'.follows.grows (h.main one)) h'.main (or_cases first rest e);
   }
 
-  pub items_promise : (at : Places) (all : List Item) (w : Walk) (xs : List Item) → list_all built_item xs ≡ true → (items_reach xs).height ≤ height → IsWell height w → AreSettled w.scope.structs w.scope.variables w.objects → Promises (Passed w (list_any is_main xs)) (items.items at all w xs)
-  items_promise at all w [] built low well settled = record { follows = record { well = well; settled = settled; grows = file_stays w.scope }; main = λ e. absurd (cc) }
-  items_promise at all w (x ∷ xs) built low well settled =
+  pub items_promise : (at : Places) (all : List Item) (w : Walk) (xs : List Item) → AllByRecursion (IsNamedMain entry) xs → list_all built_item xs ≡ true → (items_reach xs).height ≤ height → IsWell height w → AreSettled w.scope.structs w.scope.variables w.objects → Promises (Passed w (list_any is_main xs)) (items.items at all w xs)
+  items_promise at all w [] of_main built low well settled = record { follows = record { well = well; settled = settled; grows = file_stays w.scope }; main = λ e. absurd (cc) }
+  items_promise at all w (x ∷ xs) of_main built low well settled =
       let one = beside_first (item_reach x) (items_reach xs) in
       let two = beside_second (item_reach x) (items_reach xs) in
       let parts = and_parts (built_item x) (list_all built_item xs) built in
-      passing_promises (Passed w (is_main x)) (Passed w (list_any is_main (x ∷ xs))) (item at all w x) _ (item_promises w well settled at all x parts.0 (omega arith))
-      (λ v h. promised_so (Passed v (list_any is_main xs)) (Passed w (list_any is_main (x ∷ xs))) (items.items at all v xs) (items_promise at all v xs parts.1 (omega arith) h.follows.well h.follows.settled)
+      passing_promises (Passed w (is_main x)) (Passed w (list_any is_main (x ∷ xs))) (item at all w x) _ (item_promises w well settled at all x of_main.0 parts.0 (omega arith))
+      (λ v h. promised_so (Passed v (list_any is_main xs)) (Passed w (list_any is_main (x ∷ xs))) (items.items at all v xs) (items_promise at all v xs of_main.1 parts.1 (omega arith) h.follows.well h.follows.settled)
       (λ u h'. further_passed w v u (is_main x) (list_any is_main xs) h h'))

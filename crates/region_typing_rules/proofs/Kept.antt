@@ -15,7 +15,7 @@ use Rattle.region_typing_rules.specs.Scopes.{Scope, Signature, Variable, functio
 use Rattle.region_typing_rules.specs.Expressions.{Places, is_tainted}
 use Rattle.region_typing_rules.specs.Statements.{is_unchecked}
 use Rattle.region_typing_rules.specs.Types.{base_type, without_stars}
-use Rattle.region_typing_rules.specs.Items.{Walk, Walked, WalkedVariable, in_checked_region, is_struct, member_types, with_struct, scalar_members, structure, initializer, object_cells, variables, with_variable, room_for, room_for_first, with_objects, global, listed, parameter_types, result_type, with_function, function_body, agrees, all_scalar, scalar_result, is_defined, function_rules, signature_of, function}
+use Rattle.region_typing_rules.specs.Items.{Defined, Walk, Walked, WalkedVariable, in_checked_region, is_struct, member_types, member_names, with_struct, scalar_members, structure, initializer, object_cells, variables, with_variable, room_for, room_for_first, with_objects, global, listed, parameter_types, result_type, with_function, function_body, agrees, all_scalar, scalar_result, is_defined, function_rules, signature_of, function}
 use Rattle.region_typing_rules.proofs.Verdicts.{Promises, passing_promises, needs_promises}
 
 -- whatever is passed on
@@ -24,7 +24,7 @@ passing_any Q (Passes value) next more = more value
 passing_any Q (Stops stop) next more = tt
 
 -- what is said of the functions and of the bodies
-module _ (P : List Signature → List core.Function → Type 0) where
+module _ (P : List Signature → List Defined → Type 0) where
   abbrev pub Keeps : Walk → Type 0
   Keeps w = P w.scope.functions w.bodies
 
@@ -38,14 +38,14 @@ module _ (P : List Signature → List core.Function → Type 0) where
   members_kept (m ∷ members) next h = needs_promises Keeps (not (is_struct m.ctype)) E27 m.span (scalar_members members next) (λ e. members_kept members next h)
 
   abbrev with_members : Walk → i.Structure → List types.Member → Walk
-  with_members w d members = record w { scope = with_struct d.tag.name d.tainted members w.scope }
+  with_members w d members = record w { scope = with_struct d.tag.number (member_names d.members) d.tainted members w.scope }
 
   abbrev behind_members : Walk → i.Structure → List types.Member → Verdict Walk
   behind_members w d members = scalar_members members (in_checked_region w.scope d.span (with_members w d members))
 
   pub structure_kept : (w : Walk) (d : i.Structure) → Keeps w → Promises Keeps (structure w d)
   structure_kept w d h =
-      let members = member_types (with_struct d.tag.name d.tainted [] w.scope) d.members [] in
+      let members = member_types (with_struct d.tag.number (member_names d.members) d.tainted [] w.scope) d.members [] in
       needs_promises Keeps (nat_lt (length w.scope.structs) 4096) E08 d.span (passing members (behind_members w d)) (λ e.
       passing_any Keeps members (behind_members w d) (λ ms. members_kept ms (in_checked_region w.scope d.span (with_members w d ms)) (in_region w.scope d.span (with_members w d ms) h)))
 
@@ -53,13 +53,13 @@ module _ (P : List Signature → List core.Function → Type 0) where
   KeepsFirst x = Keeps x.0
 
   abbrev with_one : Walk → Declarator → ℕ → CType → Walk
-  with_one w d taken t = record w { scope = with_variable d.name.name t w.scope; taken = taken }
+  with_one w d taken t = record w { scope = with_variable d.name.number t w.scope; taken = taken }
 
   abbrev behind_initial : Places → Walk → TypeTree → CType → Span → Declarator → List Declarator → List WalkedVariable → ℕ → CType → Walked → Verdict (Walk × List WalkedVariable)
   behind_initial at w base type span d ds done taken t initial = variables at (with_one w d taken t) base type span ds (done ++ record { type = t; initial = initial } ∷ [])
 
   abbrev behind_type : Places → Walk → TypeTree → CType → Span → Declarator → List Declarator → List WalkedVariable → ℕ → CType → Verdict (Walk × List WalkedVariable)
-  behind_type at w base type span d ds done taken t = passing (initializer at (with_variable d.name.name t w.scope) d.initializer) (behind_initial at w base type span d ds done taken t)
+  behind_type at w base type span d ds done taken t = passing (initializer at (with_variable d.name.number t w.scope) d.initializer) (behind_initial at w base type span d ds done taken t)
 
   abbrev behind_room : Places → Walk → TypeTree → CType → Span → Declarator → List Declarator → List WalkedVariable → ℕ → Verdict (Walk × List WalkedVariable)
   behind_room at w base type span d ds done taken = passing (without_stars base d.stars type) (behind_type at w base type span d ds done taken)
@@ -69,7 +69,7 @@ module _ (P : List Signature → List core.Function → Type 0) where
   variables_kept at w base type span (d ∷ ds) done h =
       passing_any KeepsFirst (room_for w base span d) (behind_room at w base type span d ds done) (λ taken.
       passing_any KeepsFirst (without_stars base d.stars type) (behind_type at w base type span d ds done taken) (λ t.
-      passing_any KeepsFirst (initializer at (with_variable d.name.name t w.scope) d.initializer) (behind_initial at w base type span d ds done taken t) (λ initial.
+      passing_any KeepsFirst (initializer at (with_variable d.name.number t w.scope) d.initializer) (behind_initial at w base type span d ds done taken t) (λ initial.
       variables_kept at (with_one w d taken t) base type span ds (done ++ record { type = t; initial = initial } ∷ []) h)))
 
   abbrev behind_cells : Walk → Span → List WalkedVariable → List core.Initial → Verdict Walk
@@ -78,7 +78,7 @@ module _ (P : List Signature → List core.Function → Type 0) where
   objects_kept : (w : Walk) (span : Span) (vs : List WalkedVariable) → Keeps w → Promises Keeps (with_objects w span vs)
   objects_kept w span [] h = h
   objects_kept w span (v ∷ vs) h =
-      passing_any Keeps (object_cells w.scope.structs v.type v.initial span) (behind_cells w span vs) (λ cells.
+      passing_any Keeps (object_cells w.scope.given w.scope.structs v.type v.initial span) (behind_cells w span vs) (λ cells.
       needs_promises Keeps (nat_lt 0 (length cells)) E10 span (with_objects (record w { objects = w.objects ++ cells ∷ [] }) span vs) (λ e. objects_kept (record w { objects = w.objects ++ cells ∷ [] }) span vs h))
 
   abbrev behind_objects : i.Global → Walk → Verdict Walk
@@ -105,26 +105,26 @@ module _ (P : List Signature → List core.Function → Type 0) where
   rules_kept : (all : List Item) (d : i.Function) (f : Signature) (known : Option Signature) (w : Walk) → Keeps w → Promises Keeps (function_rules all d f known w)
   rules_kept all d f known w h =
       let checked = in_checked_region w.scope d.span w in
-      needs_promises Keeps (agrees known f && (all_scalar f.parameters && scalar_result f.result)) E13 d.span (needs (picked (is_tainted d.kind) true (is_defined all d.name.name)) E10 d.span (needs (not (is_unchecked d.mark)) E15 d.span checked)) (λ e.
-      needs_promises Keeps (picked (is_tainted d.kind) true (is_defined all d.name.name)) E10 d.span (needs (not (is_unchecked d.mark)) E15 d.span checked) (λ e'.
+      needs_promises Keeps (agrees known f && (all_scalar f.parameters && scalar_result f.result)) E13 d.span (needs (picked (is_tainted d.kind) true (is_defined all d.name.number)) E10 d.span (needs (not (is_unchecked d.mark)) E15 d.span checked)) (λ e.
+      needs_promises Keeps (picked (is_tainted d.kind) true (is_defined all d.name.number)) E10 d.span (needs (not (is_unchecked d.mark)) E15 d.span checked) (λ e'.
       needs_promises Keeps (not (is_unchecked d.mark)) E15 d.span checked (λ e''. in_region w.scope d.span w h)))
 
   abbrev declared_in : Walk → i.Function → Option CType → List Variable → Walk
-  declared_in w d result parameters = record w { scope = with_function (function_named w.scope.functions d.name.name) (signature_of d result parameters) w.scope }
+  declared_in w d result parameters = record w { scope = with_function (function_named w.scope.functions d.name.number) (signature_of d result parameters) w.scope }
 
   abbrev behind_parameters : Places → List Item → Walk → i.Function → Option CType → List Variable → Verdict Walk
   behind_parameters at all w d result parameters =
-      passing (function_body at (declared_in w d result parameters) (signature_of d result parameters) parameters d.body) (function_rules all d (signature_of d result parameters) (function_named w.scope.functions d.name.name))
+      passing (function_body at (declared_in w d result parameters) (signature_of d result parameters) parameters d.body) (function_rules all d (signature_of d result parameters) (function_named w.scope.functions d.name.number))
 
   abbrev behind_result : Places → List Item → Walk → i.Function → Option CType → Verdict Walk
   behind_result at all w d result = passing (parameter_types w.scope (listed d.parameters) []) (behind_parameters at all w d result)
 
   pub function_kept : (at : Places) (all : List Item) (w : Walk) (d : i.Function)
-      → ((f : Signature) → (is_some (function_named w.scope.functions d.name.name) || nat_lt (length w.scope.functions) 4096) ≡ true → P (with_function (function_named w.scope.functions d.name.name) f w.scope).functions w.bodies)
+      → ((f : Signature) → (is_some (function_named w.scope.functions d.name.number) || nat_lt (length w.scope.functions) 4096) ≡ true → P (with_function (function_named w.scope.functions d.name.number) f w.scope).functions w.bodies)
       → ((v : Walk) (f : Signature) (parameters : List Variable) → Keeps v → Promises Keeps (function_body at v f parameters d.body))
       → Promises Keeps (function at all w d)
   function_kept at all w d declares defines =
-      let known = function_named w.scope.functions d.name.name in
+      let known = function_named w.scope.functions d.name.number in
       needs_promises Keeps (is_some known || nat_lt (length w.scope.functions) 4096) E08 d.span (passing (result_type w.scope d.result d.stars) (behind_result at all w d)) (λ room.
       passing_any Keeps (result_type w.scope d.result d.stars) (behind_result at all w d) (λ result.
       passing_any Keeps (parameter_types w.scope (listed d.parameters) []) (behind_parameters at all w d result) (λ parameters.

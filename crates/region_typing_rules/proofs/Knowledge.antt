@@ -1,6 +1,6 @@
 -- What a walk knows of the program that it leads to, and what names stand for there.
 use Rattle.std.proofs.Common.{◌≡◌, ℕ, zero, suc, ◌+◌, ◌≤◌, Bool, true, false, List, [], ◌∷◌, take, length, Option, Some, None, refl, ap, subst, arith}
-use Rattle.std.specs.Prelude.{bytes_eq, slice_get, not, ◌&&◌}
+use Rattle.std.specs.Prelude.{◌==◌, slice_get, not, ◌&&◌}
 use Rattle.std.proofs.lemmas.Bool.{eqb-true, and_parts}
 use Rattle.std.specs.List.{AllByRecursion}
 use Rattle.ckc_text.specs.declared.place.Span.{Span}
@@ -11,7 +11,6 @@ use Rattle.pointer_modes.specs.declared.ctype.Kind.{Kind}
 use Rattle.pointer_modes.specs.declared.ctype.Kind.TheVariants as kinds
 use Rattle.pointer_modes.specs.Types.{CType, Int, Char, Struct, Pointer, Member, Structure, members_of}
 use Rattle.pointer_modes.specs.Layout.{placed_from, member_sizes, cells_of, aligned_up, scalar_size}
-use Rattle.ckc_names_rules.specs.Scopes.{null}
 use Rattle.ckc_core.specs.Core as core
 use Rattle.ckc_core.specs.States.{same_mode, same_kind, same_type}
 use Rattle.region_typing_rules.specs.Verdicts.{Verdict, meant, picked}
@@ -51,8 +50,8 @@ pub record KnowsFile (g : Frame) (s : Scope) : Type 0 where
   pub few_members : (n : ℕ) → length (members_of s.structs n) ≤ 64
   pub scalar_members : (n : ℕ) → AllByRecursion (λ m. IsScalar m.ctype) (members_of s.structs n)
   pub variables : (k : ℕ) (v : Variable) → slice_get s.variables k ≡ Some v → IsPlace g v.type k 0
-  pub trusted : (name : List ℕ) (f : Signature) → function_named s.functions name ≡ Some f → is_import f ≡ false → IsTrusted g (side_number false s.functions f.name 0) f
-  pub tainted : (name : List ℕ) (f : Signature) → function_named s.functions name ≡ Some f → is_import f ≡ true → IsTainted g (side_number true s.functions f.name 0) f
+  pub trusted : (name : ℕ) (f : Signature) → function_named s.functions name ≡ Some f → is_import f ≡ false → IsTrusted g (side_number false s.functions f.name 0) f
+  pub tainted : (name : ℕ) (f : Signature) → function_named s.functions name ≡ Some f → is_import f ≡ true → IsTainted g (side_number true s.functions f.name 0) f
 
 -- and so are the locals of the function that is walked
 pub record Knows (g : Frame) (types : List CType) (s : Scope) : Type 0 where
@@ -140,16 +139,16 @@ module _ (g : Frame) (types : List CType) where
   local_stands None k h = tt
   local_stands (Some t) k h = h t refl
 
-  locals_stand : (known : List CType) → Extends known types → (visible : List Visible) (name : List ℕ) → IfNamed g types (local_named known visible name)
+  locals_stand : (known : List CType) → Extends known types → (visible : List Visible) (name : ℕ) → IfNamed g types (local_named known visible name)
   locals_stand known ext [] name = tt
   locals_stand known ext (v ∷ visible) name =
-      found_stands (bytes_eq name v.name) (local_if (slice_get known v.local) v.local) (local_named known visible name) (local_stands (slice_get known v.local) v.local (λ t h. ext v.local t h)) (locals_stand known ext visible name)
+      found_stands (name == v.name) (local_if (slice_get known v.local) v.local) (local_named known visible name) (local_stands (slice_get known v.local) v.local (λ t h. ext v.local t h)) (locals_stand known ext visible name)
 
-  objects_stand : (number : ℕ) (variables : List Variable) (name : List ℕ) → ((k : ℕ) (v : Variable) → slice_get variables k ≡ Some v → IsPlace g v.type (number + k) 0) → IfNamed g types (object_named number variables name)
+  objects_stand : (number : ℕ) (variables : List Variable) (name : ℕ) → ((k : ℕ) (v : Variable) → slice_get variables k ≡ Some v → IsPlace g v.type (number + k) 0) → IfNamed g types (object_named number variables name)
   objects_stand number [] name h = tt
   objects_stand number (v ∷ variables) name h =
       let first : number + 0 ≡ number = omega arith in
-      found_stands (bytes_eq name v.name) (Some (Object number v.type)) (object_named (suc number) variables name) (subst (λ k. IsPlace g v.type k 0) first (h 0 v refl))
+      found_stands (name == v.name) (Some (Object number v.type)) (object_named (suc number) variables name) (subst (λ k. IsPlace g v.type k 0) first (h 0 v refl))
       (objects_stand (suc number) variables name (λ k w e. let same : number + suc k ≡ suc number + k = omega arith in subst (λ j. IsPlace g w.type j 0) same (h (suc k) w e)))
 
   either_stands : (this other : Option Named) → IfNamed g types this → IfNamed g types other → IfNamed g types (or_else this other)
@@ -160,13 +159,13 @@ module _ (g : Frame) (types : List CType) where
   meant_stands None h = tt
   meant_stands (Some n) h = h
 
-  pub name_stands : (s : Scope) → Knows g types s → (name : List ℕ) → Promises (StandsFor g types) (named s name)
+  pub name_stands : (s : Scope) → Knows g types s → (name : ℕ) → Promises (StandsFor g types) (named s name)
   name_stands s knows name =
-      meant_stands (or_else (local_named s.locals s.visible name) (or_else (object_named 0 s.variables name) (null_named name)))
-      (either_stands (local_named s.locals s.visible name) (or_else (object_named 0 s.variables name) (null_named name)) (locals_stand s.locals knows.locals s.visible name)
-      (either_stands (object_named 0 s.variables name) (null_named name)
+      meant_stands (or_else (local_named s.locals s.visible name) (or_else (object_named 0 s.variables name) (null_named s.given name)))
+      (either_stands (local_named s.locals s.visible name) (or_else (object_named 0 s.variables name) (null_named s.given name)) (locals_stand s.locals knows.locals s.visible name)
+      (either_stands (object_named 0 s.variables name) (null_named s.given name)
       (objects_stand 0 s.variables name (λ k v e. let same : k ≡ 0 + k = omega arith in subst (λ j. IsPlace g v.type j 0) same (knows.file.variables k v e)))
-      (found_stands (bytes_eq name null) (Some Nothing) None tt tt)))
+      (found_stands (name == s.given.null) (Some Nothing) None tt tt)))
 
 -- ---- members
 
@@ -190,10 +189,11 @@ member_picked : (m : Member) (members : List Member) (number : ℕ) (test : Bool
 member_picked m members number true o h = record { index = 0; member = m; counted = omega arith; listed = refl; typed = refl }
 member_picked m members number false o h = h
 
-pub member_there : (number : ℕ) (members : List Member) (name : List ℕ) → IfMember members number (member_from number members name)
-member_there number [] name = tt
-member_there number (m ∷ members) name =
-    member_picked m members number (bytes_eq name m.name) (member_from (suc number) members name) (member_further m members number (member_from (suc number) members name) (member_there (suc number) members name))
+pub member_there : (number : ℕ) (names : List ℕ) (members : List Member) (name : ℕ) → IfMember members number (member_from number names members name)
+member_there number [] members name = tt
+member_there number (other ∷ names) [] name = tt
+member_there number (other ∷ names) (m ∷ members) name =
+    member_picked m members number (name == other) (member_from (suc number) names members name) (member_further m members number (member_from (suc number) names members name) (member_there (suc number) names members name))
 
 slot_there : (members : List Member) (place k : ℕ) (m : Member) → slice_get members k ≡ Some m → slice_get (slots_from members (placed_from place (member_sizes members))) k ≡ Some (record { type = m.ctype; offset = offset_among (placed_from place (member_sizes members)) k })
 slot_there [] place k m h = absurd (cc)

@@ -1,6 +1,6 @@
 -- The cells of a file-level variable stand as the slots of its type.
 use Rattle.std.proofs.Common.{◌≡◌, ℕ, zero, suc, ◌+◌, ◌-◌, ◌<◌, ◌≤◌, ◌^◌, ◌%◌, Bool, true, false, ℤ, pos, List, [], ◌∷◌, ◌++◌, map, length, Option, Some, None, refl, sym, ap, subst, ◌⊎◌, inl, inr, ⊎_elim, arith}
-use Rattle.std.specs.Prelude.{bytes_eq, nat_lt, slice_get, ◌==◌}
+use Rattle.std.specs.Prelude.{◌==◌, nat_lt, slice_get}
 use Rattle.std.specs.List.{AllByRecursion}
 use Rattle.std.proofs.lemmas.Bool.Decides.{nat_tests}
 use Rattle.act_words.specs.Checks.{is_word_number}
@@ -8,7 +8,6 @@ use Rattle.act_words.specs.Numbers.{word}
 use Rattle.ckc_text.specs.declared.place.Span.{Span}
 use Rattle.ckc_text.specs.declared.code.Code.TheVariants.{E04, E13}
 use Rattle.ckc_tree.specs.declared.expr.UnaryOperator.TheVariants as unary
-use Rattle.ckc_names_rules.specs.Scopes as names
 use Rattle.ckc_tree.specs.Expressions as e
 use Rattle.ckc_tree.specs.Expressions.{Expression}
 use Rattle.pointer_modes.specs.Types.{CType, Int, Char, Struct, Pointer, Member, Structure, members_of}
@@ -17,6 +16,7 @@ use Rattle.ckc_core.specs.Core as core
 use Rattle.ckc_core.specs.States.{has_type, initial_value, object_block, byte_place}
 use Rattle.ckc_core.specs.States as states
 use Rattle.ckc_core.specs.Meaning.{low_byte}
+use Rattle.ckc_names_rules.specs.declared.given.Given.{Given}
 use Rattle.region_typing_rules.specs.Scopes.{Scope}
 use Rattle.region_typing_rules.specs.Expressions.{Places, Typed, typed, constant, offset_among, unary_typed, site_at}
 use Rattle.region_typing_rules.specs.Items.{negative, null_number, unsigned_constant, negated_of, positive_of, signed_constant, strides_from, strides_of, cell_types, numbered_cells, cells_with, Walked, Missing, Written, Constants, is_zero, number_or_break, written_cells, object_cells}
@@ -259,7 +259,7 @@ ConstantFits (Some z) = is_word_number z ≡ true
 -- an initial value that was walked
 abbrev pub IsWalked : Walked → Type 0
 IsWalked Missing = Unit {0}
-IsWalked (Written value t) = ConstantFits (signed_constant value)
+IsWalked (Written value t) = (given : Given) → ConstantFits (signed_constant given value)
 IsWalked Constants = Unit {0}
 
 negative_fits : (n : ℕ) → nat_lt n (2 ^ 31) ≡ true → is_word_number (negative n) ≡ true
@@ -278,20 +278,20 @@ char_cells structs (Some z) span =
     let word : is_word_number (low_byte z) ≡ true = grind (arith, nat_tests) in
     cells_of_number structs Char (low_byte z) word ((λ null. absurd (cc)), tt) ((λ g. test), tt)
 
-written_promises : (structs : List Structure) (t : CType) (value : Expression) (x : Typed) (span : Span) → ConstantFits (signed_constant value) → Promises (AreCellsOf structs t) (written_cells structs t value x span)
-written_promises structs Int value x span h = int_cells structs (signed_constant value) span h
-written_promises structs Char value x span h = char_cells structs (signed_constant value) span
-written_promises structs (Struct n) value x span h = tt
-written_promises structs (Pointer m k t) value x span h =
+written_promises : (given : Given) (structs : List Structure) (t : CType) (value : Expression) (x : Typed) (span : Span) → ConstantFits (signed_constant given value) → Promises (AreCellsOf structs t) (written_cells given structs t value x span)
+written_promises given structs Int value x span h = int_cells structs (signed_constant given value) span h
+written_promises given structs Char value x span h = char_cells structs (signed_constant given value) span
+written_promises given structs (Struct n) value x span h = tt
+written_promises given structs (Pointer m k t) value x span h =
     needs_promises (AreCellsOf structs (Pointer m k t)) (is_zero x) E13 span _ (λ yes. cells_of_number structs (Pointer m k t) (pos 0) refl (zero_null (Pointer m k t ∷ [])) (zero_start (Pointer m k t) refl, tt))
 
-pub object_promises : (structs : List Structure) (t : CType) (x : Walked) (span : Span) → ((n : ℕ) → AllByRecursion (λ (m : Member). IsScalar m.ctype) (members_of structs n)) → IsWalked x → Promises (AreCellsOf structs t) (object_cells structs t x span)
-object_promises structs t Missing span all h = zero_cells structs t all
-object_promises structs t (Written value x) span all h = written_promises structs t value x span h
-object_promises structs t Constants span all h = tt
+pub object_promises : (given : Given) (structs : List Structure) (t : CType) (x : Walked) (span : Span) → ((n : ℕ) → AllByRecursion (λ (m : Member). IsScalar m.ctype) (members_of structs n)) → IsWalked x → Promises (AreCellsOf structs t) (object_cells given structs t x span)
+object_promises given structs t Missing span all h = zero_cells structs t all
+object_promises given structs t (Written value x) span all h = written_promises given structs t value x span (h given)
+object_promises given structs t Constants span all h = tt
 
 -- constants of which no rule is broken
-module _ (at : Places) (s : Scope) where
+module _ (given : Given) (at : Places) (s : Scope) where
   number_fits : (value : ℕ) (zero_value : Bool) (span : Span) → Promises (λ (t : Typed). nat_lt value (2 ^ 31) ≡ true) (constant value zero_value span)
   number_fits value zero_value span = needs_promises (λ (t : Typed). nat_lt value (2 ^ 31) ≡ true) (nat_lt value (2 ^ 31)) E04 span _ (λ low. low)
 
@@ -303,11 +303,11 @@ module _ (at : Places) (s : Scope) where
   positive_null true = refl
   positive_null false = tt
 
-  negated_promises : (x : Expression) → Promises (λ (t : Typed). ConstantFits (negated_of (unsigned_constant x))) (typed at s x)
+  negated_promises : (x : Expression) → Promises (λ (t : Typed). ConstantFits (negated_of (unsigned_constant given x))) (typed at s x)
   negated_promises (e.Number value span) = needs_promises (λ (t : Typed). is_word_number (negative value) ≡ true) (nat_lt value (2 ^ 31)) E04 span _ (λ low. negative_fits value low)
   negated_promises (e.Character value span) = needs_promises (λ (t : Typed). is_word_number (negative value) ≡ true) (nat_lt value (2 ^ 31)) E04 span _ (λ low. negative_fits value low)
   negated_promises (e.Text bytes span) = tt
-  negated_promises (e.Name name) = always_promised (typed at s (e.Name name)) (negated_null (bytes_eq name.name names.null))
+  negated_promises (e.Name name) = always_promised (typed at s (e.Name name)) (negated_null (name.number == given.null))
   negated_promises (e.Call callee arguments span) = anything_promised (typed at s (e.Call callee arguments span))
   negated_promises (e.SizeOf type span) = anything_promised (typed at s (e.SizeOf type span))
   negated_promises (e.Cast word type operand span) = tt
@@ -320,11 +320,11 @@ module _ (at : Places) (s : Scope) where
   negated_promises (e.Unary operator operand span) = anything_promised (typed at s (e.Unary operator operand span))
   negated_promises (e.Binary operator left right span) = anything_promised (typed at s (e.Binary operator left right span))
 
-  pub constant_promises : (x : Expression) → Promises (λ (t : Typed). ConstantFits (signed_constant x)) (typed at s x)
+  pub constant_promises : (x : Expression) → Promises (λ (t : Typed). ConstantFits (signed_constant given x)) (typed at s x)
   constant_promises (e.Number value span) = number_fits value (value == 0) span
   constant_promises (e.Character value span) = number_fits value false span
   constant_promises (e.Text bytes span) = tt
-  constant_promises (e.Name name) = always_promised (typed at s (e.Name name)) (positive_null (bytes_eq name.name names.null))
+  constant_promises (e.Name name) = always_promised (typed at s (e.Name name)) (positive_null (name.number == given.null))
   constant_promises (e.Call callee arguments span) = anything_promised (typed at s (e.Call callee arguments span))
   constant_promises (e.SizeOf type span) = anything_promised (typed at s (e.SizeOf type span))
   constant_promises (e.Cast word type operand span) = tt
@@ -335,7 +335,7 @@ module _ (at : Places) (s : Scope) where
   constant_promises (e.Dot base member span) = anything_promised (typed at s (e.Dot base member span))
   constant_promises (e.Arrow base member span) = anything_promised (typed at s (e.Arrow base member span))
   constant_promises (e.Unary unary.Negate operand span) =
-      passing_promises (λ (t : Typed). ConstantFits (negated_of (unsigned_constant operand))) (λ (t : Typed). ConstantFits (negated_of (unsigned_constant operand))) (typed at s operand) _ (negated_promises operand)
+      passing_promises (λ (t : Typed). ConstantFits (negated_of (unsigned_constant given operand))) (λ (t : Typed). ConstantFits (negated_of (unsigned_constant given operand))) (typed at s operand) _ (negated_promises operand)
       (λ a h. always_promised (unary_typed unary.Negate a (site_at at span) span) h)
   constant_promises (e.Unary unary.Deref operand span) = anything_promised (typed at s (e.Unary unary.Deref operand span))
   constant_promises (e.Unary unary.AddressOf operand span) = anything_promised (typed at s (e.Unary unary.AddressOf operand span))

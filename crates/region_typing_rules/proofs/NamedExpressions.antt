@@ -1,13 +1,16 @@
 -- In an expression each name stands for something.
 use Rattle.std.proofs.Common.{◌≡◌, ℕ, ◌^◌, Bool, true, false, List, length, Option, Some, None, refl, sym, ◌∙◌}
-use Rattle.std.specs.Prelude.{◌==◌, ◌||◌, not, bytes_eq, codes, nat_lt}
+use Rattle.std.specs.Prelude.{◌==◌, ◌||◌, not, bytes_eq, nat_lt}
 use Rattle.std.specs.List.{list_any}
 use Rattle.std.proofs.lemmas.Bool.{and_parts}
 use Rattle.ckc_text.specs.declared.place.Span.{Span}
 use Rattle.ckc_text.specs.declared.code.Code.TheVariants.{E04, E14}
 use Rattle.ckc_tree.specs.Expressions as e
 use Rattle.ckc_tree.specs.Expressions.{Expression, Expressions}
+use Rattle.ckc_tree.specs.Numbers.{Numbers, number_type_name, number_expression, number_expressions}
 use Rattle.built_forms.specs.Built.{built_expression, built_expressions}
+use Rattle.ckc_names_rules.specs.declared.given.Given.{Given}
+use Rattle.ckc_names_rules.specs.Given.{next_input, print_int, putchar, strlen, given_by}
 use Rattle.ckc_names_rules.specs.Mentions.{expression_mentions, expressions_mentions}
 use Rattle.ckc_names_rules.specs.Scopes.{Scopes, visible, is_among, predefined, is_function}
 use Rattle.ckc_core.specs.declared.program.Site.{Site}
@@ -17,31 +20,48 @@ use Rattle.region_typing_rules.specs.Types.{type_named}
 use Rattle.region_typing_rules.specs.Expressions.{Places, Typed, site_at, predefined_call, called, typed, all_typed, call_typed}
 use Rattle.region_typing_rules.proofs.NamedVerdicts.{AllNamed, Any, then_named, needs_named, dotted_named, arrowed_named, unary_named, binary_named, indexed_named, declared_named, writes_named, result_named}
 use Rattle.region_typing_rules.proofs.NamedMentions.{AreFound, found_append}
-use Rattle.region_typing_rules.proofs.NamedScopes.{Agrees, among_any, call_function, name_meant, found_tags, type_named_named}
+use Rattle.region_typing_rules.proofs.NamedScopes.{number_equal, Agrees, among_any, call_function, name_meant, found_tags, type_named_named}
 
 -- ---- calls
 
 -- `strlen` isn't built
-predefined_named : (name : List ℕ) (ts : List (Typed × Span)) (span : Span) → bytes_eq name (codes "strlen") ≡ false → is_among predefined name ≡ true → AllNamed (predefined_call name ts span)
-predefined_named name ts span other among = by (bytes_eq name (codes "next_input")) (bytes_eq name (codes "print_int")) (bytes_eq name (codes "putchar")) refl refl refl
+predefined_named : (of : Numbers) (given : Given) → given ≡ given_by of → (name : List ℕ) (ts : List (Typed × Span)) (span : Span) → bytes_eq name strlen ≡ false → is_among predefined name ≡ true
+    → AllNamed (predefined_call given (of name) ts span)
+predefined_named of given same name ts span other among = rw same (by (bytes_eq name next_input) (bytes_eq name print_int) (bytes_eq name putchar) refl refl refl)
   where
-    by : (a b c : Bool) → bytes_eq name (codes "next_input") ≡ a → bytes_eq name (codes "print_int") ≡ b → bytes_eq name (codes "putchar") ≡ c → AllNamed (predefined_call name ts span)
-    by true b c ea eb ec = rw ea (needs_named Any (length ts == 0) E14 span _ tt)
-    by false true c ea eb ec = rw (ea, eb) (writes_named core.Print ts span)
-    by false false true ea eb ec = rw (ea, eb, ec) (writes_named core.PutByte ts span)
+    -- one of the tests holds
+    found : (a b c : Bool) → (of name == of next_input) ≡ a → (of name == of print_int) ≡ b → (of name == of putchar) ≡ c → (a || (b || c)) ≡ true → AllNamed (predefined_call (given_by of) (of name) ts span)
+    found true b c ea eb ec one = rw ea (needs_named Any (length ts == 0) E14 span _ tt)
+    found false true c ea eb ec one = rw (ea, eb) (writes_named core.Print ts span)
+    found false false true ea eb ec one = rw (ea, eb, ec) (writes_named core.PutByte ts span)
+    found false false false ea eb ec one = absurd (cc)
+
+    third : (a b : Bool) → (a || (b || true)) ≡ true
+    third true b = refl
+    third false true = refl
+    third false false = refl
+
+    second : (a c : Bool) → (a || (true || c)) ≡ true
+    second true c = refl
+    second false c = refl
+
+    by : (a b c : Bool) → bytes_eq name next_input ≡ a → bytes_eq name print_int ≡ b → bytes_eq name putchar ≡ c → AllNamed (predefined_call (given_by of) (of name) ts span)
+    by true b c ea eb ec = found true _ _ (number_equal of name next_input ea) refl refl refl
+    by false true c ea eb ec = found _ true _ refl (number_equal of name print_int eb) refl (second (of name == of next_input) (of name == of putchar))
+    by false false true ea eb ec = found _ _ true refl refl (number_equal of name putchar ec) (third (of name == of next_input) (of name == of print_int))
     by false false false ea eb ec =
         let any : list_any (bytes_eq name) predefined ≡ true = sym (among_any (bytes_eq name) predefined) ∙ among in
         let no : false ≡ true = rw (ea, eb, ec, other) at any in
         absurd (cc)
 
-module _ (at : Places) (n : Scopes) (g : Scope) (agrees : Agrees n g) where
-  called_named : (o : Option Signature) (name : List ℕ) (ts : List (Typed × Span)) (site : Site) (span : Span) → function_named g.functions name ≡ o → bytes_eq name (codes "strlen") ≡ false
-      → (is_among predefined name || is_function (visible n.blocks name)) ≡ true → AllNamed (called g o name ts site span)
+module _ (of : Numbers) (at : Places) (n : Scopes) (g : Scope) (agrees : Agrees of n g) where
+  called_named : (o : Option Signature) (name : List ℕ) (ts : List (Typed × Span)) (site : Site) (span : Span) → function_named g.functions (of name) ≡ o → bytes_eq name strlen ≡ false
+      → (is_among predefined name || is_function (visible n.blocks name)) ≡ true → AllNamed (called g o (of name) ts site span)
   called_named (Some f) name ts site span e other found = declared_named g f ts site span
   called_named None name ts site span e other found = by (is_among predefined name) refl found
     where
-      by : (b : Bool) → is_among predefined name ≡ b → (b || is_function (visible n.blocks name)) ≡ true → AllNamed (predefined_call name ts span)
-      by true among found' = predefined_named name ts span other among
+      by : (b : Bool) → is_among predefined name ≡ b → (b || is_function (visible n.blocks name)) ≡ true → AllNamed (predefined_call g.given (of name) ts span)
+      by true among found' = predefined_named of g.given agrees.given name ts span other among
       by false among found' = let there = agrees.function name found' in let no : false ≡ true = rw e at there in absurd (cc)
 
   not_true : (b : Bool) → not b ≡ true → b ≡ false
@@ -49,18 +69,18 @@ module _ (at : Places) (n : Scopes) (g : Scope) (agrees : Agrees n g) where
   not_true false h = refl
 
   mutual
-    pub typed_named : (x : Expression) → built_expression x ≡ true → AreFound n (expression_mentions x) → AllNamed (typed at g x)
+    pub typed_named : (x : Expression) → built_expression x ≡ true → AreFound n (expression_mentions x) → AllNamed (typed at g (number_expression of x))
     typed_named (e.Number value span) built found = needs_named Any (nat_lt value (2 ^ 31)) E04 span _ tt
     typed_named (e.Character value span) built found = needs_named Any (nat_lt value (2 ^ 31)) E04 span _ tt
     typed_named (e.Text bytes span) built found = tt
-    typed_named (e.Name name) built found = then_named Any (named g name.name) _ (name_meant n g agrees name found.0) (λ x. tt)
+    typed_named (e.Name name) built found = then_named Any (named g (of name.name)) _ (name_meant of n g agrees name found.0) (λ x. tt)
     typed_named (e.Call callee arguments span) built found =
-        let parts = and_parts (not (bytes_eq callee.name (codes "strlen"))) (built_expressions arguments) built in
-        then_named Any (all_typed at g arguments) _ (all_named arguments parts.1 found.1)
-        (λ ts. then_named Any (called g (function_named g.functions callee.name) callee.name ts (site_at at span) span) _
-        (called_named (function_named g.functions callee.name) callee.name ts (site_at at span) span refl (not_true (bytes_eq callee.name (codes "strlen")) parts.0) (call_function n callee found.0))
+        let parts = and_parts (not (bytes_eq callee.name strlen)) (built_expressions arguments) built in
+        then_named Any (all_typed at g (number_expressions of arguments)) _ (all_named arguments parts.1 found.1)
+        (λ ts. then_named Any (called g (function_named g.functions (of callee.name)) (of callee.name) ts (site_at at span) span) _
+        (called_named (function_named g.functions (of callee.name)) callee.name ts (site_at at span) span refl (not_true (bytes_eq callee.name strlen) parts.0) (call_function n callee found.0))
         (λ c. result_named c span))
-    typed_named (e.SizeOf type span) built found = then_named Any (type_named g type) _ (type_named_named n.tags g agrees.tag type (found_tags n type.base found)) (λ t. tt)
+    typed_named (e.SizeOf type span) built found = then_named Any (type_named g (number_type_name of type)) _ (type_named_named of n.tags g agrees.tag type (found_tags n type.base found)) (λ t. tt)
     typed_named (e.Cast word type operand span) built found = tt
     typed_named (e.BoundedCast word type operand bounds span) built found = tt
     typed_named (e.Malloc word type size span) built found = tt
@@ -68,29 +88,29 @@ module _ (at : Places) (n : Scopes) (g : Scope) (agrees : Agrees n g) where
     typed_named (e.Index base index span) built found =
         let parts = and_parts (built_expression base) (built_expression index) built in
         let both = found_append n (expression_mentions base) (expression_mentions index) found in
-        then_named Any (typed at g base) _ (typed_named base parts.0 both.0) (λ a. then_named Any (typed at g index) _ (typed_named index parts.1 both.1) (λ b. indexed_named a b span))
+        then_named Any (typed at g (number_expression of base)) _ (typed_named base parts.0 both.0) (λ a. then_named Any (typed at g (number_expression of index)) _ (typed_named index parts.1 both.1) (λ b. indexed_named a b span))
     typed_named (e.Dot base member span) built found =
-        then_named Any (typed at g base) _ (typed_named base built (found_append n (expression_mentions base) _ found).0) (λ a. dotted_named g a member.name (site_at at span) span)
+        then_named Any (typed at g (number_expression of base)) _ (typed_named base built (found_append n (expression_mentions base) _ found).0) (λ a. dotted_named g a (of member.name) (site_at at span) span)
     typed_named (e.Arrow base member span) built found =
-        then_named Any (typed at g base) _ (typed_named base built (found_append n (expression_mentions base) _ found).0) (λ a. arrowed_named g a member.name (site_at at span) span)
-    typed_named (e.Unary operator operand span) built found = then_named Any (typed at g operand) _ (typed_named operand built found) (λ a. unary_named operator a (site_at at span) span)
+        then_named Any (typed at g (number_expression of base)) _ (typed_named base built (found_append n (expression_mentions base) _ found).0) (λ a. arrowed_named g a (of member.name) (site_at at span) span)
+    typed_named (e.Unary operator operand span) built found = then_named Any (typed at g (number_expression of operand)) _ (typed_named operand built found) (λ a. unary_named operator a (site_at at span) span)
     typed_named (e.Binary operator left right span) built found =
         let parts = and_parts (built_expression left) (built_expression right) built in
         let both = found_append n (expression_mentions left) (expression_mentions right) found in
-        then_named Any (typed at g left) _ (typed_named left parts.0 both.0) (λ a. then_named Any (typed at g right) _ (typed_named right parts.1 both.1) (λ b. binary_named operator a b (site_at at span) span))
+        then_named Any (typed at g (number_expression of left)) _ (typed_named left parts.0 both.0) (λ a. then_named Any (typed at g (number_expression of right)) _ (typed_named right parts.1 both.1) (λ b. binary_named operator a b (site_at at span) span))
 
-    pub all_named : (xs : Expressions) → built_expressions xs ≡ true → AreFound n (expressions_mentions xs) → AllNamed (all_typed at g xs)
+    pub all_named : (xs : Expressions) → built_expressions xs ≡ true → AreFound n (expressions_mentions xs) → AllNamed (all_typed at g (number_expressions of xs))
     all_named e.NoMore built found = tt
     all_named (e.Then first others) built found =
         let parts = and_parts (built_expression first) (built_expressions others) built in
         let both = found_append n (expression_mentions first) (expressions_mentions others) found in
-        then_named Any (typed at g first) _ (typed_named first parts.0 both.0) (λ t. then_named Any (all_typed at g others) _ (all_named others parts.1 both.1) (λ ts. tt))
+        then_named Any (typed at g (number_expression of first)) _ (typed_named first parts.0 both.0) (λ t. then_named Any (all_typed at g (number_expressions of others)) _ (all_named others parts.1 both.1) (λ ts. tt))
 
-  pub call_named : (x : Expression) → built_expression x ≡ true → AreFound n (expression_mentions x) → AllNamed (call_typed at g x)
+  pub call_named : (x : Expression) → built_expression x ≡ true → AreFound n (expression_mentions x) → AllNamed (call_typed at g (number_expression of x))
   call_named (e.Call callee arguments span) built found =
-      let parts = and_parts (not (bytes_eq callee.name (codes "strlen"))) (built_expressions arguments) built in
-      then_named Any (all_typed at g arguments) _ (all_named arguments parts.1 found.1)
-      (λ ts. called_named (function_named g.functions callee.name) callee.name ts (site_at at span) span refl (not_true (bytes_eq callee.name (codes "strlen")) parts.0) (call_function n callee found.0))
+      let parts = and_parts (not (bytes_eq callee.name strlen)) (built_expressions arguments) built in
+      then_named Any (all_typed at g (number_expressions of arguments)) _ (all_named arguments parts.1 found.1)
+      (λ ts. called_named (function_named g.functions (of callee.name)) callee.name ts (site_at at span) span refl (not_true (bytes_eq callee.name strlen) parts.0) (call_function n callee found.0))
   call_named (e.Number value span) built found = tt
   call_named (e.Character value span) built found = tt
   call_named (e.Text bytes span) built found = tt

@@ -1,11 +1,12 @@
 -- Members of a struct and parameters of a function: which names naming enters for them, and what the rules make of them.
-use Rattle.std.proofs.Common.{◌≡◌, ℕ, Bool, true, false, List, [], ◌∷◌, ◌++◌, length, map, Some, refl, sym, subst, ◌⊎◌, inl, inr}
-use Rattle.std.specs.Prelude.{◌||◌, bytes_eq, nat_lt, is_some, is_none, position, Ok, flat_map}
+use Rattle.std.proofs.Common.{◌≡◌, ℕ, Bool, true, false, List, [], ◌∷◌, ◌++◌, length, map, Some, refl, sym, ◌∙◌, subst, ◌⊎◌, inl, inr}
+use Rattle.std.specs.Prelude.{◌==◌, ◌||◌, bytes_eq, nat_lt, is_some, is_none, position, Ok, flat_map}
 use Rattle.std.specs.List.{AllByRecursion, list_any}
 use Rattle.ckc_text.specs.declared.code.Code.TheVariants.{E08}
 use Rattle.ckc_tree.specs.declared.identifier.Identifier.{Identifier}
 use Rattle.ckc_tree.specs.Types.{type_span}
 use Rattle.ckc_tree.specs.Items.{Member}
+use Rattle.ckc_tree.specs.Numbers.{Numbers, number_type, number_type_name, number_member}
 use Rattle.ckc_names_rules.specs.Mentions.{Mention, Reveal, Declare, type_mentions, bounds_mentions, optional_mentions, member_mentions, listed_mentions}
 use Rattle.ckc_names_rules.specs.Scopes.{Meaning, Coming, Variable, Scopes, visible, innermost, with_entry, standing_for, revealed_if, is_value, is_function, is_among, all_mentioned}
 use Rattle.pointer_modes.specs.Types as types
@@ -17,7 +18,7 @@ use Rattle.region_typing_rules.specs.Items.{member_types, parameter_types, with_
 use Rattle.region_typing_rules.proofs.Verdicts.{extends_append, extends_last}
 use Rattle.region_typing_rules.proofs.NamedVerdicts.{IsNamed, AllNamed, Any, then_named, needs_named, named_so}
 use Rattle.region_typing_rules.proofs.NamedMentions.{mentioned_append, quiet_front, quiet_all, type_quiet, bounds_quiet, optional_quiet, declared_front, Keeps, keeps_same, keeps_further, keeps_standing, KeepsOutside}
-use Rattle.region_typing_rules.proofs.NamedScopes.{first_some, second_some, Agrees, AgreesFile, Later, later_same, later_further, later_local, local_later, entry_value, entry_without, HasTags, found_tags, KnowsTags, type_named_named}
+use Rattle.region_typing_rules.proofs.NamedScopes.{number_equal, first_some, second_some, Agrees, AgreesFile, Later, later_same, later_further, later_local, local_later, entry_value, entry_without, HasTags, found_tags, KnowsTags, type_named_named}
 
 -- ---- which test holds
 
@@ -118,8 +119,8 @@ module _ (P : List ℕ → Type 0) where
 abbrev pub is_listed : List Member → List ℕ → Bool
 is_listed members x = list_any (λ (p : Member). bytes_eq x p.name.name) members
 
-abbrev pub is_variable : List FileVariable → List ℕ → Bool
-is_variable variables x = list_any (λ (v : FileVariable). bytes_eq x v.name) variables
+abbrev pub is_variable : List FileVariable → ℕ → Bool
+is_variable variables x = list_any (λ (v : FileVariable). x == v.name) variables
 
 pub lists_all : (P : List ℕ → Type 0) (members : List Member) → ((x : List ℕ) → is_listed members x ≡ true → P x) → Lists P members
 lists_all P [] h = tt
@@ -133,34 +134,35 @@ listed_keeps members n m h = (listed_adds (λ x. Unit {0}) members (lists_all (�
 
 -- ---- what the rules make of them
 
-pub members_named : (tags : List (List ℕ)) (g : Scope) → KnowsTags tags g → (members : List Member) (done : List types.Member) → HaveTags tags members → AllNamed (member_types g members done)
-members_named tags g knows [] done h = tt
-members_named tags g knows (p ∷ members) done h =
-    needs_named Any (nat_lt (length done) 64) E08 (type_span p.type.base) _
-    (then_named Any (type_named g p.type) _ (type_named_named tags g knows p.type h.0) (λ t. members_named tags g knows members _ h.1))
+pub members_named : (of : Numbers) (tags : List (List ℕ)) (g : Scope) → KnowsTags of tags g → (members : List Member) (done : List types.Member) → HaveTags tags members → AllNamed (member_types g (map (number_member of) members) done)
+members_named of tags g knows [] done h = tt
+members_named of tags g knows (p ∷ members) done h =
+    needs_named Any (nat_lt (length done) 64) E08 (type_span (number_type of p.type.base)) _
+    (then_named Any (type_named g (number_type_name of p.type)) _ (type_named_named of tags g knows p.type h.0) (λ t. members_named of tags g knows members _ h.1))
 
 -- each name of the list is one of the variables
-abbrev pub Named : List Member → List FileVariable → List FileVariable → Type 0
-Named members done all = (x : List ℕ) → (is_listed members x ≡ true) ⊎ (is_variable done x ≡ true) → is_variable all x ≡ true
+abbrev pub Named : Numbers → List Member → List FileVariable → List FileVariable → Type 0
+Named of members done all = (x : List ℕ) → (is_listed members x ≡ true) ⊎ (is_variable done (of x) ≡ true) → is_variable all (of x) ≡ true
 
-one_named : (p : Member) (members : List Member) (done all : List FileVariable) (t : CType) → Named members (done ++ record { name = p.name.name; type = t } ∷ []) all → Named (p ∷ members) done all
-one_named p members done all t h x (inl listed) = elim (or_cases (bytes_eq x p.name.name) (is_listed members x) listed) [
-  | inl here ↦ h x (inr (any_last (λ (v : FileVariable). bytes_eq x v.name) done (record { name = p.name.name; type = t }) here))
+one_named : (of : Numbers) (p : Member) (members : List Member) (done all : List FileVariable) (t : CType) → Named of members (done ++ record { name = of p.name.name; type = t } ∷ []) all → Named of (p ∷ members) done all
+one_named of p members done all t h x (inl listed) = elim (or_cases (bytes_eq x p.name.name) (is_listed members x) listed) [
+  | inl here ↦ h x (inr (any_last (λ (v : FileVariable). of x == v.name) done (record { name = of p.name.name; type = t }) (number_equal of x p.name.name here)))
   | inr there ↦ h x (inl there)
 ]
-one_named p members done all t h x (inr old) = h x (inr (any_more (λ (v : FileVariable). bytes_eq x v.name) done (record { name = p.name.name; type = t } ∷ []) old))
+one_named of p members done all t h x (inr old) = h x (inr (any_more (λ (v : FileVariable). of x == v.name) done (record { name = of p.name.name; type = t } ∷ []) old))
 
-pub parameters_named : (tags : List (List ℕ)) (g : Scope) → KnowsTags tags g → (members : List Member) (done : List FileVariable) → HaveTags tags members → IsNamed (Named members done) (parameter_types g members done)
-parameters_named tags g knows [] done h = last
+pub parameters_named : (of : Numbers) (tags : List (List ℕ)) (g : Scope) → KnowsTags of tags g → (members : List Member) (done : List FileVariable) → HaveTags tags members → IsNamed (Named of members done) (parameter_types g (map (number_member of) members) done)
+parameters_named of tags g knows [] done h = last
   where
-    last : Named [] done done
+    last : Named of [] done done
     last x (inl listed) = absurd (cc)
     last x (inr old) = old
-parameters_named tags g knows (p ∷ members) done h =
-    needs_named (Named (p ∷ members) done) (nat_lt (length done) 16) E08 (type_span p.type.base) _
-    (then_named (Named (p ∷ members) done) (type_named g p.type) _ (type_named_named tags g knows p.type h.0)
-    (λ t. named_so (Named members (done ++ record { name = p.name.name; type = t } ∷ [])) (Named (p ∷ members) done) (parameter_types g members (done ++ record { name = p.name.name; type = t } ∷ []))
-    (λ all. one_named p members done all t) (parameters_named tags g knows members (done ++ record { name = p.name.name; type = t } ∷ []) h.1)))
+parameters_named of tags g knows (p ∷ members) done h =
+    let more : CType → List FileVariable = λ t. done ++ record { name = of p.name.name; type = t } ∷ [] in
+    needs_named (Named of (p ∷ members) done) (nat_lt (length done) 16) E08 (type_span (number_type of p.type.base)) _
+    (then_named (Named of (p ∷ members) done) (type_named g (number_type_name of p.type)) _ (type_named_named of tags g knows p.type h.0)
+    (λ t. named_so (Named of members (more t)) (Named of (p ∷ members) done) (parameter_types g (map (number_member of) members) (more t))
+    (λ all. one_named of p members done all t) (parameters_named of tags g knows members (more t) h.1)))
 
 -- ---- the parameters as locals
 
@@ -168,36 +170,37 @@ pub parameters_later : (ps : List FileVariable) (g : Scope) → Later g (with_pa
 parameters_later [] g = later_same g
 parameters_later (p ∷ ps) g = later_further g (with_local p.name p.type g) (with_parameters ps (with_local p.name p.type g)) (later_local p.name p.type g) (parameters_later ps (with_local p.name p.type g))
 
-abbrev IsLocal : Scope → List ℕ → Type 0
+abbrev IsLocal : Scope → ℕ → Type 0
 IsLocal g x = is_some (local_named g.locals g.visible x) ≡ true
 
-local_here : (name : List ℕ) (t : CType) (g : Scope) (x : List ℕ) → (bytes_eq x name ≡ true) ⊎ IsLocal g x → IsLocal (with_local name t g) x
-local_here name t g x h = by (bytes_eq x name) refl h
+local_here : (name : ℕ) (t : CType) (g : Scope) (x : ℕ) → ((x == name) ≡ true) ⊎ IsLocal g x → IsLocal (with_local name t g) x
+local_here name t g x h = by (x == name) refl h
   where
-    by : (b : Bool) → bytes_eq x name ≡ b → (b ≡ true) ⊎ IsLocal g x → IsLocal (with_local name t g) x
+    by : (b : Bool) → (x == name) ≡ b → (b ≡ true) ⊎ IsLocal g x → IsLocal (with_local name t g) x
     by true e o = rw (e, extends_last g.locals t) refl
     by false e (inl here) = absurd (cc)
     by false e (inr old) = rw e (local_later g.locals (g.locals ++ t ∷ []) g.visible x (extends_append g.locals (t ∷ [])) old)
 
-pub parameters_local : (ps : List FileVariable) (g : Scope) (x : List ℕ) → (is_variable ps x ≡ true) ⊎ IsLocal g x → IsLocal (with_parameters ps g) x
+pub parameters_local : (ps : List FileVariable) (g : Scope) (x : ℕ) → (is_variable ps x ≡ true) ⊎ IsLocal g x → IsLocal (with_parameters ps g) x
 parameters_local [] g x (inl none) = absurd (cc)
 parameters_local [] g x (inr old) = old
-parameters_local (p ∷ ps) g x (inl listed) = elim (or_cases (bytes_eq x p.name) (is_variable ps x) listed) [
+parameters_local (p ∷ ps) g x (inl listed) = elim (or_cases (x == p.name) (is_variable ps x) listed) [
   | inl here ↦ parameters_local ps (with_local p.name p.type g) x (inr (local_here p.name p.type g x (inl here)))
   | inr there ↦ parameters_local ps (with_local p.name p.type g) x (inl there)
 ]
 parameters_local (p ∷ ps) g x (inr old) = parameters_local ps (with_local p.name p.type g) x (inr (local_here p.name p.type g x (inr old)))
 
 -- the scopes inside a function, where these are its parameters and naming has entered their names
-pub inside_agrees : (n k : Scopes) (g : Scope) (ps : List FileVariable) → AgreesFile n g → Adds (λ x. is_variable ps x ≡ true) n k → Agrees k (with_parameters ps g)
-inside_agrees n k g ps agrees adds =
+pub inside_agrees : (of : Numbers) (n k : Scopes) (g : Scope) (ps : List FileVariable) → AgreesFile of n g → Adds (λ x. is_variable ps (of x) ≡ true) n k → Agrees of k (with_parameters ps g)
+inside_agrees of n k g ps agrees adds =
     let after = with_parameters ps g in
     let later = parameters_later ps g in
     record {
       value = λ x v. elim (adds.value x v) [
-        | inl new ↦ first_some (local_named after.locals after.visible x) (object_named 0 after.variables x) (parameters_local ps g x (inl new))
-        | inr old ↦ second_some (local_named after.locals after.visible x) (object_named 0 after.variables x) (subst (λ vs. is_some (object_named 0 vs x) ≡ true) later.variables (agrees.value x old))
+        | inl new ↦ first_some (local_named after.locals after.visible (of x)) (object_named 0 after.variables (of x)) (parameters_local ps g (of x) (inl new))
+        | inr old ↦ second_some (local_named after.locals after.visible (of x)) (object_named 0 after.variables (of x)) (subst (λ vs. is_some (object_named 0 vs (of x)) ≡ true) later.variables (agrees.value x old))
       ];
-      function = λ x f. subst (λ fs. is_some (function_named fs x) ≡ true) later.functions (agrees.function x (adds.function x f));
-      tag = λ x t. subst (λ ts. is_some (position (bytes_eq x) ts) ≡ true) later.tags (agrees.tag x (subst (λ ts. is_among ts x ≡ true) adds.keeps.tags t));
+      function = λ x f. subst (λ fs. is_some (function_named fs (of x)) ≡ true) later.functions (agrees.function x (adds.function x f));
+      tag = λ x t. subst (λ ts. is_some (position (λ other. of x == other) ts) ≡ true) later.tags (agrees.tag x (subst (λ ts. is_among ts x ≡ true) adds.keeps.tags t));
+      given = sym later.given ∙ agrees.given;
     }

@@ -1,7 +1,8 @@
 -- In a statement each name stands for something, and the scopes behind it agree again.
-use Rattle.std.proofs.Common.{◌≡◌, ℕ, true, List, [], ◌∷◌, ◌++◌, length, Option, Some, None, sym, subst}
+use Rattle.std.proofs.Common.{◌≡◌, ℕ, true, List, [], ◌∷◌, ◌++◌, map, length, Option, Some, None, sym, subst}
 use Rattle.std.specs.Prelude.{◌&&◌, ◌||◌, not, nat_lt, flat_map, Ok}
 use Rattle.std.specs.List.{list_all}
+use Rattle.std.specs.Option.{option_map}
 use Rattle.std.proofs.lemmas.Bool.{and_parts}
 use Rattle.ckc_text.specs.declared.place.Span.{Span}
 use Rattle.ckc_text.specs.declared.code.Code.TheVariants.{E08, E13, E15, E30}
@@ -9,6 +10,7 @@ use Rattle.ckc_tree.specs.Types.{TypeTree}
 use Rattle.ckc_tree.specs.Expressions.{Expression, expression_span}
 use Rattle.ckc_tree.specs.Statements as s
 use Rattle.ckc_tree.specs.Statements.{Initializer, Declarator, Declaration, Assignment, ForInitial, Statement, Statements}
+use Rattle.ckc_tree.specs.Numbers.{Numbers, number_type, number_expression, number_initializer, number_declarator, number_declaration, number_assignment, number_initial, number_statement, number_statements}
 use Rattle.built_forms.specs.Built.{built_expression, optional, built_initializer, built_declarator, built_declaration, built_assignment, built_initial, built_statement, built_statements}
 use Rattle.ckc_names_rules.specs.Mentions.{type_mentions, expression_mentions, bounds_mentions, optional_mentions, initializer_mentions, declarator_mentions, declaration_mentions, assignment_mentions, for_initial_mentions, in_block, statement_mentions, statements_mentions}
 use Rattle.ckc_names_rules.specs.Scopes.{Variable, Scopes, standing_for, all_mentioned}
@@ -25,59 +27,59 @@ use Rattle.region_typing_rules.proofs.NamedScopes.{Agrees, opened_agrees, loop_a
 use Rattle.region_typing_rules.proofs.NamedExpressions.{typed_named, call_named}
 
 -- the scopes of naming agree with these, which are those before with locals entered
-pub record IsBehind (m : Scopes) (g after : Scope) : Type 0 where
-  pub agrees : Agrees m after
+pub record IsBehind (of : Numbers) (m : Scopes) (g after : Scope) : Type 0 where
+  pub agrees : Agrees of m after
   pub later : Later g after
 
-abbrev pub Behind : {A : Type 0} → Scopes → Scope → A × Scope → Type 0
-Behind m g w = IsBehind m g w.1
+abbrev pub Behind : {A : Type 0} → Numbers → Scopes → Scope → A × Scope → Type 0
+Behind of m g w = IsBehind of m g w.1
 
-behind_same : (n m : Scopes) (g : Scope) → m ≡ n → Agrees n g → IsBehind m g g
-behind_same n m g same h = record { agrees = subst (λ k. Agrees k g) (sym same) h; later = later_same g }
+behind_same : (of : Numbers) → (n m : Scopes) (g : Scope) → m ≡ n → Agrees of n g → IsBehind of m g g
+behind_same of n m g same h = record { agrees = subst (λ k. Agrees of k g) (sym same) h; later = later_same g }
 
-behind_block_is : (n m : Scopes) (g after : Scope) → m ≡ n → Agrees n g → Later g after → IsBehind m g (behind_block g after)
-behind_block_is n m g after same h later = record { agrees = subst (λ k. Agrees k (behind_block g after)) (sym same) (behind_agrees n g after h later); later = later_block g after later }
+behind_block_is : (of : Numbers) → (n m : Scopes) (g after : Scope) → m ≡ n → Agrees of n g → Later g after → IsBehind of m g (behind_block g after)
+behind_block_is of n m g after same h later = record { agrees = subst (λ k. Agrees of k (behind_block g after)) (sym same) (behind_agrees of n g after h later); later = later_block g after later }
 
-behind_further : (m : Scopes) (a b c : Scope) → Later a b → IsBehind m b c → IsBehind m a c
-behind_further m a b c h h' = record { agrees = h'.agrees; later = later_further a b c h h'.later }
+behind_further : (of : Numbers) → (m : Scopes) (a b c : Scope) → Later a b → IsBehind of m b c → IsBehind of m a c
+behind_further of m a b c h h' = record { agrees = h'.agrees; later = later_further a b c h h'.later }
 
-module _ (at : Places) where
+module _ (of : Numbers) (at : Places) where
   -- ---- assignments and conditions
 
-  assignment_named : (n : Scopes) (g : Scope) → Agrees n g → (a : Assignment) → built_assignment a ≡ true → AreFound n (assignment_mentions a) → AllNamed (assignment at g a)
+  assignment_named : (n : Scopes) (g : Scope) → Agrees of n g → (a : Assignment) → built_assignment a ≡ true → AreFound n (assignment_mentions a) → AllNamed (assignment at g (number_assignment of a))
   assignment_named n g agrees (s.Store operator target value span) built found =
       let parts = and_parts (built_expression target) (built_expression value) built in
       let both = found_append n (expression_mentions target) (expression_mentions value) found in
-      then_named Any (typed at g target) _ (typed_named at n g agrees target parts.0 both.0)
-      (λ a. then_named Any (typed at g value) _ (typed_named at n g agrees value parts.1 both.1) (λ b. stored_named at operator a b span))
+      then_named Any (typed at g (number_expression of target)) _ (typed_named of at n g agrees target parts.0 both.0)
+      (λ a. then_named Any (typed at g (number_expression of value)) _ (typed_named of at n g agrees value parts.1 both.1) (λ b. stored_named at operator a b span))
   assignment_named n g agrees (s.Step operator side target span) built found =
-      then_named Any (typed at g target) _ (typed_named at n g agrees target built found) (λ a. updated_named at (step_of operator) a one span)
+      then_named Any (typed at g (number_expression of target)) _ (typed_named of at n g agrees target built found) (λ a. updated_named at (step_of operator) a one span)
 
-  condition_named : (n : Scopes) (g : Scope) → Agrees n g → (x : Expression) → built_expression x ≡ true → AreFound n (expression_mentions x) → AllNamed (condition at g x)
-  condition_named n g agrees x built found = then_named Any (typed at g x) _ (typed_named at n g agrees x built found) (λ t. scalar_named t (expression_span x) Passes (λ v. tt))
+  condition_named : (n : Scopes) (g : Scope) → Agrees of n g → (x : Expression) → built_expression x ≡ true → AreFound n (expression_mentions x) → AllNamed (condition at g (number_expression of x))
+  condition_named n g agrees x built found = then_named Any (typed at g (number_expression of x)) _ (typed_named of at n g agrees x built found) (λ t. scalar_named t (expression_span (number_expression of x)) Passes (λ v. tt))
 
-  optional_condition_named : (n : Scopes) (g : Scope) → Agrees n g → (o : Option Expression) → optional built_expression o ≡ true → AreFound n (optional_mentions expression_mentions o) → AllNamed (optional_condition at g o)
+  optional_condition_named : (n : Scopes) (g : Scope) → Agrees of n g → (o : Option Expression) → optional built_expression o ≡ true → AreFound n (optional_mentions expression_mentions o) → AllNamed (optional_condition at g (option_map (number_expression of) o))
   optional_condition_named n g agrees None built found = tt
   optional_condition_named n g agrees (Some x) built found = condition_named n g agrees x built found
 
-  step_named : (n : Scopes) (g : Scope) → Agrees n g → (o : Option Assignment) → optional built_assignment o ≡ true → AreFound n (optional_mentions assignment_mentions o) → AllNamed (optional_step at g o)
+  step_named : (n : Scopes) (g : Scope) → Agrees of n g → (o : Option Assignment) → optional built_assignment o ≡ true → AreFound n (optional_mentions assignment_mentions o) → AllNamed (optional_step at g (option_map (number_assignment of) o))
   step_named n g agrees None built found = tt
   step_named n g agrees (Some a) built found = assignment_named n g agrees a built found
 
-  return_named : (n : Scopes) (g : Scope) → Agrees n g → (o : Option Expression) (span : Span) → optional built_expression o ≡ true → AreFound n (optional_mentions expression_mentions o) → AllNamed (return at g o span)
+  return_named : (n : Scopes) (g : Scope) → Agrees of n g → (o : Option Expression) (span : Span) → optional built_expression o ≡ true → AreFound n (optional_mentions expression_mentions o) → AllNamed (return at g (option_map (number_expression of) o) span)
   return_named n g agrees None span built found = nothing_named g.result span
-  return_named n g agrees (Some x) span built found = then_named Any (typed at g x) _ (typed_named at n g agrees x built found) (λ t. returned_named g.result t span)
+  return_named n g agrees (Some x) span built found = then_named Any (typed at g (number_expression of x)) _ (typed_named of at n g agrees x built found) (λ t. returned_named g.result t span)
 
   -- ---- declarations
 
-  initialised_named : (n : Scopes) (g : Scope) → Agrees n g → (o : Option Initializer) (type : CType) (local : ℕ) (span : Span) → optional built_initializer o ≡ true → AreFound n (optional_mentions initializer_mentions o)
-      → AllNamed (initialised at g o type local span)
+  initialised_named : (n : Scopes) (g : Scope) → Agrees of n g → (o : Option Initializer) (type : CType) (local : ℕ) (span : Span) → optional built_initializer o ≡ true → AreFound n (optional_mentions initializer_mentions o)
+      → AllNamed (initialised at g (option_map (number_initializer of) o) type local span)
   initialised_named n g agrees None type local span built found = tt
-  initialised_named n g agrees (Some (s.Value value)) type local span built found = then_named Any (typed at g value) _ (typed_named at n g agrees value built found) (λ t. converted_named t type span _ (λ v. tt))
+  initialised_named n g agrees (Some (s.Value value)) type local span built found = then_named Any (typed at g (number_expression of value)) _ (typed_named of at n g agrees value built found) (λ t. converted_named t type span _ (λ v. tt))
   initialised_named n g agrees (Some (s.Constants constants list)) type local span built found = tt
 
-  declarator_named : (n m : Scopes) (g : Scope) (base : TypeTree) (type : CType) (span : Span) (d : Declarator) → Agrees n g → built_declarator d ≡ true → all_mentioned (declarator_mentions d) n ≡ Ok m
-      → IsNamed (Behind {A = core.Statement} m g) (declarator at g base type span d)
+  declarator_named : (n m : Scopes) (g : Scope) (base : TypeTree) (type : CType) (span : Span) (d : Declarator) → Agrees of n g → built_declarator d ≡ true → all_mentioned (declarator_mentions d) n ≡ Ok m
+      → IsNamed (Behind {A = core.Statement} of m g) (declarator at g base type span (number_declarator of d))
   declarator_named n m g base type span d agrees built h =
       let inner = standing_for d.name Variable n in
       let bounds = optional_mentions bounds_mentions d.bounds in
@@ -85,37 +87,37 @@ module _ (at : Places) where
       let behind = quiet_front bounds initial (optional_quiet bounds_mentions bounds_quiet d.bounds) inner m (declared_front d.name (bounds ++ initial) n m h) in
       let last = quiet_all initial (optional_quiet initializer_mentions initializer_quiet d.initializer) inner m behind.1 in
       let forms = (and_parts _ _ (and_parts _ _ built).1).1 in
-      needs_named (Behind {A = core.Statement} m g) (nat_lt (length g.locals) 256) E08 span _
-      (then_named (Behind {A = core.Statement} m g) (without_stars base d.stars type) _ (stars_named base d.stars type)
-      (λ t. (let now = local_agrees d.name t n g agrees in
-      then_named (Behind {A = core.Statement} m g) (initialised at (with_local d.name.name t g) d.initializer t (length g.locals) span) _
-      (initialised_named inner (with_local d.name.name t g) now d.initializer t (length g.locals) span forms last.0)
-      (λ x. needs_named (Behind {A = core.Statement} m g) (is_scalar t) E13 span _
-      (record { agrees = subst (λ k. Agrees k (with_local d.name.name t g)) (sym last.1) now; later = later_local d.name.name t g })))))
+      needs_named (Behind {A = core.Statement} of m g) (nat_lt (length g.locals) 256) E08 span _
+      (then_named (Behind {A = core.Statement} of m g) (without_stars base d.stars type) _ (stars_named base d.stars type)
+      (λ t. (let now = local_agrees of d.name t n g agrees in
+      then_named (Behind {A = core.Statement} of m g) (initialised at (with_local (of d.name.name) t g) (option_map (number_initializer of) d.initializer) t (length g.locals) span) _
+      (initialised_named inner (with_local (of d.name.name) t g) now d.initializer t (length g.locals) span forms last.0)
+      (λ x. needs_named (Behind {A = core.Statement} of m g) (is_scalar t) E13 span _
+      (record { agrees = subst (λ k. Agrees of k (with_local (of d.name.name) t g)) (sym last.1) now; later = later_local (of d.name.name) t g })))))
 
-  declarators_named : (n m : Scopes) (g : Scope) (base : TypeTree) (type : CType) (span : Span) (ds : List Declarator) → Agrees n g → list_all built_declarator ds ≡ true → all_mentioned (flat_map declarator_mentions ds) n ≡ Ok m
-      → IsNamed (Behind {A = core.Statement} m g) (declarators at g base type span ds)
-  declarators_named n m g base type span [] agrees built h = behind_same n m g (quiet_all [] tt n m h).1 agrees
+  declarators_named : (n m : Scopes) (g : Scope) (base : TypeTree) (type : CType) (span : Span) (ds : List Declarator) → Agrees of n g → list_all built_declarator ds ≡ true → all_mentioned (flat_map declarator_mentions ds) n ≡ Ok m
+      → IsNamed (Behind {A = core.Statement} of m g) (declarators at g base type span (map (number_declarator of) ds))
+  declarators_named n m g base type span [] agrees built h = behind_same of n m g (quiet_all [] tt n m h).1 agrees
   declarators_named n m g base type span (d ∷ ds) agrees built h =
       let parts = and_parts (built_declarator d) (list_all built_declarator ds) built in
       let split = mentioned_append (declarator_mentions d) (flat_map declarator_mentions ds) n m h in
-      passing_named (Behind {A = core.Statement} split.0 g) (Behind {A = core.Statement} m g) (declarator at g base type span d) _ (declarator_named n split.0 g base type span d agrees parts.0 split.1)
-      (λ first b. passing_named (Behind {A = core.Statement} m first.1) (Behind {A = core.Statement} m g) (declarators at first.1 base type span ds) _
-      (declarators_named split.0 m first.1 base type span ds b.agrees parts.1 split.2) (λ rest b'. behind_further m g first.1 rest.1 b.later b'))
+      passing_named (Behind {A = core.Statement} of split.0 g) (Behind {A = core.Statement} of m g) (declarator at g base type span (number_declarator of d)) _ (declarator_named n split.0 g base type span d agrees parts.0 split.1)
+      (λ first b. passing_named (Behind {A = core.Statement} of m first.1) (Behind {A = core.Statement} of m g) (declarators at first.1 base type span (map (number_declarator of) ds)) _
+      (declarators_named split.0 m first.1 base type span ds b.agrees parts.1 split.2) (λ rest b'. behind_further of m g first.1 rest.1 b.later b'))
 
-  declaration_named : (n m : Scopes) (g : Scope) (d : Declaration) → Agrees n g → built_declaration d ≡ true → all_mentioned (declaration_mentions d) n ≡ Ok m → IsNamed (Behind {A = core.Statement} m g) (declaration at g d)
+  declaration_named : (n m : Scopes) (g : Scope) (d : Declaration) → Agrees of n g → built_declaration d ≡ true → all_mentioned (declaration_mentions d) n ≡ Ok m → IsNamed (Behind {A = core.Statement} of m g) (declaration at g (number_declaration of d))
   declaration_named n m g d agrees built h =
       let front = quiet_front (type_mentions d.base) (flat_map declarator_mentions d.declarators) (type_quiet d.base) n m h in
-      needs_named (Behind {A = core.Statement} m g) (nat_lt (length g.locals) 256) E08 d.span _
-      (then_named (Behind {A = core.Statement} m g) (base_type g d.base) _ (base_named n.tags g agrees.tag d.base (found_tags n d.base front.0))
-      (λ type. declarators_named n m g d.base type d.span d.declarators agrees (and_parts _ _ built).1 front.1))
+      needs_named (Behind {A = core.Statement} of m g) (nat_lt (length g.locals) 256) E08 d.span _
+      (then_named (Behind {A = core.Statement} of m g) (base_type g (number_type of d.base)) _ (base_named of n.tags g agrees.tag d.base (found_tags n d.base front.0))
+      (λ type. declarators_named n m g (number_type of d.base) type d.span d.declarators agrees (and_parts _ _ built).1 front.1))
 
-  first_named : (n m : Scopes) (g : Scope) (x : ForInitial) → Agrees n g → built_initial x ≡ true → all_mentioned (for_initial_mentions x) n ≡ Ok m → IsNamed (Behind {A = core.Statement} m g) (first_part at g x)
-  first_named n m g s.Nothing agrees built h = behind_same n m g (quiet_all [] tt n m h).1 agrees
+  first_named : (n m : Scopes) (g : Scope) (x : ForInitial) → Agrees of n g → built_initial x ≡ true → all_mentioned (for_initial_mentions x) n ≡ Ok m → IsNamed (Behind {A = core.Statement} of m g) (first_part at g (number_initial of x))
+  first_named n m g s.Nothing agrees built h = behind_same of n m g (quiet_all [] tt n m h).1 agrees
   first_named n m g (s.Declares d) agrees built h = declaration_named n m g d agrees built h
   first_named n m g (s.Assigns a) agrees built h =
       let all = quiet_all (assignment_mentions a) (assignment_quiet a) n m h in
-      then_named (Behind {A = core.Statement} m g) (assignment at g a) _ (assignment_named n g agrees a built all.0) (λ first. behind_same n m g all.1 agrees)
+      then_named (Behind {A = core.Statement} of m g) (assignment at g (number_assignment of a)) _ (assignment_named n g agrees a built all.0) (λ first. behind_same of n m g all.1 agrees)
 
   -- ---- statements
 
@@ -135,48 +137,48 @@ module _ (at : Places) where
       record { test_found = first.0; step_found = second.0; inside = inner.0; body_is = inner.1 }
 
   mutual
-    pub statement_named : (x : Statement) (n m : Scopes) (g : Scope) → Agrees n g → built_statement x ≡ true → all_mentioned (statement_mentions x) n ≡ Ok m → IsNamed (Behind {A = core.Statement} m g) (statement at g x)
+    pub statement_named : (x : Statement) (n m : Scopes) (g : Scope) → Agrees of n g → built_statement x ≡ true → all_mentioned (statement_mentions x) n ≡ Ok m → IsNamed (Behind {A = core.Statement} of m g) (statement at g (number_statement of x))
     statement_named (s.Block mark inner span) n m g agrees built h =
         let block = block_mentioned (statements_mentions inner) (statements_keep inner) n m h in
-        passing_named (Behind {A = core.Statements} block.0 g) (Behind {A = core.Statement} m g) (statements at g inner) _ (statements_named inner (opened n) block.0 g (opened_agrees n g agrees) built block.1)
-        (λ w b. needs_named (Behind {A = core.Statement} m g) (not (is_unchecked mark || g.is_off)) E15 span _ (behind_block_is n m g w.1 block.2 agrees b.later))
+        passing_named (Behind {A = core.Statements} of block.0 g) (Behind {A = core.Statement} of m g) (statements at g (number_statements of inner)) _ (statements_named inner (opened n) block.0 g (opened_agrees of n g agrees) built block.1)
+        (λ w b. needs_named (Behind {A = core.Statement} of m g) (not (is_unchecked mark || g.is_off)) E15 span _ (behind_block_is of n m g w.1 block.2 agrees b.later))
     statement_named (s.Bundle assignments span) n m g agrees built h = tt
     statement_named (s.Declare d span) n m g agrees built h = declaration_named n m g d agrees built h
     statement_named (s.Assign a span) n m g agrees built h =
         let all = quiet_all (assignment_mentions a) (assignment_quiet a) n m h in
-        then_named (Behind {A = core.Statement} m g) (assignment at g a) _ (assignment_named n g agrees a built all.0) (λ x. behind_same n m g all.1 agrees)
+        then_named (Behind {A = core.Statement} of m g) (assignment at g (number_assignment of a)) _ (assignment_named n g agrees a built all.0) (λ x. behind_same of n m g all.1 agrees)
     statement_named (s.CallAlone call span) n m g agrees built h =
         let all = quiet_all (expression_mentions call) (expression_quiet call) n m h in
-        then_named (Behind {A = core.Statement} m g) (call_typed at g call) _ (call_named at n g agrees call built all.0) (λ c. behind_same n m g all.1 agrees)
-    statement_named (s.Empty span) n m g agrees built h = behind_same n m g (quiet_all [] tt n m h).1 agrees
+        then_named (Behind {A = core.Statement} of m g) (call_typed at g (number_expression of call)) _ (call_named of at n g agrees call built all.0) (λ c. behind_same of n m g all.1 agrees)
+    statement_named (s.Empty span) n m g agrees built h = behind_same of n m g (quiet_all [] tt n m h).1 agrees
     statement_named (s.If test consequent span) n m g agrees built h =
         let parts = and_parts (built_expression test) (built_statement consequent) built in
         let front = quiet_front (expression_mentions test) _ (expression_quiet test) n m h in
         let block = block_mentioned (statement_mentions consequent) (statement_keeps consequent) n m front.1 in
-        then_named (Behind {A = core.Statement} m g) (condition at g test) _ (condition_named n g agrees test parts.0 front.0)
-        (λ c. passing_named (Behind {A = core.Statement} block.0 g) (Behind {A = core.Statement} m g) (statement at g consequent) _ (statement_named consequent (opened n) block.0 g (opened_agrees n g agrees) parts.1 block.1)
-        (λ x b. behind_block_is n m g x.1 block.2 agrees b.later))
+        then_named (Behind {A = core.Statement} of m g) (condition at g (number_expression of test)) _ (condition_named n g agrees test parts.0 front.0)
+        (λ c. passing_named (Behind {A = core.Statement} of block.0 g) (Behind {A = core.Statement} of m g) (statement at g (number_statement of consequent)) _ (statement_named consequent (opened n) block.0 g (opened_agrees of n g agrees) parts.1 block.1)
+        (λ x b. behind_block_is of n m g x.1 block.2 agrees b.later))
     statement_named (s.IfElse test consequent alternative span) n m g agrees built h =
         let parts = and_parts (built_expression test) (built_statement consequent && built_statement alternative) built in
         let both = and_parts (built_statement consequent) (built_statement alternative) parts.1 in
         let front = quiet_front (expression_mentions test) _ (expression_quiet test) n m h in
         let first = block_front (statement_mentions consequent) (in_block (statement_mentions alternative)) (statement_keeps consequent) n m front.1 in
         let second = block_mentioned (statement_mentions alternative) (statement_keeps alternative) n m first.2 in
-        then_named (Behind {A = core.Statement} m g) (condition at g test) _ (condition_named n g agrees test parts.0 front.0)
-        (λ c. passing_named (Behind {A = core.Statement} first.0 g) (Behind {A = core.Statement} m g) (statement at g consequent) _ (statement_named consequent (opened n) first.0 g (opened_agrees n g agrees) both.0 first.1)
+        then_named (Behind {A = core.Statement} of m g) (condition at g (number_expression of test)) _ (condition_named n g agrees test parts.0 front.0)
+        (λ c. passing_named (Behind {A = core.Statement} of first.0 g) (Behind {A = core.Statement} of m g) (statement at g (number_statement of consequent)) _ (statement_named consequent (opened n) first.0 g (opened_agrees of n g agrees) both.0 first.1)
         (λ x b. (let between = behind_block g x.1 in
-        let now = behind_agrees n g x.1 agrees b.later in
-        passing_named (Behind {A = core.Statement} second.0 between) (Behind {A = core.Statement} m g) (statement at between alternative) _
-        (statement_named alternative (opened n) second.0 between (opened_agrees n between now) both.1 second.1)
-        (λ y b'. behind_block_is n m g y.1 second.2 agrees (later_further g between y.1 (later_block g x.1 b.later) b'.later)))))
+        let now = behind_agrees of n g x.1 agrees b.later in
+        passing_named (Behind {A = core.Statement} of second.0 between) (Behind {A = core.Statement} of m g) (statement at between (number_statement of alternative)) _
+        (statement_named alternative (opened n) second.0 between (opened_agrees of n between now) both.1 second.1)
+        (λ y b'. behind_block_is of n m g y.1 second.2 agrees (later_further g between y.1 (later_block g x.1 b.later) b'.later)))))
     statement_named (s.While test body span) n m g agrees built h =
         let parts = and_parts (built_expression test) (built_statement body) built in
         let front = quiet_front (expression_mentions test) _ (expression_quiet test) n m h in
         let block = block_mentioned (statement_mentions body) (statement_keeps body) n m front.1 in
-        then_named (Behind {A = core.Statement} m g) (condition at g test) _ (condition_named n g agrees test parts.0 front.0)
-        (λ c. passing_named (Behind {A = core.Statement} block.0 (in_loop g)) (Behind {A = core.Statement} m g) (statement at (in_loop g) body) _
-        (statement_named body (opened n) block.0 (in_loop g) (opened_agrees n (in_loop g) (loop_agrees n g agrees)) parts.1 block.1)
-        (λ x b. behind_block_is n m g x.1 block.2 agrees (later_loop g x.1 b.later)))
+        then_named (Behind {A = core.Statement} of m g) (condition at g (number_expression of test)) _ (condition_named n g agrees test parts.0 front.0)
+        (λ c. passing_named (Behind {A = core.Statement} of block.0 (in_loop g)) (Behind {A = core.Statement} of m g) (statement at (in_loop g) (number_statement of body)) _
+        (statement_named body (opened n) block.0 (in_loop g) (opened_agrees of n (in_loop g) (loop_agrees of n g agrees)) parts.1 block.1)
+        (λ x b. behind_block_is of n m g x.1 block.2 agrees (later_loop g x.1 b.later)))
     statement_named (s.For initial test step body span) n m g agrees built h =
         let forms = and_parts (built_initial initial) (optional built_expression test && (optional built_assignment step && built_statement body)) built in
         let more = and_parts (optional built_expression test) (optional built_assignment step && built_statement body) forms.1 in
@@ -184,25 +186,25 @@ module _ (at : Places) where
         let block = block_mentioned (for_mentions initial test step (statement_mentions body)) (for_keeps initial test step (statement_mentions body) (statement_keeps body)) n m h in
         let split = mentioned_append (for_initial_mentions initial) _ (opened n) block.0 block.1 in
         let parts = for_parts split.0 block.0 test step body split.2 in
-        passing_named (Behind {A = core.Statement} split.0 g) (Behind {A = core.Statement} m g) (first_part at g initial) _ (first_named (opened n) split.0 g initial (opened_agrees n g agrees) forms.0 split.1)
-        (λ first b. then_named (Behind {A = core.Statement} m g) (optional_condition at first.1 test) _ (optional_condition_named split.0 first.1 b.agrees test more.0 parts.test_found)
-        (λ c. passing_named (Behind {A = core.Statement} parts.inside (in_loop first.1)) (Behind {A = core.Statement} m g) (statement at (in_loop first.1) body) _
-        (statement_named body (opened split.0) parts.inside (in_loop first.1) (opened_agrees split.0 (in_loop first.1) (loop_agrees split.0 first.1 b.agrees)) rest.1 parts.body_is)
+        passing_named (Behind {A = core.Statement} of split.0 g) (Behind {A = core.Statement} of m g) (first_part at g (number_initial of initial)) _ (first_named (opened n) split.0 g initial (opened_agrees of n g agrees) forms.0 split.1)
+        (λ first b. then_named (Behind {A = core.Statement} of m g) (optional_condition at first.1 (option_map (number_expression of) test)) _ (optional_condition_named split.0 first.1 b.agrees test more.0 parts.test_found)
+        (λ c. passing_named (Behind {A = core.Statement} of parts.inside (in_loop first.1)) (Behind {A = core.Statement} of m g) (statement at (in_loop first.1) (number_statement of body)) _
+        (statement_named body (opened split.0) parts.inside (in_loop first.1) (opened_agrees of split.0 (in_loop first.1) (loop_agrees of split.0 first.1 b.agrees)) rest.1 parts.body_is)
         (λ x b'. (let later = later_loop first.1 x.1 b'.later in
-        then_named (Behind {A = core.Statement} m g) (optional_step at (behind_block first.1 x.1) step) _
-        (step_named split.0 (behind_block first.1 x.1) (behind_agrees split.0 first.1 x.1 b.agrees later) step rest.0 parts.step_found)
-        (λ y. behind_block_is n m g x.1 block.2 agrees (later_further g first.1 x.1 b.later later))))))
+        then_named (Behind {A = core.Statement} of m g) (optional_step at (behind_block first.1 x.1) (option_map (number_assignment of) step)) _
+        (step_named split.0 (behind_block first.1 x.1) (behind_agrees of split.0 first.1 x.1 b.agrees later) step rest.0 parts.step_found)
+        (λ y. behind_block_is of n m g x.1 block.2 agrees (later_further g first.1 x.1 b.later later))))))
     statement_named (s.Return value span) n m g agrees built h =
         let all = quiet_all (optional_mentions expression_mentions value) (optional_quiet expression_mentions expression_quiet value) n m h in
-        then_named (Behind {A = core.Statement} m g) (return at g value span) _ (return_named n g agrees value span built all.0) (λ x. behind_same n m g all.1 agrees)
-    statement_named (s.Break span) n m g agrees built h = needs_named (Behind {A = core.Statement} m g) g.in_loop E30 span _ (behind_same n m g (quiet_all [] tt n m h).1 agrees)
-    statement_named (s.Continue span) n m g agrees built h = needs_named (Behind {A = core.Statement} m g) g.in_loop E30 span _ (behind_same n m g (quiet_all [] tt n m h).1 agrees)
+        then_named (Behind {A = core.Statement} of m g) (return at g (option_map (number_expression of) value) span) _ (return_named n g agrees value span built all.0) (λ x. behind_same of n m g all.1 agrees)
+    statement_named (s.Break span) n m g agrees built h = needs_named (Behind {A = core.Statement} of m g) g.in_loop E30 span _ (behind_same of n m g (quiet_all [] tt n m h).1 agrees)
+    statement_named (s.Continue span) n m g agrees built h = needs_named (Behind {A = core.Statement} of m g) g.in_loop E30 span _ (behind_same of n m g (quiet_all [] tt n m h).1 agrees)
 
-    pub statements_named : (xs : Statements) (n m : Scopes) (g : Scope) → Agrees n g → built_statements xs ≡ true → all_mentioned (statements_mentions xs) n ≡ Ok m → IsNamed (Behind {A = core.Statements} m g) (statements at g xs)
-    statements_named s.NoMore n m g agrees built h = behind_same n m g (quiet_all [] tt n m h).1 agrees
+    pub statements_named : (xs : Statements) (n m : Scopes) (g : Scope) → Agrees of n g → built_statements xs ≡ true → all_mentioned (statements_mentions xs) n ≡ Ok m → IsNamed (Behind {A = core.Statements} of m g) (statements at g (number_statements of xs))
+    statements_named s.NoMore n m g agrees built h = behind_same of n m g (quiet_all [] tt n m h).1 agrees
     statements_named (s.Then first others) n m g agrees built h =
         let parts = and_parts (built_statement first) (built_statements others) built in
         let split = mentioned_append (statement_mentions first) (statements_mentions others) n m h in
-        passing_named (Behind {A = core.Statement} split.0 g) (Behind {A = core.Statements} m g) (statement at g first) _ (statement_named first n split.0 g agrees parts.0 split.1)
-        (λ x b. passing_named (Behind {A = core.Statements} m x.1) (Behind {A = core.Statements} m g) (statements at x.1 others) _ (statements_named others split.0 m x.1 b.agrees parts.1 split.2)
-        (λ y b'. behind_further m g x.1 y.1 b.later b'))
+        passing_named (Behind {A = core.Statement} of split.0 g) (Behind {A = core.Statements} of m g) (statement at g (number_statement of first)) _ (statement_named first n split.0 g agrees parts.0 split.1)
+        (λ x b. passing_named (Behind {A = core.Statements} of m x.1) (Behind {A = core.Statements} of m g) (statements at x.1 (number_statements of others)) _ (statements_named others split.0 m x.1 b.agrees parts.1 split.2)
+        (λ y b'. behind_further of m g x.1 y.1 b.later b'))

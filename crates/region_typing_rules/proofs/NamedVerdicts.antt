@@ -18,7 +18,7 @@ use Rattle.ckc_core.specs.declared.program.Comparison.{Comparison}
 use Rattle.ckc_core.specs.declared.program.Comparison.TheVariants as comparisons
 use Rattle.ckc_core.specs.Core as core
 use Rattle.region_typing_rules.specs.Verdicts.{Verdict, Passes, Stops, Broken, Nameless, passing, needs}
-use Rattle.region_typing_rules.specs.Scopes.{Scope, Signature}
+use Rattle.region_typing_rules.specs.Scopes.{Scope, Signature, members_named}
 use Rattle.region_typing_rules.specs.Types.{is_number, is_pointer, are_comparable, converts}
 use Rattle.region_typing_rules.specs.Expressions.{Places, Lvalue, OfLocal, OfCell, Typed, Value, AStruct, Called, Gives, GivesNothing, number, member_from, member_at, dotted, struct_place, pointed_by, arrowed, pointed_at, dereferenced, address_at, address, number_of, scalar_of, unary_typed, is_pointer_value, two_numbers, two_scalars, summands, equated_values, equated, ordered_values, ordered, arithmetic, binary_typed, indexed, in_type, converted, arguments_as, is_import, is_checked_argument, without_checked, crossing, declared_call, writes, with_result}
 use Rattle.region_typing_rules.specs.Statements.{assigned, updated, stored, returned, returned_nothing}
@@ -56,18 +56,18 @@ Any x = Unit {0}
 
 -- ---- expressions
 
-member_named : (s : Scope) (struct : ℕ) (place : core.Place) (name : List ℕ) (site : Site) (span : Span) → AllNamed (member_at s struct place name site span)
-member_named s struct place name site span = by (member_from 0 (members_of s.structs struct) name) refl
+member_named : (s : Scope) (struct : ℕ) (place : core.Place) (name : ℕ) (site : Site) (span : Span) → AllNamed (member_at s struct place name site span)
+member_named s struct place name site span = by (member_from 0 (members_named s struct) (members_of s.structs struct) name) refl
   where
-    by : (o : Option (ℕ × CType)) → member_from 0 (members_of s.structs struct) name ≡ o → AllNamed (member_at s struct place name site span)
+    by : (o : Option (ℕ × CType)) → member_from 0 (members_named s struct) (members_of s.structs struct) name ≡ o → AllNamed (member_at s struct place name site span)
     by None e = rw e tt
     by (Some m) e = rw e tt
 
-pub dotted_named : (s : Scope) (t : Typed) (name : List ℕ) (site : Site) (span : Span) → AllNamed (dotted s t name site span)
+pub dotted_named : (s : Scope) (t : Typed) (name : ℕ) (site : Site) (span : Span) → AllNamed (dotted s t name site span)
 dotted_named s (Value type zero value place) name site span = tt
 dotted_named s (AStruct number place) name site span = member_named s number (struct_place place site) name site span
 
-pointed_by_named : (s : Scope) (t : CType) (value : core.Expression) (name : List ℕ) (site : Site) (span : Span) → AllNamed (pointed_by s t value name site span)
+pointed_by_named : (s : Scope) (t : CType) (value : core.Expression) (name : ℕ) (site : Site) (span : Span) → AllNamed (pointed_by s t value name site span)
 pointed_by_named s Int value name site span = tt
 pointed_by_named s Char value name site span = tt
 pointed_by_named s (Struct number) value name site span = tt
@@ -76,7 +76,7 @@ pointed_by_named s (Pointer mode kind Char) value name site span = tt
 pointed_by_named s (Pointer mode kind (Struct number)) value name site span = member_named s number (core.Through value 0 0 site) name site span
 pointed_by_named s (Pointer mode kind (Pointer mode' kind' target)) value name site span = tt
 
-pub arrowed_named : (s : Scope) (t : Typed) (name : List ℕ) (site : Site) (span : Span) → AllNamed (arrowed s t name site span)
+pub arrowed_named : (s : Scope) (t : Typed) (name : ℕ) (site : Site) (span : Span) → AllNamed (arrowed s t name site span)
 arrowed_named s (Value type zero value place) name site span = pointed_by_named s type value name site span
 arrowed_named s (AStruct number place) name site span = tt
 

@@ -1,8 +1,9 @@
 -- Functions by their names, and by their numbers among the trusted and the tainted ones.
 use Rattle.std.proofs.Common.{◌≡◌, ℕ, suc, ◌+◌, ◌≤◌, Bool, true, false, List, [], ◌∷◌, ◌++◌, length, Option, Some, None, refl, ap, ◌∙◌, subst, arith}
-use Rattle.std.specs.Prelude.{bytes_eq, slice_get, ◌&&◌}
+use Rattle.std.specs.Prelude.{◌==◌, bytes_eq, slice_get, ◌&&◌}
 use Rattle.std.specs.List.{AllByRecursion}
-use Rattle.std.proofs.lemmas.Bool.{and_parts}
+use Rattle.std.proofs.lemmas.Bool.{and_parts, eqb-true}
+use Rattle.std.proofs.lemmas.Bool.Decides.{nat_tests}
 use Rattle.std.proofs.lemmas.Slice.Eq.{bytes_eq-Decides}
 use Rattle.ckc_tree.specs.declared.item.FunctionKind.{FunctionKind}
 use Rattle.ckc_tree.specs.declared.item.FunctionKind.TheVariants as kinds
@@ -12,7 +13,7 @@ use Rattle.ckc_core.specs.States.{same_type}
 use Rattle.region_typing_rules.specs.Scopes.{Signature, function_named}
 use Rattle.region_typing_rules.specs.Types.{is_scalar}
 use Rattle.region_typing_rules.specs.Expressions.{is_import, counted, same_side, side_number}
-use Rattle.region_typing_rules.specs.Items.{same_types, same_result, same_kind, agrees, all_scalar, scalar_result}
+use Rattle.region_typing_rules.specs.Items.{Defined, same_types, same_result, same_kind, agrees, all_scalar, scalar_result}
 use Rattle.region_typing_rules.specs.Cores.{body_of, trusted_functions, tainted_functions}
 use Rattle.region_typing_rules.specs.Typed.{IsScalar, IsScalarResult}
 use Rattle.region_typing_rules.proofs.Knowledge.{IsNumberType, IsNumberResult, same_equal}
@@ -22,65 +23,68 @@ use Rattle.region_typing_rules.proofs.Knowledge.{IsNumberType, IsNumberResult, s
 pub bytes_equal : (a b : List ℕ) → bytes_eq a b ≡ true → a ≡ b
 bytes_equal a b h = grind (arith, bytes_eq-Decides)
 
-pub bytes_same : (a : List ℕ) → bytes_eq a a ≡ true
-bytes_same a = grind (arith, bytes_eq-Decides)
+pub numbers_equal : (a b : ℕ) → (a == b) ≡ true → a ≡ b
+numbers_equal a b h = eqb-true a b h
 
-pub named_self : (functions : List Signature) (name : List ℕ) (f : Signature) → function_named functions name ≡ Some f → name ≡ f.name
+pub number_same : (a : ℕ) → (a == a) ≡ true
+number_same a = grind (arith, nat_tests)
+
+pub named_self : (functions : List Signature) (name : ℕ) (f : Signature) → function_named functions name ≡ Some f → name ≡ f.name
 named_self [] name f h = absurd (cc)
-named_self (g ∷ functions) name f h = by (bytes_eq name g.name) refl (named_self functions name f)
+named_self (g ∷ functions) name f h = by (name == g.name) refl (named_self functions name f)
   where
-    by : (test : Bool) → bytes_eq name g.name ≡ test → (function_named functions name ≡ Some f → name ≡ f.name) → name ≡ f.name
-    by true e again = let now = rw e at h in let same : g ≡ f = cc in bytes_equal name g.name e ∙ ap (λ (x : Signature). x.name) same
+    by : (test : Bool) → (name == g.name) ≡ test → (function_named functions name ≡ Some f → name ≡ f.name) → name ≡ f.name
+    by true e again = let now = rw e at h in let same : g ≡ f = cc in numbers_equal name g.name e ∙ ap (λ (x : Signature). x.name) same
     by false e again = let now = rw e at h in again now
 
 -- a property of all is one of each that is named
-pub named_has : (P : Signature → Type 0) (functions : List Signature) (name : List ℕ) (f : Signature) → AllByRecursion P functions → function_named functions name ≡ Some f → P f
+pub named_has : (P : Signature → Type 0) (functions : List Signature) (name : ℕ) (f : Signature) → AllByRecursion P functions → function_named functions name ≡ Some f → P f
 named_has P [] name f all h = absurd (cc)
-named_has P (g ∷ functions) name f all h = by (bytes_eq name g.name) refl (named_has P functions name f all.1)
+named_has P (g ∷ functions) name f all h = by (name == g.name) refl (named_has P functions name f all.1)
   where
-    by : (test : Bool) → bytes_eq name g.name ≡ test → (function_named functions name ≡ Some f → P f) → P f
+    by : (test : Bool) → (name == g.name) ≡ test → (function_named functions name ≡ Some f → P f) → P f
     by true e again = let now = rw e at h in let same : g ≡ f = cc in subst P same all.0
     by false e again = let now = rw e at h in again now
 
 -- one more behind them
-pub named_further : (functions : List Signature) (more : Signature) (name : List ℕ) (f : Signature) → function_named functions name ≡ Some f → function_named (functions ++ more ∷ []) name ≡ Some f
+pub named_further : (functions : List Signature) (more : Signature) (name : ℕ) (f : Signature) → function_named functions name ≡ Some f → function_named (functions ++ more ∷ []) name ≡ Some f
 named_further [] more name f h = absurd (cc)
-named_further (g ∷ functions) more name f h = by (bytes_eq name g.name) refl (named_further functions more name f)
+named_further (g ∷ functions) more name f h = by (name == g.name) refl (named_further functions more name f)
   where
-    by : (test : Bool) → bytes_eq name g.name ≡ test → (function_named functions name ≡ Some f → function_named (functions ++ more ∷ []) name ≡ Some f) → function_named ((g ∷ functions) ++ more ∷ []) name ≡ Some f
+    by : (test : Bool) → (name == g.name) ≡ test → (function_named functions name ≡ Some f → function_named (functions ++ more ∷ []) name ≡ Some f) → function_named ((g ∷ functions) ++ more ∷ []) name ≡ Some f
     by true e again = let now = rw e at h in rw e now
     by false e again = let now = rw e at h in rw e (again now)
 
 pub named_last : (functions : List Signature) (more : Signature) → function_named functions more.name ≡ None → function_named (functions ++ more ∷ []) more.name ≡ Some more
-named_last [] more h = rw (bytes_same more.name) refl
-named_last (g ∷ functions) more h = by (bytes_eq more.name g.name) refl (named_last functions more)
+named_last [] more h = rw (number_same more.name) refl
+named_last (g ∷ functions) more h = by (more.name == g.name) refl (named_last functions more)
   where
-    by : (test : Bool) → bytes_eq more.name g.name ≡ test → (function_named functions more.name ≡ None → function_named (functions ++ more ∷ []) more.name ≡ Some more) → function_named ((g ∷ functions) ++ more ∷ []) more.name ≡ Some more
+    by : (test : Bool) → (more.name == g.name) ≡ test → (function_named functions more.name ≡ None → function_named (functions ++ more ∷ []) more.name ≡ Some more) → function_named ((g ∷ functions) ++ more ∷ []) more.name ≡ Some more
     by true e again = let now = rw e at h in absurd (cc)
     by false e again = let now = rw e at h in rw e (again now)
 
 -- and the numbers of those before it stay
-pub side_further : (side : Bool) (functions : List Signature) (more : Signature) (name : List ℕ) (f : Signature) (n : ℕ) → function_named functions name ≡ Some f → side_number side functions name n ≡ side_number side (functions ++ more ∷ []) name n
+pub side_further : (side : Bool) (functions : List Signature) (more : Signature) (name : ℕ) (f : Signature) (n : ℕ) → function_named functions name ≡ Some f → side_number side functions name n ≡ side_number side (functions ++ more ∷ []) name n
 side_further side [] more name f n h = absurd (cc)
-side_further side (g ∷ functions) more name f n h = by (bytes_eq name g.name) refl (side_further side functions more name f (counted (same_side side (is_import g)) n))
+side_further side (g ∷ functions) more name f n h = by (name == g.name) refl (side_further side functions more name f (counted (same_side side (is_import g)) n))
   where
-    by : (test : Bool) → bytes_eq name g.name ≡ test → (function_named functions name ≡ Some f → side_number side functions name (counted (same_side side (is_import g)) n) ≡ side_number side (functions ++ more ∷ []) name (counted (same_side side (is_import g)) n)) → side_number side (g ∷ functions) name n ≡ side_number side ((g ∷ functions) ++ more ∷ []) name n
+    by : (test : Bool) → (name == g.name) ≡ test → (function_named functions name ≡ Some f → side_number side functions name (counted (same_side side (is_import g)) n) ≡ side_number side (functions ++ more ∷ []) name (counted (same_side side (is_import g)) n)) → side_number side (g ∷ functions) name n ≡ side_number side ((g ∷ functions) ++ more ∷ []) name n
     by true e again = rw e refl
     by false e again = let now = rw e at h in rw e (again now)
 
 -- ---- numbers
 
 -- a function that is named has a number among the trusted ones
-pub record HasTrusted (bodies : List core.Function) (functions : List Signature) (name : List ℕ) (f : Signature) (n : ℕ) : Type 0 where
+pub record HasTrusted (bodies : List Defined) (functions : List Signature) (name : ℕ) (f : Signature) (n : ℕ) : Type 0 where
   pub index : ℕ
   pub counted : side_number false functions name n ≡ n + index
   pub found : slice_get (trusted_functions bodies functions) index ≡ Some (body_of bodies f)
 
-pub trusted_there : (bodies : List core.Function) (functions : List Signature) (name : List ℕ) (f : Signature) (n : ℕ) → function_named functions name ≡ Some f → is_import f ≡ false → HasTrusted bodies functions name f n
+pub trusted_there : (bodies : List Defined) (functions : List Signature) (name : ℕ) (f : Signature) (n : ℕ) → function_named functions name ≡ Some f → is_import f ≡ false → HasTrusted bodies functions name f n
 trusted_there bodies [] name f n h side = absurd (cc)
-trusted_there bodies (g ∷ functions) name f n h side = by (bytes_eq name g.name) (is_import g) refl refl (λ m now. trusted_there bodies functions name f m now side)
+trusted_there bodies (g ∷ functions) name f n h side = by (name == g.name) (is_import g) refl refl (λ m now. trusted_there bodies functions name f m now side)
   where
-    by : (test import : Bool) → bytes_eq name g.name ≡ test → is_import g ≡ import → ((m : ℕ) → function_named functions name ≡ Some f → HasTrusted bodies functions name f m) → HasTrusted bodies (g ∷ functions) name f n
+    by : (test import : Bool) → (name == g.name) ≡ test → is_import g ≡ import → ((m : ℕ) → function_named functions name ≡ Some f → HasTrusted bodies functions name f m) → HasTrusted bodies (g ∷ functions) name f n
     by true import e i again =
         let now = rw e at h in
         let same : g ≡ f = cc in
@@ -96,21 +100,21 @@ trusted_there bodies (g ∷ functions) name f n h side = by (bytes_eq name g.nam
         let moved : suc n + rest.index ≡ n + suc rest.index = omega arith in
         record { index = suc rest.index; counted = rw (e, i) (rest.counted ∙ moved); found = rw i rest.found }
 
-pub record HasTainted (functions : List Signature) (name : List ℕ) (f : Signature) (n : ℕ) : Type 0 where
+pub record HasTainted (functions : List Signature) (name : ℕ) (f : Signature) (n : ℕ) : Type 0 where
   pub index : ℕ
   pub counted : side_number true functions name n ≡ n + index
-  pub found : slice_get (tainted_functions functions) index ≡ Some (record { name = f.name; parameters = length f.parameters; result = f.result })
+  pub found : slice_get (tainted_functions functions) index ≡ Some (record { name = f.text; parameters = length f.parameters; result = f.result })
 
-pub tainted_there : (functions : List Signature) (name : List ℕ) (f : Signature) (n : ℕ) → function_named functions name ≡ Some f → is_import f ≡ true → HasTainted functions name f n
+pub tainted_there : (functions : List Signature) (name : ℕ) (f : Signature) (n : ℕ) → function_named functions name ≡ Some f → is_import f ≡ true → HasTainted functions name f n
 tainted_there [] name f n h side = absurd (cc)
-tainted_there (g ∷ functions) name f n h side = by (bytes_eq name g.name) (is_import g) refl refl (λ m now. tainted_there functions name f m now side)
+tainted_there (g ∷ functions) name f n h side = by (name == g.name) (is_import g) refl refl (λ m now. tainted_there functions name f m now side)
   where
-    by : (test import : Bool) → bytes_eq name g.name ≡ test → is_import g ≡ import → ((m : ℕ) → function_named functions name ≡ Some f → HasTainted functions name f m) → HasTainted (g ∷ functions) name f n
+    by : (test import : Bool) → (name == g.name) ≡ test → is_import g ≡ import → ((m : ℕ) → function_named functions name ≡ Some f → HasTainted functions name f m) → HasTainted (g ∷ functions) name f n
     by true import e i again =
         let now = rw e at h in
         let same : g ≡ f = cc in
         let tainted : is_import g ≡ true = ap is_import same ∙ side in
-        record { index = 0; counted = rw e (omega arith); found = rw tainted (ap (λ (x : Signature). Some (record { name = x.name; parameters = length x.parameters; result = x.result })) same) }
+        record { index = 0; counted = rw e (omega arith); found = rw tainted (ap (λ (x : Signature). Some (record { name = x.text; parameters = length x.parameters; result = x.result })) same) }
     by false true e i again =
         let now = rw e at h in
         let rest = again (suc n) now in

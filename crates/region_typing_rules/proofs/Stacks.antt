@@ -1,6 +1,6 @@
 -- The parts of a core take few words of the stack, by the height of the tree that they come from.
 use Rattle.std.proofs.Common.{◌≡◌, ℕ, ◌+◌, ◌*◌, ◌≤◌, ◌^◌, Bool, true, false, List, [], ◌∷◌, length, Option, Some, None, refl, arith}
-use Rattle.std.specs.Prelude.{bytes_eq, codes, nat_lt, not, ◌&&◌, ◌||◌, ◌==◌}
+use Rattle.std.specs.Prelude.{◌==◌, nat_lt, not, ◌&&◌, ◌||◌}
 use Rattle.std.specs.List.{AllByRecursion}
 use Rattle.std.proofs.lemmas.Bool.{ltb-true, ltb-false}
 use Rattle.ckc_text.specs.declared.place.Span.{Span}
@@ -21,8 +21,9 @@ use Rattle.ckc_core.specs.declared.program.Comparison.{Comparison}
 use Rattle.ckc_core.specs.declared.program.Comparison.TheVariants as comparisons
 use Rattle.ckc_core.specs.Core as core
 use Rattle.ckc_core.specs.Stacks.{offset_stack, expression_stack, arguments_stack, place_stack, statement_stack}
+use Rattle.ckc_names_rules.specs.declared.given.Given.{Given}
 use Rattle.region_typing_rules.specs.Verdicts.{Verdict, Passes, breaks}
-use Rattle.region_typing_rules.specs.Scopes.{Scope, Signature, Named, Local, Object, Nothing, named, function_named}
+use Rattle.region_typing_rules.specs.Scopes.{Scope, Signature, Named, Local, Object, Nothing, named, function_named, members_named}
 use Rattle.region_typing_rules.specs.Types.{type_named, is_number, is_pointer, are_comparable, converts}
 use Rattle.region_typing_rules.specs.Expressions.{Places, Lvalue, OfLocal, OfCell, Typed, Value, AStruct, Called, Gives, GivesNothing, site_at, number, at_place, local_typed, name_typed, member_place, member_from, offset_among, member_at, dotted, pointed_by, arrowed, pointed_at, dereferenced, pointer_to, address, number_of, scalar_of, unary_typed, is_pointer_value, two_numbers, two_scalars, summands, as_pointer, equated_values, equated, ordered_values, ordered, arithmetic, binary_typed, indexed, in_type, converted, arguments_as, is_import, side_number, call_of, first_of, writes, predefined_call, called, with_result, typed, all_typed, call_typed}
 use Rattle.region_typing_rules.proofs.Knowledge.{crossing_promises}
@@ -127,19 +128,19 @@ dereferenced_low : (n : ℕ) (a : Typed) (site : Site) (span : Span) → 2 ≤ n
 dereferenced_low n (Value type zero value place) site span two h = pointed_low n type value site span two h.0
 dereferenced_low n (AStruct number place) site span two h = tt
 
-member_at_low : (n : ℕ) (s : Scope) (struct : ℕ) (p : core.Place) (name : List ℕ) (site : Site) (span : Span) → 2 ≤ n → place_stack p ≤ n → Promises (Low n) (member_at s struct p name site span)
-member_at_low n s struct p name site span two h = by (member_from 0 (members_of s.structs struct) name) refl
+member_at_low : (n : ℕ) (s : Scope) (struct : ℕ) (p : core.Place) (name : ℕ) (site : Site) (span : Span) → 2 ≤ n → place_stack p ≤ n → Promises (Low n) (member_at s struct p name site span)
+member_at_low n s struct p name site span two h = by (member_from 0 (members_named s struct) (members_of s.structs struct) name) refl
   where
-    by : (o : Option (ℕ × CType)) → member_from 0 (members_of s.structs struct) name ≡ o → Promises (Low n) (member_at s struct p name site span)
+    by : (o : Option (ℕ × CType)) → member_from 0 (members_named s struct) (members_of s.structs struct) name ≡ o → Promises (Low n) (member_at s struct p name site span)
     by None found = rw found tt
     by (Some m) found = rw found (at_place_low n m.1 _ (member_place_low n p m.0 (offset_among (cells_of s.structs (Struct struct)) m.0) site two h))
 
-dotted_low : (n : ℕ) (s : Scope) (a : Typed) (name : List ℕ) (site : Site) (span : Span) → 2 ≤ n → Low n a → Promises (Low n) (dotted s a name site span)
+dotted_low : (n : ℕ) (s : Scope) (a : Typed) (name : ℕ) (site : Site) (span : Span) → 2 ≤ n → Low n a → Promises (Low n) (dotted s a name site span)
 dotted_low n s (Value type zero value place) name site span two h = tt
 dotted_low n s (AStruct number (OfLocal k)) name site span two h = member_at_low n s number (core.Through (core.Local k) 0 0 site) name site span two (omega arith)
 dotted_low n s (AStruct number (OfCell p)) name site span two h = member_at_low n s number p name site span two h
 
-pointed_by_low : (n : ℕ) (s : Scope) (t : CType) (value : core.Expression) (name : List ℕ) (site : Site) (span : Span) → 2 ≤ n → IsLow n value → Promises (Low n) (pointed_by s t value name site span)
+pointed_by_low : (n : ℕ) (s : Scope) (t : CType) (value : core.Expression) (name : ℕ) (site : Site) (span : Span) → 2 ≤ n → IsLow n value → Promises (Low n) (pointed_by s t value name site span)
 pointed_by_low n s Int value name site span two h = tt
 pointed_by_low n s Char value name site span two h = tt
 pointed_by_low n s (Struct number) value name site span two h = tt
@@ -148,7 +149,7 @@ pointed_by_low n s (Pointer m k Char) value name site span two h = tt
 pointed_by_low n s (Pointer m k (Pointer m' k' t)) value name site span two h = tt
 pointed_by_low n s (Pointer m k (Struct number)) value name site span two h = member_at_low n s number (core.Through value 0 0 site) name site span two (omega arith)
 
-arrowed_low : (n : ℕ) (s : Scope) (a : Typed) (name : List ℕ) (site : Site) (span : Span) → 2 ≤ n → Low n a → Promises (Low n) (arrowed s a name site span)
+arrowed_low : (n : ℕ) (s : Scope) (a : Typed) (name : ℕ) (site : Site) (span : Span) → 2 ≤ n → Low n a → Promises (Low n) (arrowed s a name site span)
 arrowed_low n s (Value type zero value place) name site span two h = pointed_by_low n s type value name site span two h.0
 arrowed_low n s (AStruct number place) name site span two h = tt
 
@@ -282,10 +283,10 @@ writes_low n of arguments span same one all =
     needs_promises (LowCall (n + 16)) (length arguments == 1) E14 span _
     (λ x. passing_promises (λ (values : core.Arguments). arguments_stack values ≤ n + 1) (LowCall (n + 16)) (arguments_as arguments (Int ∷ [])) _ (arguments_low n arguments (Int ∷ []) one all) (λ values h. first_low (n + 16) of values same (omega arith)))
 
-predefined_low : (n : ℕ) (name : List ℕ) (arguments : List (Typed × Span)) (span : Span) → 1 ≤ n → AllLow n arguments → Promises (LowCall (n + 16)) (predefined_call name arguments span)
-predefined_low n name arguments span one all = by (bytes_eq name (codes "next_input")) (bytes_eq name (codes "print_int")) (bytes_eq name (codes "putchar")) refl refl refl
+predefined_low : (n : ℕ) (given : Given) (name : ℕ) (arguments : List (Typed × Span)) (span : Span) → 1 ≤ n → AllLow n arguments → Promises (LowCall (n + 16)) (predefined_call given name arguments span)
+predefined_low n given name arguments span one all = by (name == given.next_input) (name == given.print_int) (name == given.putchar) refl refl refl
   where
-    by : (input print put : Bool) → bytes_eq name (codes "next_input") ≡ input → bytes_eq name (codes "print_int") ≡ print → bytes_eq name (codes "putchar") ≡ put → Promises (LowCall (n + 16)) (predefined_call name arguments span)
+    by : (input print put : Bool) → (name == given.next_input) ≡ input → (name == given.print_int) ≡ print → (name == given.putchar) ≡ put → Promises (LowCall (n + 16)) (predefined_call given name arguments span)
     by true print put h0 h1 h2 = rw h0 (needs_promises (LowCall (n + 16)) (length arguments == 0) E14 span (Passes (Gives Int core.NextInput)) (λ none. omega arith))
     by false true put h0 h1 h2 = rw (h0, h1) (writes_low n core.Print arguments span (λ v. refl) one all)
     by false false true h0 h1 h2 = rw (h0, h1, h2) (writes_low n core.PutByte arguments span (λ v. refl) one all)
@@ -304,8 +305,8 @@ with_result_low n (Gives type value) span h = (h, tt)
 with_result_low n (GivesNothing call) span h = tt
 
 module _ (s : Scope) (few : AllByRecursion HasFew s.functions) where
-  called_low : (n : ℕ) (o : Option Signature) (name : List ℕ) (arguments : List (Typed × Span)) (site : Site) (span : Span) → function_named s.functions name ≡ o → 1 ≤ n → AllLow n arguments → Promises (LowCall (n + 16)) (called s o name arguments site span)
-  called_low n None name arguments site span found one all = predefined_low n name arguments span one all
+  called_low : (n : ℕ) (o : Option Signature) (name : ℕ) (arguments : List (Typed × Span)) (site : Site) (span : Span) → function_named s.functions name ≡ o → 1 ≤ n → AllLow n arguments → Promises (LowCall (n + 16)) (called s o name arguments site span)
+  called_low n None name arguments site span found one all = predefined_low n s.given name arguments span one all
   called_low n (Some f) name arguments site span found one all =
       needs_promises (LowCall (n + 16)) (length f.parameters == length arguments) E14 span _
       (λ many. crossing_promises (LowCall (n + 16)) (is_import f) arguments _
@@ -320,15 +321,15 @@ module _ (s : Scope) (few : AllByRecursion HasFew s.functions) where
     typed_low at (e.Number value span) n h = needs_promises (Low n) (nat_lt value (2 ^ 31)) E04 span _ (λ low. (omega arith, tt))
     typed_low at (e.Character value span) n h = needs_promises (Low n) (nat_lt value (2 ^ 31)) E04 span _ (λ low. (omega arith, tt))
     typed_low at (e.Text bytes span) n h = tt
-    typed_low at (e.Name name) n h = passing_promises (λ (x : Named). Unit {0}) (Low n) (named s name.name) _ (anything_promised (named s name.name)) (λ x _. name_low n x (omega arith))
+    typed_low at (e.Name name) n h = passing_promises (λ (x : Named). Unit {0}) (Low n) (named s name.number) _ (anything_promised (named s name.number)) (λ x _. name_low n x (omega arith))
     typed_low at (e.Call callee arguments span) n h =
         let parts = expressions_reach arguments in
         let higher = around_higher span.from parts in
         let m = 17 * parts.height + 1 in
         let room : m + 16 ≤ n = omega arith in
         passing_promises (AllLow m) (Low n) (all_typed at s arguments) _ (all_low at arguments m (omega arith))
-        (λ ts low. passing_promises (LowCall (m + 16)) (Low n) (called s (function_named s.functions callee.name) callee.name ts (site_at at span) span) _
-        (called_low m (function_named s.functions callee.name) callee.name ts (site_at at span) span refl (omega arith) low)
+        (λ ts low. passing_promises (LowCall (m + 16)) (Low n) (called s (function_named s.functions callee.number) callee.number ts (site_at at span) span) _
+        (called_low m (function_named s.functions callee.number) callee.number ts (site_at at span) span refl (omega arith) low)
         (λ c h'. promised_so (Low (m + 16)) (Low n) (with_result c span) (with_result_low (m + 16) c span h') (λ t. low_more (m + 16) n t room)))
     typed_low at (e.SizeOf type span) n h =
         let higher = around_higher span.from (type_reach type.base) in
@@ -342,10 +343,10 @@ module _ (s : Scope) (few : AllByRecursion HasFew s.functions) where
         (λ a _. passing_promises (λ (t : Typed). Unit {0}) (Low n) (typed at s index) _ (anything_promised (typed at s index)) (λ b _. indexed_low n a b span))
     typed_low at (e.Dot base member span) n h =
         let higher = around_higher span.from (expression_reach base) in
-        passing_promises (Low n) (Low n) (typed at s base) _ (typed_low at base n (omega arith)) (λ a low. dotted_low n s a member.name (site_at at span) span (omega arith) low)
+        passing_promises (Low n) (Low n) (typed at s base) _ (typed_low at base n (omega arith)) (λ a low. dotted_low n s a member.number (site_at at span) span (omega arith) low)
     typed_low at (e.Arrow base member span) n h =
         let higher = around_higher span.from (expression_reach base) in
-        passing_promises (Low n) (Low n) (typed at s base) _ (typed_low at base n (omega arith)) (λ a low. arrowed_low n s a member.name (site_at at span) span (omega arith) low)
+        passing_promises (Low n) (Low n) (typed at s base) _ (typed_low at base n (omega arith)) (λ a low. arrowed_low n s a member.number (site_at at span) span (omega arith) low)
     typed_low at (e.Unary operator operand span) n h =
         let higher = around_higher span.from (expression_reach operand) in
         passing_promises (Low n) (Low n) (typed at s operand) _ (typed_low at operand n (omega arith)) (λ a low. unary_low n operator a (site_at at span) span (omega arith) low)
@@ -376,8 +377,8 @@ module _ (s : Scope) (few : AllByRecursion HasFew s.functions) where
       let m = 17 * parts.height + 1 in
       let room : m + 16 ≤ n = omega arith in
       passing_promises (AllLow m) (LowCall n) (all_typed at s arguments) _ (all_low at arguments m (omega arith))
-      (λ ts low. promised_so (LowCall (m + 16)) (LowCall n) (called s (function_named s.functions callee.name) callee.name ts (site_at at span) span)
-      (called_low m (function_named s.functions callee.name) callee.name ts (site_at at span) span refl (omega arith) low) (λ c. call_more (m + 16) n c room))
+      (λ ts low. promised_so (LowCall (m + 16)) (LowCall n) (called s (function_named s.functions callee.number) callee.number ts (site_at at span) span)
+      (called_low m (function_named s.functions callee.number) callee.number ts (site_at at span) span refl (omega arith) low) (λ c. call_more (m + 16) n c room))
   call_typed_low at (e.Number value span) n h = tt
   call_typed_low at (e.Character value span) n h = tt
   call_typed_low at (e.Text bytes span) n h = tt

@@ -120,7 +120,7 @@ module _ (at : Places) where
       let two = beside_second (optional_bounds_reach d.bounds) (optional_initializer_reach d.initializer) in
       needs_promises (BecomesLow n) (nat_lt (length s.locals) 256) E08 span _
       (λ low. passing_promises (λ (t : CType). Unit {0}) (BecomesLow n) (without_stars base d.stars type) _ (anything_promised (without_stars base d.stars type))
-      (λ t _. passing_promises (IsLowStatement n) (BecomesLow n) (initialised at (with_local d.name.name t s) d.initializer t (length s.locals) span) _ (initialised_low (with_local d.name.name t s) few d.initializer t (length s.locals) span n (omega arith))
+      (λ t _. passing_promises (IsLowStatement n) (BecomesLow n) (initialised at (with_local d.name.number t s) d.initializer t (length s.locals) span) _ (initialised_low (with_local d.name.number t s) few d.initializer t (length s.locals) span n (omega arith))
       (λ initial low'. needs_promises (BecomesLow n) (is_scalar t) E13 span _ (λ scalar. omega (arith, zero_low t)))))
 
   declarators_low : (s : Scope) → HaveFew s → (base : TypeTree) (type : CType) (span : Span) (ds : List Declarator) (n : ℕ) → 17 * (declarators_reach ds).height + 1 ≤ n → Promises (BecomesLow n) (declarators at s base type span ds)

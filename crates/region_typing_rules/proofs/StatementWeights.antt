@@ -117,7 +117,7 @@ module _ (at : Places) where
       let n = 5 * tree.optional_initializer_weight d.initializer + 1 in
       needs_promises (λ (w : Walked). statement_weight w.0 < 5 * tree.declarator_weight d) (nat_lt (length s.locals) 256) E08 span _
       (λ low. passing_promises (λ (t : CType). Unit {0}) (λ (w : Walked). statement_weight w.0 < 5 * tree.declarator_weight d) (without_stars base d.stars type) _ (anything_promised (without_stars base d.stars type))
-      (λ t _. passing_promises (IsLightStatement n) (λ (w : Walked). statement_weight w.0 < 5 * tree.declarator_weight d) (initialised at (with_local d.name.name t s) d.initializer t (length s.locals) span) _ (initialised_light (with_local d.name.name t s) d.initializer t (length s.locals) span)
+      (λ t _. passing_promises (IsLightStatement n) (λ (w : Walked). statement_weight w.0 < 5 * tree.declarator_weight d) (initialised at (with_local d.name.number t s) d.initializer t (length s.locals) span) _ (initialised_light (with_local d.name.number t s) d.initializer t (length s.locals) span)
       (λ initial light. needs_promises (λ (w : Walked). statement_weight w.0 < 5 * tree.declarator_weight d) (is_scalar t) E13 span _ (λ scalar. omega (arith, zero_light t)))))
 
   declarators_light : (s : Scope) (base : TypeTree) (type : CType) (span : Span) (ds : List Declarator) → Promises (BecomesLight (5 * tree.declarators_weight ds + 1)) (declarators at s base type span ds)

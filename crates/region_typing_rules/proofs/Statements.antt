@@ -165,16 +165,16 @@ module _ (g : Frame) (types : List CType) (all_scalar : AllByRecursion IsScalar 
   declarator_promises at s file base type span d =
       needs_promises (Becomes IsAny) (nat_lt (length s.locals) 256) E08 span _
       (λ few. passing_promises (λ (t : CType). Unit {0}) (Becomes IsAny) (without_stars base d.stars type) _ (anything_promised (without_stars base d.stars type))
-      (λ t _. passing_promises (λ (x : core.Statement). Reaches (with_local d.name.name t s) → IsAny x) (Becomes IsAny) (initialised at (with_local d.name.name t s) d.initializer t (length s.locals) span) _ (later_promises (Reaches (with_local d.name.name t s)) IsAny _ (initial t))
+      (λ t _. passing_promises (λ (x : core.Statement). Reaches (with_local d.name.number t s) → IsAny x) (Becomes IsAny) (initialised at (with_local d.name.number t s) d.initializer t (length s.locals) span) _ (later_promises (Reaches (with_local d.name.number t s)) IsAny _ (initial t))
       (λ initial h. needs_promises (Becomes IsAny) (is_scalar t) E13 span _
       (λ scalar reaches. both_typed (core.SetLocal (length s.locals) (zero_value t)) initial (λ result loop. rules.set_local (there t reaches) (zero_typed t scalar)) (h reaches)))))
     where
-      there : (t : CType) → Reaches (with_local d.name.name t s) → slice_get types (length s.locals) ≡ Some t
+      there : (t : CType) → Reaches (with_local d.name.number t s) → slice_get types (length s.locals) ≡ Some t
       there t reaches = reaches (length s.locals) t (extends_last s.locals t)
 
-      initial : (t : CType) → Reaches (with_local d.name.name t s) → Promises IsAny (initialised at (with_local d.name.name t s) d.initializer t (length s.locals) span)
+      initial : (t : CType) → Reaches (with_local d.name.number t s) → Promises IsAny (initialised at (with_local d.name.number t s) d.initializer t (length s.locals) span)
       initial t reaches =
-          let inside = with_local d.name.name t s in
+          let inside = with_local d.name.number t s in
           let known : KnowsFile g inside = record { structs = file.structs; few_members = file.few_members; scalar_members = file.scalar_members; variables = file.variables; trusted = file.trusted; tainted = file.tainted } in
           initialised_promises at inside (knows_from inside known reaches) d.initializer t (length s.locals) span (there t reaches)
 

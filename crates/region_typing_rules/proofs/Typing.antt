@@ -1,15 +1,24 @@
 -- The core of a program that breaks no rule has types.
-use Rattle.std.proofs.Common.{◌≡◌, ℕ, ◌*◌, ◌<◌, ◌≤◌, Bool, true, false, List, [], take, length, ◌∷◌, Some, None, refl, ap, ◌∙◌, subst, arith}
-use Rattle.std.specs.Prelude.{codes, slice_get, Result, Ok, Err, All}
+use Rattle.std.proofs.Common.{◌≡◌, ℕ, ◌*◌, ◌<◌, ◌≤◌, Bool, true, false, List, [], map, take, length, ◌∷◌, Option, Some, None, refl, ap, ◌∙◌, subst, arith}
+use Rattle.std.specs.Prelude.{is_some, slice_get, Result, Ok, Err, All}
 use Rattle.std.proofs.lemmas.List.Elements.{All-from_recursion}
-use Rattle.std.specs.List.{AllByRecursion}
+use Rattle.std.specs.List.{AllByRecursion, list_any}
+use Rattle.std.specs.Option.{option_map}
 use Rattle.std.proofs.lemmas.List.{length-take-le}
 use Rattle.ckc_text.specs.declared.fault.SourceFault.{SourceFault}
-use Rattle.ckc_tree.specs.Items.{Tree}
+use Rattle.ckc_tree.specs.Types.{IntType, CharType, StructType, PointerType}
+use Rattle.ckc_tree.specs.Items as i
+use Rattle.ckc_tree.specs.Items.{Item, Tree}
 use Rattle.ckc_tree.specs.Heights.{height}
+use Rattle.ckc_tree.specs.Numbers.{Numbers, number_item, number_result, number_parameters, number_function, number_body}
+use Rattle.ckc_tree.proofs.NumberedHeights.{numbered_height}
+use Rattle.built_forms.specs.Built.{is_built}
+use Rattle.built_forms.proofs.Numbered.{same_forms}
+use Rattle.ckc_names_rules.specs.declared.given.Given.{Given}
+use Rattle.ckc_names_rules.specs.Given.{main, number_in, given_in}
 use Rattle.ckc_names_rules.specs.Mentions.{tree_mentions}
 use Rattle.ckc_names_rules.specs.Scopes.{Scopes, all_mentioned, at_file_level}
-use Rattle.ckc_names_rules.specs.Naming.{has_main, naming_fault}
+use Rattle.ckc_names_rules.specs.Naming.{is_int, takes_nothing, is_main, has_main, naming_fault, names_of, named_of}
 use Rattle.ckc_core.specs.Core as core
 use Rattle.ckc_core.specs.Core.{Core}
 use Rattle.region_typing_rules.specs.Verdicts.{Verdict, Passes, Stops, passing}
@@ -22,9 +31,9 @@ use Rattle.region_typing_rules.specs.Lowerable.{IsRoomy, IsSmall, IsSmallCore}
 use Rattle.region_typing_rules.specs.NeverStuck.{HasCore}
 use Rattle.region_typing_rules.proofs.Verdicts.{Promises}
 use Rattle.region_typing_rules.proofs.Values.{of_element}
-use Rattle.region_typing_rules.proofs.Signatures.{trusted_there, named_self}
+use Rattle.region_typing_rules.proofs.Signatures.{bytes_equal, trusted_there, named_self}
 use Rattle.region_typing_rules.proofs.Walks.{IsWell, body_suits, functions_typed, objects_typed, functions_small, imports_small, frame}
-use Rattle.region_typing_rules.proofs.Items.{Passed, items_promise}
+use Rattle.region_typing_rules.proofs.Items.{IsNamedMain, main_name, Passed, items_promise}
 
 -- a program whose names have a meaning has a `main`
 main_there : (t : Tree) → naming_fault t ≡ None → has_main t ≡ true
@@ -39,38 +48,90 @@ main_there t h = by (has_main t) (all_mentioned (tree_mentions t) at_file_level)
 no_parameters : (f : core.Function) → f.parameters ≤ length f.locals → take f.parameters f.locals ≡ [] → f.parameters ≡ 0
 no_parameters f few none = omega (arith, length-take-le f.parameters f.locals few, ap length none)
 
-typed_walk : (height : ℕ) (w : Walk) → Passed height start true w → IsTyped (core_of w)
-typed_walk height w h =
+typed_walk : (height entry : ℕ) (a w : Walk) → Passed height entry a true w → IsTyped (core_of entry w)
+typed_walk height entry a w h =
     let well = h.follows.well in
     let main = h.main refl in
     let m = main.signature in
-    let there = trusted_there w.bodies w.scope.functions (codes "main") m 0 main.named main.trusted in
-    let number : there.index ≡ side_number false w.scope.functions (codes "main") 0 = let e = there.counted in omega arith in
+    let there = trusted_there w.bodies w.scope.functions entry m 0 main.named main.trusted in
+    let number : there.index ≡ side_number false w.scope.functions entry 0 = let e = there.counted in omega arith in
     let found = subst (λ n. slice_get (trusted_functions w.bodies w.scope.functions) n ≡ Some (body_of w.bodies m)) number there.found in
-    let functions = functions_typed height w well h.follows.settled w.scope.functions well.declared in
-    let suits = body_suits height w.scope w.bodies m well.bodies (subst (λ x. function_named w.scope.functions x ≡ Some m) (named_self w.scope.functions (codes "main") m main.named) main.named) in
-    let it = of_element (IsFunction (frame height w well h.follows.settled)) (trusted_functions w.bodies w.scope.functions) _ (body_of w.bodies m) functions found in
+    let functions = functions_typed height entry w well h.follows.settled w.scope.functions well.declared in
+    let suits = body_suits height w.scope w.bodies m well.bodies (subst (λ x. function_named w.scope.functions x ≡ Some m) (named_self w.scope.functions entry m main.named) main.named) in
+    let it = of_element (IsFunction (frame height entry w well h.follows.settled)) (trusted_functions w.bodies w.scope.functions) _ (body_of w.bodies m) functions found in
     record {
       structs = w.scope.structs;
-      objects = objects_typed height w well h.follows.settled w.objects well.start;
+      objects = objects_typed height entry w well h.follows.settled w.objects well.start;
       functions = functions;
       main = (body_of w.bodies m, found, no_parameters (body_of w.bodies m) it.parameters (suits.parameters ∙ main.none), suits.result ∙ main.int);
     }
 
 -- at the start nothing is known
-start_well : (height : ℕ) → IsWell height start
-start_well height = record { few = λ n. omega arith; scalars = λ n. tt; start = tt; declared = tt; bodies = tt; roomy = tt; bytes = omega arith; room = omega arith }
+start_well : (height : ℕ) (given : Given) → IsWell height (start given)
+start_well height given = record { few = λ n. omega arith; scalars = λ n. tt; start = tt; declared = tt; bodies = tt; roomy = tt; bytes = omega arith; room = omega arith }
 
-walked_typed : (height : ℕ) (v : Verdict Walk) (c : Core) → Promises (Passed height start true) v → passing v (λ w. Passes (core_of w)) ≡ Passes c → IsTyped c
-walked_typed height (Passes w) c h e = let same : core_of w ≡ c = cc in subst IsTyped same (typed_walk height w h)
-walked_typed height (Stops stop) c h e = absurd (cc)
+walked_typed : (height entry : ℕ) (a : Walk) (v : Verdict Walk) (c : Core) → Promises (Passed height entry a true) v → passing v (λ w. Passes (core_of entry w)) ≡ Passes c → IsTyped c
+walked_typed height entry a (Passes w) c h e = let same : core_of entry w ≡ c = cc in subst IsTyped same (typed_walk height entry a w h)
+walked_typed height entry a (Stops stop) c h e = absurd (cc)
+
+-- numbers change nothing of `main`, and give its name
+module _ (of : Numbers) where
+  main_same : (x : Item) → is_main (number_item of x) ≡ is_main x
+  main_same (i.RegionItem region span) = refl
+  main_same (i.StructureItem d) = refl
+  main_same (i.GlobalItem d) = refl
+  main_same (i.FunctionItem d) = rw (int_same d.result, nothing_same d.parameters, some_same (number_body of) d.body) refl
+    where
+      int_same : (r : i.ResultForm) → is_int (number_result of r) ≡ is_int r
+      int_same (i.Void span) = refl
+      int_same (i.Value (IntType span)) = refl
+      int_same (i.Value (CharType span)) = refl
+      int_same (i.Value (StructType tag span)) = refl
+      int_same (i.Value (PointerType word element stars span)) = refl
+
+      nothing_same : (p : i.Parameters) → takes_nothing (number_parameters of p) ≡ takes_nothing p
+      nothing_same i.Nothing = refl
+      nothing_same i.VoidAlone = refl
+      nothing_same (i.Listed parameters) = refl
+
+      some_same : {A B : Type 0} (f : A → B) (o : Option A) → is_some (option_map f o) ≡ is_some o
+      some_same f None = refl
+      some_same f (Some x) = refl
+
+  mains_same : (xs : List Item) → list_any is_main (map (number_item of) xs) ≡ list_any is_main xs
+  mains_same [] = refl
+  mains_same (x ∷ xs) = rw (main_same x, mains_same xs) refl
+
+  named_main : (x : Item) → IsNamedMain (of main) (number_item of x)
+  named_main (i.RegionItem region span) = tt
+  named_main (i.StructureItem d) = tt
+  named_main (i.GlobalItem d) = tt
+  named_main (i.FunctionItem d) = λ h. ap of (bytes_equal d.name.name main (main_name (number_function of d) h))
+
+  named_mains : (xs : List Item) → AllByRecursion (IsNamedMain (of main)) (map (number_item of) xs)
+  named_mains [] = tt
+  named_mains (x ∷ xs) = (named_main x, named_mains xs)
+
+-- the number of the name of `main`
+abbrev pub entry_of : Tree → ℕ
+entry_of t = number_in (named_of t).names main
+
+abbrev pub start_of : Tree → Walk
+start_of t = start (given_in (named_of t).names)
 
 -- what the walk over a whole program leads to
-pub whole_walk : (at : Places) (t : Tree) (c : Core) → HasCore at t c → Promises (Passed (height t) start true) (walked at t)
-whole_walk at t c h = subst (λ b. Promises (Passed (height t) start b) (walked at t)) (main_there t h.names) (items_promise (height t) at t.items start t.items h.forms (omega arith) (start_well (height t)) tt)
+pub whole_walk : (at : Places) (t : Tree) (c : Core) → HasCore at t c → Promises (Passed (height t) (entry_of t) (start_of t) true) (walked at (named_of t))
+whole_walk at t c h =
+    let of = number_in (names_of t) in
+    let n = named_of t in
+    let found : list_any is_main n.tree.items ≡ true = mains_same of t.items ∙ main_there t h.names in
+    let forms : is_built n.tree ≡ true = same_forms of t ∙ h.forms in
+    let high : height n.tree ≡ height t = numbered_height of t in
+    subst (λ b. Promises (Passed (height t) (entry_of t) (start_of t) b) (walked at n)) found
+    (items_promise (height t) (entry_of t) at n.tree.items (start_of t) n.tree.items (named_mains of t.items) forms (omega (arith, high)) (start_well (height t) (given_in n.names)) tt)
 
 pub typed : (at : Places) (t : Tree) (c : Core) → HasCore at t c → IsTyped c
-typed at t c h = walked_typed (height t) (walked at t) c (whole_walk at t c h) h.rules
+typed at t c h = walked_typed (height t) (entry_of t) (start_of t) (walked at (named_of t)) c (whole_walk at t c h) h.rules
 
 -- ---- what can be lowered
 
@@ -86,22 +147,22 @@ small_more : (n m : ℕ) → n ≤ m → (functions : List core.Function) → Al
 small_more n m le [] all = tt
 small_more n m le (f ∷ functions) all = (record { few_parameters = all.0.few_parameters; held = all.0.held; few_locals = all.0.few_locals; low = let low = all.0.low in omega arith }, small_more n m le functions all.1)
 
-small_walk : (h : ℕ) → h ≤ 200 → (w : Walk) → Passed h start true w → IsSmallCore (core_of w)
-small_walk h le w passed =
+small_walk : (h : ℕ) → h ≤ 200 → (entry : ℕ) (a w : Walk) → Passed h entry a true w → IsSmallCore (core_of entry w)
+small_walk h le entry a w passed =
     let well = passed.follows.well in
-    let main = (typed_walk h w passed).main in
-    let functions = functions_small h w well passed.follows.settled w.scope.functions well.declared in
+    let main = (typed_walk h entry a w passed).main in
+    let functions = functions_small h entry w well passed.follows.settled w.scope.functions well.declared in
     record {
       cells = All-from_recursion (λ (cells : List core.Initial). All IsRoomy cells × (0 < length cells)) w.objects (roomy_each w.objects well.roomy);
       objects = omega (arith, well.bytes, well.room);
-      imports = All-from_recursion (λ (x : core.Import). x.parameters ≤ 16) (core_of w).imports (imports_small h w well passed.follows.settled w.scope.functions well.declared);
-      functions = All-from_recursion (IsSmall 3400) (core_of w).functions (small_more (17 * h) 3400 (omega arith) (core_of w).functions functions);
+      imports = All-from_recursion (λ (x : core.Import). x.parameters ≤ 16) (core_of entry w).imports (imports_small h entry w well passed.follows.settled w.scope.functions well.declared);
+      functions = All-from_recursion (IsSmall 3400) (core_of entry w).functions (small_more (17 * h) 3400 (omega arith) (core_of entry w).functions functions);
       main = (main.0, main.1, main.2);
     }
 
-small_walked : (h : ℕ) → h ≤ 200 → (v : Verdict Walk) (c : Core) → Promises (Passed h start true) v → passing v (λ w. Passes (core_of w)) ≡ Passes c → IsSmallCore c
-small_walked h le (Passes w) c passed e = let same : core_of w ≡ c = cc in subst IsSmallCore same (small_walk h le w passed)
-small_walked h le (Stops stop) c passed e = absurd (cc)
+small_walked : (h : ℕ) → h ≤ 200 → (entry : ℕ) (a : Walk) (v : Verdict Walk) (c : Core) → Promises (Passed h entry a true) v → passing v (λ w. Passes (core_of entry w)) ≡ Passes c → IsSmallCore c
+small_walked h le entry a (Passes w) c passed e = let same : core_of entry w ≡ c = cc in subst IsSmallCore same (small_walk h le entry a w passed)
+small_walked h le entry a (Stops stop) c passed e = absurd (cc)
 
 pub small : (at : Places) (t : Tree) (c : Core) → HasCore at t c → height t ≤ 200 → IsSmallCore c
-small at t c h le = small_walked (height t) le (walked at t) c (whole_walk at t c h) h.rules
+small at t c h le = small_walked (height t) le (entry_of t) (start_of t) (walked at (named_of t)) c (whole_walk at t c h) h.rules

@@ -1,6 +1,6 @@
 -- What holds of a walk behind each item.
 use Rattle.std.proofs.Common.{◌≡◌, ℕ, zero, suc, ◌*◌, ◌<◌, ◌≤◌, Bool, true, false, List, [], ◌∷◌, ◌++◌, take, length, Some, refl, sym, ap, ◌∙◌, subst, arith}
-use Rattle.std.specs.Prelude.{bytes_eq, slice_get}
+use Rattle.std.specs.Prelude.{◌==◌, slice_get}
 use Rattle.std.specs.List.{AllByRecursion}
 use Rattle.std.proofs.Math.Seq.{take-length}
 use Rattle.pointer_modes.specs.Types.{Member, Structure, members_of}
@@ -9,7 +9,7 @@ use Rattle.ckc_core.specs.Stacks.{statements_stack}
 use Rattle.region_typing_rules.specs.Verdicts.{picked}
 use Rattle.region_typing_rules.specs.Scopes.{Scope, Signature, Variable, function_named}
 use Rattle.region_typing_rules.specs.Expressions.{is_import, side_number}
-use Rattle.region_typing_rules.specs.Items.{Walk}
+use Rattle.region_typing_rules.specs.Items.{Defined, Walk}
 use Rattle.region_typing_rules.specs.Cores.{body_of, trusted_functions, tainted_functions, core_of}
 use Rattle.region_typing_rules.specs.Typed as rules
 use Rattle.region_typing_rules.specs.Typed.{Frame, slots, Stands, IsPlace, IsScalar, IsFunction, IsInitial}
@@ -17,15 +17,15 @@ use Rattle.region_typing_rules.specs.Lowerable.{objects_size, IsRoomy, IsSmall}
 use Rattle.region_typing_rules.proofs.Verdicts.{Extends}
 use Rattle.region_typing_rules.proofs.Knowledge.{IsTrusted, IsTainted, KnowsFile}
 use Rattle.region_typing_rules.proofs.Layouts.{IsStart, earlier_members, slots_kept}
-use Rattle.region_typing_rules.proofs.Signatures.{named_self, named_has, bytes_equal, trusted_there, tainted_there, IsDeclared}
+use Rattle.region_typing_rules.proofs.Signatures.{named_self, named_has, numbers_equal, trusted_there, tainted_there, IsDeclared}
 
 -- ---- scopes that grow at file level
 
 pub record FileGrows (a b : Scope) : Type 0 where
   pub structs : Extends a.structs b.structs
   pub variables : Extends a.variables b.variables
-  pub functions : (name : List ℕ) (f : Signature) → function_named a.functions name ≡ Some f → function_named b.functions name ≡ Some f
-  pub numbers : (side : Bool) (name : List ℕ) (f : Signature) → function_named a.functions name ≡ Some f → side_number side a.functions name 0 ≡ side_number side b.functions name 0
+  pub functions : (name : ℕ) (f : Signature) → function_named a.functions name ≡ Some f → function_named b.functions name ≡ Some f
+  pub numbers : (side : Bool) (name : ℕ) (f : Signature) → function_named a.functions name ≡ Some f → side_number side a.functions name 0 ≡ side_number side b.functions name 0
 
 pub file_stays : (s : Scope) → FileGrows s s
 file_stays s = record { structs = λ k x h. h; variables = λ k x h. h; functions = λ name f h. h; numbers = λ side name f h. refl }
@@ -49,7 +49,7 @@ known_before g a b h known = record {
   tainted = λ name f found side. subst (λ n. IsTainted g n f) (sym (same_number name f found true)) (known.tainted name f (h.functions name f found) side);
 }
   where
-    same_number : (name : List ℕ) (f : Signature) → function_named a.functions name ≡ Some f → (side : Bool) → side_number side a.functions f.name 0 ≡ side_number side b.functions f.name 0
+    same_number : (name : ℕ) (f : Signature) → function_named a.functions name ≡ Some f → (side : Bool) → side_number side a.functions f.name 0 ≡ side_number side b.functions f.name 0
     same_number name f found side = h.numbers side f.name f (subst (λ x. function_named a.functions x ≡ Some f) (named_self a.functions name f found) found)
 
 -- ---- walks
@@ -62,15 +62,15 @@ AreSettled structs (v ∷ variables) [] = ⊥
 AreSettled structs (v ∷ variables) (o ∷ objects) = Stands o 0 (slots structs v.type) × AreSettled structs variables objects
 
 -- a body of a declared function has types, wherever what was known is known
-pub record IsBody (height : ℕ) (s : Scope) (b : core.Function) : Type 0 where
+pub record IsBody (height : ℕ) (s : Scope) (b : Defined) : Type 0 where
   pub signature : Signature
   pub named : function_named s.functions b.name ≡ Some signature
-  pub parameters : take b.parameters b.locals ≡ signature.parameters
-  pub result : b.result ≡ signature.result
-  pub typed : (g : Frame) → KnowsFile g s → IsFunction g b
-  pub few_parameters : b.parameters ≤ 16
-  pub few_locals : length b.locals ≤ 256
-  pub low : statements_stack b.body ≤ 17 * height
+  pub parameters : take b.function.parameters b.function.locals ≡ signature.parameters
+  pub result : b.function.result ≡ signature.result
+  pub typed : (g : Frame) → KnowsFile g s → IsFunction g b.function
+  pub few_parameters : b.function.parameters ≤ 16
+  pub few_locals : length b.function.locals ≤ 256
+  pub low : statements_stack b.function.body ≤ 17 * height
 
 -- what holds of a walk, beside its variables
 pub record IsWell (height : ℕ) (w : Walk) : Type 0 where
@@ -89,7 +89,7 @@ settled_later a b [] (o ∷ objects) ext h = absurd h
 settled_later a b (v ∷ variables) [] ext h = absurd h
 settled_later a b (v ∷ variables) (o ∷ objects) ext h = (subst (λ row. Stands o 0 row) (slots_kept a b v.type ext h.0.there) h.0, settled_later a b variables objects ext h.1)
 
-pub bodies_later : (height : ℕ) (a b : Scope) (bodies : List core.Function) → FileGrows a b → AllByRecursion (IsBody height a) bodies → AllByRecursion (IsBody height b) bodies
+pub bodies_later : (height : ℕ) (a b : Scope) (bodies : List Defined) → FileGrows a b → AllByRecursion (IsBody height a) bodies → AllByRecursion (IsBody height b) bodies
 bodies_later height a b [] h all = tt
 bodies_later height a b (x ∷ bodies) h all = (
   record { signature = all.0.signature; named = h.functions x.name all.0.signature all.0.named; parameters = all.0.parameters; result = all.0.result; typed = λ g known. all.0.typed g (known_before g a b h known); few_parameters = all.0.few_parameters; few_locals = all.0.few_locals; low = all.0.low },
@@ -113,24 +113,24 @@ pub record Suits (b : core.Function) (f : Signature) : Type 0 where
   pub parameters : take b.parameters b.locals ≡ f.parameters
   pub result : b.result ≡ f.result
 
-pub body_suits : (height : ℕ) (s : Scope) (bodies : List core.Function) (f : Signature) → AllByRecursion (IsBody height s) bodies → function_named s.functions f.name ≡ Some f → Suits (body_of bodies f) f
+pub body_suits : (height : ℕ) (s : Scope) (bodies : List Defined) (f : Signature) → AllByRecursion (IsBody height s) bodies → function_named s.functions f.name ≡ Some f → Suits (body_of bodies f) f
 body_suits height s [] f all named = record { parameters = take-length f.parameters; result = refl }
-body_suits height s (b ∷ bodies) f all named = by (bytes_eq f.name b.name) refl (body_suits height s bodies f all.1 named)
+body_suits height s (b ∷ bodies) f all named = by (f.name == b.name) refl (body_suits height s bodies f all.1 named)
   where
-    by : (test : Bool) → bytes_eq f.name b.name ≡ test → Suits (body_of bodies f) f → Suits (body_of (b ∷ bodies) f) f
+    by : (test : Bool) → (f.name == b.name) ≡ test → Suits (body_of bodies f) f → Suits (body_of (b ∷ bodies) f) f
     by true e again =
-        let name = bytes_equal f.name b.name e in
+        let name = numbers_equal f.name b.name e in
         let here : function_named s.functions b.name ≡ Some f = subst (λ x. function_named s.functions x ≡ Some f) name named in
         let there = all.0.named in
         let same : all.0.signature ≡ f = cc in
         rw e (record { parameters = all.0.parameters ∙ ap (λ (x : Signature). x.parameters) same; result = all.0.result ∙ ap (λ (x : Signature). x.result) same })
     by false e again = rw e again
 
-module _ (height : ℕ) (w : Walk) (well : IsWell height w) (settled : AreSettled w.scope.structs w.scope.variables w.objects) where
+module _ (height entry : ℕ) (w : Walk) (well : IsWell height w) (settled : AreSettled w.scope.structs w.scope.variables w.objects) where
   abbrev pub frame : Frame
-  frame = record { program = core_of w; structs = w.scope.structs }
+  frame = record { program = core_of entry w; structs = w.scope.structs }
 
-  trusted_known : (name : List ℕ) (f : Signature) → function_named w.scope.functions name ≡ Some f → is_import f ≡ false → IsTrusted frame (side_number false w.scope.functions f.name 0) f
+  trusted_known : (name : ℕ) (f : Signature) → function_named w.scope.functions name ≡ Some f → is_import f ≡ false → IsTrusted frame (side_number false w.scope.functions f.name 0) f
   trusted_known name f found side =
       let named = subst (λ x. function_named w.scope.functions x ≡ Some f) (named_self w.scope.functions name f found) found in
       let there = trusted_there w.bodies w.scope.functions f.name f 0 named side in
@@ -144,15 +144,15 @@ module _ (height : ℕ) (w : Walk) (well : IsWell height w) (settled : AreSettle
         scalar = (named_has IsDeclared w.scope.functions name f well.declared found).result;
       }
 
-  tainted_known : (name : List ℕ) (f : Signature) → function_named w.scope.functions name ≡ Some f → is_import f ≡ true → IsTainted frame (side_number true w.scope.functions f.name 0) f
+  tainted_known : (name : ℕ) (f : Signature) → function_named w.scope.functions name ≡ Some f → is_import f ≡ true → IsTainted frame (side_number true w.scope.functions f.name 0) f
   tainted_known name f found side =
       let named = subst (λ x. function_named w.scope.functions x ≡ Some f) (named_self w.scope.functions name f found) found in
       let there = tainted_there w.scope.functions f.name f 0 named side in
       let number : there.index ≡ side_number true w.scope.functions f.name 0 = let e = there.counted in omega arith in
       let declared = named_has IsDeclared w.scope.functions name f well.declared found in
       record {
-        import = record { name = f.name; parameters = length f.parameters; result = f.result };
-        found = subst (λ n. slice_get (tainted_functions w.scope.functions) n ≡ Some (record { name = f.name; parameters = length f.parameters; result = f.result })) number there.found;
+        import = record { name = f.text; parameters = length f.parameters; result = f.result };
+        found = subst (λ n. slice_get (tainted_functions w.scope.functions) n ≡ Some (record { name = f.text; parameters = length f.parameters; result = f.result })) number there.found;
         parameters = refl;
         result = refl;
         numbers = declared.numbers side;
@@ -171,11 +171,11 @@ module _ (height : ℕ) (w : Walk) (well : IsWell height w) (settled : AreSettle
   }
 
   -- each function has types
-  body_typed : (bodies : List core.Function) (f : Signature) → AllByRecursion (IsBody height w.scope) bodies → IsDeclared f → IsFunction frame (body_of bodies f)
+  body_typed : (bodies : List Defined) (f : Signature) → AllByRecursion (IsBody height w.scope) bodies → IsDeclared f → IsFunction frame (body_of bodies f)
   body_typed [] f all declared = record { parameters = omega arith; locals = declared.scalars; result = declared.result; body = rules.no_more }
-  body_typed (b ∷ bodies) f all declared = chosen (bytes_eq f.name b.name) (all.0.typed frame known) (body_typed bodies f all.1 declared)
+  body_typed (b ∷ bodies) f all declared = chosen (f.name == b.name) (all.0.typed frame known) (body_typed bodies f all.1 declared)
     where
-      chosen : (test : Bool) → IsFunction frame b → IsFunction frame (body_of bodies f) → IsFunction frame (picked test b (body_of bodies f))
+      chosen : (test : Bool) → IsFunction frame b.function → IsFunction frame (body_of bodies f) → IsFunction frame (picked test b.function (body_of bodies f))
       chosen true h again = h
       chosen false h again = again
 
@@ -197,11 +197,11 @@ module _ (height : ℕ) (w : Walk) (well : IsWell height w) (settled : AreSettle
   objects_typed (o ∷ objects) all = (start_typed o all.0, objects_typed objects all.1)
 
   -- each function is small enough to be lowered, and each import to be called
-  body_small : (bodies : List core.Function) (f : Signature) → AllByRecursion (IsBody height w.scope) bodies → IsDeclared f → IsSmall (17 * height) (body_of bodies f)
+  body_small : (bodies : List Defined) (f : Signature) → AllByRecursion (IsBody height w.scope) bodies → IsDeclared f → IsSmall (17 * height) (body_of bodies f)
   body_small [] f all declared = let few = declared.few in record { few_parameters = few; held = omega arith; few_locals = omega arith; low = omega arith }
-  body_small (b ∷ bodies) f all declared = chosen (bytes_eq f.name b.name) (record { few_parameters = all.0.few_parameters; held = (all.0.typed frame known).parameters; few_locals = all.0.few_locals; low = all.0.low }) (body_small bodies f all.1 declared)
+  body_small (b ∷ bodies) f all declared = chosen (f.name == b.name) (record { few_parameters = all.0.few_parameters; held = (all.0.typed frame known).parameters; few_locals = all.0.few_locals; low = all.0.low }) (body_small bodies f all.1 declared)
     where
-      chosen : (test : Bool) → IsSmall (17 * height) b → IsSmall (17 * height) (body_of bodies f) → IsSmall (17 * height) (picked test b (body_of bodies f))
+      chosen : (test : Bool) → IsSmall (17 * height) b.function → IsSmall (17 * height) (body_of bodies f) → IsSmall (17 * height) (picked test b.function (body_of bodies f))
       chosen true h again = h
       chosen false h again = again
 
@@ -217,6 +217,6 @@ module _ (height : ℕ) (w : Walk) (well : IsWell height w) (settled : AreSettle
   imports_small [] all = tt
   imports_small (f ∷ functions) all = chosen (is_import f) (imports_small functions all.1)
     where
-      chosen : (test : Bool) → AllByRecursion (λ (x : core.Import). x.parameters ≤ 16) (tainted_functions functions) → AllByRecursion (λ (x : core.Import). x.parameters ≤ 16) (picked test (record { name = f.name; parameters = length f.parameters; result = f.result } ∷ tainted_functions functions) (tainted_functions functions))
+      chosen : (test : Bool) → AllByRecursion (λ (x : core.Import). x.parameters ≤ 16) (tainted_functions functions) → AllByRecursion (λ (x : core.Import). x.parameters ≤ 16) (picked test (record { name = f.text; parameters = length f.parameters; result = f.result } ∷ tainted_functions functions) (tainted_functions functions))
       chosen true rest = (all.0.few, rest)
       chosen false rest = rest

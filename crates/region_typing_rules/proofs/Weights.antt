@@ -1,6 +1,6 @@
 -- The expressions of a core have few nodes, by how many the tree has that they come from.
 use Rattle.std.proofs.Common.{◌≡◌, ℕ, ◌+◌, ◌*◌, ◌<◌, ◌≤◌, ◌^◌, Bool, true, false, List, [], ◌∷◌, length, Option, Some, None, refl, arith}
-use Rattle.std.specs.Prelude.{bytes_eq, codes, nat_lt, not, ◌&&◌, ◌||◌, ◌==◌}
+use Rattle.std.specs.Prelude.{◌==◌, nat_lt, not, ◌&&◌, ◌||◌}
 use Rattle.ckc_text.specs.declared.place.Span.{Span}
 use Rattle.ckc_text.specs.declared.code.Code.TheVariants.{E04, E13, E14, E19}
 use Rattle.ckc_tree.specs.declared.expr.UnaryOperator.{UnaryOperator}
@@ -19,8 +19,9 @@ use Rattle.ckc_core.specs.declared.program.Comparison.{Comparison}
 use Rattle.ckc_core.specs.declared.program.Comparison.TheVariants as comparisons
 use Rattle.ckc_core.specs.Core as core
 use Rattle.ckc_core.specs.Weights.{expression_weight, arguments_weight, place_weight, statement_weight}
+use Rattle.ckc_names_rules.specs.declared.given.Given.{Given}
 use Rattle.region_typing_rules.specs.Verdicts.{Verdict, Passes, breaks}
-use Rattle.region_typing_rules.specs.Scopes.{Scope, Signature, Named, Local, Object, Nothing, named, function_named}
+use Rattle.region_typing_rules.specs.Scopes.{Scope, Signature, Named, Local, Object, Nothing, named, function_named, members_named}
 use Rattle.region_typing_rules.specs.Types.{type_named, is_number, is_pointer, are_comparable, converts}
 use Rattle.region_typing_rules.specs.Expressions.{Places, Lvalue, OfLocal, OfCell, Typed, Value, AStruct, Called, Gives, GivesNothing, site_at, number, at_place, local_typed, name_typed, member_place, member_from, offset_among, member_at, dotted, pointed_by, arrowed, pointed_at, dereferenced, pointer_to, address, number_of, scalar_of, unary_typed, is_pointer_value, two_numbers, two_scalars, summands, as_pointer, equated_values, equated, ordered_values, ordered, arithmetic, binary_typed, indexed, in_type, converted, arguments_as, is_import, side_number, call_of, first_of, writes, predefined_call, called, with_result, typed, all_typed, call_typed}
 use Rattle.region_typing_rules.proofs.Knowledge.{crossing_promises}
@@ -97,21 +98,21 @@ dereferenced_light : (n : ℕ) (a : Typed) (site : Site) (span : Span) → Light
 dereferenced_light n (Value type zero value place) site span h = pointed_light n type value site span h.0
 dereferenced_light n (AStruct number place) site span h = tt
 
-member_at_light : (n : ℕ) (s : Scope) (struct : ℕ) (p : core.Place) (name : List ℕ) (site : Site) (span : Span) → place_weight p + 1 < n → Promises (Light n) (member_at s struct p name site span)
-member_at_light n s struct p name site span h = by (member_from 0 (members_of s.structs struct) name) refl
+member_at_light : (n : ℕ) (s : Scope) (struct : ℕ) (p : core.Place) (name : ℕ) (site : Site) (span : Span) → place_weight p + 1 < n → Promises (Light n) (member_at s struct p name site span)
+member_at_light n s struct p name site span h = by (member_from 0 (members_named s struct) (members_of s.structs struct) name) refl
   where
-    by : (o : Option (ℕ × CType)) → member_from 0 (members_of s.structs struct) name ≡ o → Promises (Light n) (member_at s struct p name site span)
+    by : (o : Option (ℕ × CType)) → member_from 0 (members_named s struct) (members_of s.structs struct) name ≡ o → Promises (Light n) (member_at s struct p name site span)
     by None found = rw found tt
     by (Some m) found =
         let offset = offset_among (cells_of s.structs (Struct struct)) m.0 in
         rw found (at_place_light n m.1 (member_place p m.0 offset site) (omega (arith, member_weight p m.0 offset site)))
 
-dotted_light : (n : ℕ) (s : Scope) (a : Typed) (name : List ℕ) (site : Site) (span : Span) → 2 ≤ n → Light n a → Promises (Light (n + 2)) (dotted s a name site span)
+dotted_light : (n : ℕ) (s : Scope) (a : Typed) (name : ℕ) (site : Site) (span : Span) → 2 ≤ n → Light n a → Promises (Light (n + 2)) (dotted s a name site span)
 dotted_light n s (Value type zero value place) name site span two h = tt
 dotted_light n s (AStruct number (OfLocal k)) name site span two h = member_at_light (n + 2) s number (core.Through (core.Local k) 0 0 site) name site span (omega arith)
 dotted_light n s (AStruct number (OfCell p)) name site span two h = member_at_light (n + 2) s number p name site span (omega arith)
 
-pointed_by_light : (n : ℕ) (s : Scope) (t : CType) (value : core.Expression) (name : List ℕ) (site : Site) (span : Span) → IsLight n value → Promises (Light (n + 2)) (pointed_by s t value name site span)
+pointed_by_light : (n : ℕ) (s : Scope) (t : CType) (value : core.Expression) (name : ℕ) (site : Site) (span : Span) → IsLight n value → Promises (Light (n + 2)) (pointed_by s t value name site span)
 pointed_by_light n s Int value name site span h = tt
 pointed_by_light n s Char value name site span h = tt
 pointed_by_light n s (Struct number) value name site span h = tt
@@ -120,7 +121,7 @@ pointed_by_light n s (Pointer m k Char) value name site span h = tt
 pointed_by_light n s (Pointer m k (Pointer m' k' t)) value name site span h = tt
 pointed_by_light n s (Pointer m k (Struct number)) value name site span h = member_at_light (n + 2) s number (core.Through value 0 0 site) name site span (omega arith)
 
-arrowed_light : (n : ℕ) (s : Scope) (a : Typed) (name : List ℕ) (site : Site) (span : Span) → Light n a → Promises (Light (n + 2)) (arrowed s a name site span)
+arrowed_light : (n : ℕ) (s : Scope) (a : Typed) (name : ℕ) (site : Site) (span : Span) → Light n a → Promises (Light (n + 2)) (arrowed s a name site span)
 arrowed_light n s (Value type zero value place) name site span h = pointed_by_light n s type value name site span h.0
 arrowed_light n s (AStruct number place) name site span h = tt
 
@@ -276,10 +277,10 @@ writes_light xs of arguments span same all =
     needs_promises (LightCall (n + 2)) (length arguments == 1) E14 span _
     (λ x. passing_promises (AreLight xs) (LightCall (n + 2)) (arguments_as arguments (Int ∷ [])) _ (arguments_light xs arguments (Int ∷ []) all) (λ values h. first_light n of values same h))
 
-predefined_light : (xs : Expressions) (name : List ℕ) (arguments : List (Typed × Span)) (span : Span) → AllLight xs arguments → Promises (LightCall (5 * tree.expressions_weight xs + 2)) (predefined_call name arguments span)
-predefined_light xs name arguments span all = by (bytes_eq name (codes "next_input")) (bytes_eq name (codes "print_int")) (bytes_eq name (codes "putchar")) refl refl refl
+predefined_light : (xs : Expressions) (given : Given) (name : ℕ) (arguments : List (Typed × Span)) (span : Span) → AllLight xs arguments → Promises (LightCall (5 * tree.expressions_weight xs + 2)) (predefined_call given name arguments span)
+predefined_light xs given name arguments span all = by (name == given.next_input) (name == given.print_int) (name == given.putchar) refl refl refl
   where
-    by : (input print put : Bool) → bytes_eq name (codes "next_input") ≡ input → bytes_eq name (codes "print_int") ≡ print → bytes_eq name (codes "putchar") ≡ put → Promises (LightCall (5 * tree.expressions_weight xs + 2)) (predefined_call name arguments span)
+    by : (input print put : Bool) → (name == given.next_input) ≡ input → (name == given.print_int) ≡ print → (name == given.putchar) ≡ put → Promises (LightCall (5 * tree.expressions_weight xs + 2)) (predefined_call given name arguments span)
     by true print put h0 h1 h2 = rw h0 (needs_promises (LightCall (5 * tree.expressions_weight xs + 2)) (length arguments == 0) E14 span (Passes (Gives Int core.NextInput)) (λ none. omega arith))
     by false true put h0 h1 h2 = rw (h0, h1) (writes_light xs core.Print arguments span (λ v. refl) all)
     by false false true h0 h1 h2 = rw (h0, h1, h2) (writes_light xs core.PutByte arguments span (λ v. refl) all)
@@ -289,8 +290,8 @@ with_result_light : (n : ℕ) (c : Called) (span : Span) → LightCall n c → P
 with_result_light n (Gives type value) span h = (h, tt)
 with_result_light n (GivesNothing call) span h = tt
 
-called_light : (s : Scope) (xs : Expressions) (o : Option Signature) (name : List ℕ) (arguments : List (Typed × Span)) (site : Site) (span : Span) → AllLight xs arguments → Promises (LightCall (5 * tree.expressions_weight xs + 2)) (called s o name arguments site span)
-called_light s xs None name arguments site span all = predefined_light xs name arguments span all
+called_light : (s : Scope) (xs : Expressions) (o : Option Signature) (name : ℕ) (arguments : List (Typed × Span)) (site : Site) (span : Span) → AllLight xs arguments → Promises (LightCall (5 * tree.expressions_weight xs + 2)) (called s o name arguments site span)
+called_light s xs None name arguments site span all = predefined_light xs s.given name arguments span all
 called_light s xs (Some f) name arguments site span all =
     let n = 5 * tree.expressions_weight xs in
     needs_promises (LightCall (n + 2)) (length f.parameters == length arguments) E14 span _
@@ -306,13 +307,13 @@ mutual
   typed_light at s (e.Number value span) = needs_promises (Light 5) (nat_lt value (2 ^ 31)) E04 span _ (λ low. (omega arith, tt))
   typed_light at s (e.Character value span) = needs_promises (Light 5) (nat_lt value (2 ^ 31)) E04 span _ (λ low. (omega arith, tt))
   typed_light at s (e.Text bytes span) = tt
-  typed_light at s (e.Name name) = passing_promises (λ (x : Named). Unit {0}) (Light 5) (named s name.name) _ (anything_promised (named s name.name)) (λ x _. name_light 5 x (omega arith))
+  typed_light at s (e.Name name) = passing_promises (λ (x : Named). Unit {0}) (Light 5) (named s name.number) _ (anything_promised (named s name.number)) (λ x _. name_light 5 x (omega arith))
   typed_light at s (e.Call callee arguments span) =
       let n = 5 * tree.expressions_weight arguments in
       let all = 5 * tree.expression_weight (e.Call callee arguments span) in
       passing_promises (AllLight arguments) (Light all) (all_typed at s arguments) _ (all_light at s arguments)
-      (λ ts light. passing_promises (LightCall (n + 2)) (Light all) (called s (function_named s.functions callee.name) callee.name ts (site_at at span) span) _
-      (called_light s arguments (function_named s.functions callee.name) callee.name ts (site_at at span) span light)
+      (λ ts light. passing_promises (LightCall (n + 2)) (Light all) (called s (function_named s.functions callee.number) callee.number ts (site_at at span) span) _
+      (called_light s arguments (function_named s.functions callee.number) callee.number ts (site_at at span) span light)
       (λ c h. promised_so (Light (n + 2)) (Light all) (with_result c span) (with_result_light (n + 2) c span h) (λ t. light_more (n + 2) all t (omega arith))))
   typed_light at s (e.SizeOf type span) =
       passing_promises (λ (t : CType). Unit {0}) (Light (5 * tree.expression_weight (e.SizeOf type span))) (type_named s type) _ (anything_promised (type_named s type)) (λ t _. (omega arith, tt))
@@ -328,12 +329,12 @@ mutual
       let n = 5 * tree.expression_weight base in
       let all = 5 * tree.expression_weight (e.Dot base member span) in
       passing_promises (Light n) (Light all) (typed at s base) _ (typed_light at s base)
-      (λ a light. promised_so (Light (n + 2)) (Light all) (dotted s a member.name (site_at at span) span) (dotted_light n s a member.name (site_at at span) span (omega (arith, node_there base)) light) (λ t. light_more (n + 2) all t (omega arith)))
+      (λ a light. promised_so (Light (n + 2)) (Light all) (dotted s a member.number (site_at at span) span) (dotted_light n s a member.number (site_at at span) span (omega (arith, node_there base)) light) (λ t. light_more (n + 2) all t (omega arith)))
   typed_light at s (e.Arrow base member span) =
       let n = 5 * tree.expression_weight base in
       let all = 5 * tree.expression_weight (e.Arrow base member span) in
       passing_promises (Light n) (Light all) (typed at s base) _ (typed_light at s base)
-      (λ a light. promised_so (Light (n + 2)) (Light all) (arrowed s a member.name (site_at at span) span) (arrowed_light n s a member.name (site_at at span) span light) (λ t. light_more (n + 2) all t (omega arith)))
+      (λ a light. promised_so (Light (n + 2)) (Light all) (arrowed s a member.number (site_at at span) span) (arrowed_light n s a member.number (site_at at span) span light) (λ t. light_more (n + 2) all t (omega arith)))
   typed_light at s (e.Unary operator operand span) =
       let n = 5 * tree.expression_weight operand in
       let all = 5 * tree.expression_weight (e.Unary operator operand span) in
@@ -363,8 +364,8 @@ call_typed_light at s (e.Call callee arguments span) =
     let n = 5 * tree.expressions_weight arguments in
     let all = 5 * tree.expression_weight (e.Call callee arguments span) in
     passing_promises (AllLight arguments) (LightCall all) (all_typed at s arguments) _ (all_light at s arguments)
-    (λ ts light. promised_so (LightCall (n + 2)) (LightCall all) (called s (function_named s.functions callee.name) callee.name ts (site_at at span) span)
-    (called_light s arguments (function_named s.functions callee.name) callee.name ts (site_at at span) span light) (λ c. call_more (n + 2) all c (omega arith)))
+    (λ ts light. promised_so (LightCall (n + 2)) (LightCall all) (called s (function_named s.functions callee.number) callee.number ts (site_at at span) span)
+    (called_light s arguments (function_named s.functions callee.number) callee.number ts (site_at at span) span light) (λ c. call_more (n + 2) all c (omega arith)))
 call_typed_light at s (e.Number value span) = tt
 call_typed_light at s (e.Character value span) = tt
 call_typed_light at s (e.Text bytes span) = tt

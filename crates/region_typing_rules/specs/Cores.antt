@@ -1,51 +1,52 @@
 -- What a program that breaks no rule becomes, and what checking answers.
-use Rattle.std.specs.Prelude.{◌≡◌, false, bytes_eq, codes, List, [], ◌∷◌, length, Result, Ok, Err}
+use Rattle.std.specs.Prelude.{◌≡◌, ℕ, false, ◌==◌, List, [], ◌∷◌, length, Result, Ok, Err}
 use Rattle.ckc_text.specs.declared.fault.Refused.{Refused}
 use Rattle.ckc_text.specs.declared.fault.Refused.TheVariants.{Source, NoMemory}
-use Rattle.ckc_tree.specs.Items.{Tree}
+use Rattle.ckc_names_rules.specs.Given.{main, number_in}
+use Rattle.ckc_names_rules.specs.Naming.{NamedTree}
 use Rattle.ckc_core.specs.Core as core
 use Rattle.ckc_core.specs.Core.{Core}
 use Rattle.region_typing_rules.specs.Verdicts.{Verdict, Passes, Breaks, passing, picked}
 use Rattle.region_typing_rules.specs.Scopes.{Signature}
 use Rattle.region_typing_rules.specs.Expressions.{Places, is_import, side_number}
-use Rattle.region_typing_rules.specs.Items.{Walk, walked}
+use Rattle.region_typing_rules.specs.Items.{Defined, Walk, walked}
 
 -- a function without a body; in a program that breaks no rule there is none (body-unless-tainted)
 abbrev pub without_body : Signature → core.Function
-without_body f = record { name = f.name; parameters = length f.parameters; locals = f.parameters; result = f.result; body = core.NoMore }
+without_body f = record { name = f.text; parameters = length f.parameters; locals = f.parameters; result = f.result; body = core.NoMore }
 
 -- the body of a function among others
-abbrev pub body_of : List core.Function → Signature → core.Function
+abbrev pub body_of : List Defined → Signature → core.Function
 body_of [] f = without_body f
-body_of (b ∷ bodies) f = picked (bytes_eq f.name b.name) b (body_of bodies f)
+body_of (b ∷ bodies) f = picked (f.name == b.name) b.function (body_of bodies f)
 
 -- functions that aren't tainted in the order in which their names are first declared
-abbrev pub trusted_functions : List core.Function → List Signature → List core.Function
+abbrev pub trusted_functions : List Defined → List Signature → List core.Function
 trusted_functions bodies [] = []
 trusted_functions bodies (f ∷ functions) = picked (is_import f) (trusted_functions bodies functions) (body_of bodies f ∷ trusted_functions bodies functions)
 
 -- tainted functions in that order
 abbrev pub tainted_functions : List Signature → List core.Import
 tainted_functions [] = []
-tainted_functions (f ∷ functions) = picked (is_import f) (record { name = f.name; parameters = length f.parameters; result = f.result }
+tainted_functions (f ∷ functions) = picked (is_import f) (record { name = f.text; parameters = length f.parameters; result = f.result }
     ∷ tainted_functions functions) (tainted_functions functions)
 
--- `main` is there where naming finds no fault
-abbrev pub core_of : Walk → Core
-core_of w =
+-- the core of what was walked, where this is the name of `main`: it is there where naming finds no fault
+abbrev pub core_of : ℕ → Walk → Core
+core_of entry w =
     record {
       objects = w.objects;
       imports = tainted_functions w.scope.functions;
       functions = trusted_functions w.bodies w.scope.functions;
-      main = side_number false w.scope.functions (codes "main") 0;
+      main = side_number false w.scope.functions entry 0;
     }
 
 -- the core of a named program, or the first rule that it breaks
-abbrev pub checked : Places → Tree → Verdict Core
-checked at t = passing (walked at t) (λ w. Passes (core_of w))
+abbrev pub checked : Places → NamedTree → Verdict Core
+checked at n = passing (walked at n) (λ w. Passes (core_of (number_in n.names main) w))
 
 -- what checking answers: the core exactly where no rule is broken, and else the fault of the first one that is
-abbrev pub CheckAnswers : {C : Type 0} → (C → Core) → Places → Tree → Result C Refused → Type 0
-CheckAnswers view at t (Ok c) = checked at t ≡ Passes (view c)
-CheckAnswers view at t (Err (Source fault)) = checked at t ≡ Breaks fault
-CheckAnswers view at t (Err NoMemory) = Unit {0}
+abbrev pub CheckAnswers : {C : Type 0} → (C → Core) → Places → NamedTree → Result C Refused → Type 0
+CheckAnswers view at n (Ok c) = checked at n ≡ Passes (view c)
+CheckAnswers view at n (Err (Source fault)) = checked at n ≡ Breaks fault
+CheckAnswers view at n (Err NoMemory) = Unit {0}

@@ -28,6 +28,7 @@ use Rattle.ckc_core.specs.declared.program.Operator.TheVariants as operators
 use Rattle.ckc_core.specs.Core as core
 use Rattle.region_typing_rules.specs.Verdicts.{Verdict, Passes, Stops, Broken, Nameless}
 use Rattle.ckc_core.specs.Core.{Core}
+use Rattle.ckc_names_rules.specs.Naming.{named_of}
 use Rattle.region_typing_rules.specs.Cores.{checked}
 
 -- spans that no place is asked of
@@ -35,7 +36,7 @@ abbrev here : Span
 here = record { from = 0; to = 0 }
 
 abbrev identifier_of : List ℕ → Identifier
-identifier_of name = record { name = name; span = here }
+identifier_of name = record { name = name; number = 0; span = here }
 
 abbrev name_of : List ℕ → Expression
 name_of name = e.Name (identifier_of name)
@@ -99,7 +100,7 @@ place = record { place = at 0 }
 -- int g = 1; int main(void) { ptr<int> p = &g; *p = 41; return g + 1; }
 abbrev pub first_run : Type 0
 first_run =
-    becomes (checked at small_program)
+    becomes (checked at (named_of small_program))
     (record {
       objects = (record { type = Int; stride = 4; number = pos 1 } ∷ []) ∷ [];
       imports = [];
@@ -131,7 +132,7 @@ main_with statements = record {
     mark = None;
     result = i.Value (types.IntType (span 0 3));
     stars = 0;
-    name = record { name = codes "main"; span = span 4 8 };
+    name = record { name = codes "main"; number = 0; span = span 4 8 };
     parameters = i.VoidAlone;
     bounds = None;
     body = Some (record { mark = None; statements = listed statements; span = span 15 42 });
@@ -144,23 +145,23 @@ main_with statements = record {
 abbrev pub raw_in_checked : Type 0
 raw_in_checked =
     breaks_at
-    (checked at (main_with (s.Declare (record {
+    (checked at (named_of (main_with (s.Declare (record {
       base = types.IntType (span 17 20);
       declarators = record {
         stars = 1;
-        name = record { name = codes "p"; span = span 22 23 };
+        name = record { name = codes "p"; number = 0; span = span 22 23 };
         array = None;
         bounds = None;
         initializer = Some (s.Value (e.Number 0 (span 26 27)));
         span = span 21 27;
       } ∷ [];
       span = span 17 27;
-    }) (span 17 28) ∷ (s.Return (Some (e.Number 0 (span 36 37))) (span 29 38) ∷ []))))
+    }) (span 17 28) ∷ (s.Return (Some (e.Number 0 (span 36 37))) (span 29 38) ∷ [])))))
     E15 17
 
 -- int main(void) { break; return 0; }
 abbrev pub break_outside : Type 0
-break_outside = breaks_at (checked at (main_with (s.Break (span 17 23) ∷ (s.Return (Some (e.Number 0 (span 31 32))) (span 24 33) ∷ [])))) E30 17
+break_outside = breaks_at (checked at (named_of (main_with (s.Break (span 17 23) ∷ (s.Return (Some (e.Number 0 (span 31 32))) (span 24 33) ∷ []))))) E30 17
 
 abbrev prototype : FunctionKind → Tree
 prototype kind = record {
@@ -169,7 +170,7 @@ prototype kind = record {
     mark = None;
     result = i.Value (types.IntType (span 10 13));
     stars = 0;
-    name = record { name = codes "f"; span = span 14 15 };
+    name = record { name = codes "f"; number = 0; span = span 14 15 };
     parameters = i.VoidAlone;
     bounds = None;
     body = None;
@@ -185,5 +186,5 @@ passes (Stops stop) = ⊥
 -- int f(void); and the same with _Callback or _Tainted before it: what isn't tainted has a body
 abbrev pub without_bodies : Type 0
 without_bodies =
-    breaks_at (checked at (prototype function_kinds.Trusted)) E10 7
-    × (breaks_at (checked at (prototype function_kinds.Callback)) E10 7 × passes (checked at (prototype function_kinds.Tainted)))
+    breaks_at (checked at (named_of (prototype function_kinds.Trusted))) E10 7
+    × (breaks_at (checked at (named_of (prototype function_kinds.Callback))) E10 7 × passes (checked at (named_of (prototype function_kinds.Tainted))))

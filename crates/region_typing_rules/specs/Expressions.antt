@@ -1,6 +1,5 @@
 -- The rules of expressions, each with its name, in the order in which they are asked of a node behind its children.
-use Rattle.std.specs.Prelude.{ℕ, suc, ◌+◌, ◌^◌, nat_lt, Bool, true, false, not, ◌&&◌, ◌||◌, ◌==◌, bytes_eq, codes, List, [], ◌∷◌, length, Option}
-use Rattle.std.specs.Prelude.{Some, None, pos}
+use Rattle.std.specs.Prelude.{ℕ, suc, ◌+◌, ◌^◌, nat_lt, Bool, true, false, not, ◌&&◌, ◌||◌, ◌==◌, List, [], ◌∷◌, length, Option, Some, None, pos}
 use Rattle.ckc_text.specs.declared.place.Place.{Place}
 use Rattle.ckc_text.specs.declared.place.Span.{Span}
 use Rattle.ckc_text.specs.declared.code.Code.TheVariants.{E04, E10, E12, E13, E14, E19, E22, E24, E26}
@@ -22,8 +21,9 @@ use Rattle.ckc_core.specs.declared.program.Operator.TheVariants as operators
 use Rattle.ckc_core.specs.declared.program.Comparison.{Comparison}
 use Rattle.ckc_core.specs.declared.program.Comparison.TheVariants as comparisons
 use Rattle.ckc_core.specs.Core as core
+use Rattle.ckc_names_rules.specs.declared.given.Given.{Given}
 use Rattle.region_typing_rules.specs.Verdicts.{Verdict, Passes, Unnamed, passing, needs, breaks, picked}
-use Rattle.region_typing_rules.specs.Scopes.{Scope, Signature, Named, Local, Object, Nothing, named, function_named}
+use Rattle.region_typing_rules.specs.Scopes.{Scope, Signature, Named, Local, Object, Nothing, named, function_named, members_named}
 use Rattle.region_typing_rules.specs.Types.{type_named, is_number, is_pointer, is_checked_pointer, are_comparable, converts}
 
 -- where a value may be stored: a local, or a cell
@@ -87,10 +87,11 @@ abbrev pub struct_place : Lvalue → Site → core.Place
 struct_place (OfLocal local) site = core.Through (core.Local local) 0 0 site
 struct_place (OfCell place) site = place
 
--- a member of a struct: its number, and its type
-abbrev pub member_from : ℕ → List Member → List ℕ → Option (ℕ × CType)
-member_from number [] name = None
-member_from number (m ∷ members) name = picked (bytes_eq name m.name) (Some (number, m.ctype)) (member_from (suc number) members name)
+-- a member of a struct, where these are the names of its members: its number, and its type
+abbrev pub member_from : ℕ → List ℕ → List Member → ℕ → Option (ℕ × CType)
+member_from number [] members name = None
+member_from number (other ∷ names) [] name = None
+member_from number (other ∷ names) (m ∷ members) name = picked (name == other) (Some (number, m.ctype)) (member_from (suc number) names members name)
 
 -- the byte place of a cell among others
 abbrev pub offset_among : List Cell → ℕ → ℕ
@@ -99,24 +100,24 @@ offset_among (first ∷ cells) ℕ.zero = first.offset
 offset_among (first ∷ cells) (suc cell) = offset_among cells cell
 
 -- member-exists: E10
-abbrev pub member_at : Scope → ℕ → core.Place → List ℕ → Site → Span → Verdict Typed
-member_at s struct place name site span = found (member_from 0 (members_of s.structs struct) name)
+abbrev pub member_at : Scope → ℕ → core.Place → ℕ → Site → Span → Verdict Typed
+member_at s struct place name site span = found (member_from 0 (members_named s struct) (members_of s.structs struct) name)
   where
     found : Option (ℕ × CType) → Verdict Typed
     found None = breaks E10 span
     found (Some m) = Passes (at_place m.1 (member_place place m.0 (offset_among (cells_of s.structs (Struct struct)) m.0) site))
 
 -- member-of-struct: the left side of a dot is a struct (E13)
-abbrev pub dotted : Scope → Typed → List ℕ → Site → Span → Verdict Typed
+abbrev pub dotted : Scope → Typed → ℕ → Site → Span → Verdict Typed
 dotted s (Value type zero value place) name site span = breaks E13 span
 dotted s (AStruct number place) name site span = member_at s number (struct_place place site) name site span
 
-abbrev pub pointed_by : Scope → CType → core.Expression → List ℕ → Site → Span → Verdict Typed
+abbrev pub pointed_by : Scope → CType → core.Expression → ℕ → Site → Span → Verdict Typed
 pointed_by s (Pointer mode kind (Struct number)) value name site span = member_at s number (core.Through value 0 0 site) name site span
 pointed_by s _ value name site span = breaks E13 span
 
 -- member-of-struct: the left side of an arrow is a pointer to a struct (E13)
-abbrev pub arrowed : Scope → Typed → List ℕ → Site → Span → Verdict Typed
+abbrev pub arrowed : Scope → Typed → ℕ → Site → Span → Verdict Typed
 arrowed s (Value type zero value place) name site span = pointed_by s type value name site span
 arrowed s (AStruct number place) name site span = breaks E13 span
 
@@ -286,10 +287,9 @@ abbrev pub same_side : Bool → Bool → Bool
 same_side true other = other
 same_side false other = not other
 
-abbrev pub side_number : Bool → List Signature → List ℕ → ℕ → ℕ
+abbrev pub side_number : Bool → List Signature → ℕ → ℕ → ℕ
 side_number side [] name number = number
-side_number side (f ∷ functions) name number =
-    picked (bytes_eq name f.name) number (side_number side functions name (counted (same_side side (is_import f)) number))
+side_number side (f ∷ functions) name number = picked (name == f.name) number (side_number side functions name (counted (same_side side (is_import f)) number))
 
 -- no-checked-pointer-to-tainted: E24, at the argument. The constant 0 and `NULL` are numbers
 abbrev pub is_checked_argument : Typed → Bool
@@ -329,8 +329,8 @@ writes of arguments span =
     needs (length arguments == 1) E14 span (passing (arguments_as arguments (Int ∷ [])) (λ values. Passes (GivesNothing (first_of of values))))
 
 -- a call of a name that isn't declared. `strlen` isn't a form of which rules speak here
-abbrev pub predefined_call : List ℕ → List (Typed × Span) → Span → Verdict Called
-predefined_call name arguments span = by_name (bytes_eq name (codes "next_input")) (bytes_eq name (codes "print_int")) (bytes_eq name (codes "putchar"))
+abbrev pub predefined_call : Given → ℕ → List (Typed × Span) → Span → Verdict Called
+predefined_call given name arguments span = by_name (name == given.next_input) (name == given.print_int) (name == given.putchar)
   where
     by_name : Bool → Bool → Bool → Verdict Called
     by_name true print put = needs (length arguments == 0) E14 span (Passes (Gives Int core.NextInput))
@@ -338,8 +338,8 @@ predefined_call name arguments span = by_name (bytes_eq name (codes "next_input"
     by_name false false true = writes core.PutByte arguments span
     by_name false false false = Unnamed
 
-abbrev pub called : Scope → Option Signature → List ℕ → List (Typed × Span) → Site → Span → Verdict Called
-called s None name arguments site span = predefined_call name arguments span
+abbrev pub called : Scope → Option Signature → ℕ → List (Typed × Span) → Site → Span → Verdict Called
+called s None name arguments site span = predefined_call s.given name arguments span
 called s (Some f) name arguments site span = declared_call s f arguments site span
 
 -- void-stands-alone: a call without a result is only a statement (E13)
@@ -360,17 +360,17 @@ abbrev mutual
   typed at s (e.Number value span) = constant value (value == 0) span
   typed at s (e.Character value span) = constant value false span
   typed at s (e.Text bytes span) = breaks E13 span
-  typed at s (e.Name name) = passing (named s name.name) (λ n. Passes (name_typed n))
+  typed at s (e.Name name) = passing (named s name.number) (λ n. Passes (name_typed n))
   typed at s (e.Call callee arguments span) = passing (all_typed at s arguments)
-      (λ ts. passing (called s (function_named s.functions callee.name) callee.name ts (site_at at span) span) (λ c. with_result c span))
+      (λ ts. passing (called s (function_named s.functions callee.number) callee.number ts (site_at at span) span) (λ c. with_result c span))
   typed at s (e.SizeOf type span) = passing (type_named s type) (λ t. number (core.Number (pos (size_of s.structs t))))
   typed at s (e.Cast word type operand span) = breaks E13 span
   typed at s (e.BoundedCast word type operand bounds span) = breaks E13 span
   typed at s (e.Malloc word type size span) = breaks E13 span
   typed at s (e.Calloc word type count size span) = breaks E13 span
   typed at s (e.Index base index span) = passing (typed at s base) (λ a. passing (typed at s index) (λ b. indexed a b span))
-  typed at s (e.Dot base member span) = passing (typed at s base) (λ a. dotted s a member.name (site_at at span) span)
-  typed at s (e.Arrow base member span) = passing (typed at s base) (λ a. arrowed s a member.name (site_at at span) span)
+  typed at s (e.Dot base member span) = passing (typed at s base) (λ a. dotted s a member.number (site_at at span) span)
+  typed at s (e.Arrow base member span) = passing (typed at s base) (λ a. arrowed s a member.number (site_at at span) span)
   typed at s (e.Unary operator operand span) = passing (typed at s operand) (λ a. unary_typed operator a (site_at at span) span)
   typed at s (e.Binary operator left right span) =
       passing (typed at s left) (λ a. passing (typed at s right) (λ b. binary_typed operator a b (site_at at span) span))
@@ -383,5 +383,5 @@ abbrev mutual
 -- a call that stands alone, as the grammar has nothing else there
 abbrev pub call_typed : Places → Scope → Expression → Verdict Called
 call_typed at s (e.Call callee arguments span) =
-    passing (all_typed at s arguments) (λ ts. called s (function_named s.functions callee.name) callee.name ts (site_at at span) span)
+    passing (all_typed at s arguments) (λ ts. called s (function_named s.functions callee.number) callee.number ts (site_at at span) span)
 call_typed at s _ = breaks E13 (record { from = 0; to = 0 })

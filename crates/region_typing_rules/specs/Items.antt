@@ -1,6 +1,6 @@
 -- The rules of what stands at file level.
-use Rattle.std.specs.Prelude.{ℕ, zero, suc, ◌+◌, ◌-◌, Bool, true, false, not, ◌&&◌, ◌||◌, ◌==◌, nat_lt, nat_le, bytes_eq, List, [], ◌∷◌, ◌++◌}
-use Rattle.std.specs.Prelude.{length, map, Option, Some, None, is_some, pos, negsuc}
+use Rattle.std.specs.Prelude.{ℕ, zero, suc, ◌+◌, ◌-◌, Bool, true, false, not, ◌&&◌, ◌||◌, ◌==◌, nat_lt, nat_le, List, [], ◌∷◌, ◌++◌, length, map}
+use Rattle.std.specs.Prelude.{Option, Some, None, is_some, pos, negsuc}
 use Rattle.std.proofs.Common.{ℤ}
 use Rattle.ckc_text.specs.declared.place.Span.{Span}
 use Rattle.ckc_text.specs.declared.code.Code.TheVariants.{E08, E10, E13, E15, E27}
@@ -9,7 +9,9 @@ use Rattle.ckc_tree.specs.declared.item.FunctionKind.{FunctionKind}
 use Rattle.ckc_tree.specs.declared.item.FunctionKind.TheVariants as function_kinds
 use Rattle.ckc_tree.specs.declared.item.Region.{Region}
 use Rattle.ckc_tree.specs.declared.item.Region.TheVariants as regions
-use Rattle.ckc_names_rules.specs.Scopes.{null}
+use Rattle.ckc_names_rules.specs.declared.given.Given.{Given}
+use Rattle.ckc_names_rules.specs.Given.{given_in}
+use Rattle.ckc_names_rules.specs.Naming.{NamedTree}
 use Rattle.ckc_tree.specs.Types.{TypeTree, IntType, CharType, StructType, PointerType, type_span}
 use Rattle.ckc_tree.specs.Expressions as e
 use Rattle.ckc_tree.specs.Expressions.{Expression}
@@ -32,11 +34,16 @@ use Rattle.region_typing_rules.specs.Statements.{statements, with_local, is_unch
 
 -- what is known behind an item: what stands at file level, the cells of the file-level variables with the bytes that their
 -- blocks take, and the functions that have bodies, in the order of these
+-- a function with its body, and the number of its name
+pub record Defined : Type 0 where
+  pub name : ℕ
+  pub function : core.Function
+
 pub record Walk : Type 0 where
   pub scope : Scope
   pub objects : List (List core.Initial)
   pub taken : ℕ
-  pub bodies : List core.Function
+  pub bodies : List Defined
 
 -- region-is-checked: E15, behind the other rules of an item
 abbrev pub in_checked_region : {A : Type 0} → Scope → Span → A → Verdict A
@@ -62,16 +69,22 @@ abbrev pub scalar_members : {A : Type 0} → List types.Member → Verdict A →
 scalar_members [] next = next
 scalar_members (m ∷ members) next = needs (not (is_struct m.ctype)) E27 m.span (scalar_members members next)
 
--- a tag more, with its struct
-abbrev pub with_struct : List ℕ → Bool → List types.Member → Scope → Scope
-with_struct tag tainted members g = record g { tags = g.tags ++ tag ∷ []; structs = g.structs ++ record { tainted = tainted; members = members } ∷ [] }
+-- a tag more, with its struct and the names of its members
+abbrev pub with_struct : ℕ → List ℕ → Bool → List types.Member → Scope → Scope
+with_struct tag names tainted members g =
+    record g { tags = g.tags ++ tag ∷ []; members = g.members ++ names ∷ []; structs = g.structs ++ record { tainted = tainted; members = members } ∷ [] }
+
+-- the names of members
+abbrev pub member_names : List i.Member → List ℕ
+member_names members = map (λ (m : i.Member). m.name.number) members
 
 -- few-structs: at most 4,096 (E08). While its members are walked, a struct has none
 abbrev pub structure : Walk → i.Structure → Verdict Walk
 structure w d =
     needs (nat_lt (length w.scope.structs) 4096) E08 d.span
-    (passing (member_types (with_struct d.tag.name d.tainted [] w.scope) d.members []) (λ members.
-    scalar_members members (in_checked_region w.scope d.span (record w { scope = with_struct d.tag.name d.tainted members w.scope }))))
+    (passing (member_types (with_struct d.tag.number (member_names d.members) d.tainted [] w.scope) d.members []) (λ members.
+    scalar_members members (in_checked_region w.scope d.span (record w
+    { scope = with_struct d.tag.number (member_names d.members) d.tainted members w.scope }))))
 
 -- ---- file-level variables
 
@@ -84,11 +97,11 @@ null_number true = Some 0
 null_number false = None
 
 -- `NULL`, which no variable is called, is the number 0 in every respect
-abbrev pub unsigned_constant : Expression → Option ℕ
-unsigned_constant (e.Number value span) = Some value
-unsigned_constant (e.Character value span) = Some value
-unsigned_constant (e.Name name) = null_number (bytes_eq name.name null)
-unsigned_constant _ = None
+abbrev pub unsigned_constant : Given → Expression → Option ℕ
+unsigned_constant given (e.Number value span) = Some value
+unsigned_constant given (e.Character value span) = Some value
+unsigned_constant given (e.Name name) = null_number (name.number == given.null)
+unsigned_constant given _ = None
 
 abbrev pub negated_of : Option ℕ → Option ℤ
 negated_of None = None
@@ -99,9 +112,9 @@ positive_of None = None
 positive_of (Some n) = Some (pos n)
 
 -- a number with or without a minus, so that `-NULL` is 0 as `-0` is
-abbrev pub signed_constant : Expression → Option ℤ
-signed_constant (e.Unary unary.Negate operand span) = negated_of (unsigned_constant operand)
-signed_constant a = positive_of (unsigned_constant a)
+abbrev pub signed_constant : Given → Expression → Option ℤ
+signed_constant given (e.Unary unary.Negate operand span) = negated_of (unsigned_constant given operand)
+signed_constant given a = positive_of (unsigned_constant given a)
 
 -- the bytes of the cells from one on: from each to the next one, and from the last to the end
 abbrev pub strides_from : List Cell → ℕ → List ℕ
@@ -147,20 +160,21 @@ abbrev pub number_or_break : Option ℤ → Span → (ℤ → List core.Initial)
 number_or_break None span cells = breaks E13 span
 number_or_break (Some number) span cells = Passes (cells number)
 
-abbrev pub written_cells : List Structure → CType → Expression → Typed → Span → Verdict (List core.Initial)
-written_cells structs Int value t span = number_or_break (signed_constant value) span (cells_with structs Int)
-written_cells structs Char value t span = number_or_break (signed_constant value) span (λ n. cells_with structs Char (low_byte n))
-written_cells structs (Struct number) value t span = breaks E13 span
-written_cells structs (Pointer mode kind target) value t span = needs (is_zero t) E13 span (Passes (cells_with structs (Pointer mode kind target) (pos 0)))
+abbrev pub written_cells : Given → List Structure → CType → Expression → Typed → Span → Verdict (List core.Initial)
+written_cells given structs Int value t span = number_or_break (signed_constant given value) span (cells_with structs Int)
+written_cells given structs Char value t span = number_or_break (signed_constant given value) span (λ n. cells_with structs Char (low_byte n))
+written_cells given structs (Struct number) value t span = breaks E13 span
+written_cells given structs (Pointer mode kind target) value t span =
+    needs (is_zero t) E13 span (Passes (cells_with structs (Pointer mode kind target) (pos 0)))
 
 -- constant-initialiser: a signed number for a number, 0 or `NULL` for a pointer, and nothing for a struct; a list for an array alone (E13,
 -- at the item)
-abbrev pub object_cells : List Structure → CType → Walked → Span → Verdict (List core.Initial)
-object_cells structs type Missing span = Passes (cells_with structs type (pos 0))
-object_cells structs type (Written value t) span = written_cells structs type value t span
-object_cells structs type Constants span = breaks E13 span
+abbrev pub object_cells : Given → List Structure → CType → Walked → Span → Verdict (List core.Initial)
+object_cells given structs type Missing span = Passes (cells_with structs type (pos 0))
+object_cells given structs type (Written value t) span = written_cells given structs type value t span
+object_cells given structs type Constants span = breaks E13 span
 
-abbrev pub with_variable : List ℕ → CType → Scope → Scope
+abbrev pub with_variable : ℕ → CType → Scope → Scope
 with_variable name type g = record g { variables = g.variables ++ record { name = name; type = type } ∷ [] }
 
 -- the bytes of a variable of a type as it is written: a pointer takes a word, whether its rules are kept or not
@@ -168,7 +182,7 @@ abbrev pub written_size : Scope → TypeTree → (stars : ℕ) → Verdict ℕ
 written_size g base (suc stars) = Passes 4
 written_size g (IntType span) zero = Passes (size_of g.structs Int)
 written_size g (CharType span) zero = Passes (size_of g.structs Char)
-written_size g (StructType tag span) zero = passing (meant (struct_named g tag.name)) (λ number. Passes (size_of g.structs (Struct number)))
+written_size g (StructType tag span) zero = passing (meant (struct_named g tag.number)) (λ number. Passes (size_of g.structs (Struct number)))
 written_size g (PointerType word element starred span) zero = Passes 4
 
 -- few-static-bytes: at most 32,768 with the gap behind each block (E08, at the item)
@@ -191,8 +205,8 @@ variables at w base type span [] done = Passes (w, done)
 variables at w base type span (d ∷ ds) done =
     passing (room_for w base span d) (λ taken.
     passing (without_stars base d.stars type) (λ t.
-    passing (initializer at (with_variable d.name.name t w.scope) d.initializer) (λ initial.
-    variables at (record w { scope = with_variable d.name.name t w.scope; taken = taken }) base type span ds (done
+    passing (initializer at (with_variable d.name.number t w.scope) d.initializer) (λ initial.
+    variables at (record w { scope = with_variable d.name.number t w.scope; taken = taken }) base type span ds (done
     ++ record { type = t; initial = initial } ∷ []))))
 
 -- whether there is room for the first variable is asked before the type that all share is walked
@@ -205,7 +219,7 @@ room_for_first w g (d ∷ ds) = room_for w g.base g.span d
 abbrev pub with_objects : Walk → Span → List WalkedVariable → Verdict Walk
 with_objects w span [] = Passes w
 with_objects w span (v ∷ vs) =
-    passing (object_cells w.scope.structs v.type v.initial span) (λ cells.
+    passing (object_cells w.scope.given w.scope.structs v.type v.initial span) (λ cells.
     needs (nat_lt 0 (length cells)) E10 span (with_objects (record w { objects = w.objects ++ cells ∷ [] }) span vs))
 
 abbrev pub global : Places → Walk → i.Global → Verdict Walk
@@ -225,7 +239,7 @@ abbrev pub parameter_types : Scope → List i.Member → List Variable → Verdi
 parameter_types g [] done = Passes done
 parameter_types g (p ∷ parameters) done =
     needs (nat_lt (length done) 16) E08 (type_span p.type.base)
-    (passing (type_named g p.type) (λ t. parameter_types g parameters (done ++ record { name = p.name.name; type = t } ∷ [])))
+    (passing (type_named g p.type) (λ t. parameter_types g parameters (done ++ record { name = p.name.number; type = t } ∷ [])))
 
 -- stars make a raw pointer (E15)
 abbrev pub result_type : Scope → ResultForm → ℕ → Verdict (Option CType)
@@ -274,22 +288,25 @@ abbrev pub inside : Signature → List Variable → Scope → Scope
 inside f parameters g = with_parameters parameters (record g { locals = []; visible = []; result = f.result; in_loop = false })
 
 abbrev pub core_function : Signature → List Variable → core.Statements → Scope → core.Function
-core_function f parameters body g = record { name = f.name; parameters = length parameters; locals = g.locals; result = f.result; body = body }
+core_function f parameters body g = record { name = f.text; parameters = length parameters; locals = g.locals; result = f.result; body = body }
 
 -- the body of a function; its locals are gone behind it
 abbrev pub function_body : Places → Walk → Signature → List Variable → Option i.Body → Verdict Walk
 function_body at w f parameters None = Passes w
 function_body at w f parameters (Some body) =
     passing (statements at (inside f parameters w.scope) body.statements) (λ x.
-    is_checked w.scope body.mark body.span (Passes (record w { bodies = w.bodies ++ core_function f parameters x.0 x.1 ∷ [] })))
+    is_checked w.scope body.mark body.span (Passes (record w {
+      bodies = w.bodies
+          ++ record { name = f.name; function = core_function f parameters x.0 x.1 } ∷ [];
+    })))
 
-abbrev pub defines : List ℕ → Item → Bool
+abbrev pub defines : ℕ → Item → Bool
 defines name (i.RegionItem region span) = false
 defines name (i.StructureItem structure) = false
 defines name (i.GlobalItem global) = false
-defines name (i.FunctionItem f) = bytes_eq name f.name.name && is_some f.body
+defines name (i.FunctionItem f) = name == f.name.number && is_some f.body
 
-abbrev pub is_defined : List Item → List ℕ → Bool
+abbrev pub is_defined : List Item → ℕ → Bool
 is_defined [] name = false
 is_defined (x ∷ items) name = picked (defines name x) true (is_defined items name)
 
@@ -297,18 +314,19 @@ is_defined (x ∷ items) name = picked (defines name x) true (is_defined items n
 abbrev pub function_rules : List Item → i.Function → Signature → Option Signature → Walk → Verdict Walk
 function_rules all d f known w =
     needs (agrees known f && (all_scalar f.parameters && scalar_result f.result)) E13 d.span
-    (needs (picked (is_tainted d.kind) true (is_defined all d.name.name)) E10 d.span
+    (needs (picked (is_tainted d.kind) true (is_defined all d.name.number)) E10 d.span
     (needs (not (is_unchecked d.mark)) E15 d.span (in_checked_region w.scope d.span w)))
 
 abbrev pub signature_of : i.Function → Option CType → List Variable → Signature
-signature_of d result parameters = record { name = d.name.name; kind = d.kind; parameters = map (λ (p : Variable). p.type) parameters; result = result }
+signature_of d result parameters =
+    record { name = d.name.number; text = d.name.name; kind = d.kind; parameters = map (λ (p : Variable). p.type) parameters; result = result }
 
 -- few-functions: at most 4,096, of which each counts once (E08)
 abbrev pub function : Places → List Item → Walk → i.Function → Verdict Walk
 function at all w d =
-    needs (is_some (function_named w.scope.functions d.name.name) || nat_lt (length w.scope.functions) 4096) E08 d.span
+    needs (is_some (function_named w.scope.functions d.name.number) || nat_lt (length w.scope.functions) 4096) E08 d.span
     (passing (result_type w.scope d.result d.stars) (λ result. passing (parameter_types w.scope (listed d.parameters) []) (λ parameters.
-    walked (signature_of d result parameters) parameters (function_named w.scope.functions d.name.name))))
+    walked (signature_of d result parameters) parameters (function_named w.scope.functions d.name.number))))
   where
     walked : Signature → List Variable → Option Signature → Verdict Walk
     walked f parameters known =
@@ -330,12 +348,24 @@ abbrev pub items : Places → List Item → Walk → List Item → Verdict Walk
 items at all w [] = Passes w
 items at all w (x ∷ xs) = passing (item at all w x) (λ v. items at all v xs)
 
-abbrev pub nothing_known : Scope
-nothing_known = record { tags = []; structs = []; functions = []; variables = []; locals = []; visible = []; result = None; in_loop = false; is_off = false }
+abbrev pub nothing_known : Given → Scope
+nothing_known given = record {
+  given = given;
+  tags = [];
+  members = [];
+  structs = [];
+  functions = [];
+  variables = [];
+  locals = [];
+  visible = [];
+  result = None;
+  in_loop = false;
+  is_off = false;
+}
 
-abbrev pub start : Walk
-start = record { scope = nothing_known; objects = []; taken = 0; bodies = [] }
+abbrev pub start : Given → Walk
+start given = record { scope = nothing_known given; objects = []; taken = 0; bodies = [] }
 
--- what is known behind a program, or the first rule that it breaks
-abbrev pub walked : Places → Tree → Verdict Walk
-walked at t = items at t.items start t.items
+-- what is known behind a named program, or the first rule that it breaks
+abbrev pub walked : Places → NamedTree → Verdict Walk
+walked at n = items at n.tree.items (start (given_in n.names)) n.tree.items

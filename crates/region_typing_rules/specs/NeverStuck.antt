@@ -8,7 +8,7 @@ use Rattle.act_words.specs.Checks.{is_word_number}
 use Rattle.act_words.specs.Outcome.{Ends}
 use Rattle.ckc_tree.specs.Items.{Tree}
 use Rattle.built_forms.specs.Built.{is_built}
-use Rattle.ckc_names_rules.specs.Naming.{naming_fault}
+use Rattle.ckc_names_rules.specs.Naming.{naming_fault, named_of}
 use Rattle.ckc_core.specs.Core.{Core}
 use Rattle.ckc_core.specs.States.{State}
 use Rattle.ckc_core.specs.Meaning.{meaning}
@@ -20,7 +20,7 @@ use Rattle.region_typing_rules.specs.Cores.{checked}
 pub record HasCore (at : Places) (t : Tree) (c : Core) : Type 0 where
   pub forms : is_built t ≡ true
   pub names : naming_fault t ≡ None
-  pub rules : checked at t ≡ Passes c
+  pub rules : checked at (named_of t) ≡ Passes c
 
 -- the run of a program ends, and is never stuck, under all settings, with all inputs and over all acts
 abbrev pub NeverStuck : Core → Type 0

@@ -1,31 +1,35 @@
 -- What is known of a program while it is walked: its structs, its functions, its file-level variables, and the locals of
--- the function that is walked.
-use Rattle.std.specs.Prelude.{ℕ, suc, Bool, true, false, bytes_eq, List, [], ◌∷◌, Option, Some, None, position, slice_get}
+-- the function that is walked. Names are numbers here.
+use Rattle.std.specs.Prelude.{ℕ, suc, Bool, true, false, ◌==◌, List, [], ◌∷◌, Option, Some, None, position, slice_get, slice_index_or}
 use Rattle.ckc_tree.specs.declared.item.FunctionKind.{FunctionKind}
 use Rattle.pointer_modes.specs.Types.{CType, Structure}
-use Rattle.ckc_names_rules.specs.Scopes.{null}
+use Rattle.ckc_names_rules.specs.declared.given.Given.{Given}
 use Rattle.region_typing_rules.specs.Verdicts.{Verdict, meant, picked}
 
--- a declared function: its kind, its parameters, and what it returns
+-- a declared function: its name and how that is written, its kind, its parameters, and what it returns
 pub record Signature : Type 0 where
-  pub name : List ℕ
+  pub name : ℕ
+  pub text : List ℕ
   pub kind : FunctionKind
   pub parameters : List CType
   pub result : Option CType
 
 -- a variable that has a name, and its type
 pub record Variable : Type 0 where
-  pub name : List ℕ
+  pub name : ℕ
   pub type : CType
 
 -- a local that is visible: its name, and its number in its function
 pub record Visible : Type 0 where
-  pub name : List ℕ
+  pub name : ℕ
   pub local : ℕ
 
 pub record Scope : Type 0 where
-  -- the tags of structs in the order of their declarations, and the structs
-  pub tags : List (List ℕ)
+  -- the names that have a meaning in every program
+  pub given : Given
+  -- the tags of structs in the order of their declarations, the names of their members, and the structs
+  pub tags : List ℕ
+  pub members : List (List ℕ)
   pub structs : List Structure
   -- functions in the order in which their names are first declared
   pub functions : List Signature
@@ -54,30 +58,34 @@ found_if true this other = this
 found_if false this other = other
 
 -- the innermost local of a name
-abbrev pub local_named : List CType → List Visible → List ℕ → Option Named
+abbrev pub local_named : List CType → List Visible → ℕ → Option Named
 local_named types [] name = None
-local_named types (v ∷ visible) name = found_if (bytes_eq name v.name) (local_if (slice_get types v.local) v.local) (local_named types visible name)
+local_named types (v ∷ visible) name = found_if (name == v.name) (local_if (slice_get types v.local) v.local) (local_named types visible name)
 
 -- the file-level variable of a name, where the first of these has a number
-abbrev pub object_named : ℕ → List Variable → List ℕ → Option Named
+abbrev pub object_named : ℕ → List Variable → ℕ → Option Named
 object_named number [] name = None
-object_named number (v ∷ variables) name = found_if (bytes_eq name v.name) (Some (Object number v.type)) (object_named (suc number) variables name)
+object_named number (v ∷ variables) name = found_if (name == v.name) (Some (Object number v.type)) (object_named (suc number) variables name)
 
 abbrev pub or_else : Option Named → Option Named → Option Named
 or_else (Some this) other = Some this
 or_else None other = other
 
-abbrev pub null_named : List ℕ → Option Named
-null_named name = found_if (bytes_eq name null) (Some Nothing) None
+abbrev pub null_named : Given → ℕ → Option Named
+null_named given name = found_if (name == given.null) (Some Nothing) None
 
 -- what a name stands for: a local, else a file-level variable, else `NULL`
-abbrev pub named : Scope → List ℕ → Verdict Named
-named s name = meant (or_else (local_named s.locals s.visible name) (or_else (object_named 0 s.variables name) (null_named name)))
+abbrev pub named : Scope → ℕ → Verdict Named
+named s name = meant (or_else (local_named s.locals s.visible name) (or_else (object_named 0 s.variables name) (null_named s.given name)))
 
-abbrev pub function_named : List Signature → List ℕ → Option Signature
+abbrev pub function_named : List Signature → ℕ → Option Signature
 function_named [] name = None
-function_named (f ∷ functions) name = picked (bytes_eq name f.name) (Some f) (function_named functions name)
+function_named (f ∷ functions) name = picked (name == f.name) (Some f) (function_named functions name)
 
 -- the number of a struct
-abbrev pub struct_named : Scope → List ℕ → Option ℕ
-struct_named s tag = position (bytes_eq tag) s.tags
+abbrev pub struct_named : Scope → ℕ → Option ℕ
+struct_named s tag = position (λ other. tag == other) s.tags
+
+-- the names of the members of a struct
+abbrev pub members_named : Scope → (struct : ℕ) → List ℕ
+members_named s struct = slice_index_or s.members struct []

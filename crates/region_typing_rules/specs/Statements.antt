@@ -92,7 +92,7 @@ zero_value (Struct number) = core.Null
 zero_value (Pointer mode kind target) = core.Null
 
 -- a local more, which is visible from now on
-abbrev pub with_local : List ℕ → CType → Scope → Scope
+abbrev pub with_local : ℕ → CType → Scope → Scope
 with_local name type g = record g { locals = g.locals ++ type ∷ []; visible = record { name = name; local = length g.locals } ∷ g.visible }
 
 -- no-list-for-local: E13
@@ -110,8 +110,8 @@ abbrev pub declarator : Places → Scope → TypeTree → CType → Span → Dec
 declarator at g base type span d =
     few_locals g span
     (passing (without_stars base d.stars type) (λ t.
-    passing (initialised at (with_local d.name.name t g) d.initializer t (length g.locals) span) (λ initial.
-    needs (is_scalar t) E13 span (Passes (both (core.SetLocal (length g.locals) (zero_value t)) initial, with_local d.name.name t g)))))
+    passing (initialised at (with_local d.name.number t g) d.initializer t (length g.locals) span) (λ initial.
+    needs (is_scalar t) E13 span (Passes (both (core.SetLocal (length g.locals) (zero_value t)) initial, with_local d.name.number t g)))))
 
 abbrev pub declarators : Places → Scope → TypeTree → CType → Span → List Declarator → Verdict Walked
 declarators at g base type span [] = Passes (core.Nothing, g)

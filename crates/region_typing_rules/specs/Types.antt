@@ -32,7 +32,7 @@ without_stars base stars t = needs (stars == 0) E15 (type_span base) (Passes t)
 abbrev pub base_type : Scope → TypeTree → Verdict CType
 base_type s (IntType span) = Passes Int
 base_type s (CharType span) = Passes Char
-base_type s (StructType tag span) = passing (meant (struct_named s tag.name)) (λ number. Passes (Struct number))
+base_type s (StructType tag span) = passing (meant (struct_named s tag.number)) (λ number. Passes (Struct number))
 base_type s (PointerType word element stars span) =
     passing (passing (base_type s element) (without_stars element stars)) (λ t. Passes (Pointer (mode_of word.mode) (kind_of word.kind) t))
 

@@ -4,7 +4,7 @@ ghost use Rattle.std.specs.Prelude.{◌≡◌, ◌*◌, ◌≤◌, true, All, No
 ghost use Rattle.ckc_tree.specs.Items.{Tree};
 ghost use Rattle.ckc_tree.specs.Heights.{height};
 ghost use Rattle.ckc_tree.specs.Weights.{tree_weight};
-ghost use Rattle.ckc_names_rules.specs.Naming.{naming_fault};
+ghost use Rattle.ckc_names_rules.specs.Naming.{naming_fault, named_of};
 ghost use Rattle.built_forms.specs.Built.{is_built};
 ghost use Rattle.ckc_core.specs.Core.{Core};
 ghost use Rattle.ckc_core.specs.Weights.{statements_weight};
@@ -39,7 +39,7 @@ pub fn lowerable()
 
 /// Where naming finds no fault, each name stands for something in the rules too.
 pub fn named()
-    ensures { (at : Places) (t : Tree) → is_built t ≡ true → naming_fault t ≡ None → checked at t ≡ Unnamed → ⊥ }
+    ensures { (at : Places) (t : Tree) → is_built t ≡ true → naming_fault t ≡ None → checked at (named_of t) ≡ Unnamed → ⊥ }
 {}
 
 /// The core of a program that breaks no rule has few functions of each side.

@@ -1,8 +1,9 @@
 -- What becomes known at file level.
-use Rattle.std.proofs.Common.{◌≡◌, ℕ, zero, suc, Bool, true, false, not, ◌&&◌, is_some, bytes_eq, List, [], ◌∷◌, ◌++◌, length, map, Option, Some, None, refl, ap, sym, ◌∙◌, true≢false}
+use Rattle.std.proofs.Common.{◌≡◌, ℕ, zero, suc, Bool, true, false, not, ◌&&◌, is_some, List, [], ◌∷◌, ◌++◌, length, map, Option, Some, None, refl, ap, ◌∙◌, arith}
+use Rattle.std.specs.Prelude.{◌==◌}
 use Rattle.std.specs.List.{list_all}
 use Rattle.std.proofs.lemmas.List.{map-append}
-use Rattle.std.proofs.lemmas.Slice.Eq.{bytes_eq-Decides}
+use Rattle.std.proofs.lemmas.Bool.Decides.{nat_tests}
 use Rattle.pointer_modes.specs.Types.{Member, Structure}
 use Rattle.pointer_modes.specs.Declaring.{with_members}
 use Rattle.region_typing_rules.specs.Scopes.{Signature, function_named}
@@ -43,31 +44,25 @@ length_given (s ∷ structs) (suc k) members = ap suc (length_given structs k me
 
 -- ---- functions
 
-pub turned : (x y : List ℕ) → bytes_eq x y ≡ bytes_eq y x
-turned x y = by (bytes_eq x y) refl (bytes_eq y x) refl
-  where
-    by : (a : Bool) → bytes_eq x y ≡ a → (b : Bool) → bytes_eq y x ≡ b → a ≡ b
-    by true e true e' = refl
-    by false e false e' = refl
-    by true e false e' = absurd (true≢false (sym ((bytes_eq-Decides y x).1 (sym ((bytes_eq-Decides x y).0 e))) ∙ e'))
-    by false e true e' = absurd (true≢false (sym ((bytes_eq-Decides x y).1 (sym ((bytes_eq-Decides y x).0 e'))) ∙ e))
+pub turned : (x y : ℕ) → (x == y) ≡ (y == x)
+turned x y = grind (arith, nat_tests)
 
-named_later : (fs : List Signature) (f : Signature) (name : List ℕ) → function_named fs name ≡ None → bytes_eq name f.name ≡ false → function_named (fs ++ f ∷ []) name ≡ None
+named_later : (fs : List Signature) (f : Signature) (name : ℕ) → function_named fs name ≡ None → (name == f.name) ≡ false → function_named (fs ++ f ∷ []) name ≡ None
 named_later [] f name none other = rw other refl
-named_later (g ∷ fs) f name none other = by (bytes_eq name g.name) refl (λ rest. named_later fs f name rest other)
+named_later (g ∷ fs) f name none other = by (name == g.name) refl (λ rest. named_later fs f name rest other)
   where
-    by : (b : Bool) → bytes_eq name g.name ≡ b → (function_named fs name ≡ None → function_named (fs ++ f ∷ []) name ≡ None) → function_named ((g ∷ fs) ++ f ∷ []) name ≡ None
+    by : (b : Bool) → (name == g.name) ≡ b → (function_named fs name ≡ None → function_named (fs ++ f ∷ []) name ≡ None) → function_named ((g ∷ fs) ++ f ∷ []) name ≡ None
     by true e later = let found = rw e at none in absurd (cc)
     by false e later = let rest = rw e at none in rw e (later rest)
 
-other_name : (g : Signature) (fs : List Signature) (name : List ℕ) → function_named (g ∷ fs) name ≡ None → bytes_eq name g.name ≡ false
-other_name g fs name none = by (bytes_eq name g.name) refl
+other_name : (g : Signature) (fs : List Signature) (name : ℕ) → function_named (g ∷ fs) name ≡ None → (name == g.name) ≡ false
+other_name g fs name none = by (name == g.name) refl
   where
-    by : (b : Bool) → bytes_eq name g.name ≡ b → bytes_eq name g.name ≡ false
+    by : (b : Bool) → (name == g.name) ≡ b → (name == g.name) ≡ false
     by true e = let found = rw e at none in absurd (cc)
     by false e = e
 
-none_later : (g : Signature) (fs : List Signature) (name : List ℕ) → function_named (g ∷ fs) name ≡ None → function_named fs name ≡ None
+none_later : (g : Signature) (fs : List Signature) (name : ℕ) → function_named (g ∷ fs) name ≡ None → function_named fs name ≡ None
 none_later g fs name none = let rest = rw (other_name g fs name none) at none in rest
 
 -- a function of a name that none has

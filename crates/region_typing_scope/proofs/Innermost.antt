@@ -1,5 +1,6 @@
 -- A search from the innermost local on.
-use Rattle.std.proofs.Common.{◌≡◌, ℕ, ◌+◌, bytes_eq, List, [], ◌∷◌, ◌++◌, length, map, take, get_or, reverse, ◌<◌, slice_get, sym, ap, ◌∙◌}
+use Rattle.std.proofs.Common.{◌≡◌, ℕ, ◌+◌, List, [], ◌∷◌, ◌++◌, length, map, take, get_or, reverse, ◌<◌, slice_get, sym, ap, ◌∙◌}
+use Rattle.std.specs.Prelude.{◌==◌}
 use Rattle.std.proofs.lemmas.List.{take_more, map-append, reverse-append}
 use Rattle.pointer_modes.specs.Types.{CType}
 use Rattle.region_typing_rules.specs.Scopes.{found_if, local_if, local_named}
@@ -7,8 +8,8 @@ use Rattle.region_typing_scope.specs.declared.visible as code
 use Rattle.region_typing_scope.specs.Visibles.{visible}
 
 -- the innermost of the locals up to one
-pub last_local : (types : List CType) (vs : List code.Visible.Visible) (n k : ℕ) (v : code.Visible.Visible) (name : List ℕ) → n ≡ k + 1 → k < length vs → v ≡ get_or vs k v
-    → local_named types (reverse (map visible (take n vs))) name ≡ found_if (bytes_eq name v.name) (local_if (slice_get types v.local) v.local) (local_named types (reverse (map visible (take k vs))) name)
+pub last_local : (types : List CType) (vs : List code.Visible.Visible) (n k : ℕ) (v : code.Visible.Visible) (name : ℕ) → n ≡ k + 1 → k < length vs → v ≡ get_or vs k v
+    → local_named types (reverse (map visible (take n vs))) name ≡ found_if (name == v.name) (local_if (slice_get types v.local) v.local) (local_named types (reverse (map visible (take k vs))) name)
 last_local types vs n k v name e less is =
     ap (λ ws. local_named types (reverse (map visible ws)) name) (ap (λ j. take j vs) e ∙ take_more vs k v less ∙ ap (λ w. take k vs ++ w ∷ []) (sym is))
     ∙ ap (λ ws. local_named types (reverse ws) name) (map-append visible (take k vs) (v ∷ []))

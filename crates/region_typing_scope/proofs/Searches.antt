@@ -1,5 +1,6 @@
 -- Searches in lists, by the place that they find.
-use Rattle.std.proofs.Common.{◌≡◌, ℕ, suc, ◌+◌, Bool, true, false, cond, bytes_eq, position, List, [], ◌∷◌, length, map, get_or, slice_get, Option, Some, None, refl, sym, ap, ◌∙◌, arith}
+use Rattle.std.proofs.Common.{◌≡◌, ℕ, suc, ◌+◌, Bool, true, false, cond, position, List, [], ◌∷◌, length, map, get_or, slice_get, Option, Some, None, refl, sym, ap, ◌∙◌, arith}
+use Rattle.std.specs.Prelude.{◌==◌}
 use Rattle.std.specs.List.{position_from}
 use Rattle.std.specs.Option.{option_map}
 use Rattle.std.proofs.lemmas.Iterator.Adapters.{position_from-zero}
@@ -33,27 +34,32 @@ same_place (Some k) = let e : 0 + k ≡ k = omega arith in ap Some e
 pub place_found : {X : Type 0} (p : X → Bool) (xs : List X) → position p xs ≡ place_of p xs
 place_found p xs = position_from-zero p xs ∙ place_from p 0 xs ∙ same_place (place_of p xs)
 
-pub object_found : (name : List ℕ) (n : ℕ) (vs : List code.Variable.Variable) → object_named n (map variable vs) name ≡ object_at n vs (place_of (λ v. bytes_eq name v.name) vs)
+pub object_found : (name : ℕ) (n : ℕ) (vs : List code.Variable.Variable) → object_named n (map variable vs) name ≡ object_at n vs (place_of (λ v. name == v.name) vs)
 object_found name n [] = refl
-object_found name n (v ∷ vs) = by (bytes_eq name v.name) (place_of (λ w. bytes_eq name w.name) vs) (object_found name (suc n) vs)
+object_found name n (v ∷ vs) = by (name == v.name) (place_of (λ w. name == w.name) vs) (object_found name (suc n) vs)
   where
     by : (b : Bool) (o : Option ℕ) → object_named (suc n) (map variable vs) name ≡ object_at (suc n) vs o → found_if b (Some (Object n (ctype v.ctype))) (object_named (suc n) (map variable vs) name) ≡ object_at n (v ∷ vs) (cond b (Some 0) (option_map suc o))
     by true o rest = let e : n ≡ n + 0 = omega arith in ap (λ k. Some (Object k (ctype v.ctype))) e
     by false None rest = rest
     by false (Some k) rest = let e : suc n + k ≡ n + suc k = omega arith in rest ∙ ap (λ j. option_map (λ w. Object j (ctype w.ctype)) (slice_get vs k)) e
 
-pub member_found : (name : List ℕ) (n : ℕ) (ms : List code_member.Member) → member_from n (map member ms) name ≡ member_at n ms (place_of (λ m. bytes_eq name m.name) ms)
-member_found name n [] = refl
-member_found name n (m ∷ ms) = by (bytes_eq name m.name) (place_of (λ w. bytes_eq name w.name) ms) (member_found name (suc n) ms)
+pub member_found : (name : ℕ) (n : ℕ) (names : List ℕ) (ms : List code_member.Member) → member_from n names (map member ms) name ≡ member_at n ms (place_of (λ other. name == other) names)
+member_found name n [] ms = refl
+member_found name n (other ∷ names) [] = none (place_of (λ k. name == k) (other ∷ names))
   where
-    by : (b : Bool) (o : Option ℕ) → member_from (suc n) (map member ms) name ≡ member_at (suc n) ms o → picked b (Some (n, ctype m.ctype)) (member_from (suc n) (map member ms) name) ≡ member_at n (m ∷ ms) (cond b (Some 0) (option_map suc o))
+    none : (o : Option ℕ) → None ≡ member_at n [] o
+    none None = refl
+    none (Some k) = refl
+member_found name n (other ∷ names) (m ∷ ms) = by (name == other) (place_of (λ k. name == k) names) (member_found name (suc n) names ms)
+  where
+    by : (b : Bool) (o : Option ℕ) → member_from (suc n) names (map member ms) name ≡ member_at (suc n) ms o → picked b (Some (n, ctype m.ctype)) (member_from (suc n) names (map member ms) name) ≡ member_at n (m ∷ ms) (cond b (Some 0) (option_map suc o))
     by true o rest = let e : n ≡ n + 0 = omega arith in ap (λ k. Some (k, ctype m.ctype)) e
     by false None rest = rest
     by false (Some k) rest = let e : suc n + k ≡ n + suc k = omega arith in rest ∙ ap (λ j. option_map (λ w. (j, ctype w.ctype)) (slice_get ms k)) e
 
-pub function_found : (name : List ℕ) (fs : List code_signature.Signature) → function_named (map signature fs) name ≡ function_at fs (place_of (λ f. bytes_eq name f.name) fs)
+pub function_found : (name : ℕ) (fs : List code_signature.Signature) → function_named (map signature fs) name ≡ function_at fs (place_of (λ f. name == f.name) fs)
 function_found name [] = refl
-function_found name (f ∷ fs) = by (bytes_eq name f.name) (place_of (λ w. bytes_eq name w.name) fs) (function_found name fs)
+function_found name (f ∷ fs) = by (name == f.name) (place_of (λ w. name == w.name) fs) (function_found name fs)
   where
     by : (b : Bool) (o : Option ℕ) → function_named (map signature fs) name ≡ function_at fs o → picked b (Some (signature f)) (function_named (map signature fs) name) ≡ function_at (f ∷ fs) (cond b (Some 0) (option_map suc o))
     by true o rest = refl
@@ -69,15 +75,15 @@ read_at p xs slice k x found same is =
 pub none_at : {X : Type 0} (p : X → Bool) (xs slice : List X) → position p slice ≡ None → slice ≡ xs → place_of p xs ≡ None
 none_at p xs slice found same = sym (place_found p xs) ∙ ap (position p) (sym same) ∙ found
 
-pub object_there : (name : List ℕ) (vs : List code.Variable.Variable) (k : ℕ) (v : code.Variable.Variable) → place_of (λ w. bytes_eq name w.name) vs ≡ Some k → slice_get vs k ≡ Some v → Some (Object k (ctype v.ctype)) ≡ object_named 0 (map variable vs) name
+pub object_there : (name : ℕ) (vs : List code.Variable.Variable) (k : ℕ) (v : code.Variable.Variable) → place_of (λ w. name == w.name) vs ≡ Some k → slice_get vs k ≡ Some v → Some (Object k (ctype v.ctype)) ≡ object_named 0 (map variable vs) name
 object_there name vs k v place at =
     let e : 0 + k ≡ k = omega arith in
     sym (object_found name 0 vs ∙ ap (object_at 0 vs) place ∙ ap (option_map (λ w. Object (0 + k) (ctype w.ctype))) at ∙ ap (λ j. Some (Object j (ctype v.ctype))) e)
 
-pub member_there : (name : List ℕ) (ms : List code_member.Member) (k : ℕ) (m : code_member.Member) → place_of (λ w. bytes_eq name w.name) ms ≡ Some k → slice_get ms k ≡ Some m → member_from 0 (map member ms) name ≡ Some (k, ctype m.ctype)
-member_there name ms k m place at =
+pub member_there : (name : ℕ) (names : List ℕ) (ms : List code_member.Member) (k : ℕ) (m : code_member.Member) → place_of (λ other. name == other) names ≡ Some k → slice_get ms k ≡ Some m → member_from 0 names (map member ms) name ≡ Some (k, ctype m.ctype)
+member_there name names ms k m place at =
     let e : 0 + k ≡ k = omega arith in
-    member_found name 0 ms ∙ ap (member_at 0 ms) place ∙ ap (option_map (λ w. (0 + k, ctype w.ctype))) at ∙ ap (λ j. Some (j, ctype m.ctype)) e
+    member_found name 0 names ms ∙ ap (member_at 0 ms) place ∙ ap (option_map (λ w. (0 + k, ctype w.ctype))) at ∙ ap (λ j. Some (j, ctype m.ctype)) e
 
-pub function_there : (name : List ℕ) (fs : List code_signature.Signature) (k : ℕ) (f : code_signature.Signature) → place_of (λ w. bytes_eq name w.name) fs ≡ Some k → slice_get fs k ≡ Some f → Some (signature f) ≡ function_named (map signature fs) name
+pub function_there : (name : ℕ) (fs : List code_signature.Signature) (k : ℕ) (f : code_signature.Signature) → place_of (λ w. name == w.name) fs ≡ Some k → slice_get fs k ≡ Some f → Some (signature f) ≡ function_named (map signature fs) name
 function_there name fs k f place at = sym (function_found name fs ∙ ap (function_at fs) place ∙ ap (option_map signature) at)

@@ -7,5 +7,5 @@ use Rattle.region_typing_rules.specs.Scopes.{Scope}
 use Rattle.region_typing_rules.specs.Items.{with_struct}
 
 -- a struct more, which has no members yet, and its number (E08)
-abbrev pub struct_added : List ℕ → Bool → Span → Scope → Verdict (ℕ × Scope)
-struct_added tag tainted span g = needs (nat_lt (length g.structs) 4096) E08 span (Passes (length g.structs, with_struct tag tainted [] g))
+abbrev pub struct_added : ℕ → List ℕ → Bool → Span → Scope → Verdict (ℕ × Scope)
+struct_added tag names tainted span g = needs (nat_lt (length g.structs) 4096) E08 span (Passes (length g.structs, with_struct tag names tainted [] g))

@@ -1,8 +1,6 @@
--- Inside: tables of names, and numbers of functions on their side of the boundary.
-use Rattle.std.specs.Prelude.{◌≡◌, ℕ, zero, suc, ◌<◌, Bool, true, cond, bytes_eq, is_some, List, [], ◌∷◌, ◌++◌, length, map, slice_index, Option}
-use Rattle.std.specs.Prelude.{Some, None, Vec}
+-- Inside: tables of numbers, and numbers of functions on their side of the boundary.
+use Rattle.std.specs.Prelude.{◌≡◌, ℕ, zero, suc, ◌<◌, ◌==◌, Bool, true, cond, List, [], ◌∷◌, length, slice_index, slice_index_or, Option, Some, None}
 use Rattle.std.specs.Option.{option_map}
-use Rattle.std.proofs.Common.{Global}
 use Rattle.region_typing_rules.specs.Scopes.{Signature}
 use Rattle.region_typing_rules.specs.Expressions.{is_import, counted, same_side}
 
@@ -11,24 +9,28 @@ abbrev pub place_of : {X : Type 0} → (X → Bool) → List X → Option ℕ
 place_of p [] = None
 place_of p (x ∷ xs) = cond (p x) (Some 0) (option_map suc (place_of p xs))
 
--- ---- names with a place each
+-- ---- numbers with a place each
 
--- the names of a map
-abbrev pub places_of : List (Vec ℕ Global × ℕ) → List (List ℕ × ℕ)
-places_of entries = map (λ e. (e.0.items, e.1)) entries
+-- the place of a number
+abbrev pub place_in : List (Option ℕ) → ℕ → Option ℕ
+place_in table number = slice_index_or table number None
 
--- the place of a name
-abbrev pub place_in : List (List ℕ × ℕ) → List ℕ → Option ℕ
-place_in [] name = None
-place_in (e ∷ table) name = cond (bytes_eq name e.0) (Some e.1) (place_in table name)
+-- the place that is found, or else the last one where it passes
+abbrev pub or_last : Option ℕ → Bool → ℕ → Option ℕ
+or_last None passes last = cond passes (Some last) None
+or_last (Some place) passes last = Some place
 
--- a name more, unless it has a place
-abbrev pub with_place : List ℕ → ℕ → List (List ℕ × ℕ) → List (List ℕ × ℕ)
-with_place name place table = cond (is_some (place_in table name)) table (table ++ (name, place) ∷ [])
+-- a number more, unless it has a place
+pub record Noted (number place : ℕ) (old new : List (Option ℕ)) : Type 0 where
+  pub at : (other : ℕ) → place_in new other ≡ or_last (place_in old other) (other == number) place
 
--- a table has the first place of each name in a list
-pub record Finds (table : List (List ℕ × ℕ)) (names : List (List ℕ)) : Type 0 where
-  pub first : (name : List ℕ) → place_in table name ≡ place_of (bytes_eq name) names
+-- each number has the place that it had
+pub record SamePlaces (old new : List (Option ℕ)) : Type 0 where
+  pub at : (other : ℕ) → place_in new other ≡ place_in old other
+
+-- a table has the first place of each number in a list
+pub record Finds (table : List (Option ℕ)) (numbers : List ℕ) : Type 0 where
+  pub first : (number : ℕ) → place_in table number ≡ place_of (λ other. number == other) numbers
 
 -- ---- functions by their side
 

@@ -1,5 +1,6 @@
 -- Inside: what the code's types stand for.
-use Rattle.std.specs.Prelude.{map, reverse}
+use Rattle.std.specs.Prelude.{ℕ, map, reverse, Vec}
+use Rattle.std.proofs.Common.{Global}
 use Rattle.std.specs.Option.{option_map}
 use Rattle.pointer_modes.specs.Types.{ctype}
 use Rattle.region_typing_rules.specs.Scopes.{Variable, Scope}
@@ -12,7 +13,9 @@ variable v = record { name = v.name; type = ctype v.ctype }
 
 abbrev pub scope : code.Scope.Scope → Scope
 scope s = record {
+  given = s.given;
   tags = s.tags.items;
+  members = map (λ (v : Vec ℕ Global). v.items) s.members.items;
   structs = s.structs;
   functions = map signature s.functions.items;
   variables = map variable s.variables.items;

@@ -13,13 +13,13 @@ ghost use Rattle.region_typing_scope.specs.Answering.{Answers};
 ghost use Rattle.region_typing_scope.specs.Views.{scope as scope_of, signature};
 ghost use Rattle.region_typing_scope.specs.Filling.{struct_added};
 
-use crate::name_table::NameTable;
+use crate::number_table::NumberTable;
 use crate::refusals::CheckError;
 use crate::scope::{Scope, Variable};
 use crate::sides::is_import;
 use crate::signature::Signature;
+use ckc_names_rules::given::Given;
 use ckc_text::fault::NoMemory;
-use ckc_text::name::Name;
 use ckc_text::place::Span;
 use pointer_modes::ctype::{CType, Member};
 use pointer_modes::structs::Structs;
@@ -36,11 +36,13 @@ fn with_tainted(f: &Signature, number: u32) -> u32
 
 impl Scope {
     /// Nothing known, which takes no memory.
-    pub fn new(alloc: Global) -> Scope
-        ensures { scope_of result ≡ nothing_known }
+    pub fn new(alloc: Global, given: Given) -> Scope
+        ensures { scope_of result ≡ nothing_known given }
     {
         Scope {
+            given,
             tags: Vec::new(alloc),
+            members: Vec::new(alloc),
             structs: Structs::new(alloc),
             functions: Vec::new(alloc),
             variables: Vec::new(alloc),
@@ -49,28 +51,30 @@ impl Scope {
             result: None,
             in_loop: false,
             is_off: false,
-            tag_places: NameTable::new(alloc),
-            function_places: NameTable::new(alloc),
-            variable_places: NameTable::new(alloc),
+            tag_places: NumberTable::new(alloc),
+            function_places: NumberTable::new(alloc),
+            variable_places: NumberTable::new(alloc),
             tainted_counts: Vec::new(alloc),
         }
     }
 
-    /// A struct more, which has no members yet, and its number: E08 at the span where 4,096 are declared.
+    /// A struct more, whose members have these names and are still to come, and its number: E08 at the span where 4,096 are
+    /// declared.
     pub fn add_struct(
         &mut self,
-        alloc: Global,
-        tag: &[u8],
+        tag: usize,
+        names: Vec<usize>,
         tainted: bool,
         span: Span,
     ) -> Result<u32, CheckError>
-        ensures { Answers (λ number. (number, scope_of self.new)) (struct_added tag.now tainted span (scope_of self.old)) result }
+        ensures { Answers (λ number. (number, scope_of self.new)) (struct_added tag names.items tainted span (scope_of self.old)) result }
     {
-        let name = Name::copied(alloc, tag)?;
         self.tags.reserve(1)?;
+        self.members.reserve(1)?;
         let number = self.structs.declare(tainted, span)?;
-        self.tag_places.note(alloc, tag, self.tags.len())?;
-        self.tags.push_reserved(name);
+        self.tag_places.note(tag, self.tags.len())?;
+        self.members.push_reserved(names);
+        self.tags.push_reserved(tag);
         Ok(number)
     }
 
@@ -85,20 +89,18 @@ impl Scope {
     }
 
     /// A file-level variable more.
-    pub fn add_variable(&mut self, alloc: Global, name: &[u8], ctype: CType) -> Result<(), NoMemory>
+    pub fn add_variable(&mut self, name: usize, ctype: CType) -> Result<(), NoMemory>
         requires { length self.old.variables.items < 4096 }
-        ensures { OnOk result (scope_of self.new ≡ with_variable name.now (ctype_of ctype) (scope_of self.old)) }
+        ensures { OnOk result (scope_of self.new ≡ with_variable name (ctype_of ctype) (scope_of self.old)) }
     {
-        let copy = Name::copied(alloc, name)?;
         self.variables.reserve(1)?;
-        self.variable_places
-            .note(alloc, name, self.variables.len())?;
-        self.variables.push_reserved(Variable { name: copy, ctype });
+        self.variable_places.note(name, self.variables.len())?;
+        self.variables.push_reserved(Variable { name, ctype });
         Ok(())
     }
 
     /// A function more.
-    pub fn add_function(&mut self, alloc: Global, f: Signature) -> Result<(), NoMemory>
+    pub fn add_function(&mut self, f: Signature) -> Result<(), NoMemory>
         requires few { length self.old.functions.items < 4096 }
         requires new { function_named (scope_of self.old).functions f.name ≡ None }
         ensures { OnOk result (scope_of self.new ≡ with_function None (signature f) (scope_of self.old)) }
@@ -107,7 +109,7 @@ impl Scope {
         let tainted = with_tainted(&f, self.tainted_before(place));
         self.functions.reserve(1)?;
         self.tainted_counts.reserve(1)?;
-        self.function_places.note(alloc, f.name.as_bytes(), place)?;
+        self.function_places.note(f.name, place)?;
         self.tainted_counts.push_reserved(tainted);
         self.functions.push_reserved(f);
         Ok(())

@@ -4,7 +4,7 @@
 mod filling;
 mod locals;
 pub mod lookups;
-pub mod name_table;
+pub mod number_table;
 pub mod refusals;
 pub mod scope;
 pub mod sides;

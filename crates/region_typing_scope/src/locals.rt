@@ -8,19 +8,16 @@ ghost use Rattle.region_typing_scope.specs.Views.{scope as scope_of, visible as 
 use crate::scope::{BlockStart, Scope};
 use crate::visible::Visible;
 use ckc_text::fault::NoMemory;
-use ckc_text::name::Name;
 use pointer_modes::ctype::CType;
-use std::alloc::Global;
 
 impl Scope {
     /// A local more, which is visible from now on.
-    pub fn add_local(&mut self, alloc: Global, name: &[u8], ctype: CType) -> Result<(), NoMemory>
+    pub fn add_local(&mut self, name: usize, ctype: CType) -> Result<(), NoMemory>
         requires { length self.old.locals.items < 256 }
-        ensures known { OnOk result (scope_of self.new ≡ with_local name.now (ctype_of ctype) (scope_of self.old)) }
+        ensures known { OnOk result (scope_of self.new ≡ with_local name (ctype_of ctype) (scope_of self.old)) }
         ensures seen { OnOk result ((v : _) × (self.new.visible.items ≡ self.old.visible.items ++ v ∷ [])) }
     {
         let local = self.locals.len() as u32;
-        let name = Name::copied(alloc, name)?;
         self.locals.push(ctype)?;
         self.visible.push(Visible { name, local })?;
         Ok(())

@@ -1,9 +1,9 @@
 // What the names that are known stand for.
 
-ghost use Rattle.std.specs.Prelude.{◌≡◌, ◌≤◌, true, bytes_eq, position, length, map};
+ghost use Rattle.std.specs.Prelude.{◌≡◌, ◌≤◌, ◌==◌, true, position, length, map};
 ghost use Rattle.std.specs.Option.{option_map};
 ghost use Rattle.pointer_modes.specs.Types.{ctype as ctype_of};
-ghost use Rattle.region_typing_rules.specs.Scopes.{Local, Object, struct_named, local_named, object_named, function_named};
+ghost use Rattle.region_typing_rules.specs.Scopes.{Local, Object, struct_named, members_named as names_of_members, local_named, object_named, function_named};
 ghost use Rattle.region_typing_scope.specs.Views.{scope as scope_of, signature};
 ghost use Rattle.region_typing_scope.specs.Tables.{side_before as side_before_of};
 ghost use Rattle.region_typing_rules.specs.Expressions.{side_number as side_number_of};
@@ -22,37 +22,47 @@ pub struct Known<'a> {
 
 impl Scope {
     // The place of the first tag that is this one.
-    fn tag_place(&self, tag: &[u8]) -> Option<usize>
-        ensures { result ≡ position (bytes_eq tag.now) self.now.tags.items }
+    fn tag_place(&self, tag: usize) -> Option<usize>
+        ensures { result ≡ position (λ other. tag == other) self.now.tags.items }
     {
         self.tag_places.get(tag)
     }
 
     // The place of the first file-level variable that has this name.
-    fn variable_place(&self, name: &[u8]) -> Option<usize>
-        ensures { result ≡ position (λ v. bytes_eq name.now v.name) self.now.variables.items }
+    fn variable_place(&self, name: usize) -> Option<usize>
+        ensures { result ≡ position (λ v. name == v.name) self.now.variables.items }
     {
         self.variable_places.get(name)
     }
 
     // The place of the first function that has this name.
-    fn function_place(&self, name: &[u8]) -> Option<usize>
-        ensures { result ≡ position (λ f. bytes_eq name.now f.name) self.now.functions.items }
+    fn function_place(&self, name: usize) -> Option<usize>
+        ensures { result ≡ position (λ f. name == f.name) self.now.functions.items }
     {
         self.function_places.get(name)
     }
 
     /// The number of a struct.
-    pub fn struct_number(&self, tag: &[u8]) -> Option<u32>
-        ensures { result ≡ struct_named (scope_of self.now) tag.now }
+    pub fn struct_number(&self, tag: usize) -> Option<u32>
+        ensures { result ≡ struct_named (scope_of self.now) tag }
     {
         let number = self.tag_place(tag)?;
         Some(number as u32)
     }
 
+    /// The names of the members of a struct.
+    pub fn members_named(&self, number: u32) -> &[usize]
+        ensures { result.now ≡ names_of_members (scope_of self.now) number }
+    {
+        match self.members.get(number as usize) {
+            Some(names) => names.as_slice(),
+            None => &[],
+        }
+    }
+
     /// The local of a name.
-    pub fn local(&self, name: &[u8]) -> Option<Known<'_>>
-        ensures { option_map (λ k. Local k.number (ctype_of k.ctype.now)) result ≡ local_named (scope_of self.now).locals (scope_of self.now).visible name.now }
+    pub fn local(&self, name: usize) -> Option<Known<'_>>
+        ensures { option_map (λ k. Local k.number (ctype_of k.ctype.now)) result ≡ local_named (scope_of self.now).locals (scope_of self.now).visible name }
     {
         let number = innermost(self.visible.as_slice(), name)?;
         let ctype = self.locals.get(number as usize)?;
@@ -60,8 +70,8 @@ impl Scope {
     }
 
     /// The file-level variable of a name.
-    pub fn object(&self, name: &[u8]) -> Option<Known<'_>>
-        ensures { option_map (λ k. Object k.number (ctype_of k.ctype.now)) result ≡ object_named 0 (scope_of self.now).variables name.now }
+    pub fn object(&self, name: usize) -> Option<Known<'_>>
+        ensures { option_map (λ k. Object k.number (ctype_of k.ctype.now)) result ≡ object_named 0 (scope_of self.now).variables name }
     {
         let number = self.variable_place(name)?;
         Some(Known {
@@ -71,8 +81,8 @@ impl Scope {
     }
 
     /// The function of a name.
-    pub fn function(&self, name: &[u8]) -> Option<&Signature>
-        ensures { option_map (λ f. signature f.now) result ≡ function_named (scope_of self.now).functions name.now }
+    pub fn function(&self, name: usize) -> Option<&Signature>
+        ensures { option_map (λ f. signature f.now) result ≡ function_named (scope_of self.now).functions name }
     {
         let place = self.function_place(name)?;
         Some(&self.functions[place])
@@ -105,8 +115,8 @@ impl Scope {
     }
 
     /// How many functions of a side stand before the one of a name.
-    pub fn side_number(&self, side: bool, name: &[u8]) -> u32
-        ensures { result ≡ side_number_of side (scope_of self.now).functions name.now 0 }
+    pub fn side_number(&self, side: bool, name: usize) -> u32
+        ensures { result ≡ side_number_of side (scope_of self.now).functions name 0 }
     {
         match self.function_place(name) {
             Some(place) => self.side_before(side, place),

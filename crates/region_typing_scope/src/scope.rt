@@ -7,17 +7,17 @@ ghost use Rattle.region_typing_scope.specs.Names.{are_distinct};
 ghost use Rattle.region_typing_scope.specs.Signatures.{signature};
 ghost use Rattle.region_typing_scope.specs.Tables.{Finds, Counts};
 
-use crate::name_table::NameTable;
+use crate::number_table::NumberTable;
 use crate::signature::Signature;
 use crate::visible::Visible;
-use ckc_text::name::Name;
+use ckc_names_rules::given::Given;
 use pointer_modes::ctype::CType;
 use pointer_modes::structs::Structs;
 
 /// A variable that has a name, and its type.
 #[derive(Drop)]
 pub struct Variable {
-    pub name: Name,
+    pub name: usize,
     pub ctype: CType,
 }
 
@@ -28,11 +28,15 @@ pub struct BlockStart {
     pub in_loop: bool,
 }
 
-/// What stands at file level, and the locals of the function that is walked. What stands at file level is found by the
-/// tables of its names.
+/// What stands at file level, and the locals of the function that is walked. Names are their numbers, and
+/// what stands at file level is found by tables of these.
 #[derive(Drop)]
 pub struct Scope {
-    pub tags: Vec<Name>,
+    /// The names that have a meaning in every program.
+    pub given: Given,
+    pub tags: Vec<usize>,
+    /// For each struct the names of its members.
+    pub members: Vec<Vec<usize>>,
     pub structs: Structs,
     pub functions: Vec<Signature>,
     pub variables: Vec<Variable>,
@@ -41,9 +45,9 @@ pub struct Scope {
     pub result: Option<CType>,
     pub in_loop: bool,
     pub is_off: bool,
-    pub(crate) tag_places: NameTable,
-    pub(crate) function_places: NameTable,
-    pub(crate) variable_places: NameTable,
+    pub(crate) tag_places: NumberTable,
+    pub(crate) function_places: NumberTable,
+    pub(crate) variable_places: NumberTable,
     /// For each function how many up to it are tainted.
     pub(crate) tainted_counts: Vec<u32>,
     ghost scalar: { list_all (λ d. list_all (λ m. is_scalar m.ctype) d.members) structs ≡ true },

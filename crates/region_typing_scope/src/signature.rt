@@ -6,10 +6,12 @@ use ckc_text::name::Name;
 use ckc_tree::item::FunctionKind;
 use pointer_modes::ctype::CType;
 
-/// A declared function: its kind, its parameters, and what it returns.
+/// A declared function: its name, its kind, its parameters, and what it returns.
 #[derive(Drop)]
 pub struct Signature {
-    pub name: Name,
+    pub name: usize,
+    /// How the name is written.
+    pub text: Name,
     pub kind: FunctionKind,
     pub parameters: Vec<CType>,
     pub result: Option<CType>,

@@ -179,7 +179,7 @@ pub fn base_type(alloc: Global, scope: &Scope, base: &TypeForm) -> Result<CType,
         TypeForm::Int { .. } => Ok(CType::Int),
         TypeForm::Char { .. } => Ok(CType::Char),
         TypeForm::Struct { tag, .. } => {
-            let number = meant(scope.struct_number(tag.name.as_bytes()))?;
+            let number = meant(scope.struct_number(tag.number))?;
             Ok(CType::Struct(number))
         }
         TypeForm::Pointer {

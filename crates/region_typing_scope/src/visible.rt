@@ -5,23 +5,21 @@ ghost use Rattle.pointer_modes.specs.Types.{CType as ctype_tree};
 ghost use Rattle.region_typing_rules.specs.Scopes.{local_named};
 ghost use Rattle.region_typing_scope.specs.Visibles.{visible as visible_of, local_at};
 
-use ckc_text::name::Name;
-
 /// A local that is visible: its name, and its number in its function.
-#[derive(Drop)]
+#[derive(Clone, Copy)]
 pub struct Visible {
-    pub name: Name,
+    pub name: usize,
     pub local: u32,
 }
 
 /// The innermost local of a name.
-pub fn innermost(visible: &[Visible], name: &[u8]) -> Option<u32>
-    ensures { (types : List ctype_tree) → local_named types (reverse (map visible_of visible.now)) name.now ≡ local_at types result }
+pub fn innermost(visible: &[Visible], name: usize) -> Option<u32>
+    ensures { (types : List ctype_tree) → local_named types (reverse (map visible_of visible.now)) name ≡ local_at types result }
 {
     let mut at = visible.len();
     while at > 0 {
         at -= 1;
-        if name == visible[at].name.as_bytes() {
+        if name == visible[at].name {
             return Some(visible[at].local);
         }
     }

@@ -34,15 +34,15 @@ with_initial (Stops stop) scalar span of g = refl
 pub declarator_parts : (at : Places) (g : Scope) (base : TypeTree) (t : CType) (span : Span) (d : Declarator) → nat_lt (length g.locals) 256 ≡ true → declarator at g base t span d ≡ passing (without_stars base d.stars t) (λ u. declared_local at g d u span)
 declarator_parts at g base t span d few =
     rw few (same_behind (without_stars base d.stars t) _ (λ u. declared_local at g d u span)
-    (λ u. with_initial (initialised at (with_local d.name.name u g) d.initializer u (length g.locals) span) (is_scalar u) span (both (core.SetLocal (length g.locals) (zero_value u))) (with_local d.name.name u g)))
+    (λ u. with_initial (initialised at (with_local d.name.number u g) d.initializer u (length g.locals) span) (is_scalar u) span (both (core.SetLocal (length g.locals) (zero_value u))) (with_local d.name.number u g)))
 
 -- a local that became visible
-pub local_declared : (at : Places) (d : Declarator) (t u : CType) (local : ℕ) (span : Span) (old mid : code.Scope.Scope) (r : Result (Box Stmt Global) CheckError) → scope mid ≡ with_local d.name.name u (scope old) → u ≡ t → local ≡ length old.locals.items → Grows old mid
+pub local_declared : (at : Places) (d : Declarator) (t u : CType) (local : ℕ) (span : Span) (old mid : code.Scope.Scope) (r : Result (Box Stmt Global) CheckError) → scope mid ≡ with_local d.name.number u (scope old) → u ≡ t → local ≡ length old.locals.items → Grows old mid
     → Answers statement (from_zero at (scope mid) d.initializer t local span) r → Walks statement (declared_local at (scope old) d t span) old r mid
 local_declared at d t u local span old mid r known same number more answer =
-    let here : scope mid ≡ with_local d.name.name t (scope old) = known ∙ ap (λ (v : CType). with_local d.name.name v (scope old)) same in
+    let here : scope mid ≡ with_local d.name.number t (scope old) = known ∙ ap (λ (v : CType). with_local d.name.number v (scope old)) same in
     let last : local ≡ length (scope old).locals = number ∙ sym (length-map old.locals.items ctype) in
-    let by_number = λ (n : ℕ). passing {B = core.Statement × Scope} (from_zero at (with_local d.name.name t (scope old)) d.initializer t n span) (λ x. Passes (x, with_local d.name.name t (scope old))) in
+    let by_number = λ (n : ℕ). passing {B = core.Statement × Scope} (from_zero at (with_local d.name.number t (scope old)) d.initializer t n span) (λ x. Passes (x, with_local d.name.number t (scope old))) in
     let by_scope = λ (g : Scope). passing {B = core.Statement × Scope} (from_zero at g d.initializer t local span) (λ x. Passes (x, g)) in
     from_more statement (declared_local at (scope old) d t span) (by_scope (scope mid)) old mid mid r (ap by_number (sym last) ∙ ap by_scope (sym here)) more (kept mid answer)
 

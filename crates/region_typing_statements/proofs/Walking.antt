@@ -32,7 +32,7 @@ grown {a} {b} {c} first rest = record {
 }
 
 -- a scope in which a local became visible
-pub one_more : (name : List ℕ) (t : CType) (a b : code.Scope.Scope) → scope b ≡ with_local name t (scope a) → ((v : visible_code.Visible.Visible) × (b.visible.items ≡ a.visible.items ++ v ∷ [])) → Grows a b
+pub one_more : (name : ℕ) (t : CType) (a b : code.Scope.Scope) → scope b ≡ with_local name t (scope a) → ((v : visible_code.Visible.Visible) × (b.visible.items ≡ a.visible.items ++ v ∷ [])) → Grows a b
 one_more name t a b known seen = record { more = seen.0 ∷ []; seen = seen.1; types = _; names = _; loop = _; file = known }
 
 -- a scope whose loop is another

@@ -41,4 +41,4 @@ from_zero at g written t local span =
 -- a local more, which is given what it is at first
 abbrev pub declared_local : Places → Scope → Declarator → CType → Span → Verdict (core.Statement × Scope)
 declared_local at g d t span =
-    passing (from_zero at (with_local d.name.name t g) d.initializer t (length g.locals) span) (λ x. Passes (x, with_local d.name.name t g))
+    passing (from_zero at (with_local d.name.number t g) d.initializer t (length g.locals) span) (λ x. Passes (x, with_local d.name.number t g))

@@ -53,7 +53,7 @@ fn declared(
 {
     let local = scope.locals.len() as u32;
     let kept = copied(alloc, t)?;
-    scope.add_local(alloc, d.name.name.as_bytes(), kept)?;
+    scope.add_local(d.name.number, kept)?;
     from_zero(alloc, sites, scope, &d.initializer, t, local, span)
 }
 

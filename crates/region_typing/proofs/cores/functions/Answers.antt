@@ -3,6 +3,7 @@ use Rattle.std.proofs.lemmas.List.{append-nil, length-map, nil_from_length}
 use Rattle.ckc_core.specs.Core.{function}
 use Rattle.region_typing_rules.specs.Cores.{trusted_functions}
 use Rattle.region_typing_scope.specs.Views.{signature}
+use Rattle.region_typing.specs.Items.{defined}
 use Rattle.region_typing.proofs.Placing.{body_popped}
 use Rattle.region_typing.proofs.cores.functions.Goals as goal
 
@@ -10,7 +11,7 @@ pub loop-body-init : goal.loop-body-init
 loop-body-init c =
     let bare = rw c.as_slice.ensures.value at c.in_ok-built.ensures in
     record {
-      so_far = ([], sym (append-nil (map function c.args.bodies.now.items)), bare);
+      so_far = ([], sym (append-nil (map defined c.args.bodies.now.items)), bare);
       all = sym (length-map c.in_ok-built.built.items function) ∙ ap length bare;
     }
 
@@ -18,7 +19,7 @@ pub loop-body-preserved : goal.loop-body-preserved
 loop-body-preserved c =
     let before = c.loop-body.invariant.so_far in
     record {
-      so_far = (_, body_popped (map function c.args.bodies.now.items) c.loop-body.bodies.items c.pop.new.self.items c.in-Some.body before.0 c.in-Some.ensures.items before.1, c.place.ensures.placed before.0 before.2);
+      so_far = (_, body_popped (map defined c.args.bodies.now.items) c.loop-body.bodies.items c.pop.new.self.items c.in-Some.body before.0 c.in-Some.ensures.items before.1, c.place.ensures.placed before.0 before.2);
       all = c.place.ensures.all ∙ c.loop-body.invariant.all;
     }
 
@@ -26,4 +27,4 @@ pub returns : goal.returns
 returns c =
     let before = c.loop-body.invariant.so_far in
     let none = nil_from_length c.loop-body.bodies.items (sym c.loop-body.bodies.ok.0 ∙ c.in_default.ensures.cases.0) in
-    before.2 ∙ ap (λ bs. trusted_functions bs (map signature c.args.scope.now.functions.items)) (sym (before.1 ∙ ap (λ xs. map function xs ++ before.0) none))
+    before.2 ∙ ap (λ bs. trusted_functions bs (map signature c.args.scope.now.functions.items)) (sym (before.1 ∙ ap (λ xs. map defined xs ++ before.0) none))

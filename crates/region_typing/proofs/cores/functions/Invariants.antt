@@ -1,13 +1,15 @@
 use Rattle.std.proofs.Common.{◌≡◌, [], ◌++◌, List, length, map}
-use Rattle.ckc_core.specs.Core.{function, Function}
+use Rattle.ckc_core.specs.Core.{function}
 use Rattle.region_typing_rules.specs.Cores.{trusted_functions}
+use Rattle.region_typing_rules.specs.Items.{Defined}
 use Rattle.region_typing_scope.specs.Views.{signature}
+use Rattle.region_typing.specs.Items.{defined}
 use Rattle.region_typing.proofs.cores.functions.Given as goal
 
 -- those that were put in their places stand behind those that are left
 abbrev pub invariant-loop-body : goal.invariant-loop-body
 invariant-loop-body l = record {
-  so_far : (placed : List Function) × (map function l.initial.bodies.items ≡ map function l.bodies.items ++ placed) × (map function l.built.items ≡ trusted_functions placed (map signature l.scope.functions.items));
+  so_far : (placed : List Defined) × (map defined l.initial.bodies.items ≡ map defined l.bodies.items ++ placed) × (map function l.built.items ≡ trusted_functions placed (map signature l.scope.functions.items));
   all : length l.built.items ≡ length (trusted_functions [] (map signature l.scope.functions.items));
 }
 

@@ -5,8 +5,8 @@ use Rattle.region_typing.proofs.definitions.note_definition.Goals as goal
 
 pub returns-in-Some : goal.returns-in-Some
 returns-in-Some c =
-    knows_if_noted c.note.result c.args.defined.now c.note.new.self (item c.args.item.now) c.as_bytes.result.now 0
-    (body_defines c.args.item.now c.in-Function.function c.in-Some.field-0 c.as_bytes.result.now c.in-Function.is c.in-Some.is c.as_bytes.ensures) c.note.ensures.noted
+    knows_if_noted c.note.result c.args.defined.now c.note.new.self (item c.args.item.now) c.in-Function.function.name.number 0
+    (body_defines c.args.item.now c.in-Function.function c.in-Some.field-0 c.in-Function.is c.in-Some.is) c.note.ensures.noted
 
 pub returns-in-None : goal.returns-in-None
 returns-in-None c items knows = knows_same c.args.defined.now items (item c.args.item.now) (none_defines c.args.item.now c.in-Function.function c.in-Function.is c.in-None.is) knows

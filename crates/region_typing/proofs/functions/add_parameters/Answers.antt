@@ -5,7 +5,7 @@ use Rattle.region_typing.proofs.functions.add_parameters.Goals as goal
 
 pub loop-p-preserved : goal.loop-p-preserved
 loop-p-preserved c =
-    let known = rw (c.as_bytes.ensures, c.in_ok-ctype.ensures) at c.in_ok-add_local.ensures.known in
+    let known = rw c.in_ok-ctype.ensures at c.in_ok-add_local.ensures.known in
     record {
       so_far = c.loop-p.invariant.so_far ∙ parameter_added c.args.parameters.now c.loop-p.p-index c.p-item.result (scope c.loop-p.scope) (scope c.add_local.new.self) (omega (arith, c.loop-p-test.true)) c.p-item.is known;
       few = local_counted (variable c.p-item.result) c.loop-p.scope c.add_local.new.self c.loop-p.p-index known c.loop-p.invariant.few;

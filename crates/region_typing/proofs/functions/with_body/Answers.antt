@@ -19,4 +19,4 @@ returns c =
     let passes = rw c.as_slice-written.ensures.value at c.in_ok-built.ensures in
     rw (function_body_parts (place_at c.args.sites.now) (walk c.args.walk.now) (signature c.args.f.now) (map variable c.args.parameters.now) (trees.body c.args.body.now))
     (goes_on _ passes (last _ _ _ _ _ _ c.needs.result c.is_checked-checked.ensures c.needs.ensures
-    (bodies_more (walk c.args.walk.now) (scope c.body_of.new.scope) c.args.walk.now.bodies.items c.push.new.self.items c.in_ok-built.built (scope_kept (place_at c.args.sites.now) (scope c.args.walk.now.scope) (signature c.args.f.now) (map variable c.args.parameters.now) (trees.statement_list c.args.body.now.statements.items) (function c.in_ok-built.built) (scope c.body_of.new.scope) passes.so) c.in_ok-push.ensures.items)))
+    (bodies_more (walk c.args.walk.now) (scope c.body_of.new.scope) c.args.walk.now.bodies.items c.push.new.self.items (record { name = c.args.f.now.name; function = c.in_ok-built.built }) (scope_kept (place_at c.args.sites.now) (scope c.args.walk.now.scope) (signature c.args.f.now) (map variable c.args.parameters.now) (trees.statement_list c.args.body.now.statements.items) (function c.in_ok-built.built) (scope c.body_of.new.scope) passes.so) c.in_ok-push.ensures.items)))

@@ -20,5 +20,5 @@ returns-in_err-needs c =
 
 pub returns : goal.returns
 returns c =
-    let known = rw c.as_bytes.ensures at c.in_ok-add_variable.ensures in
+    let known = c.in_ok-add_variable.ensures in
     one_more_variable (place_at c.args.sites.now) (type_tree c.args.base.now) c.args.span (declarator c.args.d.now) (ctype c.args.t.now) c.in_ok-taken.taken (walk c.args.walk.now) (walk c.add_variable.new.walk) c.initializer.result known c.in_ok-taken.ensures.room.so (tested _ _ _ c.in_ok-needs.ensures) c.initializer.ensures

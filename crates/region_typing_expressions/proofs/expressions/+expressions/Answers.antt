@@ -9,15 +9,15 @@ use Rattle.region_typing_expressions.proofs.expressions.+expressions.Goals as go
 
 pub typed-returns-in_err-answer-in-Call : goal.typed-returns-in_err-answer-in-Call
 typed-returns-in_err-answer-in-Call t c =
-    let answer = rw (c.as_bytes-in-Call.ensures) at c.in_err-answer-in-Call.ensures in
+    let answer = c.in_err-answer-in-Call.ensures in
     rw (call_parts (place_at c.args.sites.now) (scope c.args.scope.now) c.args.e.now c.in-Call.callee c.in-Call.arguments c.in-Call.span c.as_slice-arguments.result.now c.in-Call.is c.as_slice-arguments.ensures.value)
-    (refused {verdict = called_with (place_at c.args.sites.now) (scope c.args.scope.now) c.in-Call.callee.name (expression_list c.as_slice-arguments.result.now) c.in-Call.span} _ c.from_residual-in_err-answer-in-Call.result c.from_residual-in_err-answer-in-Call.ensures.1 answer)
+    (refused {verdict = called_with (place_at c.args.sites.now) (scope c.args.scope.now) c.in-Call.callee.number (expression_list c.as_slice-arguments.result.now) c.in-Call.span} _ c.from_residual-in_err-answer-in-Call.result c.from_residual-in_err-answer-in-Call.ensures.1 answer)
 
 pub typed-returns-in_ok-answer-in-Call : goal.typed-returns-in_ok-answer-in-Call
 typed-returns-in_ok-answer-in-Call t c =
-    let answer = rw (c.as_bytes-in-Call.ensures) at c.in_ok-answer-in-Call.ensures in
+    let answer = c.in_ok-answer-in-Call.ensures in
     rw (call_parts (place_at c.args.sites.now) (scope c.args.scope.now) c.args.e.now c.in-Call.callee c.in-Call.arguments c.in-Call.span c.as_slice-arguments.result.now c.in-Call.is c.as_slice-arguments.ensures.value)
-    (goes_on {verdict = called_with (place_at c.args.sites.now) (scope c.args.scope.now) c.in-Call.callee.name (expression_list c.as_slice-arguments.result.now) c.in-Call.span} _ answer c.with_result.ensures)
+    (goes_on {verdict = called_with (place_at c.args.sites.now) (scope c.args.scope.now) c.in-Call.callee.number (expression_list c.as_slice-arguments.result.now) c.in-Call.span} _ answer c.with_result.ensures)
 
 pub called-returns-in_err-arguments : goal.called-returns-in_err-arguments
 called-returns-in_err-arguments t c = refused _ c.from_residual.result c.from_residual.ensures.1 c.in_err-arguments.ensures

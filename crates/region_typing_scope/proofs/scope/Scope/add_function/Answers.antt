@@ -1,4 +1,4 @@
-use Rattle.std.proofs.Common.{[], ◌∷◌, ◌++◌, true, map, sym, ap, ◌∙◌}
+use Rattle.std.proofs.Common.{[], ◌∷◌, ◌++◌, true, map, refl, ap, ◌∙◌}
 use Rattle.region_typing_rules.specs.Expressions.{counted, is_import}
 use Rattle.region_typing_scope.specs.Views.{signature}
 use Rattle.region_typing_scope.specs.Tables.{side_before}
@@ -16,7 +16,7 @@ pub invariant_of-self-2-clause-functions_found : goal.invariant_of-self-2-clause
 invariant_of-self-2-clause-functions_found c =
     let fs = c.args.self.now.functions.items in
     let added = c.push_reserved-2.ensures.items ∙ ap (λ gs. gs ++ c.args.f ∷ []) c.reserve.ensures.items in
-    finds_pushed (λ f. f.name) fs c.push_reserved-2.new.self.items c.args.f c.args.self.now.function_places c.note.new.self c.as_bytes.result.now c.len-place.result c.args.self.now.functions_found (c.len-place.ensures ∙ c.args.self.now.functions.ok.0) c.in_ok-note.ensures.noted added (sym c.as_bytes.ensures)
+    finds_pushed (λ f. f.name) fs c.push_reserved-2.new.self.items c.args.f c.args.self.now.function_places c.note.new.self c.args.f.name c.len-place.result c.args.self.now.functions_found (c.len-place.ensures ∙ c.args.self.now.functions.ok.0) c.in_ok-note.ensures.noted added refl
 
 pub invariant_of-self-2-clause-counted : goal.invariant_of-self-2-clause-counted
 invariant_of-self-2-clause-counted c =

@@ -6,5 +6,5 @@ pub invariant_of-self-2-clause-tags_found : goal.invariant_of-self-2-clause-tags
 invariant_of-self-2-clause-tags_found c =
     let kept = c.in_ok-reserve.ensures.items in
     let last = c.len.ensures ∙ c.reserve.new.self.ok.0 ∙ ap length kept in
-    let more = c.push_reserved.ensures.items ∙ ap (λ names. names ++ c.in_ok-name.name ∷ []) kept in
-    finds_more_as c.args.self.now.tags.items c.push_reserved.new.self.items c.in_ok-name.name c.args.self.now.tag_places c.note.new.self c.args.tag.now c.len.result c.args.self.now.tags_found last c.in_ok-note.ensures.noted more c.in_ok-name.ensures
+    let more = c.push_reserved-2.ensures.items ∙ ap (λ names. names ++ c.args.tag ∷ []) kept in
+    finds_more_as c.args.self.now.tags.items c.push_reserved-2.new.self.items c.args.self.now.tag_places c.note.new.self c.args.tag c.len.result c.args.self.now.tags_found last c.in_ok-note.ensures.noted more
