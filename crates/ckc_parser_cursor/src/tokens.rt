@@ -117,7 +117,11 @@ pub fn copied(alloc: Global, name: &Name, span: Span) -> Result<Identifier, NoMe
     ensures { IfOk result (λ copy. copy ≡ words.identifier name.now span) }
 {
     let name = Name::copied(alloc, name.as_bytes())?;
-    Ok(Identifier { name, span })
+    Ok(Identifier {
+        name,
+        number: 0,
+        span,
+    })
 }
 
 /// A name with its span, of its own, which stands next.

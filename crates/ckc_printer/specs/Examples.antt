@@ -20,7 +20,7 @@ abbrev here : Span
 here = record { from = 0; to = 0 }
 
 abbrev identifier_of : List ℕ → Identifier
-identifier_of name = record { name = name; span = here }
+identifier_of name = record { name = name; number = 0; span = here }
 
 abbrev name_of : List ℕ → Expression
 name_of name = Name (identifier_of name)

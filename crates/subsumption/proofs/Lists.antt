@@ -1,14 +1,12 @@
 -- Lists, nodes and comparisons.
 use Rattle.std.proofs.Common.{ℕ, zero, suc, ◌+◌, ◌<◌, ◌≡◌, ℤ, pos, ◌≤ℤ◌, ◌<ℤ◌, true, false, Option, None, Some, List, [], ◌∷◌, ◌++◌, length, get_or, refl, sym, ◌∙◌, ap, arith, inl, inr}
 use Rattle.std.proofs.lemmas.Int.{ints}
-use Rattle.std.proofs.lemmas.List.Elements.{All-from_recursion, recursion_from_All, All-contains}
+use Rattle.std.proofs.lemmas.List.Elements.{All-from_recursion, recursion_from_All}
 use Rattle.std.proofs.lemmas.Bool.{cases_eq}
 use Rattle.std.proofs.lemmas.List.{get_or_push, get_or_append_left, length_push}
 use Rattle.std.specs.Int.Signed.{le_z}
-use Rattle.std.specs.List.{All, Contains, AllByRecursion as ByRecursion}
-use Rattle.subsumption.specs.declared.fact.Fact.{Fact}
+use Rattle.std.specs.List.{All, AllByRecursion as ByRecursion}
 use Rattle.subsumption.specs.Graphs.{node_of, at_index}
-use Rattle.subsumption.specs.Facts.{HoldsBy}
 
 pub front_by_recursion : {X : Type 0} (P : X → Type 0) (xs ys : List X) → ByRecursion P (xs ++ ys) → ByRecursion P xs
 front_by_recursion P [] ys h = tt
