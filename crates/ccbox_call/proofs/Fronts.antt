@@ -13,7 +13,7 @@ use Rattle.ckc_parser_grammar.specs.Parsing.{IsTree, IsFault, ParseAnswers}
 use Rattle.ckc_parser_grammar.proofs.OneItem.{at_most_one_tree}
 use Rattle.ckc_parser_grammar.proofs.OneFault.{at_most_one_fault, never_both}
 use Rattle.built_forms.specs.Built.{is_built}
-use Rattle.ckc_names_rules.specs.Naming.{NamedTree, naming_fault, Names}
+use Rattle.ckc_names_rules.specs.Naming.{NamedTree, naming_fault, named_of, Names}
 use Rattle.region_typing_rules.specs.Verdicts.{Verdict, Passes, Breaks}
 use Rattle.region_typing_rules.specs.Cores.{checked, CheckAnswers}
 use Rattle.ckc_core.specs.declared.program as code
@@ -58,14 +58,14 @@ module _ {src : List ℕ} {t u : Tree} (a : HasTree src t) (b : HasTree src u) w
   same_names : {fault other : SourceFault} → naming_fault t ≡ Some fault → naming_fault u ≡ Some other → fault ≡ other
   same_names {fault} {other} f g = let same : ◌≡◌ {A = Option SourceFault} (Some fault) (Some other) = sym f ∙ moved (λ x. naming_fault x ≡ Some other) g in cc
 
-  passes_or_breaks : {c : Core} {fault : SourceFault} → checked (place_at src) t ≡ Passes c → checked (place_at src) u ≡ Breaks fault → ⊥
-  passes_or_breaks {c} {fault} has none = let wrong : ◌≡◌ {A = Verdict Core} (Passes c) (Breaks fault) = sym has ∙ moved (λ x. checked (place_at src) x ≡ Breaks fault) none in cc
+  passes_or_breaks : {c : Core} {fault : SourceFault} → checked (place_at src) (named_of t) ≡ Passes c → checked (place_at src) (named_of u) ≡ Breaks fault → ⊥
+  passes_or_breaks {c} {fault} has none = let wrong : ◌≡◌ {A = Verdict Core} (Passes c) (Breaks fault) = sym has ∙ moved (λ x. checked (place_at src) (named_of x) ≡ Breaks fault) none in cc
 
-  same_breaks : {fault other : SourceFault} → checked (place_at src) t ≡ Breaks fault → checked (place_at src) u ≡ Breaks other → fault ≡ other
-  same_breaks {fault} {other} f g = let same : ◌≡◌ {A = Verdict Core} (Breaks fault) (Breaks other) = sym f ∙ moved (λ x. checked (place_at src) x ≡ Breaks other) g in cc
+  same_breaks : {fault other : SourceFault} → checked (place_at src) (named_of t) ≡ Breaks fault → checked (place_at src) (named_of u) ≡ Breaks other → fault ≡ other
+  same_breaks {fault} {other} f g = let same : ◌≡◌ {A = Verdict Core} (Breaks fault) (Breaks other) = sym f ∙ moved (λ x. checked (place_at src) (named_of x) ≡ Breaks other) g in cc
 
-  same_cores : {c d : Core} → checked (place_at src) t ≡ Passes c → checked (place_at src) u ≡ Passes d → c ≡ d
-  same_cores {c} {d} f g = let same : ◌≡◌ {A = Verdict Core} (Passes c) (Passes d) = sym f ∙ moved (λ x. checked (place_at src) x ≡ Passes d) g in cc
+  same_cores : {c d : Core} → checked (place_at src) (named_of t) ≡ Passes c → checked (place_at src) (named_of u) ≡ Passes d → c ≡ d
+  same_cores {c} {d} f g = let same : ◌≡◌ {A = Verdict Core} (Passes c) (Passes d) = sym f ∙ moved (λ x. checked (place_at src) (named_of x) ≡ Passes d) g in cc
 
 -- ---- the whole
 
@@ -141,10 +141,10 @@ module _ (src : List ℕ) (t : Tree) (has : HasTree src t) where
     names_refuse view NoMemory h = tt
 
     -- a program that keeps all rules, or breaks one
-    pub check_answers : {N : Type 0} (view : N → NamedTree) (named : N) → Names view t (Ok named) → (r : Result code.Core.Core Refused) → CheckAnswers core (place_at src) (view named).tree r → FrontAnswers src r
-    check_answers view named names r h = by r (subst (λ u. CheckAnswers core (place_at src) u r) (ap (λ (n : NamedTree). n.tree) names.1) h)
+    pub check_answers : {N : Type 0} (view : N → NamedTree) (named : N) → Names view t (Ok named) → (r : Result code.Core.Core Refused) → CheckAnswers core (place_at src) (view named) r → FrontAnswers src r
+    check_answers view named names r h = by r (subst (λ n. CheckAnswers core (place_at src) n r) names.1 h)
       where
-        by : (r : Result code.Core.Core Refused) → CheckAnswers core (place_at src) t r → FrontAnswers src r
+        by : (r : Result code.Core.Core Refused) → CheckAnswers core (place_at src) (named_of t) r → FrontAnswers src r
         by (Ok c) kept = record { tree = t; has_tree = has; forms = built; has_core = record { forms = built; names = names.0; rules = kept } }
         by (Err (Source fault)) broken = breaks t has built names.0 broken
         by (Err NoMemory) nothing = tt

@@ -10,7 +10,7 @@ use Rattle.ckc_tree.specs.Items.{Tree}
 use Rattle.ckc_parser_grammar.proofs.ReadItems.{tree_or_fault}
 use Rattle.ckc_io.specs.Files.{Files, file_at}
 use Rattle.built_forms.specs.Built.{is_built}
-use Rattle.ckc_names_rules.specs.Naming.{naming_fault}
+use Rattle.ckc_names_rules.specs.Naming.{naming_fault, named_of}
 use Rattle.region_typing_rules.specs.Verdicts.{Verdict, Passes, Stops, Broken, Nameless}
 use Rattle.region_typing_rules.specs.Cores.{checked}
 use Rattle.region_typing_rules.proofs.NamedItems.{all_named}
@@ -24,14 +24,14 @@ use Rattle.ccbox_call.proofs.Runs.{ends_over}
 -- ---- a source has a core or a fault
 
 module _ (src : List ℕ) where
-  by_rules : (tree : Tree) → HasTree src tree → is_built tree ≡ true → naming_fault tree ≡ None → (v : Verdict Core) → checked (place_at src) tree ≡ v → CoreOrFault src
+  by_rules : (tree : Tree) → HasTree src tree → is_built tree ≡ true → naming_fault tree ≡ None → (v : Verdict Core) → checked (place_at src) (named_of tree) ≡ v → CoreOrFault src
   by_rules tree has built named (Passes c) e = inl (c, record { tree = tree; has_tree = has; forms = built; has_core = record { forms = built; names = named; rules = e } })
   by_rules tree has built named (Stops (Broken fault)) e = inr (fault, breaks tree has built named e)
   by_rules tree has built named (Stops Nameless) e = absurd (all_named (place_at src) tree built named e)
 
   by_names : (tree : Tree) → HasTree src tree → is_built tree ≡ true → (o : Option SourceFault) → naming_fault tree ≡ o → CoreOrFault src
   by_names tree has built (Some fault) e = inr (fault, misnamed tree has built e)
-  by_names tree has built None e = by_rules tree has built e (checked (place_at src) tree) refl
+  by_names tree has built None e = by_rules tree has built e (checked (place_at src) (named_of tree)) refl
 
   by_forms : (tree : Tree) → HasTree src tree → (b : Bool) → is_built tree ≡ b → CoreOrFault src
   by_forms tree has true e = by_names tree has e (naming_fault tree) refl

@@ -10,7 +10,7 @@ use Rattle.ckc_lexer_tokens.specs.declared.token.Token.{Token}
 use Rattle.ckc_tree.specs.Items.{Tree}
 use Rattle.ckc_parser_grammar.specs.Parsing.{IsTree, IsFault}
 use Rattle.built_forms.specs.Built.{is_built}
-use Rattle.ckc_names_rules.specs.Naming.{naming_fault}
+use Rattle.ckc_names_rules.specs.Naming.{naming_fault, named_of}
 use Rattle.region_typing_rules.specs.Verdicts.{Breaks}
 use Rattle.region_typing_rules.specs.Cores.{checked}
 use Rattle.region_typing_rules.specs.NeverStuck.{HasCore}
@@ -37,7 +37,7 @@ pub data IsRefused (src : List ℕ) : SourceFault → Type 0 where
   not_built : (tree : Tree) → HasTree src tree → is_built tree ≡ false → IsRefused src refusals.not_built
   misnamed : {fault : SourceFault} (tree : Tree) → HasTree src tree → is_built tree ≡ true → naming_fault tree ≡ Some fault → IsRefused src fault
   breaks : {fault : SourceFault} (tree : Tree) → HasTree src tree → is_built tree ≡ true → naming_fault tree ≡ None
-      → checked (place_at src) tree ≡ Breaks fault → IsRefused src fault
+      → checked (place_at src) (named_of tree) ≡ Breaks fault → IsRefused src fault
 
 -- the source has a core, or a fault
 abbrev pub CoreOrFault : List ℕ → Type 0

@@ -1,9 +1,11 @@
-use Rattle.std.proofs.Common.{◌≡◌, length, true, Err, sym, ap, ◌∙◌, subst}
+use Rattle.std.proofs.Common.{◌≡◌, length, Err, sym, ap, ◌∙◌, subst}
 use Rattle.std.proofs.lemmas.Result.{err_from_is_err_and}
-use Rattle.ckc_tree.specs.Items.{Tree, tree}
+use Rattle.ckc_tree.specs.Items.{tree}
 use Rattle.built_forms.specs.Built.{is_built}
 use Rattle.ckc_parser_grammar.specs.Parsing.{ParseAnswers}
-use Rattle.ckc_names_rules.specs.Naming.{NamedTree}
+use Rattle.built_forms.proofs.Numbered.{same_forms}
+use Rattle.ckc_names_rules.specs.Given.{number_in}
+use Rattle.ckc_names_rules.specs.Naming.{NamedTree, names_of, named_of}
 use Rattle.ckc_names.specs.Named.{named_tree}
 use Rattle.ccbox_call.proofs.Fronts.{tokens_short, lex_refuses, parse_refuses, has_tree, forms_refuse, names_refuse, check_answers}
 use Rattle.ccbox_call.proofs.front.front.Goals as goal
@@ -13,8 +15,9 @@ check-requires-clause-short c = tokens_short c.in_ok-tokens.ensures
 
 pub check-requires-clause-forms : goal.check-requires-clause-forms
 check-requires-clause-forms c =
-    let same : tree c.in_ok-source.source.program ≡ tree c.in_ok-tree.tree = ap (λ (n : NamedTree). n.tree) c.in_ok-source.ensures.1 in
-    subst (λ (t : Tree). is_built t ≡ true) (sym same) (sym c.is_built.ensures ∙ c.if-not-is_built.false)
+    let t = tree c.in_ok-tree.tree in
+    let same : tree c.in_ok-source.source.program ≡ (named_of t).tree = ap (λ (n : NamedTree). n.tree) c.in_ok-source.ensures.1 in
+    ap is_built same ∙ same_forms (number_in (names_of t)) t ∙ sym c.is_built.ensures ∙ c.if-not-is_built.false
 
 pub returns-in_err-tokens : goal.returns-in_err-tokens
 returns-in_err-tokens c =
