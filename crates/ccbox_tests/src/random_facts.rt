@@ -4,7 +4,8 @@
 // and a pick below n is x / 256 modulo n. A table has 1 to 12 variables, in turn, and up to twice as many facts, whose
 // constants lie within -3 to 3. Of each it is asked 20 questions. A `No` has to meet all facts that were added, and to
 // break the goal. A `Yes` has to lead from the goal's one side to the other, or round to where it began with a sum below
-// zero; and with up to 4 variables no numbers from -2 to 2 may meet the facts and break the goal.
+// zero; and no numbers of a small box may meet the facts and break the goal: from -2 to 2 for up to 4 variables, 0 and 1 for
+// more.
 
 ghost use Rattle.std.specs.Prelude.{◌≡◌, ◌<◌, ◌≤◌, IfSome};
 ghost use Rattle.subsumption.specs.Facts.{IsBelow};
@@ -114,34 +115,58 @@ fn leads(path: &[Fact], goal: &Fact) -> bool {
     }
 }
 
-// The next numbers from -2 to 2: the first that isn't 2 rises, and those before it begin again.
-fn advance(values: &mut [i128]) {
+// The numbers of a box: from the one to the other.
+#[derive(Clone, Copy)]
+struct Range {
+    low: i128,
+    high: i128,
+}
+
+// The next numbers of the box: the first that isn't the highest rises, and those before it begin again.
+fn advance(values: &mut [i128], range: Range) {
     for value in values.iter_mut() {
-        if *value < 2 {
+        if *value < range.high {
             *value = value.wrapping_add(1);
             return;
         }
-        *value = -2;
+        *value = range.low;
     }
 }
 
-// Whether no numbers from -2 to 2 of four variables meet the facts and break the goal.
-fn none_breaks(facts: &[Fact], goal: &Fact) -> bool {
-    let mut values = [-2, -2, -2, -2];
-    for _ in 0..625 {
-        if meets_all(&values, facts) && !meets(&values, goal) {
+// Whether none of so many valuations of the box, from these numbers on, meets the facts and breaks the goal.
+fn none_breaks_in(
+    values: &mut [i128],
+    range: Range,
+    count: u32,
+    facts: &[Fact],
+    goal: &Fact,
+) -> bool {
+    for _ in 0..count {
+        if meets_all(values, facts) && !meets(values, goal) {
             return false;
         }
-        advance(&mut values);
+        advance(values, range);
     }
     true
+}
+
+// Whether no valuation of the box meets the facts and breaks the goal: numbers from -2 to 2 of up to four variables, and
+// else 0 and 1 of up to twelve.
+fn none_breaks(facts: &[Fact], goal: &Fact, vars: u32) -> bool {
+    if vars <= 4 {
+        let mut values = [-2; 4];
+        none_breaks_in(&mut values, Range { low: -2, high: 2 }, 625, facts, goal)
+    } else {
+        let mut values = [0; 12];
+        none_breaks_in(&mut values, Range { low: 0, high: 1 }, 4_096, facts, goal)
+    }
 }
 
 // Whether an answer is right.
 fn is_right(answer: &Answer, facts: &[Fact], vars: u32, goal: &Fact) -> bool {
     match answer {
         Answer::Yes(path) => {
-            leads(path.facts.as_slice(), goal) && (vars > 4 || none_breaks(facts, goal))
+            leads(path.facts.as_slice(), goal) && none_breaks(facts, goal, vars)
         }
         Answer::No(valuation) => {
             let values = valuation.values.as_slice();
