@@ -2,3 +2,4 @@ mod Ahead
 mod Assignments
 mod Blocks
 mod FileLevel
+mod NamedForms

@@ -6,10 +6,11 @@ use Rattle.ckc_lexer_tokens.specs.declared.token.Token.{Token}
 use Rattle.ckc_lexer_tokens.specs.declared.token.TokenKind.{TokenKind}
 use Rattle.ckc_lexer_tokens.specs.declared.token.TokenKind.TheVariants as kinds
 use Rattle.ckc_tree.specs.declared.type_form.PointerWord.{PointerWord}
+use Rattle.ckc_tree.specs.declared.identifier.Identifier.{Identifier}
 use Rattle.ckc_tree.specs.Heights.{Reach, around}
 use Rattle.ckc_parser_cursor.specs.declared.stuck.Stuck.{Stuck}
 use Rattle.ckc_parser_grammar.specs.Tokens as words
-use Rattle.ckc_parser_grammar.specs.Tokens.{token, next_is, IsPointerWord}
+use Rattle.ckc_parser_grammar.specs.Tokens.{token, identifier, next_is, IsPointerWord}
 use Rattle.ckc_parser_grammar.specs.Failures.{Failure, unexpected, no_memory, IsLow}
 use Rattle.ckc_parser_grammar.specs.StuckTypes.{name_token}
 use Rattle.ckc_parser_cursor.specs.Answers.{FailsName, no_name, no_room, TakesTokens, MayTakeTokens}
@@ -68,3 +69,12 @@ pointer_word_is kinds.TPtr word e = rw (← same_Some _ _ e) words.t_ptr
 pointer_word_is kinds.TArrayPtr word e = rw (← same_Some _ _ e) words.t_array_ptr
 pointer_word_is kinds.TNtArrayPtr word e = rw (← same_Some _ _ e) words.t_nt_array_ptr
 pointer_word_is _ word e = absurd (none-some _ e)
+
+-- ---- names
+
+-- a name without a number is its bytes and its span
+pub named : (x : Identifier) → x.number ≡ 0 → x ≡ identifier x.name x.span
+named x none = ap (λ (n : ℕ). numbered n) none
+  where
+    numbered : ℕ → Identifier
+    numbered n = record { name = x.name; number = n; span = x.span }

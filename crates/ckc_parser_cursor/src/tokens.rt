@@ -126,7 +126,7 @@ pub fn copied(alloc: Global, name: &Name, span: Span) -> Result<Identifier, NoMe
 
 /// A name with its span, of its own, which stands next.
 pub fn identifier(alloc: Global, tokens: &mut &[Token]) -> Result<Identifier, Stuck>
-    ensures { Reads (λ x rest. tokens.old.now ≡ words.token (kinds.Name x.name) x.span ∷ rest) (FailsName tokens.old.now) result tokens.new.now }
+    ensures { Reads (λ x rest. (x.number ≡ 0) × (tokens.old.now ≡ words.token (kinds.Name x.name) x.span ∷ rest)) (FailsName tokens.old.now) result tokens.new.now }
 {
     let (name, span) = name(tokens)?;
     Ok(copied(alloc, name, span)?)

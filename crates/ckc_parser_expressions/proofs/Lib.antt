@@ -5,3 +5,4 @@ pub mod Selecting
 pub mod Arguments
 pub mod BoundsForms
 pub mod TypedParts
+mod NamedForms

@@ -11,10 +11,10 @@ ghost use Rattle.ckc_printer.specs.Output.{Puts};
 ghost use Rattle.ckc_printer.specs.Spaced.{spaced, spaced_text};
 
 use crate::operands::is_compound;
+use crate::operator_texts::{binary_text, calloc_text, cast_text, malloc_text, unary_text};
 use crate::output::Output;
 use crate::quoted::{put_character, put_string};
 use crate::signs::{put, put_if, put_name, put_number};
-use crate::texts::{binary_text, calloc_text, cast_text, malloc_text, unary_text};
 use crate::types::{angled, type_with_stars};
 use ckc_tree::expr::{BoundsText, Expr};
 use ckc_tree::identifier::Identifier;

@@ -1,7 +1,7 @@
-use Rattle.ckc_parser_grammar.specs.ItemGrammar as g
 use Rattle.ckc_parser_grammar.specs.StuckItems as stuck
 use Rattle.ckc_parser_grammar.specs.StuckItems.{StuckMember}
 use Rattle.ckc_parser_cursor.proofs.Readings.{err, name_fails}
+use Rattle.ckc_parser.proofs.NamedForms.{member_named}
 use Rattle.ckc_parser.proofs.items.member.Goals as goal
 
 pub returns-in_err-read : goal.returns-in_err-read
@@ -14,10 +14,10 @@ returns-in_err-name c =
 
 pub returns-in_err-bounds : goal.returns-in_err-bounds
 returns-in_err-bounds c =
-    let typed = rw c.in_ok-name.ensures at c.in_ok-read.ensures.reads.0 in
+    let typed = rw c.in_ok-name.ensures.1 at c.in_ok-read.ensures.reads.0 in
     rw (err _ _ c.from_residual-in_err-bounds.ensures.1) (stuck.bounds typed c.in_ok-read.ensures.reads.1 c.in_err-bounds.ensures)
 
 pub returns : goal.returns
 returns c =
-    let typed = rw c.in_ok-name.ensures at c.in_ok-read.ensures.reads.0 in
-    (g.member typed (rw c.from_first-so_far.ensures at c.in_ok-bounds.ensures.0), (c.in_ok-read.ensures.reads.1, c.in_ok-bounds.ensures.1))
+    let typed = rw c.in_ok-name.ensures.1 at c.in_ok-read.ensures.reads.0 in
+    (member_named c.in_ok-name.name c.in_ok-name.ensures.0 typed (rw c.from_first-so_far.ensures at c.in_ok-bounds.ensures.0), (c.in_ok-read.ensures.reads.1, c.in_ok-bounds.ensures.1))
