@@ -29,7 +29,7 @@ fn type_of(alloc: Global, letter: u8) -> Result<CType, NoMemory> {
 
 // A member with this name and type, of one letter each, whose span is its position.
 fn member(alloc: Global, name: u8, letter: u8, at: u32) -> Result<Member, NoMemory> {
-    let name = Name::copied(alloc, &[name])?;
+    let name = Name::from_slice(alloc, &[name])?;
     let ctype = type_of(alloc, letter)?;
     let span = Span { from: at, to: at };
     Ok(Member { name, ctype, span })

@@ -4,7 +4,7 @@ ghost use Rattle.std.specs.Prelude.{◌≡◌, ◌<◌, ◌≤◌, ◌%◌};
 
 use crate::layouts::{declares_all, lays_out_all, refuses_all};
 use crate::rows::expect;
-use code_words::lists::Listed;
+use ckc_text::listed::Listed;
 use flat_bytes::words::{fits, get1, get4, put1, put4};
 use std::alloc::Global;
 use std::test::Fail;

@@ -253,7 +253,7 @@ fn add_value(line: &mut String, kind: &TokenKind) {
         TokenKind::Name(name) => add_name(line, name.as_bytes()),
         TokenKind::Number(value) => add_number(line, ":", *value),
         TokenKind::Character(b) => add_number(line, ":", u32::from(*b)),
-        TokenKind::Text(text) => add_bytes(line, text.as_bytes()),
+        TokenKind::Text(text) => add_bytes(line, text.as_slice()),
         _ => (),
     }
 }

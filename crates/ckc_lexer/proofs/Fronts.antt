@@ -3,7 +3,8 @@ use Rattle.std.proofs.Common.{◌≡◌, ℕ, suc, ◌<◌, ◌≤◌, Bool, tru
 use Rattle.std.specs.List.{prefix_len}
 use Rattle.std.proofs.lemmas.Bool.Decides.{nat_tests}
 use Rattle.std.proofs.lemmas.List.Sums.{prefix_len-le-length}
-use Rattle.ckc_lexer_tokens.specs.Bytes.{is_blank, is_word_byte, is_in_line}
+use Rattle.ckc_text.specs.Names.{is_word_byte}
+use Rattle.ckc_lexer_tokens.specs.Bytes.{is_blank, is_in_line}
 use Rattle.ckc_lexer_tokens.specs.Marks.{mark_piece, marked, long_mark, short_mark}
 use Rattle.ckc_lexer.specs.Runs.{width, pair_width, Extent, ends, goes}
 use Rattle.ckc_lexer.specs.Pieces.{front_of, slash_front, quote_front, front_len, closing_len, is_closing, quote_len, is_quote, is_include, IsDirective, IsHash, StandsAs, Stands}

@@ -1,6 +1,7 @@
 pub mod Defined
 pub mod Meanings
 pub mod Fronts
+pub mod Words
 pub mod Cuts
 pub mod Next
 pub mod Cutting

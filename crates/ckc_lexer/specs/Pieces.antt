@@ -3,7 +3,8 @@ use Rattle.std.specs.Prelude.{◌≡◌, ℕ, ◌+◌, Bool, true, false, ◌&&�
 use Rattle.std.specs.List.{list_any, prefix_len}
 use Rattle.std.specs.Str.{bytes_eq}
 use Rattle.ckc_text.specs.declared.code.Code.TheVariants.{E01, E02}
-use Rattle.ckc_lexer_tokens.specs.Bytes.{is_blank, is_word_byte, is_line_feed, is_in_line, is_control, is_forbidden, begins_with}
+use Rattle.ckc_text.specs.Names.{is_word_byte, begins_with}
+use Rattle.ckc_lexer_tokens.specs.Bytes.{is_blank, is_line_feed, is_in_line, is_control, is_forbidden}
 use Rattle.ckc_lexer_tokens.specs.Words.{word_piece}
 use Rattle.ckc_lexer_tokens.specs.Marks.{mark_piece}
 use Rattle.ckc_lexer_tokens.specs.Rules.{comment}

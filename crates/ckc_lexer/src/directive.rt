@@ -1,8 +1,9 @@
 // Directives.
 
-ghost use Rattle.std.specs.Prelude.{◌≡◌, ◌≤◌, length, IfOk};
+ghost use Rattle.std.specs.Prelude.{◌≡◌, ◌≤◌, true, length, IfOk};
 ghost use Rattle.std.specs.List.{list_all, prefix_len};
-ghost use Rattle.ckc_lexer_tokens.specs.Bytes.{is_blank, is_letter, is_word_byte, begins_with};
+ghost use Rattle.ckc_text.specs.Names.{is_letter, is_word_byte, begins_with, IsName};
+ghost use Rattle.ckc_lexer_tokens.specs.Bytes.{is_blank};
 ghost use Rattle.ckc_lexer.specs.Directives.{part, part_len, unblanked, is_keyword, numbered_definition, signed_definition, definition_of, scope_word, scope_of, pragma_of, named_directive};
 ghost use Rattle.ckc_lexer.specs.Pieces.{word_len, line_len, is_include, include_piece, directive_piece, IsHash};
 
@@ -102,6 +103,7 @@ fn numbered_definition(
     rest: &[u8],
     number: Result<u32, Code>,
 ) -> Result<Piece, NoMemory>
+    requires { IsName name.now }
     ensures { IfOk result (λ piece. piece ≡ numbered_definition name.now negative rest.now number) }
 {
     let value = match number {
@@ -111,7 +113,7 @@ fn numbered_definition(
     if is_keyword(name) || !are_blanks(rest) {
         return Ok(Piece::Fault(Code::E05));
     }
-    let name = Name::copied(alloc, name)?;
+    let name = Name::from_slice(alloc, name)?;
     Ok(Piece::Define(Definition {
         name,
         negative,
@@ -133,6 +135,7 @@ fn signed_definition(
     number: &[u8],
     rest: &[u8],
 ) -> Result<Piece, NoMemory>
+    requires { begins_with is_letter name.now ≡ true → IsName name.now }
     ensures { IfOk result (λ piece. piece ≡ signed_definition name.now negative (number.now, rest.now)) }
 {
     if begins_with_letter(name) && begins_with_digit(number) {
@@ -144,6 +147,7 @@ fn signed_definition(
 
 #[tactic(auto, unfolding(crate::specs::Directives::definition_of))]
 fn definition_of(alloc: Global, name: &[u8], rest: &[u8]) -> Result<Piece, NoMemory>
+    requires { begins_with is_letter name.now ≡ true → IsName name.now }
     ensures { IfOk result (λ piece. piece ≡ definition_of name.now (part rest.now)) }
 {
     let (sign, rest) = part(rest);

@@ -4,7 +4,8 @@ ghost use Rattle.std.specs.Prelude.{◌≡◌, ℕ, ◌<◌, length, IfOk};
 ghost use Rattle.std.specs.List.{list_any};
 ghost use Rattle.ckc_lexer_tokens.specs.Bytes.{is_line_feed};
 ghost use Rattle.ckc_lexer.specs.Runs.{Extent};
-ghost use Rattle.ckc_lexer.specs.Pieces.{comment_piece, is_closing, IsBlankByte, IsLineComment, IsBlockComment, IsWord, Stands};
+ghost use Rattle.ckc_lexer.specs.Pieces.{front_of, comment_piece, is_closing, IsBlankByte, IsLineComment, IsBlockComment, IsWord, Stands};
+ghost use Rattle.ckc_lexer.specs.declared.front.Front.TheVariants.{Word};
 ghost use Rattle.ckc_lexer.specs.declared.run.Run.TheVariants.{Comment};
 
 use crate::directive::{hash, line_len, word_len};
@@ -75,6 +76,7 @@ fn block_comment(inner: &[u8]) -> (Piece, usize)
 
 /// Letters and digits, taken to their end.
 fn word(alloc: Global, text: &[u8]) -> Result<(Piece, usize), NoMemory>
+    requires { front_of text.now ≡ Word }
     ensures { IfOk result (λ found. IsWord text.now found.0 found.1) }
 {
     let len = word_len(text);

@@ -14,7 +14,7 @@ use crate::front::{is_control, is_forbidden};
 use crate::run::{Run, extent};
 use ckc_lexer_tokens::number::digit_value;
 use ckc_lexer_tokens::piece::Piece;
-use ckc_lexer_tokens::text::Text;
+use ckc_text::listed::Listed;
 use ckc_lexer_tokens::token::TokenKind;
 use ckc_text::code::Code;
 use ckc_text::fault::NoMemory;
@@ -103,7 +103,7 @@ fn string_piece(forbidden: bool, content: Option<Vec<u8>>, closed: bool) -> Piec
     match (forbidden, content) {
         (true, _) => Piece::Forbidden,
         (false, None) => Piece::Fault(Code::E02),
-        (false, Some(bytes)) if closed => Piece::Lexeme(TokenKind::Text(Text::from_vec(bytes))),
+        (false, Some(bytes)) if closed => Piece::Lexeme(TokenKind::Text(Listed::from_vec(bytes))),
         (false, Some(_)) => Piece::Fault(Code::E03),
     }
 }

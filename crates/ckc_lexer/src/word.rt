@@ -1,8 +1,9 @@
 // Words of a source: keywords, names and numbers.
 
-ghost use Rattle.std.specs.Prelude.{◌≡◌, IfOk, map};
+ghost use Rattle.std.specs.Prelude.{◌≡◌, true, IfOk, length, map};
+ghost use Rattle.std.specs.List.{prefix_len};
 ghost use Rattle.ckc_lexer.specs.Keywords.{spelled};
-ghost use Rattle.ckc_lexer_tokens.specs.Bytes.{is_digit, begins_with};
+ghost use Rattle.ckc_text.specs.Names.{is_digit, is_word_byte, begins_with};
 ghost use Rattle.ckc_lexer_tokens.specs.Words.{keywords, listed, number_of, number_piece, word_piece};
 
 use crate::keywords::{KEYWORDS, Keyword};
@@ -50,6 +51,8 @@ pub fn begins_with_digit(text: &[u8]) -> bool
 
 /// What letters and digits are, taken to their end.
 pub fn word_piece(alloc: Global, word: &[u8]) -> Result<Piece, NoMemory>
+    requires starts { begins_with is_word_byte word.now ≡ true }
+    requires whole { prefix_len is_word_byte word.now ≡ length word.now }
     ensures { IfOk result (λ piece. piece ≡ word_piece word.now) }
 {
     if begins_with_digit(word) {
@@ -57,6 +60,6 @@ pub fn word_piece(alloc: Global, word: &[u8]) -> Result<Piece, NoMemory>
     }
     match keyword(word) {
         Some(kind) => Ok(Piece::Lexeme(kind)),
-        None => Ok(Piece::Named(Name::copied(alloc, word)?)),
+        None => Ok(Piece::Named(Name::from_slice(alloc, word)?)),
     }
 }

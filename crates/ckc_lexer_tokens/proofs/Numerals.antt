@@ -7,7 +7,7 @@ use Rattle.std.proofs.Math.Nat.{mul_comm}
 use Rattle.std.proofs.lemmas.Bool.Decides.{nat_tests}
 use Rattle.std.proofs.lemmas.Int.Digits.{digits_value_more}
 use Rattle.ckc_text.specs.declared.code.Code.TheVariants.{E04}
-use Rattle.ckc_lexer_tokens.specs.Bytes.{is_digit}
+use Rattle.ckc_text.specs.Names.{is_digit}
 use Rattle.ckc_lexer_tokens.specs.Words.{is_decimal, limited}
 
 -- digits are a numeral unless they are several and the first is 0

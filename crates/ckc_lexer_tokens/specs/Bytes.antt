@@ -1,23 +1,13 @@
 -- Classes of bytes.
-use Rattle.std.specs.Prelude.{ℕ, Bool, false, not, ◌||◌, ◌&&◌, List, [], ◌∷◌, ◌==◌, nat_le, nat_lt}
+use Rattle.std.specs.Prelude.{ℕ, Bool, not, ◌||◌, ◌&&◌, ◌==◌, nat_le, nat_lt}
+use Rattle.ckc_text.specs.Names.{is_digit}
 
 -- space, tab, carriage return and line feed stand between tokens
 abbrev pub is_blank : ℕ → Bool
 is_blank b = b == 32 || (b == 9 || (b == 13 || b == 10))
 
-abbrev pub is_digit : ℕ → Bool
-is_digit b = nat_le 48 b && nat_le b 57
-
 abbrev pub is_hexadecimal_digit : ℕ → Bool
 is_hexadecimal_digit b = is_digit b || ((nat_le 97 b && nat_le b 102) || (nat_le 65 b && nat_le b 70))
-
--- a letter or `_`
-abbrev pub is_letter : ℕ → Bool
-is_letter b = (nat_le 97 b && nat_le b 122) || ((nat_le 65 b && nat_le b 90) || b == 95)
-
--- what goes on with a word
-abbrev pub is_word_byte : ℕ → Bool
-is_word_byte b = is_letter b || is_digit b
 
 -- what ends a line
 abbrev pub is_line_feed : ℕ → Bool
@@ -33,8 +23,3 @@ is_control b = (nat_lt b 32 && not (is_blank b)) || b == 127
 -- what may stand in comments, strings and `#include` lines alone: also the bytes from 0x80 on may not stand elsewhere
 abbrev pub is_forbidden : ℕ → Bool
 is_forbidden b = is_control b || nat_le 128 b
-
--- the text has a first byte, and that is such a byte
-abbrev pub begins_with : (ℕ → Bool) → List ℕ → Bool
-begins_with p [] = false
-begins_with p (b ∷ bs) = p b

@@ -5,7 +5,8 @@ use Rattle.std.specs.Str.{bytes_eq}
 use Rattle.std.specs.Str.Parse.{digits_value}
 use Rattle.ckc_text.specs.declared.code.Code.{Code}
 use Rattle.ckc_text.specs.declared.code.Code.TheVariants.{E02, E04}
-use Rattle.ckc_lexer_tokens.specs.Bytes.{is_digit, is_hexadecimal_digit, begins_with}
+use Rattle.ckc_text.specs.Names.{is_digit, begins_with}
+use Rattle.ckc_lexer_tokens.specs.Bytes.{is_hexadecimal_digit}
 use Rattle.ckc_lexer_tokens.specs.declared.token.TokenKind.{TokenKind}
 use Rattle.ckc_lexer_tokens.specs.declared.token.TokenKind.TheVariants.{Int, Char, Void, Struct, If, Else, While, For, Return, Break, Continue}
 use Rattle.ckc_lexer_tokens.specs.declared.token.TokenKind.TheVariants.{Sizeof, Malloc, Calloc, NtCalloc, TMalloc, Ptr, ArrayPtr, NtArrayPtr, TPtr}

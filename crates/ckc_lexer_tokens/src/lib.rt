@@ -8,5 +8,4 @@ pub mod mark;
 pub mod number;
 pub mod piece;
 pub mod scope;
-pub mod text;
 pub mod token;

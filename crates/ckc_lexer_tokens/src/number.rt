@@ -4,7 +4,8 @@ ghost use Rattle.std.specs.Prelude.{◌≡◌, ◌≤◌};
 ghost use Rattle.std.specs.List.{list_all};
 ghost use Rattle.std.specs.Char.{digit_value};
 ghost use Rattle.std.specs.Str.Parse.{digits_value};
-ghost use Rattle.ckc_lexer_tokens.specs.Bytes.{is_digit, is_hexadecimal_digit};
+ghost use Rattle.ckc_text.specs.Names.{is_digit};
+ghost use Rattle.ckc_lexer_tokens.specs.Bytes.{is_hexadecimal_digit};
 ghost use Rattle.ckc_lexer_tokens.specs.Words.{is_decimal, is_hexadecimal, limited, number_of};
 
 use ckc_text::code::Code;

@@ -1,6 +1,6 @@
 // Tokens of a source.
 
-use crate::text::Text;
+use ckc_text::listed::Listed;
 use ckc_text::name::Name;
 use ckc_text::place::Span;
 
@@ -52,7 +52,7 @@ pub enum TokenKind {
     /// The byte of a character constant.
     Character(u8),
     /// The bytes of a string, without quotes and with escapes read.
-    Text(Text),
+    Text(Listed<u8>),
     /// The scope that stands from a `#pragma CHECKED_SCOPE` on.
     Scope(CheckedScope),
     OpenBrace,

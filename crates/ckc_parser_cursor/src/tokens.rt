@@ -116,7 +116,7 @@ pub fn name<'t>(tokens: &mut &'t [Token]) -> Result<(&'t Name, Span), Stuck>
 pub fn copied(alloc: Global, name: &Name, span: Span) -> Result<Identifier, NoMemory>
     ensures { IfOk result (λ copy. copy ≡ words.identifier name.now span) }
 {
-    let name = Name::copied(alloc, name.as_bytes())?;
+    let name = name.copy(alloc)?;
     Ok(Identifier {
         name,
         number: 0,

@@ -22,7 +22,7 @@ use crate::build::{
 use crate::expressions::{expression, expression_before};
 use crate::operand::{Operand, Reach};
 use crate::types::{ReadTypeName, angled, type_name};
-use ckc_lexer_tokens::text::Text;
+use ckc_text::listed::Listed;
 use ckc_lexer_tokens::token::{Token, TokenKind};
 use ckc_parser_cursor::depth::check_depth;
 use ckc_parser_cursor::memory::push;
@@ -103,10 +103,10 @@ pub fn primary(alloc: Global, depth: u32, tokens: &mut &[Token]) -> Result<Opera
 }
 
 /// The bytes of a text.
-fn text_literal(alloc: Global, text: &Text, span: Span) -> Result<Operand, Stuck>
+fn text_literal(alloc: Global, text: &Listed<u8>, span: Span) -> Result<Operand, Stuck>
     ensures { Builds (trees.Text text.now span) span result }
 {
-    let bytes = Vec::from_slice(alloc, text.as_bytes())?;
+    let bytes = Vec::from_slice(alloc, text.as_slice())?;
     leaf(alloc, Expr::Text { bytes, span }, span)
 }
 

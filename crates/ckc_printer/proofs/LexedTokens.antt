@@ -7,7 +7,7 @@ use Rattle.std.proofs.lemmas.Bool.Decides.{nat_tests}
 use Rattle.std.proofs.lemmas.Fmt.{decimal_is_IsNumeral, decimal_digit, first_decimal}
 use Rattle.std.proofs.lemmas.List.Folds.{prefix_len-append}
 use Rattle.std.proofs.lemmas.Str.Parse.{digit_from_value}
-use Rattle.ckc_lexer_tokens.specs.Bytes.{is_digit, is_letter, is_word_byte, begins_with}
+use Rattle.ckc_text.specs.Names.{is_digit, is_letter, is_word_byte, begins_with}
 use Rattle.ckc_lexer_tokens.specs.Words.{is_decimal, limited, word_piece}
 use Rattle.ckc_lexer.specs.Pieces.{StandsAs, Stands, front_of}
 use Rattle.ckc_lexer.specs.declared.front.Front.{Front}
@@ -18,7 +18,8 @@ use Rattle.ckc_lexer_tokens.specs.declared.token.TokenKind.{TokenKind}
 use Rattle.ckc_lexer_tokens.specs.declared.token.TokenKind.TheVariants as kinds
 use Rattle.ckc_lexer_tokens.proofs.Numerals.{is_decimal_digits}
 use Rattle.ckc_printer.specs.Pieces.{kind_text}
-use Rattle.ckc_printer.specs.ReadingBack.{IsName}
+use Rattle.ckc_lexer.proofs.Words.{IsWordText}
+use Rattle.ckc_printer.specs.ReadingBack.{IsFreeName}
 
 -- a line feed or a space
 abbrev pub gap_byte : Bool → ℕ
@@ -53,11 +54,6 @@ fixed_stands false k f = (fixed_before k f).1
 
 -- ---- names and numbers
 
--- letters and digits alone
-record IsWordText (w : List ℕ) : Type 0 where
-  starts : begins_with is_word_byte w ≡ true
-  whole : prefix_len is_word_byte w ≡ length w
-
 word_front : (b : ℕ) (bs : List ℕ) → is_word_byte b ≡ true → front_of (b ∷ bs) ≡ Word
 word_front b bs h = grind (arith, nat_tests)
 
@@ -80,12 +76,12 @@ letter_starts : (name : List ℕ) → begins_with is_letter name ≡ true → be
 letter_starts [] h = h
 letter_starts (b ∷ bs) h = grind (arith, nat_tests)
 
-name_is : {name : List ℕ} → IsName name → word_piece name ≡ Named name
-name_is {name} h = let d = no_digit name h.starts in let f = h.free in rw (d, f) refl
+name_is : {name : List ℕ} → IsFreeName name → word_piece name ≡ Named name
+name_is {name} h = let d = no_digit name h.word.starts in let f = h.free in rw (d, f) refl
 
-pub name_stands : (ends : Bool) {name : List ℕ} → IsName name → StandsBefore ends (kinds.Name name) (Named name)
-name_stands true {name} h first rest = subst (λ p. Stands first (name ++ 10 ∷ rest) p (length name)) (name_is h) (word_stands first name (10 ∷ rest) (record { starts = letter_starts name h.starts; whole = h.whole }) refl)
-name_stands false {name} h first rest = subst (λ p. Stands first (name ++ 32 ∷ rest) p (length name)) (name_is h) (word_stands first name (32 ∷ rest) (record { starts = letter_starts name h.starts; whole = h.whole }) refl)
+pub name_stands : (ends : Bool) {name : List ℕ} → IsFreeName name → StandsBefore ends (kinds.Name name) (Named name)
+name_stands true {name} h first rest = subst (λ p. Stands first (name ++ 10 ∷ rest) p (length name)) (name_is h) (word_stands first name (10 ∷ rest) (record { starts = letter_starts name h.word.starts; whole = h.word.whole }) refl)
+name_stands false {name} h first rest = subst (λ p. Stands first (name ++ 32 ∷ rest) p (length name)) (name_is h) (word_stands first name (32 ∷ rest) (record { starts = letter_starts name h.word.starts; whole = h.word.whole }) refl)
 
 digits_pass : (ds : List ℕ) → AllDigits 10 ds → list_all is_digit ds ≡ true
 digits_pass [] h = refl

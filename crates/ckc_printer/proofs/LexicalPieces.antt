@@ -6,7 +6,8 @@ use Rattle.std.specs.Str.Parse.{digits_value}
 use Rattle.std.proofs.lemmas.Bool.Decides.{nat_tests}
 use Rattle.ckc_text.specs.declared.code.Code.{Code}
 use Rattle.ckc_text.specs.declared.code.Code.TheVariants.{E01, E02, E04, E05}
-use Rattle.ckc_lexer_tokens.specs.Bytes.{is_blank, is_digit, is_letter, is_word_byte, is_line_feed, is_in_line, is_control, is_forbidden, is_hexadecimal_digit, begins_with}
+use Rattle.ckc_text.specs.Names.{is_digit, is_letter, is_word_byte, begins_with, IsName}
+use Rattle.ckc_lexer_tokens.specs.Bytes.{is_blank, is_line_feed, is_in_line, is_control, is_forbidden, is_hexadecimal_digit}
 use Rattle.ckc_lexer_tokens.specs.Words.{keywords, listed, is_decimal, is_hexadecimal, limited, number_of, number_piece, name_piece, word_piece}
 use Rattle.ckc_lexer_tokens.specs.Marks.{long_marks, short_marks, long_mark, short_mark, marked, mark_piece}
 use Rattle.ckc_lexer.specs.Quoted.{Means, nothing, byte, IsContent, quoted_byte, escape, simple_escape, hexadecimal_escape, string_piece, character_piece}
@@ -19,13 +20,13 @@ use Rattle.ckc_lexer_tokens.specs.declared.piece.Piece.{Piece}
 use Rattle.ckc_lexer_tokens.specs.declared.piece.Piece.TheVariants.{Lexeme, Named, Include, Define, CommentFault, Forbidden, Fault}
 use Rattle.ckc_lexer_tokens.specs.declared.piece.ScopeWord.{ScopeWord}
 use Rattle.ckc_lexer_tokens.specs.declared.token.TokenKind.{TokenKind}
-use Rattle.ckc_lexer.proofs.Fronts.{word_first}
-use Rattle.ckc_printer.specs.ReadingBack.{IsName, IsLexical, AreBytes}
+use Rattle.ckc_lexer.proofs.Words.{IsWordText, word_text, name_of_word}
+use Rattle.ckc_printer.specs.ReadingBack.{IsFreeName, IsLexical, AreBytes}
 
 -- its token can be spelled, its name is one, and the number of its definition is in range
 abbrev pub IsLexicalPiece : Piece → Type 0
 IsLexicalPiece (Lexeme k) = IsLexical k
-IsLexicalPiece (Named name) = IsName name
+IsLexicalPiece (Named name) = IsFreeName name
 IsLexicalPiece (Define d) = d.value ≤ 2147483647
 IsLexicalPiece piece = Unit {0}
 
@@ -60,40 +61,18 @@ number_lexical : (r : Result ℕ Code) → IfOk r (λ n. n ≤ 2147483647) → I
 number_lexical (Ok n) h = h
 number_lexical (Err code) h = tt
 
--- the first byte of a word is a letter or a digit
-starts_name : (text : List ℕ) → begins_with is_word_byte text ≡ true → begins_with is_digit text ≡ false → begins_with is_letter text ≡ true
-starts_name [] h e = h
-starts_name (b ∷ bs) h e = grind (arith, nat_tests)
-
-name_lexical : (text : List ℕ) (found : Option TokenKind) → begins_with is_letter text ≡ true → prefix_len is_word_byte text ≡ length text → listed text keywords ≡ found → IfSome found IsLexical
+name_lexical : (text : List ℕ) (found : Option TokenKind) → IsName text → listed text keywords ≡ found → IfSome found IsLexical
     → IsLexicalPiece (name_piece text found)
-name_lexical text None starts whole free h = record { starts = starts; whole = whole; free = free }
-name_lexical text (Some k) starts whole is h = h
+name_lexical text None word free h = record { word = word; free = free }
+name_lexical text (Some k) word is h = h
 
-word_lexical : (text : List ℕ) → begins_with is_word_byte text ≡ true → prefix_len is_word_byte text ≡ length text → IsLexicalPiece (word_piece text)
-word_lexical text starts whole =
+word_lexical : (text : List ℕ) → IsWordText text → IsLexicalPiece (word_piece text)
+word_lexical text word =
     decided IsLexicalPiece (begins_with is_digit text) (number_piece (number_of text)) (name_piece text (listed text keywords)) (λ e. number_lexical (number_of text) (number_small text))
-    (λ e. name_lexical text (listed text keywords) (starts_name text starts e) whole refl (listed_lexical text keywords (search rules)))
-
--- what is taken as long as it passes passes whole
-passed_step : {A : Type 0} (p : A → Bool) (x : A) (xs : List A) (n : ℕ) (c : Bool) → p x ≡ c → prefix_len p (take n xs) ≡ length (take n xs) → prefix_len p (take (cond c (1 + n) 0) (x ∷ xs)) ≡ length (take (cond c (1 + n) 0) (x ∷ xs))
-passed_step p x xs n false e h = refl
-passed_step p x xs n true e h =
-    let next : suc n ≡ 1 + n = omega arith in
-    subst (λ k. prefix_len p (take k (x ∷ xs)) ≡ length (take k (x ∷ xs))) next (rw e (omega arith))
-
-all_passed : {A : Type 0} (p : A → Bool) (xs : List A) → prefix_len p (take (prefix_len p xs) xs) ≡ length (take (prefix_len p xs) xs)
-all_passed p [] = refl
-all_passed p (x ∷ xs) = passed_step p x xs (prefix_len p xs) (p x) refl (all_passed p xs)
-
-begins_taken : (b : ℕ) (bs : List ℕ) → is_word_byte b ≡ true → begins_with is_word_byte (take (prefix_len is_word_byte (b ∷ bs)) (b ∷ bs)) ≡ true
-begins_taken b bs h =
-    let next : suc (prefix_len is_word_byte bs) ≡ prefix_len is_word_byte (b ∷ bs) = rw h (omega arith) in
-    subst (λ k. begins_with is_word_byte (take k (b ∷ bs)) ≡ true) next h
+    (λ e. name_lexical text (listed text keywords) (name_of_word text word e) refl (listed_lexical text keywords (search rules)))
 
 word_taken : (text : List ℕ) → front_of text ≡ Word → IsLexicalPiece (word_piece (take (prefix_len is_word_byte text) text))
-word_taken [] e = cc
-word_taken (b ∷ bs) e = word_lexical (take (prefix_len is_word_byte (b ∷ bs)) (b ∷ bs)) (begins_taken b bs (word_first b bs e)) (all_passed is_word_byte (b ∷ bs))
+word_taken text e = word_lexical (take (prefix_len is_word_byte text) text) (word_text text e)
 
 long_lexical : (text : List ℕ) → IfSome (long_mark text) IsLexical
 long_lexical [] = tt

@@ -17,7 +17,7 @@ use Rattle.ckc_lexer_tokens.specs.declared.token.TokenKind.{TokenKind}
 use Rattle.ckc_lexer_tokens.specs.declared.token.TokenKind.TheVariants as kinds
 use Rattle.ckc_lexer_tokens.specs.Rules.{is_same_number}
 use Rattle.ckc_lexer.specs.Tokens.{State, Step, Cut, ends, stops, goes, cut, token_at, fault_at, go_on, push, push_after, definition_for, name_tokens, behind_mark, define, scope_from, pop_scope, change_scope, is_first, next}
-use Rattle.ckc_printer.specs.ReadingBack.{IsName, IsLexical, AreBytes, TokensAreLexical}
+use Rattle.ckc_printer.specs.ReadingBack.{IsFreeName, IsLexical, AreBytes, TokensAreLexical}
 use Rattle.ckc_printer.proofs.Printable.{Lexical}
 use Rattle.ckc_printer.proofs.LexicalPieces.{IsLexicalPiece, either, dropped, piece_lexical}
 
@@ -55,7 +55,7 @@ found_in_range test [] h = tt
 found_in_range test (d ∷ ds) h =
     either (λ (o : Option Definition). IfSome (option_map (λ (d : Definition). (d.negative, d.value)) o) (λ (x : Bool × ℕ). x.1 ≤ 2147483647)) (test d) (Some d) (find test ds) h.0 (found_in_range test ds h.1)
 
-name_leads : {s : State} (name : List ℕ) (found : Option (Bool × ℕ)) (n : ℕ) → IsName name → IfSome found (λ (x : Bool × ℕ). x.1 ≤ 2147483647) → IsLexicalState s → Leads (name_tokens name found s n)
+name_leads : {s : State} (name : List ℕ) (found : Option (Bool × ℕ)) (n : ℕ) → IsFreeName name → IfSome found (λ (x : Bool × ℕ). x.1 ≤ 2147483647) → IsLexicalState s → Leads (name_tokens name found s n)
 name_leads name None n h small l = push_leads (kinds.Name name) n h l
 name_leads name (Some (false, value)) n h small l = push_leads (kinds.Number value) n small l
 name_leads {s} name (Some (true, value)) n h small l = push_after_leads (push s kinds.Minus n) (kinds.Number value) n small (push_leads kinds.Minus n tt l)

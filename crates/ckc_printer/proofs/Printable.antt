@@ -30,7 +30,7 @@ use Rattle.ckc_parser_grammar.specs.ExpressionGrammar.{SpellsBinary, SpellsTail,
 use Rattle.ckc_printer.specs.Pieces.{Sign, One, around}
 use Rattle.ckc_printer.specs.TypePieces.{word_kind, stars_pieces, type_pieces, type_name_pieces, angled_pieces}
 use Rattle.ckc_printer.specs.ExpressionPieces.{unary_kind, binary_sign, cast_kind, malloc_kind, calloc_kind, is_compound, is_binary, expression_pieces, arguments_pieces, more_pieces, bounds_pieces, operand_pieces, target_pieces}
-use Rattle.ckc_printer.specs.ReadingBack.{IsName, IsLexical, CanSign}
+use Rattle.ckc_printer.specs.ReadingBack.{IsFreeName, IsLexical, CanSign}
 
 -- these tokens can be spelled
 abbrev pub Lexical : List Token → Type 0
@@ -239,12 +239,12 @@ mutual
   pub bounds_can : {ts rest : List Token} {b : Bounds} {o : Span} → SpellsBounds ts b o rest → Lexical ts → Can (bounds_pieces b) rest
   bounds_can (g.count is d) h =
       let x = expression_can d h.1.1 in
-      (first (subst (λ (x : List ℕ). IsName x) is h.0) (first tt (joined x.0 (first tt nothing))), x.1.1)
+      (first (subst (λ (x : List ℕ). IsFreeName x) is h.0) (first tt (joined x.0 (first tt nothing))), x.1.1)
   bounds_can (g.byte_count is d) h =
       let x = expression_can d h.1.1 in
-      (first (subst (λ (x : List ℕ). IsName x) is h.0) (first tt (joined x.0 (first tt nothing))), x.1.1)
-  bounds_can (g.unknown is word_is) h = (first (subst (λ (x : List ℕ). IsName x) is h.0) (first tt (first (subst (λ (x : List ℕ). IsName x) word_is h.1.1.0) (first tt nothing))), h.1.1.1.1)
+      (first (subst (λ (x : List ℕ). IsFreeName x) is h.0) (first tt (joined x.0 (first tt nothing))), x.1.1)
+  bounds_can (g.unknown is word_is) h = (first (subst (λ (x : List ℕ). IsFreeName x) is h.0) (first tt (first (subst (λ (x : List ℕ). IsFreeName x) word_is h.1.1.0) (first tt nothing))), h.1.1.1.1)
   bounds_can (g.range is d e) h =
       let x = expression_can d h.1.1 in
       let y = expression_can e x.1.1 in
-      (first (subst (λ (x : List ℕ). IsName x) is h.0) (first tt (joined x.0 (first tt (joined y.0 (first tt nothing))))), y.1.1)
+      (first (subst (λ (x : List ℕ). IsFreeName x) is h.0) (first tt (joined x.0 (first tt (joined y.0 (first tt nothing))))), y.1.1)

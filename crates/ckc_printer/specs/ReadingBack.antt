@@ -1,11 +1,11 @@
 -- What printed text reads to.
-use Rattle.std.specs.Prelude.{◌≡◌, ◌≤◌, ◌<◌, ◌+◌, ℕ, true, List, [], ◌∷◌, length, map, None}
-use Rattle.std.specs.List.{prefix_len, AllByRecursion}
+use Rattle.std.specs.Prelude.{◌≡◌, ◌≤◌, ◌<◌, ◌+◌, ℕ, List, [], ◌∷◌, length, map, None}
+use Rattle.std.specs.List.{AllByRecursion}
 use Rattle.ckc_text.specs.declared.place.Span.{Span}
 use Rattle.ckc_lexer_tokens.specs.declared.token.Token.{Token}
 use Rattle.ckc_lexer_tokens.specs.declared.token.TokenKind.{TokenKind}
 use Rattle.ckc_lexer_tokens.specs.declared.token.TokenKind.TheVariants as kinds
-use Rattle.ckc_lexer_tokens.specs.Bytes.{is_letter, is_word_byte, begins_with}
+use Rattle.ckc_text.specs.Names.{IsName}
 use Rattle.ckc_lexer_tokens.specs.Words.{listed, keywords}
 use Rattle.ckc_lexer.specs.Tokens.{AreTokens}
 use Rattle.ckc_tree.specs.Items.{Tree}
@@ -43,10 +43,9 @@ signed_tokens (RightShift ∷ signs) = 2 + signed_tokens signs
 
 -- ---- what a token can be
 
--- letters and digits, of which the first is no digit, and no keyword
-pub record IsName (name : List ℕ) : Type 0 where
-  pub starts : begins_with is_letter name ≡ true
-  pub whole : prefix_len is_word_byte name ≡ length name
+-- a name that is no keyword
+pub record IsFreeName (name : List ℕ) : Type 0 where
+  pub word : IsName name
   pub free : listed name keywords ≡ None
 
 -- each of a list is a byte
@@ -55,7 +54,7 @@ AreBytes list = AllByRecursion (λ b. b < 256) list
 
 -- a token of this kind can be spelled: a name is one, and a number and bytes are in their range
 abbrev pub IsLexical : TokenKind → Type 0
-IsLexical (kinds.Name x) = IsName x
+IsLexical (kinds.Name x) = IsFreeName x
 IsLexical (kinds.Number n) = n ≤ 2147483647
 IsLexical (kinds.Character b) = b < 256
 IsLexical (kinds.Text bytes) = AreBytes bytes

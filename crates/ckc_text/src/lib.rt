@@ -4,5 +4,6 @@
 pub mod code;
 pub mod fault;
 pub mod line_index;
+pub mod listed;
 pub mod name;
 pub mod place;

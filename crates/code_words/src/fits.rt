@@ -6,7 +6,7 @@ ghost use Rattle.flat_bytes.specs.Blocks.{first_offset, grown};
 ghost use Rattle.code_words.specs.Fitting.{BlocksFit, Fits, HasMain};
 
 use crate::image::Image;
-use crate::lists::Listed;
+use ckc_text::listed::Listed;
 use act_words::settings::Settings;
 
 // The offset of the first block of a memory.

@@ -3,7 +3,7 @@
 ghost use Rattle.std.specs.Prelude.{◌≡◌};
 ghost use Rattle.code_words.specs.Formats.{KeepsFormat};
 
-use crate::lists::Listed;
+use ckc_text::listed::Listed;
 use crate::op::Op;
 use ckc_text::name::Name;
 use ckc_text::place::Place;

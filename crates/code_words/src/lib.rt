@@ -5,5 +5,4 @@ pub mod examples;
 mod fits;
 pub mod image;
 pub mod laws;
-pub mod lists;
 pub mod op;

@@ -11,11 +11,10 @@ use crate::statement_code::emit_statements;
 use ckc_core::program;
 use ckc_core::program::{Core, Function, Object};
 use ckc_text::fault::NoMemory;
-use ckc_text::name::Name;
 use code_words::image::{
     Blocks, Func, Funs, Image, Import, Imports, Layout, Ops, SideCode, WordKind,
 };
-use code_words::lists::Listed;
+use ckc_text::listed::Listed;
 use code_words::op::Op;
 use lowering_code::code_sizes::statements_size;
 use lowering_code::instructions::{put, put_two};
@@ -105,7 +104,7 @@ fn emit_function(alloc: Global, number: u32, f: &Function) -> Result<Func, NoMem
     requires { IsFunction (function f.now) }
     ensures { IfOk result (λ func. func ≡ function_code number (function f.now)) }
 {
-    let name = Name::copied(alloc, f.name.as_bytes())?;
+    let name = f.name.copy(alloc)?;
     let ops = function_ops(alloc, f)?;
     Ok(Func {
         number,
@@ -137,7 +136,7 @@ fn tainted_import(alloc: Global, number: u32, f: &program::Import) -> Result<Imp
 {
     Ok(Import {
         number,
-        name: Name::copied(alloc, f.name.as_bytes())?,
+        name: f.name.copy(alloc)?,
         args: f.parameters,
         result: result_kind(&f.result),
     })

@@ -14,7 +14,6 @@ use crate::signatures::copied_signature;
 use crate::walk::{Defined, Walk};
 use ckc_core::program::{Core, Function, Import};
 use ckc_text::fault::NoMemory;
-use ckc_text::name::Name;
 use region_typing_scope::refusals::CheckError;
 use region_typing_scope::scope::Scope;
 use region_typing_scope::sides::is_import;
@@ -63,7 +62,7 @@ fn import(alloc: Global, f: &Signature) -> Result<Import, NoMemory>
     ensures { IfOk result (λ i. import_of i ≡ import_as (signature f.now)) }
 {
     Ok(Import {
-        name: Name::copied(alloc, f.text.as_bytes())?,
+        name: f.text.copy(alloc)?,
         parameters: f.parameters.len() as u32,
         result: copied_result(alloc, &f.result)?,
     })

@@ -13,7 +13,6 @@ ghost use Rattle.region_typing.specs.Signatures.{declared as declared_view, decl
 use crate::functions::{copied_result, parameter_types, result_type};
 use crate::prototype::Prototype;
 use ckc_text::fault::NoMemory;
-use ckc_text::name::Name;
 use ckc_tree::item::{Function, FunctionKind};
 use pointer_modes::ctype::CType;
 use region_typing_scope::refusals::CheckError;
@@ -126,7 +125,7 @@ pub fn declared(alloc: Global, scope: &Scope, d: &Function) -> Result<Prototype,
     let parameters = parameter_types(alloc, scope, &d.parameters)?;
     let signature = Signature {
         name: d.name.number,
-        text: Name::copied(alloc, d.name.name.as_bytes())?,
+        text: d.name.name.copy(alloc)?,
         kind: d.kind,
         parameters: types_of(alloc, parameters.as_slice())?,
         result,
@@ -143,7 +142,7 @@ pub fn copied_signature(alloc: Global, f: &Signature) -> Result<Signature, NoMem
 {
     Ok(Signature {
         name: f.name,
-        text: Name::copied(alloc, f.text.as_bytes())?,
+        text: f.text.copy(alloc)?,
         kind: f.kind,
         parameters: copied_types(alloc, f.parameters.as_slice())?,
         result: copied_result(alloc, &f.result)?,

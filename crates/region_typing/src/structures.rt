@@ -12,7 +12,6 @@ ghost use Rattle.region_typing.specs.Items.{walk as walk_of, one_member};
 use crate::walk::Walk;
 use ckc_text::code::Code;
 use ckc_text::fault::NoMemory;
-use ckc_text::name::Name;
 use ckc_tree::item;
 use ckc_tree::item::Structure;
 use pointer_modes::ctype::{CType, Member};
@@ -46,7 +45,7 @@ fn push_member(
         written.type_name.base.span(),
     )?;
     members.reserve(1)?;
-    let name = Name::copied(alloc, written.name.name.as_bytes())?;
+    let name = written.name.name.copy(alloc)?;
     let ctype = type_named(alloc, scope, &written.type_name)?;
     members.push_reserved(Member {
         name,

@@ -6,7 +6,7 @@ ghost use Rattle.code_words.specs.Runs.{memory_of, counter_behind};
 ghost use Rattle.two_memory_machine_memory.specs.Places.{offsets_from, block_row};
 
 use ckc_text::fault::NoMemory;
-use code_words::lists::Listed;
+use ckc_text::listed::Listed;
 use std::alloc::Global;
 use two_memory_machine_arithmetic::blocks::BlockRow;
 

@@ -1,6 +1,6 @@
 use Rattle.std.proofs.Common.{◌≡◌, drop}
 use Rattle.std.specs.List.{list_all}
-use Rattle.ckc_lexer_tokens.specs.Bytes.{is_digit}
+use Rattle.ckc_text.specs.Names.{is_digit}
 use Rattle.ckc_lexer_tokens.proofs.number.are_digits.Given as goal
 
 -- the bytes that are left decide it
