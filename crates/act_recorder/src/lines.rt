@@ -4,7 +4,7 @@ ghost use Rattle.std.specs.Prelude.{◌≡◌, ◌++◌, codes, decimal, IfOk};
 ghost use Rattle.hex.specs.Hex.{encode_lower};
 ghost use Rattle.act_words.specs.Acts.{seen_view, release_view};
 ghost use Rattle.act_words.specs.Lines.{listed};
-ghost use Rattle.act_recorder.specs.Lines.{seen_text, release_text};
+ghost use Rattle.act_recorder.specs.Lines.{seen_text, release_text, output_line, block_text};
 
 use act_words::act::{Release, Seen};
 use act_words::writing::numbers_text;
@@ -60,4 +60,21 @@ fn reply_line(alloc: Global, kind: &str, value: u32) -> Result<Vec<u8>, NoMemory
         ++ decimal value ++ codes "}\n") }
 {
     Ok(format!(in alloc; "{{{kind},\"value\":{value}}}\n")?.into_bytes())
+}
+
+/// The line of what a program wrote.
+pub fn output_line(alloc: Global, bytes: &[u8]) -> Result<Vec<u8>, NoMemory>
+    ensures { IfOk result (λ line. line.items ≡ output_line bytes.now) }
+{
+    let hex = hex::encode(alloc, bytes)?;
+    Ok(format!(in alloc; "{{\"out\":\"{hex}\"}}\n")?.into_bytes())
+}
+
+/// The line of a block of trusted memory: its address, the number of its bytes, and these.
+pub fn block_line(alloc: Global, address: u32, bytes: &[u8]) -> Result<Vec<u8>, NoMemory>
+    ensures { IfOk result (λ line. line.items ≡ block_text (record { address = address; bytes = bytes.now })) }
+{
+    let count = bytes.len();
+    let hex = hex::encode(alloc, bytes)?;
+    Ok(format!(in alloc; "[block {address} {count} {hex}]\n")?.into_bytes())
 }

@@ -15,8 +15,8 @@ use Rattle.ckc_core.specs.States.{State}
 use Rattle.sandbox_actor.specs.ActLists.{ActList, RefusedLine}
 use Rattle.run_core.specs.Runs.{Counts}
 use Rattle.ccbox_call_words.specs.Requests.{Request, Run, Options, settings_of, inputs_of, request_of}
-use Rattle.run_core_transcript.specs.Diagnostics.{usage_text, missing_text}
-use Rattle.ccbox_call_status.specs.Given.{TextGiven, all, failed, LineGiven, given, unmade}
+use Rattle.act_recorder.specs.Diagnostics.{usage_text, missing_text}
+use Rattle.ccbox_call_words.specs.Given.{TextGiven, all, failed, LineGiven, given, unmade}
 use Rattle.ccbox_call.specs.Acceptance.{Accepts, IsRefused}
 use Rattle.ccbox_call.specs.Answers.{RunsTo, needed_line, text_of, status_with, ListAnswer, ran, CoreAnswer, acts_missing, acts, SourceAnswer, refused, accepted, FileAnswer, missing, source, Answer, IsFailure, WritesFront, GivesFront, GivesWhole, Exactly, AsksToRun, AsksFor, SourceIsRefused, RunEndsWith, RunExits, CheckFails, RunStops, LineIsRefused, FileIsMissing, PrintsRun, PrintedRun, IsComplete, IsQuiet, IsUntouched}
 use Rattle.ccbox_call.specs.Answers as answers

@@ -26,9 +26,9 @@ use Rattle.lowering_code.specs.Correct.{KeepsMeaning}
 use Rattle.run_core_transcript.specs.declared.fault.RunFault.{RunFault}
 use Rattle.run_core_transcript.specs.declared.fault.RunFault.TheVariants as faults
 use Rattle.run_core.specs.Runs.{Outcome, Ends, LineRefused, FileMissing, Comes, WritesAll, WritesFront, RunWrites, Counts, RunCounts}
-use Rattle.run_core_transcript.specs.Diagnostics.{refused_text, act_refused_text}
-use Rattle.ccbox_call_status.specs.Statuses.{status_of}
-use Rattle.ccbox_call_status.specs.Given.{all, failed, LineGiven, given, unmade, OutcomeGiven}
+use Rattle.act_recorder.specs.Diagnostics.{refused_text, act_refused_text}
+use Rattle.ccbox_call_words.specs.Statuses.{status_of}
+use Rattle.ccbox_call_words.specs.Given.{all, failed, LineGiven, given, unmade, OutcomeGiven}
 use Rattle.ccbox_call_words.specs.Requests.{Options, settings_of, inputs_of}
 use Rattle.ccbox_call.specs.Acceptance.{IsAcceptedCore, no_tokens}
 use Rattle.ccbox_call.specs.Answers.{acts_at, ListAnswer, CoreAnswer, acts, SourceAnswer, refused, accepted}

@@ -28,8 +28,8 @@ use Rattle.run_core_transcript.specs.Texts.{run_text, front_text}
 use Rattle.run_core.specs.Moments.{due_from, due_in, before_due, IsDue}
 use Rattle.run_core.specs.Chains.{Chain, none, more}
 use Rattle.run_core.specs.Runs.{Outcome, Ends, LineRefused, EndsBefore, Comes, ended, ran_out, refused, missing}
-use Rattle.run_core_transcript.specs.Diagnostics.{act_refused_text}
-use Rattle.ccbox_call_status.specs.Statuses.{status_of}
+use Rattle.act_recorder.specs.Diagnostics.{act_refused_text}
+use Rattle.ccbox_call_words.specs.Statuses.{status_of}
 use Rattle.ccbox_call.specs.Acceptance.{IsAcceptedCore}
 use Rattle.ccbox_call.specs.Answers.{RunsTo, needed_from, needed_line, text_with, status_with, ListAnswer, ran}
 use Rattle.ccbox_call.proofs.Runs.{ends}

@@ -10,7 +10,7 @@ use Rattle.ckc_core.specs.Core.{Core}
 use Rattle.ckc_core.specs.States.{State}
 use Rattle.sandbox_actor.specs.ActLists.{ActList, acts_of_file}
 use Rattle.ccbox_call_words.specs.Requests.{Run, Options, settings_of, inputs_of, request_of}
-use Rattle.run_core_transcript.specs.Diagnostics.{missing_text, refused_text}
+use Rattle.act_recorder.specs.Diagnostics.{missing_text, refused_text}
 use Rattle.ccbox_call.specs.Answers.{acts_at, RunsTo, needed_line, text_of, status_with, ListAnswer, ran, CoreAnswer, acts_missing, acts, SourceAnswer, refused, accepted, FileAnswer, missing, source, Answer, usage, asked}
 use Rattle.ccbox_call.proofs.Fronts.{one_core, core_or_fault, one_refusal}
 

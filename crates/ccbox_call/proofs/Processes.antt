@@ -4,8 +4,8 @@ use Rattle.std.specs.String.{string_bytes}
 use Rattle.ckc_io.specs.Files.{Files}
 use Rattle.run_core.specs.Runs.{Counts}
 use Rattle.ccbox_call_words.specs.Requests.{Run, request_of}
-use Rattle.run_core_transcript.specs.Diagnostics.{usage_text}
-use Rattle.ccbox_call_status.specs.Given.{all, failed, LineGiven, given, unmade}
+use Rattle.act_recorder.specs.Diagnostics.{usage_text}
+use Rattle.ccbox_call_words.specs.Given.{all, failed, LineGiven, given, unmade}
 use Rattle.ccbox_call.specs.Answers.{IsFailure, IsStatus, Exactly, Tells}
 use Rattle.ccbox_call.specs.Calls.{IsFoundStatus, StatusCounts, Gives, answered, output_failed, files_failed, no_memory, no_memory_behind, CallEnds, usage, asked}
 use Rattle.ccbox_call.specs.Process.{Answers, IsUnmade, ProcessEnds}

@@ -25,8 +25,8 @@ use Rattle.run_core_transcript.specs.Texts.{run_text, front_text}
 use Rattle.run_core.specs.Moments.{due_in, before_due}
 use Rattle.lowering_code.specs.Correct.{blocks_meant}
 use Rattle.ccbox_call_words.specs.Requests.{Request, Run, Options, settings_of, inputs_of, request_of}
-use Rattle.run_core_transcript.specs.Diagnostics.{usage_text, missing_text, refused_text, act_refused_text}
-use Rattle.ccbox_call_status.specs.Statuses.{status_of}
+use Rattle.act_recorder.specs.Diagnostics.{usage_text, missing_text, refused_text, act_refused_text}
+use Rattle.ccbox_call_words.specs.Statuses.{status_of}
 use Rattle.ccbox_call.specs.Acceptance.{Accepts, IsRefused}
 
 -- ---- runs

@@ -7,8 +7,8 @@ use Rattle.ckc_io.specs.Files.{Files, Told}
 use Rattle.ckc_io.specs.Written.{grown}
 use Rattle.run_core.specs.Runs.{Counts}
 use Rattle.ccbox_call_words.specs.Requests.{Request, Options, settings_of, inputs_of, request_of}
-use Rattle.run_core_transcript.specs.Diagnostics.{usage_text}
-use Rattle.ccbox_call_status.specs.Given.{LineGiven}
+use Rattle.act_recorder.specs.Diagnostics.{usage_text}
+use Rattle.ccbox_call_words.specs.Given.{LineGiven}
 use Rattle.ccbox_call.specs.Answers.{RequestAnswer}
 
 -- the options may be run with: their settings are allowed, and their input numbers have 32 bits

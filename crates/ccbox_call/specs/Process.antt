@@ -10,8 +10,8 @@ use Rattle.std.specs.declared.io.ErrorKind.{ErrorKind}
 use Rattle.std.specs.declared.io.ErrorKind.TheVariants.{OutOfMemory}
 use Rattle.ckc_io.specs.Files.{Files, Told}
 use Rattle.run_core.specs.Runs.{Counts}
-use Rattle.run_core_transcript.specs.Diagnostics.{usage_text}
-use Rattle.ccbox_call_status.specs.Given.{LineGiven}
+use Rattle.act_recorder.specs.Diagnostics.{usage_text}
+use Rattle.ccbox_call_words.specs.Given.{LineGiven}
 use Rattle.ccbox_call_words.specs.Requests.{request_of}
 use Rattle.ccbox_call.specs.Calls.{CallEnds}
 use Rattle.ccbox_call.specs.Answers.{GivesFront, GivesWhole, IsFailure, IsStatus, Exactly, Tells, SourceIsRefused, FileIsMissing, RunExits}

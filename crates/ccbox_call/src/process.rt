@@ -5,11 +5,11 @@ ghost use Rattle.std.specs.Process.{exit_status};
 ghost use Rattle.std.specs.String.{string_bytes};
 ghost use Rattle.std.specs.Vec.Iter.{into_iter_items};
 ghost use Rattle.ccbox_call.specs.Calls.{CallEnds};
-ghost use Rattle.ccbox_call_status.specs.Statuses.{number_of};
+ghost use Rattle.ccbox_call_words.specs.Statuses.{number_of};
 ghost use Rattle.ccbox_call.specs.Process.{Answers, IsUnmade, ProcessEnds, words_given};
 
 use crate::call::status_of_call;
-use ccbox_call_status::status::Status;
+use ccbox_call_words::status::Status;
 use ckc_io::shelf::Shelf;
 use ckc_io::sink::Sink;
 use std::alloc::{AllocError, Global};

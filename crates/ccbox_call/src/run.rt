@@ -10,14 +10,14 @@ ghost use Rattle.ckc_io.specs.Files.{Told};
 ghost use Rattle.ckc_core.specs.Core.{core};
 ghost use Rattle.ccbox_call.specs.Acceptance.{IsAcceptedCore, IsRefused};
 ghost use Rattle.ccbox_call.specs.Answers.{ListAnswer, CoreAnswer, SourceAnswer, FileAnswer};
-ghost use Rattle.ccbox_call_status.specs.Statuses.{number_of};
+ghost use Rattle.ccbox_call_words.specs.Statuses.{number_of};
 ghost use Rattle.ccbox_call_words.specs.Requested.{options as options_view};
 ghost use Rattle.ccbox_call.specs.Calls.{MayRun, Gives};
 
 use crate::front::front;
 use act_words::settings::Settings;
-use ccbox_call_status::output::{give_missing, give_outcome, give_refused};
-use ccbox_call_status::status::Status;
+use ccbox_call_words::output::{give_missing, give_outcome, give_refused};
+use ccbox_call_words::status::Status;
 use ccbox_call_words::request::Options;
 use ckc_core::program::Core;
 use ckc_io::shelf::Shelf;

@@ -1,7 +1,9 @@
-// The words of the command line.
+// The words of the command line, and what answers them beside a run: a line, and the status.
 #![tactic(auto)]
 
 mod inputs;
 pub mod laws;
 mod numbers;
+pub mod output;
 pub mod request;
+pub mod status;

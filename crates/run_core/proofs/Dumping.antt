@@ -9,7 +9,7 @@ use Rattle.flat_bytes.specs.Blocks.{Block}
 use Rattle.trusted_memory.specs.Memories.{Memory, byte_of}
 use Rattle.act_words.specs.Shown.{Shown}
 use Rattle.two_memory_machine.specs.Machines.{Machine, block_of}
-use Rattle.run_core_transcript.specs.Texts.{block_text}
+use Rattle.act_recorder.specs.Lines.{block_text}
 use Rattle.run_core.specs.Progress.{blocks_of}
 
 -- ---- lists

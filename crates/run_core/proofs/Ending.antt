@@ -9,7 +9,7 @@ use Rattle.run_core_transcript.specs.declared.fault.RunFault.{RunFault}
 use Rattle.run_core_transcript.specs.declared.fault.RunFault.TheVariants as faults
 use Rattle.act_recorder.specs.Endings.{ending_text}
 use Rattle.run_core_transcript.specs.Texts.{dump_text, missing_feed, with_last_line}
-use Rattle.run_core_interaction.specs.Asked.{Answering, PlayCounts}
+use Rattle.run_core_transcript.specs.Asked.{Answering, PlayCounts}
 use Rattle.run_core.specs.Runs.{Outcome, Ends, Comes, CameTo, RunWrites, RunCounts, WritesFront, WritesToWant}
 use Rattle.run_core.specs.Progress.{PlayEnds}
 use Rattle.run_core_transcript.specs.Finishes.{Fronts, Finish, Finishes}

@@ -15,7 +15,7 @@ use Rattle.run_core_transcript.specs.declared.fault.RunFault.TheVariants as faul
 use Rattle.run_core.specs.declared.play.Play.{Play}
 use Rattle.act_recorder.specs.Endings.{ending_text}
 use Rattle.run_core_transcript.specs.Texts.{event_text, events_text, dump_text, with_last_line}
-use Rattle.run_core_interaction.specs.Asked.{Answering, HasEnded, AskAnswers}
+use Rattle.run_core_transcript.specs.Asked.{Answering, HasEnded, AskAnswers}
 use Rattle.run_core.specs.Chains.{Chain}
 use Rattle.run_core.specs.Runs.{Comes, Ends, ShelfFault, CameTo}
 use Rattle.run_core.specs.Progress.{Progress, Played, moment_in, Tells, Steps, Takes, TakesNone, IsAsked, Stops, told, blocks_of}

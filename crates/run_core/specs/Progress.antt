@@ -25,8 +25,8 @@ use Rattle.run_core.specs.declared.play.Play.{Play}
 use Rattle.act_recorder.specs.Endings.{ending_text}
 use Rattle.run_core_transcript.specs.Texts.{events_text, dump_text, with_last_line}
 use Rattle.run_core.specs.Moments.{due_in, IsDue}
-use Rattle.run_core_interaction.specs.Asked.{Answering}
-use Rattle.run_core_interaction.specs.Touched.{last_of, touched}
+use Rattle.run_core_transcript.specs.Asked.{Answering}
+use Rattle.run_core_transcript.specs.Touched.{last_of, touched}
 use Rattle.run_core.specs.Chains.{Chain}
 use Rattle.run_core.specs.Runs.{Ends, LineRefused, FileMissing, Comes, ShelfFault, CameTo}
 

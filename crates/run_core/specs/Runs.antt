@@ -19,7 +19,7 @@ use Rattle.run_core_transcript.specs.declared.fault.RunFault.{RunFault}
 use Rattle.run_core_transcript.specs.declared.fault.RunFault.TheVariants as faults
 use Rattle.run_core_transcript.specs.Texts.{run_text, front_text}
 use Rattle.run_core.specs.Moments.{due_in, IsDue}
-use Rattle.run_core_interaction.specs.Asked.{Answering}
+use Rattle.run_core_transcript.specs.Asked.{Answering}
 use Rattle.run_core.specs.Chains.{Chain}
 
 -- what a run comes to where no device fails: an ending, or an act that can't be given

@@ -1,9 +1,10 @@
 // The last blocks of trusted memory, as lines.
 
 ghost use Rattle.std.specs.Prelude.{◌≡◌, ◌-◌, ◌≤◌, ◌++◌, flat_map, take, drop, IfOk, OnOk};
-ghost use Rattle.run_core_transcript.specs.Texts.{block_text};
+ghost use Rattle.act_recorder.specs.Lines.{block_text};
 ghost use Rattle.run_core.specs.Progress.{blocks_of};
 
+use act_recorder::lines::block_line;
 use ckc_text::fault::NoMemory;
 use std::alloc::Global;
 use two_memory_machine::machine::Machine;
@@ -14,30 +15,21 @@ pub fn add_blocks(alloc: Global, machine: &Machine, text: &mut Vec<u8>) -> Resul
 {
     let mut k = 0;
     'adding: while let Some((address, len)) = machine.block(k) {
-        let line = block_line(alloc, machine, address, len)?;
+        let line = line_of(alloc, machine, address, len)?;
         text.extend_from_slice(&line)?;
         k += 1;
     }
     Ok(())
 }
 
-// The line of a block: its address, the number of its bytes, and these.
-fn block_line(alloc: Global, machine: &Machine, address: u32, len: u32) -> Result<Vec<u8>, NoMemory>
+// The line of a block of a machine.
+fn line_of(alloc: Global, machine: &Machine, address: u32, len: u32) -> Result<Vec<u8>, NoMemory>
     requires { machine.now.memory.base ≤ address }
     ensures { IfOk result (λ line. line.items ≡ block_text (record
         { address = address; bytes = take len (drop (address - machine.now.memory.base) machine.now.memory.bytes) })) }
 {
     let bytes = block_bytes(alloc, machine, address, len)?;
-    bytes_line(alloc, address, bytes.as_slice())
-}
-
-// The line of these bytes at an address.
-fn bytes_line(alloc: Global, address: u32, bytes: &[u8]) -> Result<Vec<u8>, NoMemory>
-    ensures { IfOk result (λ line. line.items ≡ block_text (record { address = address; bytes = bytes.now })) }
-{
-    let count = bytes.len();
-    let hex = hex::encode(alloc, bytes)?;
-    Ok(format!(in alloc; "[block {address} {count} {hex}]\n")?.into_bytes())
+    block_line(alloc, address, bytes.as_slice())
 }
 
 // The bytes of trusted memory from an address on, as far as they are there.

@@ -1,3 +1,5 @@
 pub mod Texts
-pub mod Diagnostics
 pub mod Finishes
+pub mod Asked
+pub mod Touched
+pub mod Inputs

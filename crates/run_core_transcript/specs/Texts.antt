@@ -1,18 +1,13 @@
 -- The text of a run: what the program wrote, what was released and shown, and the line that says how the run ended.
-use Rattle.std.specs.Prelude.{ℕ, ◌||◌, if◌then◌else◌, List, [], ◌∷◌, ◌++◌, flat_map, length, codes, decimal, ◌==◌}
-use Rattle.hex.specs.Hex.{encode_lower}
+use Rattle.std.specs.Prelude.{ℕ, ◌||◌, if◌then◌else◌, List, [], ◌∷◌, ◌++◌, flat_map, ◌==◌}
 use Rattle.act_words.specs.declared.ending.Ending.{Ending}
 use Rattle.act_words.specs.declared.settings.Settings.{Settings}
 use Rattle.act_words.specs.World.{Event, Output, Released, Showed, NoAct}
 use Rattle.act_words.specs.Shown.{Shown}
-use Rattle.act_recorder.specs.Lines.{seen_text, release_text}
-use Rattle.act_recorder.specs.Endings.{line, ending_text}
+use Rattle.act_recorder.specs.Lines.{seen_text, release_text, output_line, block_text}
+use Rattle.act_recorder.specs.Endings.{ending_text}
 
 -- ---- events
-
--- what the program wrote, as a line
-abbrev pub output_line : List ℕ → List ℕ
-output_line bytes = line (codes "{\"out\":\"" ++ encode_lower bytes ++ codes "\"}")
 
 -- Output is written as it is, or as a line where other lines are asked for
 abbrev pub event_text : Settings → Event → List ℕ
@@ -33,10 +28,6 @@ missing_feed (b ∷ c ∷ bytes) = missing_feed (c ∷ bytes)
 -- events, and what stands behind them on a line of its own
 abbrev pub with_last_line : List ℕ → List ℕ → List ℕ
 with_last_line text last = text ++ missing_feed text ++ last
-
--- a block of the trusted memory, as `[block 65552 4 2a000000]`
-abbrev pub block_text : Shown → List ℕ
-block_text b = line (codes "[block " ++ decimal b.address ++ codes " " ++ decimal (length b.bytes) ++ codes " " ++ encode_lower b.bytes ++ codes "]")
 
 -- the last blocks, where they are asked for
 abbrev pub dump_text : Settings → List Shown → List ℕ

@@ -1,18 +1,10 @@
 // The lines of a run.
 
-ghost use Rattle.std.specs.Prelude.{◌≡◌, ◌++◌, ◌∷◌, [], if◌then◌else◌, IfOk, OnOk};
-ghost use Rattle.run_core_transcript.specs.Texts.{output_line, missing_feed, with_last_line};
+ghost use Rattle.std.specs.Prelude.{◌≡◌, ◌++◌, ◌∷◌, [], if◌then◌else◌, OnOk};
+ghost use Rattle.run_core_transcript.specs.Texts.{missing_feed, with_last_line};
 
 use ckc_text::fault::NoMemory;
 use std::alloc::Global;
-
-/// The line of what a program wrote.
-pub fn output_line(alloc: Global, bytes: &[u8]) -> Result<Vec<u8>, NoMemory>
-    ensures { IfOk result (λ line. line.items ≡ output_line bytes.now) }
-{
-    let hex = hex::encode(alloc, bytes)?;
-    Ok(format!(in alloc; "{{\"out\":\"{hex}\"}}\n")?.into_bytes())
-}
 
 /// Adds a line to a text, and before it the line feed that the text lacks.
 pub fn add_last_line(text: &mut Vec<u8>, last: &[u8]) -> Result<(), NoMemory>

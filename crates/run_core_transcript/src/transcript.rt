@@ -5,8 +5,7 @@ ghost use Rattle.act_words.specs.Acts.{seen_view, release_view};
 ghost use Rattle.act_words.specs.World.{Output, Released, Showed};
 ghost use Rattle.run_core_transcript.specs.Texts.{event_text};
 
-use crate::texts::output_line;
-use act_recorder::lines::{release_line, seen_line};
+use act_recorder::lines::{output_line, release_line, seen_line};
 use act_words::act::{Release, Seen};
 use act_words::octets::Octets;
 use act_words::settings::Settings;

@@ -1,6 +1,6 @@
 use Rattle.std.proofs.Common.{refl, sym, ap, subst, inl, inr, arith}
 use Rattle.ckc_core.specs.Core.{core}
-use Rattle.run_core_transcript.specs.Diagnostics.{refused_text}
+use Rattle.act_recorder.specs.Diagnostics.{refused_text}
 use Rattle.ccbox_call_words.specs.Requested.{options as options_view}
 use Rattle.ccbox_call.specs.Answers.{SourceAnswer, refused, accepted}
 use Rattle.ccbox_call.specs.Calls.{no_memory}

@@ -1,6 +1,6 @@
 use Rattle.std.proofs.Common.{refl, arith}
 use Rattle.ckc_core.specs.Core.{core}
-use Rattle.ccbox_call_status.specs.Statuses.{number_of}
+use Rattle.ccbox_call_words.specs.Statuses.{number_of}
 use Rattle.ccbox_call.specs.Calls.{no_memory}
 use Rattle.ccbox_call.proofs.Runs.{lowerable}
 use Rattle.ccbox_call.proofs.Giving.{outcome_gives}

@@ -1,7 +1,7 @@
 use Rattle.std.proofs.Common.{◌-◌, ◌++◌, take, drop, sym, ap, ◌∙◌, append_assoc}
 use Rattle.std.specs.Prelude.{flat_map}
 use Rattle.act_words.specs.Shown.{Shown}
-use Rattle.run_core_transcript.specs.Texts.{block_text}
+use Rattle.act_recorder.specs.Lines.{block_text}
 use Rattle.run_core.specs.Progress.{blocks_of}
 use Rattle.run_core.proofs.Dumping.{text_more, text_whole}
 use Rattle.run_core.proofs.dump.add_blocks.Goals as goal

@@ -1,6 +1,6 @@
 use Rattle.std.proofs.Common.{◌≡◌, ◌-◌, ◌++◌, length, take}
 use Rattle.std.specs.Prelude.{flat_map}
-use Rattle.run_core_transcript.specs.Texts.{block_text}
+use Rattle.act_recorder.specs.Lines.{block_text}
 use Rattle.run_core.specs.Progress.{blocks_of}
 use Rattle.run_core.proofs.dump.add_blocks.Given as goal
 

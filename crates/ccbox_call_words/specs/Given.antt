@@ -5,8 +5,8 @@ use Rattle.ckc_io.specs.Counts.{Rises}
 use Rattle.ckc_io.specs.Written.{grown}
 use Rattle.run_core_transcript.specs.declared.fault.RunFault.{RunFault}
 use Rattle.run_core_transcript.specs.declared.fault.RunFault.TheVariants as faults
-use Rattle.run_core_transcript.specs.Diagnostics.{act_refused_text}
-use Rattle.ccbox_call_status.specs.Statuses.{status_of}
+use Rattle.act_recorder.specs.Diagnostics.{act_refused_text}
+use Rattle.ccbox_call_words.specs.Statuses.{status_of}
 
 -- a text was written, and the status is that of its answer; or the output failed behind a front of it
 pub data TextGiven (text : List ℕ) (status : ℕ) (old new : Option (List ℕ)) (faults faults' : ℕ) : ℕ → Type 0 where

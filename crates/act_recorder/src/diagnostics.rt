@@ -1,7 +1,7 @@
 // The lines that say why a program wasn't run, or why its run broke off.
 
 ghost use Rattle.std.specs.Prelude.{◌≡◌, IfOk};
-ghost use Rattle.run_core_transcript.specs.Diagnostics.{refused_text, act_refused_text, missing_text, usage_text};
+ghost use Rattle.act_recorder.specs.Diagnostics.{refused_text, act_refused_text, missing_text, usage_text};
 
 use ckc_text::code::Code;
 use ckc_text::fault::NoMemory;

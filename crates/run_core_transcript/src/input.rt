@@ -1,6 +1,6 @@
 // The input numbers of a run.
 
-ghost use Rattle.run_core_interaction.specs.Inputs.{TakesInput};
+ghost use Rattle.run_core_transcript.specs.Inputs.{TakesInput};
 
 /// The next input number, and those that are left behind it. Behind the last come zeros.
 pub fn next_input(inputs: &[i32]) -> (i32, &[i32])

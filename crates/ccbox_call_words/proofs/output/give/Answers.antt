@@ -1,5 +1,5 @@
-use Rattle.ccbox_call_status.specs.Given.{all, failed}
-use Rattle.ccbox_call_status.proofs.output.give.Goals as goal
+use Rattle.ccbox_call_words.specs.Given.{all, failed}
+use Rattle.ccbox_call_words.proofs.output.give.Goals as goal
 
 pub returns-in-Ok : goal.returns-in-Ok
 returns-in-Ok g c = all c.in-Ok.ensures.all c.in-Ok.ensures.counts

@@ -3,12 +3,12 @@
 ghost use Rattle.std.specs.Prelude.{◌≡◌, ◌++◌, OnOk, option_map};
 ghost use Rattle.act_words.specs.Acts.{seen_view};
 ghost use Rattle.run_core_transcript.specs.Texts.{events_text};
-ghost use Rattle.run_core_interaction.specs.Touched.{last_of, touched};
+ghost use Rattle.run_core_transcript.specs.Touched.{last_of, touched};
 
 use act_words::act::{Release, Seen};
 use act_words::settings::Settings;
 use ckc_text::fault::NoMemory;
-use run_core_transcript::transcript;
+use crate::transcript;
 use std::alloc::Global;
 
 /// Tells of a touch: what it released, and then what the sandbox was shown of it, if it is shown.

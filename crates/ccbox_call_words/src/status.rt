@@ -1,7 +1,7 @@
 // The statuses.
 
 ghost use Rattle.std.specs.Prelude.{◌≡◌};
-ghost use Rattle.ccbox_call_status.specs.Statuses.{number_of, status_of as status_of_ending};
+ghost use Rattle.ccbox_call_words.specs.Statuses.{number_of, status_of as status_of_ending};
 
 use act_words::ending::Ending;
 

@@ -1,9 +1,9 @@
 // Writing one line, and the status behind it.
 
 ghost use Rattle.std.specs.Prelude.{◌≡◌, ℕ, List, IfOk};
-ghost use Rattle.ccbox_call_status.specs.Given.{TextGiven, LineGiven, OutcomeGiven};
-ghost use Rattle.ccbox_call_status.specs.Statuses.{number_of};
-ghost use Rattle.run_core_transcript.specs.Diagnostics.{refused_text, act_refused_text, missing_text, usage_text};
+ghost use Rattle.ccbox_call_words.specs.Given.{TextGiven, LineGiven, OutcomeGiven};
+ghost use Rattle.ccbox_call_words.specs.Statuses.{number_of};
+ghost use Rattle.act_recorder.specs.Diagnostics.{refused_text, act_refused_text, missing_text, usage_text};
 
 use crate::status::{Status, status_of};
 use act_words::ending::Ending;
@@ -12,7 +12,7 @@ use ckc_io::whole::write_whole;
 use ckc_text::code::Code;
 use ckc_text::fault::NoMemory;
 use ckc_text::place::Place;
-use run_core_transcript::diagnostics::{act_refused_line, missing_line, refused_line, usage_line};
+use act_recorder::diagnostics::{act_refused_line, missing_line, refused_line, usage_line};
 use run_core_transcript::fault::RunFault;
 use std::alloc::Global;
 

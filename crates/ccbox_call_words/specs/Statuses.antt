@@ -2,8 +2,8 @@
 use Rattle.std.specs.Prelude.{ℕ}
 use Rattle.act_words.specs.declared.ending.Ending.{Ending}
 use Rattle.act_words.specs.declared.ending.Ending.TheVariants.{Exit, Check, Stop}
-use Rattle.ccbox_call_status.specs.declared.status.Status.{Status}
-use Rattle.ccbox_call_status.specs.declared.status.Status.TheVariants as statuses
+use Rattle.ccbox_call_words.specs.declared.status.Status.{Status}
+use Rattle.ccbox_call_words.specs.declared.status.Status.TheVariants as statuses
 
 -- the number with which the program ends
 abbrev pub number_of : Status → ℕ
