@@ -2,8 +2,7 @@
 
 ghost use Rattle.std.specs.Prelude.{◌≤◌, length};
 
-use crate::octets::Octets;
-use crate::words::Words;
+use crate::row::{Octets, Words};
 
 /// Whose turn it is.
 #[derive(Clone, Copy, PartialEq, Eq)]

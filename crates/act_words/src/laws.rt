@@ -1,8 +1,9 @@
 // What the definitions say of small lines, by computation, and what they say together.
 
-ghost use Rattle.std.specs.Prelude.{◌≡◌, ℕ, List, codes, ◌∷◌, [], replicate};
+ghost use Rattle.std.specs.Prelude.{◌≡◌, ◌<◌, ℕ, List, codes, ◌∷◌, [], replicate};
+ghost use Rattle.std.specs.List.{All};
 ghost use Rattle.ckc_text.specs.declared.code.Code.TheVariants.{A1, A2, A3, A4, A5};
-ghost use Rattle.act_words.specs.Acts.{Go, Read, Write, Call, Return, Stop, act_view, IsAct};
+ghost use Rattle.act_words.specs.Acts.{Go, Read, Write, Call, Return, Stop, act_view, IsAct, IsWord};
 ghost use Rattle.act_words.specs.Readings.{line_reading, Says, Refuses};
 ghost use Rattle.act_words.specs.Acts.{Act as ActData};
 ghost use Rattle.act_words.specs.Lines.{act_line, act_text};
@@ -52,6 +53,16 @@ pub fn says_acts()
     ensures { (line : List ℕ) (a : ActData) → line_reading line ≡ Says a → IsAct a }
 {}
 
+// What a slice of bytes holds.
+fn are_bytes(bytes: &[u8])
+    ensures { All (λ b. b < 256) bytes.now }
+{}
+
+// What a slice of words holds.
+fn are_words(words: &[u32])
+    ensures { All IsWord words.now }
+{}
+
 /// Each value of the type stands for an act whose numbers are words, whose bytes are 1 to 64 and whose arguments are at
 /// most 16. The body only looks at the lists, so that the prover learns what they keep.
 pub fn kept(act: &Act)
@@ -63,11 +74,11 @@ pub fn kept(act: &Act)
         }
         Act::Write { at, bytes } => {
             let _at = *at;
-            let _bytes = bytes.octets.as_slice();
+            are_bytes(bytes.octets.as_slice());
         }
         Act::Call { fun, args } => {
             let _fun = *fun;
-            let _args = args.as_slice();
+            are_words(args.as_slice());
         }
         Act::Return { value } => {
             let _value = *value;

@@ -8,7 +8,7 @@ ghost use Rattle.act_words.specs.Answers.{IsRefused, Gives, form_reading};
 
 use crate::act::{Act, ByteCount, SomeOctets};
 use crate::form::{Form, count_of_form, form_of};
-use crate::words::Words;
+use crate::row::Words;
 use ckc_text::code::Code;
 use hex::FromHexError;
 use serde_json::{Number, Value};

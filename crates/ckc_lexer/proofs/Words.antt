@@ -1,5 +1,5 @@
 -- Words that are taken to their end, and names among them.
-use Rattle.std.proofs.Common.{◌≡◌, ℕ, suc, ◌+◌, ◌≤◌, Bool, true, false, cond, max, min, List, [], ◌∷◌, length, take, refl, sym, ap, subst, arith}
+use Rattle.std.proofs.Common.{◌≡◌, ℕ, zero, suc, ◌+◌, ◌≤◌, Bool, true, false, cond, max, min, List, [], ◌∷◌, length, take, refl, sym, ap, subst, arith}
 use Rattle.std.specs.List.{prefix_len}
 use Rattle.std.proofs.lemmas.Bool.Decides.{nat_tests}
 use Rattle.ckc_text.specs.Names.{is_digit, is_letter, is_word_byte, begins_with, IsName}
@@ -57,8 +57,9 @@ part_name_at (b ∷ bs) h =
     record { starts = h; whole = subst (λ n. prefix_len is_word_byte (take n (b ∷ bs)) ≡ length (take n (b ∷ bs))) count (all_passed is_word_byte (b ∷ bs)) }
   where
     begins_front : (n : ℕ) (c : ℕ) (cs : List ℕ) → begins_with is_letter (take n (c ∷ cs)) ≡ true → is_letter c ≡ true
-    begins_front 0 c cs h = absurd cc
+    begins_front zero c cs h = absurd cc
     begins_front (suc n) c cs h = h
 
 pub part_name : (text : List ℕ) → begins_with is_letter (part text).0 ≡ true → IsName (part text).0
-part_name text h = unfold part (part_name_at (unblanked text) (unfold part at h))
+unfolding part
+part_name text h = part_name_at (unblanked text) h

@@ -7,7 +7,7 @@ ghost use Rattle.run_core_transcript.specs.Texts.{event_text};
 
 use act_recorder::lines::{output_line, release_line, seen_line};
 use act_words::act::{Release, Seen};
-use act_words::octets::Octets;
+use act_words::row::Octets;
 use act_words::settings::Settings;
 use ckc_text::fault::NoMemory;
 use std::alloc::Global;

@@ -4,7 +4,7 @@ ghost use Rattle.std.specs.Prelude.{◌≡◌, ◌%◌};
 ghost use Rattle.std.specs.Int.{to_le_bytes, w8, w32};
 ghost use Rattle.two_memory_machine_states.specs.Steps.{Acts, IsReady};
 
-use act_words::octets::Octets;
+use act_words::row::Octets;
 use code_words::op::Op;
 use two_memory_machine_states::outcome::Outcome;
 use two_memory_machine_states::running_image::RunningImage;

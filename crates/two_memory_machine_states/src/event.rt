@@ -2,7 +2,7 @@
 
 use act_words::act::{Release, Seen};
 use act_words::ending::Ending;
-use act_words::octets::Octets;
+use act_words::row::Octets;
 
 /// What a machine waits for.
 #[derive(Clone, Copy)]

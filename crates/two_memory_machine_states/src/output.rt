@@ -15,7 +15,7 @@ use crate::event::{Event, Waiting};
 use crate::outcome::Outcome;
 use crate::running_image::{Phase, RunningImage};
 use act_words::ending::Ending;
-use act_words::octets::Octets;
+use act_words::row::Octets;
 use ckc_text::code::Code;
 use code_words::op::Op;
 use itoa::Buffer;

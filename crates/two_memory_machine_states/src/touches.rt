@@ -6,7 +6,7 @@ ghost use Rattle.two_memory_machine_states.specs.Steps.{IsReady, GoesBy};
 
 use crate::outcome::Outcome;
 use crate::running_image::{Pending, Phase, RunningImage};
-use act_words::octets::Octets;
+use act_words::row::Octets;
 
 impl<'a> RunningImage<'a> {
     /// Pops an offset, and a load of so many bytes from it on waits for its acts.
