@@ -6,6 +6,7 @@ pub mod ending;
 pub mod form;
 pub mod laws;
 pub mod octets;
+pub mod operator;
 pub mod reading;
 pub mod settings;
 pub mod words;
