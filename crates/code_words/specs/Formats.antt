@@ -1,6 +1,9 @@
 -- What every image keeps: the orders and limits of a listing, and the pace.
-use Rattle.std.specs.Prelude.{◌≡◌, ℕ, suc, ◌+◌, ◌<◌, ◌≤◌, IsTrue, List, [], ◌∷◌, length, map, All}
+use Rattle.std.specs.Prelude.{◌≡◌, ℕ, suc, ◌+◌, ◌<◌, ◌≤◌, Bool, true, nat_le, IsTrue, List, [], ◌∷◌, length, map, Option, Some, None, All}
+use Rattle.std.specs.List.{list_all}
 use Rattle.marshalling.specs.Signatures.{IsSignature}
+use Rattle.code_words.specs.declared.op.Op.{Op}
+use Rattle.code_words.specs.declared.op.Op.TheVariants as ops
 use Rattle.code_words.specs.declared.image.Func.{Func}
 use Rattle.code_words.specs.declared.image.Import.{Import}
 use Rattle.code_words.specs.declared.image.Callback.{Callback}
@@ -27,10 +30,35 @@ pub record HasSmallFrame (f : Func) : Type 0 where
   pub arguments : f.args ≤ 16
   pub held : f.args ≤ f.slots
 
+-- the size of the elements that an instruction counts
+abbrev pub element_size : Op → Option ℕ
+element_size (ops.Index size) = Some size
+element_size (ops.In low high size place) = Some size
+element_size (ops.UpTo low high size place) = Some size
+element_size (ops.Term high size place) = Some size
+element_size (ops.Contain low1 high1 low2 high2 size place) = Some size
+element_size (ops.Lies low high size more place) = Some size
+element_size (ops.Alloc size) = Some size
+element_size (ops.AllocTerminated size) = Some size
+element_size (ops.SandboxAlloc size) = Some size
+element_size _ = None
+
+abbrev pub is_sized : Op → Bool
+is_sized op = by (element_size op)
+  where
+    by : Option ℕ → Bool
+    by None = true
+    by (Some size) = nat_le 1 size
+
+-- elements that are counted have a size of 1 or more
+abbrev pub is_sized_function : Func → Bool
+is_sized_function f = list_all is_sized f.ops
+
 -- ---- images
 
 -- functions, tainted functions and callbacks are numbered from 0; the sandbox's functions have the numbers of tainted ones, in
--- their order; frames, arguments and parameters are as they may be; between two ticks control moves forward only, or returns
+-- their order; frames, arguments, parameters and sizes are as they may be; between two ticks control moves forward only, or
+-- returns
 pub record KeepsFormat (image : Image) : Type 0 where
   pub functions : Follow 0 (map (λ (f : Func). f.number) image.trusted.funs)
   pub imports : Follow 0 (map (λ (i : Import). i.number) image.layout.imports)
@@ -39,6 +67,8 @@ pub record KeepsFormat (image : Image) : Type 0 where
   pub imported : All (λ (f : Func). f.number < length image.layout.imports) image.sandbox.funs
   pub frames : All HasSmallFrame image.trusted.funs
   pub sandbox_frames : All HasSmallFrame image.sandbox.funs
+  pub sized : IsTrue (list_all is_sized_function image.trusted.funs)
+  pub sandbox_sized : IsTrue (list_all is_sized_function image.sandbox.funs)
   pub few_arguments : All (λ (i : Import). i.args ≤ 16) image.layout.imports
   pub callable : All (λ (c : Callback). IsSignature c.signature) image.layout.callbacks
   pub paced : IsTrue (is_paced image)
