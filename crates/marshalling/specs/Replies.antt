@@ -5,7 +5,7 @@ use Rattle.marshalling.specs.declared.fault.MarshalFault.{MarshalFault}
 use Rattle.marshalling.specs.declared.fault.MarshalFault.TheVariants.{Char}
 use Rattle.marshalling.specs.Crossing.{fits_kind}
 
-abbrev pub reply_if : Bool → ℕ → Result ℕ MarshalFault
+abbrev reply_if : Bool → ℕ → Result ℕ MarshalFault
 reply_if true word = Ok word
 reply_if false word = Err (Char 0)
 
