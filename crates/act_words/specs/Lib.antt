@@ -3,6 +3,7 @@ pub mod Outcome
 pub mod Checks
 pub mod Numbers
 pub mod Arithmetic
+pub mod Operators
 pub mod Limits
 pub mod Rows
 pub mod Acts

@@ -5,6 +5,7 @@ pub mod act;
 pub mod ending;
 pub mod form;
 pub mod laws;
+pub mod operator;
 pub mod reading;
 pub mod row;
 pub mod settings;

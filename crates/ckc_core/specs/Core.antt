@@ -9,8 +9,8 @@ use Rattle.ckc_core.specs.declared.program.Expr.TheVariants as exprs
 use Rattle.ckc_core.specs.declared.program.CellPlace.TheVariants as places
 use Rattle.ckc_core.specs.declared.program.Stmt.TheVariants as stmts
 use Rattle.ckc_core.specs.declared.program.Site.{Site}
-use Rattle.ckc_core.specs.declared.program.Operator.{Operator}
-use Rattle.ckc_core.specs.declared.program.Comparison.{Comparison}
+use Rattle.act_words.specs.declared.operator.Operator.{Operator}
+use Rattle.act_words.specs.declared.operator.Comparison.{Comparison}
 
 mutual
   -- an expression

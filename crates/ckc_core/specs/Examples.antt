@@ -9,8 +9,9 @@ use Rattle.pointer_modes.specs.declared.ctype.Kind.TheVariants as kinds
 use Rattle.pointer_modes.specs.Types.{CType, Int, Char, Struct, Pointer}
 use Rattle.act_words.specs.World.{World, new_world}
 use Rattle.ckc_core.specs.declared.program.Site.{Site}
-use Rattle.ckc_core.specs.declared.program.Operator.TheVariants as operators
-use Rattle.ckc_core.specs.declared.program.Comparison.TheVariants as comparisons
+use Rattle.act_words.specs.declared.operator.ArithmeticOperator.TheVariants as arithmetics
+use Rattle.act_words.specs.declared.operator.Operator.TheVariants as operators
+use Rattle.act_words.specs.declared.operator.Comparison.TheVariants as comparisons
 use Rattle.ckc_core.specs.Core
 use Rattle.ckc_core.specs.Core.{Core, Expression, Statement, Statements, Function}
 use Rattle.ckc_core.specs.States.{State}
@@ -54,7 +55,7 @@ first_run =
     one (Pointer modes.Checked kinds.One Int ∷ []) ((int_cell 1 ∷ []) ∷ [])
     (Core.SetLocal 0 (Core.AddressOf 0 0 0)
     ∷ (Core.Store Int (Core.Through (Core.Local 0) 0 0 (site 1 46)) (number 41)
-    ∷ (Core.Return (Core.Arithmetic operators.Add (Core.Load Int (Core.Direct 0 0 0)) (number 1) (site 1 62)) ∷ [])))
+    ∷ (Core.Return (Core.Arithmetic (operators.Arithmetic arithmetics.Add) (Core.Load Int (Core.Direct 0 0 0)) (number 1) (site 1 62)) ∷ [])))
 
 abbrev pub first_run_ends : Type 0
 first_run_ends = ends_as (runs first_run 100) (Exit (pos 42))
@@ -66,7 +67,7 @@ overflow_ends =
     (runs
     (one (Int ∷ []) []
     (Core.SetLocal 0 (number 2147483647)
-    ∷ (Core.SetLocal 0 (Core.Arithmetic operators.Add (Core.Local 0) (number 1) (site 1 42)) ∷ (Core.Return (number 0) ∷ []))))
+    ∷ (Core.SetLocal 0 (Core.Arithmetic (operators.Arithmetic arithmetics.Add) (Core.Local 0) (number 1) (site 1 42)) ∷ (Core.Return (number 0) ∷ []))))
     100)
     (Check C6 (record { line = 1; col = 42 }))
 
@@ -76,7 +77,7 @@ counting =
     one (Int ∷ []) []
     (Core.SetLocal 0 (number 0)
     ∷ (Core.Loop (Core.Compare comparisons.Less (Core.Local 0) (number 3))
-    (Core.SetLocal 0 (Core.Arithmetic operators.Add (Core.Local 0) (number 1) (site 1 46))) Core.Nothing
+    (Core.SetLocal 0 (Core.Arithmetic (operators.Arithmetic arithmetics.Add) (Core.Local 0) (number 1) (site 1 46))) Core.Nothing
     ∷ (Core.Return (Core.Local 0) ∷ [])))
 
 abbrev pub loop_ends : Type 0
@@ -114,7 +115,7 @@ members =
     (Core.SetLocal 0 (Core.AddressOf 0 0 0)
     ∷ (Core.Store Int (Core.Through (Core.Local 0) 1 4 (site 3 40)) (number 7)
     ∷ (Core.Store Char (Core.Direct 0 0 0) (Core.LowByte (number 300))
-    ∷ (Core.Return (Core.Arithmetic operators.Add (Core.Load Int (Core.Through (Core.Local 0) 1 4 (site 3 65))) (Core.Load Char (Core.Direct 0 0 0))
+    ∷ (Core.Return (Core.Arithmetic (operators.Arithmetic arithmetics.Add) (Core.Load Int (Core.Through (Core.Local 0) 1 4 (site 3 65))) (Core.Load Char (Core.Direct 0 0 0))
     (site 3 65)) ∷ [])))))
 
 abbrev pub struct_ends : Type 0

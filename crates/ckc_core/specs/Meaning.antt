@@ -1,6 +1,6 @@
 -- What a program means: values with places, each check at its place, and stuck where nothing is meant.
 use Rattle.std.specs.Prelude.{ℕ, zero, suc, ◌+◌, ◌%◌, Bool, true, false, not, ◌&&◌, ◌==◌, List, [], ◌∷◌, ◌++◌, Option, Some, None, option_map}
-use Rattle.std.specs.Prelude.{slice_get, slice_set, nat_lt, length, map, drop, replicate, int_lt, int_le, bit_and, bit_or, bit_xor, pos}
+use Rattle.std.specs.Prelude.{slice_get, slice_set, nat_lt, length, map, drop, replicate, pos}
 use Rattle.std.proofs.Common.{ℤ}
 use Rattle.ckc_text.specs.declared.code.Code.TheVariants.{C1, C9}
 use Rattle.act_words.specs.declared.ending.Ending.TheVariants.{Check, Exit}
@@ -15,10 +15,10 @@ use Rattle.act_words.specs.Arithmetic as arithmetic
 use Rattle.act_words.specs.World.{World, new_world}
 use Rattle.act_words.specs.Touches.{Asked, Got, Ended, spend_tick, enter_call, next_input, write, tainted_call}
 use Rattle.ckc_core.specs.declared.program.Site.{Site}
-use Rattle.ckc_core.specs.declared.program.Operator.{Operator}
-use Rattle.ckc_core.specs.declared.program.Operator.TheVariants as operators
-use Rattle.ckc_core.specs.declared.program.Comparison.{Comparison}
-use Rattle.ckc_core.specs.declared.program.Comparison.TheVariants as comparisons
+use Rattle.act_words.specs.declared.operator.Operator.{Operator}
+use Rattle.act_words.specs.declared.operator.Operator.TheVariants as operators
+use Rattle.act_words.specs.declared.operator.Comparison.{Comparison}
+use Rattle.act_words.specs.Operators.{arithmetic_result, bitwise_result, holds}
 use Rattle.ckc_core.specs.Core as core
 use Rattle.ckc_core.specs.States.{Value, Number, Null, At, Cell, State, in_world, cell_at, with_cell, stands_at, stands_behind, same_type, has_type}
 use Rattle.ckc_core.specs.States.{zero_of, object_block}
@@ -115,28 +115,12 @@ test_given (Some test) s = Gives (number_of_test test) s
 
 -- an operator on two numbers, with its checks
 abbrev pub result_of : Operator → Site → ℤ → ℤ → Checked ℤ
-result_of operators.Add site a b = arithmetic.sum site.place a b
-result_of operators.Subtract site a b = arithmetic.difference site.place a b
-result_of operators.Multiply site a b = arithmetic.product site.place a b
-result_of operators.Divide site a b = arithmetic.quotient site.place a b
-result_of operators.Remainder site a b = arithmetic.remainder site.place a b
-result_of operators.ShiftLeft site a b = arithmetic.shifted_left site.place a b
-result_of operators.ShiftRight site a b = arithmetic.shifted_right site.place a b
-result_of operators.And site a b = Holds (signed (bit_and (word a) (word b)))
-result_of operators.Or site a b = Holds (signed (bit_or (word a) (word b)))
-result_of operators.Xor site a b = Holds (signed (bit_xor (word a) (word b)))
+result_of (operators.Arithmetic operator) site a b = arithmetic_result operator site.place a b
+result_of (operators.Bitwise operator) site a b = Holds (signed (bitwise_result operator (word a) (word b)))
 
 abbrev pub arithmetic_of : Operator → Site → Value → Value → State → Result Value
 arithmetic_of operator site (Number a) (Number b) s = checked (result_of operator site a b) s
 arithmetic_of operator site _ _ s = Stuck
-
-abbrev pub holds : Comparison → ℤ → ℤ → Bool
-holds comparisons.Equal a b = int_le a b && int_le b a
-holds comparisons.NotEqual a b = not (int_le a b && int_le b a)
-holds comparisons.Less a b = int_lt a b
-holds comparisons.LessEqual a b = int_le a b
-holds comparisons.Greater a b = int_lt b a
-holds comparisons.GreaterEqual a b = int_le b a
 
 abbrev pub compared : Comparison → Value → Value → State → Result Value
 compared comparison (Number a) (Number b) s = Gives (number_of_test (holds comparison a b)) s

@@ -1,5 +1,6 @@
 // The core: what is left of a source once each name is a number, each check has its place and each access its type.
 
+use act_words::operator::{Comparison, Operator};
 use ckc_text::name::Name;
 use ckc_text::place::Place;
 use pointer_modes::ctype::CType;
@@ -8,32 +9,6 @@ use pointer_modes::ctype::CType;
 #[derive(Clone, Copy)]
 pub struct Site {
     pub place: Place,
-}
-
-/// An operator on two numbers with a number for a result.
-#[derive(Clone, Copy)]
-pub enum Operator {
-    Add,
-    Subtract,
-    Multiply,
-    Divide,
-    Remainder,
-    ShiftLeft,
-    ShiftRight,
-    And,
-    Or,
-    Xor,
-}
-
-/// A comparison of two numbers.
-#[derive(Clone, Copy)]
-pub enum Comparison {
-    Equal,
-    NotEqual,
-    Less,
-    LessEqual,
-    Greater,
-    GreaterEqual,
 }
 
 /// An expression. Locals, file-level variables and functions are numbered from 0 in the order of their declarations.

@@ -10,17 +10,19 @@ use Rattle.act_words.specs.World.{World, NoAct, telling, taken_one, in_turn, wit
 use Rattle.act_words.specs.Acting.{BeforeTouch, InSandbox, act_before_touch, act_in_sandbox}
 use Rattle.act_words.specs.Checks.{Checked, Holds, Fails}
 use Rattle.act_words.specs.Numbers.{signed}
-use Rattle.act_words.specs.Arithmetic as arithmetic
+use Rattle.act_words.specs.Operators.{arithmetic_result}
 use Rattle.act_words.specs.Touches.{Asked, Got, Ended, released, spend_tick, spent_if, enter_call, entered_if, input_from, next_input, write}
 use Rattle.code_words.specs.declared.op.Op.{Op}
 use Rattle.code_words.specs.declared.op.Op.TheVariants as ops
-use Rattle.code_words.specs.declared.image.WordKind.{WordKind}
+use Rattle.marshalling.specs.declared.kind.WordKind.{WordKind}
 use Rattle.code_words.specs.declared.image.Func.{Func}
 use Rattle.code_words.specs.declared.image.Import.{Import}
 use Rattle.code_words.specs.declared.image.Callback.{Callback}
-use Rattle.code_words.specs.declared.image.Param.{Param}
+use Rattle.marshalling.specs.declared.signature.Param.{Param}
 use Rattle.code_words.specs.Images.{Image}
-use Rattle.code_words.specs.Marshalling.{Fault, Count, TooLarge, OutOfRange, arguments_fault, fits_kind}
+use Rattle.marshalling.specs.declared.fault.MarshalFault.{MarshalFault}
+use Rattle.marshalling.specs.declared.fault.MarshalFault.TheVariants as faults
+use Rattle.marshalling.specs.Crossing.{arguments_fault, fits_kind}
 use Rattle.code_words.specs.Table.{Frame, Caller, Calls, Waits, CalledBack, Touch, Loads, Stores, Passes, Replies, Control, Runs, Touches, Away, State, Step, Goes, Over, wild, holds, depth, is_positive, asked, push, push_if, push_some, push_checked, pop, pop_2, pop_3, pop_5, pop_6, pop_if, pop_words, peek, set_if, load_if, load, store_if, store, check, touch_if, call_function, call_tainted, push_result, reply_of, reply_with, exit_with, return_to, allocate_if, allocate, allocate_sandbox_if, byte_at, by_byte, count_from, jump_if, jump, jump_if_zero, of_two, of_one, checked_of_two, act, act_next, step_in, step}
 use Rattle.code_words.specs.Moves.{in_world, make_touch, before_touch_by, run_if, run_callback, at_place_of, tested, call_back_if, call_back, reply_if, reply_to, answer, in_sandbox_by, before_touch, in_sandbox, move, move_by}
 use Rattle.code_words.specs.Runs.{Run, Unfinished, Finished, exec, go_on}
@@ -266,14 +268,8 @@ module _ (Trusted Ready Sandbox Called Ending : World → Type 0) where
     act-keeps image settings fun ops.Duplicate f s = peek-keeps f.stack _ s (λ w. push-keeps fun w f.stack f s)
     act-keeps image settings fun (ops.BlockAddress k) f s = push_some-keeps fun _ f.stack f s
     act-keeps image settings fun (ops.BlockOffset k) f s = push_some-keeps fun _ f.stack f s
-    act-keeps image settings fun (ops.Add place) f s = checked-keeps fun (arithmetic.sum place) f s
-    act-keeps image settings fun (ops.Sub place) f s = checked-keeps fun (arithmetic.difference place) f s
-    act-keeps image settings fun (ops.Mul place) f s = checked-keeps fun (arithmetic.product place) f s
-    act-keeps image settings fun (ops.Div place) f s = checked-keeps fun (arithmetic.quotient place) f s
-    act-keeps image settings fun (ops.Rem place) f s = checked-keeps fun (arithmetic.remainder place) f s
+    act-keeps image settings fun (ops.Arithmetic operator place) f s = checked-keeps fun (arithmetic_result operator place) f s
     act-keeps image settings fun (ops.Neg place) f s = pop-keeps f.stack _ s (λ b stack. push_checked-keeps fun _ stack f s)
-    act-keeps image settings fun (ops.Shl place) f s = checked-keeps fun (arithmetic.shifted_left place) f s
-    act-keeps image settings fun (ops.Shr place) f s = checked-keeps fun (arithmetic.shifted_right place) f s
     act-keeps image settings fun ops.WrapAdd f s = of_two-keeps fun _ f s
     act-keeps image settings fun ops.WrapSub f s = of_two-keeps fun _ f s
     act-keeps image settings fun ops.WrapMul f s = of_two-keeps fun _ f s
@@ -282,16 +278,9 @@ module _ (Trusted Ready Sandbox Called Ending : World → Type 0) where
     act-keeps image settings fun ops.WrapShr f s = of_two-keeps fun _ f s
     act-keeps image settings fun ops.WrapDiv f s = wild-keeps s
     act-keeps image settings fun ops.WrapRem f s = wild-keeps s
-    act-keeps image settings fun ops.And f s = of_two-keeps fun _ f s
-    act-keeps image settings fun ops.Or f s = of_two-keeps fun _ f s
-    act-keeps image settings fun ops.Xor f s = of_two-keeps fun _ f s
+    act-keeps image settings fun (ops.Bitwise operator) f s = of_two-keeps fun _ f s
     act-keeps image settings fun ops.Not f s = of_one-keeps fun _ f s
-    act-keeps image settings fun ops.Equal f s = of_two-keeps fun _ f s
-    act-keeps image settings fun ops.NotEqual f s = of_two-keeps fun _ f s
-    act-keeps image settings fun ops.Less f s = of_two-keeps fun _ f s
-    act-keeps image settings fun ops.LessEqual f s = of_two-keeps fun _ f s
-    act-keeps image settings fun ops.Greater f s = of_two-keeps fun _ f s
-    act-keeps image settings fun ops.GreaterEqual f s = of_two-keeps fun _ f s
+    act-keeps image settings fun (ops.Compare comparison) f s = of_two-keeps fun _ f s
     act-keeps image settings fun ops.UnsignedLess f s = of_two-keeps fun _ f s
     act-keeps image settings fun ops.UnsignedLessEqual f s = of_two-keeps fun _ f s
     act-keeps image settings fun ops.UnsignedGreater f s = of_two-keeps fun _ f s
@@ -372,11 +361,11 @@ module _ (Trusted Ready Sandbox Called Ending : World → Type 0) where
     at_place-keeps None next none a b = b
     at_place-keeps (Some p) next none a b = a p.place
 
-    tested-keeps : (image : Image) (k : ℕ) (callback : Callback) (fault : Option Fault) (words : List ℕ) (s : State) → Called s.world → StepKeeps (tested image k callback fault words s)
+    tested-keeps : (image : Image) (k : ℕ) (callback : Callback) (fault : Option MarshalFault) (words : List ℕ) (s : State) → Called s.world → StepKeeps (tested image k callback fault words s)
     tested-keeps image k callback None words s d = run_callback-keeps k callback (slice_get image.trusted.funs callback.fun) words s d
-    tested-keeps image k callback (Some Count) words s d = kept.called_ends s.world d
-    tested-keeps image k callback (Some (TooLarge param)) words s d = at_place-keeps (slice_get callback.signature param) _ _ (λ place. kept.called_ends s.world d) (kept.called_ends s.world d)
-    tested-keeps image k callback (Some (OutOfRange param)) words s d = at_place-keeps (slice_get callback.signature param) _ _ (λ place. kept.called_ends s.world d) (kept.called_ends s.world d)
+    tested-keeps image k callback (Some faults.Count) words s d = kept.called_ends s.world d
+    tested-keeps image k callback (Some (faults.Char param)) words s d = at_place-keeps (slice_get callback.signature param) _ _ (λ place. kept.called_ends s.world d) (kept.called_ends s.world d)
+    tested-keeps image k callback (Some (faults.Range param)) words s d = at_place-keeps (slice_get callback.signature param) _ _ (λ place. kept.called_ends s.world d) (kept.called_ends s.world d)
 
     called-keeps : {A : Type 0} (r : Asked A) (s : State) (next : A → State → Step) → AskedKeeps Called r → ((value : A) (w : World) → Called w → StepKeeps (next value (in_world w s))) → StepKeeps (asked r s next)
     called-keeps (Got value w) s next got keeps = keeps value w got

@@ -14,17 +14,19 @@ use Rattle.act_words.specs.World.{World, NoAct, telling, taken_one, in_turn, spe
 use Rattle.act_words.specs.Acting.{lies_in, shown_if, written_if, waits_or_ends, keeps_or_ends}
 use Rattle.act_words.specs.Checks.{Checked, Holds, Fails}
 use Rattle.act_words.specs.Numbers.{signed, word, number_line}
-use Rattle.act_words.specs.Arithmetic as arithmetic
+use Rattle.act_words.specs.Operators.{arithmetic_result}
 use Rattle.act_words.specs.Touches.{spend_tick, spent_if, enter_call, entered_if, input_from, write}
 use Rattle.code_words.specs.declared.op.Op.{Op}
 use Rattle.code_words.specs.declared.op.Op.TheVariants as ops
-use Rattle.code_words.specs.declared.image.WordKind.{WordKind}
+use Rattle.marshalling.specs.declared.kind.WordKind.{WordKind}
 use Rattle.code_words.specs.declared.image.Func.{Func}
 use Rattle.code_words.specs.declared.image.Import.{Import}
 use Rattle.code_words.specs.declared.image.Callback.{Callback}
-use Rattle.code_words.specs.declared.image.Param.{Param}
+use Rattle.marshalling.specs.declared.signature.Param.{Param}
 use Rattle.code_words.specs.Images.{Image}
-use Rattle.code_words.specs.Marshalling.{Fault, Count, TooLarge, OutOfRange, arguments_fault, fits_kind}
+use Rattle.marshalling.specs.declared.fault.MarshalFault.{MarshalFault}
+use Rattle.marshalling.specs.declared.fault.MarshalFault.TheVariants as faults
+use Rattle.marshalling.specs.Crossing.{arguments_fault, fits_kind}
 use Rattle.code_words.specs.Table.{Frame, Caller, Calls, Waits, CalledBack, Touch, Loads, Stores, Passes, Replies, Control, Runs, Touches, Away, State, Step, Goes, Over, wild, holds, depth, is_positive, asked, push, push_if, push_some, push_checked, pop, on_with, pop_2, pop_3, pop_5, pop_6, pop_if, peek, set_if, load_if, load, store_if, store, check, touch_if, behind, enter, call_function, call_tainted, push_result, reply_of, reply_with, return_to, allocate_if, allocate, allocate_sandbox_if, byte_at, by_byte, count_from, jump_if, jump, jump_if_zero, of_two, of_one, checked_of_two, act, act_next, step_in, step, frame_for}
 use Rattle.code_words.specs.Moves.{in_world, without_first, make_touch, before_touch_by, run_if, run_callback, at_place_of, tested, call_back_if, call_back, reply_if, reply_to, answer, in_sandbox_by, take_before_touch, take_in_sandbox, before_touch, in_sandbox, move, move_by}
 use Rattle.code_words.specs.Paced.{is_tick, is_call, target_of, is_paced}
@@ -188,14 +190,8 @@ module _ (fun : Func) (f : Frame) (first : State) where
     act-goes ops.Duplicate = inl (refl, peek-on f.stack _ first (λ w. push-on w f.stack first here))
     act-goes (ops.BlockAddress k) = inl (refl, push_some-on _ f.stack first here)
     act-goes (ops.BlockOffset k) = inl (refl, push_some-on _ f.stack first here)
-    act-goes (ops.Add place) = inl (refl, checked-on (arithmetic.sum place) first here)
-    act-goes (ops.Sub place) = inl (refl, checked-on (arithmetic.difference place) first here)
-    act-goes (ops.Mul place) = inl (refl, checked-on (arithmetic.product place) first here)
-    act-goes (ops.Div place) = inl (refl, checked-on (arithmetic.quotient place) first here)
-    act-goes (ops.Rem place) = inl (refl, checked-on (arithmetic.remainder place) first here)
+    act-goes (ops.Arithmetic operator place) = inl (refl, checked-on (arithmetic_result operator place) first here)
     act-goes (ops.Neg place) = inl (refl, pop-on f.stack _ first (λ b stack. push_checked-on _ stack first here))
-    act-goes (ops.Shl place) = inl (refl, checked-on (arithmetic.shifted_left place) first here)
-    act-goes (ops.Shr place) = inl (refl, checked-on (arithmetic.shifted_right place) first here)
     act-goes ops.WrapAdd = inl (refl, two-on _ first here)
     act-goes ops.WrapSub = inl (refl, two-on _ first here)
     act-goes ops.WrapMul = inl (refl, two-on _ first here)
@@ -204,16 +200,9 @@ module _ (fun : Func) (f : Frame) (first : State) where
     act-goes ops.WrapShr = inl (refl, two-on _ first here)
     act-goes ops.WrapDiv = inl (refl, tt)
     act-goes ops.WrapRem = inl (refl, tt)
-    act-goes ops.And = inl (refl, two-on _ first here)
-    act-goes ops.Or = inl (refl, two-on _ first here)
-    act-goes ops.Xor = inl (refl, two-on _ first here)
+    act-goes (ops.Bitwise operator) = inl (refl, two-on _ first here)
     act-goes ops.Not = inl (refl, one-on _ first here)
-    act-goes ops.Equal = inl (refl, two-on _ first here)
-    act-goes ops.NotEqual = inl (refl, two-on _ first here)
-    act-goes ops.Less = inl (refl, two-on _ first here)
-    act-goes ops.LessEqual = inl (refl, two-on _ first here)
-    act-goes ops.Greater = inl (refl, two-on _ first here)
-    act-goes ops.GreaterEqual = inl (refl, two-on _ first here)
+    act-goes (ops.Compare comparison) = inl (refl, two-on _ first here)
     act-goes ops.UnsignedLess = inl (refl, two-on _ first here)
     act-goes ops.UnsignedLessEqual = inl (refl, two-on _ first here)
     act-goes ops.UnsignedGreater = inl (refl, two-on _ first here)
@@ -500,11 +489,11 @@ module _ (image : Image) (settings : Settings) (paced : IsTrue (is_paced image))
   placed None code s u = tt
   placed (Some p) code s u = tt
 
-  tested-falls : (k : ℕ) (callback : Callback) (fault : Option Fault) (words : List ℕ) (s : State) (w : World) → s.control ≡ Away → s.world.ticks < settings.budget → w.ticks ≡ s.world.ticks + 1 → Falls s (tested image k callback fault words (in_world w s))
+  tested-falls : (k : ℕ) (callback : Callback) (fault : Option MarshalFault) (words : List ℕ) (s : State) (w : World) → s.control ≡ Away → s.world.ticks < settings.budget → w.ticks ≡ s.world.ticks + 1 → Falls s (tested image k callback fault words (in_world w s))
   tested-falls k callback None words s w away room one = called k callback (slice_get image.trusted.funs callback.fun) words s w refl away room one
-  tested-falls k callback (Some Count) words s w away room one = tt
-  tested-falls k callback (Some (TooLarge param)) words s w away room one = placed (slice_get callback.signature param) C9 s _
-  tested-falls k callback (Some (OutOfRange param)) words s w away room one = placed (slice_get callback.signature param) C4 s _
+  tested-falls k callback (Some faults.Count) words s w away room one = tt
+  tested-falls k callback (Some (faults.Char param)) words s w away room one = placed (slice_get callback.signature param) C9 s _
+  tested-falls k callback (Some (faults.Range param)) words s w away room one = placed (slice_get callback.signature param) C4 s _
 
   call_back-falls : (k : ℕ) (callback : Option Callback) (words : List ℕ) (s : State) (w : World) → s.control ≡ Away → w.ticks ≡ s.world.ticks → Falls s (call_back image settings k callback words (in_world w s))
   call_back-falls k None words s w away same = tt

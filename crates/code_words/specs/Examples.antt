@@ -8,10 +8,10 @@ use Rattle.act_words.specs.Acts.{Act, Seen, Release}
 use Rattle.act_words.specs.View.{releases_of}
 use Rattle.code_words.specs.declared.op.Op.{Op}
 use Rattle.code_words.specs.declared.op.Op.TheVariants.{Const, TaintedCall, Return}
-use Rattle.code_words.specs.declared.image.WordKind.{WordKind}
-use Rattle.code_words.specs.declared.image.WordKind.TheVariants as kinds
-use Rattle.code_words.specs.declared.image.Region.{Region}
-use Rattle.code_words.specs.declared.image.Param.{Param}
+use Rattle.marshalling.specs.declared.kind.WordKind.{WordKind}
+use Rattle.marshalling.specs.declared.kind.WordKind.TheVariants as kinds
+use Rattle.marshalling.specs.declared.signature.Region.{Region}
+use Rattle.marshalling.specs.declared.signature.Param.{Param}
 use Rattle.code_words.specs.declared.image.Func.{Func}
 use Rattle.code_words.specs.Images.{Image}
 use Rattle.code_words.specs.Runs.{Run, Unfinished, Finished, exec, started, events_of}

@@ -1,9 +1,9 @@
 -- What every image keeps: the orders and limits of a listing, and the pace.
-use Rattle.std.specs.Prelude.{◌≡◌, ℕ, suc, ◌+◌, ◌<◌, ◌≤◌, IsTrue, List, [], ◌∷◌, length, map, Option, Some, None, All}
-use Rattle.code_words.specs.declared.image.WordKind.{WordKind}
-use Rattle.code_words.specs.declared.image.WordKind.TheVariants as kinds
-use Rattle.code_words.specs.declared.image.Region.{Region}
-use Rattle.code_words.specs.declared.image.Param.{Param}
+use Rattle.std.specs.Prelude.{◌≡◌, ℕ, suc, ◌+◌, ◌<◌, ◌≤◌, Bool, true, nat_le, IsTrue, List, [], ◌∷◌, length, map, Option, Some, None, All}
+use Rattle.std.specs.List.{list_all}
+use Rattle.marshalling.specs.Signatures.{IsSignature}
+use Rattle.code_words.specs.declared.op.Op.{Op}
+use Rattle.code_words.specs.declared.op.Op.TheVariants as ops
 use Rattle.code_words.specs.declared.image.Func.{Func}
 use Rattle.code_words.specs.declared.image.Import.{Import}
 use Rattle.code_words.specs.declared.image.Callback.{Callback}
@@ -22,7 +22,7 @@ abbrev pub Rise : ℕ → List ℕ → Type 0
 Rise least [] = Unit {0}
 Rise least (number ∷ numbers) = (least ≤ number) × Rise (suc number) numbers
 
--- ---- functions and parameters
+-- ---- functions
 
 -- the frame of a function is small enough, and has a slot for each argument
 pub record HasSmallFrame (f : Func) : Type 0 where
@@ -30,36 +30,35 @@ pub record HasSmallFrame (f : Func) : Type 0 where
   pub arguments : f.args ≤ 16
   pub held : f.args ≤ f.slots
 
--- the number of a parameter, if there is one
-abbrev pub IsBelow : ℕ → Option ℕ → Type 0
-IsBelow count None = Unit {0}
-IsBelow count (Some number) = number < count
+-- the size of the elements that an instruction counts
+abbrev pub element_size : Op → Option ℕ
+element_size (ops.Index size) = Some size
+element_size (ops.In low high size place) = Some size
+element_size (ops.UpTo low high size place) = Some size
+element_size (ops.Term high size place) = Some size
+element_size (ops.Contain low1 high1 low2 high2 size place) = Some size
+element_size (ops.Lies low high size more place) = Some size
+element_size (ops.Alloc size) = Some size
+element_size (ops.AllocTerminated size) = Some size
+element_size (ops.SandboxAlloc size) = Some size
+element_size _ = None
 
--- a pointer of so many parameters has bounds over these parameters alone; its elements have a size
-pub record IsRegionAmong (count : ℕ) (r : Region) : Type 0 where
-  pub base : r.base < count
-  pub low : IsBelow count r.low_var
-  pub high : IsBelow count r.high_var
-  pub size : 1 ≤ r.size
+abbrev pub is_sized : Op → Bool
+is_sized op = by (element_size op)
+  where
+    by : Option ℕ → Bool
+    by None = true
+    by (Some size) = nat_le 1 size
 
--- what may stand among so many parameters
-abbrev pub IsParameterOf : ℕ → WordKind → Option Region → Type 0
-IsParameterOf count kinds.Void region = ⊥
-IsParameterOf count kinds.Pointer None = Unit {0}
-IsParameterOf count kinds.Pointer (Some region) = IsRegionAmong count region
-IsParameterOf count kinds.Int None = Unit {0}
-IsParameterOf count kinds.Int (Some region) = ⊥
-IsParameterOf count kinds.Char None = Unit {0}
-IsParameterOf count kinds.Char (Some region) = ⊥
-
-pub record IsCallable (c : Callback) : Type 0 where
-  pub few : length c.signature ≤ 16
-  pub parameters : All (λ (p : Param). IsParameterOf (length c.signature) p.kind p.region) c.signature
+-- elements that are counted have a size of 1 or more
+abbrev pub is_sized_function : Func → Bool
+is_sized_function f = list_all is_sized f.ops
 
 -- ---- images
 
 -- functions, tainted functions and callbacks are numbered from 0; the sandbox's functions have the numbers of tainted ones, in
--- their order; frames, arguments and parameters are as they may be; between two ticks control moves forward only, or returns
+-- their order; frames, arguments, parameters and sizes are as they may be; between two ticks control moves forward only, or
+-- returns
 pub record KeepsFormat (image : Image) : Type 0 where
   pub functions : Follow 0 (map (λ (f : Func). f.number) image.trusted.funs)
   pub imports : Follow 0 (map (λ (i : Import). i.number) image.layout.imports)
@@ -68,6 +67,8 @@ pub record KeepsFormat (image : Image) : Type 0 where
   pub imported : All (λ (f : Func). f.number < length image.layout.imports) image.sandbox.funs
   pub frames : All HasSmallFrame image.trusted.funs
   pub sandbox_frames : All HasSmallFrame image.sandbox.funs
+  pub sized : IsTrue (list_all is_sized_function image.trusted.funs)
+  pub sandbox_sized : IsTrue (list_all is_sized_function image.sandbox.funs)
   pub few_arguments : All (λ (i : Import). i.args ≤ 16) image.layout.imports
-  pub callable : All IsCallable image.layout.callbacks
+  pub callable : All (λ (c : Callback). IsSignature c.signature) image.layout.callbacks
   pub paced : IsTrue (is_paced image)

@@ -1,5 +1,4 @@
 pub mod Images
-pub mod Marshalling
 pub mod Table
 pub mod Moves
 pub mod SandboxCode

@@ -10,12 +10,14 @@ use Rattle.act_words.specs.World.{World, NoAct, telling, in_turn, taken_one}
 use Rattle.act_words.specs.Acting.{BeforeTouch, InSandbox, act_before_touch, act_in_sandbox, sandbox_ended, stopped_by_act}
 use Rattle.act_words.specs.Touches.{released, spend_tick, enter_call}
 use Rattle.flat_bytes.specs.Words.{word_at}
-use Rattle.code_words.specs.Marshalling.{Fault, Count, TooLarge, OutOfRange, fits_kind, arguments_fault}
+use Rattle.marshalling.specs.declared.fault.MarshalFault.{MarshalFault}
+use Rattle.marshalling.specs.declared.fault.MarshalFault.TheVariants as faults
+use Rattle.marshalling.specs.Crossing.{fits_kind, arguments_fault}
 use Rattle.code_words.specs.Table.{Frame, Caller, Calls, Waits, CalledBack, Touch, Loads, Stores, Passes, Replies, Control, Runs, Touches, Away}
 use Rattle.code_words.specs.Table.{State, Step, Goes, Over, depth, wild, asked, behind, enter, push_result, step}
-use Rattle.code_words.specs.declared.image.Param.{Param}
-use Rattle.code_words.specs.declared.image.WordKind.{WordKind}
-use Rattle.code_words.specs.declared.image.WordKind.TheVariants as kinds
+use Rattle.marshalling.specs.declared.signature.Param.{Param}
+use Rattle.marshalling.specs.declared.kind.WordKind.{WordKind}
+use Rattle.marshalling.specs.declared.kind.WordKind.TheVariants as kinds
 use Rattle.code_words.specs.declared.image.Func.{Func}
 use Rattle.code_words.specs.declared.image.Import.{Import}
 use Rattle.code_words.specs.declared.image.Callback.{Callback}
@@ -62,11 +64,11 @@ at_place_of None next none = none
 at_place_of (Some p) next none = next p.place
 
 -- the arguments of a callback are tested behind its tick and its depth
-abbrev pub tested : Image → ℕ → Callback → Option Fault → List ℕ → State → Step
+abbrev pub tested : Image → ℕ → Callback → Option MarshalFault → List ℕ → State → Step
 tested image k callback None words s = run_callback k callback (slice_get image.trusted.funs callback.fun) words s
-tested image k callback (Some Count) words s = wild s
-tested image k callback (Some (TooLarge param)) words s = at_place_of (slice_get callback.signature param) (λ place. Over (endings.Check C9 place) s) (wild s)
-tested image k callback (Some (OutOfRange param)) words s = at_place_of (slice_get callback.signature param) (λ place. Over (endings.Check C4 place) s) (wild s)
+tested image k callback (Some faults.Count) words s = wild s
+tested image k callback (Some (faults.Char param)) words s = at_place_of (slice_get callback.signature param) (λ place. Over (endings.Check C9 place) s) (wild s)
+tested image k callback (Some (faults.Range param)) words s = at_place_of (slice_get callback.signature param) (λ place. Over (endings.Check C4 place) s) (wild s)
 
 abbrev pub call_back_if : Bool → Image → Settings → ℕ → Callback → List ℕ → State → Step
 call_back_if false image settings k callback words s = Over (stopped_by_act S5 s.world) s

@@ -1,22 +1,22 @@
 -- The sandbox's own code as an actor: its instructions, of which loads, stores, calls of callbacks and the return to the
 -- trusted side are acts. Where a line has no result, the act is `stop`.
-use Rattle.std.specs.Prelude.{◌≡◌, ℕ, zero, suc, ◌+◌, ◌-◌, ◌*◌, ◌%◌, Bool, true, false, not, ◌&&◌, ◌==◌, nat_lt, nat_le, int_lt, int_le, bit_and}
-use Rattle.std.specs.Prelude.{bit_or, bit_xor, List, [], ◌∷◌, ◌++◌, length, replicate, reverse, take, drop, Option, Some, None, slice_get}
-use Rattle.std.specs.Prelude.{slice_set, find, option_map}
-use Rattle.std.proofs.Common.{ℤ}
+use Rattle.std.specs.Prelude.{◌≡◌, ℕ, zero, suc, ◌+◌, ◌%◌, Bool, true, false, ◌==◌, nat_lt, nat_le}
+use Rattle.std.specs.Prelude.{List, [], ◌∷◌, length, reverse, take, drop, Option, Some, None, slice_get}
+use Rattle.std.specs.Prelude.{slice_set, find}
 use Rattle.std.specs.Int.{to_le_bytes, w8, w32}
 use Rattle.act_words.specs.declared.act.Turn.{Turn}
 use Rattle.act_words.specs.declared.act.Turn.TheVariants as turns
 use Rattle.act_words.specs.Acts.{Act, Go, Read, Write, Call, Return, Stop, Seen, SeenBytes, SeenCall, SeenReply}
-use Rattle.act_words.specs.Numbers.{signed, word}
+use Rattle.act_words.specs.Numbers.{word}
 use Rattle.flat_bytes.specs.Words.{word_at}
 use Rattle.act_words.specs.Arithmetic as arithmetic
 use Rattle.act_words.specs.Arithmetic.{bit}
+use Rattle.act_words.specs.Operators.{bitwise_result, holds_of_words}
 use Rattle.code_words.specs.Table.{element, offset_of, slots_for}
 use Rattle.code_words.specs.declared.op.Op.{Op}
 use Rattle.code_words.specs.declared.op.Op.TheVariants as ops
-use Rattle.code_words.specs.declared.image.WordKind.{WordKind}
-use Rattle.code_words.specs.declared.image.WordKind.TheVariants as kinds
+use Rattle.marshalling.specs.declared.kind.WordKind.{WordKind}
+use Rattle.marshalling.specs.declared.kind.WordKind.TheVariants as kinds
 use Rattle.code_words.specs.declared.image.Func.{Func}
 use Rattle.code_words.specs.declared.image.Callback.{Callback}
 use Rattle.code_words.specs.Images.{Image}
@@ -214,14 +214,8 @@ act image budget fun ops.Discard f s = pop f.stack (λ w stack. on_with f stack 
 act image budget fun ops.Duplicate f s = peek f.stack (λ w. push fun w f.stack f s) s
 act image budget fun (ops.BlockAddress k) f s = stop s
 act image budget fun (ops.BlockOffset k) f s = push_some fun (offset_of image k) f.stack f s
-act image budget fun (ops.Add place) f s = stop s
-act image budget fun (ops.Sub place) f s = stop s
-act image budget fun (ops.Mul place) f s = stop s
-act image budget fun (ops.Div place) f s = stop s
-act image budget fun (ops.Rem place) f s = stop s
+act image budget fun (ops.Arithmetic operator place) f s = stop s
 act image budget fun (ops.Neg place) f s = stop s
-act image budget fun (ops.Shl place) f s = stop s
-act image budget fun (ops.Shr place) f s = stop s
 act image budget fun ops.WrapAdd f s = of_two fun arithmetic.wrapping_sum f s
 act image budget fun ops.WrapSub f s = of_two fun arithmetic.wrapping_difference f s
 act image budget fun ops.WrapMul f s = of_two fun arithmetic.wrapping_product f s
@@ -230,16 +224,9 @@ act image budget fun ops.WrapShl f s = of_two fun arithmetic.wrapping_shift_left
 act image budget fun ops.WrapShr f s = of_two fun arithmetic.wrapping_shift_right f s
 act image budget fun ops.WrapDiv f s = of_divisor fun arithmetic.wrapping_quotient f s
 act image budget fun ops.WrapRem f s = of_divisor fun arithmetic.wrapping_remainder f s
-act image budget fun ops.And f s = of_two fun bit_and f s
-act image budget fun ops.Or f s = of_two fun bit_or f s
-act image budget fun ops.Xor f s = of_two fun bit_xor f s
+act image budget fun (ops.Bitwise operator) f s = of_two fun (bitwise_result operator) f s
 act image budget fun ops.Not f s = of_one fun arithmetic.complement f s
-act image budget fun ops.Equal f s = of_two fun (λ a b. bit (a == b)) f s
-act image budget fun ops.NotEqual f s = of_two fun (λ a b. bit (not (a == b))) f s
-act image budget fun ops.Less f s = of_two fun (λ a b. bit (int_lt (signed a) (signed b))) f s
-act image budget fun ops.LessEqual f s = of_two fun (λ a b. bit (int_le (signed a) (signed b))) f s
-act image budget fun ops.Greater f s = of_two fun (λ a b. bit (int_lt (signed b) (signed a))) f s
-act image budget fun ops.GreaterEqual f s = of_two fun (λ a b. bit (int_le (signed b) (signed a))) f s
+act image budget fun (ops.Compare comparison) f s = of_two fun (λ a b. bit (holds_of_words comparison a b)) f s
 act image budget fun ops.UnsignedLess f s = of_two fun (λ a b. bit (nat_lt a b)) f s
 act image budget fun ops.UnsignedLessEqual f s = of_two fun (λ a b. bit (nat_le a b)) f s
 act image budget fun ops.UnsignedGreater f s = of_two fun (λ a b. bit (nat_lt b a)) f s

@@ -1,7 +1,7 @@
 -- The instruction table: what each instruction does, over one memory at a base address, words of 32 bits, and the world
 -- that the sandbox shares. A run goes in moves: an instruction, or an act of the sandbox.
-use Rattle.std.specs.Prelude.{ℕ, zero, suc, ◌+◌, ◌-◌, ◌*◌, ◌%◌, Bool, true, false, not, ◌&&◌, ◌||◌, ◌==◌, nat_lt, nat_le, int_lt, int_le, bit_and}
-use Rattle.std.specs.Prelude.{bit_or, bit_xor, List, [], ◌∷◌, ◌++◌, length, replicate, reverse, take, drop, Option, Some, None, slice_get}
+use Rattle.std.specs.Prelude.{ℕ, zero, suc, ◌+◌, ◌-◌, ◌*◌, ◌%◌, Bool, true, false, not, ◌&&◌, ◌||◌, ◌==◌, nat_lt, nat_le, int_lt, int_le}
+use Rattle.std.specs.Prelude.{List, [], ◌∷◌, ◌++◌, length, replicate, reverse, take, drop, Option, Some, None, slice_get}
 use Rattle.std.specs.Prelude.{slice_index, slice_set, pos}
 use Rattle.std.proofs.Common.{ℤ, ◌+ℤ◌, ◌*ℤ◌}
 use Rattle.std.specs.Int.{to_le_bytes, w8, w32}
@@ -18,13 +18,14 @@ use Rattle.flat_bytes.specs.Blocks.{Block, first_offset, grown, is_refused}
 use Rattle.trusted_memory.specs.Memories.{Memory, made, address_made}
 use Rattle.act_words.specs.World.{World}
 use Rattle.act_words.specs.Touches.{Asked, Got, Ended, spend_tick, enter_call, next_input, write, make_block}
-use Rattle.code_words.specs.Marshalling.{end_at, lie_in}
+use Rattle.marshalling.specs.Crossing.{end_at, lie_in}
 use Rattle.act_words.specs.Arithmetic as arithmetic
 use Rattle.act_words.specs.Arithmetic.{bit}
+use Rattle.act_words.specs.Operators.{arithmetic_result, bitwise_result, holds_of_words}
 use Rattle.code_words.specs.declared.op.Op.{Op}
 use Rattle.code_words.specs.declared.op.Op.TheVariants as ops
-use Rattle.code_words.specs.declared.image.WordKind.{WordKind}
-use Rattle.code_words.specs.declared.image.WordKind.TheVariants as kinds
+use Rattle.marshalling.specs.declared.kind.WordKind.{WordKind}
+use Rattle.marshalling.specs.declared.kind.WordKind.TheVariants as kinds
 use Rattle.code_words.specs.declared.image.Func.{Func}
 use Rattle.code_words.specs.declared.image.Import.{Import}
 use Rattle.code_words.specs.declared.image.Callback.{Callback}
@@ -383,14 +384,8 @@ act image settings fun ops.Discard f s = pop f.stack (λ w stack. on_with f stac
 act image settings fun ops.Duplicate f s = peek f.stack (λ w. push fun w f.stack f s) s
 act image settings fun (ops.BlockAddress k) f s = push_some fun (address_of image settings.base k) f.stack f s
 act image settings fun (ops.BlockOffset k) f s = push_some fun (offset_of image k) f.stack f s
-act image settings fun (ops.Add place) f s = checked_of_two fun (arithmetic.sum place) f s
-act image settings fun (ops.Sub place) f s = checked_of_two fun (arithmetic.difference place) f s
-act image settings fun (ops.Mul place) f s = checked_of_two fun (arithmetic.product place) f s
-act image settings fun (ops.Div place) f s = checked_of_two fun (arithmetic.quotient place) f s
-act image settings fun (ops.Rem place) f s = checked_of_two fun (arithmetic.remainder place) f s
+act image settings fun (ops.Arithmetic operator place) f s = checked_of_two fun (arithmetic_result operator place) f s
 act image settings fun (ops.Neg place) f s = pop f.stack (λ b stack. push_checked fun (arithmetic.negation place (signed b)) stack f s) s
-act image settings fun (ops.Shl place) f s = checked_of_two fun (arithmetic.shifted_left place) f s
-act image settings fun (ops.Shr place) f s = checked_of_two fun (arithmetic.shifted_right place) f s
 act image settings fun ops.WrapAdd f s = of_two fun arithmetic.wrapping_sum f s
 act image settings fun ops.WrapSub f s = of_two fun arithmetic.wrapping_difference f s
 act image settings fun ops.WrapMul f s = of_two fun arithmetic.wrapping_product f s
@@ -399,16 +394,9 @@ act image settings fun ops.WrapShl f s = of_two fun arithmetic.wrapping_shift_le
 act image settings fun ops.WrapShr f s = of_two fun arithmetic.wrapping_shift_right f s
 act image settings fun ops.WrapDiv f s = wild s
 act image settings fun ops.WrapRem f s = wild s
-act image settings fun ops.And f s = of_two fun bit_and f s
-act image settings fun ops.Or f s = of_two fun bit_or f s
-act image settings fun ops.Xor f s = of_two fun bit_xor f s
+act image settings fun (ops.Bitwise operator) f s = of_two fun (bitwise_result operator) f s
 act image settings fun ops.Not f s = of_one fun arithmetic.complement f s
-act image settings fun ops.Equal f s = of_two fun (λ a b. bit (a == b)) f s
-act image settings fun ops.NotEqual f s = of_two fun (λ a b. bit (not (a == b))) f s
-act image settings fun ops.Less f s = of_two fun (λ a b. bit (int_lt (signed a) (signed b))) f s
-act image settings fun ops.LessEqual f s = of_two fun (λ a b. bit (int_le (signed a) (signed b))) f s
-act image settings fun ops.Greater f s = of_two fun (λ a b. bit (int_lt (signed b) (signed a))) f s
-act image settings fun ops.GreaterEqual f s = of_two fun (λ a b. bit (int_le (signed b) (signed a))) f s
+act image settings fun (ops.Compare comparison) f s = of_two fun (λ a b. bit (holds_of_words comparison a b)) f s
 act image settings fun ops.UnsignedLess f s = of_two fun (λ a b. bit (nat_lt a b)) f s
 act image settings fun ops.UnsignedLessEqual f s = of_two fun (λ a b. bit (nat_le a b)) f s
 act image settings fun ops.UnsignedGreater f s = of_two fun (λ a b. bit (nat_lt b a)) f s

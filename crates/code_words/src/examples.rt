@@ -4,9 +4,12 @@ ghost use Rattle.std.specs.Prelude.{◌≡◌, [], ◌∷◌, map, replicate, So
 ghost use Rattle.ckc_text.specs.declared.place.Place.{Place};
 ghost use Rattle.ckc_text.specs.declared.code.Code.TheVariants.{C1, C2, C3, C4, C5, C6, C8, C9, S1, S3, S5, S6};
 ghost use Rattle.act_words.specs.declared.ending.Ending.TheVariants.{Exit, Check, Stop as Stops};
+ghost use Rattle.act_words.specs.declared.operator.ArithmeticOperator.TheVariants as arithmetics;
+ghost use Rattle.act_words.specs.declared.operator.BitwiseOperator.TheVariants as bits;
+ghost use Rattle.act_words.specs.declared.operator.Comparison.TheVariants as comparisons;
 ghost use Rattle.act_words.specs.Acts.{Go, Read, Write, Call, Return as Returns, Stop, SeenBytes, SeenCall, SeenReply, Looked, Wrote, Passed, Replied};
 ghost use Rattle.code_words.specs.declared.op.Op.TheVariants as ops;
-ghost use Rattle.code_words.specs.declared.image.WordKind.TheVariants as kinds;
+ghost use Rattle.marshalling.specs.declared.kind.WordKind.TheVariants as kinds;
 ghost use Rattle.code_words.specs.Runs.{exec, started};
 ghost use Rattle.code_words.specs.SandboxCode.{Calls, resting};
 ghost use Rattle.code_words.specs.Examples.{settings_of, image_of, run_of, ending_of, ending_by, result_of, checked_by, releases_in, bytes_in, ticks_in, call_place, param, bytes_from, calling, calling_run, function_of, sandboxed, acts_of};
@@ -15,16 +18,31 @@ ghost use Rattle.code_words.specs.Examples.{settings_of, image_of, run_of, endin
 
 /// Sums and differences, and the check of their size.
 pub fn sums_and_differences()
-    ensures sum { (place : Place) → result_of (pos 41 ∷ pos 1 ∷ []) (ops.Add place) ≡ Some (Exit (pos 42)) }
-    ensures difference { (place : Place) → result_of (pos 1 ∷ pos 3 ∷ []) (ops.Sub place) ≡ Some (Exit (negsuc 1)) }
-    ensures overflow { (place : Place) → result_of (pos 2147483647 ∷ pos 1 ∷ []) (ops.Add place) ≡ Some (Check C6 place) }
+    ensures sum { (place : Place) → result_of (pos 41 ∷ pos 1 ∷ []) (ops.Arithmetic arithmetics.Add place) ≡ Some (Exit (pos 42)) }
+    ensures difference { (place : Place) → result_of (pos 1 ∷ pos 3 ∷ []) (ops.Arithmetic arithmetics.Subtract place) ≡ Some (Exit (negsuc 1)) }
+    ensures overflow { (place : Place) → result_of (pos 2147483647 ∷ pos 1 ∷ []) (ops.Arithmetic arithmetics.Add place) ≡ Some (Check C6 place) }
 {}
 
 /// Quotients are rounded toward zero, and shifts to the right down; no negative number is shifted to the left.
 pub fn quotients_and_shifts()
-    ensures quotient { (place : Place) → result_of (negsuc 6 ∷ pos 2 ∷ []) (ops.Div place) ≡ Some (Exit (negsuc 2)) }
-    ensures right { (place : Place) → result_of (negsuc 6 ∷ pos 1 ∷ []) (ops.Shr place) ≡ Some (Exit (negsuc 3)) }
-    ensures left { (place : Place) → result_of (negsuc 0 ∷ pos 1 ∷ []) (ops.Shl place) ≡ Some (Check C8 place) }
+    ensures quotient { (place : Place) → result_of (negsuc 6 ∷ pos 2 ∷ []) (ops.Arithmetic arithmetics.Divide place) ≡ Some (Exit (negsuc 2)) }
+    ensures right { (place : Place) → result_of (negsuc 6 ∷ pos 1 ∷ []) (ops.Arithmetic arithmetics.ShiftRight place) ≡ Some (Exit (negsuc 3)) }
+    ensures left { (place : Place) → result_of (negsuc 0 ∷ pos 1 ∷ []) (ops.Arithmetic arithmetics.ShiftLeft place) ≡ Some (Check C8 place) }
+{}
+
+/// Bits of both words, and comparisons of numbers with a sign.
+pub fn bits_and_comparisons()
+    ensures and { result_of (pos 12 ∷ pos 10 ∷ []) (ops.Bitwise bits.And) ≡ Some (Exit (pos 8)) }
+    ensures or { result_of (pos 12 ∷ pos 10 ∷ []) (ops.Bitwise bits.Or) ≡ Some (Exit (pos 14)) }
+    ensures xor { result_of (pos 12 ∷ pos 10 ∷ []) (ops.Bitwise bits.Xor) ≡ Some (Exit (pos 6)) }
+    ensures equal { result_of (pos 3 ∷ pos 3 ∷ []) (ops.Compare comparisons.Equal) ≡ Some (Exit (pos 1)) }
+    ensures not_equal { result_of (pos 3 ∷ pos 3 ∷ []) (ops.Compare comparisons.NotEqual) ≡ Some (Exit (pos 0)) }
+    ensures less { result_of (negsuc 0 ∷ pos 0 ∷ []) (ops.Compare comparisons.Less) ≡ Some (Exit (pos 1)) }
+    ensures not_less { result_of (pos 3 ∷ pos 3 ∷ []) (ops.Compare comparisons.Less) ≡ Some (Exit (pos 0)) }
+    ensures less_equal { result_of (pos 3 ∷ pos 3 ∷ []) (ops.Compare comparisons.LessEqual) ≡ Some (Exit (pos 1)) }
+    ensures greater { result_of (pos 0 ∷ negsuc 0 ∷ []) (ops.Compare comparisons.Greater) ≡ Some (Exit (pos 1)) }
+    ensures not_greater { result_of (pos 3 ∷ pos 3 ∷ []) (ops.Compare comparisons.Greater) ≡ Some (Exit (pos 0)) }
+    ensures greater_equal { result_of (pos 3 ∷ pos 3 ∷ []) (ops.Compare comparisons.GreaterEqual) ≡ Some (Exit (pos 1)) }
 {}
 
 /// Bytes and words of memory: null is checked, what is stored is loaded, a byte is stored modulo 256, and the last four

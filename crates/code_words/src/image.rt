@@ -6,38 +6,9 @@ ghost use Rattle.code_words.specs.Formats.{KeepsFormat};
 use ckc_text::listed::Listed;
 use crate::op::Op;
 use ckc_text::name::Name;
-use ckc_text::place::Place;
+use marshalling::kind::WordKind;
+use marshalling::signature::Signature;
 use std::marker::Model;
-
-/// What a word stands for that crosses between the sides, and what a function returns.
-#[derive(Clone, Copy)]
-pub enum WordKind {
-    Int,
-    Char,
-    Pointer,
-    Void,
-}
-
-/// The bounds of a pointer that the sandbox passes: from parameter `base` plus `low` elements to it plus `high`
-/// elements, each end with the number of a parameter added, if there is one, and `more` bytes behind them.
-#[derive(Clone, Copy)]
-pub struct Region {
-    pub base: u32,
-    pub low_var: Option<u32>,
-    pub low_plus: i64,
-    pub high_var: Option<u32>,
-    pub high_plus: i64,
-    pub size: u32,
-    pub more: u32,
-}
-
-/// A parameter of a callback: what it is, where it is declared, and the bounds that it has, if it has some.
-#[derive(Clone, Copy)]
-pub struct Param {
-    pub kind: WordKind,
-    pub place: Place,
-    pub region: Option<Region>,
-}
 
 /// The instructions of a function.
 pub type Ops = Listed<Op>;
@@ -78,9 +49,6 @@ pub struct Import {
     pub args: u32,
     pub result: WordKind,
 }
-
-/// The parameters of a callback.
-pub type Signature = Listed<Param>;
 
 /// Callbacks, in order of number.
 pub type Callbacks = Listed<Callback>;

@@ -1,5 +1,6 @@
 // The instructions of the machine.
 
+use act_words::operator::{ArithmeticOperator, BitwiseOperator, Comparison};
 use ckc_text::place::Place;
 
 /// An instruction. Words have 32 bits, and are pushed to and popped from the frame's stack; `a` stands for the word
@@ -20,39 +21,16 @@ pub enum Op {
     BlockAddress(u32),
     /// Pushes the offset of a static block of sandbox memory.
     BlockOffset(u32),
-    /// `a + b` (C6).
-    Add {
-        place: Place,
-    },
-    /// `a - b` (C6).
-    Sub {
-        place: Place,
-    },
-    /// `a * b` (C6).
-    Mul {
-        place: Place,
-    },
-    /// `a / b`, rounded toward zero (C7, C6).
-    Div {
-        place: Place,
-    },
-    /// The remainder of `a / b` (C7, C6).
-    Rem {
+    /// An arithmetic operator on `a` and `b` (C6, C7, C8).
+    Arithmetic {
+        operator: ArithmeticOperator,
         place: Place,
     },
     /// `-b` (C6).
     Neg {
         place: Place,
     },
-    /// `a << b` (C8).
-    Shl {
-        place: Place,
-    },
-    /// `a >> b`, which keeps the sign (C8).
-    Shr {
-        place: Place,
-    },
-    /// The same modulo 2^32; shifts take their count modulo 32.
+    /// Arithmetic modulo 2^32; shifts take their count modulo 32.
     WrapAdd,
     WrapSub,
     WrapMul,
@@ -62,17 +40,12 @@ pub enum Op {
     /// In sandbox code: a zero divisor makes the act `stop`.
     WrapDiv,
     WrapRem,
-    And,
-    Or,
-    Xor,
+    /// A bitwise operator on `a` and `b`.
+    Bitwise(BitwiseOperator),
+    /// Each bit of `b` turned.
     Not,
-    /// Comparisons of numbers with a sign: 1 or 0.
-    Equal,
-    NotEqual,
-    Less,
-    LessEqual,
-    Greater,
-    GreaterEqual,
+    /// A comparison of `a` and `b` with a sign: 1 or 0.
+    Compare(Comparison),
     /// Comparisons of words without a sign: 1 or 0.
     UnsignedLess,
     UnsignedLessEqual,

@@ -2,6 +2,7 @@
 use Rattle.std.proofs.Common.{◌≡◌, ℕ, ◌+◌, ◌<◌, Bool, true, false, pos, List, [], ◌∷◌, length, Option, Some, None, refl, ap, ◌∙◌, subst, arith}
 use Rattle.std.specs.Prelude.{slice_get, not, ◌==◌}
 use Rattle.act_words.specs.Outcome.{Gives, and_then}
+use Rattle.act_words.specs.declared.operator.Comparison.TheVariants as comparisons
 use Rattle.ckc_core.specs.States.{Value, Number, Null, At}
 use Rattle.ckc_core.specs.States as meaning
 use Rattle.ckc_core.specs.Meaning.{Result, truth, number_of_test, choose, same_place, test_given}
@@ -62,11 +63,11 @@ module _ (g : Execution) (l : Layout g) where
       (λ b u x. subst (λ n. Arrives g l n stack (number_of_test (truth b)) u) end (truth_runs (next + 3 + size) stack u b x.1 x.0 at.0 at.1.0 room))
 
   -- whether two pointers are the same
-  same_runs_by : (next : ℕ) (stack : List ℕ) (s : meaning.State) (v w : Value) (o : Option Bool) → same_place v w ≡ o → IsKept g v → IsKept g w → Here g l next (word_of g w ∷ (word_of g v ∷ stack)) s → slice_get (code g l).ops next ≡ Some ops.Equal → length stack < (code g l).stack → Evaluates g l (next + 1) stack (test_given o s)
+  same_runs_by : (next : ℕ) (stack : List ℕ) (s : meaning.State) (v w : Value) (o : Option Bool) → same_place v w ≡ o → IsKept g v → IsKept g w → Here g l next (word_of g w ∷ (word_of g v ∷ stack)) s → slice_get (code g l).ops next ≡ Some (ops.Compare comparisons.Equal) → length stack < (code g l).stack → Evaluates g l (next + 1) stack (test_given o s)
   same_runs_by next stack s v w None is hv hw here at room = tt
   same_runs_by next stack s v w (Some test) is hv hw here at room =
       subst (λ t. Arrives g l (next + 1) stack (number_of_test t) s) (same_words g v w test hv hw is)
-      (test_runs g l next (word_of g w ∷ (word_of g v ∷ stack)) stack s ops.Equal (word_of g v == word_of g w) here at room (λ scratch. refl))
+      (test_runs g l next (word_of g w ∷ (word_of g v ∷ stack)) stack s (ops.Compare comparisons.Equal) (word_of g v == word_of g w) here at room (λ scratch. refl))
 
-  pub same_runs : (next : ℕ) (stack : List ℕ) (s : meaning.State) (v w : Value) → IsKept g v → IsKept g w → Here g l next (word_of g w ∷ (word_of g v ∷ stack)) s → slice_get (code g l).ops next ≡ Some ops.Equal → length stack < (code g l).stack → Evaluates g l (next + 1) stack (test_given (same_place v w) s)
+  pub same_runs : (next : ℕ) (stack : List ℕ) (s : meaning.State) (v w : Value) → IsKept g v → IsKept g w → Here g l next (word_of g w ∷ (word_of g v ∷ stack)) s → slice_get (code g l).ops next ≡ Some (ops.Compare comparisons.Equal) → length stack < (code g l).stack → Evaluates g l (next + 1) stack (test_given (same_place v w) s)
   same_runs next stack s v w hv hw here at room = same_runs_by next stack s v w (same_place v w) refl hv hw here at room

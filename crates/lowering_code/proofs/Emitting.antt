@@ -5,7 +5,7 @@ use Rattle.ckc_text.specs.declared.fault.NoMemory.{NoMemory}
 use Rattle.pointer_modes.specs.Types.{CType}
 use Rattle.ckc_core.specs.declared.program.Expr.{Expr}
 use Rattle.ckc_core.specs.declared.program.Stmt.{Stmt}
-use Rattle.ckc_core.specs.declared.program.Operator.{Operator}
+use Rattle.act_words.specs.declared.operator.Operator.{Operator}
 use Rattle.ckc_core.specs.declared.program.Site.{Site}
 use Rattle.ckc_core.specs.Core as core
 use Rattle.ckc_core.specs.Meaning.{is_char}

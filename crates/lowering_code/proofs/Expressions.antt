@@ -1,6 +1,6 @@
 -- What single instructions of an expression leave on the stack.
 use Rattle.std.proofs.Common.{◌≡◌, ℕ, zero, suc, ◌+◌, ◌%◌, ◌^◌, ◌<◌, Bool, true, false, ℤ, ◌+ℤ◌, ◌-ℤ◌, ◌*ℤ◌, neg_ℤ, pos, List, [], ◌∷◌, ◌++◌, length, map, Option, Some, None, refl, sym, ap, ◌∙◌, subst, arith}
-use Rattle.std.specs.Prelude.{slice_get, nat_lt, not, ◌&&◌, ◌==◌, int_div, int_rem, bit_and, bit_or, bit_xor}
+use Rattle.std.specs.Prelude.{slice_get, nat_lt, not, ◌&&◌, ◌==◌, int_div, int_rem}
 use Rattle.std.specs.List.{AllByRecursion}
 use Rattle.std.specs.Int.Bits.{and_lt}
 use Rattle.std.proofs.lemmas.Nat.{or_lt, xor_lt}
@@ -13,23 +13,27 @@ use Rattle.act_words.specs.Outcome.{Gives}
 use Rattle.act_words.specs.Checks.{Checked, Holds, Fails, held_if, is_word_number, without_overflow}
 use Rattle.act_words.specs.Numbers.{word}
 use Rattle.act_words.specs.Arithmetic as arithmetic
+use Rattle.act_words.specs.Operators.{bitwise_result, holds}
 use Rattle.act_words.specs.Arithmetic.{bit, checked_then, is_zero, is_count, is_not_negative, halved, count_of}
 use Rattle.act_words.specs.World.{spent_one, with_inputs}
 use Rattle.act_words.specs.Touches.{input_from, next_input, spent_if, spend_tick}
 use Rattle.ckc_core.specs.declared.program.Site.{Site}
-use Rattle.ckc_core.specs.declared.program.Operator.{Operator}
-use Rattle.ckc_core.specs.declared.program.Operator.TheVariants as operators
-use Rattle.ckc_core.specs.declared.program.Comparison.{Comparison}
-use Rattle.ckc_core.specs.declared.program.Comparison.TheVariants as comparisons
+use Rattle.act_words.specs.declared.operator.Operator.{Operator}
+use Rattle.act_words.specs.declared.operator.ArithmeticOperator.TheVariants as arithmetics
+use Rattle.act_words.specs.declared.operator.BitwiseOperator.{BitwiseOperator}
+use Rattle.act_words.specs.declared.operator.BitwiseOperator.TheVariants as bits
+use Rattle.act_words.specs.declared.operator.Operator.TheVariants as operators
+use Rattle.act_words.specs.declared.operator.Comparison.{Comparison}
+use Rattle.act_words.specs.declared.operator.Comparison.TheVariants as comparisons
 use Rattle.ckc_core.specs.States.{Value, Number, Null, At}
 use Rattle.ckc_core.specs.States as meaning
-use Rattle.ckc_core.specs.Meaning.{Result, given, checked, value_if, truth, number_of_test, result_of, arithmetic_of, holds, compared, negated, complemented, low_byte_of}
+use Rattle.ckc_core.specs.Meaning.{Result, given, checked, value_if, truth, number_of_test, result_of, arithmetic_of, compared, negated, complemented, low_byte_of}
 use Rattle.ckc_core.specs.Meaning as meanings
 use Rattle.code_words.specs.Table as table
 use Rattle.code_words.specs.Table.{State, Step, Goes, Over, act, push, push_some, push_checked, jump_if, jump_if_zero}
 use Rattle.code_words.specs.declared.op.Op.{Op}
 use Rattle.code_words.specs.declared.op.Op.TheVariants as ops
-use Rattle.lowering_code.specs.Code.{operator_code, comparison_code}
+use Rattle.lowering_code.specs.Code.{operator_code}
 use Rattle.lowering_code.proofs.Numbers.{signed-word, word_small, word-signed, signed_fits, equal_words, halved_fits, remainder_fits, complement_fits}
 use Rattle.lowering_code.proofs.Worlds.{IsNumber, KeptWorld}
 use Rattle.lowering_code.proofs.Executions.{Execution, image, word_of, IsKept}
@@ -91,22 +95,26 @@ not_true : (b : Bool) → not b ≡ true → b ≡ false
 not_true true h = absurd (cc)
 not_true false h = refl
 
+-- a bitwise operator on words gives a word
+bits_small : (operator : BitwiseOperator) (a b : ℕ) → a < 2 ^ 32 → b < 2 ^ 32 → bitwise_result operator a b < 2 ^ 32
+bits_small bits.And a b ha hb = and_lt 32 a b ha hb
+bits_small bits.Or a b ha hb = or_lt 32 a b ha hb
+bits_small bits.Xor a b ha hb = xor_lt 32 a b ha hb
+
 -- an operator's number has 32 bits
 pub result_fits : (operator : Operator) (site : Site) (a b : ℤ) → IsNumber a → IsNumber b → IfHolds IsNumber (result_of operator site a b)
-result_fits operators.Add site a b ha hb = overflow_fits site.place (a +ℤ b)
-result_fits operators.Subtract site a b ha hb = overflow_fits site.place (a -ℤ b)
-result_fits operators.Multiply site a b ha hb = overflow_fits site.place (a *ℤ b)
-result_fits operators.Divide site a b ha hb = divided_fits (not (is_zero b)) (Check C7 site.place) (without_overflow site.place (int_div a b)) (λ h. overflow_fits site.place (int_div a b))
-result_fits operators.Remainder site a b ha hb =
+result_fits (operators.Arithmetic arithmetics.Add) site a b ha hb = overflow_fits site.place (a +ℤ b)
+result_fits (operators.Arithmetic arithmetics.Subtract) site a b ha hb = overflow_fits site.place (a -ℤ b)
+result_fits (operators.Arithmetic arithmetics.Multiply) site a b ha hb = overflow_fits site.place (a *ℤ b)
+result_fits (operators.Arithmetic arithmetics.Divide) site a b ha hb = divided_fits (not (is_zero b)) (Check C7 site.place) (without_overflow site.place (int_div a b)) (λ h. overflow_fits site.place (int_div a b))
+result_fits (operators.Arithmetic arithmetics.Remainder) site a b ha hb =
     divided_fits (not (is_zero b)) (Check C7 site.place) (held_if (is_word_number (int_div a b)) (int_rem a b) (Check C6 site.place))
     (λ h. held_fits (is_word_number (int_div a b)) (int_rem a b) (Check C6 site.place) (λ k. remainder_fits a b hb (not_true (is_zero b) h)))
-result_fits operators.ShiftLeft site a b ha hb =
+result_fits (operators.Arithmetic arithmetics.ShiftLeft) site a b ha hb =
     let z = a *ℤ pos (2 ^ count_of b) in
     held_fits (is_count b && (is_not_negative a && is_word_number z)) z (Check C8 site.place) (last_true (is_count b) (is_not_negative a) (is_word_number z))
-result_fits operators.ShiftRight site a b ha hb = held_fits (is_count b) (halved a (count_of b)) (Check C8 site.place) (λ h. halved_fits a (count_of b) ha)
-result_fits operators.And site a b ha hb = signed_fits (bit_and (word a) (word b)) (and_lt 32 (word a) (word b) (word_small a ha) (word_small b hb))
-result_fits operators.Or site a b ha hb = signed_fits (bit_or (word a) (word b)) (or_lt 32 (word a) (word b) (word_small a ha) (word_small b hb))
-result_fits operators.Xor site a b ha hb = signed_fits (bit_xor (word a) (word b)) (xor_lt 32 (word a) (word b) (word_small a ha) (word_small b hb))
+result_fits (operators.Arithmetic arithmetics.ShiftRight) site a b ha hb = held_fits (is_count b) (halved a (count_of b)) (Check C8 site.place) (λ h. halved_fits a (count_of b) ha)
+result_fits (operators.Bitwise operator) site a b ha hb = signed_fits (bitwise_result operator (word a) (word b)) (bits_small operator (word a) (word b) (word_small a ha) (word_small b hb))
 
 -- where a branch goes
 abbrev pub chosen : Bool → ℕ → ℕ → ℕ
@@ -137,16 +145,10 @@ module _ (g : Execution) (l : Layout g) where
 
   -- the instruction of an operator, on two words
   operated : (operator : Operator) (site : Site) (a b : ℤ) (next w : ℕ) (stack : List ℕ) (s : meaning.State) → IsNumber a → IsNumber b → act (image g) g.settings (code g l) (operator_code operator site) (frame g l next w (word b ∷ (word a ∷ stack)) s.locals) (standing g l next w (word b ∷ (word a ∷ stack)) s) ≡ push_checked (code g l) (result_of operator site a b) stack (frame g l next w (word b ∷ (word a ∷ stack)) s.locals) (standing g l next w (word b ∷ (word a ∷ stack)) s)
-  operated operators.Add site a b next w stack s ha hb = rw (signed-word a ha, signed-word b hb) refl
-  operated operators.Subtract site a b next w stack s ha hb = rw (signed-word a ha, signed-word b hb) refl
-  operated operators.Multiply site a b next w stack s ha hb = rw (signed-word a ha, signed-word b hb) refl
-  operated operators.Divide site a b next w stack s ha hb = rw (signed-word a ha, signed-word b hb) refl
-  operated operators.Remainder site a b next w stack s ha hb = rw (signed-word a ha, signed-word b hb) refl
-  operated operators.ShiftLeft site a b next w stack s ha hb = rw (signed-word a ha, signed-word b hb) refl
-  operated operators.ShiftRight site a b next w stack s ha hb = rw (signed-word a ha, signed-word b hb) refl
-  operated operators.And site a b next w stack s ha hb = let e = word-signed (bit_and (word a) (word b)) (and_lt 32 (word a) (word b) (word_small a ha) (word_small b hb)) in ap (λ n. push (code g l) n stack (frame g l next w (word b ∷ (word a ∷ stack)) s.locals) (standing g l next w (word b ∷ (word a ∷ stack)) s)) (sym e)
-  operated operators.Or site a b next w stack s ha hb = let e = word-signed (bit_or (word a) (word b)) (or_lt 32 (word a) (word b) (word_small a ha) (word_small b hb)) in ap (λ n. push (code g l) n stack (frame g l next w (word b ∷ (word a ∷ stack)) s.locals) (standing g l next w (word b ∷ (word a ∷ stack)) s)) (sym e)
-  operated operators.Xor site a b next w stack s ha hb = let e = word-signed (bit_xor (word a) (word b)) (xor_lt 32 (word a) (word b) (word_small a ha) (word_small b hb)) in ap (λ n. push (code g l) n stack (frame g l next w (word b ∷ (word a ∷ stack)) s.locals) (standing g l next w (word b ∷ (word a ∷ stack)) s)) (sym e)
+  operated (operators.Arithmetic operator) site a b next w stack s ha hb = rw (signed-word a ha, signed-word b hb) refl
+  operated (operators.Bitwise operator) site a b next w stack s ha hb =
+      let e = word-signed (bitwise_result operator (word a) (word b)) (bits_small operator (word a) (word b) (word_small a ha) (word_small b hb)) in
+      ap (λ n. push (code g l) n stack (frame g l next w (word b ∷ (word a ∷ stack)) s.locals) (standing g l next w (word b ∷ (word a ∷ stack)) s)) (sym e)
 
   -- an operator on two values, whose words lie on the stack
   pub operator_runs : (next : ℕ) (stack : List ℕ) (s : meaning.State) (operator : Operator) (site : Site) (v w : Value) → IsKept g v → IsKept g w → Here g l next (word_of g w ∷ (word_of g v ∷ stack)) s → slice_get (code g l).ops next ≡ Some (operator_code operator site) → length stack < (code g l).stack → Evaluates g l (next + 1) stack (arithmetic_of operator site v w s)
@@ -163,7 +165,7 @@ module _ (g : Execution) (l : Layout g) where
       (subst (λ n. Here g l (next + 1) (n ∷ stack) s) (sym (bit_word g test)) (pushes g l next old s op (bit test) stack here at room is), test_kept g test)
 
   -- the instruction of a comparison, on two words
-  compared_words : (comparison : Comparison) (a b : ℤ) (next w : ℕ) (stack : List ℕ) (s : meaning.State) → IsNumber a → IsNumber b → act (image g) g.settings (code g l) (comparison_code comparison) (frame g l next w (word b ∷ (word a ∷ stack)) s.locals) (standing g l next w (word b ∷ (word a ∷ stack)) s) ≡ push (code g l) (bit (holds comparison a b)) stack (frame g l next w (word b ∷ (word a ∷ stack)) s.locals) (standing g l next w (word b ∷ (word a ∷ stack)) s)
+  compared_words : (comparison : Comparison) (a b : ℤ) (next w : ℕ) (stack : List ℕ) (s : meaning.State) → IsNumber a → IsNumber b → act (image g) g.settings (code g l) (ops.Compare comparison) (frame g l next w (word b ∷ (word a ∷ stack)) s.locals) (standing g l next w (word b ∷ (word a ∷ stack)) s) ≡ push (code g l) (bit (holds comparison a b)) stack (frame g l next w (word b ∷ (word a ∷ stack)) s.locals) (standing g l next w (word b ∷ (word a ∷ stack)) s)
   compared_words comparisons.Equal a b next w stack s ha hb = ap (λ t. push (code g l) (bit t) stack (frame g l next w (word b ∷ (word a ∷ stack)) s.locals) (standing g l next w (word b ∷ (word a ∷ stack)) s)) (equal_words a b ha hb)
   compared_words comparisons.NotEqual a b next w stack s ha hb = ap (λ t. push (code g l) (bit (not t)) stack (frame g l next w (word b ∷ (word a ∷ stack)) s.locals) (standing g l next w (word b ∷ (word a ∷ stack)) s)) (equal_words a b ha hb)
   compared_words comparisons.Less a b next w stack s ha hb = rw (signed-word a ha, signed-word b hb) refl
@@ -171,9 +173,9 @@ module _ (g : Execution) (l : Layout g) where
   compared_words comparisons.Greater a b next w stack s ha hb = rw (signed-word a ha, signed-word b hb) refl
   compared_words comparisons.GreaterEqual a b next w stack s ha hb = rw (signed-word a ha, signed-word b hb) refl
 
-  pub comparison_runs : (next : ℕ) (stack : List ℕ) (s : meaning.State) (comparison : Comparison) (v w : Value) → IsKept g v → IsKept g w → Here g l next (word_of g w ∷ (word_of g v ∷ stack)) s → slice_get (code g l).ops next ≡ Some (comparison_code comparison) → length stack < (code g l).stack → Evaluates g l (next + 1) stack (compared comparison v w s)
+  pub comparison_runs : (next : ℕ) (stack : List ℕ) (s : meaning.State) (comparison : Comparison) (v w : Value) → IsKept g v → IsKept g w → Here g l next (word_of g w ∷ (word_of g v ∷ stack)) s → slice_get (code g l).ops next ≡ Some (ops.Compare comparison) → length stack < (code g l).stack → Evaluates g l (next + 1) stack (compared comparison v w s)
   comparison_runs next stack s comparison (Number a) (Number b) hv hw here at room =
-      test_runs next (word b ∷ (word a ∷ stack)) stack s (comparison_code comparison) (holds comparison a b) here at room (λ scratch. compared_words comparison a b next scratch stack s hv hw)
+      test_runs next (word b ∷ (word a ∷ stack)) stack s (ops.Compare comparison) (holds comparison a b) here at room (λ scratch. compared_words comparison a b next scratch stack s hv hw)
   comparison_runs next stack s comparison (Number a) Null hv hw here at room = tt
   comparison_runs next stack s comparison (Number a) (At block cell) hv hw here at room = tt
   comparison_runs next stack s comparison Null w hv hw here at room = tt

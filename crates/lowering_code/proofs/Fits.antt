@@ -10,7 +10,7 @@ use Rattle.ckc_core.specs.Core.{Core, Initial, Function, Import}
 use Rattle.ckc_core.specs.States.{object_block}
 use Rattle.code_words.specs.Runs.{counter_behind}
 use Rattle.code_words.specs.Fitting.{Fits}
-use Rattle.code_words.specs.Formats.{HasSmallFrame, IsCallable, Follow, KeepsFormat}
+use Rattle.code_words.specs.Formats.{HasSmallFrame, Follow, KeepsFormat}
 use Rattle.code_words.specs.declared.image.Func.{Func}
 use Rattle.code_words.specs.declared.image.Import as code
 use Rattle.lowering_code.specs.Images.{object_bytes, function_code, functions_from, imports_from, image_of}
@@ -19,7 +19,7 @@ use Rattle.lowering_code.proofs.Shapes.{strides}
 use Rattle.lowering_code.proofs.Executions.{IsObject, size_of, strides_of, row_sum}
 use Rattle.lowering_code.proofs.Steps.{function_there}
 use Rattle.lowering_code.proofs.Programs.{keeps_meaning}
-use Rattle.lowering_code.proofs.Paces.{paced_functions}
+use Rattle.lowering_code.proofs.Paces.{paced_functions, sized_functions}
 
 -- the bytes of a variable are those of its cells
 object_size : (cells : List Initial) → IsObject cells → length (object_bytes cells) ≡ sum (strides (object_block cells))
@@ -62,8 +62,10 @@ keeps_format program lowerable =
       imported = All-nil _;
       frames = All-from_recursion HasSmallFrame (functions_from 0 program.functions) (frames 0 program.functions (recursion_from_All IsFunction program.functions lowerable.functions));
       sandbox_frames = All-nil HasSmallFrame;
+      sized = rw (sized_functions 0 program.functions) refl;
+      sandbox_sized = refl;
       few_arguments = All-from_recursion (λ (i : code.Import). i.args ≤ 16) (imports_from 0 program.imports) (imported 0 program.imports (recursion_from_All (λ (i : Import). i.parameters ≤ 16) program.imports lowerable.imports));
-      callable = All-nil IsCallable;
+      callable = All-nil _;
       paced = rw (paced_functions 0 program.functions) refl;
     }
 

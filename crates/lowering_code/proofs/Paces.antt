@@ -1,50 +1,38 @@
 -- The code of programs keeps the pace: each jump goes forward or to a tick, and to no call, and each call follows a tick.
-use Rattle.std.proofs.Common.{◌≡◌, ℕ, zero, suc, ◌+◌, ◌<◌, ◌≤◌, Bool, true, false, List, [], ◌∷◌, ◌++◌, length, Option, Some, None, pos, refl, sym, subst, arith}
-use Rattle.std.specs.Prelude.{slice_get, nat_lt, not, ◌||◌}
+use Rattle.std.proofs.Common.{◌≡◌, ℕ, zero, suc, ◌+◌, ◌<◌, ◌≤◌, Bool, true, false, List, [], ◌∷◌, ◌++◌, length, Option, Some, None, pos, refl, sym, ap, subst, arith}
+use Rattle.std.specs.Prelude.{slice_get, nat_lt, not, ◌&&◌, ◌||◌}
 use Rattle.std.specs.List.{list_all}
 use Rattle.std.proofs.lemmas.Bool.Decides.{nat_tests}
 use Rattle.pointer_modes.specs.Types.{CType}
 use Rattle.ckc_core.specs.declared.program.Site.{Site}
-use Rattle.ckc_core.specs.declared.program.Operator.{Operator}
-use Rattle.ckc_core.specs.declared.program.Operator.TheVariants as operators
-use Rattle.ckc_core.specs.declared.program.Comparison.{Comparison}
-use Rattle.ckc_core.specs.declared.program.Comparison.TheVariants as comparisons
+use Rattle.act_words.specs.declared.operator.Operator.{Operator}
+use Rattle.act_words.specs.declared.operator.Operator.TheVariants as operators
+use Rattle.act_words.specs.declared.operator.Comparison.TheVariants as comparisons
 use Rattle.ckc_core.specs.Core as core
 use Rattle.ckc_core.specs.Meaning.{is_char}
 use Rattle.code_words.specs.declared.op.Op.{Op}
 use Rattle.code_words.specs.declared.op.Op.TheVariants as ops
 use Rattle.code_words.specs.Paced.{is_call, target_of, keeps_pace, all_keep_pace, is_paced_function}
-use Rattle.lowering_code.specs.Code.{Places, operator_code, comparison_code, load_code, load_if, store_code, store_if, offset_code, offset_size, address_code, through_code, byte_code, byte_size, expression_size, arguments_size, place_size, before_value_size, statement_size, statements_size, expression_code, arguments_code, place_code, before_value, behind_value, statement_code, statements_code, ending_code, body_places, function_ops}
-use Rattle.lowering_code.specs.Images.{function_code, functions_from}
+use Rattle.code_words.specs.Formats.{element_size, is_sized, is_sized_function}
+use Rattle.lowering_code.specs.Code.{Places, operator_code, load_code, load_if, store_code, store_if, offset_code, offset_size, address_code, through_code, byte_code, byte_size, expression_size, arguments_size, place_size, before_value_size, statement_size, statements_size, expression_code, arguments_code, place_code, before_value, behind_value, statement_code, statements_code, ending_code, body_places, function_ops}
+use Rattle.lowering_code.specs.Images.{functions_from}
 use Rattle.lowering_code.proofs.Steps.{HasAt, has_front, has_back, has_all}
 use Rattle.lowering_code.proofs.Sizes.{length_offset, length_byte, length_expression, length_arguments, length_place, length_statement, length_statements}
 
 -- ---- single instructions
 
--- an instruction that neither jumps nor calls
+-- where an instruction jumps, and the size of the elements that it counts
+abbrev named : Op → Option ℕ × Option ℕ
+named op = (target_of op, element_size op)
+
+-- an instruction that neither jumps nor calls, and counts no elements
 record IsCalm (op : Op) : Type 0 where
-  no_jump : target_of op ≡ None
+  no_jump : named op ≡ (None, None)
   no_call : is_call op ≡ false
 
 calm_operator : (operator : Operator) (site : Site) → IsCalm (operator_code operator site)
-calm_operator operators.Add site = record { no_jump = refl; no_call = refl }
-calm_operator operators.Subtract site = record { no_jump = refl; no_call = refl }
-calm_operator operators.Multiply site = record { no_jump = refl; no_call = refl }
-calm_operator operators.Divide site = record { no_jump = refl; no_call = refl }
-calm_operator operators.Remainder site = record { no_jump = refl; no_call = refl }
-calm_operator operators.ShiftLeft site = record { no_jump = refl; no_call = refl }
-calm_operator operators.ShiftRight site = record { no_jump = refl; no_call = refl }
-calm_operator operators.And site = record { no_jump = refl; no_call = refl }
-calm_operator operators.Or site = record { no_jump = refl; no_call = refl }
-calm_operator operators.Xor site = record { no_jump = refl; no_call = refl }
-
-calm_comparison : (comparison : Comparison) → IsCalm (comparison_code comparison)
-calm_comparison comparisons.Equal = record { no_jump = refl; no_call = refl }
-calm_comparison comparisons.NotEqual = record { no_jump = refl; no_call = refl }
-calm_comparison comparisons.Less = record { no_jump = refl; no_call = refl }
-calm_comparison comparisons.LessEqual = record { no_jump = refl; no_call = refl }
-calm_comparison comparisons.Greater = record { no_jump = refl; no_call = refl }
-calm_comparison comparisons.GreaterEqual = record { no_jump = refl; no_call = refl }
+calm_operator (operators.Arithmetic operator) site = record { no_jump = refl; no_call = refl }
+calm_operator (operators.Bitwise operator) site = record { no_jump = refl; no_call = refl }
 
 calm_load : (char : Bool) → IsCalm (load_if char)
 calm_load true = record { no_jump = refl; no_call = refl }
@@ -53,6 +41,14 @@ calm_load false = record { no_jump = refl; no_call = refl }
 calm_store : (char : Bool) → IsCalm (store_if char)
 calm_store true = record { no_jump = refl; no_call = refl }
 calm_store false = record { no_jump = refl; no_call = refl }
+
+first_true : (a b : Bool) → (a && b) ≡ true → a ≡ true
+first_true true b h = refl
+first_true false b h = h
+
+second_true : (a b : Bool) → (a && b) ≡ true → b ≡ true
+second_true true b h = h
+second_true false b h = absurd (cc)
 
 either : (b : Bool) → (b || true) ≡ true
 either true = refl
@@ -69,10 +65,14 @@ module _ (all : List Op) where
   record IsTarget (place : ℕ) : Type 0 where
     free : no_call_in (slice_get all place) ≡ true
 
-  -- each of these instructions, which stand at this place, keeps the pace
+  -- an instruction keeps the pace, and elements that it counts have a size
+  abbrev keeps : ℕ → Op → Bool
+  keeps at op = keeps_pace all at op && is_sized op
+
+  -- so does each of these instructions, which stand at this place
   abbrev AllKeep : ℕ → List Op → Type 0
   AllKeep at [] = Unit {0}
-  AllKeep at (op ∷ rest) = (keeps_pace all at op ≡ true) × AllKeep (at + 1) rest
+  AllKeep at (op ∷ rest) = (keeps at op ≡ true) × AllKeep (at + 1) rest
 
   target_there : (place : ℕ) (op : Op) → is_call op ≡ false → slice_get all place ≡ Some op → IsTarget place
   target_there place op free there = record { free = rw (there, free) refl }
@@ -80,29 +80,40 @@ module _ (all : List Op) where
   target_same : (m n : ℕ) → m ≡ n → IsTarget m → IsTarget n
   target_same m n same t = subst IsTarget same t
 
-  calm_keeps : (place : ℕ) (op : Op) → IsCalm op → keeps_pace all place op ≡ true
-  calm_keeps place op calm = rw (calm.no_jump, calm.no_call) refl
+  calm_keeps : (place : ℕ) (op : Op) → IsCalm op → keeps place op ≡ true
+  calm_keeps place op calm =
+      let jump : target_of op ≡ None = ap (λ n. n.0) calm.no_jump in
+      let size : element_size op ≡ None = ap (λ n. n.1) calm.no_jump in
+      rw (jump, calm.no_call, size) refl
 
   -- a jump forward
-  forward_by : (op : Op) (place target : ℕ) (there : Option Op) → target_of op ≡ Some target → is_call op ≡ false → place < target → slice_get all target ≡ there → no_call_in there ≡ true → keeps_pace all place op ≡ true
-  forward_by op place target None jump free lt is t = rw (jump, free, is) refl
-  forward_by op place target (Some other) jump free lt is t =
+  forward_by : (op : Op) (place target : ℕ) (there : Option Op) → named op ≡ (Some target, None) → is_call op ≡ false → place < target → slice_get all target ≡ there → no_call_in there ≡ true → keeps place op ≡ true
+  forward_by op place target None names free lt is t =
+      let jump : target_of op ≡ Some target = ap (λ n. n.0) names in
+      let size : element_size op ≡ None = ap (λ n. n.1) names in
+      rw (jump, free, size, is) refl
+  forward_by op place target (Some other) names free lt is t =
+      let jump : target_of op ≡ Some target = ap (λ n. n.0) names in
+      let size : element_size op ≡ None = ap (λ n. n.1) names in
       let test : nat_lt place target ≡ true = grind (arith, nat_tests) in
-      rw (jump, free, is, test) (rw t refl)
+      rw (jump, free, size, is, test) (rw t refl)
 
-  forward : (place target : ℕ) → place < target → IsTarget target → keeps_pace all place (ops.Jump target) ≡ true
+  forward : (place target : ℕ) → place < target → IsTarget target → keeps place (ops.Jump target) ≡ true
   forward place target lt t = forward_by (ops.Jump target) place target (slice_get all target) refl refl lt refl t.free
 
-  forward_if_zero : (place target : ℕ) → place < target → IsTarget target → keeps_pace all place (ops.JumpIfZero target) ≡ true
+  forward_if_zero : (place target : ℕ) → place < target → IsTarget target → keeps place (ops.JumpIfZero target) ≡ true
   forward_if_zero place target lt t = forward_by (ops.JumpIfZero target) place target (slice_get all target) refl refl lt refl t.free
 
   -- a jump to a tick
-  to_tick : (place target : ℕ) → slice_get all target ≡ Some ops.Tick → keeps_pace all place (ops.Jump target) ≡ true
+  to_tick : (place target : ℕ) → slice_get all target ≡ Some ops.Tick → keeps place (ops.Jump target) ≡ true
   to_tick place target is = rw is (rw (either (nat_lt place target)) refl)
 
   -- a call behind its tick
-  call_keeps : (place : ℕ) (op : Op) → target_of op ≡ None → slice_get all place ≡ Some ops.Tick → keeps_pace all (suc place) op ≡ true
-  call_keeps place op no_jump is = rw (no_jump, is) (either (not (is_call op)))
+  call_keeps : (place : ℕ) (op : Op) → named op ≡ (None, None) → slice_get all place ≡ Some ops.Tick → keeps (suc place) op ≡ true
+  call_keeps place op names is =
+      let jump : target_of op ≡ None = ap (λ n. n.0) names in
+      let size : element_size op ≡ None = ap (λ n. n.1) names in
+      rw (jump, size, is) (rw (either (not (is_call op))) refl)
 
   -- a part, and what follows it
   joined : (at n : ℕ) (a b : List Op) → length a ≡ n → AllKeep at a → AllKeep (at + n) b → AllKeep at (a ++ b)
@@ -115,7 +126,11 @@ module _ (all : List Op) where
   keep_pace at [] here = refl
   keep_pace at (op ∷ rest) here =
       let next : at + 1 ≡ suc at = omega arith in
-      rw here.0 (keep_pace (suc at) rest (subst (λ k. AllKeep k rest) next here.1))
+      rw (first_true (keeps_pace all at op) (is_sized op) here.0) (keep_pace (suc at) rest (subst (λ k. AllKeep k rest) next here.1))
+
+  are_sized : (at : ℕ) (code : List Op) → AllKeep at code → list_all is_sized code ≡ true
+  are_sized at [] here = refl
+  are_sized at (op ∷ rest) here = rw (second_true (keeps_pace all at op) (is_sized op) here.0) (are_sized (at + 1) rest here.1)
 
   -- a part, and an instruction behind it
   with_op : (at n : ℕ) (a : List Op) (op : Op) → length a ≡ n → IsCalm op → HasAt all at (a ++ op ∷ []) → (IsTarget (at + n) → AllKeep at a) → AllKeep at (a ++ op ∷ [])
@@ -132,12 +147,12 @@ module _ (all : List Op) where
   byte_keeps at false = tt
 
   -- a call behind its arguments
-  called : (at n : ℕ) (a : List Op) (op : Op) → length a ≡ n → target_of op ≡ None → HasAt all at (a ++ ops.Tick ∷ op ∷ []) → (IsTarget (at + n) → AllKeep at a) → AllKeep at (a ++ ops.Tick ∷ op ∷ [])
+  called : (at n : ℕ) (a : List Op) (op : Op) → length a ≡ n → named op ≡ (None, None) → HasAt all at (a ++ ops.Tick ∷ op ∷ []) → (IsTarget (at + n) → AllKeep at a) → AllKeep at (a ++ ops.Tick ∷ op ∷ [])
   called at n a op long no_jump has here =
       let there = has_back all at a (ops.Tick ∷ op ∷ []) n long has in
       let next : suc (at + n) ≡ at + n + 1 = omega arith in
       joined at n a (ops.Tick ∷ op ∷ []) long (here (target_there (at + n) ops.Tick refl there.0))
-      (refl, (subst (λ k. keeps_pace all k op ≡ true) next (call_keeps (at + n) op no_jump there.0), tt))
+      (refl, (subst (λ k. keeps k op ≡ true) next (call_keeps (at + n) op no_jump there.0), tt))
 
   -- ---- where the code of a part begins, no call stands
 
@@ -155,9 +170,9 @@ module _ (all : List Op) where
     starts_expression at (core.Arithmetic operator left right site) has =
         starts_expression at left (has_front all at (expression_code at left) (expression_code (at + expression_size left) right ++ operator_code operator site ∷ []) has)
     starts_expression at (core.Compare comparison left right) has =
-        starts_expression at left (has_front all at (expression_code at left) (expression_code (at + expression_size left) right ++ comparison_code comparison ∷ []) has)
+        starts_expression at left (has_front all at (expression_code at left) (expression_code (at + expression_size left) right ++ ops.Compare comparison ∷ []) has)
     starts_expression at (core.Same left right) has =
-        starts_expression at left (has_front all at (expression_code at left) (expression_code (at + expression_size left) right ++ ops.Equal ∷ []) has)
+        starts_expression at left (has_front all at (expression_code at left) (expression_code (at + expression_size left) right ++ ops.Compare comparisons.Equal ∷ []) has)
     starts_expression at (core.AndAlso left right) has =
         starts_expression at left (has_front all at (expression_code at left) (ops.JumpIfZero (at + expression_size left + 1 + expression_size right + 3) ∷ (expression_code (at + expression_size left + 1) right ++ ops.Zero ∷ ops.Zero ∷ ops.Jump (at + expression_size left + 1 + expression_size right + 4) ∷ ops.Const (pos 0) ∷ [])) has)
     starts_expression at (core.OrElse left right) has =
@@ -260,8 +275,8 @@ module _ (all : List Op) where
     paced_expression at (core.Complement operand) has end = expression_with at operand ops.Not (record { no_jump = refl; no_call = refl }) has (paced_expression at operand)
     paced_expression at (core.Not operand) has end = expression_with at operand ops.Zero (record { no_jump = refl; no_call = refl }) has (paced_expression at operand)
     paced_expression at (core.Arithmetic operator left right site) has end = two_with at left right (operator_code operator site) (calm_operator operator site) has (paced_expression at left) (paced_expression (at + expression_size left) right)
-    paced_expression at (core.Compare comparison left right) has end = two_with at left right (comparison_code comparison) (calm_comparison comparison) has (paced_expression at left) (paced_expression (at + expression_size left) right)
-    paced_expression at (core.Same left right) has end = two_with at left right ops.Equal (record { no_jump = refl; no_call = refl }) has (paced_expression at left) (paced_expression (at + expression_size left) right)
+    paced_expression at (core.Compare comparison left right) has end = two_with at left right (ops.Compare comparison) (record { no_jump = refl; no_call = refl }) has (paced_expression at left) (paced_expression (at + expression_size left) right)
+    paced_expression at (core.Same left right) has end = two_with at left right (ops.Compare comparisons.Equal) (record { no_jump = refl; no_call = refl }) has (paced_expression at left) (paced_expression (at + expression_size left) right)
     paced_expression at (core.AndAlso left right) has end =
         let m = at + expression_size left in
         let n = m + 1 + expression_size right in
@@ -477,8 +492,8 @@ starts_ending : (all : List Op) (at : ℕ) (result : Option CType) → HasAt all
 starts_ending all at None has = target_there all at ops.ReturnNothing refl has.0
 starts_ending all at (Some type) has = target_there all at (ops.Const (pos 0)) refl has.0
 
-paced_function : (number : ℕ) (f : core.Function) → is_paced_function (function_code number f) ≡ true
-paced_function number f =
+function_keeps : (f : core.Function) → AllKeep (function_ops f) 0 (function_ops f)
+function_keeps f =
     let all = function_ops f in
     let p = body_places f in
     let n = statements_size f.body in
@@ -489,10 +504,14 @@ paced_function number f =
     let back = subst (λ k. HasAt all k last) zero (has_back all 0 body last n (length_statements p 0 f.body) has) in
     let free = starts_ending all n f.result back in
     let leads : LeadOn all p n = record { break_behind = omega arith; break_free = free; continue_behind = omega arith; continue_free = free } in
-    keep_pace all 0 all (joined all 0 n body last (length_statements p 0 f.body)
+    joined all 0 n body last (length_statements p 0 f.body)
     (paced_statements all p 0 f.body (has_front all 0 body last has) (target_same all n (0 + n) (sym zero) free) (subst (LeadOn all p) (sym zero) leads))
-    (paced_ending all (0 + n) f.result))
+    (paced_ending all (0 + n) f.result)
 
 pub paced_functions : (number : ℕ) (functions : List core.Function) → list_all is_paced_function (functions_from number functions) ≡ true
 paced_functions number [] = refl
-paced_functions number (f ∷ functions) = rw (paced_function number f) (paced_functions (suc number) functions)
+paced_functions number (f ∷ functions) = rw (keep_pace (function_ops f) 0 (function_ops f) (function_keeps f)) (paced_functions (suc number) functions)
+
+pub sized_functions : (number : ℕ) (functions : List core.Function) → list_all is_sized_function (functions_from number functions) ≡ true
+sized_functions number [] = refl
+sized_functions number (f ∷ functions) = rw (are_sized (function_ops f) 0 (function_ops f) (function_keeps f)) (sized_functions (suc number) functions)

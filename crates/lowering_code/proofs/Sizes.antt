@@ -1,11 +1,12 @@
 -- How many instructions the code of a part has, and that each expression needs a word of the stack.
 use Rattle.std.proofs.Common.{◌≡◌, ℕ, zero, suc, ◌+◌, ◌≤◌, Bool, true, false, pos, List, [], ◌∷◌, ◌++◌, length, refl, ap, ◌∙◌, arith, length-append}
 use Rattle.pointer_modes.specs.Types.{CType}
+use Rattle.act_words.specs.declared.operator.Comparison.TheVariants as comparisons
 use Rattle.ckc_core.specs.Core as core
 use Rattle.ckc_core.specs.Meaning.{is_char}
 use Rattle.code_words.specs.declared.op.Op.{Op}
 use Rattle.code_words.specs.declared.op.Op.TheVariants as ops
-use Rattle.lowering_code.specs.Code.{Places, operator_code, comparison_code, load_code, store_code, offset_code, offset_size, through_code, byte_code, byte_size, expression_size, arguments_size, place_size, before_value_size, behind_value_size, statement_size, statements_size, expression_code, arguments_code, place_code, before_value, behind_value, statement_code, statements_code}
+use Rattle.lowering_code.specs.Code.{Places, operator_code, load_code, store_code, offset_code, offset_size, through_code, byte_code, byte_size, expression_size, arguments_size, place_size, before_value_size, behind_value_size, statement_size, statements_size, expression_code, arguments_code, place_code, before_value, behind_value, statement_code, statements_code}
 use Rattle.ckc_core.specs.Stacks.{offset_stack, expression_stack, place_stack}
 
 pub length_offset : (n : ℕ) → length (offset_code n) ≡ offset_size n
@@ -38,8 +39,8 @@ mutual
   length_expression at (core.Complement operand) = length_then (expression_code at operand) (ops.Not ∷ []) (expression_size operand) 1 (length_expression at operand) refl
   length_expression at (core.Not operand) = length_then (expression_code at operand) (ops.Zero ∷ []) (expression_size operand) 1 (length_expression at operand) refl
   length_expression at (core.Arithmetic operator left right site) = length_two at left right (operator_code operator site) (length_expression at left) (length_expression (at + expression_size left) right)
-  length_expression at (core.Compare comparison left right) = length_two at left right (comparison_code comparison) (length_expression at left) (length_expression (at + expression_size left) right)
-  length_expression at (core.Same left right) = length_two at left right ops.Equal (length_expression at left) (length_expression (at + expression_size left) right)
+  length_expression at (core.Compare comparison left right) = length_two at left right (ops.Compare comparison) (length_expression at left) (length_expression (at + expression_size left) right)
+  length_expression at (core.Same left right) = length_two at left right (ops.Compare comparisons.Equal) (length_expression at left) (length_expression (at + expression_size left) right)
   length_expression at (core.AndAlso left right) =
       let inner = expression_code (at + expression_size left + 1) right in
       let last = ops.Zero ∷ ops.Zero ∷ ops.Jump (at + expression_size left + 1 + expression_size right + 4) ∷ ops.Const (pos 0) ∷ [] in

@@ -6,7 +6,7 @@ use Rattle.act_words.specs.Numbers.{word, number_line}
 use Rattle.act_words.specs.Touches.{spend_tick, write}
 use Rattle.pointer_modes.specs.Types.{CType}
 use Rattle.ckc_core.specs.declared.program.Site.{Site}
-use Rattle.ckc_core.specs.declared.program.Operator.{Operator}
+use Rattle.act_words.specs.declared.operator.Operator.{Operator}
 use Rattle.ckc_core.specs.Core as core
 use Rattle.ckc_core.specs.States.{Value, Number, Null, At, Block, stands_at}
 use Rattle.ckc_core.specs.States as meaning

@@ -25,7 +25,7 @@ use Rattle.code_words.specs.Table.{Frame, Caller, Waits, Passes, Touches, Away, 
 use Rattle.code_words.specs.Table as table
 use Rattle.code_words.specs.Moves.{move, before_touch_by, in_sandbox_by, answer, reply_to}
 use Rattle.code_words.specs.Moves as moves
-use Rattle.code_words.specs.Marshalling.{fits_kind}
+use Rattle.marshalling.specs.Crossing.{fits_kind}
 use Rattle.lowering_code.specs.Code.{result_kind}
 use Rattle.code_words.specs.declared.op.Op.TheVariants as ops
 use Rattle.lowering_code.specs.Images.{import_code, imports_from}

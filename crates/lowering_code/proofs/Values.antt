@@ -4,13 +4,14 @@ use Rattle.std.specs.Prelude.{max, slice_get, not}
 use Rattle.std.specs.List.{AllByRecursion}
 use Rattle.act_words.specs.Outcome.{Gives, and_then}
 use Rattle.act_words.specs.Checks.{is_word_number}
+use Rattle.act_words.specs.declared.operator.Comparison.TheVariants as comparisons
 use Rattle.ckc_core.specs.Core as core
 use Rattle.ckc_core.specs.States.{Value, Number, Null, At}
 use Rattle.ckc_core.specs.States as meaning
 use Rattle.ckc_core.specs.Meaning.{Result, Knot, Setting, truth, number_of_test, value, values, place, arithmetic_of, compared, negated, complemented, low_byte_of, same_place, test_given, place_in, place_through, pointer_to, load_at, call_trusted, call_tainted, result_given}
 use Rattle.code_words.specs.declared.op.Op.{Op}
 use Rattle.code_words.specs.declared.op.Op.TheVariants as ops
-use Rattle.lowering_code.specs.Code.{operator_code, comparison_code, load_code, through_code, offset_size, expression_size, arguments_size, place_size, expression_code, arguments_code, place_code}
+use Rattle.lowering_code.specs.Code.{operator_code, load_code, through_code, offset_size, expression_size, arguments_size, place_size, expression_code, arguments_code, place_code}
 use Rattle.ckc_core.specs.Stacks.{expression_stack, arguments_stack, place_stack}
 use Rattle.lowering_code.proofs.Executions.{Execution, word_of, IsKept}
 use Rattle.lowering_code.proofs.Steps.{HasAt, has_front, has_back, Leads, leads_on, Finishes, Layout, code, Here, pushes, here_at, Arrives, Evaluates, evaluates_at}
@@ -125,9 +126,9 @@ module _ (g : Execution) (l : Layout g) where
       value_runs (core.Arithmetic operator left right site) next stack s here at room low =
           binary_runs left right (operator_code operator site) (arithmetic_of operator site) (value_runs left) (value_runs right) next stack s (λ m v w t. operator_runs g l m stack t operator site v w) here at room low
       value_runs (core.Compare comparison left right) next stack s here at room low =
-          binary_runs left right (comparison_code comparison) (compared comparison) (value_runs left) (value_runs right) next stack s (λ m v w t. comparison_runs g l m stack t comparison v w) here at room low
+          binary_runs left right (ops.Compare comparison) (compared comparison) (value_runs left) (value_runs right) next stack s (λ m v w t. comparison_runs g l m stack t comparison v w) here at room low
       value_runs (core.Same left right) next stack s here at room low =
-          binary_runs left right ops.Equal (λ v w t. test_given (same_place v w) t) (value_runs left) (value_runs right) next stack s (λ m v w t. same_runs g l m stack t v w) here at room low
+          binary_runs left right (ops.Compare comparisons.Equal) (λ v w t. test_given (same_place v w) t) (value_runs left) (value_runs right) next stack s (λ m v w t. same_runs g l m stack t v w) here at room low
       value_runs (core.AndAlso left right) next stack s here at room low =
           let m = next + expression_size left in
           let n = expression_size right in

@@ -3,39 +3,22 @@
 use Rattle.std.specs.Prelude.{ℕ, zero, suc, ◌+◌, Bool, true, false, List, [], ◌∷◌, ◌++◌, length, Option, Some, None, pos}
 use Rattle.act_words.specs.Numbers.{signed}
 use Rattle.pointer_modes.specs.Types.{CType, Int, Char, Struct, Pointer}
-use Rattle.ckc_core.specs.declared.program.Operator.{Operator}
-use Rattle.ckc_core.specs.declared.program.Operator.TheVariants as operators
-use Rattle.ckc_core.specs.declared.program.Comparison.{Comparison}
-use Rattle.ckc_core.specs.declared.program.Comparison.TheVariants as comparisons
+use Rattle.act_words.specs.declared.operator.Operator.{Operator}
+use Rattle.act_words.specs.declared.operator.Operator.TheVariants as operators
+use Rattle.act_words.specs.declared.operator.Comparison.TheVariants as comparisons
 use Rattle.ckc_core.specs.declared.program.Site.{Site}
 use Rattle.ckc_core.specs.Core as core
 use Rattle.ckc_core.specs.Meaning.{is_char}
 use Rattle.code_words.specs.declared.op.Op.{Op}
 use Rattle.code_words.specs.declared.op.Op.TheVariants as ops
-use Rattle.code_words.specs.declared.image.WordKind.{WordKind}
-use Rattle.code_words.specs.declared.image.WordKind.TheVariants as kinds
+use Rattle.marshalling.specs.declared.kind.WordKind.{WordKind}
+use Rattle.marshalling.specs.declared.kind.WordKind.TheVariants as kinds
 
 -- ---- single instructions
 
 abbrev pub operator_code : Operator → Site → Op
-operator_code operators.Add site = ops.Add site.place
-operator_code operators.Subtract site = ops.Sub site.place
-operator_code operators.Multiply site = ops.Mul site.place
-operator_code operators.Divide site = ops.Div site.place
-operator_code operators.Remainder site = ops.Rem site.place
-operator_code operators.ShiftLeft site = ops.Shl site.place
-operator_code operators.ShiftRight site = ops.Shr site.place
-operator_code operators.And site = ops.And
-operator_code operators.Or site = ops.Or
-operator_code operators.Xor site = ops.Xor
-
-abbrev pub comparison_code : Comparison → Op
-comparison_code comparisons.Equal = ops.Equal
-comparison_code comparisons.NotEqual = ops.NotEqual
-comparison_code comparisons.Less = ops.Less
-comparison_code comparisons.LessEqual = ops.LessEqual
-comparison_code comparisons.Greater = ops.Greater
-comparison_code comparisons.GreaterEqual = ops.GreaterEqual
+operator_code (operators.Arithmetic operator) site = ops.Arithmetic operator site.place
+operator_code (operators.Bitwise operator) site = ops.Bitwise operator
 
 -- a cell of type `char` has one byte, and all others have four
 abbrev pub load_if : Bool → Op
@@ -159,8 +142,8 @@ abbrev mutual
   expression_code at (core.Arithmetic operator left right site) =
       expression_code at left ++ (expression_code (at + expression_size left) right ++ operator_code operator site ∷ [])
   expression_code at (core.Compare comparison left right) =
-      expression_code at left ++ (expression_code (at + expression_size left) right ++ comparison_code comparison ∷ [])
-  expression_code at (core.Same left right) = expression_code at left ++ (expression_code (at + expression_size left) right ++ ops.Equal ∷ [])
+      expression_code at left ++ (expression_code (at + expression_size left) right ++ ops.Compare comparison ∷ [])
+  expression_code at (core.Same left right) = expression_code at left ++ (expression_code (at + expression_size left) right ++ ops.Compare comparisons.Equal ∷ [])
   -- where the left one is 0 or null the right one is passed over, and the result is 0
   expression_code at (core.AndAlso left right) =
       expression_code at left

@@ -7,7 +7,8 @@ ghost use Rattle.code_words.specs.declared.op.Op.TheVariants as ops_of;
 ghost use Rattle.lowering_code.specs.Code as code;
 
 use crate::code_sizes::has_one_byte;
-use ckc_core::program::{Comparison, Operator, Site};
+use act_words::operator::Operator;
+use ckc_core::program::Site;
 use ckc_text::fault::NoMemory;
 use code_words::op::Op;
 use pointer_modes::ctype::CType;
@@ -16,32 +17,12 @@ use pointer_modes::ctype::CType;
 pub fn operator_op(operator: Operator, site: Site) -> Op
     ensures { result ≡ code.operator_code operator site }
 {
-    let place = site.place;
     match operator {
-        Operator::Add => Op::Add { place },
-        Operator::Subtract => Op::Sub { place },
-        Operator::Multiply => Op::Mul { place },
-        Operator::Divide => Op::Div { place },
-        Operator::Remainder => Op::Rem { place },
-        Operator::ShiftLeft => Op::Shl { place },
-        Operator::ShiftRight => Op::Shr { place },
-        Operator::And => Op::And,
-        Operator::Or => Op::Or,
-        Operator::Xor => Op::Xor,
-    }
-}
-
-/// The instruction of a comparison.
-pub fn comparison_op(comparison: Comparison) -> Op
-    ensures { result ≡ code.comparison_code comparison }
-{
-    match comparison {
-        Comparison::Equal => Op::Equal,
-        Comparison::NotEqual => Op::NotEqual,
-        Comparison::Less => Op::Less,
-        Comparison::LessEqual => Op::LessEqual,
-        Comparison::Greater => Op::Greater,
-        Comparison::GreaterEqual => Op::GreaterEqual,
+        Operator::Arithmetic(operator) => Op::Arithmetic {
+            operator,
+            place: site.place,
+        },
+        Operator::Bitwise(operator) => Op::Bitwise(operator),
     }
 }
 

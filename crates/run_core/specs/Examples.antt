@@ -4,7 +4,7 @@ use Rattle.std.proofs.Common.{ℤ}
 use Rattle.act_words.specs.declared.settings.Settings.{Settings}
 use Rattle.act_words.specs.World.{Event, Output}
 use Rattle.code_words.specs.declared.op.Op.TheVariants.{Const, NextInput, Print, Return}
-use Rattle.code_words.specs.declared.image.WordKind.TheVariants.{Int}
+use Rattle.marshalling.specs.declared.kind.WordKind.TheVariants.{Int}
 use Rattle.code_words.specs.declared.image.Image.{Image}
 use Rattle.code_words.specs.Dumps.{blocks_held}
 use Rattle.code_words.specs.Runs.{Run, Unfinished, Finished, exec, started}

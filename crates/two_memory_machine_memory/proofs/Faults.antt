@@ -5,8 +5,8 @@ use Rattle.std.proofs.lemmas.List.{drop_all}
 use Rattle.std.proofs.lemmas.Option.{slice_get-get_or}
 use Rattle.std.proofs.lemmas.Bool.Decides.{nat_tests}
 use Rattle.act_words.specs.declared.ending.Ending.{Ending}
-use Rattle.code_words.specs.Marshalling.{fits_kind, optional_region_lies, fault_from, arguments_fault}
-use Rattle.code_words.specs.declared.image.Param.{Param}
+use Rattle.marshalling.specs.Crossing.{fits_kind, optional_region_lies, fault_from, arguments_fault}
+use Rattle.marshalling.specs.declared.signature.Param.{Param}
 use Rattle.two_memory_machine_memory.specs.Faults.{fault_ending, param_ending}
 use Rattle.two_memory_machine_memory.specs.Faults.{ending_from}
 

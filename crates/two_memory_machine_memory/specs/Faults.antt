@@ -4,19 +4,21 @@ use Rattle.ckc_text.specs.declared.code.Code.{Code}
 use Rattle.ckc_text.specs.declared.code.Code.TheVariants.{C4, C9, S6}
 use Rattle.act_words.specs.declared.ending.Ending.{Ending}
 use Rattle.act_words.specs.declared.ending.Ending.TheVariants as endings
-use Rattle.code_words.specs.Marshalling.{Fault, Count, TooLarge, OutOfRange, fits_kind, optional_region_lies, fault_from}
-use Rattle.code_words.specs.declared.image.Param.{Param}
+use Rattle.marshalling.specs.declared.fault.MarshalFault.{MarshalFault}
+use Rattle.marshalling.specs.declared.fault.MarshalFault.TheVariants as faults
+use Rattle.marshalling.specs.Crossing.{fits_kind, optional_region_lies, fault_from}
+use Rattle.marshalling.specs.declared.signature.Param.{Param}
 
 -- how a fault of a parameter ends the run
 abbrev pub ending_at : Code → Option Param → Option Ending
 ending_at code None = Some (endings.Stop S6 None)
 ending_at code (Some p) = Some (endings.Check code p.place)
 
-abbrev pub fault_ending : List Param → Option Fault → Option Ending
+abbrev pub fault_ending : List Param → Option MarshalFault → Option Ending
 fault_ending params None = None
-fault_ending params (Some Count) = Some (endings.Stop S6 None)
-fault_ending params (Some (TooLarge param)) = ending_at C9 (slice_get params param)
-fault_ending params (Some (OutOfRange param)) = ending_at C4 (slice_get params param)
+fault_ending params (Some faults.Count) = Some (endings.Stop S6 None)
+fault_ending params (Some (faults.Char param)) = ending_at C9 (slice_get params param)
+fault_ending params (Some (faults.Range param)) = ending_at C4 (slice_get params param)
 
 abbrev pub ending_unless : Bool → Ending → Option Ending → Option Ending
 ending_unless true ending later = later

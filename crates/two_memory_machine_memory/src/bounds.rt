@@ -2,7 +2,7 @@
 
 ghost use Rattle.std.specs.Prelude.{◌≡◌, ◌^◌, ◌==◌, ◌||◌, not, pos, negsuc, ◌≤ℤ◌};
 ghost use Rattle.std.proofs.Common.{◌+ℤ◌, ◌*ℤ◌};
-ghost use Rattle.code_words.specs.Marshalling.{lie_in};
+ghost use Rattle.marshalling.specs.Crossing.{lie_in};
 ghost use Rattle.act_words.specs.Numbers.{signed};
 ghost use Rattle.code_words.specs.Table.{place_at, end_of, is_in, is_up_to, same_number, contains};
 

@@ -2,13 +2,14 @@
 
 ghost use Rattle.std.specs.Prelude.{◌≡◌, length, slice_get, unwrap_or};
 ghost use Rattle.act_words.specs.Numbers.{signed};
-ghost use Rattle.code_words.specs.Marshalling.{arguments_fault, region_lies, added};
+ghost use Rattle.marshalling.specs.Crossing.{arguments_fault, region_lies, added};
 ghost use Rattle.two_memory_machine_memory.specs.Faults.{fault_ending, param_ending};
 
 use crate::bounds::Ends;
 use act_words::ending::Ending;
 use ckc_text::code::Code;
-use code_words::image::{Param, Region, WordKind};
+use marshalling::kind::WordKind;
+use marshalling::signature::{Param, Region};
 
 /// The word of a parameter, or 0 where there is none.
 fn word_of(words: &[u32], param: u32) -> u32

@@ -12,11 +12,12 @@ use Rattle.ckc_text.specs.declared.code.Code.{Code}
 use Rattle.ckc_text.specs.declared.code.Code.TheVariants.{C4, C9, S6}
 use Rattle.act_words.specs.declared.ending.Ending.{Ending}
 use Rattle.act_words.specs.declared.ending.Ending.TheVariants as endings
-use Rattle.code_words.specs.Marshalling.{Fault, Count, TooLarge, OutOfRange}
+use Rattle.marshalling.specs.declared.fault.MarshalFault.{MarshalFault}
+use Rattle.marshalling.specs.declared.fault.MarshalFault.TheVariants as faults
 use Rattle.code_words.specs.Moves.{tested, run_callback, at_place_of}
 use Rattle.code_words.specs.declared.image.Callback.{Callback}
 use Rattle.code_words.specs.declared.image.Image.{Image}
-use Rattle.code_words.specs.declared.image.Param.{Param}
+use Rattle.marshalling.specs.declared.signature.Param.{Param}
 use Rattle.code_words.specs.Table.{State, Over, wild}
 use Rattle.two_memory_machine_memory.specs.declared.calls.Link.{Link}
 use Rattle.two_memory_machine_memory.specs.declared.calls.Link.TheVariants.{Called, CallsBack}
@@ -86,15 +87,15 @@ away (phases.HasNumber number) h = absurd h
 away (phases.Touching touch) h = absurd h
 away (phases.Suspended import place) h = record { import = import; place = place; is = refl }
 
-pub tested_ends : (image : Image) (k : ℕ) (callback : Callback) (fault : Option Fault) (words : List ℕ) (s : State) (ending : Ending) → Some ending ≡ fault_ending callback.signature fault → tested image k callback fault words s ≡ Over ending s
+pub tested_ends : (image : Image) (k : ℕ) (callback : Callback) (fault : Option MarshalFault) (words : List ℕ) (s : State) (ending : Ending) → Some ending ≡ fault_ending callback.signature fault → tested image k callback fault words s ≡ Over ending s
 tested_ends image k callback None words s ending e = absurd (cc)
-tested_ends image k callback (Some Count) words s ending e = let same : ending ≡ endings.Stop S6 None = cc in rw same refl
-tested_ends image k callback (Some (TooLarge param)) words s ending e = by (slice_get callback.signature param) e
+tested_ends image k callback (Some faults.Count) words s ending e = let same : ending ≡ endings.Stop S6 None = cc in rw same refl
+tested_ends image k callback (Some (faults.Char param)) words s ending e = by (slice_get callback.signature param) e
   where
     by : (p : Option Param) → Some ending ≡ ending_at C9 p → at_place_of p (λ place. Over (endings.Check C9 place) s) (wild s) ≡ Over ending s
     by None h = let same : ending ≡ endings.Stop S6 None = cc in rw same refl
     by (Some p) h = let same : ending ≡ endings.Check C9 p.place = cc in rw same refl
-tested_ends image k callback (Some (OutOfRange param)) words s ending e = by (slice_get callback.signature param) e
+tested_ends image k callback (Some (faults.Range param)) words s ending e = by (slice_get callback.signature param) e
   where
     by : (p : Option Param) → Some ending ≡ ending_at C4 p → at_place_of p (λ place. Over (endings.Check C4 place) s) (wild s) ≡ Over ending s
     by None h = let same : ending ≡ endings.Stop S6 None = cc in rw same refl
@@ -104,11 +105,11 @@ no_ending : (code : Code) (p : Option Param) → None ≡ ending_at code p → �
 no_ending code None h = cc
 no_ending code (Some p) h = cc
 
-pub tested_passes : (image : Image) (k : ℕ) (callback : Callback) (fault : Option Fault) (words : List ℕ) (s : State) → None ≡ fault_ending callback.signature fault → tested image k callback fault words s ≡ run_callback k callback (slice_get image.trusted.funs callback.fun) words s
+pub tested_passes : (image : Image) (k : ℕ) (callback : Callback) (fault : Option MarshalFault) (words : List ℕ) (s : State) → None ≡ fault_ending callback.signature fault → tested image k callback fault words s ≡ run_callback k callback (slice_get image.trusted.funs callback.fun) words s
 tested_passes image k callback None words s e = refl
-tested_passes image k callback (Some Count) words s e = absurd (cc)
-tested_passes image k callback (Some (TooLarge param)) words s e = absurd (no_ending C9 (slice_get callback.signature param) e)
-tested_passes image k callback (Some (OutOfRange param)) words s e = absurd (no_ending C4 (slice_get callback.signature param) e)
+tested_passes image k callback (Some faults.Count) words s e = absurd (cc)
+tested_passes image k callback (Some (faults.Char param)) words s e = absurd (no_ending C9 (slice_get callback.signature param) e)
+tested_passes image k callback (Some (faults.Range param)) words s e = absurd (no_ending C4 (slice_get callback.signature param) e)
 
 pub needs : (phase : Phase) → doing_of phase ≡ NeedsNumber → phase ≡ phases.NeedsNumber
 needs phases.Running h = absurd (cc)

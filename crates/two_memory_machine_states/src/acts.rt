@@ -6,7 +6,7 @@ ghost use Rattle.act_words.specs.Acting.{shown, written, lies_in, stopped_by_act
 ghost use Rattle.act_words.specs.World.{in_turn};
 ghost use Rattle.act_words.specs.declared.act.Turn.TheVariants as turns;
 ghost use Rattle.code_words.specs.Table.{Touch, Away, Loads, Stores, Passes, Replies, Over};
-ghost use Rattle.code_words.specs.Marshalling.{fits_kind};
+ghost use Rattle.marshalling.specs.Crossing.{fits_kind};
 ghost use Rattle.code_words.specs.Moves.{make_touch, answer, in_world, reply_if};
 ghost use Rattle.code_words.specs.declared.image.Func.{Func as FuncData};
 ghost use Rattle.two_memory_machine_states.specs.Machines.{Running, Touching};
@@ -20,8 +20,9 @@ use act_words::ending::Ending;
 use act_words::row::{Octets, Words};
 use ckc_text::code::Code;
 use ckc_text::place::Place;
-use code_words::image::WordKind;
 use flat_bytes::words;
+use marshalling::kind::WordKind;
+use marshalling::reply::unpack_reply;
 use two_memory_machine_arithmetic::limits;
 use two_memory_machine_memory::calls::Link;
 
@@ -226,19 +227,16 @@ impl<'a> RunningImage<'a> {
             (λ s. reply_if (fits_kind kind value) self.old.image self.old.frame place kind value (record s { control = Away }))
             self.old result self.new }
     {
-        match kind {
-            WordKind::Void => return Event::Ran,
-            WordKind::Char => {
-                if value >= 256 {
-                    return self.end_move(Ending::Check {
-                        code: Code::C9,
-                        place,
-                    });
-                }
-            }
-            WordKind::Int | WordKind::Pointer => {}
+        let Ok(word) = unpack_reply(kind, value) else {
+            return self.end_move(Ending::Check {
+                code: Code::C9,
+                place,
+            });
+        };
+        if let WordKind::Void = kind {
+            return Event::Ran;
         }
-        if !self.push_word(value) {
+        if !self.push_word(word) {
             return self.end_move(WILD);
         }
         Event::Ran

@@ -9,8 +9,8 @@ use crate::running_image::{Pending, Phase, RunningImage};
 use act_words::ending::Ending;
 use ckc_text::code::Code;
 use ckc_text::place::Place;
-use code_words::image::WordKind;
 use code_words::op::Op;
+use marshalling::kind::WordKind;
 use two_memory_machine_arithmetic::limits;
 use two_memory_machine_memory::calls::Link;
 

@@ -3,93 +3,22 @@
 ghost use Rattle.two_memory_machine_states.specs.Steps.{Acts, IsReady};
 
 use crate::stack;
+use act_words::operator::{ArithmeticOperator, BitwiseOperator, Comparison};
 use ckc_text::place::Place;
 use code_words::op::Op;
 use two_memory_machine_arithmetic::arithmetic;
 use two_memory_machine_states::outcome::Outcome;
 use two_memory_machine_states::running_image::RunningImage;
 
-/// Pops two numbers, and pushes their sum.
-pub fn add(machine: &mut RunningImage, place: Place) -> Outcome
+/// Pops two numbers, and pushes what an arithmetic operator makes of them.
+pub fn compute(machine: &mut RunningImage, operator: ArithmeticOperator, place: Place) -> Outcome
     requires { IsReady machine.old }
-    ensures { Acts (Op.Add place) machine.old result machine.new }
+    ensures { Acts (Op.Arithmetic operator place) machine.old result machine.new }
 {
     let Some((left, right)) = machine.two_words() else {
         return machine.end_wild();
     };
-    let number = arithmetic::add(place, left, right);
-    stack::push_number(machine, 2, number)
-}
-
-/// Pops two numbers, and pushes their difference.
-pub fn subtract(machine: &mut RunningImage, place: Place) -> Outcome
-    requires { IsReady machine.old }
-    ensures { Acts (Op.Sub place) machine.old result machine.new }
-{
-    let Some((left, right)) = machine.two_words() else {
-        return machine.end_wild();
-    };
-    let number = arithmetic::subtract(place, left, right);
-    stack::push_number(machine, 2, number)
-}
-
-/// Pops two numbers, and pushes their product.
-pub fn multiply(machine: &mut RunningImage, place: Place) -> Outcome
-    requires { IsReady machine.old }
-    ensures { Acts (Op.Mul place) machine.old result machine.new }
-{
-    let Some((left, right)) = machine.two_words() else {
-        return machine.end_wild();
-    };
-    let number = arithmetic::multiply(place, left, right);
-    stack::push_number(machine, 2, number)
-}
-
-/// Pops two numbers, and pushes their quotient.
-pub fn divide(machine: &mut RunningImage, place: Place) -> Outcome
-    requires { IsReady machine.old }
-    ensures { Acts (Op.Div place) machine.old result machine.new }
-{
-    let Some((left, right)) = machine.two_words() else {
-        return machine.end_wild();
-    };
-    let number = arithmetic::divide(place, left, right);
-    stack::push_number(machine, 2, number)
-}
-
-/// Pops two numbers, and pushes their remainder.
-pub fn remainder(machine: &mut RunningImage, place: Place) -> Outcome
-    requires { IsReady machine.old }
-    ensures { Acts (Op.Rem place) machine.old result machine.new }
-{
-    let Some((left, right)) = machine.two_words() else {
-        return machine.end_wild();
-    };
-    let number = arithmetic::remainder(place, left, right);
-    stack::push_number(machine, 2, number)
-}
-
-/// Pops two numbers, and pushes their shifted number.
-pub fn shift_left(machine: &mut RunningImage, place: Place) -> Outcome
-    requires { IsReady machine.old }
-    ensures { Acts (Op.Shl place) machine.old result machine.new }
-{
-    let Some((left, right)) = machine.two_words() else {
-        return machine.end_wild();
-    };
-    let number = arithmetic::shift_left(place, left, right);
-    stack::push_number(machine, 2, number)
-}
-
-/// Pops two numbers, and pushes their shifted number.
-pub fn shift_right(machine: &mut RunningImage, place: Place) -> Outcome
-    requires { IsReady machine.old }
-    ensures { Acts (Op.Shr place) machine.old result machine.new }
-{
-    let Some((left, right)) = machine.two_words() else {
-        return machine.end_wild();
-    };
-    let number = arithmetic::shift_right(place, left, right);
+    let number = arithmetic::compute(operator, place, left, right);
     stack::push_number(machine, 2, number)
 }
 
@@ -238,103 +167,26 @@ pub fn wrapping_shift_right(machine: &mut RunningImage) -> Outcome
     machine.push(2, arithmetic::wrapping_shift_right(left, right))
 }
 
-/// Pops two words, and pushes the bits that both have.
-pub fn and(machine: &mut RunningImage) -> Outcome
+/// Pops two words, and pushes what a bitwise operator makes of them.
+pub fn combine(machine: &mut RunningImage, operator: BitwiseOperator) -> Outcome
     requires { IsReady machine.old }
-    ensures { Acts Op.And machine.old result machine.new }
+    ensures { Acts (Op.Bitwise operator) machine.old result machine.new }
 {
     let Some((left, right)) = machine.two_words() else {
         return machine.end_wild();
     };
-    machine.push(2, left & right)
+    machine.push(2, arithmetic::combine(operator, left, right))
 }
 
-/// Pops two words, and pushes the bits that one of them has.
-pub fn or(machine: &mut RunningImage) -> Outcome
+/// Pops two words, and pushes whether a comparison with a sign holds of them.
+pub fn compare(machine: &mut RunningImage, comparison: Comparison) -> Outcome
     requires { IsReady machine.old }
-    ensures { Acts Op.Or machine.old result machine.new }
+    ensures { Acts (Op.Compare comparison) machine.old result machine.new }
 {
     let Some((left, right)) = machine.two_words() else {
         return machine.end_wild();
     };
-    machine.push(2, left | right)
-}
-
-/// Pops two words, and pushes the bits that just one of them has.
-pub fn xor(machine: &mut RunningImage) -> Outcome
-    requires { IsReady machine.old }
-    ensures { Acts Op.Xor machine.old result machine.new }
-{
-    let Some((left, right)) = machine.two_words() else {
-        return machine.end_wild();
-    };
-    machine.push(2, left ^ right)
-}
-
-/// Pops two words, and pushes whether they are equal.
-pub fn equal(machine: &mut RunningImage) -> Outcome
-    requires { IsReady machine.old }
-    ensures { Acts Op.Equal machine.old result machine.new }
-{
-    let Some((left, right)) = machine.two_words() else {
-        return machine.end_wild();
-    };
-    machine.push(2, u32::from(left == right))
-}
-
-/// Pops two words, and pushes whether they differ.
-pub fn not_equal(machine: &mut RunningImage) -> Outcome
-    requires { IsReady machine.old }
-    ensures { Acts Op.NotEqual machine.old result machine.new }
-{
-    let Some((left, right)) = machine.two_words() else {
-        return machine.end_wild();
-    };
-    machine.push(2, u32::from(left != right))
-}
-
-/// Pops two words, and pushes whether the lower number is the less.
-pub fn less(machine: &mut RunningImage) -> Outcome
-    requires { IsReady machine.old }
-    ensures { Acts Op.Less machine.old result machine.new }
-{
-    let Some((left, right)) = machine.two_words() else {
-        return machine.end_wild();
-    };
-    machine.push(2, u32::from(left.cast_signed() < right.cast_signed()))
-}
-
-/// Pops two words, and pushes whether the lower number is no more.
-pub fn less_equal(machine: &mut RunningImage) -> Outcome
-    requires { IsReady machine.old }
-    ensures { Acts Op.LessEqual machine.old result machine.new }
-{
-    let Some((left, right)) = machine.two_words() else {
-        return machine.end_wild();
-    };
-    machine.push(2, u32::from(left.cast_signed() <= right.cast_signed()))
-}
-
-/// Pops two words, and pushes whether the lower number is the greater.
-pub fn greater(machine: &mut RunningImage) -> Outcome
-    requires { IsReady machine.old }
-    ensures { Acts Op.Greater machine.old result machine.new }
-{
-    let Some((left, right)) = machine.two_words() else {
-        return machine.end_wild();
-    };
-    machine.push(2, u32::from(left.cast_signed() > right.cast_signed()))
-}
-
-/// Pops two words, and pushes whether the lower number is no less.
-pub fn greater_equal(machine: &mut RunningImage) -> Outcome
-    requires { IsReady machine.old }
-    ensures { Acts Op.GreaterEqual machine.old result machine.new }
-{
-    let Some((left, right)) = machine.two_words() else {
-        return machine.end_wild();
-    };
-    machine.push(2, u32::from(left.cast_signed() >= right.cast_signed()))
+    machine.push(2, u32::from(arithmetic::compare(comparison, left, right)))
 }
 
 /// Pops two words, and pushes whether the lower word is the less.

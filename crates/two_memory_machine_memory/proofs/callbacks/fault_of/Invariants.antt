@@ -1,5 +1,5 @@
 use Rattle.std.proofs.Common.{◌≡◌}
-use Rattle.code_words.specs.Marshalling.{arguments_fault}
+use Rattle.marshalling.specs.Crossing.{arguments_fault}
 use Rattle.two_memory_machine_memory.specs.Faults.{fault_ending}
 use Rattle.two_memory_machine_memory.specs.Faults.{ending_from}
 use Rattle.two_memory_machine_memory.proofs.callbacks.fault_of.Given as goal

@@ -3,7 +3,7 @@ use Rattle.std.specs.Prelude.{FitsSigned}
 use Rattle.std.proofs.lemmas.Int.{to_z-of_z}
 use mir.Syntax.{w64}
 use Rattle.ckc_text.specs.declared.code.Code.TheVariants.{C5}
-use Rattle.code_words.specs.Marshalling.{lie_in}
+use Rattle.marshalling.specs.Crossing.{lie_in}
 use Rattle.code_words.specs.Table.{State, end_of, check}
 use Rattle.two_memory_machine_states.specs.Machines.{state_of}
 use Rattle.two_memory_machine_steps.proofs.Pops.{pop_3_found, three_there}

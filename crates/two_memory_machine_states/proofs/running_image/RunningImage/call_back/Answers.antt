@@ -1,7 +1,7 @@
 use Rattle.std.proofs.Common.{◌≡◌, Some, None, true, false, nat_lt, length, suc, ◌+◌, refl, sym, ap, subst, ◌∙◌, arith}
 use Rattle.std.specs.Prelude.{slice_get, ◌==◌}
 use Rattle.std.proofs.lemmas.Bool.Decides.{nat_tests}
-use Rattle.code_words.specs.Marshalling.{arguments_fault}
+use Rattle.marshalling.specs.Crossing.{arguments_fault}
 use Rattle.two_memory_machine_memory.specs.CallStacks.{callers_of}
 use Rattle.two_memory_machine_states.specs.Machines.{Machine, TellsAct, callers_in}
 use Rattle.two_memory_machine_states.specs.Insides.{doing_of, machine}
@@ -16,7 +16,7 @@ there : (c : After-fault_of) → slice_get c.self.inside.image.now.layout.callba
 there c = rw c.callbacks.ensures at (sym (item_found c.callbacks.result.now c.args.k (Some c.in-Some.callback) c.in-Some.ensures.lookup))
 
 count : (c : After-fault_of) → (length c.in-Some.callback.now.signature == length c.args.words.now) ≡ true
-count c = let signature = ap length c.as_slice-signature.ensures in grind (arith, nat_tests, signature, c.if-signature-words.false)
+count c = let signature = ap length c.as_slice-signature.ensures.parameters in grind (arith, nat_tests, signature, c.if-signature-words.false)
 
 early : (c : After-fault_of) → nat_lt c.self.inside.ticks c.self.inside.settings.budget ≡ true
 early c = grind (arith, nat_tests, c.if-self.false)
@@ -30,7 +30,7 @@ same_fault : (c : After-fault_of) → c.fault_of.result ≡ fault_ending c.in-So
 same_fault c =
     let size : c.len-size.result ≡ length c.self.inside.sandbox.items = omega (arith, c.len-size.ensures, c.self.inside.sandbox.ok.0) in
     c.fault_of.ensures
-    ∙ ap (λ ps. fault_ending ps (arguments_fault ps c.args.words.now c.len-size.result)) c.as_slice-signature.ensures
+    ∙ ap (λ ps. fault_ending ps (arguments_fault ps c.args.words.now c.len-size.result)) c.as_slice-signature.ensures.parameters
     ∙ ap (λ n. fault_ending c.in-Some.callback.now.signature (arguments_fault c.in-Some.callback.now.signature c.args.words.now n)) size
 
 pub returns-in-Some-fault_of : goal.returns-in-Some-fault_of
@@ -67,13 +67,13 @@ named c = rw c.callbacks.ensures at (sym (item_found c.callbacks.result.now c.ar
 pub returns-then-signature-words : goal.returns-then-signature-words
 returns-then-signature-words c = rw (← c.self.view_is)
     (λ acts inputs events.
-    let other : (length c.in-Some.callback.now.signature == length c.args.words.now) ≡ false = let signature = ap length c.as_slice-signature.ensures in grind (arith, nat_tests, signature, c.if-signature-words.true) in
+    let other : (length c.in-Some.callback.now.signature == length c.args.words.now) ≡ false = let signature = ap length c.as_slice-signature.ensures.parameters in grind (arith, nat_tests, signature, c.if-signature-words.true) in
     rw (named (goal.at.returns-then-signature-words c).In-Some, other) ((rw (← c.self.view_is) at c.stop_by_act-then-signature-words.ensures.line) acts inputs events))
 
 pub returns-then-self : goal.returns-then-self
 returns-then-self c = rw (← c.self.view_is)
     (λ acts inputs events.
-    let same : (length c.in-Some.callback.now.signature == length c.args.words.now) ≡ true = let signature = ap length c.as_slice-signature.ensures in grind (arith, nat_tests, signature, c.if-signature-words.false) in
+    let same : (length c.in-Some.callback.now.signature == length c.args.words.now) ≡ true = let signature = ap length c.as_slice-signature.ensures.parameters in grind (arith, nat_tests, signature, c.if-signature-words.false) in
     let late : nat_lt c.self.inside.ticks c.self.inside.settings.budget ≡ false = grind (arith, nat_tests, c.if-self.true) in
     rw (named (goal.at.returns-then-self c).In-Some, same, late) ((rw (← c.self.view_is) at c.end_move.ensures.line) acts inputs events))
 
@@ -81,7 +81,7 @@ pub returns-then-not-may_call : goal.returns-then-not-may_call
 returns-then-not-may_call c = rw (← c.self.view_is)
     (λ acts inputs events.
     let i = c.self.inside in
-    let same : (length c.in-Some.callback.now.signature == length c.args.words.now) ≡ true = let signature = ap length c.as_slice-signature.ensures in grind (arith, nat_tests, signature, c.if-signature-words.false) in
+    let same : (length c.in-Some.callback.now.signature == length c.args.words.now) ≡ true = let signature = ap length c.as_slice-signature.ensures.parameters in grind (arith, nat_tests, signature, c.if-signature-words.false) in
     let soon : nat_lt i.ticks i.settings.budget ≡ true = grind (arith, nat_tests, c.if-self.false) in
     let a = away i.phase (subst IsSuspended (ap (λ (m : Machine). m.doing) (sym c.self.view_is)) c.requires.suspended) in
     let deep : nat_lt (suc (length (callers_in (doing_of i.phase) i.calls.frame (callers_of i.calls.behind)))) 1000 ≡ false =

@@ -3,17 +3,12 @@ use Rattle.std.specs.Prelude.{ℕ, suc, Bool, true, false, ◌&&◌, ◌||◌, �
 use Rattle.std.specs.Prelude.{slice_get, unwrap_or, pos}
 use Rattle.std.proofs.Common.{ℤ, ◌+ℤ◌, ◌*ℤ◌}
 use Rattle.act_words.specs.Numbers.{signed}
-use Rattle.code_words.specs.declared.image.WordKind.{WordKind}
-use Rattle.code_words.specs.declared.image.WordKind.TheVariants as kinds
-use Rattle.code_words.specs.declared.image.Param.{Param}
-use Rattle.code_words.specs.declared.image.Region.{Region}
-
--- why words can't cross: another count of them (S5), a word for a `char` that is above 255 (C9), or a pointer whose bounds
--- don't lie in sandbox memory (C4)
-pub data Fault : Type 0 where
-  Count : Fault
-  TooLarge : (param : ℕ) → Fault
-  OutOfRange : (param : ℕ) → Fault
+use Rattle.marshalling.specs.declared.kind.WordKind.{WordKind}
+use Rattle.marshalling.specs.declared.kind.WordKind.TheVariants as kinds
+use Rattle.marshalling.specs.declared.fault.MarshalFault.{MarshalFault}
+use Rattle.marshalling.specs.declared.fault.MarshalFault.TheVariants.{Count, Char, Range}
+use Rattle.marshalling.specs.declared.signature.Param.{Param}
+use Rattle.marshalling.specs.declared.signature.Region.{Region}
 
 abbrev pub is_char : WordKind → Bool
 is_char kinds.Int = false
@@ -51,18 +46,18 @@ abbrev pub optional_region_lies : ℕ → List ℕ → ℕ → Option Region →
 optional_region_lies size words pointer None = true
 optional_region_lies size words pointer (Some r) = region_lies size words pointer r
 
-abbrev fault_unless : Bool → Fault → Option Fault → Option Fault
+abbrev fault_unless : Bool → MarshalFault → Option MarshalFault → Option MarshalFault
 fault_unless true fault later = later
 fault_unless false fault later = Some fault
 
 -- the first fault of words from a parameter on, from left to right
-abbrev pub fault_from : ℕ → ℕ → List ℕ → List Param → List ℕ → Option Fault
+abbrev pub fault_from : ℕ → ℕ → List ℕ → List Param → List ℕ → Option MarshalFault
 fault_from number size words [] left = None
 fault_from number size words (p ∷ params) [] = None
 fault_from number size words (p ∷ params) (w ∷ left) =
-    fault_unless (fits_kind p.kind w) (TooLarge number) (fault_unless (optional_region_lies size words w p.region) (OutOfRange number)
+    fault_unless (fits_kind p.kind w) (Char number) (fault_unless (optional_region_lies size words w p.region) (Range number)
     (fault_from (suc number) size words params left))
 
 -- what is wrong with the words that the sandbox passes, if anything is
-abbrev pub arguments_fault : List Param → List ℕ → ℕ → Option Fault
+abbrev pub arguments_fault : List Param → List ℕ → ℕ → Option MarshalFault
 arguments_fault params words size = fault_unless (length params == length words) Count (fault_from 0 size words params words)
