@@ -1,11 +1,11 @@
 -- What the sandbox is shown is the fold over its starting memory, the acts that were taken, and the releases: act by act, and
 -- touch by touch.
-use Rattle.std.proofs.Common.{◌≡◌, ℕ, ℤ, nat_lt, Bool, true, false, List, [], ◌∷◌, ◌++◌, length, refl, sym, ap, ◌∙◌, subst, ◌⊎◌, inl, inr}
+use Rattle.std.proofs.Common.{◌≡◌, ℕ, ℤ, Bool, true, false, List, [], ◌∷◌, ◌++◌, length, refl, sym, ap, ◌∙◌, subst, ◌⊎◌, inl, inr}
 use Rattle.std.proofs.lemmas.List.{append_assoc, append-nil, append_cancel_right}
 use Rattle.act_words.specs.declared.act.Turn.{Turn}
 use Rattle.act_words.specs.declared.act.Turn.TheVariants as turns
 use Rattle.act_words.specs.Acts.{Act, Go, Read, Write, Call, Return, Stop, Seen, SeenBytes, SeenCall, SeenReply, Release, Looked, Wrote, Passed, Replied}
-use Rattle.act_words.specs.World.{World, Event, Output, Released, Showed, NoAct, new_world, telling, taken_one, spent_one, in_turn}
+use Rattle.act_words.specs.World.{World, Event, Output, Released, Showed, NoAct, new_world, telling, taken_one, in_turn}
 use Rattle.act_words.specs.Acting.{BeforeTouch, InSandbox, lies_in, bytes_at, with_bytes, shown_if, written_if, waits_or_ends, keeps_or_ends, act_before_touch, act_in_sandbox}
 use Rattle.act_words.specs.Touches.{released, write}
 use Rattle.act_words.specs.View.{ViewIsFold, IsFront, view_fold, view_from, and_then_if, releases_of, view_of}

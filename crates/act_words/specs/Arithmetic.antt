@@ -1,12 +1,12 @@
 -- Arithmetic on numbers of 32 bits, with its checks, and on words.
-use Rattle.std.specs.Prelude.{ℕ, ◌+◌, ◌-◌, ◌*◌, ◌/◌, ◌%◌, ◌^◌, Bool, true, false, ◌&&◌, ◌||◌, not, ◌==◌, nat_lt, nat_le, bit_and, bit_or, bit_xor}
-use Rattle.std.specs.Prelude.{int_div, int_rem, int_lt, int_le, pos, negsuc}
+use Rattle.std.specs.Prelude.{ℕ, ◌+◌, ◌-◌, ◌*◌, ◌/◌, ◌%◌, ◌^◌, Bool, true, false, ◌&&◌, not, ◌==◌, nat_lt}
+use Rattle.std.specs.Prelude.{int_div, int_rem, pos, negsuc}
 use Rattle.std.proofs.Common.{ℤ, ◌+ℤ◌, ◌-ℤ◌, ◌*ℤ◌, neg_ℤ}
 use Rattle.ckc_text.specs.declared.place.Place.{Place}
 use Rattle.ckc_text.specs.declared.code.Code.TheVariants.{C6, C7, C8}
 use Rattle.act_words.specs.declared.ending.Ending.{Ending}
 use Rattle.act_words.specs.declared.ending.Ending.TheVariants.{Check}
-use Rattle.act_words.specs.Checks.{Checked, Holds, Fails, held_if, is_word_number, without_overflow}
+use Rattle.act_words.specs.Checks.{Checked, Fails, held_if, is_word_number, without_overflow}
 use Rattle.act_words.specs.Numbers.{signed, word}
 
 abbrev pub is_zero : ℤ → Bool

@@ -1,12 +1,12 @@
 -- Every source is cut: each front has a piece, and each run an end.
-use Rattle.std.proofs.Common.{◌≡◌, ℕ, zero, suc, ◌+◌, ◌-◌, ◌<◌, ◌≤◌, Bool, true, false, cond, ◌==◌, ◌&&◌, nat_lt, List, [], ◌∷◌, length, take, drop, Option, Some, None, Result, Ok, Err, refl, arith, length-drop}
+use Rattle.std.proofs.Common.{◌≡◌, ℕ, zero, suc, ◌+◌, ◌<◌, ◌≤◌, Bool, true, false, cond, ◌==◌, ◌&&◌, nat_lt, List, [], ◌∷◌, length, take, drop, Option, Some, None, Result, Ok, Err, refl, arith, length-drop}
 use Rattle.std.proofs.lemmas.Bool.{ltb-true, ltb-false}
 use Rattle.ckc_text.specs.declared.fault.SourceFault.{SourceFault}
 use Rattle.ckc_lexer_tokens.specs.Bytes.{is_hexadecimal_digit}
 use Rattle.ckc_lexer_tokens.specs.Marks.{mark_piece}
 use Rattle.ckc_lexer.specs.Runs.{width, Extent, ends, goes}
-use Rattle.ckc_lexer.specs.Quoted.{simple_escape, hexadecimal_escape, escape, quoted_byte, Means, nothing, byte, IsContent}
-use Rattle.ckc_lexer.specs.Pieces.{is_include, IsDirective, IsHash, StandsAs, Stands, front_of}
+use Rattle.ckc_lexer.specs.Quoted.{simple_escape, hexadecimal_escape, escape, quoted_byte, nothing, byte, IsContent}
+use Rattle.ckc_lexer.specs.Pieces.{is_include, IsDirective, IsHash, StandsAs, front_of}
 use Rattle.ckc_lexer.specs.Tokens as tokens
 use Rattle.ckc_lexer.specs.Tokens.{State, Step, Cut, Lexes, next, is_first, initial}
 use Rattle.ckc_lexer.specs.declared.front.Front.{Front}

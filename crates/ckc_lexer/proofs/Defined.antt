@@ -1,11 +1,10 @@
 -- A map finds the definition of a name as a search from the first one does.
-use Rattle.std.proofs.Common.{◌≡◌, ℕ, Bool, true, false, cond, bytes_eq, List, [], ◌∷◌, ◌++◌, Vec, Global, Option, Some, None, refl, sym, ap, ◌∙◌}
+use Rattle.std.proofs.Common.{◌≡◌, ℕ, Bool, true, false, cond, bytes_eq, List, [], ◌∷◌, ◌++◌, Vec, Global, Some, None, refl, sym, ap, ◌∙◌}
 use Rattle.std.specs.List.{find}
 use Rattle.std.specs.Map.{lookup}
 use Rattle.std.specs.Option.{option_map}
 use Rattle.std.proofs.lemmas.Slice.Eq.{bytes_eq-Decides}
 use Rattle.indexmap.specs.IndexMap.{insert_entry}
-use Rattle.ckc_lexer_tokens.specs.declared.piece.Definition.{Definition}
 use Rattle.ckc_lexer.specs.Tokens.{definition_for}
 use Rattle.ckc_lexer.specs.Defined.{definition, definitions_of}
 

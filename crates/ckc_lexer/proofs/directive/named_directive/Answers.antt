@@ -1,6 +1,5 @@
 use Rattle.std.proofs.Common.{◌≡◌, true, List, ℕ, sym, subst, ap}
 use Rattle.ckc_text.specs.Names.{is_letter, begins_with, IsName}
-use Rattle.ckc_lexer.specs.Directives.{part}
 use Rattle.ckc_lexer.proofs.Words.{part_name}
 use Rattle.ckc_lexer.proofs.directive.named_directive.Goals as goal
 

@@ -1,5 +1,4 @@
-use Rattle.std.proofs.Common.{◌≡◌, ◌∙◌, ◌++◌, ◌∷◌, [], None, refl, ap}
-use Rattle.ckc_lexer_tokens.specs.declared.piece.Definition.{Definition}
+use Rattle.std.proofs.Common.{◌≡◌, ◌∙◌, None, refl, ap}
 use Rattle.ckc_lexer.specs.Tokens.{definition_for}
 use Rattle.ckc_lexer.specs.Defined.{definitions_of}
 use Rattle.ckc_lexer.proofs.Defined.{put_last}
