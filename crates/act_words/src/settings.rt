@@ -17,6 +17,8 @@ pub struct Settings {
     pub releases: bool,
     /// Whether the last blocks of the trusted memory are printed.
     pub dump: bool,
+    /// Whether the code that runs is printed.
+    pub code: bool,
 }
 
 impl Settings {
@@ -29,5 +31,6 @@ impl Settings {
         view: false,
         releases: false,
         dump: false,
+        code: false,
     };
 }

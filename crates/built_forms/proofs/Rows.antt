@@ -1,5 +1,5 @@
 -- Arguments and statements that a `Vec` holds, as the trees show them; and tests of all that stand in a list.
-use Rattle.std.proofs.Common.{◌≡◌, ℕ, ◌+◌, ◌<◌, ◌≤◌, Bool, true, false, not, ◌&&◌, List, [], ◌∷◌, length, map, take, get_or, bytes_eq, codes, Vec, Global, Option, Some, None, refl, ap, sym, ◌∙◌}
+use Rattle.std.proofs.Common.{◌≡◌, ℕ, ◌+◌, ◌<◌, ◌≤◌, Bool, true, false, not, ◌&&◌, List, [], ◌∷◌, length, map, take, get_or, bytes_eq, Vec, Global, Option, Some, None, refl, ap, sym, ◌∙◌}
 use Rattle.std.specs.List.{list_all}
 use Rattle.std.proofs.lemmas.List.{take_all}
 use Rattle.std.proofs.lemmas.List.Folds.{list_all_more, list_all_at, list_all-map}
@@ -14,6 +14,7 @@ use Rattle.ckc_text.specs.declared.place.Span.{Span}
 use Rattle.ckc_tree.specs.Expressions.{expression, expressions}
 use Rattle.ckc_tree.specs.Statements.{statement, statements}
 use Rattle.ckc_tree.specs.Items.{statement_list}
+use Rattle.ckc_names_rules.specs.Given.{strlen}
 use Rattle.built_forms.specs.Built.{built_expression, built_expressions, built_statement, built_statements}
 
 -- ---- tests of lists
@@ -49,7 +50,7 @@ arguments_of_row n end_of-Expr = refl
 arguments_of_row n (more_of-Expr first rest) = ap (λ b. built_expression (expression first) && b) (arguments_of_row _ rest)
 
 -- whether a call is built
-pub call_built : (x : Expr) (callee : Identifier) (arguments : Vec Expr Global) (span : Span) (slice : List Expr) (r : Bool) → x ≡ exprs.Call callee arguments span → slice ≡ arguments.items → not (bytes_eq callee.name (codes "strlen")) ≡ true → r ≡ list_all (λ y. built_expression (expression y)) slice → r ≡ built_expression (expression x)
+pub call_built : (x : Expr) (callee : Identifier) (arguments : Vec Expr Global) (span : Span) (slice : List Expr) (r : Bool) → x ≡ exprs.Call callee arguments span → slice ≡ arguments.items → not (bytes_eq callee.name strlen) ≡ true → r ≡ list_all (λ y. built_expression (expression y)) slice → r ≡ built_expression (expression x)
 call_built x callee arguments span slice r is same other all =
     let row = arguments_row (exprs.Call callee arguments span) in
     all

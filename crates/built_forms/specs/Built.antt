@@ -1,6 +1,7 @@
 -- Which trees have only forms that are built.
-use Rattle.std.specs.Prelude.{ℕ, Bool, true, false, not, ◌&&◌, ◌==◌, bytes_eq, codes, List, [], ◌∷◌, Option, Some, None, is_none}
+use Rattle.std.specs.Prelude.{ℕ, Bool, true, false, not, ◌&&◌, ◌==◌, bytes_eq, List, [], ◌∷◌, Option, Some, None, is_none}
 use Rattle.std.specs.List.{list_all}
+use Rattle.ckc_names_rules.specs.Given.{strlen}
 use Rattle.ckc_tree.specs.declared.item.FunctionKind.{FunctionKind}
 use Rattle.ckc_tree.specs.declared.item.FunctionKind.TheVariants as function_kinds
 use Rattle.ckc_tree.specs.declared.type_form.PointerWord.{PointerWord}
@@ -50,7 +51,7 @@ abbrev mutual
   built_expression (e.Character value span) = true
   built_expression (e.Text bytes span) = false
   built_expression (e.Name name) = true
-  built_expression (e.Call callee arguments span) = not (bytes_eq callee.name (codes "strlen")) && built_expressions arguments
+  built_expression (e.Call callee arguments span) = not (bytes_eq callee.name strlen) && built_expressions arguments
   built_expression (e.SizeOf type span) = built_type type.base
   built_expression (e.Cast word type operand span) = false
   built_expression (e.BoundedCast word type operand bounds span) = false

@@ -6,6 +6,7 @@ ghost use Rattle.ckc_tree.specs.Types.{type_tree};
 ghost use Rattle.ckc_tree.specs.Expressions.{expression};
 ghost use Rattle.built_forms.specs.Built as built;
 
+use ckc_names_rules::given::STRLEN;
 use ckc_tree::expr::Expr;
 use ckc_tree::type_form::{PointerKind, PointerMode, TypeForm};
 
@@ -61,7 +62,7 @@ pub fn built_expression(written: &Expr) -> bool
             callee,
             arguments,
             ..
-        } => callee.name.as_bytes() != b"strlen".as_slice()
+        } => callee.name.as_bytes() != STRLEN.as_slice()
             && built_arguments(arguments.as_slice()),
         Expr::SizeOf { type_name, .. } => built_type(&type_name.base),
         Expr::Index { base, index, .. } => built_expression(base) && built_expression(index),

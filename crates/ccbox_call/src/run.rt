@@ -1,6 +1,6 @@
 // Running the program of a file.
 
-ghost use Rattle.std.specs.Prelude.{◌≡◌, List, ℕ, IsTrue};
+ghost use Rattle.std.specs.Prelude.{◌≡◌, List, ℕ, false, IsTrue};
 ghost use Rattle.std.specs.List.{All};
 ghost use Rattle.act_words.specs.Acts.{IsAct};
 ghost use Rattle.act_words.specs.Checks.{is_word_number};
@@ -133,6 +133,7 @@ fn run_with<F: Shelf, K: Sink>(
     sink: &mut K,
 ) -> Status
     requires allowed { AreAllowed settings.now }
+    requires plain { settings.now.code ≡ false }
     requires accepted { IsAcceptedCore (core program.now) }
     requires words { All (λ z. IsTrue (is_word_number z)) inputs.now }
     requires acts { All IsAct actor.old.acts }

@@ -29,7 +29,7 @@ pub data Request : Type 0 where
   -- to run the program of a file
   Run : (file : List ℕ) (options : Options) → Request
 
--- the settings of a run
+-- the settings of a run. No option asks for its code
 abbrev pub settings_of : Options → Settings
 settings_of o =
     record {
@@ -40,6 +40,7 @@ settings_of o =
       view = o.view;
       releases = o.releases;
       dump = o.dump;
+      code = false;
     }
 
 -- the input numbers of a run

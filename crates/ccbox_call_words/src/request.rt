@@ -60,6 +60,7 @@ impl<'a> Options<'a> {
             view: self.view,
             releases: self.releases,
             dump: self.dump,
+            code: Settings::DEFAULT.code,
         }
     }
 

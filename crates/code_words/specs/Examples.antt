@@ -19,7 +19,7 @@ use Rattle.code_words.specs.SandboxCode.{State, answered}
 
 -- 64 bytes in each memory, the trusted one at address 65,536
 abbrev pub settings_of : ℕ → Settings
-settings_of budget = record { budget = budget; sandbox = 64; trusted = 64; base = 65536; view = false; releases = false; dump = false }
+settings_of budget = record { budget = budget; sandbox = 64; trusted = 64; base = 65536; view = false; releases = false; dump = false; code = false }
 
 abbrev pub function_of : (number args slots stack : ℕ) → List Op → Func
 function_of number args slots stack ops = record { number = number; name = []; args = args; slots = slots; stack = stack; result = kinds.Int; ops = ops }

@@ -14,7 +14,7 @@ use Rattle.code_words.specs.Dumps.{blocks_held}
 
 -- small memories, at a base address
 abbrev settings : ℕ → Settings
-settings budget = record { budget = budget; sandbox = 64; trusted = 64; base = 65536; view = false; releases = false; dump = false }
+settings budget = record { budget = budget; sandbox = 64; trusted = 64; base = 65536; view = false; releases = false; dump = false; code = false }
 
 abbrev before : Image → State
 before image =

@@ -12,15 +12,15 @@ use Rattle.run_core_transcript.specs.Texts.{run_text}
 
 -- no lines are asked for
 abbrev pub plain : Settings
-plain = record { budget = 10; sandbox = 64; trusted = 64; base = 65536; view = false; releases = false; dump = false }
+plain = record { budget = 10; sandbox = 64; trusted = 64; base = 65536; view = false; releases = false; dump = false; code = false }
 
 -- lines of what is shown are asked for
 abbrev pub viewed : Settings
-viewed = record { budget = 10; sandbox = 64; trusted = 64; base = 65536; view = true; releases = false; dump = false }
+viewed = record { budget = 10; sandbox = 64; trusted = 64; base = 65536; view = true; releases = false; dump = false; code = false }
 
 -- the last blocks are asked for
 abbrev pub dumped : Settings
-dumped = record { budget = 10; sandbox = 64; trusted = 64; base = 65536; view = false; releases = false; dump = true }
+dumped = record { budget = 10; sandbox = 64; trusted = 64; base = 65536; view = false; releases = false; dump = true; code = false }
 
 -- two letters, without a line feed
 abbrev pub written : List Event

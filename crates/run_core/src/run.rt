@@ -1,6 +1,6 @@
 // Running an image with an actor.
 
-ghost use Rattle.std.specs.Prelude.{◌≡◌};
+ghost use Rattle.std.specs.Prelude.{◌≡◌, false};
 ghost use Rattle.ckc_io.specs.Files.{Files};
 ghost use Rattle.code_words.specs.Fitting.{Fits};
 ghost use Rattle.run_core.specs.Runs.{RunWrites, RunCounts};
@@ -36,7 +36,8 @@ pub fn run<A: Actor, F: Shelf, K: Sink>(
     shelf: &mut F,
     sink: &mut K,
 ) -> Result<Ending, RunFault>
-    requires { Fits image.now settings.now }
+    requires fits { Fits image.now settings.now }
+    requires plain { settings.now.code ≡ false }
     ensures writes { RunWrites A.answers (F.files shelf.old) image.now settings.now inputs.now (A.state_of actor.old) (A.state_of actor.new)
         (K.written sink.old) (K.written sink.new) result }
     ensures files { F.files shelf.new ≡ F.files shelf.old }

@@ -35,7 +35,7 @@ enter-requires-clause-fits c = λ f e.
     let same : c.in-Some.fun.now ≡ f = one_found c.self.inside.image.now.trusted.funs c.args.k c.in-Some.fun.now f (there c) found in
     let frame = all_found HasSmallFrame c.self.inside.image.now.trusted.funs c.args.k f c.self.invariant.format.frames found in
     let top = are_top c.in-Some.fun.now.args c.args.self.now.frame.stack c.in-Some-top_words.words c.in-Some-top_words.ensures in
-    omega (arith, frame.held, ap (λ (g : Func). g.args) same, top.count, ap length c.as_slice.ensures.words)
+    omega (arith, frame.held, ap (λ (g : Func). g.args) same, top.count, ap length c.as_slice.ensures.items)
 
 -- the function is there for the open calls too
 found : (c : After-as_slice) → slice_get c.advance.new.self.funs c.args.k ≡ Some c.in-Some.fun.now
@@ -76,7 +76,7 @@ returns c = λ f here acts inputs events.
     let g = c.in-Some.fun.now in
     let p : i.phase ≡ phases.Running = running i.phase (ap (λ (m : Machine). m.doing) c.self.view_is ∙ c.requires.runs) in
     let going : i.over ≡ None = ap (λ (m : Machine). m.over) c.self.view_is ∙ c.requires.going in
-    let words : c.as_slice.result.now ≡ c.in-Some-top_words.words = c.as_slice.ensures.words in
+    let words : c.as_slice.result.now ≡ c.in-Some-top_words.words = c.as_slice.ensures.items in
     let e = c.enter.ensures g (found b) ∙ ap (λ ws. entered Called c.args.k g ws c.advance.new.self) words ∙ ap (entered Called c.args.k g c.in-Some-top_words.words) (behind_same b) in
     let top : AreTop g.args i.calls.frame.stack c.in-Some-top_words.words = are_top g.args i.calls.frame.stack c.in-Some-top_words.words (rw (← c.self.view_is) at c.in-Some-top_words.ensures) in
     let deep : nat_lt (suc (length (callers_of i.calls.behind))) 1000 ≡ true = grind (arith, nat_tests, c.self.invariant.depth, shallow b) in
