@@ -11,16 +11,15 @@ use crate::statement_code::emit_statements;
 use ckc_core::program;
 use ckc_core::program::{Core, Function, Object};
 use ckc_text::fault::NoMemory;
-use code_words::image::{
-    Blocks, Func, Funs, Image, Import, Imports, Layout, Ops, SideCode, WordKind,
-};
 use ckc_text::listed::Listed;
+use code_words::image::{Blocks, Func, Funs, Image, Import, Imports, Layout, Ops, SideCode};
 use code_words::op::Op;
 use lowering_code::code_sizes::statements_size;
 use lowering_code::instructions::{put, put_two};
 use lowering_code::stacks::statements_stack;
 use lowering_fragments::cells::put_cell;
 use lowering_fragments::loops::Targets;
+use marshalling::kind::WordKind;
 use pointer_modes::ctype::CType;
 use std::alloc::Global;
 

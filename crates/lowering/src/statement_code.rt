@@ -9,7 +9,8 @@ ghost use Rattle.lowering_code.specs.Code as code;
 ghost use Rattle.lowering_code.specs.Code.{Places};
 ghost use Rattle.lowering_fragments.specs.Views.{targets_of};
 
-use ckc_core::program::{CellPlace, Expr, Operator, Site, Stmt};
+use act_words::operator::Operator;
+use ckc_core::program::{CellPlace, Expr, Site, Stmt};
 use ckc_text::fault::NoMemory;
 use code_words::op::Op;
 use lowering_code::code_sizes::{expression_size, has_one_byte, statement_size};

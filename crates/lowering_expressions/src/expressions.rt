@@ -6,12 +6,13 @@ ghost use Rattle.ckc_core.specs.Core.{expression, place as place_of, arguments_o
 ghost use Rattle.code_words.specs.declared.op.Op.TheVariants as ops_of;
 ghost use Rattle.lowering_code.specs.Code as code;
 
+use act_words::operator::Comparison;
 use ckc_core::program::{CellPlace, Expr};
 use ckc_text::fault::NoMemory;
 use code_words::op::Op;
 use lowering_code::code_sizes::expression_size;
 use lowering_code::instructions::{
-    begin_and, begin_or, comparison_op, end_and, load_op, operator_op, put, put_two,
+    begin_and, begin_or, end_and, load_op, operator_op, put, put_two,
 };
 use lowering_fragments::addresses::{emit_address, emit_through};
 use lowering_fragments::calls::{argument_at, put_call};
@@ -59,11 +60,11 @@ pub fn emit_expression(ops: &mut Vec<Op>, expr: &Expr) -> Result<(), NoMemory>
             right,
         } => {
             emit_expression(ops, left)?;
-            emit_with(ops, right, comparison_op(*comparison))
+            emit_with(ops, right, Op::Compare(*comparison))
         }
         Expr::Same { left, right } => {
             emit_expression(ops, left)?;
-            emit_with(ops, right, Op::Equal)
+            emit_with(ops, right, Op::Compare(Comparison::Equal))
         }
         Expr::AndAlso { left, right } => {
             emit_expression(ops, left)?;

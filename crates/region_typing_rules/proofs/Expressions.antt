@@ -16,10 +16,12 @@ use Rattle.pointer_modes.specs.declared.ctype.Kind.{Kind}
 use Rattle.pointer_modes.specs.Types.{CType, Int, Char, Struct, Pointer, members_of}
 use Rattle.pointer_modes.specs.Layout.{cells_of, size_of}
 use Rattle.ckc_core.specs.declared.program.Site.{Site}
-use Rattle.ckc_core.specs.declared.program.Operator.{Operator}
-use Rattle.ckc_core.specs.declared.program.Operator.TheVariants as operators
-use Rattle.ckc_core.specs.declared.program.Comparison.{Comparison}
-use Rattle.ckc_core.specs.declared.program.Comparison.TheVariants as comparisons
+use Rattle.act_words.specs.declared.operator.Operator.{Operator}
+use Rattle.act_words.specs.declared.operator.ArithmeticOperator.TheVariants as arithmetics
+use Rattle.act_words.specs.declared.operator.BitwiseOperator.TheVariants as bits
+use Rattle.act_words.specs.declared.operator.Operator.TheVariants as operators
+use Rattle.act_words.specs.declared.operator.Comparison.{Comparison}
+use Rattle.act_words.specs.declared.operator.Comparison.TheVariants as comparisons
 use Rattle.ckc_core.specs.Core as core
 use Rattle.ckc_core.specs.States.{same_type}
 use Rattle.ckc_names_rules.specs.declared.given.Given.{Given}
@@ -222,22 +224,22 @@ module _ (g : Frame) (types : List CType) where
   binary_promises : (operator : BinaryOperator) (a b : Typed) (site : Site) (span : Span) → Fits a → Fits b → Promises Fits (binary_typed operator a b site span)
   binary_promises binary.Or a b site span ha hb = two_scalars_promise Fits a b span _ ha hb (λ v w t u n m. number_fits (core.OrElse v w) (rules.either n m))
   binary_promises binary.And a b site span ha hb = two_scalars_promise Fits a b span _ ha hb (λ v w t u n m. number_fits (core.AndAlso v w) (rules.both n m))
-  binary_promises binary.BitOr a b site span ha hb = arithmetic_promises operators.Or a b site span ha hb
-  binary_promises binary.BitXor a b site span ha hb = arithmetic_promises operators.Xor a b site span ha hb
-  binary_promises binary.BitAnd a b site span ha hb = arithmetic_promises operators.And a b site span ha hb
+  binary_promises binary.BitOr a b site span ha hb = arithmetic_promises (operators.Bitwise bits.Or) a b site span ha hb
+  binary_promises binary.BitXor a b site span ha hb = arithmetic_promises (operators.Bitwise bits.Xor) a b site span ha hb
+  binary_promises binary.BitAnd a b site span ha hb = arithmetic_promises (operators.Bitwise bits.And) a b site span ha hb
   binary_promises binary.Equal a b site span ha hb = passing_promises IsInt Fits (equated a b span) number (equal_promises a b span ha hb) (λ v n. number_fits v n)
   binary_promises binary.NotEqual a b site span ha hb = passing_promises IsInt Fits (equated a b span) _ (equal_promises a b span ha hb) (λ v n. number_fits (core.Not v) (rules.inverse n))
   binary_promises binary.Less a b site span ha hb = order_promises comparisons.Less a b span ha hb
   binary_promises binary.LessEqual a b site span ha hb = order_promises comparisons.LessEqual a b span ha hb
   binary_promises binary.Greater a b site span ha hb = order_promises comparisons.Greater a b span ha hb
   binary_promises binary.GreaterEqual a b site span ha hb = order_promises comparisons.GreaterEqual a b span ha hb
-  binary_promises binary.ShiftLeft a b site span ha hb = arithmetic_promises operators.ShiftLeft a b site span ha hb
-  binary_promises binary.ShiftRight a b site span ha hb = arithmetic_promises operators.ShiftRight a b site span ha hb
-  binary_promises binary.Add a b site span ha hb = sum_promises operators.Add a b site span ha hb
-  binary_promises binary.Subtract a b site span ha hb = sum_promises operators.Subtract a b site span ha hb
-  binary_promises binary.Multiply a b site span ha hb = arithmetic_promises operators.Multiply a b site span ha hb
-  binary_promises binary.Divide a b site span ha hb = arithmetic_promises operators.Divide a b site span ha hb
-  binary_promises binary.Remainder a b site span ha hb = arithmetic_promises operators.Remainder a b site span ha hb
+  binary_promises binary.ShiftLeft a b site span ha hb = arithmetic_promises (operators.Arithmetic arithmetics.ShiftLeft) a b site span ha hb
+  binary_promises binary.ShiftRight a b site span ha hb = arithmetic_promises (operators.Arithmetic arithmetics.ShiftRight) a b site span ha hb
+  binary_promises binary.Add a b site span ha hb = sum_promises (operators.Arithmetic arithmetics.Add) a b site span ha hb
+  binary_promises binary.Subtract a b site span ha hb = sum_promises (operators.Arithmetic arithmetics.Subtract) a b site span ha hb
+  binary_promises binary.Multiply a b site span ha hb = arithmetic_promises (operators.Arithmetic arithmetics.Multiply) a b site span ha hb
+  binary_promises binary.Divide a b site span ha hb = arithmetic_promises (operators.Arithmetic arithmetics.Divide) a b site span ha hb
+  binary_promises binary.Remainder a b site span ha hb = arithmetic_promises (operators.Arithmetic arithmetics.Remainder) a b site span ha hb
 
   indexed_promises : (a b : Typed) (span : Span) → Promises Fits (indexed a b span)
   indexed_promises (Value t z v p) (Value u y w q) span = needs_promises Fits (is_pointer t && is_number u) E13 span (breaks E19 span) (λ x. tt)

@@ -12,10 +12,12 @@ use Rattle.ckc_tree.specs.declared.stmt.StoreOperator.{StoreOperator}
 use Rattle.ckc_tree.specs.declared.stmt.StoreOperator.TheVariants as stores
 use Rattle.pointer_modes.specs.Types.{CType, Int, Char, Struct, Pointer, members_of}
 use Rattle.ckc_core.specs.declared.program.Site.{Site}
-use Rattle.ckc_core.specs.declared.program.Operator.{Operator}
-use Rattle.ckc_core.specs.declared.program.Operator.TheVariants as operators
-use Rattle.ckc_core.specs.declared.program.Comparison.{Comparison}
-use Rattle.ckc_core.specs.declared.program.Comparison.TheVariants as comparisons
+use Rattle.act_words.specs.declared.operator.Operator.{Operator}
+use Rattle.act_words.specs.declared.operator.ArithmeticOperator.TheVariants as arithmetics
+use Rattle.act_words.specs.declared.operator.BitwiseOperator.TheVariants as bits
+use Rattle.act_words.specs.declared.operator.Operator.TheVariants as operators
+use Rattle.act_words.specs.declared.operator.Comparison.{Comparison}
+use Rattle.act_words.specs.declared.operator.Comparison.TheVariants as comparisons
 use Rattle.ckc_core.specs.Core as core
 use Rattle.region_typing_rules.specs.Verdicts.{Verdict, Passes, Stops, Broken, Nameless, passing, needs}
 use Rattle.region_typing_rules.specs.Scopes.{Scope, Signature, members_named}
@@ -154,22 +156,22 @@ ordered_named comparison (AStruct n p) b span = tt
 pub binary_named : (operator : BinaryOperator) (a b : Typed) (site : Site) (span : Span) → AllNamed (binary_typed operator a b site span)
 binary_named binary.Or a b site span = scalars_named a b span _ (λ v w. tt)
 binary_named binary.And a b site span = scalars_named a b span _ (λ v w. tt)
-binary_named binary.BitOr a b site span = numbers_named a b span (arithmetic operators.Or site) (λ v w. tt)
-binary_named binary.BitXor a b site span = numbers_named a b span (arithmetic operators.Xor site) (λ v w. tt)
-binary_named binary.BitAnd a b site span = numbers_named a b span (arithmetic operators.And site) (λ v w. tt)
+binary_named binary.BitOr a b site span = numbers_named a b span (arithmetic (operators.Bitwise bits.Or) site) (λ v w. tt)
+binary_named binary.BitXor a b site span = numbers_named a b span (arithmetic (operators.Bitwise bits.Xor) site) (λ v w. tt)
+binary_named binary.BitAnd a b site span = numbers_named a b span (arithmetic (operators.Bitwise bits.And) site) (λ v w. tt)
 binary_named binary.Equal a b site span = then_named Any (equated a b span) number (equated_named a b span) (λ v. tt)
 binary_named binary.NotEqual a b site span = then_named Any (equated a b span) _ (equated_named a b span) (λ v. tt)
 binary_named binary.Less a b site span = ordered_named comparisons.Less a b span
 binary_named binary.LessEqual a b site span = ordered_named comparisons.LessEqual a b span
 binary_named binary.Greater a b site span = ordered_named comparisons.Greater a b span
 binary_named binary.GreaterEqual a b site span = ordered_named comparisons.GreaterEqual a b span
-binary_named binary.ShiftLeft a b site span = numbers_named a b span (arithmetic operators.ShiftLeft site) (λ v w. tt)
-binary_named binary.ShiftRight a b site span = numbers_named a b span (arithmetic operators.ShiftRight site) (λ v w. tt)
-binary_named binary.Add a b site span = summands_named a b span (arithmetic operators.Add site) (λ v w. tt)
-binary_named binary.Subtract a b site span = summands_named a b span (arithmetic operators.Subtract site) (λ v w. tt)
-binary_named binary.Multiply a b site span = numbers_named a b span (arithmetic operators.Multiply site) (λ v w. tt)
-binary_named binary.Divide a b site span = numbers_named a b span (arithmetic operators.Divide site) (λ v w. tt)
-binary_named binary.Remainder a b site span = numbers_named a b span (arithmetic operators.Remainder site) (λ v w. tt)
+binary_named binary.ShiftLeft a b site span = numbers_named a b span (arithmetic (operators.Arithmetic arithmetics.ShiftLeft) site) (λ v w. tt)
+binary_named binary.ShiftRight a b site span = numbers_named a b span (arithmetic (operators.Arithmetic arithmetics.ShiftRight) site) (λ v w. tt)
+binary_named binary.Add a b site span = summands_named a b span (arithmetic (operators.Arithmetic arithmetics.Add) site) (λ v w. tt)
+binary_named binary.Subtract a b site span = summands_named a b span (arithmetic (operators.Arithmetic arithmetics.Subtract) site) (λ v w. tt)
+binary_named binary.Multiply a b site span = numbers_named a b span (arithmetic (operators.Arithmetic arithmetics.Multiply) site) (λ v w. tt)
+binary_named binary.Divide a b site span = numbers_named a b span (arithmetic (operators.Arithmetic arithmetics.Divide) site) (λ v w. tt)
+binary_named binary.Remainder a b site span = numbers_named a b span (arithmetic (operators.Arithmetic arithmetics.Remainder) site) (λ v w. tt)
 
 pub indexed_named : (a b : Typed) (span : Span) → AllNamed (indexed a b span)
 indexed_named (Value t z v p) (Value u y w q) span = needs_named Any (is_pointer t && is_number u) E13 span _ tt
@@ -218,8 +220,8 @@ updated_named at operator target right span = assigned_named target span _ (λ t
 
 pub stored_named : (at : Places) (operator : StoreOperator) (target right : Typed) (span : Span) → AllNamed (stored at operator target right span)
 stored_named at stores.Set target right span = assigned_named target span _ (λ type place. converted_named right type span _ (λ value. tt))
-stored_named at stores.Add target right span = updated_named at operators.Add target right span
-stored_named at stores.Subtract target right span = updated_named at operators.Subtract target right span
+stored_named at stores.Add target right span = updated_named at (operators.Arithmetic arithmetics.Add) target right span
+stored_named at stores.Subtract target right span = updated_named at (operators.Arithmetic arithmetics.Subtract) target right span
 
 pub returned_named : (result : Option CType) (t : Typed) (span : Span) → AllNamed (returned result t span)
 returned_named None t span = tt

@@ -1,6 +1,6 @@
 -- Numbers that operators give have 32 bits.
 use Rattle.std.proofs.Common.{◌≡◌, ℕ, suc, ◌-◌, ◌%◌, ◌/◌, ◌^◌, ◌<◌, ◌≤◌, Bool, true, false, ℤ, ◌+ℤ◌, ◌-ℤ◌, ◌*ℤ◌, pos, negsuc, refl, ap, ◌∙◌, ⊎_elim, arith, div-le_self}
-use Rattle.std.specs.Prelude.{nat_lt, not, ◌&&◌, int_div, int_rem, unsigned_abs, bit_and, bit_or, bit_xor}
+use Rattle.std.specs.Prelude.{nat_lt, not, ◌&&◌, int_div, int_rem, unsigned_abs}
 use Rattle.std.specs.Int.{w32}
 use Rattle.std.specs.Int.Bits.{and_lt}
 use Rattle.std.proofs.Math.Facts.{to_z-neg}
@@ -15,9 +15,13 @@ use Rattle.act_words.specs.declared.ending.Ending.TheVariants.{Check}
 use Rattle.act_words.specs.Checks.{Checked, Holds, Fails, held_if, is_word_number, without_overflow}
 use Rattle.act_words.specs.Numbers.{word, signed}
 use Rattle.act_words.specs.Arithmetic.{checked_then, is_zero, is_count, is_not_negative, complement, halved, count_of}
+use Rattle.act_words.specs.Operators.{bitwise_result}
 use Rattle.ckc_core.specs.declared.program.Site.{Site}
-use Rattle.ckc_core.specs.declared.program.Operator.{Operator}
-use Rattle.ckc_core.specs.declared.program.Operator.TheVariants as operators
+use Rattle.act_words.specs.declared.operator.Operator.{Operator}
+use Rattle.act_words.specs.declared.operator.ArithmeticOperator.TheVariants as arithmetics
+use Rattle.act_words.specs.declared.operator.BitwiseOperator.{BitwiseOperator}
+use Rattle.act_words.specs.declared.operator.BitwiseOperator.TheVariants as bits
+use Rattle.act_words.specs.declared.operator.Operator.TheVariants as operators
 use Rattle.ckc_core.specs.Meaning.{result_of}
 
 abbrev pub IsNumber : ℤ → Type 0
@@ -89,22 +93,27 @@ not_true : (b : Bool) → not b ≡ true → b ≡ false
 not_true true h = absurd (cc)
 not_true false h = refl
 
+-- a bitwise operator on words gives a word
+bits_small : (operator : BitwiseOperator) (a b : ℕ) → a < 2 ^ 32 → b < 2 ^ 32 → bitwise_result operator a b < 2 ^ 32
+bits_small bits.And a b ha hb = and_lt 32 a b ha hb
+bits_small bits.Or a b ha hb = or_lt 32 a b ha hb
+bits_small bits.Xor a b ha hb = xor_lt 32 a b ha hb
+
 -- an operator's number has 32 bits
 pub result_fits : (operator : Operator) (site : Site) (a b : ℤ) → IsNumber a → IsNumber b → IfHolds IsNumber (result_of operator site a b)
-result_fits operators.Add site a b ha hb = overflow_fits site.place (a +ℤ b)
-result_fits operators.Subtract site a b ha hb = overflow_fits site.place (a -ℤ b)
-result_fits operators.Multiply site a b ha hb = overflow_fits site.place (a *ℤ b)
-result_fits operators.Divide site a b ha hb = divided_fits (not (is_zero b)) (Check C7 site.place) (without_overflow site.place (int_div a b)) (λ h. overflow_fits site.place (int_div a b))
-result_fits operators.Remainder site a b ha hb =
+result_fits (operators.Arithmetic arithmetics.Add) site a b ha hb = overflow_fits site.place (a +ℤ b)
+result_fits (operators.Arithmetic arithmetics.Subtract) site a b ha hb = overflow_fits site.place (a -ℤ b)
+result_fits (operators.Arithmetic arithmetics.Multiply) site a b ha hb = overflow_fits site.place (a *ℤ b)
+result_fits (operators.Arithmetic arithmetics.Divide) site a b ha hb = divided_fits (not (is_zero b)) (Check C7 site.place) (without_overflow site.place (int_div a b)) (λ h. overflow_fits site.place (int_div a b))
+result_fits (operators.Arithmetic arithmetics.Remainder) site a b ha hb =
     divided_fits (not (is_zero b)) (Check C7 site.place) (held_if (is_word_number (int_div a b)) (int_rem a b) (Check C6 site.place))
     (λ h. held_fits (is_word_number (int_div a b)) (int_rem a b) (Check C6 site.place) (λ k. remainder_fits a b hb (not_true (is_zero b) h)))
-result_fits operators.ShiftLeft site a b ha hb =
+result_fits (operators.Arithmetic arithmetics.ShiftLeft) site a b ha hb =
     let z = a *ℤ pos (2 ^ count_of b) in
     held_fits (is_count b && (is_not_negative a && is_word_number z)) z (Check C8 site.place) (last_true (is_count b) (is_not_negative a) (is_word_number z))
-result_fits operators.ShiftRight site a b ha hb = held_fits (is_count b) (halved a (count_of b)) (Check C8 site.place) (λ h. halved_fits a (count_of b) ha)
-result_fits operators.And site a b ha hb = signed_fits (bit_and (word a) (word b)) (and_lt 32 (word a) (word b) (word_small a ha) (word_small b hb))
-result_fits operators.Or site a b ha hb = signed_fits (bit_or (word a) (word b)) (or_lt 32 (word a) (word b) (word_small a ha) (word_small b hb))
-result_fits operators.Xor site a b ha hb = signed_fits (bit_xor (word a) (word b)) (xor_lt 32 (word a) (word b) (word_small a ha) (word_small b hb))
+result_fits (operators.Arithmetic arithmetics.ShiftRight) site a b ha hb = held_fits (is_count b) (halved a (count_of b)) (Check C8 site.place) (λ h. halved_fits a (count_of b) ha)
+result_fits (operators.Bitwise operator) site a b ha hb =
+    signed_fits (bitwise_result operator (word a) (word b)) (bits_small operator (word a) (word b) (word_small a ha) (word_small b hb))
 
 -- a number modulo 256 is a byte
 pub low_byte_small : (z : ℤ) → word z % 256 < 256

@@ -12,16 +12,17 @@ use Rattle.act_words.specs.Outcome.{Gives, Ends, Stuck, Short, and_then}
 use Rattle.act_words.specs.Checks.{Checked, Holds, Fails, is_word_number}
 use Rattle.act_words.specs.Numbers.{word}
 use Rattle.act_words.specs.Arithmetic as arithmetic
+use Rattle.act_words.specs.Operators.{holds}
 use Rattle.act_words.specs.Touches.{Asked, Got, Ended, spend_tick, enter_call, next_input, tainted_call}
 use Rattle.ckc_core.specs.declared.program.Site.{Site}
-use Rattle.ckc_core.specs.declared.program.Operator.{Operator}
-use Rattle.ckc_core.specs.declared.program.Comparison.{Comparison}
+use Rattle.act_words.specs.declared.operator.Operator.{Operator}
+use Rattle.act_words.specs.declared.operator.Comparison.{Comparison}
 use Rattle.pointer_modes.specs.declared.ctype.Mode.{Mode}
 use Rattle.pointer_modes.specs.declared.ctype.Kind.{Kind}
 use Rattle.pointer_modes.specs.Types.{CType, Int, Char, Struct, Pointer}
 use Rattle.ckc_core.specs.Core as core
 use Rattle.ckc_core.specs.States.{Value, Number, Null, At, Cell, State, in_world, with_cell, stands_at, stands_behind, same_type, has_type, byte_place, object_block}
-use Rattle.ckc_core.specs.Meaning.{Result, Flow, Next, Broke, Continued, Returned, Knot, Setting, given, checked, value_if, value_in, place_where, place_in, place_through, load_at, place_if, pointer_to, truth, number_of_test, same_place, test_given, result_of, arithmetic_of, holds, compared, negated, complemented, low_byte_of, asked, words_of, reply_as, cross, cross_if, call_tainted, takes, enter_if, call_trusted, result_given, choose, value, values, place, store_if, store_over, store_at, set_local_if, set_local, pointer_of, kept_if, is_char, printed, put, on_next, behind_turn, no_result, effect, effects}
+use Rattle.ckc_core.specs.Meaning.{Result, Flow, Next, Broke, Continued, Returned, Knot, Setting, given, checked, value_if, value_in, place_where, place_in, place_through, load_at, place_if, pointer_to, truth, number_of_test, same_place, test_given, result_of, arithmetic_of, compared, negated, complemented, low_byte_of, asked, words_of, reply_as, cross, cross_if, call_tainted, takes, enter_if, call_trusted, result_given, choose, value, values, place, store_if, store_over, store_at, set_local_if, set_local, pointer_of, kept_if, is_char, printed, put, on_next, behind_turn, no_result, effect, effects}
 use Rattle.region_typing_rules.specs.Types.{is_number}
 use Rattle.region_typing_rules.specs.Typed as typed
 use Rattle.region_typing_rules.specs.Typed.{Frame, IsPlace, HasValue, HasType, HaveTypes, HasPlace, IsStatement, AreStatements, IsScalar, IsFunction}

@@ -15,10 +15,12 @@ use Rattle.ckc_tree.specs.Heights.{Reach, deeper, ◌beside◌, inside, around, 
 use Rattle.pointer_modes.specs.Types.{CType, Int, Char, Struct, Pointer, members_of}
 use Rattle.pointer_modes.specs.Layout.{cells_of}
 use Rattle.ckc_core.specs.declared.program.Site.{Site}
-use Rattle.ckc_core.specs.declared.program.Operator.{Operator}
-use Rattle.ckc_core.specs.declared.program.Operator.TheVariants as operators
-use Rattle.ckc_core.specs.declared.program.Comparison.{Comparison}
-use Rattle.ckc_core.specs.declared.program.Comparison.TheVariants as comparisons
+use Rattle.act_words.specs.declared.operator.Operator.{Operator}
+use Rattle.act_words.specs.declared.operator.ArithmeticOperator.TheVariants as arithmetics
+use Rattle.act_words.specs.declared.operator.BitwiseOperator.TheVariants as bits
+use Rattle.act_words.specs.declared.operator.Operator.TheVariants as operators
+use Rattle.act_words.specs.declared.operator.Comparison.{Comparison}
+use Rattle.act_words.specs.declared.operator.Comparison.TheVariants as comparisons
 use Rattle.ckc_core.specs.Core as core
 use Rattle.ckc_core.specs.Stacks.{offset_stack, expression_stack, arguments_stack, place_stack, statement_stack}
 use Rattle.ckc_names_rules.specs.declared.given.Given.{Given}
@@ -213,22 +215,22 @@ order_low n comparison (AStruct k p) b span ha hb = tt
 binary_low : (n : ℕ) (operator : BinaryOperator) (a b : Typed) (site : Site) (span : Span) → 2 ≤ n → Low n a → Low n b → Promises (Low (n + 1)) (binary_typed operator a b site span)
 binary_low n binary.Or a b site span two ha hb = truths_low n core.OrElse a b span ha hb (λ v w low low'. omega arith)
 binary_low n binary.And a b site span two ha hb = truths_low n core.AndAlso a b span ha hb (λ v w low low'. omega arith)
-binary_low n binary.BitOr a b site span two ha hb = arithmetic_low n operators.Or a b site span ha hb
-binary_low n binary.BitXor a b site span two ha hb = arithmetic_low n operators.Xor a b site span ha hb
-binary_low n binary.BitAnd a b site span two ha hb = arithmetic_low n operators.And a b site span ha hb
+binary_low n binary.BitOr a b site span two ha hb = arithmetic_low n (operators.Bitwise bits.Or) a b site span ha hb
+binary_low n binary.BitXor a b site span two ha hb = arithmetic_low n (operators.Bitwise bits.Xor) a b site span ha hb
+binary_low n binary.BitAnd a b site span two ha hb = arithmetic_low n (operators.Bitwise bits.And) a b site span ha hb
 binary_low n binary.Equal a b site span two ha hb = passing_promises (IsLow (n + 1)) (Low (n + 1)) (equated a b span) number (equal_low n a b span two ha hb) (λ v low. (low, tt))
 binary_low n binary.NotEqual a b site span two ha hb = passing_promises (IsLow (n + 1)) (Low (n + 1)) (equated a b span) (λ v. number (core.Not v)) (equal_low n a b span two ha hb) (λ v low. (low, tt))
 binary_low n binary.Less a b site span two ha hb = order_low n comparisons.Less a b span ha hb
 binary_low n binary.LessEqual a b site span two ha hb = order_low n comparisons.LessEqual a b span ha hb
 binary_low n binary.Greater a b site span two ha hb = order_low n comparisons.Greater a b span ha hb
 binary_low n binary.GreaterEqual a b site span two ha hb = order_low n comparisons.GreaterEqual a b span ha hb
-binary_low n binary.ShiftLeft a b site span two ha hb = arithmetic_low n operators.ShiftLeft a b site span ha hb
-binary_low n binary.ShiftRight a b site span two ha hb = arithmetic_low n operators.ShiftRight a b site span ha hb
-binary_low n binary.Add a b site span two ha hb = sum_low n operators.Add a b site span ha hb
-binary_low n binary.Subtract a b site span two ha hb = sum_low n operators.Subtract a b site span ha hb
-binary_low n binary.Multiply a b site span two ha hb = arithmetic_low n operators.Multiply a b site span ha hb
-binary_low n binary.Divide a b site span two ha hb = arithmetic_low n operators.Divide a b site span ha hb
-binary_low n binary.Remainder a b site span two ha hb = arithmetic_low n operators.Remainder a b site span ha hb
+binary_low n binary.ShiftLeft a b site span two ha hb = arithmetic_low n (operators.Arithmetic arithmetics.ShiftLeft) a b site span ha hb
+binary_low n binary.ShiftRight a b site span two ha hb = arithmetic_low n (operators.Arithmetic arithmetics.ShiftRight) a b site span ha hb
+binary_low n binary.Add a b site span two ha hb = sum_low n (operators.Arithmetic arithmetics.Add) a b site span ha hb
+binary_low n binary.Subtract a b site span two ha hb = sum_low n (operators.Arithmetic arithmetics.Subtract) a b site span ha hb
+binary_low n binary.Multiply a b site span two ha hb = arithmetic_low n (operators.Arithmetic arithmetics.Multiply) a b site span ha hb
+binary_low n binary.Divide a b site span two ha hb = arithmetic_low n (operators.Arithmetic arithmetics.Divide) a b site span ha hb
+binary_low n binary.Remainder a b site span two ha hb = arithmetic_low n (operators.Arithmetic arithmetics.Remainder) a b site span ha hb
 
 indexed_low : (n : ℕ) (a b : Typed) (span : Span) → Promises (Low n) (indexed a b span)
 indexed_low n (Value t z v p) (Value u y w q) span = needs_promises (Low n) (is_pointer t && is_number u) E13 span (breaks E19 span) (λ x. tt)

@@ -13,8 +13,9 @@ use Rattle.ckc_tree.specs.Statements.{Initializer, Declarator, Declaration, Assi
 use Rattle.ckc_tree.specs.Heights.{◌beside◌, type_reach, expression_reach, optional_expression_reach, optional_bounds_reach, optional_initializer_reach, declarator_reach, declarators_reach, declared_reach, assigned_reach, optional_assignment_reach, for_initial_reach, statement_reach, statements_reach}
 use Rattle.pointer_modes.specs.Types.{CType, Int, Char, Struct, Pointer}
 use Rattle.ckc_core.specs.declared.program.Site.{Site}
-use Rattle.ckc_core.specs.declared.program.Operator.{Operator}
-use Rattle.ckc_core.specs.declared.program.Operator.TheVariants as operators
+use Rattle.act_words.specs.declared.operator.Operator.{Operator}
+use Rattle.act_words.specs.declared.operator.ArithmeticOperator.TheVariants as arithmetics
+use Rattle.act_words.specs.declared.operator.Operator.TheVariants as operators
 use Rattle.ckc_core.specs.Core as core
 use Rattle.ckc_core.specs.Stacks.{expression_stack, statement_stack, statements_stack}
 use Rattle.region_typing_rules.specs.Verdicts.{Verdict, Passes}
@@ -60,8 +61,8 @@ updated_low n at operator (AStruct number place) right span ht hr = tt
 
 stored_low : (n : ℕ) (at : Places) (operator : StoreOperator) (target right : Typed) (span : Span) → 1 ≤ n → Low n target → Low n right → Promises (IsLowStatement (n + 2)) (stored at operator target right span)
 stored_low n at stores.Set target right span least ht hr = set_low n target right span least ht hr
-stored_low n at stores.Add target right span least ht hr = updated_low n at operators.Add target right span ht hr
-stored_low n at stores.Subtract target right span least ht hr = updated_low n at operators.Subtract target right span ht hr
+stored_low n at stores.Add target right span least ht hr = updated_low n at (operators.Arithmetic arithmetics.Add) target right span ht hr
+stored_low n at stores.Subtract target right span least ht hr = updated_low n at (operators.Arithmetic arithmetics.Subtract) target right span ht hr
 
 zero_low : (t : CType) → expression_stack (zero_value t) ≤ 1
 zero_low Int = omega arith

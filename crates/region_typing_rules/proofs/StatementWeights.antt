@@ -12,8 +12,9 @@ use Rattle.ckc_tree.specs.Statements.{Initializer, Declarator, Declaration, Assi
 use Rattle.ckc_tree.specs.Weights as tree
 use Rattle.pointer_modes.specs.Types.{CType, Int, Char, Struct, Pointer}
 use Rattle.ckc_core.specs.declared.program.Site.{Site}
-use Rattle.ckc_core.specs.declared.program.Operator.{Operator}
-use Rattle.ckc_core.specs.declared.program.Operator.TheVariants as operators
+use Rattle.act_words.specs.declared.operator.Operator.{Operator}
+use Rattle.act_words.specs.declared.operator.ArithmeticOperator.TheVariants as arithmetics
+use Rattle.act_words.specs.declared.operator.Operator.TheVariants as operators
 use Rattle.ckc_core.specs.Core as core
 use Rattle.ckc_core.specs.Weights.{expression_weight, statement_weight, statements_weight}
 use Rattle.region_typing_rules.specs.Verdicts.{Verdict, Passes}
@@ -60,8 +61,8 @@ updated_light n m at operator (AStruct number place) right span ht hr = tt
 
 stored_light : (n m : ℕ) (at : Places) (operator : StoreOperator) (target right : Typed) (span : Span) → 2 ≤ m → Light n target → Light m right → Promises (IsLightStatement (n + m + 1)) (stored at operator target right span)
 stored_light n m at stores.Set target right span two ht hr = set_light n m target right span two ht hr
-stored_light n m at stores.Add target right span two ht hr = updated_light n m at operators.Add target right span ht hr
-stored_light n m at stores.Subtract target right span two ht hr = updated_light n m at operators.Subtract target right span ht hr
+stored_light n m at stores.Add target right span two ht hr = updated_light n m at (operators.Arithmetic arithmetics.Add) target right span ht hr
+stored_light n m at stores.Subtract target right span two ht hr = updated_light n m at (operators.Arithmetic arithmetics.Subtract) target right span ht hr
 
 zero_light : (t : CType) → expression_weight (zero_value t) ≡ 1
 zero_light Int = omega arith

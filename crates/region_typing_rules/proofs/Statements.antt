@@ -12,8 +12,9 @@ use Rattle.ckc_tree.specs.Statements as trees
 use Rattle.ckc_tree.specs.Statements.{Initializer, Declarator, Declaration, Assignment, ForInitial, Statement, Statements}
 use Rattle.pointer_modes.specs.Types.{CType, Int, Char, Struct, Pointer}
 use Rattle.ckc_core.specs.declared.program.Site.{Site}
-use Rattle.ckc_core.specs.declared.program.Operator.{Operator}
-use Rattle.ckc_core.specs.declared.program.Operator.TheVariants as operators
+use Rattle.act_words.specs.declared.operator.Operator.{Operator}
+use Rattle.act_words.specs.declared.operator.ArithmeticOperator.TheVariants as arithmetics
+use Rattle.act_words.specs.declared.operator.Operator.TheVariants as operators
 use Rattle.ckc_core.specs.Core as core
 use Rattle.ckc_core.specs.Meaning as meaning
 use Rattle.region_typing_rules.specs.Verdicts.{Verdict, Passes, Stops}
@@ -80,8 +81,8 @@ module _ (g : Frame) (types : List CType) (all_scalar : AllByRecursion IsScalar 
 
   stored_promises : (at : Places) (operator : StoreOperator) (target right : Typed) (span : Span) → Fits g types target → Fits g types right → Promises IsAny (stored at operator target right span)
   stored_promises at stores.Set target right span ht hr = set_promises target right span ht hr
-  stored_promises at stores.Add target right span ht hr = updated_promises at operators.Add target right span ht hr
-  stored_promises at stores.Subtract target right span ht hr = updated_promises at operators.Subtract target right span ht hr
+  stored_promises at stores.Add target right span ht hr = updated_promises at (operators.Arithmetic arithmetics.Add) target right span ht hr
+  stored_promises at stores.Subtract target right span ht hr = updated_promises at (operators.Arithmetic arithmetics.Subtract) target right span ht hr
 
   one_fits : Fits g types one
   one_fits = record { has_type = rules.word refl; is_number = λ x. refl; stands = tt; scalar = refl }

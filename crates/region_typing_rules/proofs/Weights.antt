@@ -13,10 +13,12 @@ use Rattle.ckc_tree.specs.Weights as tree
 use Rattle.pointer_modes.specs.Types.{CType, Int, Char, Struct, Pointer, members_of}
 use Rattle.pointer_modes.specs.Layout.{cells_of}
 use Rattle.ckc_core.specs.declared.program.Site.{Site}
-use Rattle.ckc_core.specs.declared.program.Operator.{Operator}
-use Rattle.ckc_core.specs.declared.program.Operator.TheVariants as operators
-use Rattle.ckc_core.specs.declared.program.Comparison.{Comparison}
-use Rattle.ckc_core.specs.declared.program.Comparison.TheVariants as comparisons
+use Rattle.act_words.specs.declared.operator.Operator.{Operator}
+use Rattle.act_words.specs.declared.operator.ArithmeticOperator.TheVariants as arithmetics
+use Rattle.act_words.specs.declared.operator.BitwiseOperator.TheVariants as bits
+use Rattle.act_words.specs.declared.operator.Operator.TheVariants as operators
+use Rattle.act_words.specs.declared.operator.Comparison.{Comparison}
+use Rattle.act_words.specs.declared.operator.Comparison.TheVariants as comparisons
 use Rattle.ckc_core.specs.Core as core
 use Rattle.ckc_core.specs.Weights.{expression_weight, arguments_weight, place_weight, statement_weight}
 use Rattle.ckc_names_rules.specs.declared.given.Given.{Given}
@@ -186,22 +188,22 @@ ordered_light n m comparison (AStruct k p) b span ha hb = tt
 binary_light : (n m : ℕ) (operator : BinaryOperator) (a b : Typed) (site : Site) (span : Span) → 2 ≤ n → 2 ≤ m → Light n a → Light m b → Promises (Light (n + m + 2)) (binary_typed operator a b site span)
 binary_light n m binary.Or a b site span two two' ha hb = truths_light n m a b span ha hb core.OrElse (λ v w. refl)
 binary_light n m binary.And a b site span two two' ha hb = truths_light n m a b span ha hb core.AndAlso (λ v w. refl)
-binary_light n m binary.BitOr a b site span two two' ha hb = arithmetic_light n m a b span ha hb operators.Or site
-binary_light n m binary.BitXor a b site span two two' ha hb = arithmetic_light n m a b span ha hb operators.Xor site
-binary_light n m binary.BitAnd a b site span two two' ha hb = arithmetic_light n m a b span ha hb operators.And site
+binary_light n m binary.BitOr a b site span two two' ha hb = arithmetic_light n m a b span ha hb (operators.Bitwise bits.Or) site
+binary_light n m binary.BitXor a b site span two two' ha hb = arithmetic_light n m a b span ha hb (operators.Bitwise bits.Xor) site
+binary_light n m binary.BitAnd a b site span two two' ha hb = arithmetic_light n m a b span ha hb (operators.Bitwise bits.And) site
 binary_light n m binary.Equal a b site span two two' ha hb = passing_promises (IsLight (n + m + 1)) (Light (n + m + 2)) (equated a b span) number (equated_light n m a b span two two' ha hb) (λ v light. (omega arith, tt))
 binary_light n m binary.NotEqual a b site span two two' ha hb = passing_promises (IsLight (n + m + 1)) (Light (n + m + 2)) (equated a b span) (λ v. number (core.Not v)) (equated_light n m a b span two two' ha hb) (λ v light. (omega arith, tt))
 binary_light n m binary.Less a b site span two two' ha hb = ordered_light n m comparisons.Less a b span ha hb
 binary_light n m binary.LessEqual a b site span two two' ha hb = ordered_light n m comparisons.LessEqual a b span ha hb
 binary_light n m binary.Greater a b site span two two' ha hb = ordered_light n m comparisons.Greater a b span ha hb
 binary_light n m binary.GreaterEqual a b site span two two' ha hb = ordered_light n m comparisons.GreaterEqual a b span ha hb
-binary_light n m binary.ShiftLeft a b site span two two' ha hb = arithmetic_light n m a b span ha hb operators.ShiftLeft site
-binary_light n m binary.ShiftRight a b site span two two' ha hb = arithmetic_light n m a b span ha hb operators.ShiftRight site
-binary_light n m binary.Add a b site span two two' ha hb = sum_light n m a b span ha hb operators.Add site
-binary_light n m binary.Subtract a b site span two two' ha hb = sum_light n m a b span ha hb operators.Subtract site
-binary_light n m binary.Multiply a b site span two two' ha hb = arithmetic_light n m a b span ha hb operators.Multiply site
-binary_light n m binary.Divide a b site span two two' ha hb = arithmetic_light n m a b span ha hb operators.Divide site
-binary_light n m binary.Remainder a b site span two two' ha hb = arithmetic_light n m a b span ha hb operators.Remainder site
+binary_light n m binary.ShiftLeft a b site span two two' ha hb = arithmetic_light n m a b span ha hb (operators.Arithmetic arithmetics.ShiftLeft) site
+binary_light n m binary.ShiftRight a b site span two two' ha hb = arithmetic_light n m a b span ha hb (operators.Arithmetic arithmetics.ShiftRight) site
+binary_light n m binary.Add a b site span two two' ha hb = sum_light n m a b span ha hb (operators.Arithmetic arithmetics.Add) site
+binary_light n m binary.Subtract a b site span two two' ha hb = sum_light n m a b span ha hb (operators.Arithmetic arithmetics.Subtract) site
+binary_light n m binary.Multiply a b site span two two' ha hb = arithmetic_light n m a b span ha hb (operators.Arithmetic arithmetics.Multiply) site
+binary_light n m binary.Divide a b site span two two' ha hb = arithmetic_light n m a b span ha hb (operators.Arithmetic arithmetics.Divide) site
+binary_light n m binary.Remainder a b site span two two' ha hb = arithmetic_light n m a b span ha hb (operators.Arithmetic arithmetics.Remainder) site
 
 indexed_nothing : (Q : Typed → Type 0) (a b : Typed) (span : Span) → Promises Q (indexed a b span)
 indexed_nothing Q (Value t z v p) (Value u y w q) span = needs_promises Q (is_pointer t && is_number u) E13 span (breaks E19 span) (λ x. tt)

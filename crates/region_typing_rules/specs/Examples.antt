@@ -24,7 +24,8 @@ use Rattle.pointer_modes.specs.declared.ctype.Mode.TheVariants as modes
 use Rattle.pointer_modes.specs.declared.ctype.Kind.TheVariants as kinds
 use Rattle.pointer_modes.specs.Types.{Int, Pointer}
 use Rattle.ckc_core.specs.declared.program.Site.{Site}
-use Rattle.ckc_core.specs.declared.program.Operator.TheVariants as operators
+use Rattle.act_words.specs.declared.operator.ArithmeticOperator.TheVariants as arithmetics
+use Rattle.act_words.specs.declared.operator.Operator.TheVariants as operators
 use Rattle.ckc_core.specs.Core as core
 use Rattle.region_typing_rules.specs.Verdicts.{Verdict, Passes, Stops, Broken, Nameless}
 use Rattle.ckc_core.specs.Core.{Core}
@@ -113,7 +114,7 @@ first_run =
             core.Then (core.Block (core.Then (core.Block (core.Then (core.SetLocal 0 core.Null)
             (core.Then (core.SetLocal 0 (core.AddressOf 0 0 0)) core.NoMore))) (core.Then core.Nothing core.NoMore)))
             (core.Then (core.Store Int (core.Through (core.Local 0) 0 0 place) (core.Number (pos 41)))
-            (core.Then (core.Return (core.Arithmetic operators.Add (core.Load Int (core.Direct 0 0 0)) (core.Number (pos 1)) place)) core.NoMore));
+            (core.Then (core.Return (core.Arithmetic (operators.Arithmetic arithmetics.Add) (core.Load Int (core.Direct 0 0 0)) (core.Number (pos 1)) place)) core.NoMore));
       } ∷ [];
       main = 0;
     })

@@ -16,10 +16,12 @@ use Rattle.pointer_modes.specs.declared.ctype.Kind.TheVariants as kinds
 use Rattle.pointer_modes.specs.Types.{CType, Int, Char, Struct, Pointer, Member, members_of}
 use Rattle.pointer_modes.specs.Layout.{Cell, cells_of, size_of}
 use Rattle.ckc_core.specs.declared.program.Site.{Site}
-use Rattle.ckc_core.specs.declared.program.Operator.{Operator}
-use Rattle.ckc_core.specs.declared.program.Operator.TheVariants as operators
-use Rattle.ckc_core.specs.declared.program.Comparison.{Comparison}
-use Rattle.ckc_core.specs.declared.program.Comparison.TheVariants as comparisons
+use Rattle.act_words.specs.declared.operator.Operator.{Operator}
+use Rattle.act_words.specs.declared.operator.ArithmeticOperator.TheVariants as arithmetics
+use Rattle.act_words.specs.declared.operator.BitwiseOperator.TheVariants as bits
+use Rattle.act_words.specs.declared.operator.Operator.TheVariants as operators
+use Rattle.act_words.specs.declared.operator.Comparison.{Comparison}
+use Rattle.act_words.specs.declared.operator.Comparison.TheVariants as comparisons
 use Rattle.ckc_core.specs.Core as core
 use Rattle.ckc_names_rules.specs.declared.given.Given.{Given}
 use Rattle.region_typing_rules.specs.Verdicts.{Verdict, Passes, Unnamed, passing, needs, breaks, picked}
@@ -225,22 +227,22 @@ arithmetic operator site v w = number (core.Arithmetic operator v w site)
 abbrev pub binary_typed : BinaryOperator → Typed → Typed → Site → Span → Verdict Typed
 binary_typed binary.Or a b site span = two_scalars a b span (λ v w. number (core.OrElse v w))
 binary_typed binary.And a b site span = two_scalars a b span (λ v w. number (core.AndAlso v w))
-binary_typed binary.BitOr a b site span = two_numbers a b span (arithmetic operators.Or site)
-binary_typed binary.BitXor a b site span = two_numbers a b span (arithmetic operators.Xor site)
-binary_typed binary.BitAnd a b site span = two_numbers a b span (arithmetic operators.And site)
+binary_typed binary.BitOr a b site span = two_numbers a b span (arithmetic (operators.Bitwise bits.Or) site)
+binary_typed binary.BitXor a b site span = two_numbers a b span (arithmetic (operators.Bitwise bits.Xor) site)
+binary_typed binary.BitAnd a b site span = two_numbers a b span (arithmetic (operators.Bitwise bits.And) site)
 binary_typed binary.Equal a b site span = passing (equated a b span) number
 binary_typed binary.NotEqual a b site span = passing (equated a b span) (λ v. number (core.Not v))
 binary_typed binary.Less a b site span = ordered comparisons.Less a b span
 binary_typed binary.LessEqual a b site span = ordered comparisons.LessEqual a b span
 binary_typed binary.Greater a b site span = ordered comparisons.Greater a b span
 binary_typed binary.GreaterEqual a b site span = ordered comparisons.GreaterEqual a b span
-binary_typed binary.ShiftLeft a b site span = two_numbers a b span (arithmetic operators.ShiftLeft site)
-binary_typed binary.ShiftRight a b site span = two_numbers a b span (arithmetic operators.ShiftRight site)
-binary_typed binary.Add a b site span = summands a b span (arithmetic operators.Add site)
-binary_typed binary.Subtract a b site span = summands a b span (arithmetic operators.Subtract site)
-binary_typed binary.Multiply a b site span = two_numbers a b span (arithmetic operators.Multiply site)
-binary_typed binary.Divide a b site span = two_numbers a b span (arithmetic operators.Divide site)
-binary_typed binary.Remainder a b site span = two_numbers a b span (arithmetic operators.Remainder site)
+binary_typed binary.ShiftLeft a b site span = two_numbers a b span (arithmetic (operators.Arithmetic arithmetics.ShiftLeft) site)
+binary_typed binary.ShiftRight a b site span = two_numbers a b span (arithmetic (operators.Arithmetic arithmetics.ShiftRight) site)
+binary_typed binary.Add a b site span = summands a b span (arithmetic (operators.Arithmetic arithmetics.Add) site)
+binary_typed binary.Subtract a b site span = summands a b span (arithmetic (operators.Arithmetic arithmetics.Subtract) site)
+binary_typed binary.Multiply a b site span = two_numbers a b span (arithmetic (operators.Arithmetic arithmetics.Multiply) site)
+binary_typed binary.Divide a b site span = two_numbers a b span (arithmetic (operators.Arithmetic arithmetics.Divide) site)
+binary_typed binary.Remainder a b site span = two_numbers a b span (arithmetic (operators.Arithmetic arithmetics.Remainder) site)
 
 -- operand-is-pointer with a number for an index (E13), and no element of a `ptr` (E19)
 abbrev pub indexed : Typed → Typed → Span → Verdict Typed

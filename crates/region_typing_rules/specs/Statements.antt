@@ -14,8 +14,9 @@ use Rattle.ckc_tree.specs.Statements as s
 use Rattle.ckc_tree.specs.Statements.{Initializer, Declarator, Declaration, Assignment, ForInitial, Statement, Statements}
 use Rattle.pointer_modes.specs.Types.{CType, Int, Char, Struct, Pointer}
 use Rattle.ckc_core.specs.declared.program.Site.{Site}
-use Rattle.ckc_core.specs.declared.program.Operator.{Operator}
-use Rattle.ckc_core.specs.declared.program.Operator.TheVariants as operators
+use Rattle.act_words.specs.declared.operator.Operator.{Operator}
+use Rattle.act_words.specs.declared.operator.ArithmeticOperator.TheVariants as arithmetics
+use Rattle.act_words.specs.declared.operator.Operator.TheVariants as operators
 use Rattle.ckc_core.specs.Core as core
 use Rattle.region_typing_rules.specs.Verdicts.{Verdict, Passes, passing, needs, breaks}
 use Rattle.region_typing_rules.specs.Scopes.{Scope}
@@ -69,12 +70,12 @@ updated at operator target right span =
 
 abbrev pub stored : Places → StoreOperator → Typed → Typed → Span → Verdict core.Statement
 stored at stores.Set target right span = set_to target right span
-stored at stores.Add target right span = updated at operators.Add target right span
-stored at stores.Subtract target right span = updated at operators.Subtract target right span
+stored at stores.Add target right span = updated at (operators.Arithmetic arithmetics.Add) target right span
+stored at stores.Subtract target right span = updated at (operators.Arithmetic arithmetics.Subtract) target right span
 
 abbrev pub step_of : StepOperator → Operator
-step_of steps.Increment = operators.Add
-step_of steps.Decrement = operators.Subtract
+step_of steps.Increment = operators.Arithmetic arithmetics.Add
+step_of steps.Decrement = operators.Arithmetic arithmetics.Subtract
 
 abbrev pub one : Typed
 one = Value Int false (core.Number (pos 1)) None
