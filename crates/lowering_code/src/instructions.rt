@@ -7,7 +7,7 @@ ghost use Rattle.code_words.specs.declared.op.Op.TheVariants as ops_of;
 ghost use Rattle.lowering_code.specs.Code as code;
 
 use crate::code_sizes::has_one_byte;
-use ckc_core::program::{Comparison, Operator, Site};
+use ckc_core::program::{Callee, Comparison, Operator, Site};
 use ckc_text::fault::NoMemory;
 use code_words::op::Op;
 use pointer_modes::ctype::CType;
@@ -42,6 +42,19 @@ pub fn comparison_op(comparison: Comparison) -> Op
         Comparison::LessEqual => Op::LessEqual,
         Comparison::Greater => Op::Greater,
         Comparison::GreaterEqual => Op::GreaterEqual,
+    }
+}
+
+/// The instruction that enters a callee.
+pub fn callee_op(callee: Callee) -> Op
+    ensures { result ≡ code.callee_code callee }
+{
+    match callee {
+        Callee::Trusted(function) => Op::Call(function),
+        Callee::Tainted { import, site } => Op::TaintedCall {
+            import,
+            place: site.place,
+        },
     }
 }
 
