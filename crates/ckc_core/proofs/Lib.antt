@@ -1,3 +1,4 @@
+pub mod Elements
 pub mod Numbers
 pub mod Rows
 pub mod Ticks

@@ -24,6 +24,7 @@ use Rattle.ckc_core.specs.declared.program.Comparison.{Comparison}
 use Rattle.ckc_core.specs.declared.program.Comparison.TheVariants as comparisons
 use Rattle.ckc_core.specs.Core as core
 use Rattle.ckc_core.specs.States.{same_type}
+use Rattle.ckc_core.proofs.Elements.{of_element}
 use Rattle.ckc_names_rules.specs.declared.given.Given.{Given}
 use Rattle.region_typing_rules.specs.Verdicts.{Verdict, Passes, breaks}
 use Rattle.region_typing_rules.specs.Scopes.{Scope, Signature, Named, Local, Object, Nothing, named, function_named, members_named}
@@ -31,7 +32,7 @@ use Rattle.region_typing_rules.specs.Types.{type_named, is_number, is_pointer, a
 use Rattle.region_typing_rules.specs.Expressions.{Places, Lvalue, OfLocal, OfCell, Typed, Value, AStruct, Called, Gives, GivesNothing, site_at, number, at_place, local_typed, name_typed, member_place, member_from, offset_among, member_at, dotted, pointed_by, arrowed, pointed_at, dereferenced, pointer_to, address, number_of, scalar_of, unary_typed, is_pointer_value, two_numbers, two_scalars, summands, as_pointer, equated_values, equated, ordered_values, ordered, arithmetic, binary_typed, indexed, in_type, converted, arguments_as, is_import, side_number, callee_of, call_of, first_of, writes, predefined_call, called, with_result, constant, typed, all_typed, call_typed}
 use Rattle.region_typing_rules.specs.Typed as rules
 use Rattle.region_typing_rules.specs.Typed.{Frame, Stands, slots, IsPlace, IsCallee, HasType, HaveTypes, HasPlace, IsStatement, IsScalar, IsScalarResult, IsNumberResult}
-use Rattle.region_typing_rules.proofs.Values.{scalar_stands, of_element}
+use Rattle.region_typing_rules.proofs.Values.{scalar_stands}
 use Rattle.region_typing_rules.proofs.Verdicts.{Promises, passing_promises, needs_promises, anything_promised}
 use Rattle.region_typing_rules.proofs.Knowledge.{IsNumberType, IsTrusted, IsTainted, Knows, same_equal, StandsFor, name_stands, crossing_promises, HasMember, IfMember, member_there, member_slot}
 use Rattle.region_typing_rules.proofs.Sizes.{size_fits}

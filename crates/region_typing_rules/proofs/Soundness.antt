@@ -27,8 +27,9 @@ use Rattle.region_typing_rules.specs.Types.{is_number}
 use Rattle.region_typing_rules.specs.Typed as typed
 use Rattle.region_typing_rules.specs.Typed.{Frame, IsPlace, HasValue, IsNumberResult, IsCallee, HasType, HaveTypes, HasPlace, IsStatement, AreStatements, IsScalar, IsFunction}
 use Rattle.ckc_core.proofs.Numbers.{IsNumber, IfHolds, result_fits, overflow_fits, signed_fits, complement_fits, low_byte_small}
+use Rattle.ckc_core.proofs.Elements.{of_element}
 use Rattle.region_typing_rules.proofs.Worlds.{IsWorld, Answers, Anything, IsWord, tick_answers, enter_answers, call_answers, next_answers}
-use Rattle.region_typing_rules.proofs.Values.{of_element, same_refl, value_typed, value_widened, value_number, HaveValues, values_count, value_there, values_set, AreBlocks, cells_set, blocks_set, HasCell, at_cell, scalar_cell, some_cell, member_place, stands_there, stands_further}
+use Rattle.region_typing_rules.proofs.Values.{same_refl, value_typed, value_widened, value_number, HaveValues, values_count, value_there, values_set, AreBlocks, cells_set, blocks_set, HasCell, at_cell, scalar_cell, some_cell, member_place, stands_there, stands_further}
 
 -- a result as it was declared
 abbrev pub IsAnswer : Frame → Option CType → Option Value → Type 0
