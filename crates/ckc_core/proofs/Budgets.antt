@@ -13,9 +13,11 @@ use Rattle.pointer_modes.specs.Types.{CType, Int, Char, Struct, Pointer}
 use Rattle.ckc_core.specs.declared.program.Site.{Site}
 use Rattle.act_words.specs.declared.operator.Operator.{Operator}
 use Rattle.act_words.specs.declared.operator.Comparison.{Comparison}
+use Rattle.ckc_core.specs.declared.program.Callee.{Callee}
+use Rattle.ckc_core.specs.declared.program.Callee.TheVariants as callees
 use Rattle.ckc_core.specs.Core as core
 use Rattle.ckc_core.specs.States.{Value, Number, Null, At, Cell, State, in_world, cell_at, stands_at, stands_behind, same_type, has_type}
-use Rattle.ckc_core.specs.Meaning.{Result, Flow, Next, Broke, Continued, Returned, Knot, Setting, given, checked, value_if, value_in, place_where, place_in, place_through, load_at, place_if, pointer_to, truth, same_place, test_given, result_of, arithmetic_of, compared, negated, complemented, low_byte_of, asked, words_of, reply_as, cross, cross_if, call_tainted, takes, enter_if, call_trusted, result_given, choose, value, values, place, store_if, store_over, store_at, set_local_if, set_local, pointer_of, place_from, kept_if, is_char, printed, put, on_next, behind_turn, no_result, effect, effects, answer, locals_for, back, body_if, body_of, knot, exit, initial, meaning}
+use Rattle.ckc_core.specs.Meaning.{Result, Flow, Next, Broke, Continued, Returned, Knot, Setting, given, checked, value_if, value_in, place_where, place_in, place_through, load_at, place_if, pointer_to, truth, same_place, test_given, result_of, arithmetic_of, compared, negated, complemented, low_byte_of, asked, words_of, reply_as, cross, cross_if, call_tainted, takes, enter_if, call_trusted, called, result_given, choose, value, values, place, store_if, store_over, store_at, set_local_if, set_local, pointer_of, place_from, kept_if, is_char, printed, put, on_next, behind_turn, no_result, effect, effects, answer, locals_for, back, body_if, body_of, knot, exit, initial, meaning}
 use Rattle.ckc_core.proofs.Ticks.{HasSpent, Answers, tick_answers, enter_answers, call_answers, next_answers}
 
 -- from a state in which so many ticks were spent at least: no fewer were in the state behind a value, and it isn't short
@@ -199,8 +201,8 @@ module _ (budget : ℕ) where
           (λ _ t t_spent. asked_goes (suc low) (enter_call t.depth t.world) t _ (enter_answers budget (suc low) t.depth t.world t_spent)
           (λ _ u u_spent. is.call (suc low) function vs u (omega (arith, enough)) u_spent)))
 
-      call_goes : (low : ℕ) (enough : budget ≤ low + n) (function : ℕ) (vs : List Value) (s : State) → HasSpent budget low s.world → Goes budget low (call_trusted g k function vs s)
-      call_goes low enough function vs s spent = enter_goes low enough (takes (slice_get program.functions function) (length vs)) function vs s spent
+      trusted_goes : (low : ℕ) (enough : budget ≤ low + n) (function : ℕ) (vs : List Value) (s : State) → HasSpent budget low s.world → Goes budget low (call_trusted g k function vs s)
+      trusted_goes low enough function vs s spent = enter_goes low enough (takes (slice_get program.functions function) (length vs)) function vs s spent
 
       cross_goes : (low import : ℕ) (i : core.Import) (site : Site) (o : Option (List ℕ)) (s : State) → HasSpent budget low s.world → Goes budget low (cross g import i site o s)
       cross_goes low import i site None s spent = tt
@@ -217,6 +219,10 @@ module _ (budget : ℕ) where
       tainted_goes low import None site vs s spent = tt
       tainted_goes low import (Some i) site vs s spent = crossed_goes low (i.parameters == length vs) import i site vs s spent
 
+      called_goes : (low : ℕ) (enough : budget ≤ low + n) (callee : Callee) (vs : List Value) (s : State) → HasSpent budget low s.world → Goes budget low (called g k callee vs s)
+      called_goes low enough (callees.Trusted function) vs s spent = trusted_goes low enough function vs s spent
+      called_goes low enough (callees.Tainted import site) vs s spent = tainted_goes low import (slice_get program.imports import) site vs s spent
+
       -- ---- expressions
 
       mutual
@@ -226,12 +232,8 @@ module _ (budget : ℕ) where
         value_goes (core.Local i) low enough s spent = given_goes low s spent (slice_get s.locals i)
         value_goes (core.Load type p) low enough s spent =
             goes_on low (place g k p s) (load_at type) (place_goes p low enough s spent) (λ at t t_spent. cell_goes low t t_spent type (cell_at t.blocks at.0 at.1))
-        value_goes (core.AddressOf object cell offset) low enough s spent =
-            goes_on low (place_in object cell offset s) pointer_to (direct_goes low s spent object cell offset) (λ at t t_spent. there_goes low t t_spent (cell_at t.blocks at.0 at.1) at.0 at.1)
-        value_goes (core.AddressThrough pointer cell offset site) low enough s spent =
-            goes_on low (value g k pointer s) _ (value_goes pointer low enough s spent)
-            (λ p t t_spent. goes_on low (place_through cell offset site p t) pointer_to (through_goes low t t_spent cell offset site p)
-            (λ at u u_spent. there_goes low u u_spent (cell_at u.blocks at.0 at.1) at.0 at.1))
+        value_goes (core.AddressOf p) low enough s spent =
+            goes_on low (place g k p s) pointer_to (place_goes p low enough s spent) (λ at t t_spent. there_goes low t t_spent (cell_at t.blocks at.0 at.1) at.0 at.1)
         value_goes (core.Negate operand site) low enough s spent =
             goes_on low (value g k operand s) (negated site) (value_goes operand low enough s spent) (λ v t t_spent. negated_goes low t t_spent site v)
         value_goes (core.Complement operand) low enough s spent =
@@ -254,13 +256,9 @@ module _ (budget : ℕ) where
             (λ a t t_spent. chosen_goes low (truth a) _ _ t_spent (goes_on low (value g k right t) _ (value_goes right low enough t t_spent) (λ b u u_spent. u_spent)))
         value_goes (core.LowByte operand) low enough s spent =
             goes_on low (value g k operand s) low_byte_of (value_goes operand low enough s spent) (λ v t t_spent. byte_goes low t t_spent v)
-        value_goes (core.Call function arguments) low enough s spent =
+        value_goes (core.Call callee arguments) low enough s spent =
             goes_on low (values g k arguments s) _ (values_go arguments low enough s spent)
-            (λ vs t t_spent. goes_on low (call_trusted g k function vs t) result_given (call_goes low enough function vs t t_spent) (λ v u u_spent. result_goes low u u_spent v))
-        value_goes (core.TaintedCall import arguments site) low enough s spent =
-            goes_on low (values g k arguments s) _ (values_go arguments low enough s spent)
-            (λ vs t t_spent. goes_on low (call_tainted g import (slice_get program.imports import) site vs t) result_given
-            (tainted_goes low import (slice_get program.imports import) site vs t t_spent) (λ v u u_spent. result_goes low u u_spent v))
+            (λ vs t t_spent. goes_on low (called g k callee vs t) result_given (called_goes low enough callee vs t t_spent) (λ v u u_spent. result_goes low u u_spent v))
         value_goes core.NextInput low enough s spent = asked_goes low (next_input s.world) s _ (next_answers budget low s.world spent) (λ z t t_spent. t_spent)
 
         values_go : (es : core.Arguments) (low : ℕ) (enough : budget ≤ low + n) (s : State) → HasSpent budget low s.world → Goes budget low (values g k es s)
@@ -307,13 +305,9 @@ module _ (budget : ℕ) where
             (λ v w w_spent. goes_on low (arithmetic_of operator site old v w) _ (arithmetic_goes low w w_spent operator site old v)
             (λ new x x_spent. goes_on low (kept_if (is_char type) new x) (store_at type at) (kept_goes low x x_spent (is_char type) new) (λ last y y_spent. store_goes low type at last y y_spent)))))
         effect_goes (core.Evaluate e) low enough s spent = goes_on low (value g k e s) _ (value_goes e low enough s spent) (λ v t t_spent. t_spent)
-        effect_goes (core.CallAlone function arguments) low enough s spent =
+        effect_goes (core.CallAlone callee arguments) low enough s spent =
             goes_on low (values g k arguments s) _ (values_go arguments low enough s spent)
-            (λ vs t t_spent. goes_on low (call_trusted g k function vs t) no_result (call_goes low enough function vs t t_spent) (λ v u u_spent. nothing_goes low u u_spent v))
-        effect_goes (core.TaintedAlone import arguments site) low enough s spent =
-            goes_on low (values g k arguments s) _ (values_go arguments low enough s spent)
-            (λ vs t t_spent. goes_on low (call_tainted g import (slice_get program.imports import) site vs t) no_result
-            (tainted_goes low import (slice_get program.imports import) site vs t t_spent) (λ v u u_spent. nothing_goes low u u_spent v))
+            (λ vs t t_spent. goes_on low (called g k callee vs t) no_result (called_goes low enough callee vs t t_spent) (λ v u u_spent. nothing_goes low u u_spent v))
         effect_goes (core.Print e) low enough s spent = goes_on low (value g k e s) printed (value_goes e low enough s spent) (λ v t t_spent. printed_goes low t t_spent v)
         effect_goes (core.PutByte e) low enough s spent = goes_on low (value g k e s) put (value_goes e low enough s spent) (λ v t t_spent. put_goes low t t_spent v)
         effect_goes (core.Block xs) low enough s spent = effects_go xs low enough s spent

@@ -1,2 +1,5 @@
+pub mod Elements
+pub mod Numbers
+pub mod Rows
 pub mod Ticks
 pub mod Budgets

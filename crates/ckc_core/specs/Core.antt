@@ -11,6 +11,7 @@ use Rattle.ckc_core.specs.declared.program.Stmt.TheVariants as stmts
 use Rattle.ckc_core.specs.declared.program.Site.{Site}
 use Rattle.act_words.specs.declared.operator.Operator.{Operator}
 use Rattle.act_words.specs.declared.operator.Comparison.{Comparison}
+use Rattle.ckc_core.specs.declared.program.Callee.{Callee}
 
 mutual
   -- an expression
@@ -20,10 +21,8 @@ mutual
     Local : (local : ℕ) → Expression
     -- what a cell of this type holds
     Load : (type : CType) (place : Place) → Expression
-    -- a pointer to a cell of a file-level variable, and to one behind a pointer, which isn't null (C1); the cell stands so many
-    -- bytes behind the first one, or behind the one that is pointed to
-    AddressOf : (object cell offset : ℕ) → Expression
-    AddressThrough : (pointer : Expression) (cell offset : ℕ) (site : Site) → Expression
+    -- a pointer to a cell
+    AddressOf : (place : Place) → Expression
     Negate : (operand : Expression) (site : Site) → Expression
     Complement : (operand : Expression) → Expression
     -- 1 where a scalar is 0 or null, and else 0
@@ -36,9 +35,8 @@ mutual
     OrElse : (left right : Expression) → Expression
     -- a number modulo 256
     LowByte : (operand : Expression) → Expression
-    -- a call of a trusted function, and of a tainted one, with a result
-    Call : (function : ℕ) (arguments : Arguments) → Expression
-    TaintedCall : (import : ℕ) (arguments : Arguments) (site : Site) → Expression
+    -- a call with a result
+    Call : (callee : Callee) (arguments : Arguments) → Expression
     NextInput : Expression
 
   -- the arguments of a call, from left to right
@@ -63,9 +61,8 @@ mutual
     Update : (type : CType) (place : Place) (operator : Operator) (value : Expression) (site : Site) → Statement
     -- a value that is left
     Evaluate : (value : Expression) → Statement
-    -- calls without a result
-    CallAlone : (function : ℕ) (arguments : Arguments) → Statement
-    TaintedAlone : (import : ℕ) (arguments : Arguments) (site : Site) → Statement
+    -- a call without a result
+    CallAlone : (callee : Callee) (arguments : Arguments) → Statement
     Print : (number : Expression) → Statement
     PutByte : (number : Expression) → Statement
     Block : (statements : Statements) → Statement
@@ -123,8 +120,7 @@ abbrev mutual
   expression exprs.Null = Null
   expression (exprs.Local local) = Local local
   expression (exprs.Load type cell) = Load (ctype type) (place cell)
-  expression (exprs.AddressOf object cell offset) = AddressOf object cell offset
-  expression (exprs.AddressThrough' p pointer cell offset site) = AddressThrough (expression pointer) cell offset site
+  expression (exprs.AddressOf cell) = AddressOf (place cell)
   expression (exprs.Negate' p operand site) = Negate (expression operand) site
   expression (exprs.Complement' p operand) = Complement (expression operand)
   expression (exprs.Not' p operand) = Not (expression operand)
@@ -134,8 +130,7 @@ abbrev mutual
   expression (exprs.AndAlso' p left q right) = AndAlso (expression left) (expression right)
   expression (exprs.OrElse' p left q right) = OrElse (expression left) (expression right)
   expression (exprs.LowByte' p operand) = LowByte (expression operand)
-  expression (exprs.Call' function shape row) = Call function (arguments row)
-  expression (exprs.TaintedCall' import shape row site) = TaintedCall import (arguments row) site
+  expression (exprs.Call' callee shape row) = Call callee (arguments row)
   expression exprs.NextInput = NextInput
 
   pub arguments : {m : _} → Row_of-Expr m → Arguments
@@ -160,8 +155,7 @@ abbrev mutual
   statement (stmts.UpdateLocal is_char local operator value site) = UpdateLocal is_char local operator (expression value) site
   statement (stmts.Update type cell operator value site) = Update (ctype type) (place cell) operator (expression value) site
   statement (stmts.Evaluate value) = Evaluate (expression value)
-  statement (stmts.CallAlone function values) = CallAlone function (arguments_of values.items)
-  statement (stmts.TaintedAlone import values site) = TaintedAlone import (arguments_of values.items) site
+  statement (stmts.CallAlone call) = CallAlone call.callee (arguments_of call.arguments.items)
   statement (stmts.Print number) = Print (expression number)
   statement (stmts.PutByte number) = PutByte (expression number)
   statement (stmts.Block' shape row) = Block (statements row)

@@ -12,6 +12,7 @@ use Rattle.ckc_core.specs.declared.program.Site.{Site}
 use Rattle.act_words.specs.declared.operator.ArithmeticOperator.TheVariants as arithmetics
 use Rattle.act_words.specs.declared.operator.Operator.TheVariants as operators
 use Rattle.act_words.specs.declared.operator.Comparison.TheVariants as comparisons
+use Rattle.ckc_core.specs.declared.program.Callee.TheVariants as callees
 use Rattle.ckc_core.specs.Core
 use Rattle.ckc_core.specs.Core.{Core, Expression, Statement, Statements, Function}
 use Rattle.ckc_core.specs.States.{State}
@@ -53,7 +54,7 @@ int_cell n = record { type = Int; stride = 4; number = pos n }
 abbrev pub first_run : Core
 first_run =
     one (Pointer modes.Checked kinds.One Int ∷ []) ((int_cell 1 ∷ []) ∷ [])
-    (Core.SetLocal 0 (Core.AddressOf 0 0 0)
+    (Core.SetLocal 0 (Core.AddressOf (Core.Direct 0 0 0))
     ∷ (Core.Store Int (Core.Through (Core.Local 0) 0 0 (site 1 46)) (number 41)
     ∷ (Core.Return (Core.Arithmetic (operators.Arithmetic arithmetics.Add) (Core.Load Int (Core.Direct 0 0 0)) (number 1) (site 1 62)) ∷ [])))
 
@@ -99,9 +100,9 @@ falling =
             locals = Int
                 ∷ [];
             result = Some Int;
-            body = body (Core.Return (Core.Call 0 (Core.More (Core.Local 0) Core.Done)) ∷ []);
+            body = body (Core.Return (Core.Call (callees.Trusted 0) (Core.More (Core.Local 0) Core.Done)) ∷ []);
           })
-          ∷ (main_with [] (Core.Return (Core.Call 0 (Core.More (number 0) Core.Done)) ∷ []) ∷ []);
+          ∷ (main_with [] (Core.Return (Core.Call (callees.Trusted 0) (Core.More (number 0) Core.Done)) ∷ []) ∷ []);
       main = 1;
     }
 
@@ -112,7 +113,7 @@ depth_and_budget = ends_as (runs falling 1000) (Stop S2 None) × ends_as (runs f
 abbrev pub members : Core
 members =
     (one (Pointer modes.Checked kinds.One (Struct 0) ∷ []) (((record { type = Char; stride = 4; number = pos 0 }) ∷ (int_cell 0 ∷ [])) ∷ [])
-    (Core.SetLocal 0 (Core.AddressOf 0 0 0)
+    (Core.SetLocal 0 (Core.AddressOf (Core.Direct 0 0 0))
     ∷ (Core.Store Int (Core.Through (Core.Local 0) 1 4 (site 3 40)) (number 7)
     ∷ (Core.Store Char (Core.Direct 0 0 0) (Core.LowByte (number 300))
     ∷ (Core.Return (Core.Arithmetic (operators.Arithmetic arithmetics.Add) (Core.Load Int (Core.Through (Core.Local 0) 1 4 (site 3 65))) (Core.Load Char (Core.Direct 0 0 0))

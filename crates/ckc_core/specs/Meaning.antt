@@ -19,6 +19,8 @@ use Rattle.act_words.specs.declared.operator.Operator.{Operator}
 use Rattle.act_words.specs.declared.operator.Operator.TheVariants as operators
 use Rattle.act_words.specs.declared.operator.Comparison.{Comparison}
 use Rattle.act_words.specs.Operators.{arithmetic_result, bitwise_result, holds}
+use Rattle.ckc_core.specs.declared.program.Callee.{Callee}
+use Rattle.ckc_core.specs.declared.program.Callee.TheVariants as callees
 use Rattle.ckc_core.specs.Core as core
 use Rattle.ckc_core.specs.States.{Value, Number, Null, At, Cell, State, in_world, cell_at, with_cell, stands_at, stands_behind, same_type, has_type}
 use Rattle.ckc_core.specs.States.{zero_of, object_block}
@@ -195,6 +197,11 @@ enter_if false g k function values s = Stuck
 abbrev pub call_trusted : Setting → Knot → ℕ → List Value → State → Result (Option Value)
 call_trusted g k function values s = enter_if (takes (slice_get g.program.functions function) (length values)) g k function values s
 
+-- what a call comes to
+abbrev pub called : Setting → Knot → Callee → List Value → State → Result (Option Value)
+called g k (callees.Trusted function) values s = call_trusted g k function values s
+called g k (callees.Tainted import site) values s = call_tainted g import (slice_get g.program.imports import) site values s
+
 -- the result of a call that has one
 abbrev pub result_given : Option Value → State → Result Value
 result_given None s = Stuck
@@ -211,8 +218,7 @@ abbrev mutual
   value g k core.Null s = Gives Null s
   value g k (core.Local local) s = given (slice_get s.locals local) s
   value g k (core.Load type p) s = and_then (place g k p s) (load_at type)
-  value g k (core.AddressOf object cell offset) s = and_then (place_in object cell offset s) pointer_to
-  value g k (core.AddressThrough pointer cell offset site) s = and_then (value g k pointer s) (λ p t. and_then (place_through cell offset site p t) pointer_to)
+  value g k (core.AddressOf p) s = and_then (place g k p s) pointer_to
   value g k (core.Negate operand site) s = and_then (value g k operand s) (negated site)
   value g k (core.Complement operand) s = and_then (value g k operand s) complemented
   value g k (core.Not operand) s = and_then (value g k operand s) (λ v t. Gives (number_of_test (not (truth v))) t)
@@ -226,9 +232,7 @@ abbrev mutual
       and_then (value g k left s) (λ a t. choose (truth a) (Gives (number_of_test true) t)
       (and_then (value g k right t) (λ b u. Gives (number_of_test (truth b)) u)))
   value g k (core.LowByte operand) s = and_then (value g k operand s) low_byte_of
-  value g k (core.Call function arguments) s = and_then (values g k arguments s) (λ vs t. and_then (call_trusted g k function vs t) result_given)
-  value g k (core.TaintedCall import arguments site) s =
-      and_then (values g k arguments s) (λ vs t. and_then (call_tainted g import (slice_get g.program.imports import) site vs t) result_given)
+  value g k (core.Call callee arguments) s = and_then (values g k arguments s) (λ vs t. and_then (called g k callee vs t) result_given)
   value g k core.NextInput s = asked (next_input s.world) s (λ number t. Gives (Number number) t)
 
   -- the values of arguments, from left to right
@@ -328,9 +332,7 @@ abbrev mutual
       and_then (place g k p s) (λ at t. and_then (load_at type at t) (λ old u. and_then (value g k e u)
       (λ v w. and_then (arithmetic_of operator site old v w) (λ new x. and_then (kept_if (is_char type) new x) (store_at type at)))))
   effect g k (core.Evaluate e) s = and_then (value g k e s) (λ _ t. Gives Next t)
-  effect g k (core.CallAlone function arguments) s = and_then (values g k arguments s) (λ vs t. and_then (call_trusted g k function vs t) no_result)
-  effect g k (core.TaintedAlone import arguments site) s =
-      and_then (values g k arguments s) (λ vs t. and_then (call_tainted g import (slice_get g.program.imports import) site vs t) no_result)
+  effect g k (core.CallAlone callee arguments) s = and_then (values g k arguments s) (λ vs t. and_then (called g k callee vs t) no_result)
   effect g k (core.Print e) s = and_then (value g k e s) printed
   effect g k (core.PutByte e) s = and_then (value g k e s) put
   effect g k (core.Block statements) s = effects g k statements s

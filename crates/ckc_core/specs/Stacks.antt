@@ -13,8 +13,7 @@ abbrev mutual
   expression_stack core.Null = 1
   expression_stack (core.Local local) = 1
   expression_stack (core.Load type p) = place_stack p
-  expression_stack (core.AddressOf object cell offset) = offset_stack offset
-  expression_stack (core.AddressThrough pointer cell offset site) = max (expression_stack pointer) (offset_stack offset)
+  expression_stack (core.AddressOf p) = place_stack p
   expression_stack (core.Negate operand site) = expression_stack operand
   expression_stack (core.Complement operand) = expression_stack operand
   expression_stack (core.Not operand) = expression_stack operand
@@ -24,8 +23,7 @@ abbrev mutual
   expression_stack (core.AndAlso left right) = max (expression_stack left) (expression_stack right)
   expression_stack (core.OrElse left right) = max (expression_stack left) (expression_stack right)
   expression_stack (core.LowByte operand) = expression_stack operand
-  expression_stack (core.Call function arguments) = max 1 (arguments_stack arguments)
-  expression_stack (core.TaintedCall import arguments site) = max 1 (arguments_stack arguments)
+  expression_stack (core.Call callee arguments) = max 1 (arguments_stack arguments)
   expression_stack core.NextInput = 1
 
   pub arguments_stack : core.Arguments → ℕ
@@ -49,8 +47,7 @@ abbrev mutual
   statement_stack (core.UpdateLocal char local operator value site) = 1 + expression_stack value
   statement_stack (core.Update type p operator value site) = max (place_stack p) (2 + expression_stack value)
   statement_stack (core.Evaluate value) = expression_stack value
-  statement_stack (core.CallAlone function arguments) = arguments_stack arguments
-  statement_stack (core.TaintedAlone import arguments site) = arguments_stack arguments
+  statement_stack (core.CallAlone callee arguments) = arguments_stack arguments
   statement_stack (core.Print number) = expression_stack number
   statement_stack (core.PutByte number) = expression_stack number
   statement_stack (core.Block inner) = statements_stack inner

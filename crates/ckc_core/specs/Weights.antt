@@ -1,4 +1,5 @@
--- How many nodes the parts of a program have. A node is an expression, a place or a statement.
+-- How many nodes the parts of a program have. A node is an expression, a place or a statement; a pointer to a place is one node
+-- with it.
 use Rattle.std.specs.Prelude.{ℕ, ◌+◌}
 use Rattle.ckc_core.specs.Core as core
 
@@ -8,8 +9,7 @@ abbrev mutual
   expression_weight core.Null = 1
   expression_weight (core.Local local) = 1
   expression_weight (core.Load type p) = 1 + place_weight p
-  expression_weight (core.AddressOf object cell offset) = 1
-  expression_weight (core.AddressThrough pointer cell offset site) = 1 + expression_weight pointer
+  expression_weight (core.AddressOf p) = place_weight p
   expression_weight (core.Negate operand site) = 1 + expression_weight operand
   expression_weight (core.Complement operand) = 1 + expression_weight operand
   expression_weight (core.Not operand) = 1 + expression_weight operand
@@ -19,8 +19,7 @@ abbrev mutual
   expression_weight (core.AndAlso left right) = 1 + expression_weight left + expression_weight right
   expression_weight (core.OrElse left right) = 1 + expression_weight left + expression_weight right
   expression_weight (core.LowByte operand) = 1 + expression_weight operand
-  expression_weight (core.Call function arguments) = 1 + arguments_weight arguments
-  expression_weight (core.TaintedCall import arguments site) = 1 + arguments_weight arguments
+  expression_weight (core.Call callee arguments) = 1 + arguments_weight arguments
   expression_weight core.NextInput = 1
 
   pub arguments_weight : core.Arguments → ℕ
@@ -39,8 +38,7 @@ abbrev mutual
   statement_weight (core.UpdateLocal char local operator value site) = 1 + expression_weight value
   statement_weight (core.Update type p operator value site) = 1 + place_weight p + expression_weight value
   statement_weight (core.Evaluate value) = 1 + expression_weight value
-  statement_weight (core.CallAlone function arguments) = 1 + arguments_weight arguments
-  statement_weight (core.TaintedAlone import arguments site) = 1 + arguments_weight arguments
+  statement_weight (core.CallAlone callee arguments) = 1 + arguments_weight arguments
   statement_weight (core.Print number) = 1 + expression_weight number
   statement_weight (core.PutByte number) = 1 + expression_weight number
   statement_weight (core.Block inner) = 1 + statements_weight inner

@@ -11,6 +11,13 @@ pub struct Site {
     pub place: Place,
 }
 
+/// Whom a call enters: a trusted function, or a tainted one, where a failed check of its reply names the site.
+#[derive(Clone, Copy)]
+pub enum Callee {
+    Trusted(u32),
+    Tainted { import: u32, site: Site },
+}
+
 /// An expression. Locals, file-level variables and functions are numbered from 0 in the order of their declarations.
 #[cycle(core)]
 #[derive(Drop)]
@@ -24,19 +31,8 @@ pub enum Expr {
         ctype: CType,
         cell: CellPlace,
     },
-    /// A pointer to a cell of a file-level variable, which stands so many bytes behind the first one.
-    AddressOf {
-        object: u32,
-        cell: u32,
-        offset: u32,
-    },
-    /// A pointer to a cell behind the one that a pointer points to, by a number of cells and of bytes.
-    AddressThrough {
-        pointer: Box<Expr>,
-        cell: u32,
-        offset: u32,
-        site: Site,
-    },
+    /// A pointer to a cell.
+    AddressOf(CellPlace),
     Negate {
         operand: Box<Expr>,
         site: Site,
@@ -70,18 +66,17 @@ pub enum Expr {
     },
     /// A number modulo 256.
     LowByte(Box<Expr>),
-    /// What a trusted function returns. Its arguments stand from left to right.
-    Call {
-        function: u32,
-        arguments: Vec<Expr>,
-    },
-    /// What a tainted function returns. Its arguments are numbers.
-    TaintedCall {
-        import: u32,
-        arguments: Vec<Expr>,
-        site: Site,
-    },
+    /// What a call returns.
+    Call(Call),
     NextInput,
+}
+
+/// A call, with its arguments from left to right. Those of a tainted function are numbers.
+#[cycle(core)]
+#[derive(Drop)]
+pub struct Call {
+    pub callee: Callee,
+    pub arguments: Vec<Expr>,
 }
 
 /// Where a cell stands: in a file-level variable, or behind a pointer, by a number of cells and of bytes.
@@ -131,17 +126,8 @@ pub enum Stmt {
     },
     /// A value that is left.
     Evaluate(Expr),
-    /// A call of a trusted function without a result.
-    CallAlone {
-        function: u32,
-        arguments: Vec<Expr>,
-    },
-    /// A call of a tainted function without a result.
-    TaintedAlone {
-        import: u32,
-        arguments: Vec<Expr>,
-        site: Site,
-    },
+    /// A call without a result.
+    CallAlone(Call),
     Print(Expr),
     PutByte(Expr),
     Block(Vec<Stmt>),

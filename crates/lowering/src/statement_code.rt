@@ -148,21 +148,7 @@ fn emit_statement(ops: &mut Vec<Op>, targets: Targets, stmt: &Stmt) -> Result<()
             site,
         } => emit_update(ops, ctype, cell, *operator, value, *site),
         Stmt::Evaluate(value) => emit_with(ops, value, Op::Discard),
-        Stmt::CallAlone {
-            function,
-            arguments,
-        } => { emit_call(ops, arguments.as_slice(), Op::Call(*function)) }
-        Stmt::TaintedAlone {
-            import,
-            arguments,
-            site,
-        } => {
-            let call = Op::TaintedCall {
-                import: *import,
-                place: site.place,
-            };
-            emit_call(ops, arguments.as_slice(), call)
-        }
+        Stmt::CallAlone(call) => emit_call(ops, call.callee, call.arguments.as_slice()),
         Stmt::Print(number) => emit_with(ops, number, Op::Print),
         Stmt::PutByte(number) => emit_with(ops, number, Op::PutByte),
         Stmt::Block(inner) => emit_statements(ops, targets, inner.as_slice()),
@@ -170,36 +156,62 @@ fn emit_statement(ops: &mut Vec<Op>, targets: Targets, stmt: &Stmt) -> Result<()
             condition,
             consequent,
             alternative,
-        } => {
-            emit_condition(ops, condition, statement_size(consequent) + 1)?;
-            emit_statement(ops, targets, consequent)?;
-            emit_jump(ops, statement_size(alternative))?;
-            emit_statement(ops, targets, alternative)
-        }
+        } => emit_if(ops, targets, condition, consequent, alternative),
         Stmt::Loop {
             condition,
             body,
             step,
-        } => {
-            let turn = place_behind(ops, 1);
-            let after = statement_size(step);
-            let inner = loop_targets(
-                ops,
-                targets.scratch,
-                statement_size(body),
-                after,
-                expression_size(condition),
-            );
-            begin_loop(ops, inner.on_continue, after)?;
-            emit_statement(ops, inner, body)?;
-            emit_statement(ops, targets, step)?;
-            end_loop(ops, condition, inner.on_break, turn)
-        }
+        } => emit_loop(ops, targets, condition, body, step),
         Stmt::Return(value) => emit_with(ops, value, Op::Return),
         Stmt::ReturnNothing => put(ops, Op::ReturnNothing),
         Stmt::Break => put(ops, Op::Jump(targets.on_break)),
         Stmt::Continue => put(ops, Op::Jump(targets.on_continue)),
     }
+}
+
+// A condition with the statement that runs where it holds, and another one.
+#[cycle(statements)]
+fn emit_if(
+    ops: &mut Vec<Op>,
+    targets: Targets,
+    condition: &Expr,
+    consequent: &Stmt,
+    alternative: &Stmt,
+) -> Result<(), NoMemory>
+    requires { length ops.old.items + code.statement_size (cores.If (expression condition.now) (statement consequent.now) (statement alternative.now)) ≤ 2 ^ 31 }
+    ensures { OnOk result (ops.new.items ≡ ops.old.items ++ code.statement_code (targets_of targets) (length ops.old.items) (cores.If (expression condition.now) (statement consequent.now) (statement alternative.now))) }
+{
+    emit_condition(ops, condition, statement_size(consequent) + 1)?;
+    emit_statement(ops, targets, consequent)?;
+    emit_jump(ops, statement_size(alternative))?;
+    emit_statement(ops, targets, alternative)
+}
+
+// A loop, whose condition stands behind its body and its step.
+#[cycle(statements)]
+fn emit_loop(
+    ops: &mut Vec<Op>,
+    targets: Targets,
+    condition: &Expr,
+    body: &Stmt,
+    step: &Stmt,
+) -> Result<(), NoMemory>
+    requires { length ops.old.items + code.statement_size (cores.Loop (expression condition.now) (statement body.now) (statement step.now)) ≤ 2 ^ 31 }
+    ensures { OnOk result (ops.new.items ≡ ops.old.items ++ code.statement_code (targets_of targets) (length ops.old.items) (cores.Loop (expression condition.now) (statement body.now) (statement step.now))) }
+{
+    let turn = place_behind(ops, 1);
+    let after = statement_size(step);
+    let inner = loop_targets(
+        ops,
+        targets.scratch,
+        statement_size(body),
+        after,
+        expression_size(condition),
+    );
+    begin_loop(ops, inner.on_continue, after)?;
+    emit_statement(ops, inner, body)?;
+    emit_statement(ops, targets, step)?;
+    end_loop(ops, condition, inner.on_break, turn)
 }
 
 /// The code of statements, one after another.

@@ -26,7 +26,7 @@ use Rattle.lowering_code.specs.Correct.{block_bytes, shown_from, counted_from, w
 use Rattle.act_words.specs.Shown.{Shown}
 use Rattle.lowering_code.proofs.Shapes.{strides, shape, sum_cons, row_of, shape_offset, shape_end, end_least, word_in, word_by_shape, HaveBytes}
 use Rattle.lowering_code.proofs.Memory.{HasRoom, block_content, memory_bytes, length_block}
-use Rattle.lowering_code.proofs.Worlds.{IsNumber}
+use Rattle.ckc_core.proofs.Numbers.{IsNumber}
 
 -- a run of a program's code, from a state on
 pub record Execution : Type 0 where

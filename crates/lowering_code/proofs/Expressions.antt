@@ -1,20 +1,18 @@
 -- What single instructions of an expression leave on the stack.
-use Rattle.std.proofs.Common.{◌≡◌, ℕ, zero, suc, ◌+◌, ◌%◌, ◌^◌, ◌<◌, Bool, true, false, ℤ, ◌+ℤ◌, ◌-ℤ◌, ◌*ℤ◌, neg_ℤ, pos, List, [], ◌∷◌, ◌++◌, length, map, Option, Some, None, refl, sym, ap, ◌∙◌, subst, arith}
-use Rattle.std.specs.Prelude.{slice_get, nat_lt, not, ◌&&◌, ◌==◌, int_div, int_rem}
+use Rattle.std.proofs.Common.{◌≡◌, ℕ, zero, suc, ◌+◌, ◌%◌, ◌^◌, ◌<◌, Bool, true, false, ℤ, neg_ℤ, List, [], ◌∷◌, ◌++◌, length, map, Option, Some, None, refl, sym, ap, ◌∙◌, subst, arith}
+use Rattle.std.specs.Prelude.{slice_get, nat_lt, not, ◌==◌}
 use Rattle.std.specs.List.{AllByRecursion}
 use Rattle.std.specs.Int.Bits.{and_lt}
 use Rattle.std.proofs.lemmas.Nat.{or_lt, xor_lt}
 use Rattle.std.proofs.lemmas.Bool.Decides.{nat_tests}
-use Rattle.ckc_text.specs.declared.place.Place.{Place}
-use Rattle.ckc_text.specs.declared.code.Code.TheVariants.{C6, C7, C8, S1}
-use Rattle.act_words.specs.declared.ending.Ending.{Ending}
-use Rattle.act_words.specs.declared.ending.Ending.TheVariants.{Check, Stop}
+use Rattle.ckc_text.specs.declared.code.Code.TheVariants.{S1}
+use Rattle.act_words.specs.declared.ending.Ending.TheVariants.{Stop}
 use Rattle.act_words.specs.Outcome.{Gives}
-use Rattle.act_words.specs.Checks.{Checked, Holds, Fails, held_if, is_word_number, without_overflow}
+use Rattle.act_words.specs.Checks.{Checked, Holds, Fails, is_word_number}
 use Rattle.act_words.specs.Numbers.{word}
 use Rattle.act_words.specs.Arithmetic as arithmetic
 use Rattle.act_words.specs.Operators.{bitwise_result, holds}
-use Rattle.act_words.specs.Arithmetic.{bit, checked_then, is_zero, is_count, is_not_negative, halved, count_of}
+use Rattle.act_words.specs.Arithmetic.{bit}
 use Rattle.act_words.specs.World.{spent_one, with_inputs}
 use Rattle.act_words.specs.Touches.{input_from, next_input, spent_if, spend_tick}
 use Rattle.ckc_core.specs.declared.program.Site.{Site}
@@ -34,8 +32,8 @@ use Rattle.code_words.specs.Table.{State, Step, Goes, Over, act, push, push_some
 use Rattle.code_words.specs.declared.op.Op.{Op}
 use Rattle.code_words.specs.declared.op.Op.TheVariants as ops
 use Rattle.lowering_code.specs.Code.{operator_code}
-use Rattle.lowering_code.proofs.Numbers.{signed-word, word_small, word-signed, signed_fits, equal_words, halved_fits, remainder_fits, complement_fits}
-use Rattle.lowering_code.proofs.Worlds.{IsNumber, KeptWorld}
+use Rattle.lowering_code.proofs.Worlds.{KeptWorld}
+use Rattle.ckc_core.proofs.Numbers.{IsNumber, IfHolds, bits_small, signed-word, word_small, word-signed, signed_fits, equal_words, complement_fits, overflow_fits, result_fits}
 use Rattle.lowering_code.proofs.Executions.{Execution, image, word_of, IsKept}
 use Rattle.lowering_code.proofs.Steps.{Asks, Finishes, Layout, code, frame, standing, Here, kept_in, moved, pushes_in, pushes, ended, Arrives, Evaluates}
 
@@ -69,52 +67,6 @@ bit_word g false = refl
 pub test_kept : (g : Execution) (test : Bool) → IsKept g (number_of_test test)
 test_kept g true = refl
 test_kept g false = refl
-
--- what is so of a check's number
-abbrev pub IfHolds : (ℤ → Type 0) → Checked ℤ → Type 0
-IfHolds P (Holds z) = P z
-IfHolds P (Fails ending) = Unit {0}
-
-held_fits : (test : Bool) (z : ℤ) (ending : Ending) → (test ≡ true → IsNumber z) → IfHolds IsNumber (held_if test z ending)
-held_fits true z ending h = h refl
-held_fits false z ending h = tt
-
-overflow_fits : (place : Place) (z : ℤ) → IfHolds IsNumber (without_overflow place z)
-overflow_fits place z = held_fits (is_word_number z) z (Check C6 place) (λ h. h)
-
-divided_fits : (test : Bool) (ending : Ending) (next : Checked ℤ) → (test ≡ true → IfHolds IsNumber next) → IfHolds IsNumber (checked_then test ending next)
-divided_fits true ending next h = h refl
-divided_fits false ending next h = tt
-
-last_true : (a b c : Bool) → (a && (b && c)) ≡ true → c ≡ true
-last_true true true c h = h
-last_true true false c h = absurd (cc)
-last_true false b c h = absurd (cc)
-
-not_true : (b : Bool) → not b ≡ true → b ≡ false
-not_true true h = absurd (cc)
-not_true false h = refl
-
--- a bitwise operator on words gives a word
-bits_small : (operator : BitwiseOperator) (a b : ℕ) → a < 2 ^ 32 → b < 2 ^ 32 → bitwise_result operator a b < 2 ^ 32
-bits_small bits.And a b ha hb = and_lt 32 a b ha hb
-bits_small bits.Or a b ha hb = or_lt 32 a b ha hb
-bits_small bits.Xor a b ha hb = xor_lt 32 a b ha hb
-
--- an operator's number has 32 bits
-pub result_fits : (operator : Operator) (site : Site) (a b : ℤ) → IsNumber a → IsNumber b → IfHolds IsNumber (result_of operator site a b)
-result_fits (operators.Arithmetic arithmetics.Add) site a b ha hb = overflow_fits site.place (a +ℤ b)
-result_fits (operators.Arithmetic arithmetics.Subtract) site a b ha hb = overflow_fits site.place (a -ℤ b)
-result_fits (operators.Arithmetic arithmetics.Multiply) site a b ha hb = overflow_fits site.place (a *ℤ b)
-result_fits (operators.Arithmetic arithmetics.Divide) site a b ha hb = divided_fits (not (is_zero b)) (Check C7 site.place) (without_overflow site.place (int_div a b)) (λ h. overflow_fits site.place (int_div a b))
-result_fits (operators.Arithmetic arithmetics.Remainder) site a b ha hb =
-    divided_fits (not (is_zero b)) (Check C7 site.place) (held_if (is_word_number (int_div a b)) (int_rem a b) (Check C6 site.place))
-    (λ h. held_fits (is_word_number (int_div a b)) (int_rem a b) (Check C6 site.place) (λ k. remainder_fits a b hb (not_true (is_zero b) h)))
-result_fits (operators.Arithmetic arithmetics.ShiftLeft) site a b ha hb =
-    let z = a *ℤ pos (2 ^ count_of b) in
-    held_fits (is_count b && (is_not_negative a && is_word_number z)) z (Check C8 site.place) (last_true (is_count b) (is_not_negative a) (is_word_number z))
-result_fits (operators.Arithmetic arithmetics.ShiftRight) site a b ha hb = held_fits (is_count b) (halved a (count_of b)) (Check C8 site.place) (λ h. halved_fits a (count_of b) ha)
-result_fits (operators.Bitwise operator) site a b ha hb = signed_fits (bitwise_result operator (word a) (word b)) (bits_small operator (word a) (word b) (word_small a ha) (word_small b hb))
 
 -- where a branch goes
 abbrev pub chosen : Bool → ℕ → ℕ → ℕ

@@ -1,4 +1,3 @@
-pub mod Numbers
 pub mod Shapes
 pub mod Bytes
 pub mod Memory

@@ -8,13 +8,15 @@ use Rattle.ckc_core.specs.declared.program.Site.{Site}
 use Rattle.act_words.specs.declared.operator.Operator.{Operator}
 use Rattle.act_words.specs.declared.operator.Operator.TheVariants as operators
 use Rattle.act_words.specs.declared.operator.Comparison.TheVariants as comparisons
+use Rattle.ckc_core.specs.declared.program.Callee.{Callee}
+use Rattle.ckc_core.specs.declared.program.Callee.TheVariants as callees
 use Rattle.ckc_core.specs.Core as core
 use Rattle.ckc_core.specs.Meaning.{is_char}
 use Rattle.code_words.specs.declared.op.Op.{Op}
 use Rattle.code_words.specs.declared.op.Op.TheVariants as ops
 use Rattle.code_words.specs.Paced.{is_call, target_of, keeps_pace, all_keep_pace, is_paced_function}
 use Rattle.code_words.specs.Formats.{element_size, is_sized, is_sized_function}
-use Rattle.lowering_code.specs.Code.{Places, operator_code, load_code, load_if, store_code, store_if, offset_code, offset_size, address_code, through_code, byte_code, byte_size, expression_size, arguments_size, place_size, before_value_size, statement_size, statements_size, expression_code, arguments_code, place_code, before_value, behind_value, statement_code, statements_code, ending_code, body_places, function_ops}
+use Rattle.lowering_code.specs.Code.{Places, operator_code, load_code, load_if, store_code, store_if, offset_code, offset_size, address_code, through_code, byte_code, byte_size, expression_size, arguments_size, place_size, before_value_size, statement_size, statements_size, expression_code, arguments_code, place_code, before_value, behind_value, statement_code, statements_code, ending_code, body_places, function_ops, callee_code}
 use Rattle.lowering_code.specs.Images.{functions_from}
 use Rattle.lowering_code.proofs.Steps.{HasAt, has_front, has_back, has_all}
 use Rattle.lowering_code.proofs.Sizes.{length_offset, length_byte, length_expression, length_arguments, length_place, length_statement, length_statements}
@@ -33,6 +35,11 @@ record IsCalm (op : Op) : Type 0 where
 calm_operator : (operator : Operator) (site : Site) → IsCalm (operator_code operator site)
 calm_operator (operators.Arithmetic operator) site = record { no_jump = refl; no_call = refl }
 calm_operator (operators.Bitwise operator) site = record { no_jump = refl; no_call = refl }
+
+-- a call leads to no other instruction of its function
+callee_no_jump : (callee : Callee) → target_of (callee_code callee) ≡ None
+callee_no_jump (callees.Trusted function) = refl
+callee_no_jump (callees.Tainted import site) = refl
 
 calm_load : (char : Bool) → IsCalm (load_if char)
 calm_load true = record { no_jump = refl; no_call = refl }
@@ -162,8 +169,7 @@ module _ (all : List Op) where
     starts_expression at core.Null has = target_there at (ops.Const (pos 0)) refl has.0
     starts_expression at (core.Local k) has = target_there at (ops.Local k) refl has.0
     starts_expression at (core.Load type p) has = starts_place at p (has_front all at (place_code at p) (load_code type ∷ []) has)
-    starts_expression at (core.AddressOf object cell offset) has = target_there at (ops.BlockAddress object) refl has.0
-    starts_expression at (core.AddressThrough pointer cell offset site) has = starts_expression at pointer (has_front all at (expression_code at pointer) (through_code offset site) has)
+    starts_expression at (core.AddressOf p) has = starts_place at p has
     starts_expression at (core.Negate operand site) has = starts_expression at operand (has_front all at (expression_code at operand) (ops.Neg site.place ∷ []) has)
     starts_expression at (core.Complement operand) has = starts_expression at operand (has_front all at (expression_code at operand) (ops.Not ∷ []) has)
     starts_expression at (core.Not operand) has = starts_expression at operand (has_front all at (expression_code at operand) (ops.Zero ∷ []) has)
@@ -178,12 +184,9 @@ module _ (all : List Op) where
     starts_expression at (core.OrElse left right) has =
         starts_expression at left (has_front all at (expression_code at left) (ops.JumpIfZero (at + expression_size left + 3) ∷ ops.Const (pos 1) ∷ ops.Jump (at + expression_size left + 3 + expression_size right + 2) ∷ (expression_code (at + expression_size left + 3) right ++ ops.Zero ∷ ops.Zero ∷ [])) has)
     starts_expression at (core.LowByte operand) has = starts_expression at operand (has_front all at (expression_code at operand) (ops.Byte ∷ []) has)
-    starts_expression at (core.Call function arguments) has =
-        let there = has_back all at (arguments_code at arguments) (ops.Tick ∷ ops.Call function ∷ []) (arguments_size arguments) (length_arguments at arguments) has in
-        starts_arguments at arguments (has_front all at (arguments_code at arguments) (ops.Tick ∷ ops.Call function ∷ []) has) (target_there (at + arguments_size arguments) ops.Tick refl there.0)
-    starts_expression at (core.TaintedCall import arguments site) has =
-        let there = has_back all at (arguments_code at arguments) (ops.Tick ∷ ops.TaintedCall import site.place ∷ []) (arguments_size arguments) (length_arguments at arguments) has in
-        starts_arguments at arguments (has_front all at (arguments_code at arguments) (ops.Tick ∷ ops.TaintedCall import site.place ∷ []) has) (target_there (at + arguments_size arguments) ops.Tick refl there.0)
+    starts_expression at (core.Call callee arguments) has =
+        let there = has_back all at (arguments_code at arguments) (ops.Tick ∷ callee_code callee ∷ []) (arguments_size arguments) (length_arguments at arguments) has in
+        starts_arguments at arguments (has_front all at (arguments_code at arguments) (ops.Tick ∷ callee_code callee ∷ []) has) (target_there (at + arguments_size arguments) ops.Tick refl there.0)
     starts_expression at core.NextInput has = target_there at ops.NextInput refl has.0
 
     starts_arguments : (at : ℕ) (arguments : core.Arguments) → HasAt all at (arguments_code at arguments) → IsTarget (at + arguments_size arguments) → IsTarget at
@@ -208,12 +211,9 @@ module _ (all : List Op) where
     starts_statement p at (core.Update type cell operator value site) has end =
         starts_place at cell (has_front all at (place_code at cell) (ops.Duplicate ∷ load_code type ∷ (expression_code (at + place_size cell + 2) value ++ operator_code operator site ∷ (byte_code (is_char type) ++ store_code type ∷ []))) has)
     starts_statement p at (core.Evaluate value) has end = starts_expression at value (has_front all at (expression_code at value) (ops.Discard ∷ []) has)
-    starts_statement p at (core.CallAlone function arguments) has end =
-        let there = has_back all at (arguments_code at arguments) (ops.Tick ∷ ops.Call function ∷ []) (arguments_size arguments) (length_arguments at arguments) has in
-        starts_arguments at arguments (has_front all at (arguments_code at arguments) (ops.Tick ∷ ops.Call function ∷ []) has) (target_there (at + arguments_size arguments) ops.Tick refl there.0)
-    starts_statement p at (core.TaintedAlone import arguments site) has end =
-        let there = has_back all at (arguments_code at arguments) (ops.Tick ∷ ops.TaintedCall import site.place ∷ []) (arguments_size arguments) (length_arguments at arguments) has in
-        starts_arguments at arguments (has_front all at (arguments_code at arguments) (ops.Tick ∷ ops.TaintedCall import site.place ∷ []) has) (target_there (at + arguments_size arguments) ops.Tick refl there.0)
+    starts_statement p at (core.CallAlone callee arguments) has end =
+        let there = has_back all at (arguments_code at arguments) (ops.Tick ∷ callee_code callee ∷ []) (arguments_size arguments) (length_arguments at arguments) has in
+        starts_arguments at arguments (has_front all at (arguments_code at arguments) (ops.Tick ∷ callee_code callee ∷ []) has) (target_there (at + arguments_size arguments) ops.Tick refl there.0)
     starts_statement p at (core.Print number) has end = starts_expression at number (has_front all at (expression_code at number) (ops.Print ∷ []) has)
     starts_statement p at (core.PutByte number) has end = starts_expression at number (has_front all at (expression_code at number) (ops.PutByte ∷ []) has)
     starts_statement p at (core.Block inner) has end = starts_statements p at inner has end
@@ -269,8 +269,7 @@ module _ (all : List Op) where
     paced_expression at (core.Local k) has end = (refl, tt)
     paced_expression at (core.Load type p) has end =
         with_op at (place_size p) (place_code at p) (load_code type) (length_place at p) (calm_load (is_char type)) has (paced_place at p (has_front all at (place_code at p) (load_code type ∷ []) has))
-    paced_expression at (core.AddressOf object cell offset) has end = (refl, offset_keeps (at + 1) offset)
-    paced_expression at (core.AddressThrough pointer cell offset site) has end = through_with at pointer offset site has (paced_expression at pointer)
+    paced_expression at (core.AddressOf p) has end = paced_place at p has end
     paced_expression at (core.Negate operand site) has end = expression_with at operand (ops.Neg site.place) (record { no_jump = refl; no_call = refl }) has (paced_expression at operand)
     paced_expression at (core.Complement operand) has end = expression_with at operand ops.Not (record { no_jump = refl; no_call = refl }) has (paced_expression at operand)
     paced_expression at (core.Not operand) has end = expression_with at operand ops.Zero (record { no_jump = refl; no_call = refl }) has (paced_expression at operand)
@@ -320,10 +319,8 @@ module _ (all : List Op) where
           ),
         )
     paced_expression at (core.LowByte operand) has end = expression_with at operand ops.Byte (record { no_jump = refl; no_call = refl }) has (paced_expression at operand)
-    paced_expression at (core.Call function arguments) has end =
-        called at (arguments_size arguments) (arguments_code at arguments) (ops.Call function) (length_arguments at arguments) refl has (paced_arguments at arguments (has_front all at (arguments_code at arguments) (ops.Tick ∷ ops.Call function ∷ []) has))
-    paced_expression at (core.TaintedCall import arguments site) has end =
-        called at (arguments_size arguments) (arguments_code at arguments) (ops.TaintedCall import site.place) (length_arguments at arguments) refl has (paced_arguments at arguments (has_front all at (arguments_code at arguments) (ops.Tick ∷ ops.TaintedCall import site.place ∷ []) has))
+    paced_expression at (core.Call callee arguments) has end =
+        called at (arguments_size arguments) (arguments_code at arguments) (callee_code callee) (length_arguments at arguments) (callee_no_jump callee) has (paced_arguments at arguments (has_front all at (arguments_code at arguments) (ops.Tick ∷ callee_code callee ∷ []) has))
     paced_expression at core.NextInput has end = (refl, tt)
 
     paced_arguments : (at : ℕ) (arguments : core.Arguments) → HasAt all at (arguments_code at arguments) → IsTarget (at + arguments_size arguments) → AllKeep at (arguments_code at arguments)
@@ -410,10 +407,8 @@ module _ (all : List Op) where
     paced_statement p at (core.UpdateLocal char local operator value site) has end leads = (refl, paced_operand (at + 1) value operator site char (ops.Set local) (record { no_jump = refl; no_call = refl }) has.1)
     paced_statement p at (core.Update type cell operator value site) has end leads = paced_update at type cell value operator site p has
     paced_statement p at (core.Evaluate value) has end leads = paced_one at value ops.Discard (record { no_jump = refl; no_call = refl }) has
-    paced_statement p at (core.CallAlone function arguments) has end leads =
-        called at (arguments_size arguments) (arguments_code at arguments) (ops.Call function) (length_arguments at arguments) refl has (paced_arguments at arguments (has_front all at (arguments_code at arguments) (ops.Tick ∷ ops.Call function ∷ []) has))
-    paced_statement p at (core.TaintedAlone import arguments site) has end leads =
-        called at (arguments_size arguments) (arguments_code at arguments) (ops.TaintedCall import site.place) (length_arguments at arguments) refl has (paced_arguments at arguments (has_front all at (arguments_code at arguments) (ops.Tick ∷ ops.TaintedCall import site.place ∷ []) has))
+    paced_statement p at (core.CallAlone callee arguments) has end leads =
+        called at (arguments_size arguments) (arguments_code at arguments) (callee_code callee) (length_arguments at arguments) (callee_no_jump callee) has (paced_arguments at arguments (has_front all at (arguments_code at arguments) (ops.Tick ∷ callee_code callee ∷ []) has))
     paced_statement p at (core.Print number) has end leads = paced_one at number ops.Print (record { no_jump = refl; no_call = refl }) has
     paced_statement p at (core.PutByte number) has end leads = paced_one at number ops.PutByte (record { no_jump = refl; no_call = refl }) has
     paced_statement p at (core.Block inner) has end leads = paced_statements p at inner has end leads

@@ -23,7 +23,7 @@ use Rattle.lowering_code.specs.Code.{offset_code, offset_size, address_code, thr
 use Rattle.lowering_code.specs.Code as codes
 use Rattle.ckc_core.specs.Stacks.{offset_stack}
 use Rattle.lowering_code.specs.Correct.{width_if}
-use Rattle.lowering_code.proofs.Numbers.{word_small, word-signed, zero_word}
+use Rattle.ckc_core.proofs.Numbers.{word_small, word-signed, zero_word}
 use Rattle.lowering_code.proofs.Shapes.{strides, shape_offset, row_place, row_of, address, place_by_shape, block_there, row_there, row_place_le, offset_least, block_within, blocks_apart, HaveBytes}
 use Rattle.lowering_code.proofs.Bytes.{word_behind, length_word, word_read}
 use Rattle.lowering_code.proofs.Memory.{value_bytes, block_seam}

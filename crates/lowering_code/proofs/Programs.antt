@@ -26,8 +26,8 @@ use Rattle.code_words.specs.declared.op.Op.TheVariants as ops
 use Rattle.lowering_code.specs.Code.{Places, body_places, ending_code, function_ops, statements_size, statements_code}
 use Rattle.lowering_code.specs.Images.{function_code, image_of, object_bytes}
 use Rattle.lowering_code.specs.Correct.{IsCell, IsFunction, IsLowerable, SameEnd}
-use Rattle.lowering_code.proofs.Numbers.{signed-word}
-use Rattle.lowering_code.proofs.Worlds.{IsNumber, KeptWorld}
+use Rattle.ckc_core.proofs.Numbers.{IsNumber, signed-word}
+use Rattle.lowering_code.proofs.Worlds.{KeptWorld}
 use Rattle.lowering_code.proofs.Executions.{Execution, image, rows, word_of, tail, memory, static, state, IsKept, KeptCell, KeptBlocks, IsObject, all_objects, contents_of, same_end}
 use Rattle.lowering_code.proofs.Steps.{HasAt, has_front, has_back, has_all, Leads, leads_on, Reached, Finishes, last_move, Layout, code, Kept, Here, function_found, pushes}
 use Rattle.lowering_code.proofs.Sizes.{length_statements}

@@ -6,7 +6,7 @@ use Rattle.ckc_core.specs.Core as core
 use Rattle.ckc_core.specs.Meaning.{is_char}
 use Rattle.code_words.specs.declared.op.Op.{Op}
 use Rattle.code_words.specs.declared.op.Op.TheVariants as ops
-use Rattle.lowering_code.specs.Code.{Places, operator_code, load_code, store_code, offset_code, offset_size, through_code, byte_code, byte_size, expression_size, arguments_size, place_size, before_value_size, behind_value_size, statement_size, statements_size, expression_code, arguments_code, place_code, before_value, behind_value, statement_code, statements_code}
+use Rattle.lowering_code.specs.Code.{Places, operator_code, load_code, store_code, offset_code, offset_size, through_code, byte_code, byte_size, expression_size, arguments_size, place_size, before_value_size, behind_value_size, statement_size, statements_size, expression_code, arguments_code, place_code, before_value, behind_value, statement_code, statements_code, callee_code}
 use Rattle.ckc_core.specs.Stacks.{offset_stack, expression_stack, place_stack}
 
 pub length_offset : (n : ℕ) → length (offset_code n) ≡ offset_size n
@@ -32,9 +32,7 @@ mutual
   length_expression at core.Null = refl
   length_expression at (core.Local k) = refl
   length_expression at (core.Load type p) = length_then (place_code at p) (load_code type ∷ []) (place_size p) 1 (length_place at p) refl
-  length_expression at (core.AddressOf object cell offset) = omega (arith, length_offset offset)
-  length_expression at (core.AddressThrough pointer cell offset site) =
-      length_then (expression_code at pointer) (through_code offset site) (expression_size pointer) (1 + offset_size offset) (length_expression at pointer) (omega (arith, length_offset offset))
+  length_expression at (core.AddressOf p) = length_place at p
   length_expression at (core.Negate operand site) = length_then (expression_code at operand) (ops.Neg site.place ∷ []) (expression_size operand) 1 (length_expression at operand) refl
   length_expression at (core.Complement operand) = length_then (expression_code at operand) (ops.Not ∷ []) (expression_size operand) 1 (length_expression at operand) refl
   length_expression at (core.Not operand) = length_then (expression_code at operand) (ops.Zero ∷ []) (expression_size operand) 1 (length_expression at operand) refl
@@ -55,8 +53,7 @@ mutual
       let back = length_then inner last (expression_size right) 2 (length_expression (at + expression_size left + 3) right) refl in
       length_then (expression_code at left) (front ∷ ops.Const (pos 1) ∷ leap ∷ (inner ++ last)) (expression_size left) (expression_size right + 5) (length_expression at left) (omega (arith, back))
   length_expression at (core.LowByte operand) = length_then (expression_code at operand) (ops.Byte ∷ []) (expression_size operand) 1 (length_expression at operand) refl
-  length_expression at (core.Call function arguments) = length_then (arguments_code at arguments) (ops.Tick ∷ ops.Call function ∷ []) (arguments_size arguments) 2 (length_arguments at arguments) refl
-  length_expression at (core.TaintedCall import arguments site) = length_then (arguments_code at arguments) (ops.Tick ∷ ops.TaintedCall import site.place ∷ []) (arguments_size arguments) 2 (length_arguments at arguments) refl
+  length_expression at (core.Call callee arguments) = length_then (arguments_code at arguments) (ops.Tick ∷ callee_code callee ∷ []) (arguments_size arguments) 2 (length_arguments at arguments) refl
   length_expression at core.NextInput = refl
 
   pub length_arguments : (at : ℕ) (arguments : core.Arguments) → length (arguments_code at arguments) ≡ arguments_size arguments
@@ -95,8 +92,7 @@ mutual
       let back = length_then (expression_code m value) last (expression_size value) (1 + (byte_size (is_char type) + 1)) (length_expression m value) (omega (arith, length_then (byte_code (is_char type)) (store_code type ∷ []) (byte_size (is_char type)) 1 (length_byte (is_char type)) refl)) in
       length_then (place_code at cell) (ops.Duplicate ∷ load_code type ∷ (expression_code m value ++ last)) (place_size cell) (2 + (expression_size value + (1 + (byte_size (is_char type) + 1)))) (length_place at cell) (omega (arith, back))
   length_statement p at (core.Evaluate value) = length_then (expression_code at value) (ops.Discard ∷ []) (expression_size value) 1 (length_expression at value) refl
-  length_statement p at (core.CallAlone function arguments) = length_then (arguments_code at arguments) (ops.Tick ∷ ops.Call function ∷ []) (arguments_size arguments) 2 (length_arguments at arguments) refl
-  length_statement p at (core.TaintedAlone import arguments site) = length_then (arguments_code at arguments) (ops.Tick ∷ ops.TaintedCall import site.place ∷ []) (arguments_size arguments) 2 (length_arguments at arguments) refl
+  length_statement p at (core.CallAlone callee arguments) = length_then (arguments_code at arguments) (ops.Tick ∷ callee_code callee ∷ []) (arguments_size arguments) 2 (length_arguments at arguments) refl
   length_statement p at (core.Print number) = length_then (expression_code at number) (ops.Print ∷ []) (expression_size number) 1 (length_expression at number) refl
   length_statement p at (core.PutByte number) = length_then (expression_code at number) (ops.PutByte ∷ []) (expression_size number) 1 (length_expression at number) refl
   length_statement p at (core.Block inner) = length_statements p at inner
@@ -139,8 +135,7 @@ mutual
   stack_above core.Null = omega arith
   stack_above (core.Local k) = omega arith
   stack_above (core.Load type p) = place_above p
-  stack_above (core.AddressOf object cell offset) = offset_above offset
-  stack_above (core.AddressThrough pointer cell offset site) = omega (arith, stack_above pointer)
+  stack_above (core.AddressOf p) = place_above p
   stack_above (core.Negate operand site) = stack_above operand
   stack_above (core.Complement operand) = stack_above operand
   stack_above (core.Not operand) = stack_above operand
@@ -150,8 +145,7 @@ mutual
   stack_above (core.AndAlso left right) = omega (arith, stack_above left)
   stack_above (core.OrElse left right) = omega (arith, stack_above left)
   stack_above (core.LowByte operand) = stack_above operand
-  stack_above (core.Call function arguments) = omega arith
-  stack_above (core.TaintedCall import arguments site) = omega arith
+  stack_above (core.Call callee arguments) = omega arith
   stack_above core.NextInput = omega arith
 
   pub place_above : (p : core.Place) → 1 ≤ place_stack p

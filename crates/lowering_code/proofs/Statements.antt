@@ -10,20 +10,19 @@ use Rattle.act_words.specs.declared.operator.Operator.{Operator}
 use Rattle.ckc_core.specs.Core as core
 use Rattle.ckc_core.specs.States.{Value, Number, Null, At, Block, stands_at}
 use Rattle.ckc_core.specs.States as meaning
-use Rattle.ckc_core.specs.Meaning.{Result, Knot, Flow, Next, Broke, Continued, Returned, is_char, given, truth, value, place, place_where, pointer_of, load_at, store_at, arithmetic_of, kept_if, set_local, printed, put, on_next, behind_turn, no_result, choose, call_trusted, call_tainted, effect, effects}
+use Rattle.ckc_core.specs.Meaning.{Result, Knot, Flow, Next, Broke, Continued, Returned, is_char, given, truth, value, place, place_where, pointer_of, load_at, store_at, arithmetic_of, kept_if, set_local, printed, put, on_next, behind_turn, no_result, choose, effect, effects}
 use Rattle.code_words.specs.declared.op.Op.{Op}
 use Rattle.code_words.specs.declared.op.Op.TheVariants as ops
 use Rattle.lowering_code.specs.Code.{Places, operator_code, load_code, store_code, address_code, byte_code, byte_size, offset_size, expression_size, arguments_size, place_size, statement_size, statements_size, expression_code, place_code, behind_value, statement_code, statements_code}
 use Rattle.ckc_core.specs.Stacks.{expression_stack, offset_stack, statement_stack, statements_stack}
-use Rattle.lowering_code.proofs.Numbers.{signed-word}
+use Rattle.ckc_core.proofs.Numbers.{signed-word}
 use Rattle.lowering_code.proofs.Worlds.{KeptWorld}
 use Rattle.lowering_code.proofs.Executions.{Execution, word_of, IsKept}
 use Rattle.lowering_code.proofs.Steps.{HasAt, has_front, has_back, Leads, leads_on, leads_to, asks_on, Finishes, Layout, code, frame, Here, kept_in, fetched, moved, pushes, here_at, Arrives}
 use Rattle.lowering_code.proofs.Sizes.{length_offset, length_byte, length_expression, length_place, length_statement}
 use Rattle.lowering_code.proofs.Expressions.{local_runs, operator_runs, tick_runs, jump_runs, branch_runs}
 use Rattle.lowering_code.proofs.Places.{address_of, Placed, direct_runs, load_runs, truth_word}
-use Rattle.lowering_code.proofs.Calls.{Leaves, FlowsTo, Affects, ArePlaces, test_of, KnotRuns, Resumes, call_runs}
-use Rattle.lowering_code.proofs.Tainted.{tainted_runs}
+use Rattle.lowering_code.proofs.Calls.{Leaves, FlowsTo, Affects, ArePlaces, test_of, KnotRuns, Resumes}
 use Rattle.lowering_code.proofs.Values.{setting, called_runs, value_runs, arguments_run, place_runs}
 use Rattle.lowering_code.proofs.Stores.{store_runs, set_runs, byte_runs, through_store_runs}
 
@@ -243,12 +242,9 @@ module _ (g : Execution) (l : Layout g) where
           (λ new w' z'. store_runs g l o w' p type at_cell new z'.1 z'.0 (has_back (code g l).ops (n + 1) (byte_code char) (store_code type ∷ []) (byte_size char) (length_byte char) back.1).0)))))
       effect_runs (core.Evaluate e) p next s places here at room low =
           operand_runs e ops.Discard (λ _ t. Gives Next t) p next s (λ m v t x op. moved g l m (word_of g v ∷ []) t ops.Discard (m + 1) [] t x.0 op x.0.kept (λ scratch. refl)) here at room low
-      effect_runs (core.CallAlone function args) p next s places here at room low =
-          called_runs g l k runs (FlowsTo g l p (next + (arguments_size args + 2))) args (ops.Call function) (call_trusted (setting g) k function) no_result (arguments_run g l k runs args) next [] s
-          (λ m vs t x back. call_runs g l k runs m [] t function vs x.kept x.here back (omega arith)) (alone_runs (next + (arguments_size args + 2)) p) here at (omega arith) low
-      effect_runs (core.TaintedAlone import args site) p next s places here at room low =
-          called_runs g l k runs (FlowsTo g l p (next + (arguments_size args + 2))) args (ops.TaintedCall import site.place) (call_tainted (setting g) import (slice_get g.program.imports import) site) no_result (arguments_run g l k runs args) next [] s
-          (λ m vs t x back. tainted_runs g l m [] t import site vs x.here back (omega arith)) (alone_runs (next + (arguments_size args + 2)) p) here at (omega arith) low
+      effect_runs (core.CallAlone callee args) p next s places here at room low =
+          called_runs g l k runs (FlowsTo g l p (next + (arguments_size args + 2))) args callee no_result (arguments_run g l k runs args) next [] s
+          (alone_runs (next + (arguments_size args + 2)) p) here at (omega arith) (omega arith) low
       effect_runs (core.Print e) p next s places here at room low = operand_runs e ops.Print printed p next s (λ m v t x. print_runs m t p v x) here at room low
       effect_runs (core.PutByte e) p next s places here at room low = operand_runs e ops.PutByte put p next s (λ m v t x. put_runs m t p v x) here at room low
       effect_runs (core.Block inner) p next s places here at room low = effects_run inner p next s places here at room low

@@ -29,7 +29,7 @@ use Rattle.marshalling.specs.Crossing.{fits_kind}
 use Rattle.lowering_code.specs.Code.{result_kind}
 use Rattle.code_words.specs.declared.op.Op.TheVariants as ops
 use Rattle.lowering_code.specs.Images.{import_code, imports_from}
-use Rattle.lowering_code.proofs.Numbers.{word-signed, signed_fits}
+use Rattle.ckc_core.proofs.Numbers.{word-signed, signed_fits}
 use Rattle.lowering_code.proofs.Worlds.{KeptWorld, HasLeft, BeforeKeeps, SandboxKeeps, act_waits, act_keeps}
 use Rattle.lowering_code.proofs.Executions.{Execution, image, word_of, state, KeptBlocks, same_end}
 use Rattle.lowering_code.proofs.Steps.{HasAt, Leads, Asks, asks_on, Reached, Finishes, one_move, last_move, Layout, Holds, code, frame, standing, Kept, Here, kept_in, fetched}

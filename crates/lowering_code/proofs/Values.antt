@@ -5,13 +5,15 @@ use Rattle.std.specs.List.{AllByRecursion}
 use Rattle.act_words.specs.Outcome.{Gives, and_then}
 use Rattle.act_words.specs.Checks.{is_word_number}
 use Rattle.act_words.specs.declared.operator.Comparison.TheVariants as comparisons
+use Rattle.ckc_core.specs.declared.program.Callee.{Callee}
+use Rattle.ckc_core.specs.declared.program.Callee.TheVariants as callees
 use Rattle.ckc_core.specs.Core as core
 use Rattle.ckc_core.specs.States.{Value, Number, Null, At}
 use Rattle.ckc_core.specs.States as meaning
-use Rattle.ckc_core.specs.Meaning.{Result, Knot, Setting, truth, number_of_test, value, values, place, arithmetic_of, compared, negated, complemented, low_byte_of, same_place, test_given, place_in, place_through, pointer_to, load_at, call_trusted, call_tainted, result_given}
+use Rattle.ckc_core.specs.Meaning.{Result, Knot, Setting, truth, number_of_test, value, values, place, arithmetic_of, compared, negated, complemented, low_byte_of, same_place, test_given, place_through, pointer_to, load_at, called, result_given}
 use Rattle.code_words.specs.declared.op.Op.{Op}
 use Rattle.code_words.specs.declared.op.Op.TheVariants as ops
-use Rattle.lowering_code.specs.Code.{operator_code, load_code, through_code, offset_size, expression_size, arguments_size, place_size, expression_code, arguments_code, place_code}
+use Rattle.lowering_code.specs.Code.{operator_code, load_code, through_code, offset_size, expression_size, arguments_size, place_size, expression_code, arguments_code, place_code, callee_code}
 use Rattle.ckc_core.specs.Stacks.{expression_stack, arguments_stack, place_stack}
 use Rattle.lowering_code.proofs.Executions.{Execution, word_of, IsKept}
 use Rattle.lowering_code.proofs.Steps.{HasAt, has_front, has_back, Leads, leads_on, Finishes, Layout, code, Here, pushes, here_at, Arrives, Evaluates, evaluates_at}
@@ -72,16 +74,21 @@ module _ (g : Execution) (l : Layout g) where
         (right_runs m (word_of g v ∷ stack) t x.0 (has_front (code g l).ops m second (op ∷ []) back) (omega arith) (omega arith))
         (λ w u y. behind n v w u x.1 y.1 y.0 (has_back (code g l).ops m second (op ∷ []) (expression_size right) (length_expression m right) back).0 (omega (arith, stack_above left)))))
 
+    -- a call of values, whose words lie on the stack
+    callee_runs : (callee : Callee) (m : ℕ) (stack : List ℕ) (vs : List Value) (t : meaning.State) → Piles m stack vs t → HasAt (code g l).ops m (ops.Tick ∷ (callee_code callee ∷ [])) → length stack < (code g l).stack → Leads (Resumes g l (m + 1 + 1) stack) (Finishes g) (called (setting g) k callee vs t)
+    callee_runs (callees.Trusted function) m stack vs t x at room = call_runs g l k runs m stack t function vs x.kept x.here at room
+    callee_runs (callees.Tainted import site) m stack vs t x at room = tainted_runs g l m stack t import site vs x.here at room
+
     -- the arguments of a call, its instructions, and what follows the call
-    pub called_runs : {A : Type 0} (H : A → meaning.State → Type 0) (args : core.Arguments) (op : Op) (call : List Value → meaning.State → Result (Option Value)) (more : Option Value → meaning.State → Result A) → ArgumentsRun args → (next : ℕ) (stack : List ℕ) (s : meaning.State) → ((m : ℕ) (vs : List Value) (t : meaning.State) → Piles m stack vs t → HasAt (code g l).ops m (ops.Tick ∷ (op ∷ [])) → Leads (Resumes g l (m + 1 + 1) stack) (Finishes g) (call vs t)) → ((v : Option Value) (t : meaning.State) → Resumes g l (next + (arguments_size args + 2)) stack v t → Leads H (Finishes g) (more v t)) → Here g l next stack s → HasAt (code g l).ops next (arguments_code next args ++ ops.Tick ∷ (op ∷ [])) → length stack + arguments_stack args ≤ (code g l).stack → next + (arguments_size args + 2) < length (code g l).ops → Leads H (Finishes g) (and_then (values (setting g) k args s) (λ vs t. and_then (call vs t) more))
-    called_runs H args op call more args_run next stack s calls behind here at room low =
+    pub called_runs : {A : Type 0} (H : A → meaning.State → Type 0) (args : core.Arguments) (callee : Callee) (more : Option Value → meaning.State → Result A) → ArgumentsRun args → (next : ℕ) (stack : List ℕ) (s : meaning.State) → ((v : Option Value) (t : meaning.State) → Resumes g l (next + (arguments_size args + 2)) stack v t → Leads H (Finishes g) (more v t)) → Here g l next stack s → HasAt (code g l).ops next (arguments_code next args ++ ops.Tick ∷ (callee_code callee ∷ [])) → length stack < (code g l).stack → length stack + arguments_stack args ≤ (code g l).stack → next + (arguments_size args + 2) < length (code g l).ops → Leads H (Finishes g) (and_then (values (setting g) k args s) (λ vs t. and_then (called (setting g) k callee vs t) more))
+    called_runs H args callee more args_run next stack s behind here at free room low =
         let m = next + arguments_size args in
-        let last = ops.Tick ∷ (op ∷ []) in
+        let last = ops.Tick ∷ (callee_code callee ∷ []) in
         let end : m + 1 + 1 ≡ next + (arguments_size args + 2) = omega arith in
         leads_on (Piles m stack) H (Finishes g) (values (setting g) k args s) _
         (args_run next stack s here (has_front (code g l).ops next (arguments_code next args) last at) room (omega arith))
-        (λ vs t x. leads_on (Resumes g l (m + 1 + 1) stack) H (Finishes g) (call vs t) more
-        (calls m vs t x (has_back (code g l).ops next (arguments_code next args) last (arguments_size args) (length_arguments next args) at))
+        (λ vs t x. leads_on (Resumes g l (m + 1 + 1) stack) H (Finishes g) (called (setting g) k callee vs t) more
+        (callee_runs callee m stack vs t x (has_back (code g l).ops next (arguments_code next args) last (arguments_size args) (length_arguments next args) at) free)
         (λ v u y. behind v u (subst (λ n. Resumes g l n stack v u) end y)))
 
     mutual
@@ -98,23 +105,10 @@ module _ (g : Execution) (l : Layout g) where
           (leads_on (Placed g l m stack) (Arrives g l (m + 1) stack) (Finishes g) (place (setting g) k p s) (load_at type)
           (place_runs p next stack s here (has_front (code g l).ops next (place_code next p) last at) room (omega arith))
           (λ at_cell t x. load_runs g l m stack t type at_cell x (has_back (code g l).ops next (place_code next p) last (place_size p) (length_place next p) at).0 (omega (arith, place_above p))))
-      value_runs (core.AddressOf object cell offset) next stack s here at room low =
-          let m = next + (1 + offset_size offset) in
-          leads_on (Placed g l m stack) (Arrives g l m stack) (Finishes g) (place_in object cell offset s) pointer_to
-          (direct_runs g l next stack s object cell offset (slice_get s.blocks object) refl here at room)
-          (λ at_cell t x. pointer_runs g l m stack t at_cell x)
-      value_runs (core.AddressThrough pointer cell offset site) next stack s here at room low =
-          let m = next + expression_size pointer in
-          let n = m + (1 + offset_size offset) in
-          let first = expression_code next pointer in
-          let last = through_code offset site in
-          let end : n ≡ next + (expression_size pointer + (1 + offset_size offset)) = omega arith in
-          evaluates_at g l n (next + (expression_size pointer + (1 + offset_size offset))) stack (value (setting g) k (core.AddressThrough pointer cell offset site) s) end
-          (leads_on (Arrives g l m stack) (Arrives g l n stack) (Finishes g) (value (setting g) k pointer s) _
-          (value_runs pointer next stack s here (has_front (code g l).ops next first last at) (omega arith) (omega arith))
-          (λ v t x. leads_on (Placed g l n stack) (Arrives g l n stack) (Finishes g) (place_through cell offset site v t) pointer_to
-          (through_runs g l m stack t cell offset site v x.1 x.0 (has_back (code g l).ops next first last (expression_size pointer) (length_expression next pointer) at) (omega arith))
-          (λ at_cell u y. pointer_runs g l n stack u at_cell y)))
+      value_runs (core.AddressOf p) next stack s here at room low =
+          let m = next + place_size p in
+          leads_on (Placed g l m stack) (Arrives g l m stack) (Finishes g) (place (setting g) k p s) pointer_to
+          (place_runs p next stack s here at room low) (λ at_cell t x. pointer_runs g l m stack t at_cell x)
       value_runs (core.Negate operand site) next stack s here at room low =
           unary_runs operand (ops.Neg site.place) (negated site) (value_runs operand) next stack s (λ m v t. negation_runs g l m stack t site v) here at room low
       value_runs (core.Complement operand) next stack s here at room low =
@@ -157,12 +151,9 @@ module _ (g : Execution) (l : Layout g) where
           (value_runs left next stack s here (has_front (code g l).ops next (expression_code next left) rest at) (omega arith) (omega arith))
           (λ v t x. or_runs g l m n stack t v (truth v) (value (setting g) k right t) refl x.1 x.0 (back.0, (back.1.0, (back.1.1.0, tt))) (has_back (code g l).ops (m + 3) second last n (length_expression (m + 3) right) behind) (omega arith) (omega (arith, stack_above left))
           (λ inside. value_runs right (m + 3) stack t inside (has_front (code g l).ops (m + 3) second last behind) (omega arith) (omega arith))))
-      value_runs (core.Call function args) next stack s here at room low =
-          called_runs (Arrives g l (next + (arguments_size args + 2)) stack) args (ops.Call function) (call_trusted (setting g) k function) result_given (arguments_run args) next stack s
-          (λ m vs t x back. call_runs g l k runs m stack t function vs x.kept x.here back (omega arith)) (given_result (next + (arguments_size args + 2)) stack) here at (omega arith) low
-      value_runs (core.TaintedCall import args site) next stack s here at room low =
-          called_runs (Arrives g l (next + (arguments_size args + 2)) stack) args (ops.TaintedCall import site.place) (call_tainted (setting g) import (slice_get g.program.imports import) site) result_given (arguments_run args) next stack s
-          (λ m vs t x back. tainted_runs g l m stack t import site vs x.here back (omega arith)) (given_result (next + (arguments_size args + 2)) stack) here at (omega arith) low
+      value_runs (core.Call callee args) next stack s here at room low =
+          called_runs (Arrives g l (next + (arguments_size args + 2)) stack) args callee result_given (arguments_run args) next stack s
+          (given_result (next + (arguments_size args + 2)) stack) here at (omega arith) (omega arith) low
       value_runs core.NextInput next stack s here at room low = input_runs g l next stack s here at.0 (omega arith)
 
       -- the values of arguments

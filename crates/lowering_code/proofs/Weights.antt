@@ -22,8 +22,7 @@ mutual
   expression_short core.Null = omega arith
   expression_short (core.Local k) = omega arith
   expression_short (core.Load type p) = omega (arith, place_short p)
-  expression_short (core.AddressOf object cell offset) = omega (arith, offset_short offset)
-  expression_short (core.AddressThrough pointer cell offset site) = omega (arith, expression_short pointer, offset_short offset)
+  expression_short (core.AddressOf p) = place_short p
   expression_short (core.Negate operand site) = omega (arith, expression_short operand)
   expression_short (core.Complement operand) = omega (arith, expression_short operand)
   expression_short (core.Not operand) = omega (arith, expression_short operand)
@@ -33,8 +32,7 @@ mutual
   expression_short (core.AndAlso left right) = omega (arith, expression_short left, expression_short right)
   expression_short (core.OrElse left right) = omega (arith, expression_short left, expression_short right)
   expression_short (core.LowByte operand) = omega (arith, expression_short operand)
-  expression_short (core.Call function arguments) = omega (arith, arguments_short arguments)
-  expression_short (core.TaintedCall import arguments site) = omega (arith, arguments_short arguments)
+  expression_short (core.Call callee arguments) = omega (arith, arguments_short arguments)
   expression_short core.NextInput = omega arith
 
   arguments_short : (arguments : core.Arguments) → arguments_size arguments ≤ 6 * arguments_weight arguments
@@ -57,8 +55,7 @@ mutual
   statement_short (core.UpdateLocal char local operator value site) = omega (arith, expression_short value, byte_short char)
   statement_short (core.Update type p operator value site) = omega (arith, place_short p, expression_short value, byte_short (is_char type))
   statement_short (core.Evaluate value) = omega (arith, expression_short value)
-  statement_short (core.CallAlone function arguments) = omega (arith, arguments_short arguments)
-  statement_short (core.TaintedAlone import arguments site) = omega (arith, arguments_short arguments)
+  statement_short (core.CallAlone callee arguments) = omega (arith, arguments_short arguments)
   statement_short (core.Print number) = omega (arith, expression_short number)
   statement_short (core.PutByte number) = omega (arith, expression_short number)
   statement_short (core.Block inner) = omega (arith, statements_short inner)

@@ -1,13 +1,10 @@
 -- Whatever the world answers, what is left are acts and numbers of 32 bits, and a reply is a word.
-use Rattle.std.proofs.Common.{◌≡◌, ℕ, Bool, true, false, ℤ, List}
+use Rattle.std.proofs.Common.{◌≡◌, ℕ, Bool, true, false, List}
 use Rattle.std.specs.List.{AllByRecursion}
 use Rattle.act_words.specs.Acts.{Act, IsAct, IsWord, Go, Read, Write, Call, Return, Stop}
-use Rattle.act_words.specs.Checks.{is_word_number}
 use Rattle.act_words.specs.World.{World}
 use Rattle.act_words.specs.Acting.{BeforeTouch, InSandbox, lies_in, shown_if, written_if, waits_or_ends, keeps_or_ends, act_before_touch, act_in_sandbox}
-
-abbrev pub IsNumber : ℤ → Type 0
-IsNumber z = is_word_number z ≡ true
+use Rattle.ckc_core.proofs.Numbers.{IsNumber}
 
 -- each act and each input that is left is one
 pub record KeptWorld (w : World) : Type 0 where

@@ -6,6 +6,8 @@ use Rattle.pointer_modes.specs.Types.{CType, Int, Char, Struct, Pointer}
 use Rattle.act_words.specs.declared.operator.Operator.{Operator}
 use Rattle.act_words.specs.declared.operator.Operator.TheVariants as operators
 use Rattle.act_words.specs.declared.operator.Comparison.TheVariants as comparisons
+use Rattle.ckc_core.specs.declared.program.Callee.{Callee}
+use Rattle.ckc_core.specs.declared.program.Callee.TheVariants as callees
 use Rattle.ckc_core.specs.declared.program.Site.{Site}
 use Rattle.ckc_core.specs.Core as core
 use Rattle.ckc_core.specs.Meaning.{is_char}
@@ -34,6 +36,11 @@ load_code type = load_if (is_char type)
 
 abbrev pub store_code : CType → Op
 store_code type = store_if (is_char type)
+
+-- what enters a callee
+abbrev pub callee_code : Callee → Op
+callee_code (callees.Trusted function) = ops.Call function
+callee_code (callees.Tainted import site) = ops.TaintedCall import site.place
 
 -- so many bytes behind an address
 abbrev pub offset_code : ℕ → List Op
@@ -69,8 +76,7 @@ abbrev mutual
   expression_size core.Null = 1
   expression_size (core.Local local) = 1
   expression_size (core.Load type p) = place_size p + 1
-  expression_size (core.AddressOf object cell offset) = 1 + offset_size offset
-  expression_size (core.AddressThrough pointer cell offset site) = expression_size pointer + (1 + offset_size offset)
+  expression_size (core.AddressOf p) = place_size p
   expression_size (core.Negate operand site) = expression_size operand + 1
   expression_size (core.Complement operand) = expression_size operand + 1
   expression_size (core.Not operand) = expression_size operand + 1
@@ -80,8 +86,7 @@ abbrev mutual
   expression_size (core.AndAlso left right) = expression_size left + (expression_size right + 5)
   expression_size (core.OrElse left right) = expression_size left + (expression_size right + 5)
   expression_size (core.LowByte operand) = expression_size operand + 1
-  expression_size (core.Call function arguments) = arguments_size arguments + 2
-  expression_size (core.TaintedCall import arguments site) = arguments_size arguments + 2
+  expression_size (core.Call callee arguments) = arguments_size arguments + 2
   expression_size core.NextInput = 1
 
   pub arguments_size : core.Arguments → ℕ
@@ -109,8 +114,7 @@ abbrev mutual
   statement_size (core.UpdateLocal char local operator value site) = 1 + (expression_size value + (1 + (byte_size char + 1)))
   statement_size (core.Update type p operator value site) = place_size p + (2 + (expression_size value + (1 + (byte_size (is_char type) + 1))))
   statement_size (core.Evaluate value) = expression_size value + 1
-  statement_size (core.CallAlone function arguments) = arguments_size arguments + 2
-  statement_size (core.TaintedAlone import arguments site) = arguments_size arguments + 2
+  statement_size (core.CallAlone callee arguments) = arguments_size arguments + 2
   statement_size (core.Print number) = expression_size number + 1
   statement_size (core.PutByte number) = expression_size number + 1
   statement_size (core.Block inner) = statements_size inner
@@ -134,8 +138,7 @@ abbrev mutual
   expression_code at core.Null = ops.Const (pos 0) ∷ []
   expression_code at (core.Local local) = ops.Local local ∷ []
   expression_code at (core.Load type p) = place_code at p ++ load_code type ∷ []
-  expression_code at (core.AddressOf object cell offset) = address_code object offset
-  expression_code at (core.AddressThrough pointer cell offset site) = expression_code at pointer ++ through_code offset site
+  expression_code at (core.AddressOf p) = place_code at p
   expression_code at (core.Negate operand site) = expression_code at operand ++ ops.Neg site.place ∷ []
   expression_code at (core.Complement operand) = expression_code at operand ++ ops.Not ∷ []
   expression_code at (core.Not operand) = expression_code at operand ++ ops.Zero ∷ []
@@ -158,8 +161,7 @@ abbrev mutual
       ∷ ops.Jump (at + expression_size left + 3 + expression_size right + 2)
       ∷ (expression_code (at + expression_size left + 3) right ++ ops.Zero ∷ ops.Zero ∷ [])
   expression_code at (core.LowByte operand) = expression_code at operand ++ ops.Byte ∷ []
-  expression_code at (core.Call function arguments) = arguments_code at arguments ++ ops.Tick ∷ ops.Call function ∷ []
-  expression_code at (core.TaintedCall import arguments site) = arguments_code at arguments ++ ops.Tick ∷ ops.TaintedCall import site.place ∷ []
+  expression_code at (core.Call callee arguments) = arguments_code at arguments ++ ops.Tick ∷ callee_code callee ∷ []
   expression_code at core.NextInput = ops.NextInput ∷ []
 
   -- leaves the words of the arguments there, the last on top
@@ -209,8 +211,7 @@ abbrev mutual
       ∷ load_code type
       ∷ (expression_code (at + place_size cell + 2) value ++ operator_code operator site ∷ (byte_code (is_char type) ++ store_code type ∷ []))
   statement_code p at (core.Evaluate value) = expression_code at value ++ ops.Discard ∷ []
-  statement_code p at (core.CallAlone function arguments) = arguments_code at arguments ++ ops.Tick ∷ ops.Call function ∷ []
-  statement_code p at (core.TaintedAlone import arguments site) = arguments_code at arguments ++ ops.Tick ∷ ops.TaintedCall import site.place ∷ []
+  statement_code p at (core.CallAlone callee arguments) = arguments_code at arguments ++ ops.Tick ∷ callee_code callee ∷ []
   statement_code p at (core.Print number) = expression_code at number ++ ops.Print ∷ []
   statement_code p at (core.PutByte number) = expression_code at number ++ ops.PutByte ∷ []
   statement_code p at (core.Block inner) = statements_code p at inner

@@ -46,12 +46,7 @@ pub fn expression_size(expr: &Expr) -> u32
     match expr {
         Expr::Number(_) | Expr::Null | Expr::Local(_) | Expr::NextInput => 1,
         Expr::Load { cell, .. } => place_size(cell) + 1,
-        Expr::AddressOf { offset, .. } => 1 + offset_size(*offset),
-        Expr::AddressThrough {
-            pointer,
-            offset,
-            ..
-        } => expression_size(pointer) + 1 + offset_size(*offset),
+        Expr::AddressOf(cell) => place_size(cell),
         Expr::Negate { operand, .. }
         | Expr::Complement(operand)
         | Expr::Not(operand)
@@ -62,15 +57,7 @@ pub fn expression_size(expr: &Expr) -> u32
         Expr::AndAlso { left, right } | Expr::OrElse { left, right } => {
             expression_size(left) + expression_size(right) + 5
         }
-        Expr::Call {
-            function: _,
-            arguments,
-        } => arguments_size(arguments.as_slice()) + 2,
-        Expr::TaintedCall {
-            import: _,
-            arguments,
-            site: _,
-        } => arguments_size(arguments.as_slice()) + 2,
+        Expr::Call(call) => arguments_size(call.arguments.as_slice()) + 2,
     }
 }
 
@@ -154,9 +141,7 @@ pub fn statement_size(stmt: &Stmt) -> u32
                 has_one_byte(ctype),
             )
         }
-        Stmt::CallAlone { arguments, .. } | Stmt::TaintedAlone { arguments, .. } => {
-            arguments_size(arguments.as_slice()) + 2
-        }
+        Stmt::CallAlone(call) => arguments_size(call.arguments.as_slice()) + 2,
         Stmt::Block(inner) => statements_size(inner.as_slice()),
         Stmt::If {
             condition,

@@ -9,6 +9,7 @@ ghost use Rattle.lowering_code.specs.Code as code;
 use crate::code_sizes::has_one_byte;
 use act_words::operator::Operator;
 use ckc_core::program::Site;
+use ckc_core::program::{Callee};
 use ckc_text::fault::NoMemory;
 use code_words::op::Op;
 use pointer_modes::ctype::CType;
@@ -23,6 +24,19 @@ pub fn operator_op(operator: Operator, site: Site) -> Op
             place: site.place,
         },
         Operator::Bitwise(operator) => Op::Bitwise(operator),
+    }
+}
+
+/// The instruction that enters a callee.
+pub fn callee_op(callee: Callee) -> Op
+    ensures { result ≡ code.callee_code callee }
+{
+    match callee {
+        Callee::Trusted(function) => Op::Call(function),
+        Callee::Tainted { import, site } => Op::TaintedCall {
+            import,
+            place: site.place,
+        },
     }
 }
 

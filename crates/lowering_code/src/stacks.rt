@@ -25,12 +25,7 @@ fn expression_stack(expr: &Expr) -> u32
     match expr {
         Expr::Number(_) | Expr::Null | Expr::Local(_) | Expr::NextInput => 1,
         Expr::Load { cell, .. } => place_stack(cell),
-        Expr::AddressOf { offset, .. } => offset_stack(*offset),
-        Expr::AddressThrough {
-            pointer,
-            offset,
-            ..
-        } => expression_stack(pointer).max(offset_stack(*offset)),
+        Expr::AddressOf(cell) => place_stack(cell),
         Expr::Negate { operand, .. }
         | Expr::Complement(operand)
         | Expr::Not(operand)
@@ -41,15 +36,7 @@ fn expression_stack(expr: &Expr) -> u32
         Expr::AndAlso { left, right } | Expr::OrElse { left, right } => {
             expression_stack(left).max(expression_stack(right))
         }
-        Expr::Call {
-            function: _,
-            arguments,
-        } => arguments_stack(arguments.as_slice()).max(1),
-        Expr::TaintedCall {
-            import: _,
-            arguments,
-            site: _,
-        } => arguments_stack(arguments.as_slice()).max(1),
+        Expr::Call(call) => arguments_stack(call.arguments.as_slice()).max(1),
     }
 }
 
@@ -111,9 +98,7 @@ fn statement_stack(stmt: &Stmt) -> u32
         Stmt::Store { cell, value, .. } => store_stack(cell, value),
         Stmt::UpdateLocal { value, .. } => 1 + expression_stack(value),
         Stmt::Update { cell, value, .. } => place_stack(cell).max(2 + expression_stack(value)),
-        Stmt::CallAlone { arguments, .. } | Stmt::TaintedAlone { arguments, .. } => {
-            arguments_stack(arguments.as_slice())
-        }
+        Stmt::CallAlone(call) => arguments_stack(call.arguments.as_slice()),
         Stmt::Block(inner) => statements_stack(inner.as_slice()),
         Stmt::If {
             condition,

@@ -2,24 +2,23 @@
 
 ghost use Rattle.std.specs.Prelude.{◌≡◌, ◌+◌, ◌^◌, ◌<◌, ◌≤◌, [], ◌∷◌, ◌++◌, length, slice_get, Some, OnOk};
 ghost use Rattle.ckc_core.specs.declared.program.Expr.{Expr};
-ghost use Rattle.ckc_core.specs.Core.{expression, place as place_of, arguments_of};
+ghost use Rattle.ckc_core.specs.Core.{expression, place as place_of, arguments_of, AndAlso, OrElse};
 ghost use Rattle.code_words.specs.declared.op.Op.TheVariants as ops_of;
 ghost use Rattle.lowering_code.specs.Code as code;
 
 use act_words::operator::Comparison;
-use ckc_core::program::{CellPlace, Expr};
+use ckc_core::program::{CellPlace, Expr, Callee};
 use ckc_text::fault::NoMemory;
 use code_words::op::Op;
 use lowering_code::code_sizes::expression_size;
 use lowering_code::instructions::{
-    begin_and, begin_or, end_and, load_op, operator_op, put, put_two,
+    begin_and, begin_or, callee_op, end_and, load_op, operator_op, put, put_two,
 };
 use lowering_fragments::addresses::{emit_address, emit_through};
 use lowering_fragments::calls::{argument_at, put_call};
 
 /// The word of an expression's value.
 #[cycle(expressions)]
-#[tactic(auto, using(lowering_code::proofs::Emitting::right_emitted))]
 pub fn emit_expression(ops: &mut Vec<Op>, expr: &Expr) -> Result<(), NoMemory>
     requires { length ops.old.items + code.expression_size (expression expr.now) ≤ 2 ^ 31 }
     ensures { OnOk result (ops.new.items ≡ ops.old.items ++ code.expression_code (length ops.old.items) (expression expr.now)) }
@@ -32,16 +31,7 @@ pub fn emit_expression(ops: &mut Vec<Op>, expr: &Expr) -> Result<(), NoMemory>
             emit_place(ops, cell)?;
             put(ops, load_op(ctype))
         }
-        Expr::AddressOf { object, offset, .. } => emit_address(ops, *object, *offset),
-        Expr::AddressThrough {
-            pointer,
-            offset,
-            site,
-            ..
-        } => {
-            emit_expression(ops, pointer)?;
-            emit_through(ops, *offset, *site)
-        }
+        Expr::AddressOf(cell) => emit_place(ops, cell),
         Expr::Negate { operand, site } => { emit_with(ops, operand, Op::Neg { place: site.place }) }
         Expr::Complement(operand) => emit_with(ops, operand, Op::Not),
         Expr::Not(operand) => emit_with(ops, operand, Op::Zero),
@@ -50,53 +40,17 @@ pub fn emit_expression(ops: &mut Vec<Op>, expr: &Expr) -> Result<(), NoMemory>
             left,
             right,
             site,
-        } => {
-            emit_expression(ops, left)?;
-            emit_with(ops, right, operator_op(*operator, *site))
-        }
+        } => emit_two(ops, left, right, operator_op(*operator, *site)),
         Expr::Compare {
             comparison,
             left,
             right,
-        } => {
-            emit_expression(ops, left)?;
-            emit_with(ops, right, Op::Compare(*comparison))
-        }
-        Expr::Same { left, right } => {
-            emit_expression(ops, left)?;
-            emit_with(ops, right, Op::Compare(Comparison::Equal))
-        }
-        Expr::AndAlso { left, right } => {
-            emit_expression(ops, left)?;
-            begin_and(ops, expression_size(right))?;
-            emit_expression(ops, right)?;
-            end_and(ops)
-        }
-        Expr::OrElse { left, right } => {
-            emit_expression(ops, left)?;
-            begin_or(ops, expression_size(right))?;
-            emit_expression(ops, right)?;
-            put_two(ops, Op::Zero, Op::Zero)
-        }
+        } => emit_two(ops, left, right, Op::Compare(*comparison)),
+        Expr::Same { left, right } => emit_two(ops, left, right, Op::Compare(Comparison::Equal)),
+        Expr::AndAlso { left, right } => emit_and(ops, left, right),
+        Expr::OrElse { left, right } => emit_or(ops, left, right),
         Expr::LowByte(operand) => emit_with(ops, operand, Op::Byte),
-        Expr::Call {
-            function,
-            arguments,
-        } => {
-            let call = Op::Call(*function);
-            emit_call(ops, arguments.as_slice(), call)
-        }
-        Expr::TaintedCall {
-            import,
-            arguments,
-            site,
-        } => {
-            let call = Op::TaintedCall {
-                import: *import,
-                place: site.place,
-            };
-            emit_call(ops, arguments.as_slice(), call)
-        }
+        Expr::Call(call) => emit_call(ops, call.callee, call.arguments.as_slice()),
         Expr::NextInput => put(ops, Op::NextInput),
     }
 }
@@ -109,6 +63,41 @@ pub fn emit_with(ops: &mut Vec<Op>, value: &Expr, op: Op) -> Result<(), NoMemory
 {
     emit_expression(ops, value)?;
     put(ops, op)
+}
+
+// Two operands, and what is done with both.
+#[cycle(expressions)]
+#[tactic(auto, using(lowering_code::proofs::Emitting::right_emitted))]
+fn emit_two(ops: &mut Vec<Op>, left: &Expr, right: &Expr, op: Op) -> Result<(), NoMemory>
+    requires { length ops.old.items + (code.expression_size (expression left.now) + code.expression_size (expression right.now)) ≤ 2 ^ 31 }
+    ensures { OnOk result (ops.new.items ≡ ops.old.items ++ (code.expression_code (length ops.old.items) (expression left.now) ++ (code.expression_code (length ops.old.items + code.expression_size (expression left.now)) (expression right.now) ++ op ∷ []))) }
+{
+    emit_expression(ops, left)?;
+    emit_with(ops, right, op)
+}
+
+// Two operands of `&&`.
+#[cycle(expressions)]
+fn emit_and(ops: &mut Vec<Op>, left: &Expr, right: &Expr) -> Result<(), NoMemory>
+    requires { length ops.old.items + code.expression_size (AndAlso (expression left.now) (expression right.now)) ≤ 2 ^ 31 }
+    ensures { OnOk result (ops.new.items ≡ ops.old.items ++ code.expression_code (length ops.old.items) (AndAlso (expression left.now) (expression right.now))) }
+{
+    emit_expression(ops, left)?;
+    begin_and(ops, expression_size(right))?;
+    emit_expression(ops, right)?;
+    end_and(ops)
+}
+
+// Two operands of `||`.
+#[cycle(expressions)]
+fn emit_or(ops: &mut Vec<Op>, left: &Expr, right: &Expr) -> Result<(), NoMemory>
+    requires { length ops.old.items + code.expression_size (OrElse (expression left.now) (expression right.now)) ≤ 2 ^ 31 }
+    ensures { OnOk result (ops.new.items ≡ ops.old.items ++ code.expression_code (length ops.old.items) (OrElse (expression left.now) (expression right.now))) }
+{
+    emit_expression(ops, left)?;
+    begin_or(ops, expression_size(right))?;
+    emit_expression(ops, right)?;
+    put_two(ops, Op::Zero, Op::Zero)
 }
 
 // The word of the argument at a place.
@@ -135,12 +124,12 @@ pub fn emit_arguments(ops: &mut Vec<Op>, arguments: &[Expr]) -> Result<(), NoMem
 
 /// A call behind its arguments and its tick.
 #[cycle(expressions)]
-pub fn emit_call(ops: &mut Vec<Op>, arguments: &[Expr], call: Op) -> Result<(), NoMemory>
+pub fn emit_call(ops: &mut Vec<Op>, callee: Callee, arguments: &[Expr]) -> Result<(), NoMemory>
     requires { length ops.old.items + code.arguments_size (arguments_of arguments.now) ≤ 2 ^ 31 }
-    ensures { OnOk result (ops.new.items ≡ ops.old.items ++ (code.arguments_code (length ops.old.items) (arguments_of arguments.now) ++ ops_of.Tick ∷ call ∷ [])) }
+    ensures { OnOk result (ops.new.items ≡ ops.old.items ++ (code.arguments_code (length ops.old.items) (arguments_of arguments.now) ++ ops_of.Tick ∷ code.callee_code callee ∷ [])) }
 {
     emit_arguments(ops, arguments)?;
-    put_call(ops, call)
+    put_call(ops, callee_op(callee))
 }
 
 /// The address of a cell.

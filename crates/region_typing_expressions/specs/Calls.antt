@@ -1,5 +1,5 @@
 -- Inside: calls and their arguments, as the code holds them.
-use Rattle.std.specs.Prelude.{ℕ, Bool, true, false, List, [], ◌∷◌}
+use Rattle.std.specs.Prelude.{ℕ, List, [], ◌∷◌}
 use Rattle.ckc_text.specs.declared.place.Span.{Span}
 use Rattle.ckc_text.specs.declared.code.Code.TheVariants.{E14}
 use Rattle.ckc_core.specs.declared.program.Site.{Site}
@@ -9,8 +9,8 @@ use Rattle.region_typing_rules.specs.Scopes.{Scope, Signature, named, function_n
 use Rattle.ckc_tree.specs.Expressions.{Expressions}
 use Rattle.pointer_modes.specs.Types.{Int, ctype}
 use Rattle.ckc_core.specs.Core.{expression, statement}
-use Rattle.region_typing_rules.specs.Expressions.{Places, Typed, Called, Gives, GivesNothing, name_typed, converted, arguments_as, is_import}
-use Rattle.region_typing_rules.specs.Expressions.{side_number, call_of, all_typed, called as called_in, site_at}
+use Rattle.region_typing_rules.specs.Expressions.{Places, Typed, Called, Gives, GivesNothing, name_typed, converted, arguments_as}
+use Rattle.region_typing_rules.specs.Expressions.{declared_callee, call_of, all_typed, called as called_in, site_at}
 use Rattle.region_typing_expressions.specs.declared.calls.Called as code
 use Rattle.region_typing_expressions.specs.declared.calls.Called.TheVariants as calls
 use Rattle.region_typing_expressions.specs.declared.calls.Argument as code_argument
@@ -30,19 +30,10 @@ only_number [] span = breaks E14 span
 only_number (a ∷ []) span = converted a.0 Int a.1 Passes
 only_number (a ∷ b ∷ others) span = breaks E14 span
 
-abbrev pub call_value : Bool → ℕ → Site → core.Arguments → core.Expression
-call_value true number site arguments = core.TaintedCall number arguments site
-call_value false number site arguments = core.Call number arguments
-
-abbrev pub call_statement : Bool → ℕ → Site → core.Arguments → core.Statement
-call_statement true number site arguments = core.TaintedAlone number arguments site
-call_statement false number site arguments = core.CallAlone number arguments
-
 -- a call of a declared function, where the arguments convert (E13)
 abbrev pub converted_call : Scope → Signature → List (Typed × Span) → Site → Verdict Called
 converted_call s f arguments site =
-    passing (arguments_as arguments f.parameters) (λ values. Passes (call_of (is_import f)
-    (side_number (is_import f) s.functions f.name 0) f.result site values))
+    passing (arguments_as arguments f.parameters) (λ values. Passes (call_of f.result (declared_callee s f site) values))
 
 -- what a name stands for, as an expression
 abbrev pub name_verdict : Scope → ℕ → Verdict Typed

@@ -3,17 +3,17 @@
 ghost use Rattle.std.specs.Prelude.{◌≡◌, length, map, IfOk};
 ghost use Rattle.std.specs.Option.{option_map};
 ghost use Rattle.pointer_modes.specs.Types.{ctype as ctype_of};
-ghost use Rattle.ckc_core.specs.Core.{expression, arguments_of, statement, Print, PutByte};
-ghost use Rattle.region_typing_rules.specs.Expressions.{with_result as with_result_of, arguments_as as arguments_in, predefined_call as predefined_in, writes, call_of as call_in, is_checked_argument as checked_argument, without_checked as without_checked_in, crossing as crossing_in, declared_call as declared_in, called as called_in};
+ghost use Rattle.ckc_core.specs.Core.{expression, arguments_of, Print, PutByte};
+ghost use Rattle.region_typing_rules.specs.Expressions.{with_result as with_result_of, arguments_as as arguments_in, predefined_call as predefined_in, writes, callee_of as callee_in, declared_callee as declared_callee_in, call_of as call_in, is_checked_argument as checked_argument, without_checked as without_checked_in, crossing as crossing_in, declared_call as declared_in, called as called_in};
 ghost use Rattle.region_typing_rules.specs.Scopes.{function_named};
 ghost use Rattle.region_typing_scope.specs.Views.{scope as scope_of, signature};
 ghost use Rattle.region_typing_scope.specs.Answering.{Answers};
 ghost use Rattle.region_typing_rules.specs.Verdicts.{Passes};
 ghost use Rattle.region_typing_values.specs.Typed.{typed as inline_typed};
 ghost use Rattle.region_typing_values.specs.OnHeap.{typed};
-ghost use Rattle.region_typing_expressions.specs.Calls.{argument, called as called_as, converted_call, only_number, call_value, call_statement};
+ghost use Rattle.region_typing_expressions.specs.Calls.{argument, called as called_as, converted_call, only_number};
 
-use ckc_core::program::{Expr, Site, Stmt};
+use ckc_core::program::{Call, Callee, Expr, Site, Stmt};
 use ckc_names_rules::given::Given;
 use ckc_text::code::Code;
 use ckc_text::fault::NoMemory;
@@ -124,62 +124,42 @@ fn predefined(
     Err(CheckError::Unnamed)
 }
 
-// A call of a function by its number.
-fn call_of(
-    alloc: Global,
-    import: bool,
-    number: u32,
-    result_type: &Option<CType>,
-    site: Site,
-    arguments: Vec<Expr>,
-) -> Result<Called, NoMemory>
-    ensures { IfOk result (λ c. called_as c ≡ call_in import number (option_map ctype_of result_type.now) site (arguments_of arguments.items)) }
+// Whom a call enters, by the number of its function.
+fn callee_of(import: bool, number: u32, site: Site) -> Callee
+    ensures { result ≡ callee_in import number site }
+{
+    if import {
+        Callee::Tainted {
+            import: number,
+            site,
+        }
+    } else {
+        Callee::Trusted(number)
+    }
+}
+
+// A declared function as a callee.
+fn declared_callee(scope: &Scope, f: &Signature, site: Site) -> Callee
+    ensures { result ≡ declared_callee_in (scope_of scope.now) (signature f.now) site }
+{
+    let import = is_import(f);
+    callee_of(import, scope.side_number(import, f.name), site)
+}
+
+// A call as a value, or as a statement where it has no result.
+#[tactic(auto, using(ckc_core::proofs::Rows::call_value))]
+fn call_of(alloc: Global, result_type: &Option<CType>, call: Call) -> Result<Called, NoMemory>
+    ensures { IfOk result (λ c. called_as c ≡ call_in (option_map ctype_of result_type.now) call.callee (arguments_of call.arguments.items)) }
 {
     match result_type {
         Some(t) => {
-            let value = boxed(alloc, value_of_call(import, number, site, arguments))?;
+            let value = boxed(alloc, Expr::Call(call))?;
             let ctype = copied(alloc, t)?;
             Ok(Called::Gives { ctype, value })
         }
         None => {
-            let call = boxed(alloc, statement_of_call(import, number, site, arguments))?;
+            let call = boxed(alloc, Stmt::CallAlone(call))?;
             Ok(Called::GivesNothing { call })
-        }
-    }
-}
-
-// The value of a call.
-fn value_of_call(import: bool, number: u32, site: Site, arguments: Vec<Expr>) -> Expr
-    ensures { expression result ≡ call_value import number site (arguments_of arguments.items) }
-{
-    if import {
-        Expr::TaintedCall {
-            import: number,
-            arguments,
-            site,
-        }
-    } else {
-        Expr::Call {
-            function: number,
-            arguments,
-        }
-    }
-}
-
-// A call without a result.
-fn statement_of_call(import: bool, number: u32, site: Site, arguments: Vec<Expr>) -> Stmt
-    ensures { statement result ≡ call_statement import number site (arguments_of arguments.items) }
-{
-    if import {
-        Stmt::TaintedAlone {
-            import: number,
-            arguments,
-            site,
-        }
-    } else {
-        Stmt::CallAlone {
-            function: number,
-            arguments,
         }
     }
 }
@@ -232,11 +212,10 @@ fn call_with(
     requires { length arguments.items ≡ length f.now.parameters.items }
     ensures { Answers called_as (converted_call (scope_of scope.now) (signature f.now) (map argument arguments.items) site) result }
 {
-    let import = is_import(f);
     let arguments = VecDeque::from_vec(arguments);
-    let values = arguments_as(alloc, arguments, f.parameters.as_slice())?;
-    let number = scope.side_number(import, f.name);
-    Ok(call_of(alloc, import, number, &f.result, site, values)?)
+    let arguments = arguments_as(alloc, arguments, f.parameters.as_slice())?;
+    let callee = declared_callee(scope, f, site);
+    Ok(call_of(alloc, &f.result, Call { callee, arguments })?)
 }
 
 // A call of a declared function.

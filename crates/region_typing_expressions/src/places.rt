@@ -2,10 +2,9 @@
 
 ghost use Rattle.std.specs.Prelude.{◌≡◌, IfOk};
 ghost use Rattle.pointer_modes.specs.Types.{ctype as ctype_of};
-ghost use Rattle.ckc_core.specs.Core.{expression, place as place_of};
-ghost use Rattle.region_typing_rules.specs.Expressions.{dereferenced, address as address_of, pointer_to as pointer_at};
+ghost use Rattle.ckc_core.specs.Core.{place as place_of};
+ghost use Rattle.region_typing_rules.specs.Expressions.{dereferenced, address as address_of, pointer_to as pointer_at, checked_at as checked_at_of};
 ghost use Rattle.region_typing_scope.specs.Answering.{Answers};
-ghost use Rattle.region_typing_values.specs.Typed.{pointer_value};
 ghost use Rattle.region_typing_values.specs.OnHeap.{typed};
 
 use ckc_core::program::{CellPlace, Expr, Site};
@@ -53,19 +52,19 @@ fn pointer_to(
 {
     let target = Box::new(alloc, ctype)?;
     let ctype = CType::Pointer(Mode::Checked, Kind::One, target);
-    plain(alloc, ctype, pointer_of(place, site))
+    plain(alloc, ctype, Expr::AddressOf(checked_at(place, site)))
 }
 
-// The value of a pointer to a place.
-fn pointer_of(place: CellPlace, site: Site) -> Expr
-    ensures { expression result ≡ pointer_value (place_of place) site }
+// The same place, whose check names another expression.
+fn checked_at(place: CellPlace, site: Site) -> CellPlace
+    ensures { place_of result ≡ checked_at_of (place_of place) site }
 {
     match place {
         CellPlace::Direct {
             object,
             cell,
             offset,
-        } => Expr::AddressOf {
+        } => CellPlace::Direct {
             object,
             cell,
             offset,
@@ -75,7 +74,7 @@ fn pointer_of(place: CellPlace, site: Site) -> Expr
             cell,
             offset,
             ..
-        } => Expr::AddressThrough {
+        } => CellPlace::Through {
             pointer,
             cell,
             offset,

@@ -22,18 +22,21 @@ use Rattle.act_words.specs.declared.operator.BitwiseOperator.TheVariants as bits
 use Rattle.act_words.specs.declared.operator.Operator.TheVariants as operators
 use Rattle.act_words.specs.declared.operator.Comparison.{Comparison}
 use Rattle.act_words.specs.declared.operator.Comparison.TheVariants as comparisons
+use Rattle.ckc_core.specs.declared.program.Callee.{Callee}
+use Rattle.ckc_core.specs.declared.program.Callee.TheVariants as callees
 use Rattle.ckc_core.specs.Core as core
 use Rattle.ckc_core.specs.States.{same_type}
+use Rattle.ckc_core.proofs.Elements.{of_element}
 use Rattle.ckc_names_rules.specs.declared.given.Given.{Given}
 use Rattle.region_typing_rules.specs.Verdicts.{Verdict, Passes, breaks}
 use Rattle.region_typing_rules.specs.Scopes.{Scope, Signature, Named, Local, Object, Nothing, named, function_named, members_named}
 use Rattle.region_typing_rules.specs.Types.{type_named, is_number, is_pointer, are_comparable, converts}
-use Rattle.region_typing_rules.specs.Expressions.{Places, Lvalue, OfLocal, OfCell, Typed, Value, AStruct, Called, Gives, GivesNothing, site_at, number, at_place, local_typed, name_typed, member_place, member_from, offset_among, member_at, dotted, pointed_by, arrowed, pointed_at, dereferenced, pointer_to, address, number_of, scalar_of, unary_typed, is_pointer_value, two_numbers, two_scalars, summands, as_pointer, equated_values, equated, ordered_values, ordered, arithmetic, binary_typed, indexed, in_type, converted, arguments_as, is_import, side_number, call_of, first_of, writes, predefined_call, called, with_result, constant, typed, all_typed, call_typed}
+use Rattle.region_typing_rules.specs.Expressions.{Places, Lvalue, OfLocal, OfCell, Typed, Value, AStruct, Called, Gives, GivesNothing, site_at, number, at_place, local_typed, name_typed, member_place, member_from, offset_among, member_at, dotted, pointed_by, arrowed, pointed_at, dereferenced, pointer_to, address, number_of, scalar_of, unary_typed, is_pointer_value, two_numbers, two_scalars, summands, as_pointer, equated_values, equated, ordered_values, ordered, arithmetic, binary_typed, indexed, in_type, converted, arguments_as, is_import, side_number, callee_of, call_of, first_of, writes, predefined_call, called, with_result, constant, typed, all_typed, call_typed}
 use Rattle.region_typing_rules.specs.Typed as rules
-use Rattle.region_typing_rules.specs.Typed.{Frame, Stands, slots, IsPlace, HasType, HaveTypes, HasPlace, IsStatement, IsScalar, IsScalarResult}
-use Rattle.region_typing_rules.proofs.Values.{scalar_stands, of_element}
+use Rattle.region_typing_rules.specs.Typed.{Frame, Stands, slots, IsPlace, IsCallee, HasType, HaveTypes, HasPlace, IsStatement, IsScalar, IsScalarResult, IsNumberResult}
+use Rattle.region_typing_rules.proofs.Values.{scalar_stands}
 use Rattle.region_typing_rules.proofs.Verdicts.{Promises, passing_promises, needs_promises, anything_promised}
-use Rattle.region_typing_rules.proofs.Knowledge.{IsNumberType, IsNumberResult, IsTrusted, IsTainted, Knows, same_equal, StandsFor, name_stands, crossing_promises, HasMember, IfMember, member_there, member_slot}
+use Rattle.region_typing_rules.proofs.Knowledge.{IsNumberType, IsTrusted, IsTainted, Knows, same_equal, StandsFor, name_stands, crossing_promises, HasMember, IfMember, member_there, member_slot}
 use Rattle.region_typing_rules.proofs.Sizes.{size_fits}
 
 pub number_scalar : (t : CType) → is_number t ≡ true → IsScalar t
@@ -111,9 +114,9 @@ module _ (g : Frame) (types : List CType) where
 
   -- a pointer to a place
   pointer_fits : {p : core.Place} {t : CType} → HasPlace g types p t → (site : Site) → Fits (pointer_to t p site)
-  pointer_fits (rules.direct {object = object} {cell = cell} {offset = offset} {t = t} found stands at) site = plain_fits _ _ refl (rules.address_of (rules.direct found stands at))
-  pointer_fits (rules.pointed {site = before} h) site = plain_fits _ _ refl (rules.address_through {before = before} (rules.pointed h))
-  pointer_fits (rules.member {site = before} h found scalar) site = plain_fits _ _ refl (rules.address_through {before = before} (rules.member h found scalar))
+  pointer_fits (rules.direct found stands at) site = plain_fits _ _ refl (rules.address_of (rules.direct found stands at))
+  pointer_fits (rules.pointed h) site = plain_fits _ _ refl (rules.address_of (rules.pointed h))
+  pointer_fits (rules.member h found scalar) site = plain_fits _ _ refl (rules.address_of (rules.member h found scalar))
 
   address_promises : (a : Typed) (site : Site) (span : Span) → Fits a → Promises Fits (address a site span)
   address_promises (Value type zero value None) site span h = tt
@@ -285,16 +288,24 @@ module _ (g : Frame) (types : List CType) where
   crossing rules.done all = rules.done
   crossing (rules.more {e = v} {t = t} h hs) all = rules.more (as_int t v all.0 h) (crossing hs all.1)
 
-  trusted_fits : (number : ℕ) (f : Signature) (site : Site) (values : core.Arguments) (result : Option CType) → f.result ≡ result → IsTrusted g number f → HaveTypes g types values f.parameters → FitsCall (call_of false number result site values)
-  trusted_fits number f site values None e is h = λ result loop. rules.call_alone is.found (is.result ∙ e) (subst (λ ts. HaveTypes g types values ts) (sym is.parameters) h)
-  trusted_fits number f site values (Some t) e is h = (rules.call is.found (is.result ∙ e) (subst (λ ts. HaveTypes g types values ts) (sym is.parameters) h), subst IsScalarResult e is.scalar)
+  scalar_result : (result : Option CType) → IsNumberResult result → IsScalarResult result
+  scalar_result None h = tt
+  scalar_result (Some t) h = number_scalar t h
 
-  tainted_fits : (number : ℕ) (f : Signature) (site : Site) (values : core.Arguments) (result : Option CType) → f.result ≡ result → IsTainted g number f → HaveTypes g types values f.parameters → FitsCall (call_of true number result site values)
-  tainted_fits number f site values None e is h =
-      λ result loop. rules.tainted_alone is.found (is.result ∙ e) (subst (λ n. HaveTypes g types values (replicate n Int)) (sym is.parameters) (crossing h is.numbers))
-  tainted_fits number f site values (Some t) e is h =
-      let n : IsNumberType t = subst IsNumberResult e is.number_result in
-      (rules.tainted_call is.found (is.result ∙ e) n (subst (λ n. HaveTypes g types values (replicate n Int)) (sym is.parameters) (crossing h is.numbers)), number_scalar t n)
+  call_fits : (callee : Callee) (ts : List CType) (result : Option CType) (values : core.Arguments) → IsCallee g callee ts result → HaveTypes g types values ts → IsScalarResult result → FitsCall (call_of result callee values)
+  call_fits callee ts None values is h scalar = λ result loop. rules.call_alone is h
+  call_fits callee ts (Some t) values is h scalar = (rules.call is h, scalar)
+
+  trusted_callee : (number : ℕ) (f : Signature) → IsTrusted g number f → IsCallee g (callees.Trusted number) f.parameters f.result
+  trusted_callee number f is =
+      subst (λ result. IsCallee g (callees.Trusted number) f.parameters result) is.result
+      (subst (λ ts. IsCallee g (callees.Trusted number) ts is.function.result) is.parameters (rules.trusted is.found))
+
+  tainted_callee : (number : ℕ) (f : Signature) (site : Site) → IsTainted g number f → IsCallee g (callees.Tainted number site) (replicate (length f.parameters) Int) f.result
+  tainted_callee number f site is =
+      subst (λ result. IsCallee g (callees.Tainted number site) (replicate (length f.parameters) Int) result) is.result
+      (subst (λ n. IsCallee g (callees.Tainted number site) (replicate n Int) is.import.result) is.parameters
+      (rules.tainted is.found (subst IsNumberResult (sym is.result) is.number_result)))
 
   first_fits : (of : core.Expression → core.Statement) → ((v : core.Expression) (result : Option CType) (loop : Bool) → HasType g types v Int → IsStatement g types result loop (of v)) → {values : core.Arguments} → HaveTypes g types values (Int ∷ []) → (result : Option CType) (loop : Bool) → IsStatement g types result loop (first_of of values)
   first_fits of h (rules.more {e = v} typed rest) result loop = h v result loop typed
@@ -356,9 +367,15 @@ module _ (g : Frame) (types : List CType) where
 
     -- ---- calls of functions that are declared
 
-    side_fits : (name : ℕ) (f : Signature) (site : Site) (values : core.Arguments) (side : Bool) → is_import f ≡ side → function_named s.functions name ≡ Some f → HaveTypes g types values f.parameters → FitsCall (call_of side (side_number side s.functions f.name 0) f.result site values)
-    side_fits name f site values true e found h = tainted_fits (side_number true s.functions f.name 0) f site values f.result refl (knows.file.tainted name f found e) h
-    side_fits name f site values false e found h = trusted_fits (side_number false s.functions f.name 0) f site values f.result refl (knows.file.trusted name f found e) h
+    side_fits : (name : ℕ) (f : Signature) (site : Site) (values : core.Arguments) (side : Bool) → is_import f ≡ side → function_named s.functions name ≡ Some f → HaveTypes g types values f.parameters → FitsCall (call_of f.result (callee_of side (side_number side s.functions f.name 0) site) values)
+    side_fits name f site values true e found h =
+        let number = side_number true s.functions f.name 0 in
+        let is = knows.file.tainted name f found e in
+        call_fits (callees.Tainted number site) (replicate (length f.parameters) Int) f.result values (tainted_callee number f site is) (crossing h is.numbers) (scalar_result f.result is.number_result)
+    side_fits name f site values false e found h =
+        let number = side_number false s.functions f.name 0 in
+        let is = knows.file.trusted name f found e in
+        call_fits (callees.Trusted number) f.parameters f.result values (trusted_callee number f is) h is.scalar
 
     called_promises : (o : Option Signature) (name : ℕ) (arguments : List (Typed × Span)) (site : Site) (span : Span) → function_named s.functions name ≡ o → AllFit arguments → Promises FitsCall (called s o name arguments site span)
     called_promises None name arguments site span e all = predefined_promises s.given name arguments span all

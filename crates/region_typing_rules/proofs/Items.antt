@@ -32,10 +32,10 @@ use Rattle.region_typing_rules.specs.Expressions.{Places, Typed, typed, is_impor
 use Rattle.region_typing_rules.specs.Statements.{statements, with_local, is_unchecked}
 use Rattle.region_typing_rules.specs.Items as items
 use Rattle.region_typing_rules.specs.Items.{Walk, in_checked_region, is_struct, member_types, scalar_members, with_struct, member_names, signed_constant, structure, Walked, Missing, Written, Constants, initializer, object_cells, with_variable, WalkedVariable, written_size, few_bytes, room_for, room_for_first, variables, with_objects, global, listed, parameter_types, result_type, with_function, with_parameters, inside, core_function, function_body, is_defined, agrees, all_scalar, scalar_result, function_rules, signature_of, function, item}
-use Rattle.region_typing_rules.specs.Typed.{Frame, slots, Stands, IsScalar, IsScalarResult, AreStatements}
+use Rattle.region_typing_rules.specs.Typed.{Frame, slots, Stands, IsScalar, IsScalarResult, AreStatements, IsNumberResult}
 use Rattle.region_typing_rules.specs.Lowerable.{cells_size, objects_size, IsRoomy}
 use Rattle.region_typing_rules.proofs.Verdicts.{Promises, passing_promises, needs_promises, anything_promised, promised_so, both_promise, later_promises, all_promised, Extends, extends_append}
-use Rattle.region_typing_rules.proofs.Knowledge.{IsNumberType, IsNumberResult, KnowsFile}
+use Rattle.region_typing_rules.proofs.Knowledge.{IsNumberType, KnowsFile}
 use Rattle.region_typing_rules.proofs.Growth.{Grows, stays, grows_further, file_known, local_grows, statements_grow, GrowsTo}
 use Rattle.region_typing_rules.proofs.Statements.{statements_promise}
 use Rattle.region_typing_rules.proofs.Stacks.{beside_first, beside_second, around_higher, HasFew}

@@ -17,15 +17,11 @@ use Rattle.region_typing_rules.specs.Verdicts.{Verdict, meant, picked}
 use Rattle.region_typing_rules.specs.Scopes.{Scope, Signature, Variable, Visible, Named, Local, Object, Nothing, local_if, found_if, local_named, object_named, or_else, null_named, named, function_named}
 use Rattle.region_typing_rules.specs.Types.{is_number}
 use Rattle.region_typing_rules.specs.Expressions.{Typed, is_checked_argument, without_checked, crossing, is_import, side_number, member_from, offset_among}
-use Rattle.region_typing_rules.specs.Typed.{Frame, slots_from, slots, IsPlace, IsScalar, IsScalarResult}
+use Rattle.region_typing_rules.specs.Typed.{Frame, slots_from, slots, IsPlace, IsNumberResult, IsScalar, IsScalarResult}
 use Rattle.region_typing_rules.proofs.Verdicts.{Promises, needs_promises, Extends}
 
 abbrev pub IsNumberType : CType → Type 0
 IsNumberType t = is_number t ≡ true
-
-abbrev pub IsNumberResult : Option CType → Type 0
-IsNumberResult None = Unit {0}
-IsNumberResult (Some t) = IsNumberType t
 
 -- a trusted function of the program, as it was declared
 pub record IsTrusted (g : Frame) (number : ℕ) (f : Signature) : Type 0 where

@@ -22,7 +22,7 @@ use Rattle.region_typing_rules.specs.Expressions.{Places, Typed, typed, constant
 use Rattle.region_typing_rules.specs.Items.{negative, null_number, unsigned_constant, negated_of, positive_of, signed_constant, strides_from, strides_of, cell_types, numbered_cells, cells_with, Walked, Missing, Written, Constants, is_zero, number_or_break, written_cells, object_cells}
 use Rattle.region_typing_rules.specs.Typed.{Frame, Slot, slots_from, slots, Stands, HasValue, IsScalar}
 use Rattle.region_typing_rules.specs.Lowerable.{cells_size, IsRoomy}
-use Rattle.region_typing_rules.proofs.Numbers.{low_byte_small}
+use Rattle.ckc_core.proofs.Numbers.{low_byte_small}
 use Rattle.region_typing_rules.proofs.Values.{value_typed}
 use Rattle.region_typing_rules.proofs.Verdicts.{Promises, passing_promises, needs_promises, anything_promised, always_promised, Extends}
 

@@ -1,4 +1,3 @@
-pub mod Numbers
 pub mod Worlds
 pub mod Values
 pub mod Soundness

@@ -18,8 +18,9 @@ use Rattle.ckc_core.specs.Meaning.{Result, Flow, Next, Broke, Continued, Returne
 use Rattle.region_typing_rules.specs.Typed as typed
 use Rattle.region_typing_rules.specs.Typed.{Frame, HasValue, HasType, IsStatement, IsScalarResult, IsFunction, IsInitial, IsTyped}
 use Rattle.region_typing_rules.specs.NeverStuck.{NeverStuck}
-use Rattle.region_typing_rules.proofs.Numbers.{IsNumber}
-use Rattle.region_typing_rules.proofs.Values.{of_element, zero_typed, HaveValues, values_count, locals_typed, AreCells, AreBlocks}
+use Rattle.ckc_core.proofs.Numbers.{IsNumber}
+use Rattle.ckc_core.proofs.Elements.{of_element}
+use Rattle.region_typing_rules.proofs.Values.{zero_typed, HaveValues, values_count, locals_typed, AreCells, AreBlocks}
 use Rattle.region_typing_rules.proofs.Soundness.{IsAnswer, IsFlow, IsKept, Goes, goes_on, IsKnot, statement_goes, statements_go}
 
 module _ (g : Frame) (budget : ℕ) where

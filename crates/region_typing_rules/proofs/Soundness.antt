@@ -17,18 +17,20 @@ use Rattle.act_words.specs.Touches.{Asked, Got, Ended, spend_tick, enter_call, n
 use Rattle.ckc_core.specs.declared.program.Site.{Site}
 use Rattle.act_words.specs.declared.operator.Operator.{Operator}
 use Rattle.act_words.specs.declared.operator.Comparison.{Comparison}
+use Rattle.ckc_core.specs.declared.program.Callee.{Callee}
 use Rattle.pointer_modes.specs.declared.ctype.Mode.{Mode}
 use Rattle.pointer_modes.specs.declared.ctype.Kind.{Kind}
 use Rattle.pointer_modes.specs.Types.{CType, Int, Char, Struct, Pointer}
 use Rattle.ckc_core.specs.Core as core
 use Rattle.ckc_core.specs.States.{Value, Number, Null, At, Cell, State, in_world, with_cell, stands_at, stands_behind, same_type, has_type, byte_place, object_block}
-use Rattle.ckc_core.specs.Meaning.{Result, Flow, Next, Broke, Continued, Returned, Knot, Setting, given, checked, value_if, value_in, place_where, place_in, place_through, load_at, place_if, pointer_to, truth, number_of_test, same_place, test_given, result_of, arithmetic_of, compared, negated, complemented, low_byte_of, asked, words_of, reply_as, cross, cross_if, call_tainted, takes, enter_if, call_trusted, result_given, choose, value, values, place, store_if, store_over, store_at, set_local_if, set_local, pointer_of, kept_if, is_char, printed, put, on_next, behind_turn, no_result, effect, effects}
+use Rattle.ckc_core.specs.Meaning.{Result, Flow, Next, Broke, Continued, Returned, Knot, Setting, given, checked, value_if, value_in, place_where, place_in, place_through, load_at, place_if, pointer_to, truth, number_of_test, same_place, test_given, result_of, arithmetic_of, compared, negated, complemented, low_byte_of, asked, words_of, reply_as, cross, cross_if, call_tainted, takes, enter_if, call_trusted, result_given, choose, value, values, place, store_if, store_over, store_at, set_local_if, set_local, pointer_of, kept_if, is_char, printed, put, on_next, behind_turn, no_result, effect, effects, called}
 use Rattle.region_typing_rules.specs.Types.{is_number}
 use Rattle.region_typing_rules.specs.Typed as typed
-use Rattle.region_typing_rules.specs.Typed.{Frame, IsPlace, HasValue, HasType, HaveTypes, HasPlace, IsStatement, AreStatements, IsScalar, IsFunction}
-use Rattle.region_typing_rules.proofs.Numbers.{IsNumber, IfHolds, result_fits, overflow_fits, signed_fits, complement_fits, low_byte_small}
+use Rattle.region_typing_rules.specs.Typed.{Frame, IsPlace, HasValue, IsNumberResult, IsCallee, HasType, HaveTypes, HasPlace, IsStatement, AreStatements, IsScalar, IsFunction}
+use Rattle.ckc_core.proofs.Numbers.{IsNumber, IfHolds, result_fits, overflow_fits, signed_fits, complement_fits, low_byte_small}
+use Rattle.ckc_core.proofs.Elements.{of_element}
 use Rattle.region_typing_rules.proofs.Worlds.{IsWorld, Answers, Anything, IsWord, tick_answers, enter_answers, call_answers, next_answers}
-use Rattle.region_typing_rules.proofs.Values.{of_element, same_refl, value_typed, value_widened, value_number, HaveValues, values_count, value_there, values_set, AreBlocks, cells_set, blocks_set, HasCell, at_cell, scalar_cell, some_cell, member_place, stands_there, stands_further}
+use Rattle.region_typing_rules.proofs.Values.{same_refl, value_typed, value_widened, value_number, HaveValues, values_count, value_there, values_set, AreBlocks, cells_set, blocks_set, HasCell, at_cell, scalar_cell, some_cell, member_place, stands_there, stands_further}
 
 -- a result as it was declared
 abbrev pub IsAnswer : Frame → Option CType → Option Value → Type 0
@@ -207,11 +209,6 @@ module _ (g : Frame) (budget n : ℕ) where
     words_there (suc count) (Null ∷ vs) h = absurd h.0
     words_there (suc count) (At block cell ∷ vs) h = absurd h.0
 
-    -- what may come back from the sandbox
-    abbrev pub IsNumberResult : Option CType → Type 0
-    IsNumberResult None = Unit {0}
-    IsNumberResult (Some t) = is_number t ≡ true
-
     reply_goes : (low : ℕ) (s : State) (result : Option CType) (site : Site) (reply : ℕ) → IsNumberResult result → IsWord reply → IsKept low types s → Goes low types (IsAnswer g result) (reply_as result site reply s)
     reply_goes low s None site reply crosses small kept = (tt, kept)
     reply_goes low s (Some Int) site reply crosses small kept = (signed_fits reply small, kept)
@@ -241,15 +238,13 @@ module _ (g : Frame) (budget n : ℕ) where
         subst (λ o. Goes low types (IsAnswer g i.result) (call_tainted setting import o site vs s)) (sym found)
         (subst (λ yes. Goes low types (IsAnswer g i.result) (cross_if yes setting import i site vs s)) (sym test) (cross_goes low s import i site (words_of vs) words.0 words.1 crosses kept))
 
-    given_back : (low : ℕ) (s : State) (result : Option CType) (t : CType) (v : Option Value) → result ≡ Some t → IsAnswer g result v → IsKept low types s → Goes low types (HasValue g t) (result_given v s)
-    given_back low s None t v e h kept = absurd (cc)
-    given_back low s (Some u) t None e h kept = absurd h
-    given_back low s (Some u) t (Some v) e h kept = let same : u ≡ t = cc in (subst (λ x. HasValue g x v) same h, kept)
+    given_back : (low : ℕ) (s : State) (t : CType) (v : Option Value) → IsAnswer g (Some t) v → IsKept low types s → Goes low types (HasValue g t) (result_given v s)
+    given_back low s t None h kept = absurd h
+    given_back low s t (Some v) h kept = (h, kept)
 
-    nothing_back : (low : ℕ) (s : State) (result loop_result : Option CType) (loop : Bool) (v : Option Value) → result ≡ None → IsAnswer g result v → IsKept low types s → Goes low types (IsFlow g loop_result loop) (no_result v s)
-    nothing_back low s None loop_result loop None e h kept = (tt, kept)
-    nothing_back low s None loop_result loop (Some v) e h kept = absurd h
-    nothing_back low s (Some u) loop_result loop v e h kept = absurd (cc)
+    nothing_back : (low : ℕ) (s : State) (result : Option CType) (loop : Bool) (v : Option Value) → IsAnswer g None v → IsKept low types s → Goes low types (IsFlow g result loop) (no_result v s)
+    nothing_back low s result loop None h kept = (tt, kept)
+    nothing_back low s result loop (Some v) h kept = absurd h
 
   module _ (k : Knot) (is : IsKnot k) (functions : AllByRecursion (IsFunction g) g.program.functions) where
     abbrev setting : Setting
@@ -271,9 +266,13 @@ module _ (g : Frame) (budget n : ℕ) where
         let test : (f.parameters == length vs) ≡ true = grind (arith, nat_tests) in
         ap (λ (o : Option core.Function). takes o (length vs)) found ∙ test
 
-    pub call_goes : (low : ℕ) (types : List CType) (s : State) (function : ℕ) (f : core.Function) (vs : List Value) → slice_get g.program.functions function ≡ Some f → HaveValues g (take f.parameters f.locals) vs → IsKept low types s → Goes low types (IsAnswer g f.result) (call_trusted setting k function vs s)
-    call_goes low types s function f vs found h kept =
+    trusted_goes : (low : ℕ) (types : List CType) (s : State) (function : ℕ) (f : core.Function) (vs : List Value) → slice_get g.program.functions function ≡ Some f → HaveValues g (take f.parameters f.locals) vs → IsKept low types s → Goes low types (IsAnswer g f.result) (call_trusted setting k function vs s)
+    trusted_goes low types s function f vs found h kept =
         entered_goes low types s function f vs (takes (slice_get g.program.functions function) (length vs)) (takes_there function f vs found h) found h kept
+
+    called_goes : (low : ℕ) (types : List CType) (s : State) {callee : Callee} {ts : List CType} {result : Option CType} → IsCallee g callee ts result → (vs : List Value) → HaveValues g ts vs → IsKept low types s → Goes low types (IsAnswer g result) (called setting k callee vs s)
+    called_goes low types s (typed.trusted {n = function} {f = f} found) vs h kept = trusted_goes low types s function f vs found h kept
+    called_goes low types s (typed.tainted {n = import} {i = i} {site = site} found crosses) vs h kept = tainted_goes types low s import i site vs found crosses h kept
 
     -- ---- expressions
 
@@ -294,14 +293,8 @@ module _ (g : Frame) (budget n : ℕ) where
         value_goes (typed.widened {e = e} h) s kept = widened_goes low types (value setting k e s) (value_goes h s kept)
         value_goes (typed.load {t = t} {p = p} scalar h) s kept =
             goes_on low types (IsPlaced low types t) (HasValue g t) (place setting k p s) (load_at t) (place_goes h s kept) (λ at u placed u_kept. load_goes low types u t at scalar placed u_kept)
-        value_goes (typed.address_of {mode = m} {kind = d} {t = t} {object = object} {cell = cell} {offset = offset} h) s kept =
-            goes_on low types (IsPlaced low types t) (HasValue g (Pointer m d t)) (place_in object cell offset s) pointer_to (place_goes h s kept) (λ at u placed u_kept. pointer_goes low types u m d t at placed u_kept)
-        value_goes (typed.address_through {mode = m} {kind = d} {t = t} {site = site} (typed.pointed {mode = m'} {kind = d'} {e = e} h)) s kept =
-            goes_on low types (HasValue g (Pointer m' d' t)) (HasValue g (Pointer m d t)) (value setting k e s) _ (value_goes h s kept)
-            (λ v u typed u_kept. goes_on low types (IsPlaced low types t) (HasValue g (Pointer m d t)) (place_through 0 0 site v u) pointer_to (pointed_goes low types u m' d' t site v typed u_kept) (λ at w placed w_kept. pointer_goes low types w m d t at placed w_kept))
-        value_goes (typed.address_through {mode = m} {kind = d} {t = t} {site = site} (typed.member {mode = m'} {kind = d'} {e = e} {n = number} {cell = cell} {offset = offset} h found scalar)) s kept =
-            goes_on low types (HasValue g (Pointer m' d' (Struct number))) (HasValue g (Pointer m d t)) (value setting k e s) _ (value_goes h s kept)
-            (λ v u typed u_kept. goes_on low types (IsPlaced low types t) (HasValue g (Pointer m d t)) (place_through cell offset site v u) pointer_to (member_goes low types u m' d' number cell offset t site v found scalar typed u_kept) (λ at w placed w_kept. pointer_goes low types w m d t at placed w_kept))
+        value_goes (typed.address_of {mode = m} {kind = d} {t = t} {p = p} h) s kept =
+            goes_on low types (IsPlaced low types t) (HasValue g (Pointer m d t)) (place setting k p s) pointer_to (place_goes h s kept) (λ at u placed u_kept. pointer_goes low types u m d t at placed u_kept)
         value_goes (typed.negate {e = e} {site = site} h) s kept =
             goes_on low types (HasValue g Int) (HasValue g Int) (value setting k e s) (negated site) (value_goes h s kept) (λ v u typed u_kept. negated_goes low types u site v typed u_kept)
         value_goes (typed.complement {e = e} h) s kept =
@@ -325,14 +318,9 @@ module _ (g : Frame) (budget n : ℕ) where
             (λ v u typed u_kept. chosen_goes low types (HasValue g Int) (truth v) _ _ (test_goes low types u true u_kept) (truth_goes low types t' (value setting k b u) (value_goes hb u u_kept)))
         value_goes (typed.low_byte {e = e} h) s kept =
             goes_on low types (HasValue g Int) (HasValue g Char) (value setting k e s) low_byte_of (value_goes h s kept) (λ v u typed u_kept. byte_goes low types u v typed u_kept)
-        value_goes (typed.call {n = i} {f = f} {arguments = arguments} {t = t} found result h) s kept =
-            goes_on low types (HaveValues g (take f.parameters f.locals)) (HasValue g t) (values setting k arguments s) _ (values_go h s kept)
-            (λ vs u typed u_kept. goes_on low types (IsAnswer g f.result) (HasValue g t) (call_trusted setting k i vs u) result_given (call_goes low types u i f vs found typed u_kept) (λ v w answered w_kept. given_back types low w f.result t v result answered w_kept))
-        value_goes (typed.tainted_call {n = n'} {i = i} {arguments = arguments} {site = site} {t = t} found result crosses h) s kept =
-            goes_on low types (HaveValues g (replicate i.parameters Int)) (HasValue g t) (values setting k arguments s) _ (values_go h s kept)
-            (λ vs u typed u_kept. goes_on low types (IsAnswer g i.result) (HasValue g t) (call_tainted setting n' (slice_get g.program.imports n') site vs u) result_given
-            (tainted_goes types low u n' i site vs found (subst (IsNumberResult types) (sym result) crosses) typed u_kept)
-            (λ v w answered w_kept. given_back types low w i.result t v result answered w_kept))
+        value_goes (typed.call {callee = callee} {ts = ts} {arguments = arguments} {t = t} known h) s kept =
+            goes_on low types (HaveValues g ts) (HasValue g t) (values setting k arguments s) _ (values_go h s kept)
+            (λ vs u typed u_kept. goes_on low types (IsAnswer g (Some t)) (HasValue g t) (called setting k callee vs u) result_given (called_goes low types u known vs typed u_kept) (λ v w answered w_kept. given_back types low w t v answered w_kept))
         value_goes typed.next_input s kept =
             asked_goes low low types IsNumber (HasValue g Int) (next_input s.world) s _ (next_answers budget low s.world kept.world) kept.enough kept (λ z u fits u_kept. (fits, u_kept))
 
@@ -455,14 +443,9 @@ module _ (g : Frame) (budget n : ℕ) where
             (λ last y last_typed y_kept. store_goes low types y result loop t at last (number_scalar t number) placed last_typed y_kept)))))
         statement_goes {loop = loop} (typed.evaluate {e = e} {t = t} h) low s kept =
             goes_on low types (HasValue g t) (IsFlow g result loop) (value setting k e s) _ (value_goes low types h s kept) (λ v u typed u_kept. (tt, u_kept))
-        statement_goes {loop = loop} (typed.call_alone {n = i} {f = f} {arguments = arguments} found nothing h) low s kept =
-            goes_on low types (HaveValues g (take f.parameters f.locals)) (IsFlow g result loop) (values setting k arguments s) _ (values_go low types h s kept)
-            (λ vs u typed u_kept. goes_on low types (IsAnswer g f.result) (IsFlow g result loop) (call_trusted setting k i vs u) no_result (call_goes low types u i f vs found typed u_kept) (λ v w answered w_kept. nothing_back types low w f.result result loop v nothing answered w_kept))
-        statement_goes {loop = loop} (typed.tainted_alone {n = i'} {i = i} {arguments = arguments} {site = site} found nothing h) low s kept =
-            goes_on low types (HaveValues g (replicate i.parameters Int)) (IsFlow g result loop) (values setting k arguments s) _ (values_go low types h s kept)
-            (λ vs u typed u_kept. goes_on low types (IsAnswer g i.result) (IsFlow g result loop) (call_tainted setting i' (slice_get g.program.imports i') site vs u) no_result
-            (tainted_goes types low u i' i site vs found (subst (IsNumberResult types) (sym nothing) tt) typed u_kept)
-            (λ v w answered w_kept. nothing_back types low w i.result result loop v nothing answered w_kept))
+        statement_goes {loop = loop} (typed.call_alone {callee = callee} {ts = ts} {arguments = arguments} known h) low s kept =
+            goes_on low types (HaveValues g ts) (IsFlow g result loop) (values setting k arguments s) _ (values_go low types h s kept)
+            (λ vs u typed u_kept. goes_on low types (IsAnswer g None) (IsFlow g result loop) (called setting k callee vs u) no_result (called_goes low types u known vs typed u_kept) (λ v w answered w_kept. nothing_back types low w result loop v answered w_kept))
         statement_goes {loop = loop} (typed.print {e = e} h) low s kept =
             goes_on low types (HasValue g Int) (IsFlow g result loop) (value setting k e s) printed (value_goes low types h s kept) (λ v u typed u_kept. printed_goes low types result loop u v typed u_kept)
         statement_goes {loop = loop} (typed.put_byte {e = e} h) low s kept =

@@ -21,13 +21,14 @@ use Rattle.act_words.specs.declared.operator.BitwiseOperator.TheVariants as bits
 use Rattle.act_words.specs.declared.operator.Operator.TheVariants as operators
 use Rattle.act_words.specs.declared.operator.Comparison.{Comparison}
 use Rattle.act_words.specs.declared.operator.Comparison.TheVariants as comparisons
+use Rattle.ckc_core.specs.declared.program.Callee.{Callee}
 use Rattle.ckc_core.specs.Core as core
 use Rattle.ckc_core.specs.Stacks.{offset_stack, expression_stack, arguments_stack, place_stack, statement_stack}
 use Rattle.ckc_names_rules.specs.declared.given.Given.{Given}
 use Rattle.region_typing_rules.specs.Verdicts.{Verdict, Passes, breaks}
 use Rattle.region_typing_rules.specs.Scopes.{Scope, Signature, Named, Local, Object, Nothing, named, function_named, members_named}
 use Rattle.region_typing_rules.specs.Types.{type_named, is_number, is_pointer, are_comparable, converts}
-use Rattle.region_typing_rules.specs.Expressions.{Places, Lvalue, OfLocal, OfCell, Typed, Value, AStruct, Called, Gives, GivesNothing, site_at, number, at_place, local_typed, name_typed, member_place, member_from, offset_among, member_at, dotted, pointed_by, arrowed, pointed_at, dereferenced, pointer_to, address, number_of, scalar_of, unary_typed, is_pointer_value, two_numbers, two_scalars, summands, as_pointer, equated_values, equated, ordered_values, ordered, arithmetic, binary_typed, indexed, in_type, converted, arguments_as, is_import, side_number, call_of, first_of, writes, predefined_call, called, with_result, typed, all_typed, call_typed}
+use Rattle.region_typing_rules.specs.Expressions.{Places, Lvalue, OfLocal, OfCell, Typed, Value, AStruct, Called, Gives, GivesNothing, site_at, number, at_place, local_typed, name_typed, member_place, member_from, offset_among, member_at, dotted, pointed_by, arrowed, pointed_at, dereferenced, pointer_to, address, number_of, scalar_of, unary_typed, is_pointer_value, two_numbers, two_scalars, summands, as_pointer, equated_values, equated, ordered_values, ordered, arithmetic, binary_typed, indexed, in_type, converted, arguments_as, is_import, call_of, declared_callee, first_of, writes, predefined_call, called, with_result, typed, all_typed, call_typed}
 use Rattle.region_typing_rules.proofs.Knowledge.{crossing_promises}
 use Rattle.region_typing_rules.proofs.Verdicts.{Promises, passing_promises, needs_promises, anything_promised, promised_so}
 use Rattle.region_typing_rules.proofs.Signatures.{named_has}
@@ -270,11 +271,9 @@ arguments_low n (a ∷ arguments) (t ∷ ts) one all =
     (λ v low. passing_promises (λ (values : core.Arguments). arguments_stack values ≤ n + length ts) (λ (values : core.Arguments). arguments_stack values ≤ n + length (t ∷ ts)) (arguments_as arguments ts) _ (arguments_low n arguments ts one all.1)
     (λ others h. omega arith))
 
-call_low : (n number : ℕ) (tainted : Bool) (result : Option CType) (site : Site) (values : core.Arguments) → 1 ≤ n → arguments_stack values ≤ n → LowCall n (call_of tainted number result site values)
-call_low n number true (Some t) site values one h = omega arith
-call_low n number true None site values one h = h
-call_low n number false (Some t) site values one h = omega arith
-call_low n number false None site values one h = h
+call_low : (n : ℕ) (result : Option CType) (callee : Callee) (values : core.Arguments) → 1 ≤ n → arguments_stack values ≤ n → LowCall n (call_of result callee values)
+call_low n (Some t) callee values one h = omega arith
+call_low n None callee values one h = h
 
 first_low : (n : ℕ) (of : core.Expression → core.Statement) (values : core.Arguments) → ((v : core.Expression) → statement_stack (of v) ≡ expression_stack v) → arguments_stack values ≤ n → statement_stack (first_of of values) ≤ n
 first_low n of core.Done same h = omega arith
@@ -313,7 +312,7 @@ module _ (s : Scope) (few : AllByRecursion HasFew s.functions) where
       needs_promises (LowCall (n + 16)) (length f.parameters == length arguments) E14 span _
       (λ many. crossing_promises (LowCall (n + 16)) (is_import f) arguments _
       (passing_promises (λ (values : core.Arguments). arguments_stack values ≤ n + length f.parameters) (LowCall (n + 16)) (arguments_as arguments f.parameters) _ (arguments_low n arguments f.parameters one all)
-      (λ values h. let least = named_has HasFew s.functions name f few found in call_low (n + 16) (side_number (is_import f) s.functions f.name 0) (is_import f) f.result site values (omega arith) (omega arith))))
+      (λ values h. let least = named_has HasFew s.functions name f few found in call_low (n + 16) f.result (declared_callee s f site) values (omega arith) (omega arith))))
 
   -- ---- the walk
 

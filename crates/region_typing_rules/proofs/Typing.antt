@@ -21,6 +21,7 @@ use Rattle.ckc_names_rules.specs.Scopes.{Scopes, all_mentioned, at_file_level}
 use Rattle.ckc_names_rules.specs.Naming.{is_int, takes_nothing, is_main, has_main, naming_fault, names_of, named_of}
 use Rattle.ckc_core.specs.Core as core
 use Rattle.ckc_core.specs.Core.{Core}
+use Rattle.ckc_core.proofs.Elements.{of_element}
 use Rattle.region_typing_rules.specs.Verdicts.{Verdict, Passes, Stops, passing}
 use Rattle.region_typing_rules.specs.Scopes.{function_named}
 use Rattle.region_typing_rules.specs.Expressions.{Places, side_number}
@@ -30,7 +31,6 @@ use Rattle.region_typing_rules.specs.Typed.{IsFunction, IsTyped}
 use Rattle.region_typing_rules.specs.Lowerable.{IsRoomy, IsSmall, IsSmallCore}
 use Rattle.region_typing_rules.specs.NeverStuck.{HasCore}
 use Rattle.region_typing_rules.proofs.Verdicts.{Promises}
-use Rattle.region_typing_rules.proofs.Values.{of_element}
 use Rattle.region_typing_rules.proofs.Signatures.{bytes_equal, trusted_there, named_self}
 use Rattle.region_typing_rules.proofs.Walks.{IsWell, body_suits, functions_typed, objects_typed, functions_small, imports_small, frame}
 use Rattle.region_typing_rules.proofs.Items.{IsNamedMain, main_name, Passed, items_promise}

@@ -14,12 +14,6 @@ use Rattle.ckc_core.specs.States.{Value, Number, Null, At, Cell, Block, same_mod
 use Rattle.region_typing_rules.specs.Types.{is_number}
 use Rattle.region_typing_rules.specs.Typed.{Frame, Slot, slots, Stands, IsPlace, HasValue, IsScalar}
 
--- what is so of each element is so of one
-pub of_element : {X : Type 0} (P : X → Type 0) (xs : List X) (k : ℕ) (x : X) → AllByRecursion P xs → slice_get xs k ≡ Some x → P x
-of_element P [] k x all h = absurd (cc)
-of_element P (y ∷ xs) zero x all h = let e : y ≡ x = cc in subst P e all.0
-of_element P (y ∷ xs) (suc k) x all h = of_element P xs k x all.1 h
-
 -- ---- types
 
 mode_refl : (m : Mode) → same_mode m m ≡ true

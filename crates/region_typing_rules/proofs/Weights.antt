@@ -19,13 +19,14 @@ use Rattle.act_words.specs.declared.operator.BitwiseOperator.TheVariants as bits
 use Rattle.act_words.specs.declared.operator.Operator.TheVariants as operators
 use Rattle.act_words.specs.declared.operator.Comparison.{Comparison}
 use Rattle.act_words.specs.declared.operator.Comparison.TheVariants as comparisons
+use Rattle.ckc_core.specs.declared.program.Callee.{Callee}
 use Rattle.ckc_core.specs.Core as core
 use Rattle.ckc_core.specs.Weights.{expression_weight, arguments_weight, place_weight, statement_weight}
 use Rattle.ckc_names_rules.specs.declared.given.Given.{Given}
 use Rattle.region_typing_rules.specs.Verdicts.{Verdict, Passes, breaks}
 use Rattle.region_typing_rules.specs.Scopes.{Scope, Signature, Named, Local, Object, Nothing, named, function_named, members_named}
 use Rattle.region_typing_rules.specs.Types.{type_named, is_number, is_pointer, are_comparable, converts}
-use Rattle.region_typing_rules.specs.Expressions.{Places, Lvalue, OfLocal, OfCell, Typed, Value, AStruct, Called, Gives, GivesNothing, site_at, number, at_place, local_typed, name_typed, member_place, member_from, offset_among, member_at, dotted, pointed_by, arrowed, pointed_at, dereferenced, pointer_to, address, number_of, scalar_of, unary_typed, is_pointer_value, two_numbers, two_scalars, summands, as_pointer, equated_values, equated, ordered_values, ordered, arithmetic, binary_typed, indexed, in_type, converted, arguments_as, is_import, side_number, call_of, first_of, writes, predefined_call, called, with_result, typed, all_typed, call_typed}
+use Rattle.region_typing_rules.specs.Expressions.{Places, Lvalue, OfLocal, OfCell, Typed, Value, AStruct, Called, Gives, GivesNothing, site_at, number, at_place, local_typed, name_typed, member_place, member_from, offset_among, member_at, dotted, pointed_by, arrowed, pointed_at, dereferenced, pointer_to, address, number_of, scalar_of, unary_typed, is_pointer_value, two_numbers, two_scalars, summands, as_pointer, equated_values, equated, ordered_values, ordered, arithmetic, binary_typed, indexed, in_type, converted, arguments_as, is_import, call_of, declared_callee, first_of, writes, predefined_call, called, with_result, typed, all_typed, call_typed}
 use Rattle.region_typing_rules.proofs.Knowledge.{crossing_promises}
 use Rattle.region_typing_rules.proofs.Verdicts.{Promises, passing_promises, needs_promises, anything_promised, promised_so}
 
@@ -263,11 +264,9 @@ arguments_light (e.Then first others) (a ∷ arguments) (t ∷ ts) all =
     converted_light (AreLight (e.Then first others)) (5 * tree.expression_weight first) a.0 t a.1 _ (omega (arith, node_there first)) all.0
     (λ v light. passing_promises (AreLight others) (AreLight (e.Then first others)) (arguments_as arguments ts) _ (arguments_light others arguments ts all.1) (λ rest h. omega arith))
 
-call_light : (n number : ℕ) (tainted : Bool) (result : Option CType) (site : Site) (values : core.Arguments) → arguments_weight values ≤ n → LightCall (n + 2) (call_of tainted number result site values)
-call_light n number true (Some t) site values h = omega arith
-call_light n number true None site values h = omega arith
-call_light n number false (Some t) site values h = omega arith
-call_light n number false None site values h = omega arith
+call_light : (n : ℕ) (result : Option CType) (callee : Callee) (values : core.Arguments) → arguments_weight values ≤ n → LightCall (n + 2) (call_of result callee values)
+call_light n (Some t) callee values h = omega arith
+call_light n None callee values h = omega arith
 
 first_light : (n : ℕ) (of : core.Expression → core.Statement) (values : core.Arguments) → ((v : core.Expression) → statement_weight (of v) ≡ 1 + expression_weight v) → arguments_weight values ≤ n → statement_weight (first_of of values) < n + 2
 first_light n of core.Done same h = omega arith
@@ -299,7 +298,7 @@ called_light s xs (Some f) name arguments site span all =
     needs_promises (LightCall (n + 2)) (length f.parameters == length arguments) E14 span _
     (λ many. crossing_promises (LightCall (n + 2)) (is_import f) arguments _
     (passing_promises (AreLight xs) (LightCall (n + 2)) (arguments_as arguments f.parameters) _ (arguments_light xs arguments f.parameters all)
-    (λ values h. call_light n (side_number (is_import f) s.functions f.name 0) (is_import f) f.result site values h)))
+    (λ values h. call_light n f.result (declared_callee s f site) values h)))
 
 -- ---- the walk
 

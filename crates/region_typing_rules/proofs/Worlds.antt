@@ -9,7 +9,7 @@ use Rattle.act_words.specs.Acts.{Act, Go, Read, Write, Call, Return, Stop, IsAct
 use Rattle.act_words.specs.World.{World, taken_one}
 use Rattle.act_words.specs.Acting.{BeforeTouch, InSandbox, act_before_touch, act_in_sandbox, waits_or_ends, keeps_or_ends, shown_if, written_if, lies_in}
 use Rattle.act_words.specs.Touches.{Asked, Got, Ended, asking, on_from, before_touch, touch, released, on_with_reply, until_return, spent_if, spend_tick, entered_if, enter_call, tainted_call, input_from, next_input}
-use Rattle.region_typing_rules.proofs.Numbers.{IsNumber}
+use Rattle.ckc_core.proofs.Numbers.{IsNumber}
 
 -- there is nothing to say of an answer that says nothing
 abbrev pub Anything : Unit {0} → Type 0

@@ -22,6 +22,8 @@ use Rattle.act_words.specs.declared.operator.BitwiseOperator.TheVariants as bits
 use Rattle.act_words.specs.declared.operator.Operator.TheVariants as operators
 use Rattle.act_words.specs.declared.operator.Comparison.{Comparison}
 use Rattle.act_words.specs.declared.operator.Comparison.TheVariants as comparisons
+use Rattle.ckc_core.specs.declared.program.Callee.{Callee}
+use Rattle.ckc_core.specs.declared.program.Callee.TheVariants as callees
 use Rattle.ckc_core.specs.Core as core
 use Rattle.ckc_names_rules.specs.declared.given.Given.{Given}
 use Rattle.region_typing_rules.specs.Verdicts.{Verdict, Passes, Unnamed, passing, needs, breaks, picked}
@@ -132,11 +134,14 @@ abbrev pub dereferenced : Typed → Site → Span → Verdict Typed
 dereferenced (Value type zero value place) site span = pointed_at type value site span
 dereferenced (AStruct number place) site span = breaks E13 span
 
--- a pointer to a place
+-- the same place, whose check names another expression
+abbrev pub checked_at : core.Place → Site → core.Place
+checked_at (core.Direct object cell offset) site = core.Direct object cell offset
+checked_at (core.Through pointer cell offset before) site = core.Through pointer cell offset site
+
+-- a pointer to a place, whose check names the address
 abbrev pub pointer_to : CType → core.Place → Site → Typed
-pointer_to type (core.Direct object cell offset) site = Value (Pointer modes.Checked kinds.One type) false (core.AddressOf object cell offset) None
-pointer_to type (core.Through pointer cell offset before) site =
-    Value (Pointer modes.Checked kinds.One type) false (core.AddressThrough pointer cell offset site) None
+pointer_to type p site = Value (Pointer modes.Checked kinds.One type) false (core.AddressOf (checked_at p site)) None
 
 abbrev pub address_at : CType → Option Lvalue → Site → Span → Verdict Typed
 address_at type None site span = breaks E12 span
@@ -307,19 +312,25 @@ abbrev pub crossing : {A : Type 0} → Bool → List (Typed × Span) → Verdict
 crossing true arguments next = without_checked arguments next
 crossing false arguments next = next
 
-abbrev pub call_of : Bool → ℕ → Option CType → Site → core.Arguments → Called
-call_of true number (Some type) site arguments = Gives type (core.TaintedCall number arguments site)
-call_of true number None site arguments = GivesNothing (core.TaintedAlone number arguments site)
-call_of false number (Some type) site arguments = Gives type (core.Call number arguments)
-call_of false number None site arguments = GivesNothing (core.CallAlone number arguments)
+-- whom a call enters, by the number of the function among the tainted ones, or among those that aren't
+abbrev pub callee_of : Bool → ℕ → Site → Callee
+callee_of true number site = callees.Tainted number site
+callee_of false number site = callees.Trusted number
+
+abbrev pub call_of : Option CType → Callee → core.Arguments → Called
+call_of (Some type) callee arguments = Gives type (core.Call callee arguments)
+call_of None callee arguments = GivesNothing (core.CallAlone callee arguments)
+
+-- a declared function as a callee
+abbrev pub declared_callee : Scope → Signature → Site → Callee
+declared_callee s f site = callee_of (is_import f) (side_number (is_import f) s.functions f.name 0) site
 
 -- argument-count: E14. Then what crosses the boundary is asked of all arguments, and then their conversions
 abbrev pub declared_call : Scope → Signature → List (Typed × Span) → Site → Span → Verdict Called
 declared_call s f arguments site span =
     needs (length f.parameters == length arguments) E14 span
     (crossing (is_import f) arguments
-    (passing (arguments_as arguments f.parameters) (λ values. Passes (call_of (is_import f)
-    (side_number (is_import f) s.functions f.name 0) f.result site values))))
+    (passing (arguments_as arguments f.parameters) (λ values. Passes (call_of f.result (declared_callee s f site) values))))
 
 abbrev pub first_of : (core.Expression → core.Statement) → core.Arguments → core.Statement
 first_of of core.Done = core.Nothing

@@ -10,6 +10,8 @@ use Rattle.pointer_modes.specs.Layout.{Cell, cells_of}
 use Rattle.ckc_core.specs.declared.program.Site.{Site}
 use Rattle.act_words.specs.declared.operator.Operator.{Operator}
 use Rattle.act_words.specs.declared.operator.Comparison.{Comparison}
+use Rattle.ckc_core.specs.declared.program.Callee.{Callee}
+use Rattle.ckc_core.specs.declared.program.Callee.TheVariants as callees
 use Rattle.ckc_core.specs.Core as core
 use Rattle.ckc_core.specs.Core.{Core, Initial, Function, Import, Expression, Arguments, Place, Statement, Statements}
 use Rattle.ckc_core.specs.States.{Value, Number, Null, At, has_type, initial_value, object_block, byte_place}
@@ -68,6 +70,19 @@ HasValue g (Pointer mode kind target) (Number z) = ⊥
 HasValue g (Pointer mode kind target) Null = Unit {0}
 HasValue g (Pointer mode kind target) (At block cell) = IsPlace g target block cell
 
+-- ---- calls
+
+-- what may come back from the sandbox: a number, or nothing
+abbrev pub IsNumberResult : Option CType → Type 0
+IsNumberResult None = Unit {0}
+IsNumberResult (Some t) = is_number t ≡ true
+
+-- whom a call enters is there, takes arguments of these types, and has this result; only numbers cross to the sandbox and back
+pub data IsCallee (g : Frame) : Callee → List CType → Option CType → Type 0 where
+  trusted : {n : ℕ} {f : Function} → slice_get g.program.functions n ≡ Some f → IsCallee g (callees.Trusted n) (take f.parameters f.locals) f.result
+  tainted : {n : ℕ} {i : Import} {site : Site} → slice_get g.program.imports n ≡ Some i → IsNumberResult i.result
+      → IsCallee g (callees.Tainted n site) (replicate i.parameters Int) i.result
+
 -- ---- expressions
 
 mutual
@@ -80,10 +95,7 @@ mutual
     -- each char is an int
     widened : {e : Expression} → HasType g locals e Char → HasType g locals e Int
     load : {t : CType} {p : Place} → is_scalar t ≡ true → HasPlace g locals p t → HasType g locals (core.Load t p) t
-    address_of : {mode : Mode} {kind : Kind} {t : CType} {object cell offset : ℕ} → HasPlace g locals (core.Direct object cell offset) t
-        → HasType g locals (core.AddressOf object cell offset) (Pointer mode kind t)
-    address_through : {mode : Mode} {kind : Kind} {t : CType} {e : Expression} {cell offset : ℕ} {before site : Site}
-        → HasPlace g locals (core.Through e cell offset before) t → HasType g locals (core.AddressThrough e cell offset site) (Pointer mode kind t)
+    address_of : {mode : Mode} {kind : Kind} {t : CType} {p : Place} → HasPlace g locals p t → HasType g locals (core.AddressOf p) (Pointer mode kind t)
     negate : {e : Expression} {site : Site} → HasType g locals e Int → HasType g locals (core.Negate e site) Int
     complement : {e : Expression} → HasType g locals e Int → HasType g locals (core.Complement e) Int
     inverse : {e : Expression} {t : CType} → HasType g locals e t → HasType g locals (core.Not e) Int
@@ -96,11 +108,8 @@ mutual
     both : {a b : Expression} {t t' : CType} → HasType g locals a t → HasType g locals b t' → HasType g locals (core.AndAlso a b) Int
     either : {a b : Expression} {t t' : CType} → HasType g locals a t → HasType g locals b t' → HasType g locals (core.OrElse a b) Int
     low_byte : {e : Expression} → HasType g locals e Int → HasType g locals (core.LowByte e) Char
-    call : {n : ℕ} {f : Function} {arguments : Arguments} {t : CType} → slice_get g.program.functions n ≡ Some f → f.result ≡ Some t
-        → HaveTypes g locals arguments (take f.parameters f.locals) → HasType g locals (core.Call n arguments) t
-    -- only numbers cross to the sandbox and back
-    tainted_call : {n : ℕ} {i : Import} {arguments : Arguments} {site : Site} {t : CType} → slice_get g.program.imports n ≡ Some i → i.result ≡ Some t
-        → is_number t ≡ true → HaveTypes g locals arguments (replicate i.parameters Int) → HasType g locals (core.TaintedCall n arguments site) t
+    call : {callee : Callee} {ts : List CType} {arguments : Arguments} {t : CType} → IsCallee g callee ts (Some t) → HaveTypes g locals arguments ts
+        → HasType g locals (core.Call callee arguments) t
     next_input : HasType g locals core.NextInput Int
 
   -- arguments, and the types of the parameters
@@ -134,10 +143,8 @@ mutual
     update : {loop : Bool} {t : CType} {p : Place} {operator : Operator} {e : Expression} {site : Site} → is_number t ≡ true → HasPlace g locals p t
         → HasType g locals e Int → IsStatement g locals result loop (core.Update t p operator e site)
     evaluate : {loop : Bool} {e : Expression} {t : CType} → HasType g locals e t → IsStatement g locals result loop (core.Evaluate e)
-    call_alone : {loop : Bool} {n : ℕ} {f : Function} {arguments : Arguments} → slice_get g.program.functions n ≡ Some f → f.result ≡ None
-        → HaveTypes g locals arguments (take f.parameters f.locals) → IsStatement g locals result loop (core.CallAlone n arguments)
-    tainted_alone : {loop : Bool} {n : ℕ} {i : Import} {arguments : Arguments} {site : Site} → slice_get g.program.imports n ≡ Some i → i.result ≡ None
-        → HaveTypes g locals arguments (replicate i.parameters Int) → IsStatement g locals result loop (core.TaintedAlone n arguments site)
+    call_alone : {loop : Bool} {callee : Callee} {ts : List CType} {arguments : Arguments} → IsCallee g callee ts None → HaveTypes g locals arguments ts
+        → IsStatement g locals result loop (core.CallAlone callee arguments)
     print : {loop : Bool} {e : Expression} → HasType g locals e Int → IsStatement g locals result loop (core.Print e)
     put_byte : {loop : Bool} {e : Expression} → HasType g locals e Int → IsStatement g locals result loop (core.PutByte e)
     block : {loop : Bool} {xs : Statements} → AreStatements g locals result loop xs → IsStatement g locals result loop (core.Block xs)

@@ -4,7 +4,6 @@ use Rattle.ckc_text.specs.declared.place.Span.{Span}
 use Rattle.ckc_tree.specs.Types.{TypeName}
 use Rattle.pointer_modes.specs.Layout.{size_of}
 use Rattle.pointer_modes.specs.Types.{CType, Int, Char, Struct, Pointer, ctype}
-use Rattle.ckc_core.specs.declared.program.Site.{Site}
 use Rattle.ckc_core.specs.Core as core
 use Rattle.ckc_core.specs.Core.{expression, place}
 use Rattle.region_typing_rules.specs.Verdicts.{Verdict, passing}
@@ -34,11 +33,6 @@ typed (forms.Value type zero value) = Value (ctype type) zero (expression value.
 typed (forms.Local type local) = Value (ctype type) false (core.Local local) (Some (OfLocal local))
 typed (forms.Cell type at) = Value (ctype type) false (core.Load (ctype type) (place at)) (Some (OfCell (place at)))
 typed (forms.Struct struct at) = AStruct struct (struct_place at)
-
--- the value of a pointer to a place
-abbrev pub pointer_value : core.Place → Site → core.Expression
-pointer_value (core.Direct object cell offset) site = core.AddressOf object cell offset
-pointer_value (core.Through pointer cell offset before) site = core.AddressThrough pointer cell offset site
 
 -- the struct that a type is, and the one that a pointer of a type points to
 abbrev pub struct_of : CType → Option ℕ

@@ -2,8 +2,9 @@ use Rattle.std.proofs.Common.{ap, arith, rules}
 use Rattle.ckc_core.specs.declared.program.Expr.{the_lemmas}
 use Rattle.ckc_core.specs.Core.{expression}
 use Rattle.ckc_core.specs.Stacks.{expression_stack, arguments_stack}
+use Rattle.ckc_core.proofs.Rows.{call_of}
 use Rattle.lowering_code.proofs.Sizes.{stack_above}
-use Rattle.lowering_code.proofs.Slices.{call_of, tainted_call_of, arguments_drop}
+use Rattle.lowering_code.proofs.Slices.{arguments_drop}
 use Rattle.lowering_code.proofs.stacks.+stacks.Goals as goal
 
 pub arguments_stack-loop-before-preserved : goal.arguments_stack-loop-before-preserved
@@ -17,22 +18,10 @@ arguments_stack-loop-before-preserved t c =
 
 pub expression_stack-arguments_stack-requires : goal.expression_stack-arguments_stack-requires
 expression_stack-arguments_stack-requires t c =
-    let shape = call_of c.args.expr.now c.in-Call.function c.in-Call.arguments c.as_slice.result.now c.in-Call.is c.as_slice.ensures.value in
+    let shape = call_of c.args.expr.now c.in-Call.call c.as_slice.result.now c.in-Call.is c.as_slice.ensures.value in
     (search (rules, the_lemmas), omega (arith, c.requires, ap expression_stack shape))
 
 pub expression_stack-returns-in-Call : goal.expression_stack-returns-in-Call
 expression_stack-returns-in-Call t c =
-    let shape = call_of c.args.expr.now c.in-Call.function c.in-Call.arguments c.as_slice.result.now c.in-Call.is c.as_slice.ensures.value in
-    omega (arith, c.max-in-Call.ensures, c.arguments_stack.ensures, ap expression_stack shape)
-
-pub expression_stack-arguments_stack-requires-in-TaintedCall : goal.expression_stack-arguments_stack-requires-in-TaintedCall
-expression_stack-arguments_stack-requires-in-TaintedCall t c =
-    let call = c.in-TaintedCall in
-    let shape = tainted_call_of c.args.expr.now call.import call.arguments call.site c.as_slice-in-TaintedCall.result.now call.is c.as_slice-in-TaintedCall.ensures.value in
-    (search (rules, the_lemmas), omega (arith, c.requires, ap expression_stack shape))
-
-pub expression_stack-returns-in-TaintedCall : goal.expression_stack-returns-in-TaintedCall
-expression_stack-returns-in-TaintedCall t c =
-    let call = c.in-TaintedCall in
-    let shape = tainted_call_of c.args.expr.now call.import call.arguments call.site c.as_slice-in-TaintedCall.result.now call.is c.as_slice-in-TaintedCall.ensures.value in
-    omega (arith, c.max-in-TaintedCall.ensures, c.arguments_stack-in-TaintedCall.ensures, ap expression_stack shape)
+    let shape = call_of c.args.expr.now c.in-Call.call c.as_slice.result.now c.in-Call.is c.as_slice.ensures.value in
+    omega (arith, c.max.ensures, c.arguments_stack.ensures, ap expression_stack shape)

@@ -1,11 +1,11 @@
--- Numbers that operators give have 32 bits.
+-- Numbers of 32 bits and their words; the numbers that operators give have 32 bits.
 use Rattle.std.proofs.Common.{◌≡◌, ℕ, suc, ◌-◌, ◌%◌, ◌/◌, ◌^◌, ◌<◌, ◌≤◌, Bool, true, false, ℤ, ◌+ℤ◌, ◌-ℤ◌, ◌*ℤ◌, pos, negsuc, refl, ap, ◌∙◌, ⊎_elim, arith, div-le_self}
-use Rattle.std.specs.Prelude.{nat_lt, not, ◌&&◌, int_div, int_rem, unsigned_abs}
+use Rattle.std.specs.Prelude.{nat_lt, not, ◌&&◌, int_div, int_rem, unsigned_abs, FitsSigned, ◌==◌, int_le}
 use Rattle.std.specs.Int.{w32}
 use Rattle.std.specs.Int.Bits.{and_lt}
 use Rattle.std.proofs.Math.Facts.{to_z-neg}
 use Rattle.std.proofs.lemmas.Nat.{or_lt, xor_lt}
-use Rattle.std.proofs.lemmas.Int.{to_z_pos, rem_below}
+use Rattle.std.proofs.lemmas.Int.{to_z-of_z, of_z-to_z, to_z_pos, rem_below}
 use Rattle.std.proofs.lemmas.Bool.{cases_lt}
 use Rattle.std.proofs.lemmas.Bool.Decides.{nat_tests}
 use Rattle.ckc_text.specs.declared.place.Place.{Place}
@@ -27,9 +27,20 @@ use Rattle.ckc_core.specs.Meaning.{result_of}
 abbrev pub IsNumber : ℤ → Type 0
 IsNumber z = is_word_number z ≡ true
 
+pub number_fits : (z : ℤ) → is_word_number z ≡ true → FitsSigned w32 z
+number_fits (pos n) h = record { sfits = grind (arith, nat_tests) }
+number_fits (negsuc n) h = record { sfits = grind (arith, nat_tests) }
+
+pub signed-word : (z : ℤ) → is_word_number z ≡ true → signed (word z) ≡ z
+signed-word z h = to_z-of_z w32 z (number_fits z h)
+
 pub word_small : (z : ℤ) → is_word_number z ≡ true → word z < 2 ^ 32
 word_small (pos n) h = grind (arith, nat_tests)
 word_small (negsuc n) h = omega arith
+
+-- a word of 32 bits is that of its number, which has 32 bits
+pub word-signed : (w : ℕ) → w < 2 ^ 32 → word (signed w) ≡ w
+word-signed w h = of_z-to_z w32 w h
 
 pub signed_fits : (w : ℕ) → w < 2 ^ 32 → is_word_number (signed w) ≡ true
 signed_fits w h = ⊎_elim (λ low. below low) (λ high. above high) (cases_lt w (2 ^ 31))
@@ -44,6 +55,18 @@ signed_fits w h = ⊎_elim (λ low. below low) (λ high. above high) (cases_lt w
         let test : nat_lt k (2 ^ 31) ≡ true = grind (arith, nat_tests) in
         let same : w ≡ 2 ^ 32 - suc k = omega arith in
         ap (λ n. is_word_number (signed n)) same ∙ ap is_word_number (to_z-neg w32 k low) ∙ test
+
+-- a number is 0 where its word is
+pub zero_word : (z : ℤ) → is_word_number z ≡ true → (word z == 0) ≡ is_zero z
+zero_word (pos n) h = refl
+zero_word (negsuc n) h = grind (arith, nat_tests)
+
+-- two numbers are equal where their words are
+pub equal_words : (a b : ℤ) → is_word_number a ≡ true → is_word_number b ≡ true → (word a == word b) ≡ (int_le a b && int_le b a)
+equal_words (pos m) (pos n) ha hb = grind (arith, nat_tests)
+equal_words (pos m) (negsuc n) ha hb = grind (arith, nat_tests)
+equal_words (negsuc m) (pos n) ha hb = grind (arith, nat_tests)
+equal_words (negsuc m) (negsuc n) ha hb = grind (arith, nat_tests)
 
 -- numbers that shifts, remainders and complements give have 32 bits
 pub halved_fits : (z : ℤ) (count : ℕ) → is_word_number z ≡ true → is_word_number (halved z count) ≡ true
@@ -94,7 +117,7 @@ not_true true h = absurd (cc)
 not_true false h = refl
 
 -- a bitwise operator on words gives a word
-bits_small : (operator : BitwiseOperator) (a b : ℕ) → a < 2 ^ 32 → b < 2 ^ 32 → bitwise_result operator a b < 2 ^ 32
+pub bits_small : (operator : BitwiseOperator) (a b : ℕ) → a < 2 ^ 32 → b < 2 ^ 32 → bitwise_result operator a b < 2 ^ 32
 bits_small bits.And a b ha hb = and_lt 32 a b ha hb
 bits_small bits.Or a b ha hb = or_lt 32 a b ha hb
 bits_small bits.Xor a b ha hb = xor_lt 32 a b ha hb
