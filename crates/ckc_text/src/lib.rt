@@ -5,5 +5,4 @@ pub mod code;
 pub mod fault;
 pub mod line_index;
 pub mod name;
-pub mod on_heap;
 pub mod place;

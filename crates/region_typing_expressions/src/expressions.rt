@@ -142,7 +142,7 @@ pub fn typed(context: &Context, scope: &Scope, e: &Expr) -> Result<Box<Typed>, C
         } => {
             let left = typed(context, scope, left)?;
             let right = typed(context, scope, right)?;
-            binary(context, *operator, left, right, context.site(*span), *span)
+            binary(context, *operator, left, right, *span)
         }
     }
 }

@@ -1,8 +1,9 @@
 // The rules of operators.
 
+ghost use Rattle.ckc_text.specs.Places.{place_at};
 ghost use Rattle.ckc_core.specs.Core.{expression, Not};
 ghost use Rattle.region_typing_rules.specs.Verdicts.{passing};
-ghost use Rattle.region_typing_rules.specs.Expressions.{number as number_typed, unary_typed as unary_of, binary_typed as binary_of, two_numbers, two_scalars, summands, arithmetic as arithmetic_of, equated as equated_in, ordered as ordered_in, indexed as indexed_in};
+ghost use Rattle.region_typing_rules.specs.Expressions.{site_at, number as number_typed, unary_typed as unary_of, binary_typed as binary_of, two_numbers, two_scalars, summands, arithmetic as arithmetic_of, equated as equated_in, ordered as ordered_in, indexed as indexed_in};
 ghost use Rattle.region_typing_scope.specs.Answering.{Answers};
 ghost use Rattle.region_typing_values.specs.OnHeap.{typed};
 ghost use Rattle.region_typing_values.specs.Operands.{and_also, or_else};
@@ -63,10 +64,9 @@ fn arithmetic(
     operator: Operator,
     left: Box<Typed>,
     right: Box<Typed>,
-    site: Site,
     span: Span,
 ) -> Result<Box<Typed>, CheckError>
-    ensures { Answers typed (two_numbers (typed left) (typed right) span (arithmetic_of operator site)) result }
+    ensures { Answers typed (two_numbers (typed left) (typed right) span (arithmetic_of operator (site_at (place_at context.now) span))) result }
 {
     let left = number(context, left, span)?;
     let right = number(context, right, span)?;
@@ -76,7 +76,7 @@ fn arithmetic(
             operator,
             left,
             right,
-            site,
+            site: context.site(span),
         },
     )
 }
@@ -87,15 +87,14 @@ fn sum(
     operator: Operator,
     left: Box<Typed>,
     right: Box<Typed>,
-    site: Site,
     span: Span,
 ) -> Result<Box<Typed>, CheckError>
-    ensures { Answers typed (summands (typed left) (typed right) span (arithmetic_of operator site)) result }
+    ensures { Answers typed (summands (typed left) (typed right) span (arithmetic_of operator (site_at (place_at context.now) span))) result }
 {
     if has_pointer(&left, &right) {
         return Err(refusal(Code::E19, span));
     }
-    arithmetic(context, operator, left, right, site, span)
+    arithmetic(context, operator, left, right, span)
 }
 
 // The first one and the second one.
@@ -221,17 +220,16 @@ pub fn binary(
     operator: BinaryOperator,
     left: Box<Typed>,
     right: Box<Typed>,
-    site: Site,
     span: Span,
 ) -> Result<Box<Typed>, CheckError>
-    ensures { Answers typed (binary_of operator (typed left) (typed right) site span) result }
+    ensures { Answers typed (binary_of operator (typed left) (typed right) (site_at (place_at context.now) span) span) result }
 {
     match operator {
         BinaryOperator::Or => disjunction(context, left, right, span),
         BinaryOperator::And => conjunction(context, left, right, span),
-        BinaryOperator::BitOr => arithmetic(context, Operator::Or, left, right, site, span),
-        BinaryOperator::BitXor => arithmetic(context, Operator::Xor, left, right, site, span),
-        BinaryOperator::BitAnd => arithmetic(context, Operator::And, left, right, site, span),
+        BinaryOperator::BitOr => arithmetic(context, Operator::Or, left, right, span),
+        BinaryOperator::BitXor => arithmetic(context, Operator::Xor, left, right, span),
+        BinaryOperator::BitAnd => arithmetic(context, Operator::And, left, right, span),
         BinaryOperator::Equal => equal(context, left, right, span),
         BinaryOperator::NotEqual => different(context, left, right, span),
         BinaryOperator::Less => ordered(context, Comparison::Less, left, right, span),
@@ -244,40 +242,12 @@ pub fn binary(
             right,
             span,
         ),
-        BinaryOperator::ShiftLeft => arithmetic(
-            context,
-            Operator::ShiftLeft,
-            left,
-            right,
-            site,
-            span,
-        ),
-        BinaryOperator::ShiftRight => arithmetic(
-            context,
-            Operator::ShiftRight,
-            left,
-            right,
-            site,
-            span,
-        ),
-        BinaryOperator::Add => sum(context, Operator::Add, left, right, site, span),
-        BinaryOperator::Subtract => sum(context, Operator::Subtract, left, right, site, span),
-        BinaryOperator::Multiply => arithmetic(
-            context,
-            Operator::Multiply,
-            left,
-            right,
-            site,
-            span,
-        ),
-        BinaryOperator::Divide => arithmetic(context, Operator::Divide, left, right, site, span),
-        BinaryOperator::Remainder => arithmetic(
-            context,
-            Operator::Remainder,
-            left,
-            right,
-            site,
-            span,
-        ),
+        BinaryOperator::ShiftLeft => arithmetic(context, Operator::ShiftLeft, left, right, span),
+        BinaryOperator::ShiftRight => arithmetic(context, Operator::ShiftRight, left, right, span),
+        BinaryOperator::Add => sum(context, Operator::Add, left, right, span),
+        BinaryOperator::Subtract => sum(context, Operator::Subtract, left, right, span),
+        BinaryOperator::Multiply => arithmetic(context, Operator::Multiply, left, right, span),
+        BinaryOperator::Divide => arithmetic(context, Operator::Divide, left, right, span),
+        BinaryOperator::Remainder => arithmetic(context, Operator::Remainder, left, right, span),
     }
 }

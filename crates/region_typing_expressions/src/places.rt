@@ -50,7 +50,7 @@ fn pointer_to(
 ) -> Result<Box<Typed>, NoMemory>
     ensures { IfOk result (λ t. typed t ≡ pointer_at (ctype_of ctype) (place_of place) site) }
 {
-    let target = Box::new(context.alloc(), ctype)?;
+    let target = context.boxed(ctype)?;
     let ctype = CType::Pointer(Mode::Checked, Kind::One, target);
     plain(context, ctype, pointer_of(place, site))
 }

@@ -6,6 +6,7 @@ mod filling;
 mod locals;
 pub mod lookups;
 pub mod number_table;
+pub mod on_heap;
 pub mod refusals;
 pub mod scope;
 pub mod sides;

@@ -25,7 +25,7 @@ pub fn copied(context: &Context, t: &CType) -> Result<CType, NoMemory>
         CType::Char => Ok(CType::Char),
         CType::Struct(number) => Ok(CType::Struct(*number)),
         CType::Pointer(mode, kind, target) => {
-            let target = Box::new(context.alloc(), copied(context, target)?)?;
+            let target = context.boxed(copied(context, target)?)?;
             Ok(CType::Pointer(*mode, *kind, target))
         }
     }
@@ -190,7 +190,7 @@ pub fn base_type(context: &Context, scope: &Scope, base: &TypeForm) -> Result<CT
         } => {
             let target = base_type(context, scope, element)?;
             let target = without_stars(element, *stars, target)?;
-            let target = Box::new(context.alloc(), target)?;
+            let target = context.boxed(target)?;
             Ok(CType::Pointer(mode_of(word.mode), kind_of(word.kind), target))
         }
     }
