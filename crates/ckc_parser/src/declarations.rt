@@ -14,7 +14,7 @@ ghost use Rattle.ckc_parser_grammar.specs.StuckStatements.{step_word, assignment
 ghost use Rattle.ckc_parser.specs.StatementReadings.{SpellsAssigned, StuckAssigned};
 
 use ckc_lexer_tokens::token::{Token, TokenKind};
-use ckc_parser_cursor::depth::MAX_DEPTH;
+use ckc_parser_cursor::depth::Depth;
 use ckc_parser_cursor::memory::push;
 use ckc_parser_cursor::spans::join;
 use ckc_parser_cursor::stuck::Stuck;
@@ -65,8 +65,7 @@ pub fn from_first(tokens: &[Token], last: Span) -> Span
 
 /// Bounds behind a colon, where one stands next. The span is that of the whole so far, and with the bounds.
 pub fn optional_bounds(
-    alloc: Global,
-    depth: u32,
+    depth: Depth,
     so_far: Span,
     tokens: &mut &[Token],
 ) -> Result<Read<Option<BoundsText>>, Stuck>
@@ -78,7 +77,7 @@ pub fn optional_bounds(
         let span = so_far;
         return Ok(Read { form, span });
     };
-    let read = bounds(alloc, depth, tokens)?;
+    let read = bounds(depth, tokens)?;
     let span = join(so_far, read.span);
     let form = Some(read.text);
     Ok(Read { form, span })
@@ -143,8 +142,7 @@ fn constants(alloc: Global, tokens: &mut &[Token]) -> Result<Read<Vec<SignedCons
 /// What a variable is initialised with, where an equals sign stands next. The span is that of the whole so far, and with
 /// it.
 fn optional_initializer(
-    alloc: Global,
-    depth: u32,
+    depth: Depth,
     so_far: Span,
     tokens: &mut &[Token],
 ) -> Result<Read<Option<Initializer>>, Stuck>
@@ -157,31 +155,31 @@ fn optional_initializer(
         return Ok(Read { form, span });
     };
     if let Ok(start) = open_brace(tokens) {
-        let read = constants(alloc, tokens)?;
+        let read = constants(depth.alloc(), tokens)?;
         let constants = read.form;
         let span = join(start, read.span);
         let form = Some(Initializer::List { constants, span });
         let span = join(so_far, read.span);
         return Ok(Read { form, span });
     }
-    let read = expression(alloc, depth, tokens)?;
+    let read = expression(depth, tokens)?;
     let span = join(so_far, read.outer);
     let form = Some(Initializer::Value { value: read.expr });
     Ok(Read { form, span })
 }
 
 /// One variable of a declaration.
-fn declarator(alloc: Global, depth: u32, tokens: &mut &[Token]) -> Result<Declarator, Stuck>
+fn declarator(depth: Depth, tokens: &mut &[Token]) -> Result<Declarator, Stuck>
     requires { depth ≤ 200 }
     ensures { Reads (λ x rest. SpellsDeclarator tokens.old.now (views.declarator x) rest × IsLow depth (declarator_reach (views.declarator x))) (StuckDeclarator depth tokens.old.now) result tokens.new.now }
 {
     let whole: &[Token] = *tokens;
     let stars = stars(tokens);
-    let name = identifier(alloc, tokens)?;
+    let name = identifier(depth.alloc(), tokens)?;
     let so_far = from_first(whole, name.span);
     let array = optional_array(so_far, tokens)?;
-    let bounds = optional_bounds(alloc, depth, array.span, tokens)?;
-    let initializer = optional_initializer(alloc, depth, bounds.span, tokens)?;
+    let bounds = optional_bounds(depth, array.span, tokens)?;
+    let initializer = optional_initializer(depth, bounds.span, tokens)?;
     let declarator = Declarator {
         stars,
         name,
@@ -194,17 +192,13 @@ fn declarator(alloc: Global, depth: u32, tokens: &mut &[Token]) -> Result<Declar
 }
 
 /// At least one variable, and all that stand here. The span is that of the last.
-pub fn declarators(
-    alloc: Global,
-    depth: u32,
-    tokens: &mut &[Token],
-) -> Result<Read<Vec<Declarator>>, Stuck>
+pub fn declarators(depth: Depth, tokens: &mut &[Token]) -> Result<Read<Vec<Declarator>>, Stuck>
     requires { depth ≤ 200 }
     ensures { Reads (λ x rest. SpellsDeclarators tokens.old.now (map views.declarator x.form.items) x.span rest × IsLow depth (declarators_reach (map views.declarator x.form.items))) (StuckDeclarators depth tokens.old.now) result tokens.new.now }
 {
-    let mut form = Vec::new(alloc);
+    let mut form = Vec::new(depth.alloc());
     'declarators: loop {
-        let item = declarator(alloc, depth, tokens)?;
+        let item = declarator(depth, tokens)?;
         let span = item.span;
         push(&mut form, item)?;
         let Ok(_) = comma(tokens) else {
@@ -214,17 +208,15 @@ pub fn declarators(
 }
 
 /// A declaration with at most `depth` nodes around it.
-pub fn declaration(alloc: Global, depth: u32, tokens: &mut &[Token]) -> Result<Declaration, Stuck>
+pub fn declaration(depth: Depth, tokens: &mut &[Token]) -> Result<Declaration, Stuck>
     requires low { depth ≤ 200 }
     requires typed { next_is type_word tokens.old.now ≡ true }
     ensures { Reads (λ x rest. SpellsDeclaration tokens.old.now (views.declaration x) rest × IsLow depth (around x.span.from (declared_reach (views.declaration x)))) (StuckDeclaration depth tokens.old.now) result tokens.new.now }
 {
-    if depth >= MAX_DEPTH {
-        let start = start_of(tokens);
-        return Err(Stuck::TooDeep { start });
-    }
-    let base = type_form(alloc, depth + 1, tokens)?;
-    let declarators = declarators(alloc, depth + 1, tokens)?;
+    depth.check(start_of(tokens))?;
+    let below = depth.deeper();
+    let base = type_form(below, tokens)?;
+    let declarators = declarators(below, tokens)?;
     let base = base.form;
     let span = join(base.span(), declarators.span);
     let declarators = declarators.form;
@@ -244,7 +236,7 @@ pub fn starts_assignment(kind: &TokenKind) -> bool
 }
 
 /// An assignment with at most `depth` nodes around it.
-pub fn assignment(alloc: Global, depth: u32, tokens: &mut &[Token]) -> Result<Assignment, Stuck>
+pub fn assignment(depth: Depth, tokens: &mut &[Token]) -> Result<Assignment, Stuck>
     requires { depth ≤ 200 }
     ensures { Reads (λ x rest. SpellsAssignment tokens.old.now (views.assignment x) rest × IsLow depth (assignment_reach (views.assignment x))) (StuckAssignment depth tokens.old.now) result tokens.new.now }
 {
@@ -254,26 +246,19 @@ pub fn assignment(alloc: Global, depth: u32, tokens: &mut &[Token]) -> Result<As
     if !starts_assignment(&token.kind) {
         return Err(Stuck::Unexpected);
     }
-    if depth >= MAX_DEPTH {
-        let start = token.span.from;
-        return Err(Stuck::TooDeep { start });
-    }
+    depth.check(token.span.from)?;
+    let below = depth.deeper();
     if let Ok((operator, start)) = step_operator(tokens) {
-        let read = unary(alloc, depth + 1, tokens)?;
+        let read = unary(below, tokens)?;
         let span = join(start, read.outer);
         return Ok(step(operator, StepSide::Before, read.expr, span));
     }
-    let target = unary(alloc, depth + 1, tokens)?;
-    assigned(alloc, depth, target, tokens)
+    let target = unary(below, tokens)?;
+    assigned(depth, target, tokens)
 }
 
 /// The assignment to a target that is read.
-pub fn assigned(
-    alloc: Global,
-    depth: u32,
-    read: Operand,
-    tokens: &mut &[Token],
-) -> Result<Assignment, Stuck>
+pub fn assigned(depth: Depth, read: Operand, tokens: &mut &[Token]) -> Result<Assignment, Stuck>
     requires deep { depth < 200 }
     requires low { IsLow (suc depth) (expression_reach (expression read.expr.value)) }
     ensures { Reads (λ x rest. SpellsAssigned (expression read.expr.value) read.outer tokens.old.now (views.assignment x) rest × IsLow depth (assignment_reach (views.assignment x))) (StuckAssigned depth tokens.old.now) result tokens.new.now }
@@ -283,7 +268,7 @@ pub fn assigned(
         return Ok(step(operator, StepSide::After, read.expr, span));
     }
     let (operator, _) = store_operator(tokens)?;
-    let stored = expression(alloc, depth + 1, tokens)?;
+    let stored = expression(depth.deeper(), tokens)?;
     let span = join(read.outer, stored.outer);
     Ok(store(operator, read.expr, stored.expr, span))
 }

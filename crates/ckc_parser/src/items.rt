@@ -21,6 +21,7 @@ ghost use Rattle.ckc_parser.specs.ItemReadings.{IsScope, IsKindWord, SideAnswers
 use crate::declarations::{Read, declarators, from_first, optional_bounds};
 use crate::statements::statements;
 use ckc_lexer_tokens::token::{CheckedScope, Token, TokenKind};
+use ckc_parser_cursor::depth::Depth;
 use ckc_parser_cursor::memory::push;
 use ckc_parser_cursor::spans::join;
 use ckc_parser_cursor::stuck::Stuck;
@@ -192,7 +193,7 @@ fn unmarked(
         *tokens = rest;
         return structure(alloc, whole, tainted, tag, span, tokens);
     }
-    let base = type_form(alloc, 0, tokens)?;
+    let base = type_form(Depth::new(alloc), tokens)?;
     let mut ahead: &[Token] = *tokens;
     match named(&mut ahead) {
         Ok(named) => {
@@ -215,7 +216,7 @@ fn variables(
     requires { IsBase whole.now tainted (type_tree base) tokens.old.now }
     ensures { Reads (λ x rest. SpellsItem whole.now (views.item x) rest × IsLow 0 (item_reach (views.item x))) (StuckItem whole.now) result tokens.new.now }
 {
-    let read = declarators(alloc, 0, tokens)?;
+    let read = declarators(Depth::new(alloc), tokens)?;
     let end = semicolon(tokens)?;
     let declarators = read.form;
     let span = from_first(whole, end);
@@ -277,10 +278,11 @@ fn member(alloc: Global, tokens: &mut &[Token]) -> Result<Member, Stuck>
     ensures { Reads (λ x rest. SpellsMember tokens.old.now (type_name x.type_name) x.name (option_map bounds x.bounds) x.span rest × IsLowMember (type_name x.type_name) (option_map bounds x.bounds)) (StuckMember tokens.old.now) result tokens.new.now }
 {
     let whole: &[Token] = *tokens;
-    let read = type_name(alloc, 0, tokens)?;
+    let outermost = Depth::new(alloc);
+    let read = type_name(outermost, tokens)?;
     let name = identifier(alloc, tokens)?;
     let so_far = from_first(whole, name.span);
-    let bounds = optional_bounds(alloc, 0, so_far, tokens)?;
+    let bounds = optional_bounds(outermost, so_far, tokens)?;
     let member = Member {
         type_name: read.type_name,
         name,
@@ -333,7 +335,7 @@ fn returned(alloc: Global, tokens: &mut &[Token]) -> Result<ResultForm, Stuck>
     if let Ok(span) = void_word(tokens) {
         return Ok(ResultForm::Void { span });
     }
-    let base = type_form(alloc, 0, tokens)?;
+    let base = type_form(Depth::new(alloc), tokens)?;
     Ok(ResultForm::Value { base: base.form })
 }
 
@@ -353,7 +355,7 @@ fn function(
     let name = copied(alloc, named.name, named.span)?;
     let parameters = parameters(alloc, tokens)?;
     let so_far = from_first(whole, parameters.span);
-    let bounds = optional_bounds(alloc, 0, so_far, tokens)?;
+    let bounds = optional_bounds(Depth::new(alloc), so_far, tokens)?;
     let body = body(alloc, tokens)?;
     let function = Function {
         kind,
@@ -427,7 +429,7 @@ fn body(alloc: Global, tokens: &mut &[Token]) -> Result<Read<Option<Block>>, Stu
     let whole: &[Token] = *tokens;
     let mark = optional_mark(tokens);
     open_brace(tokens)?;
-    let read = statements(alloc, 1, tokens)?;
+    let read = statements(Depth::new(alloc).deeper(), tokens)?;
     let statements = read.form;
     let span = from_first(whole, read.span);
     let form = Some(Block {

@@ -18,7 +18,7 @@ ghost use Rattle.ckc_parser.specs.StatementReadings.{SpellsCondition, SpellsEnd,
 use crate::declarations::{Read, assigned, assignment, declaration, starts_assignment};
 use ckc_lexer_tokens::token::{Token, TokenKind};
 use ckc_parser_cursor::alternative::else_word;
-use ckc_parser_cursor::depth::MAX_DEPTH;
+use ckc_parser_cursor::depth::Depth;
 use ckc_parser_cursor::memory::{boxed, push};
 use ckc_parser_cursor::spans::join;
 use ckc_parser_cursor::stuck::Stuck;
@@ -60,7 +60,7 @@ fn starts_statement(kind: &TokenKind) -> bool
 
 /// A statement with at most `depth` nodes around it.
 #[cycle(statements)]
-pub fn statement(alloc: Global, depth: u32, tokens: &mut &[Token]) -> Result<Box<Stmt>, Stuck>
+pub fn statement(depth: Depth, tokens: &mut &[Token]) -> Result<Box<Stmt>, Stuck>
     requires { depth ≤ 200 }
     ensures { Reads (λ x rest. SpellsStatement tokens.old.now (views.statement x.value) rest × IsLow depth (statement_reach (views.statement x.value))) (StuckStatement depth tokens.old.now) result tokens.new.now }
 {
@@ -70,34 +70,32 @@ pub fn statement(alloc: Global, depth: u32, tokens: &mut &[Token]) -> Result<Box
     if !starts_statement(&token.kind) {
         return Err(Stuck::Unexpected);
     }
-    if depth >= MAX_DEPTH {
-        let start = token.span.from;
-        return Err(Stuck::TooDeep { start });
-    }
+    depth.check(token.span.from)?;
     if starts_type(&token.kind) {
-        return declared(alloc, depth, tokens);
+        return declared(depth, tokens);
     }
     if starts_assignment(&token.kind) {
-        return stored_or_called(alloc, depth, tokens);
+        return stored_or_called(depth, tokens);
     }
-    plain(alloc, depth, tokens)
+    plain(depth, tokens)
 }
 
 /// A statement that begins with none of a type, an expression or an assignment.
 #[cycle(statements)]
-fn plain(alloc: Global, depth: u32, tokens: &mut &[Token]) -> Result<Box<Stmt>, Stuck>
+fn plain(depth: Depth, tokens: &mut &[Token]) -> Result<Box<Stmt>, Stuck>
     requires deep { depth < 200 }
     requires word { next_is plain_word tokens.old.now ≡ true }
     ensures { Reads (λ x rest. SpellsStatement tokens.old.now (views.statement x.value) rest × IsLow depth (statement_reach (views.statement x.value))) (StuckStatement depth tokens.old.now) result tokens.new.now }
 {
+    let below = depth.deeper();
     if let Ok((mark, start)) = mark(tokens) {
         open_brace(tokens)?;
-        let read = statements(alloc, depth + 1, tokens)?;
-        return Ok(boxed(alloc, block(Some(mark), start, read))?);
+        let read = statements(below, tokens)?;
+        return Ok(depth.boxed(block(Some(mark), start, read))?);
     }
     if let Ok(start) = open_brace(tokens) {
-        let inner = statements(alloc, depth + 1, tokens)?;
-        return Ok(boxed(alloc, block(None, start, inner))?);
+        let inner = statements(below, tokens)?;
+        return Ok(depth.boxed(block(None, start, inner))?);
     }
     let Some((token, rest)) = tokens.split_first() else {
         return Err(Stuck::Unexpected);
@@ -105,14 +103,14 @@ fn plain(alloc: Global, depth: u32, tokens: &mut &[Token]) -> Result<Box<Stmt>, 
     let start = token.span;
     *tokens = rest;
     match &token.kind {
-        TokenKind::Bundled => bundle(alloc, depth, start, tokens),
-        TokenKind::If => if_statement(alloc, depth, start, tokens),
-        TokenKind::While => while_statement(alloc, depth, start, tokens),
-        TokenKind::For => for_statement(alloc, depth, start, tokens),
-        TokenKind::Return => return_statement(alloc, depth, start, tokens),
-        TokenKind::Break => jump(alloc, true, start, tokens),
-        TokenKind::Continue => jump(alloc, false, start, tokens),
-        TokenKind::Semicolon => Ok(boxed(alloc, Stmt::Empty { span: start })?),
+        TokenKind::Bundled => bundle(depth, start, tokens),
+        TokenKind::If => if_statement(depth, start, tokens),
+        TokenKind::While => while_statement(depth, start, tokens),
+        TokenKind::For => for_statement(depth, start, tokens),
+        TokenKind::Return => return_statement(depth, start, tokens),
+        TokenKind::Break => jump(depth.alloc(), true, start, tokens),
+        TokenKind::Continue => jump(depth.alloc(), false, start, tokens),
+        TokenKind::Semicolon => Ok(depth.boxed(Stmt::Empty { span: start })?),
         _ => Err(Stuck::Unexpected),
     }
 }
@@ -144,20 +142,16 @@ fn jumped(is_break: bool, span: Span) -> Stmt
 
 /// The statements of a block, and the brace behind them, whose span is given.
 #[cycle(statements)]
-pub fn statements(
-    alloc: Global,
-    depth: u32,
-    tokens: &mut &[Token],
-) -> Result<Read<Vec<Stmt>>, Stuck>
+pub fn statements(depth: Depth, tokens: &mut &[Token]) -> Result<Read<Vec<Stmt>>, Stuck>
     requires { depth ≤ 200 }
     ensures { Reads (λ x rest. SpellsStatements tokens.old.now (statement_list x.form.items) x.span rest × IsLow depth (statements_reach (statement_list x.form.items))) (StuckStatements depth tokens.old.now) result tokens.new.now }
 {
-    let mut form = Vec::new(alloc);
+    let mut form = Vec::new(depth.alloc());
     'statements: loop {
         if let Ok(span) = close_brace(tokens) {
             return Ok(Read { form, span });
         }
-        let item = statement(alloc, depth, tokens)?;
+        let item = statement(depth, tokens)?;
         push(&mut form, Box::into_inner(item))?;
     }
 }
@@ -176,59 +170,55 @@ fn block(mark: Option<Mark>, start: Span, read: Read<Vec<Stmt>>) -> Stmt
 }
 
 /// Assignments with a semicolon behind each, and the brace behind them, whose span is given.
-fn assignments(
-    alloc: Global,
-    depth: u32,
-    tokens: &mut &[Token],
-) -> Result<Read<Vec<Assignment>>, Stuck>
+fn assignments(depth: Depth, tokens: &mut &[Token]) -> Result<Read<Vec<Assignment>>, Stuck>
     requires { depth ≤ 200 }
     ensures { Reads (λ x rest. SpellsAssignments tokens.old.now (map views.assignment x.form.items) x.span rest × IsLow depth (assignments_reach (map views.assignment x.form.items))) (StuckAssignments depth tokens.old.now) result tokens.new.now }
 {
-    let mut form = Vec::new(alloc);
+    let mut form = Vec::new(depth.alloc());
     'assignments: loop {
         if let Ok(span) = close_brace(tokens) {
             return Ok(Read { form, span });
         }
-        let item = assignment(alloc, depth, tokens)?;
+        let item = assignment(depth, tokens)?;
         semicolon(tokens)?;
         push(&mut form, item)?;
     }
 }
 
 /// What stands behind the word of a bundle.
-fn bundle(alloc: Global, depth: u32, start: Span, tokens: &mut &[Token]) -> Result<Box<Stmt>, Stuck>
+fn bundle(depth: Depth, start: Span, tokens: &mut &[Token]) -> Result<Box<Stmt>, Stuck>
     requires { depth < 200 }
     ensures { Reads (λ x rest. SpellsStatement (token kinds.Bundled start ∷ tokens.old.now) (views.statement x.value) rest × IsLow depth (statement_reach (views.statement x.value))) (StuckStatement depth (token kinds.Bundled start ∷ tokens.old.now)) result tokens.new.now }
 {
     open_brace(tokens)?;
-    let read = assignments(alloc, depth + 1, tokens)?;
+    let read = assignments(depth.deeper(), tokens)?;
     let assignments = read.form;
     let span = join(start, read.span);
-    Ok(boxed(alloc, Stmt::Bundle { assignments, span })?)
+    Ok(depth.boxed(Stmt::Bundle { assignments, span })?)
 }
 
 /// A declaration and its semicolon.
-fn declared(alloc: Global, depth: u32, tokens: &mut &[Token]) -> Result<Box<Stmt>, Stuck>
+fn declared(depth: Depth, tokens: &mut &[Token]) -> Result<Box<Stmt>, Stuck>
     requires deep { depth < 200 }
     requires typed { next_is type_word tokens.old.now ≡ true }
     ensures { Reads (λ x rest. SpellsStatement tokens.old.now (views.statement x.value) rest × IsLow depth (statement_reach (views.statement x.value))) (StuckStatement depth tokens.old.now) result tokens.new.now }
 {
-    let declaration = declaration(alloc, depth, tokens)?;
+    let declaration = declaration(depth, tokens)?;
     let end = semicolon(tokens)?;
     let span = join(declaration.span, end);
-    Ok(boxed(alloc, Stmt::Declare { declaration, span })?)
+    Ok(depth.boxed(Stmt::Declare { declaration, span })?)
 }
 
 /// An assignment or a call, and its semicolon.
-fn stored_or_called(alloc: Global, depth: u32, tokens: &mut &[Token]) -> Result<Box<Stmt>, Stuck>
+fn stored_or_called(depth: Depth, tokens: &mut &[Token]) -> Result<Box<Stmt>, Stuck>
     requires deep { depth < 200 }
     requires word { next_is assignment_word tokens.old.now ≡ true }
     ensures { Reads (λ x rest. SpellsStatement tokens.old.now (views.statement x.value) rest × IsLow depth (statement_reach (views.statement x.value))) (StuckStatement depth tokens.old.now) result tokens.new.now }
 {
     if next_is_name(tokens) {
-        named(alloc, depth, tokens)
+        named(depth, tokens)
     } else {
-        stored(alloc, depth, tokens)
+        stored(depth, tokens)
     }
 }
 
@@ -243,16 +233,16 @@ fn next_is_name(tokens: &[Token]) -> bool
 }
 
 /// An assignment that begins with no name, and its semicolon.
-fn stored(alloc: Global, depth: u32, tokens: &mut &[Token]) -> Result<Box<Stmt>, Stuck>
+fn stored(depth: Depth, tokens: &mut &[Token]) -> Result<Box<Stmt>, Stuck>
     requires deep { depth < 200 }
     requires word { next_is assignment_word tokens.old.now ≡ true }
     requires unnamed { next_is name_token tokens.old.now ≡ false }
     ensures { Reads (λ x rest. SpellsStatement tokens.old.now (views.statement x.value) rest × IsLow depth (statement_reach (views.statement x.value))) (StuckStatement depth tokens.old.now) result tokens.new.now }
 {
-    let assignment = assignment(alloc, depth, tokens)?;
+    let assignment = assignment(depth, tokens)?;
     let end = semicolon(tokens)?;
     let span = join(assignment.span(), end);
-    Ok(boxed(alloc, Stmt::Assign { assignment, span })?)
+    Ok(depth.boxed(Stmt::Assign { assignment, span })?)
 }
 
 /// The semicolon behind a call. It is left where no call stands before it.
@@ -270,54 +260,50 @@ fn call_end(target: &Expr, tokens: &mut &[Token]) -> Option<Span>
 
 /// What begins with a name, and its semicolon: a call where nothing but arguments stands behind the name, and else an
 /// assignment.
-fn named(alloc: Global, depth: u32, tokens: &mut &[Token]) -> Result<Box<Stmt>, Stuck>
+fn named(depth: Depth, tokens: &mut &[Token]) -> Result<Box<Stmt>, Stuck>
     requires deep { depth < 200 }
     requires named { next_is name_token tokens.old.now ≡ true }
     ensures { Reads (λ x rest. SpellsStatement tokens.old.now (views.statement x.value) rest × IsLow depth (statement_reach (views.statement x.value))) (StuckStatement depth tokens.old.now) result tokens.new.now }
 {
-    let target = unary(alloc, depth + 1, tokens)?;
+    let target = unary(depth.deeper(), tokens)?;
     if let Some(end) = call_end(&target.expr, tokens) {
         let span = join(target.outer, end);
         let call = target.expr;
-        return Ok(boxed(alloc, Stmt::Call { call, span })?);
+        return Ok(depth.boxed(Stmt::Call { call, span })?);
     }
-    let assignment = assigned(alloc, depth, target, tokens)?;
+    let assignment = assigned(depth, target, tokens)?;
     let end = semicolon(tokens)?;
     let span = join(assignment.span(), end);
-    Ok(boxed(alloc, Stmt::Assign { assignment, span })?)
+    Ok(depth.boxed(Stmt::Assign { assignment, span })?)
 }
 
 /// An expression in parentheses that belong to a statement.
-fn condition(alloc: Global, depth: u32, tokens: &mut &[Token]) -> Result<Box<Expr>, Stuck>
+fn condition(depth: Depth, tokens: &mut &[Token]) -> Result<Box<Expr>, Stuck>
     requires { depth ≤ 200 }
     ensures { Reads (λ x rest. SpellsCondition tokens.old.now (expression x.value) rest × IsLow depth (expression_reach (expression x.value))) (StuckCondition depth tokens.old.now) result tokens.new.now }
 {
     open_paren(tokens)?;
-    let read = expression(alloc, depth, tokens)?;
+    let read = expression(depth, tokens)?;
     close_paren(tokens)?;
     Ok(read.expr)
 }
 
 /// What stands behind the word `if`.
 #[cycle(statements)]
-fn if_statement(
-    alloc: Global,
-    depth: u32,
-    start: Span,
-    tokens: &mut &[Token],
-) -> Result<Box<Stmt>, Stuck>
+fn if_statement(depth: Depth, start: Span, tokens: &mut &[Token]) -> Result<Box<Stmt>, Stuck>
     requires { depth < 200 }
     ensures { Reads (λ x rest. SpellsStatement (token kinds.If start ∷ tokens.old.now) (views.statement x.value) rest × IsLow depth (statement_reach (views.statement x.value))) (StuckStatement depth (token kinds.If start ∷ tokens.old.now)) result tokens.new.now }
 {
-    let condition = condition(alloc, depth + 1, tokens)?;
-    let consequent = statement(alloc, depth + 1, tokens)?;
+    let below = depth.deeper();
+    let condition = condition(below, tokens)?;
+    let consequent = statement(below, tokens)?;
     if let Ok(_) = else_word(tokens) {
-        let alternative = statement(alloc, depth + 1, tokens)?;
+        let alternative = statement(below, tokens)?;
         let span = join(start, alternative.span());
-        return Ok(boxed(alloc, if_else(condition, consequent, alternative, span))?);
+        return Ok(depth.boxed(if_else(condition, consequent, alternative, span))?);
     }
     let span = join(start, consequent.span());
-    Ok(boxed(alloc, if_alone(condition, consequent, span))?)
+    Ok(depth.boxed(if_alone(condition, consequent, span))?)
 }
 
 /// An `if` without `else`.
@@ -346,19 +332,15 @@ fn if_else(condition: Box<Expr>, consequent: Box<Stmt>, alternative: Box<Stmt>, 
 
 /// What stands behind the word `while`.
 #[cycle(statements)]
-fn while_statement(
-    alloc: Global,
-    depth: u32,
-    start: Span,
-    tokens: &mut &[Token],
-) -> Result<Box<Stmt>, Stuck>
+fn while_statement(depth: Depth, start: Span, tokens: &mut &[Token]) -> Result<Box<Stmt>, Stuck>
     requires { depth < 200 }
     ensures { Reads (λ x rest. SpellsStatement (token kinds.While start ∷ tokens.old.now) (views.statement x.value) rest × IsLow depth (statement_reach (views.statement x.value))) (StuckStatement depth (token kinds.While start ∷ tokens.old.now)) result tokens.new.now }
 {
-    let condition = condition(alloc, depth + 1, tokens)?;
-    let body = statement(alloc, depth + 1, tokens)?;
+    let below = depth.deeper();
+    let condition = condition(below, tokens)?;
+    let body = statement(below, tokens)?;
     let span = join(start, body.span());
-    Ok(boxed(alloc, while_loop(condition, body, span))?)
+    Ok(depth.boxed(while_loop(condition, body, span))?)
 }
 
 /// A `while` with its body.
@@ -373,7 +355,7 @@ fn while_loop(condition: Box<Expr>, body: Box<Stmt>, span: Span) -> Stmt
 }
 
 /// The first part of the head of a `for`, and its semicolon.
-fn for_initial(alloc: Global, depth: u32, tokens: &mut &[Token]) -> Result<ForInitial, Stuck>
+fn for_initial(depth: Depth, tokens: &mut &[Token]) -> Result<ForInitial, Stuck>
     requires { depth ≤ 200 }
     ensures { Reads (λ x rest. SpellsForInitial tokens.old.now (views.for_initial x) rest × IsLow depth (for_initial_reach (views.for_initial x))) (StuckForInitial depth tokens.old.now) result tokens.new.now }
 {
@@ -381,11 +363,11 @@ fn for_initial(alloc: Global, depth: u32, tokens: &mut &[Token]) -> Result<ForIn
         return Ok(ForInitial::Nothing);
     }
     if next_starts_type(tokens) {
-        let declaration = declaration(alloc, depth, tokens)?;
+        let declaration = declaration(depth, tokens)?;
         semicolon(tokens)?;
         return Ok(ForInitial::Declare { declaration });
     }
-    let assignment = assignment(alloc, depth, tokens)?;
+    let assignment = assignment(depth, tokens)?;
     semicolon(tokens)?;
     Ok(ForInitial::Assign { assignment })
 }
@@ -401,11 +383,7 @@ fn next_starts_type(tokens: &[Token]) -> bool
 }
 
 /// An expression that may be left out before a semicolon, and the semicolon, whose span is given.
-fn optional_value(
-    alloc: Global,
-    depth: u32,
-    tokens: &mut &[Token],
-) -> Result<Read<Option<Box<Expr>>>, Stuck>
+fn optional_value(depth: Depth, tokens: &mut &[Token]) -> Result<Read<Option<Box<Expr>>>, Stuck>
     requires { depth ≤ 200 }
     ensures { Reads (λ x rest. SpellsEnd tokens.old.now (option_map views.on_heap x.form) x.span rest × IsLow depth (optional_expression_reach (option_map views.on_heap x.form))) (StuckForCondition depth tokens.old.now) result tokens.new.now }
 {
@@ -413,21 +391,21 @@ fn optional_value(
         let form = None;
         return Ok(Read { form, span });
     }
-    let read = expression(alloc, depth, tokens)?;
+    let read = expression(depth, tokens)?;
     let span = semicolon(tokens)?;
     let form = Some(read.expr);
     Ok(Read { form, span })
 }
 
 /// The last part of the head of a `for`, and its parenthesis.
-fn for_step(alloc: Global, depth: u32, tokens: &mut &[Token]) -> Result<Option<Assignment>, Stuck>
+fn for_step(depth: Depth, tokens: &mut &[Token]) -> Result<Option<Assignment>, Stuck>
     requires { depth ≤ 200 }
     ensures { Reads (λ x rest. SpellsForStep tokens.old.now (option_map views.assignment x) rest × IsLow depth (optional_assignment_reach (option_map views.assignment x))) (StuckForStep depth tokens.old.now) result tokens.new.now }
 {
     if let Ok(_) = close_paren(tokens) {
         return Ok(None);
     }
-    let assignment = assignment(alloc, depth, tokens)?;
+    let assignment = assignment(depth, tokens)?;
     close_paren(tokens)?;
     Ok(Some(assignment))
 }
@@ -441,43 +419,34 @@ struct ForHead {
 }
 
 /// What stands between the word `for` and its body.
-fn for_head(
-    alloc: Global,
-    depth: u32,
-    start: Span,
-    tokens: &mut &[Token],
-) -> Result<Box<ForHead>, Stuck>
+fn for_head(depth: Depth, start: Span, tokens: &mut &[Token]) -> Result<Box<ForHead>, Stuck>
     requires { depth < 200 }
     ensures { Reads (λ x rest. IsForHead depth tokens.old.now (views.for_initial x.value.initial) (option_map views.on_heap x.value.condition) (option_map views.assignment x.value.step) rest) (StuckStatement depth (token kinds.For start ∷ tokens.old.now)) result tokens.new.now }
 {
     open_paren(tokens)?;
-    let initial = for_initial(alloc, depth + 1, tokens)?;
-    let read = optional_value(alloc, depth + 1, tokens)?;
-    let step = for_step(alloc, depth + 1, tokens)?;
+    let below = depth.deeper();
+    let initial = for_initial(below, tokens)?;
+    let read = optional_value(below, tokens)?;
+    let step = for_step(below, tokens)?;
     let condition = read.form;
     let head = ForHead {
         initial,
         condition,
         step,
     };
-    Ok(boxed(alloc, head)?)
+    Ok(depth.boxed(head)?)
 }
 
 /// What stands behind the word `for`.
 #[cycle(statements)]
-fn for_statement(
-    alloc: Global,
-    depth: u32,
-    start: Span,
-    tokens: &mut &[Token],
-) -> Result<Box<Stmt>, Stuck>
+fn for_statement(depth: Depth, start: Span, tokens: &mut &[Token]) -> Result<Box<Stmt>, Stuck>
     requires { depth < 200 }
     ensures { Reads (λ x rest. SpellsStatement (token kinds.For start ∷ tokens.old.now) (views.statement x.value) rest × IsLow depth (statement_reach (views.statement x.value))) (StuckStatement depth (token kinds.For start ∷ tokens.old.now)) result tokens.new.now }
 {
-    let head = for_head(alloc, depth, start, tokens)?;
-    let body = statement(alloc, depth + 1, tokens)?;
+    let head = for_head(depth, start, tokens)?;
+    let body = statement(depth.deeper(), tokens)?;
     let span = join(start, body.span());
-    Ok(boxed(alloc, for_loop(Box::into_inner(head), body, span))?)
+    Ok(depth.boxed(for_loop(Box::into_inner(head), body, span))?)
 }
 
 /// A `for` with its body.
@@ -494,17 +463,12 @@ fn for_loop(head: ForHead, body: Box<Stmt>, span: Span) -> Stmt
 }
 
 /// What stands behind the word `return`.
-fn return_statement(
-    alloc: Global,
-    depth: u32,
-    start: Span,
-    tokens: &mut &[Token],
-) -> Result<Box<Stmt>, Stuck>
+fn return_statement(depth: Depth, start: Span, tokens: &mut &[Token]) -> Result<Box<Stmt>, Stuck>
     requires { depth < 200 }
     ensures { Reads (λ x rest. SpellsStatement (token kinds.Return start ∷ tokens.old.now) (views.statement x.value) rest × IsLow depth (statement_reach (views.statement x.value))) (StuckStatement depth (token kinds.Return start ∷ tokens.old.now)) result tokens.new.now }
 {
-    let read = optional_value(alloc, depth + 1, tokens)?;
+    let read = optional_value(depth.deeper(), tokens)?;
     let value = read.form;
     let span = join(start, read.span);
-    Ok(boxed(alloc, Stmt::Return { value, span })?)
+    Ok(depth.boxed(Stmt::Return { value, span })?)
 }

@@ -18,7 +18,7 @@ ghost use Rattle.ckc_parser_expressions.specs.Readings.{counted, count_word, IsB
 use crate::expressions::{Ended, expression_before};
 use crate::operand::Reach;
 use ckc_lexer_tokens::token::{Token, TokenKind};
-use ckc_parser_cursor::depth::MAX_DEPTH;
+use ckc_parser_cursor::depth::{Depth, MAX_DEPTH};
 use ckc_parser_cursor::operators::binary_operator;
 use ckc_parser_cursor::spans::join;
 use ckc_parser_cursor::stuck::Stuck;
@@ -27,7 +27,6 @@ use ckc_parser_cursor::tokens::{close_paren, name, open_paren};
 use ckc_text::name::Name;
 use ckc_text::place::Span;
 use ckc_tree::expr::BoundsText;
-use std::alloc::Global;
 
 /// Bounds, with their span and their reach.
 #[derive(Drop)]
@@ -40,7 +39,7 @@ pub struct ReadBounds {
 
 /// The bounds of a form with at most `depth` nodes up to and with it.
 #[cycle(expressions)]
-pub fn bounds(alloc: Global, depth: u32, tokens: &mut &[Token]) -> Result<ReadBounds, Stuck>
+pub fn bounds(depth: Depth, tokens: &mut &[Token]) -> Result<ReadBounds, Stuck>
     requires { depth ≤ 200 }
     ensures reads { Reads (λ x rest. IsBounds depth tokens.old.now (bounds_of x.text) x.span rest) (StuckBounds depth tokens.old.now) result tokens.new.now }
     ensures shorter { TakesTokens tokens.old.now result tokens.new.now }
@@ -48,9 +47,9 @@ pub fn bounds(alloc: Global, depth: u32, tokens: &mut &[Token]) -> Result<ReadBo
     let (form, start) = bounds_word(tokens)?;
     open_paren(tokens)?;
     match form {
-        BoundsForm::Count => count(alloc, depth, true, start, tokens),
-        BoundsForm::ByteCount => count(alloc, depth, false, start, tokens),
-        BoundsForm::Ends => ends(alloc, depth, start, tokens),
+        BoundsForm::Count => count(depth, true, start, tokens),
+        BoundsForm::ByteCount => count(depth, false, start, tokens),
+        BoundsForm::Ends => ends(depth, start, tokens),
     }
 }
 
@@ -100,8 +99,7 @@ fn is_word(name: &Name, word: &[u8]) -> bool
 /// A count of elements or of bytes, behind the parenthesis.
 #[cycle(expressions)]
 fn count(
-    alloc: Global,
-    depth: u32,
+    depth: Depth,
     is_count: bool,
     start: Span,
     tokens: &mut &[Token],
@@ -110,7 +108,7 @@ fn count(
     ensures reads { (p : Place) → Reads (λ x rest. IsBounds depth (token (kinds.Name (count_word is_count)) start ∷ token kinds.OpenParen p ∷ tokens.old.now) (bounds_of x.text) x.span rest) (StuckBounds depth (token (kinds.Name (count_word is_count)) start ∷ token kinds.OpenParen p ∷ tokens.old.now)) result tokens.new.now }
     ensures shorter { TakesTokens tokens.old.now result tokens.new.now }
 {
-    let count = expression_before(alloc, depth, Terminal::CloseParen, tokens)?;
+    let count = expression_before(depth, Terminal::CloseParen, tokens)?;
     Ok(counted(is_count, start, count))
 }
 
@@ -132,7 +130,7 @@ fn counted(is_count: bool, start: Span, count: Ended) -> ReadBounds
 
 /// Two ends, or the word `unknown`, behind the parenthesis.
 #[cycle(expressions)]
-fn ends(alloc: Global, depth: u32, start: Span, tokens: &mut &[Token]) -> Result<ReadBounds, Stuck>
+fn ends(depth: Depth, start: Span, tokens: &mut &[Token]) -> Result<ReadBounds, Stuck>
     requires { depth ≤ 200 }
     ensures reads { (p : Place) → Reads (λ x rest. IsBounds depth (token (kinds.Name (codes "bounds")) start ∷ token kinds.OpenParen p ∷ tokens.old.now) (bounds_of x.text) x.span rest) (StuckBounds depth (token (kinds.Name (codes "bounds")) start ∷ token kinds.OpenParen p ∷ tokens.old.now)) result tokens.new.now }
     ensures shorter { TakesTokens tokens.old.now result tokens.new.now }
@@ -144,7 +142,7 @@ fn ends(alloc: Global, depth: u32, start: Span, tokens: &mut &[Token]) -> Result
         let reach = Reach::nowhere();
         return Ok(ReadBounds { text, span, reach });
     }
-    range(alloc, depth, start, tokens)
+    range(depth, start, tokens)
 }
 
 /// The parenthesis behind the word `unknown`, where these two stand next, and the tokens behind them.
@@ -186,15 +184,15 @@ fn goes_on(tokens: &[Token]) -> bool
 
 /// Two ends. The word `unknown` is an expression as soon as the token behind it shows that it is.
 #[cycle(expressions)]
-fn range(alloc: Global, depth: u32, start: Span, tokens: &mut &[Token]) -> Result<ReadBounds, Stuck>
+fn range(depth: Depth, start: Span, tokens: &mut &[Token]) -> Result<ReadBounds, Stuck>
     requires high { depth ≤ 200 }
     requires known { is_unknown tokens.old.now ≡ false }
     ensures reads { (p : Place) → Reads (λ x rest. IsBounds depth (token (kinds.Name (codes "bounds")) start ∷ token kinds.OpenParen p ∷ tokens.old.now) (bounds_of x.text) x.span rest) (StuckBounds depth (token (kinds.Name (codes "bounds")) start ∷ token kinds.OpenParen p ∷ tokens.old.now)) result tokens.new.now }
     ensures shorter { TakesTokens tokens.old.now result tokens.new.now }
 {
     too_deep(depth, tokens)?;
-    let low = expression_before(alloc, depth, Terminal::Comma, tokens)?;
-    let high = expression_before(alloc, depth, Terminal::CloseParen, tokens)?;
+    let low = expression_before(depth, Terminal::Comma, tokens)?;
+    let high = expression_before(depth, Terminal::CloseParen, tokens)?;
     Ok(between(start, low, high))
 }
 
@@ -214,10 +212,10 @@ fn between(start: Span, low: Ended, high: Ended) -> ReadBounds
 }
 
 /// The refusal of the word `unknown` where no node may stand; nothing where another token is first.
-fn too_deep(depth: u32, tokens: &mut &[Token]) -> Result<(), Stuck>
+fn too_deep(depth: Depth, tokens: &mut &[Token]) -> Result<(), Stuck>
     ensures { RefusesUnknown depth tokens.old.now result tokens.new.now }
 {
-    if depth < MAX_DEPTH {
+    if depth.nodes() < MAX_DEPTH {
         return Ok(());
     }
     let mut ahead: &[Token] = *tokens;

@@ -21,7 +21,7 @@ use crate::build::{binary_with, index_with, member_with, unary_with};
 use crate::operand::Operand;
 use crate::primary::{primary, starts_primary};
 use ckc_lexer_tokens::token::{Token, TokenKind};
-use ckc_parser_cursor::depth::MAX_DEPTH;
+use ckc_parser_cursor::depth::Depth;
 use ckc_parser_cursor::memory::push;
 use ckc_parser_cursor::operators::{self, binary_operator, level};
 use ckc_parser_cursor::spans::join;
@@ -53,7 +53,7 @@ enum Pending {
 struct Around {
     pending: Vec<Pending>,
     /// The nodes around it, those around the whole expression included.
-    depth: u32,
+    depth: Depth,
     /// The loosest level of an operator that stands in no parentheses.
     loosest: u32,
 }
@@ -75,21 +75,21 @@ pub fn starts_unary(kind: &TokenKind) -> bool
 
 /// An expression with at most `depth` nodes around it.
 #[cycle(expressions)]
-pub fn expression(alloc: Global, depth: u32, tokens: &mut &[Token]) -> Result<Operand, Stuck>
+pub fn expression(depth: Depth, tokens: &mut &[Token]) -> Result<Operand, Stuck>
     requires { depth ≤ 200 }
     ensures reads { Reads (λ x rest. IsBinary 10 depth tokens.old.now (expression x.expr.value) x.outer rest) (StuckExpression depth tokens.old.now) result tokens.new.now }
     ensures shorter { TakesTokens tokens.old.now result tokens.new.now }
 {
-    operators(alloc, depth, 10, tokens)
+    operators(depth, 10, tokens)
 }
 
 /// An expression without binary operators outside parentheses.
-pub fn unary(alloc: Global, depth: u32, tokens: &mut &[Token]) -> Result<Operand, Stuck>
+pub fn unary(depth: Depth, tokens: &mut &[Token]) -> Result<Operand, Stuck>
     requires { depth ≤ 200 }
     ensures reads { Reads (λ x rest. IsUnary depth tokens.old.now (expression x.expr.value) x.outer rest) (StuckUnary depth tokens.old.now) result tokens.new.now }
     ensures shorter { TakesTokens tokens.old.now result tokens.new.now }
 {
-    operators(alloc, depth, 0, tokens)
+    operators(depth, 0, tokens)
 }
 
 /// An expression, and the mark behind it.
@@ -103,8 +103,7 @@ pub struct Ended {
 /// An expression, and this mark behind it.
 #[cycle(expressions)]
 pub fn expression_before(
-    alloc: Global,
-    depth: u32,
+    depth: Depth,
     mark: Terminal,
     tokens: &mut &[Token],
 ) -> Result<Ended, Stuck>
@@ -112,33 +111,28 @@ pub fn expression_before(
     ensures reads { Reads (IsEnded mark depth tokens.old.now) (StuckEnded mark depth tokens.old.now) result tokens.new.now }
     ensures shorter { TakesTokens tokens.old.now result tokens.new.now }
 {
-    let operand = expression(alloc, depth, tokens)?;
+    let operand = expression(depth, tokens)?;
     let end = expect(mark, tokens)?;
     Ok(Ended { operand, end })
 }
 
 /// An expression with operators up to a level.
 #[cycle(expressions)]
-fn operators(
-    alloc: Global,
-    depth: u32,
-    loosest: u32,
-    tokens: &mut &[Token],
-) -> Result<Operand, Stuck>
+fn operators(depth: Depth, loosest: u32, tokens: &mut &[Token]) -> Result<Operand, Stuck>
     requires high { depth ≤ 200 }
     requires loose { loosest ≤ 10 }
     ensures reads { Reads (λ x rest. IsBinary loosest depth tokens.old.now (expression x.expr.value) x.outer rest) (StuckBinary loosest depth tokens.old.now) result tokens.new.now }
     ensures shorter { TakesTokens tokens.old.now result tokens.new.now }
 {
     let mut around = Around {
-        pending: Vec::new(alloc),
+        pending: Vec::new(depth.alloc()),
         depth,
         loosest,
     };
     'operators: loop {
         prefixes(&mut around, tokens)?;
-        let operand = primary(alloc, around.depth, tokens)?;
-        let operand = closed(alloc, &mut around, operand, tokens)?;
+        let operand = primary(around.depth, tokens)?;
+        let operand = closed(&mut around, operand, tokens)?;
         let Some(operator) = next_operator(&around, tokens) else {
             return Ok(operand);
         };
@@ -174,11 +168,9 @@ fn prefix(around: &mut Around, tokens: &mut &[Token]) -> Result<bool, Stuck>
         return Ok(false);
     };
     let start = token.span;
-    if around.depth >= MAX_DEPTH {
-        return Err(Stuck::TooDeep { start: start.from });
-    }
+    around.depth.check(start.from)?;
     push(&mut around.pending, Pending::Unary { operator, start })?;
-    around.depth += 1;
+    around.depth = around.depth.deeper();
     *tokens = rest;
     Ok(true)
 }
@@ -186,21 +178,16 @@ fn prefix(around: &mut Around, tokens: &mut &[Token]) -> Result<bool, Stuck>
 /// Reads on behind an operand: what selects a part of it, and the parentheses that end behind it. What comes back is
 /// followed by an operator that takes it as its left operand, or it is the whole expression.
 #[cycle(expressions)]
-fn closed(
-    alloc: Global,
-    around: &mut Around,
-    operand: Operand,
-    tokens: &mut &[Token],
-) -> Result<Operand, Stuck>
+fn closed(around: &mut Around, operand: Operand, tokens: &mut &[Token]) -> Result<Operand, Stuck>
     requires { (b : Base) × HasOperand b around.old (expression operand.expr.value) operand.outer tokens.old.now }
     ensures reads { (b : Base) → HasOperand b around.old (expression operand.expr.value) operand.outer tokens.old.now → IsRead b around.new result tokens.new.now }
     ensures shorter { MayTakeTokens tokens.old.now result tokens.new.now }
 {
     let mut operand = operand;
     'closed: loop {
-        let selected = selectors(alloc, around.depth, operand, tokens)?;
+        let selected = selectors(around.depth, operand, tokens)?;
         let looser = looseness(tokens);
-        let whole = reduced(alloc, around, looser, selected)?;
+        let whole = reduced(around, looser, selected)?;
         if looser <= 10 {
             return Ok(whole);
         }
@@ -257,13 +244,11 @@ fn wait_for_right(around: &mut Around, operator: BinaryOperator, left: Operand) 
     ensures { (b : Base) (ts us : List Sign) → words.operator_at ts ≡ Some (operator, us) → words.level operator ≤ limit around.old.loosest (waiting around.old.pending.items)
         → HasTight b around.old (words.level operator) (expression left.expr.value) left.outer ts → IsWaiting b around.new us result }
 {
-    if around.depth + left.reach.height >= MAX_DEPTH {
-        return Err(Stuck::TooDeep {
-            start: left.reach.start,
-        });
-    }
+    around
+        .depth
+        .check_around(left.reach.height, left.reach.start)?;
     push(&mut around.pending, Pending::Binary { operator, left })?;
-    around.depth += 1;
+    around.depth = around.depth.deeper();
     Ok(())
 }
 
@@ -307,12 +292,7 @@ fn takes_before(pending: &[Pending], looser: u32) -> bool
 }
 
 /// Gives an operand to the forms that wait for it and bind no looser than this level.
-fn reduced(
-    alloc: Global,
-    around: &mut Around,
-    looser: u32,
-    operand: Operand,
-) -> Result<Operand, Stuck>
+fn reduced(around: &mut Around, looser: u32, operand: Operand) -> Result<Operand, Stuck>
     requires { (b : Base) × IsAround b around.old × IsLow around.old.depth (expression_reach (expression operand.expr.value)) }
     ensures { (b : Base) (ts : List Sign) → looser ≡ looser_at ts → HasTight b around.old looser (expression operand.expr.value) operand.outer ts
         → OrNoMemory (λ whole. HasTight b around.new looser (expression whole.expr.value) whole.outer ts × (takes_before (waiting around.new.pending.items) looser ≡ false)) result }
@@ -320,8 +300,8 @@ fn reduced(
     let mut operand = operand;
     while takes_before(around.pending.as_slice(), looser) {
         if let Some(pending) = around.pending.pop() {
-            around.depth -= 1;
-            operand = applied(alloc, pending, operand)?;
+            around.depth = around.depth.shallower();
+            operand = applied(around.depth.alloc(), pending, operand)?;
         }
     }
     Ok(operand)
@@ -342,12 +322,7 @@ fn applied(alloc: Global, pending: Pending, operand: Operand) -> Result<Operand,
 
 /// Takes the indices and members behind an operand, each of which makes it deeper by one.
 #[cycle(expressions)]
-fn selectors(
-    alloc: Global,
-    depth: u32,
-    operand: Operand,
-    tokens: &mut &[Token],
-) -> Result<Operand, Stuck>
+fn selectors(depth: Depth, operand: Operand, tokens: &mut &[Token]) -> Result<Operand, Stuck>
     requires high { depth ≤ 200 }
     requires low { IsLow depth (expression_reach (expression operand.expr.value)) }
     ensures reads { Reads (λ x rest. IsSelected (expression operand.expr.value) operand.outer depth tokens.old.now (expression x.expr.value) x.outer rest) (StuckSelectors (expression operand.expr.value) operand.outer depth tokens.old.now) result tokens.new.now }
@@ -355,12 +330,8 @@ fn selectors(
 {
     let mut operand = operand;
     'selectors: while let Some(selector) = next_selector(tokens) {
-        if depth + operand.reach.height >= MAX_DEPTH {
-            return Err(Stuck::TooDeep {
-                start: operand.reach.start,
-            });
-        }
-        operand = selected(alloc, depth, operand, selector, tokens)?;
+        depth.check_around(operand.reach.height, operand.reach.start)?;
+        operand = selected(depth, operand, selector, tokens)?;
     }
     Ok(operand)
 }
@@ -398,8 +369,7 @@ fn selector_of(kind: &TokenKind) -> Option<Selector>
 /// The operand with what the tokens behind the first one of an index or a member select of it.
 #[cycle(expressions)]
 fn selected(
-    alloc: Global,
-    depth: u32,
+    depth: Depth,
     operand: Operand,
     selector: Selector,
     tokens: &mut &[Token],
@@ -409,26 +379,21 @@ fn selected(
     ensures shorter { TakesTokens tokens.old.now result tokens.new.now }
 {
     match selector {
-        Selector::Index => indexed(alloc, depth, operand, tokens),
-        Selector::Dot => member(alloc, operand, false, tokens),
-        Selector::Arrow => member(alloc, operand, true, tokens),
+        Selector::Index => indexed(depth, operand, tokens),
+        Selector::Dot => member(depth.alloc(), operand, false, tokens),
+        Selector::Arrow => member(depth.alloc(), operand, true, tokens),
     }
 }
 
 /// The element of an array or a pointer with the index that these tokens give.
 #[cycle(expressions)]
-fn indexed(
-    alloc: Global,
-    depth: u32,
-    operand: Operand,
-    tokens: &mut &[Token],
-) -> Result<Operand, Stuck>
+fn indexed(depth: Depth, operand: Operand, tokens: &mut &[Token]) -> Result<Operand, Stuck>
     requires { depth + operand.reach.height < 200 }
     ensures reads { (start : Place) → Reads (λ x rest. SelectsOne (expression operand.expr.value) operand.outer depth (words.token kinds.OpenBracket start ∷ tokens.old.now) (expression x.expr.value) x.outer rest) (StuckSelectors (expression operand.expr.value) operand.outer depth (words.token kinds.OpenBracket start ∷ tokens.old.now)) result tokens.new.now }
     ensures shorter { TakesTokens tokens.old.now result tokens.new.now }
 {
-    let index = expression_before(alloc, depth + 1, Terminal::CloseBracket, tokens)?;
-    index_with(alloc, operand, index)
+    let index = expression_before(depth.deeper(), Terminal::CloseBracket, tokens)?;
+    index_with(depth.alloc(), operand, index)
 }
 
 /// The member with the name that the tokens give, of a struct or, by an arrow, of what a pointer points to.

@@ -24,7 +24,7 @@ use crate::operand::{Operand, Reach};
 use crate::types::{ReadTypeName, angled, type_name};
 use ckc_text::listed::Listed;
 use ckc_lexer_tokens::token::{Token, TokenKind};
-use ckc_parser_cursor::depth::check_depth;
+use ckc_parser_cursor::depth::Depth;
 use ckc_parser_cursor::memory::push;
 use ckc_parser_cursor::spans::join;
 use ckc_parser_cursor::stuck::Stuck;
@@ -57,7 +57,7 @@ pub fn starts_primary(kind: &TokenKind) -> bool
 }
 
 /// The first token of an expression without operators and parentheses around it, with at most `depth` nodes around it.
-fn primary_word<'t>(depth: u32, tokens: &mut &'t [Token]) -> Result<&'t Token, Stuck>
+fn primary_word<'t>(depth: Depth, tokens: &mut &'t [Token]) -> Result<&'t Token, Stuck>
     ensures { Opens primary_word (FailsPrimary depth tokens.old.now) depth tokens.old.now result tokens.new.now }
 {
     let Some((token, rest)) = tokens.split_first() else {
@@ -66,19 +66,20 @@ fn primary_word<'t>(depth: u32, tokens: &mut &'t [Token]) -> Result<&'t Token, S
     if !starts_primary(&token.kind) {
         return Err(Stuck::Unexpected);
     }
-    check_depth(depth, token.span.from)?;
+    depth.check(token.span.from)?;
     *tokens = rest;
     Ok(token)
 }
 
 /// An expression without operators and parentheses around it, with at most `depth` nodes around it.
 #[cycle(expressions)]
-pub fn primary(alloc: Global, depth: u32, tokens: &mut &[Token]) -> Result<Operand, Stuck>
+pub fn primary(depth: Depth, tokens: &mut &[Token]) -> Result<Operand, Stuck>
     requires { depth ≤ 200 }
     ensures reads { Reads (λ x rest. IsPrimary depth tokens.old.now (expression x.expr.value) x.outer rest) (FailsPrimary depth tokens.old.now) result tokens.new.now }
     ensures shorter { TakesTokens tokens.old.now result tokens.new.now }
 {
     let token = primary_word(depth, tokens)?;
+    let alloc = depth.alloc();
     let span = token.span;
     match &token.kind {
         TokenKind::Number(value) => {
@@ -90,14 +91,14 @@ pub fn primary(alloc: Global, depth: u32, tokens: &mut &[Token]) -> Result<Opera
             leaf(alloc, Expr::Character { value, span }, span)
         }
         TokenKind::Text(text) => text_literal(alloc, text, span),
-        TokenKind::Name(name) => name_or_call(alloc, depth, name, span, tokens),
-        TokenKind::Sizeof => size_of(alloc, depth, span, tokens),
-        TokenKind::DynamicBoundsCast => cast(alloc, depth, CastWord::Dynamic, span, tokens),
-        TokenKind::AssumeBoundsCast => cast(alloc, depth, CastWord::Assume, span, tokens),
-        TokenKind::Malloc => malloc(alloc, depth, MallocWord::Malloc, span, tokens),
-        TokenKind::TMalloc => malloc(alloc, depth, MallocWord::TMalloc, span, tokens),
-        TokenKind::Calloc => calloc(alloc, depth, CallocWord::Calloc, span, tokens),
-        TokenKind::NtCalloc => calloc(alloc, depth, CallocWord::NtCalloc, span, tokens),
+        TokenKind::Name(name) => name_or_call(depth, name, span, tokens),
+        TokenKind::Sizeof => size_of(depth, span, tokens),
+        TokenKind::DynamicBoundsCast => cast(depth, CastWord::Dynamic, span, tokens),
+        TokenKind::AssumeBoundsCast => cast(depth, CastWord::Assume, span, tokens),
+        TokenKind::Malloc => malloc(depth, MallocWord::Malloc, span, tokens),
+        TokenKind::TMalloc => malloc(depth, MallocWord::TMalloc, span, tokens),
+        TokenKind::Calloc => calloc(depth, CallocWord::Calloc, span, tokens),
+        TokenKind::NtCalloc => calloc(depth, CallocWord::NtCalloc, span, tokens),
         _ => Err(Stuck::Unexpected),
     }
 }
@@ -113,8 +114,7 @@ fn text_literal(alloc: Global, text: &Listed<u8>, span: Span) -> Result<Operand,
 /// A name, or a call where a parenthesis stands behind it.
 #[cycle(expressions)]
 fn name_or_call(
-    alloc: Global,
-    depth: u32,
+    depth: Depth,
     name: &Name,
     span: Span,
     tokens: &mut &[Token],
@@ -123,11 +123,12 @@ fn name_or_call(
     ensures reads { Reads (λ x rest. IsPrimary depth (token (kinds.Name name.now) span ∷ tokens.old.now) (expression x.expr.value) x.outer rest) (StuckPrimary depth (token (kinds.Name name.now) span ∷ tokens.old.now)) result tokens.new.now }
     ensures shorter { MayTakeTokens tokens.old.now result tokens.new.now }
 {
+    let alloc = depth.alloc();
     let name = copied(alloc, name, span)?;
     let Ok(_) = open_paren(tokens) else {
         return leaf(alloc, Expr::Name { name }, span);
     };
-    let (read, end) = arguments(alloc, depth + 1, tokens)?;
+    let (read, end) = arguments(depth.deeper(), tokens)?;
     call_with(alloc, name, read, end)
 }
 
@@ -161,28 +162,23 @@ fn with_argument(arguments: ReadArguments, argument: Operand) -> Result<ReadArgu
 
 /// The arguments of a call, and the parenthesis behind them, with its span.
 #[cycle(expressions)]
-fn arguments(
-    alloc: Global,
-    depth: u32,
-    tokens: &mut &[Token],
-) -> Result<(ReadArguments, Span), Stuck>
+fn arguments(depth: Depth, tokens: &mut &[Token]) -> Result<(ReadArguments, Span), Stuck>
     requires { depth ≤ 200 }
     ensures reads { Reads (λ x rest. IsArguments depth tokens.old.now (listed x.0.items.items) x.1 rest) (StuckArguments depth tokens.old.now) result tokens.new.now }
     ensures shorter { TakesTokens tokens.old.now result tokens.new.now }
 {
     if let Ok(end) = close_paren(tokens) {
-        return Ok((no_arguments(alloc), end));
+        return Ok((no_arguments(depth.alloc()), end));
     }
-    let first = expression(alloc, depth, tokens)?;
-    let arguments = with_argument(no_arguments(alloc), first)?;
-    more_arguments(alloc, depth, arguments, tokens)
+    let first = expression(depth, tokens)?;
+    let arguments = with_argument(no_arguments(depth.alloc()), first)?;
+    more_arguments(depth, arguments, tokens)
 }
 
 /// The arguments and those that follow behind commas, up to the parenthesis.
 #[cycle(expressions)]
 fn more_arguments(
-    alloc: Global,
-    depth: u32,
+    depth: Depth,
     mut arguments: ReadArguments,
     tokens: &mut &[Token],
 ) -> Result<(ReadArguments, Span), Stuck>
@@ -192,7 +188,7 @@ fn more_arguments(
     ensures shorter { TakesTokens tokens.old.now result tokens.new.now }
 {
     'arguments: while let Ok(_) = comma(tokens) {
-        let argument = expression(alloc, depth, tokens)?;
+        let argument = expression(depth, tokens)?;
         arguments = with_argument(arguments, argument)?;
     }
     let end = close_paren(tokens)?;
@@ -200,15 +196,15 @@ fn more_arguments(
 }
 
 /// The type and the parentheses behind the word `sizeof`.
-fn size_of(alloc: Global, depth: u32, word: Span, tokens: &mut &[Token]) -> Result<Operand, Stuck>
+fn size_of(depth: Depth, word: Span, tokens: &mut &[Token]) -> Result<Operand, Stuck>
     requires { depth < 200 }
     ensures reads { Reads (λ x rest. IsPrimary depth (token kinds.Sizeof word ∷ tokens.old.now) (expression x.expr.value) x.outer rest) (StuckPrimary depth (token kinds.Sizeof word ∷ tokens.old.now)) result tokens.new.now }
     ensures shorter { TakesTokens tokens.old.now result tokens.new.now }
 {
     open_paren(tokens)?;
-    let read = type_name(alloc, depth + 1, tokens)?;
+    let read = type_name(depth.deeper(), tokens)?;
     let end = close_paren(tokens)?;
-    size_of_with(alloc, read, join(word, end))
+    size_of_with(depth.alloc(), read, join(word, end))
 }
 
 /// A type in angle brackets, and the expression behind the parenthesis.
@@ -229,50 +225,42 @@ impl Typed {
 
 /// What a cast or an allocation has behind its word, up to the end of the first expression.
 #[cycle(expressions)]
-fn typed_operand(alloc: Global, depth: u32, tokens: &mut &[Token]) -> Result<Typed, Stuck>
+fn typed_operand(depth: Depth, tokens: &mut &[Token]) -> Result<Typed, Stuck>
     requires { depth ≤ 200 }
     ensures reads { Reads (IsTyped depth tokens.old.now) (StuckTyped depth tokens.old.now) result tokens.new.now }
     ensures shorter { TakesTokens tokens.old.now result tokens.new.now }
 {
-    let read = angled(alloc, depth, tokens)?;
-    let operand = expression(alloc, depth, tokens)?;
+    let read = angled(depth, tokens)?;
+    let operand = expression(depth, tokens)?;
     Ok(Typed { read, operand })
 }
 
 /// What stands behind the word of a cast.
 #[cycle(expressions)]
-fn cast(
-    alloc: Global,
-    depth: u32,
-    word: CastWord,
-    start: Span,
-    tokens: &mut &[Token],
-) -> Result<Operand, Stuck>
+fn cast(depth: Depth, word: CastWord, start: Span, tokens: &mut &[Token]) -> Result<Operand, Stuck>
     requires { depth < 200 }
     ensures reads { (k : Kind) → IsCastWord k word → Reads (λ x rest. IsPrimary depth (token k start ∷ tokens.old.now) (expression x.expr.value) x.outer rest) (StuckPrimary depth (token k start ∷ tokens.old.now)) result tokens.new.now }
     ensures shorter { TakesTokens tokens.old.now result tokens.new.now }
 {
-    let parts = typed_operand(alloc, depth + 1, tokens)?;
+    let alloc = depth.alloc();
+    let below = depth.deeper();
+    let parts = typed_operand(below, tokens)?;
     if let Ok(end) = close_paren(tokens) {
         return cast_with(alloc, word, parts, join(start, end));
     }
-    let (written, end) = last_bounds(alloc, depth + 1, tokens)?;
+    let (written, end) = last_bounds(below, tokens)?;
     bounded_cast_with(alloc, word, parts, written, join(start, end))
 }
 
 /// The bounds behind the operand of a cast, between a comma and a parenthesis, whose span is given.
 #[cycle(expressions)]
-fn last_bounds(
-    alloc: Global,
-    depth: u32,
-    tokens: &mut &[Token],
-) -> Result<(ReadBounds, Span), Stuck>
+fn last_bounds(depth: Depth, tokens: &mut &[Token]) -> Result<(ReadBounds, Span), Stuck>
     requires { depth ≤ 200 }
     ensures reads { Reads (IsLastBounds depth tokens.old.now) (StuckLastBounds depth tokens.old.now) result tokens.new.now }
     ensures shorter { TakesTokens tokens.old.now result tokens.new.now }
 {
     comma(tokens)?;
-    let written = bounds(alloc, depth, tokens)?;
+    let written = bounds(depth, tokens)?;
     let end = close_paren(tokens)?;
     Ok((written, end))
 }
@@ -280,8 +268,7 @@ fn last_bounds(
 /// What stands behind the word of an allocation of a size.
 #[cycle(expressions)]
 fn malloc(
-    alloc: Global,
-    depth: u32,
+    depth: Depth,
     word: MallocWord,
     start: Span,
     tokens: &mut &[Token],
@@ -290,16 +277,15 @@ fn malloc(
     ensures reads { (k : Kind) → IsMallocWord k word → Reads (λ x rest. IsPrimary depth (token k start ∷ tokens.old.now) (expression x.expr.value) x.outer rest) (StuckPrimary depth (token k start ∷ tokens.old.now)) result tokens.new.now }
     ensures shorter { TakesTokens tokens.old.now result tokens.new.now }
 {
-    let parts = typed_operand(alloc, depth + 1, tokens)?;
+    let parts = typed_operand(depth.deeper(), tokens)?;
     let end = close_paren(tokens)?;
-    malloc_with(alloc, word, parts, join(start, end))
+    malloc_with(depth.alloc(), word, parts, join(start, end))
 }
 
 /// What stands behind the word of an allocation of elements.
 #[cycle(expressions)]
 fn calloc(
-    alloc: Global,
-    depth: u32,
+    depth: Depth,
     word: CallocWord,
     start: Span,
     tokens: &mut &[Token],
@@ -308,8 +294,9 @@ fn calloc(
     ensures reads { (k : Kind) → IsCallocWord k word → Reads (λ x rest. IsPrimary depth (token k start ∷ tokens.old.now) (expression x.expr.value) x.outer rest) (StuckPrimary depth (token k start ∷ tokens.old.now)) result tokens.new.now }
     ensures shorter { TakesTokens tokens.old.now result tokens.new.now }
 {
-    let parts = typed_operand(alloc, depth + 1, tokens)?;
+    let below = depth.deeper();
+    let parts = typed_operand(below, tokens)?;
     comma(tokens)?;
-    let size = expression_before(alloc, depth + 1, Terminal::CloseParen, tokens)?;
-    calloc_with(alloc, word, parts, size, start)
+    let size = expression_before(below, Terminal::CloseParen, tokens)?;
+    calloc_with(depth.alloc(), word, parts, size, start)
 }

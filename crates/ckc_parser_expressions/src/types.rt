@@ -15,8 +15,7 @@ ghost use Rattle.ckc_lexer_tokens.specs.declared.token.TokenKind.TheVariants as 
 
 use crate::operand::Reach;
 use ckc_lexer_tokens::token::{Token, TokenKind};
-use ckc_parser_cursor::depth::check_depth;
-use ckc_parser_cursor::memory::boxed;
+use ckc_parser_cursor::depth::Depth;
 use ckc_parser_cursor::spans::join;
 use ckc_parser_cursor::stuck::Stuck;
 use ckc_parser_cursor::tokens::{greater, identifier, less, open_paren, star};
@@ -91,7 +90,7 @@ pub fn stars(tokens: &mut &[Token]) -> usize
 }
 
 /// The first token of a type with at most `depth` nodes around it.
-fn type_word<'t>(depth: u32, tokens: &mut &'t [Token]) -> Result<&'t Token, Stuck>
+fn type_word<'t>(depth: Depth, tokens: &mut &'t [Token]) -> Result<&'t Token, Stuck>
     ensures { Opens type_word (StuckType depth tokens.old.now) depth tokens.old.now result tokens.new.now }
 {
     let Some((token, rest)) = tokens.split_first() else {
@@ -100,14 +99,14 @@ fn type_word<'t>(depth: u32, tokens: &mut &'t [Token]) -> Result<&'t Token, Stuc
     if !starts_type(&token.kind) {
         return Err(Stuck::Unexpected);
     }
-    check_depth(depth, token.span.from)?;
+    depth.check(token.span.from)?;
     *tokens = rest;
     Ok(token)
 }
 
 /// A type with at most `depth` nodes around it.
 #[cycle(types)]
-pub fn type_form(alloc: Global, depth: u32, tokens: &mut &[Token]) -> Result<ReadType, Stuck>
+pub fn type_form(depth: Depth, tokens: &mut &[Token]) -> Result<ReadType, Stuck>
     requires { depth ≤ 200 }
     ensures reads { Reads (λ x rest. IsType depth tokens.old.now (type_tree x.form) rest) (StuckType depth tokens.old.now) result tokens.new.now }
     ensures shorter { TakesTokens tokens.old.now result tokens.new.now }
@@ -117,9 +116,9 @@ pub fn type_form(alloc: Global, depth: u32, tokens: &mut &[Token]) -> Result<Rea
     match &token.kind {
         TokenKind::Int => Ok(innermost(TypeForm::Int { span }, span)),
         TokenKind::Char => Ok(innermost(TypeForm::Char { span }, span)),
-        TokenKind::Struct => struct_type(alloc, span, tokens),
+        TokenKind::Struct => struct_type(depth.alloc(), span, tokens),
         kind => match pointer_word(kind) {
-            Some(word) => pointer_type(alloc, depth, word, span, tokens),
+            Some(word) => pointer_type(depth, word, span, tokens),
             None => Err(Stuck::Unexpected),
         },
     }
@@ -148,8 +147,7 @@ fn struct_type(alloc: Global, word: Span, tokens: &mut &[Token]) -> Result<ReadT
 /// The type behind a pointer word with this span.
 #[cycle(types)]
 fn pointer_type(
-    alloc: Global,
-    depth: u32,
+    depth: Depth,
     word: PointerWord,
     start: Span,
     tokens: &mut &[Token],
@@ -159,11 +157,11 @@ fn pointer_type(
     ensures shorter { TakesTokens tokens.old.now result tokens.new.now }
 {
     less(tokens)?;
-    let element = type_form(alloc, depth + 1, tokens)?;
+    let element = type_form(depth.deeper(), tokens)?;
     let stars = stars(tokens);
     let end = greater(tokens)?;
     let reach = element.reach.around(start.from);
-    let element = boxed(alloc, element.form)?;
+    let element = depth.boxed(element.form)?;
     let span = join(start, end);
     let form = TypeForm::Pointer {
         word,
@@ -175,12 +173,12 @@ fn pointer_type(
 }
 
 /// A type and the stars behind it.
-pub fn type_name(alloc: Global, depth: u32, tokens: &mut &[Token]) -> Result<ReadTypeName, Stuck>
+pub fn type_name(depth: Depth, tokens: &mut &[Token]) -> Result<ReadTypeName, Stuck>
     requires { depth ≤ 200 }
     ensures reads { Reads (λ x rest. IsTypeName depth tokens.old.now (type_name_of x.type_name) rest) (StuckTypeName depth tokens.old.now) result tokens.new.now }
     ensures shorter { TakesTokens tokens.old.now result tokens.new.now }
 {
-    let base = type_form(alloc, depth, tokens)?;
+    let base = type_form(depth, tokens)?;
     let stars = stars(tokens);
     let span = base.span;
     let reach = base.reach;
@@ -194,13 +192,13 @@ pub fn type_name(alloc: Global, depth: u32, tokens: &mut &[Token]) -> Result<Rea
 }
 
 /// A type in angle brackets, and the parenthesis behind them.
-pub fn angled(alloc: Global, depth: u32, tokens: &mut &[Token]) -> Result<ReadTypeName, Stuck>
+pub fn angled(depth: Depth, tokens: &mut &[Token]) -> Result<ReadTypeName, Stuck>
     requires { depth ≤ 200 }
     ensures reads { Reads (λ x rest. IsAngled depth tokens.old.now (type_name_of x.type_name) rest) (StuckAngled depth tokens.old.now) result tokens.new.now }
     ensures shorter { TakesTokens tokens.old.now result tokens.new.now }
 {
     less(tokens)?;
-    let read = type_name(alloc, depth, tokens)?;
+    let read = type_name(depth, tokens)?;
     greater(tokens)?;
     open_paren(tokens)?;
     Ok(read)

@@ -20,23 +20,22 @@ use ckc_core::program::Core;
 use ckc_names::named::Named;
 use ckc_text::fault::Refused;
 use ckc_tree::item::Item;
+use region_typing_scope::context::Context;
 use region_typing_scope::refusals::CheckError;
-use region_typing_scope::sites::Sites;
 use std::alloc::Global;
 
 // The core of items, all of which are still to be walked.
 fn core_of_items(
-    alloc: Global,
-    sites: &Sites,
+    context: &Context,
     walk: &mut Walk,
     written: &[Item],
     entry: usize,
 ) -> Result<Core, CheckError>
     requires { Outside (scope_of walk.old.scope) }
-    ensures { Answers core_view (passing (items_of (place_at sites.now) (map item_tree written.now) (walk_of walk.old) (map item_tree written.now)) (λ w. Passes (core_of_walk entry w))) result }
+    ensures { Answers core_view (passing (items_of (place_at context.now) (map item_tree written.now) (walk_of walk.old) (map item_tree written.now)) (λ w. Passes (core_of_walk entry w))) result }
 {
-    items(alloc, sites, walk, written)?;
-    core_of(alloc, walk, entry)
+    items(context, walk, written)?;
+    core_of(context, walk, entry)
 }
 
 /// The core of a program that has only forms that are built.
@@ -49,17 +48,11 @@ pub fn check(alloc: Global, src: &[u8], source: &Named) -> Result<Core, Refused>
     requires forms { is_built (tree source.now.program) ≡ true }
     ensures { CheckAnswers core_view (place_at src.now) (named_tree source.now) result }
 {
-    let sites = Sites::new(alloc, src)?;
+    let context = Context::new(alloc, src)?;
     let given = source.given();
-    let mut walk = Walk::new(alloc, given)?;
+    let mut walk = Walk::new(&context, given)?;
     let program = source.program();
-    match core_of_items(
-        alloc,
-        &sites,
-        &mut walk,
-        program.items.as_slice(),
-        given.main,
-    ) {
+    match core_of_items(&context, &mut walk, program.items.as_slice(), given.main) {
         Ok(core) => Ok(core),
         Err(CheckError::Source(fault)) => Err(Refused::Source(fault)),
         Err(CheckError::NoMemory) => Err(Refused::NoMemory),

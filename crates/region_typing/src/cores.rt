@@ -14,79 +14,79 @@ use crate::signatures::copied_signature;
 use crate::walk::{Defined, Walk};
 use ckc_core::program::{Core, Function, Import};
 use ckc_text::fault::NoMemory;
+use region_typing_scope::context::Context;
 use region_typing_scope::refusals::CheckError;
 use region_typing_scope::scope::Scope;
 use region_typing_scope::sides::is_import;
 use region_typing_scope::signature::Signature;
-use std::alloc::Global;
 use std::mem;
 
 // A function without a body.
-fn without_body(alloc: Global, f: &Signature) -> Result<Function, NoMemory>
+fn without_body(context: &Context, f: &Signature) -> Result<Function, NoMemory>
     ensures { IfOk result (λ c. function_of c ≡ without_body_of (signature f.now)) }
 {
-    let heading = copied_signature(alloc, f)?;
+    let heading = copied_signature(context, f)?;
     Ok(Function {
         name: heading.text,
         parameters: heading.parameters.len() as u32,
         locals: heading.parameters,
         result: heading.result,
-        body: Vec::new(alloc),
+        body: Vec::new(context.alloc()),
     })
 }
 
 // A function more without its body, where it is trusted.
-fn push_trusted(alloc: Global, f: &Signature, built: &mut Vec<Function>) -> Result<(), NoMemory>
+fn push_trusted(context: &Context, f: &Signature, built: &mut Vec<Function>) -> Result<(), NoMemory>
     ensures { IfOk result (λ _. map function_of built.new.items ≡ map function_of built.old.items ++ trusted_functions [] (signature f.now ∷ [])) }
 {
     if is_import(f) {
         return Ok(());
     }
-    let next = without_body(alloc, f)?;
+    let next = without_body(context, f)?;
     built.push(next)?;
     Ok(())
 }
 
 // Trusted functions, without their bodies.
-fn without_bodies(alloc: Global, functions: &[Signature]) -> Result<Vec<Function>, NoMemory>
+fn without_bodies(context: &Context, functions: &[Signature]) -> Result<Vec<Function>, NoMemory>
     ensures { IfOk result (λ v. map function_of v.items ≡ trusted_functions [] (map signature functions.now)) }
 {
-    let mut built = Vec::new(alloc);
+    let mut built = Vec::new(context.alloc());
     for f in functions {
-        push_trusted(alloc, f, &mut built)?;
+        push_trusted(context, f, &mut built)?;
     }
     Ok(built)
 }
 
-fn import(alloc: Global, f: &Signature) -> Result<Import, NoMemory>
+fn import(context: &Context, f: &Signature) -> Result<Import, NoMemory>
     ensures { IfOk result (λ i. import_of i ≡ import_as (signature f.now)) }
 {
     Ok(Import {
-        name: f.text.copy(alloc)?,
+        name: f.text.copy(context.alloc())?,
         parameters: f.parameters.len() as u32,
-        result: copied_result(alloc, &f.result)?,
+        result: copied_result(context, &f.result)?,
     })
 }
 
 // A function more, where it is tainted.
-fn push_import(alloc: Global, f: &Signature, built: &mut Vec<Import>) -> Result<(), NoMemory>
+fn push_import(context: &Context, f: &Signature, built: &mut Vec<Import>) -> Result<(), NoMemory>
     ensures { IfOk result (λ _. map import_of built.new.items ≡ map import_of built.old.items ++ tainted_functions (signature f.now ∷ [])) }
 {
     if !is_import(f) {
         return Ok(());
     }
-    let next = import(alloc, f)?;
+    let next = import(context, f)?;
     built.push(next)?;
     Ok(())
 }
 
 // Tainted functions.
-fn imports(alloc: Global, functions: &[Signature]) -> Result<Vec<Import>, NoMemory>
+fn imports(context: &Context, functions: &[Signature]) -> Result<Vec<Import>, NoMemory>
     ensures { IfOk result (λ v. map import_of v.items ≡ tainted_functions (map signature functions.now)) }
 {
-    let mut built = Vec::new(alloc);
+    let mut built = Vec::new(context.alloc());
     for f in functions {
-        push_import(alloc, f, &mut built)?;
+        push_import(context, f, &mut built)?;
     }
     Ok(built)
 }
@@ -125,13 +125,13 @@ fn place(built: &mut Vec<Function>, scope: &Scope, body: Defined)
 
 // Trusted functions with their bodies.
 fn functions(
-    alloc: Global,
+    context: &Context,
     scope: &Scope,
     bodies: &mut Vec<Defined>,
 ) -> Result<Vec<Function>, NoMemory>
     ensures { IfOk result (λ v. map function_of v.items ≡ trusted_functions (map defined bodies.old.items) (map signature scope.now.functions.items)) }
 {
-    let mut built = without_bodies(alloc, scope.functions.as_slice())?;
+    let mut built = without_bodies(context, scope.functions.as_slice())?;
     while let Some(body) = bodies.pop() {
         place(&mut built, scope, body);
     }
@@ -139,14 +139,14 @@ fn functions(
 }
 
 /// The core of what was walked, where this is the name of `main`. The cells and the bodies are moved into it.
-pub fn core_of(alloc: Global, walk: &mut Walk, entry: usize) -> Result<Core, CheckError>
+pub fn core_of(context: &Context, walk: &mut Walk, entry: usize) -> Result<Core, CheckError>
     ensures { Answers core_view (Passes (core_of_walk entry (walk_of walk.old))) result }
 {
-    let functions = functions(alloc, &walk.scope, &mut walk.bodies)?;
-    let imports = imports(alloc, walk.scope.functions.as_slice())?;
+    let functions = functions(context, &walk.scope, &mut walk.bodies)?;
+    let imports = imports(context, walk.scope.functions.as_slice())?;
     let main = walk.scope.side_number(false, entry);
     Ok(Core {
-        objects: mem::replace(&mut walk.objects, Vec::new(alloc)),
+        objects: mem::replace(&mut walk.objects, Vec::new(context.alloc())),
         imports,
         functions,
         main,

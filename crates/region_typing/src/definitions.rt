@@ -7,8 +7,8 @@ ghost use Rattle.region_typing.specs.Definitions.{Knows};
 
 use ckc_text::fault::NoMemory;
 use ckc_tree::item::Item;
+use region_typing_scope::context::Context;
 use region_typing_scope::number_table::NumberTable;
-use std::alloc::Global;
 
 /// The items of a source, with the names of the functions that have bodies among them.
 #[derive(Drop)]
@@ -32,10 +32,10 @@ fn note_definition(item: &Item, defined: &mut NumberTable) -> Result<(), NoMemor
 }
 
 /// The names of the functions that have bodies.
-pub fn defined_names(alloc: Global, items: &[Item]) -> Result<NumberTable, NoMemory>
+pub fn defined_names(context: &Context, items: &[Item]) -> Result<NumberTable, NoMemory>
     ensures { IfOk result (λ table. Knows table (map item_tree items.now)) }
 {
-    let mut defined = NumberTable::new(alloc);
+    let mut defined = NumberTable::new(context.alloc());
     for item in items {
         note_definition(item, &mut defined)?;
     }

@@ -19,14 +19,13 @@ use ckc_text::fault::NoMemory;
 use ckc_tree::item::{Block, Parameter, Parameters, ResultForm};
 use ckc_tree::stmt;
 use pointer_modes::ctype::CType;
+use region_typing_scope::context::Context;
 use region_typing_scope::refusals::{CheckError, needs};
 use region_typing_scope::scope::{Scope, Variable};
 use region_typing_scope::signature::Signature;
-use region_typing_scope::sites::Sites;
 use region_typing_scope::types::{base_type, copied, type_named, without_stars};
 use region_typing_statements::marks::is_checked;
 use region_typing_statements::statements::statements;
-use std::alloc::Global;
 
 /// How many parameters a function may have.
 const MOST_PARAMETERS: usize = 16;
@@ -43,7 +42,7 @@ fn listed(parameters: &Parameters) -> &[Parameter]
 
 // A parameter more.
 fn push_parameter(
-    alloc: Global,
+    context: &Context,
     scope: &Scope,
     written: &Parameter,
     parameters: &mut Vec<Variable>,
@@ -58,30 +57,30 @@ fn push_parameter(
     )?;
     parameters.reserve(1)?;
     let name = written.name.number;
-    let ctype = type_named(alloc, scope, &written.type_name)?;
+    let ctype = type_named(context, scope, &written.type_name)?;
     parameters.push_reserved(Variable { name, ctype });
     Ok(())
 }
 
 /// Parameters with their types.
 pub fn parameter_types(
-    alloc: Global,
+    context: &Context,
     scope: &Scope,
     written: &Parameters,
 ) -> Result<Vec<Variable>, CheckError>
     ensures types { Answers (λ v. map variable_of v.items) (parameter_types_of (scope_of scope.now) (listed_of (parameters_tree written.now)) []) result }
     ensures few { IfOk result (λ v. length v.items ≤ 16) }
 {
-    let mut parameters = Vec::new(alloc);
+    let mut parameters = Vec::new(context.alloc());
     for parameter in listed(written) {
-        push_parameter(alloc, scope, parameter, &mut parameters)?;
+        push_parameter(context, scope, parameter, &mut parameters)?;
     }
     Ok(parameters)
 }
 
 /// What a function returns.
 pub fn result_type(
-    alloc: Global,
+    context: &Context,
     scope: &Scope,
     written: &ResultForm,
     stars: usize,
@@ -94,30 +93,34 @@ pub fn result_type(
             Ok(None)
         }
         ResultForm::Value { base } => {
-            let t = base_type(alloc, scope, base)?;
+            let t = base_type(context, scope, base)?;
             Ok(Some(without_stars(base, stars, t)?))
         }
     }
 }
 
 /// A copy of what a function returns.
-pub fn copied_result(alloc: Global, t: &Option<CType>) -> Result<Option<CType>, NoMemory>
+pub fn copied_result(context: &Context, t: &Option<CType>) -> Result<Option<CType>, NoMemory>
     ensures { IfOk result (λ copy. option_map ctype_of copy ≡ option_map ctype_of t.now) }
 {
     match t {
         None => Ok(None),
-        Some(t) => Ok(Some(copied(alloc, t)?)),
+        Some(t) => Ok(Some(copied(context, t)?)),
     }
 }
 
 // Parameters as the first locals.
-fn add_parameters(alloc: Global, scope: &mut Scope, parameters: &[Variable]) -> Result<(), NoMemory>
+fn add_parameters(
+    context: &Context,
+    scope: &mut Scope,
+    parameters: &[Variable],
+) -> Result<(), NoMemory>
     requires none { scope.old.locals.items ≡ [] }
     requires few { length parameters.now ≤ 16 }
     ensures { IfOk result (λ _. scope_of scope.new ≡ with_parameters (map variable_of parameters.now) (scope_of scope.old)) }
 {
     for p in parameters {
-        let ctype = copied(alloc, &p.ctype)?;
+        let ctype = copied(context, &p.ctype)?;
         scope.add_local(p.name, ctype)?;
     }
     Ok(())
@@ -125,7 +128,7 @@ fn add_parameters(alloc: Global, scope: &mut Scope, parameters: &[Variable]) -> 
 
 // Enters a function with its parameters.
 fn enter(
-    alloc: Global,
+    context: &Context,
     scope: &mut Scope,
     f: &Signature,
     parameters: &[Variable],
@@ -133,9 +136,9 @@ fn enter(
     requires few { length parameters.now ≤ 16 }
     ensures { IfOk result (λ _. scope_of scope.new ≡ inside (signature f.now) (map variable_of parameters.now) (scope_of scope.old)) }
 {
-    let result = copied_result(alloc, &f.result)?;
-    scope.enter(alloc, result);
-    add_parameters(alloc, scope, parameters)
+    let result = copied_result(context, &f.result)?;
+    scope.enter(context, result);
+    add_parameters(context, scope, parameters)
 }
 
 // A function with its statements.
@@ -154,8 +157,7 @@ fn core_function(f: Signature, parameters: usize, locals: Vec<CType>, body: Vec<
 
 // The core of a function with a body, whose locals are gone behind it.
 fn body_of(
-    alloc: Global,
-    sites: &Sites,
+    context: &Context,
     scope: &mut Scope,
     f: &Signature,
     parameters: &[Variable],
@@ -163,19 +165,18 @@ fn body_of(
 ) -> Result<Function, CheckError>
     requires few { length parameters.now ≤ 16 }
     requires outside { Outside (scope_of scope.old) }
-    ensures { Answers (λ c. (function_of c, scope_of scope.new)) (body_core (place_at sites.now) (scope_of scope.old) (signature f.now) (map variable_of parameters.now) (statement_list body.now)) result }
+    ensures { Answers (λ c. (function_of c, scope_of scope.new)) (body_core (place_at context.now) (scope_of scope.old) (signature f.now) (map variable_of parameters.now) (statement_list body.now)) result }
 {
-    enter(alloc, scope, f, parameters)?;
-    let built = statements(alloc, sites, scope, body)?;
-    let heading = copied_signature(alloc, f)?;
-    let locals = scope.exit(alloc);
+    enter(context, scope, f, parameters)?;
+    let built = statements(context, scope, body)?;
+    let heading = copied_signature(context, f)?;
+    let locals = scope.exit(context);
     Ok(core_function(heading, parameters.len(), locals, built))
 }
 
 // The body of a function.
 fn with_body(
-    alloc: Global,
-    sites: &Sites,
+    context: &Context,
     walk: &mut Walk,
     f: &Signature,
     parameters: &[Variable],
@@ -183,11 +184,11 @@ fn with_body(
 ) -> Result<(), CheckError>
     requires few { length parameters.now ≤ 16 }
     requires outside { Outside (scope_of walk.old.scope) }
-    ensures { Answers (λ _. walk_of walk.new) (function_body_of (place_at sites.now) (walk_of walk.old) (signature f.now) (map variable_of parameters.now) (Some (body_tree body.now))) result }
+    ensures { Answers (λ _. walk_of walk.new) (function_body_of (place_at context.now) (walk_of walk.old) (signature f.now) (map variable_of parameters.now) (Some (body_tree body.now))) result }
 {
     let checked = is_checked(&walk.scope, body.mark);
     let written = body.statements.as_slice();
-    let built = body_of(alloc, sites, &mut walk.scope, f, parameters, written)?;
+    let built = body_of(context, &mut walk.scope, f, parameters, written)?;
     walk.bodies.push(Defined {
         name: f.name,
         function: built,
@@ -197,8 +198,7 @@ fn with_body(
 
 /// The body of a function, if it has one.
 pub fn function_body(
-    alloc: Global,
-    sites: &Sites,
+    context: &Context,
     walk: &mut Walk,
     f: &Signature,
     parameters: &[Variable],
@@ -206,10 +206,10 @@ pub fn function_body(
 ) -> Result<(), CheckError>
     requires few { length parameters.now ≤ 16 }
     requires outside { Outside (scope_of walk.old.scope) }
-    ensures { Answers (λ _. walk_of walk.new) (function_body_of (place_at sites.now) (walk_of walk.old) (signature f.now) (map variable_of parameters.now) (option_map body_tree body.now)) result }
+    ensures { Answers (λ _. walk_of walk.new) (function_body_of (place_at context.now) (walk_of walk.old) (signature f.now) (map variable_of parameters.now) (option_map body_tree body.now)) result }
 {
     match body {
         None => Ok(()),
-        Some(body) => with_body(alloc, sites, walk, f, parameters, body),
+        Some(body) => with_body(context, walk, f, parameters, body),
     }
 }

@@ -25,11 +25,10 @@ use ckc_tree::stmt::{Declarator, Initializer};
 use ckc_tree::type_form::TypeForm;
 use pointer_modes::ctype::CType;
 use region_typing_expressions::expressions::typed;
+use region_typing_scope::context::Context;
 use region_typing_scope::refusals::{CheckError, meant, needs};
 use region_typing_scope::scope::Scope;
-use region_typing_scope::sites::Sites;
 use region_typing_scope::types::{base_type, copied};
-use std::alloc::Global;
 
 /// How many file-level variables a program may have.
 const MOST_VARIABLES: usize = 4096;
@@ -93,17 +92,16 @@ fn room_for_first(walk: &Walk, d: &Declaration) -> Result<u32, CheckError>
 
 // What a variable is initialised with.
 fn initializer(
-    alloc: Global,
-    sites: &Sites,
+    context: &Context,
     scope: &Scope,
     written: &Option<Initializer>,
 ) -> Result<Judged, CheckError>
-    ensures { Answers judged_view (judged_initializer (place_at sites.now) (scope_of scope.now) (option_map initializer_tree written.now)) result }
+    ensures { Answers judged_view (judged_initializer (place_at context.now) (scope_of scope.now) (option_map initializer_tree written.now)) result }
 {
     match written {
         None => Ok(Judged::Missing),
         Some(Initializer::Value { value }) => {
-            let t = typed(alloc, sites, scope, value)?;
+            let t = typed(context, scope, value)?;
             Ok(judged_value(scope.given, value, &t))
         }
         Some(Initializer::List { .. }) => Ok(Judged::List),
@@ -112,7 +110,7 @@ fn initializer(
 
 // A variable more.
 fn add_variable(
-    alloc: Global,
+    context: &Context,
     walk: &mut Walk,
     name: usize,
     t: &CType,
@@ -122,44 +120,42 @@ fn add_variable(
     requires room { taken ≤ 32768 }
     ensures { OnOk result (walk_of walk.new ≡ with_one name (ctype_of t.now) taken (walk_of walk.old)) }
 {
-    walk.scope.add_variable(name, copied(alloc, t)?)?;
+    walk.scope.add_variable(name, copied(context, t)?)?;
     walk.taken = taken;
     Ok(())
 }
 
 // One variable of a declaration, and what it is initialised with.
 fn variable(
-    alloc: Global,
-    sites: &Sites,
+    context: &Context,
     walk: &mut Walk,
     base: &TypeForm,
     t: &CType,
     span: Span,
     d: &Declarator,
 ) -> Result<Judged, CheckError>
-    ensures { Answers (λ v. (walk_of walk.new, judged_variable (ctype_of t.now) v)) (one_variable (place_at sites.now) (walk_of walk.old) (type_tree base.now) (ctype_of t.now) span (declarator_tree d.now)) result }
+    ensures { Answers (λ v. (walk_of walk.new, judged_variable (ctype_of t.now) v)) (one_variable (place_at context.now) (walk_of walk.old) (type_tree base.now) (ctype_of t.now) span (declarator_tree d.now)) result }
 {
     let taken = room_for(walk, base, span, d)?;
     needs(d.stars == 0, Code::E15, base.span())?;
-    add_variable(alloc, walk, d.name.number, t, taken)?;
-    initializer(alloc, sites, &walk.scope, &d.initializer)
+    add_variable(context, walk, d.name.number, t, taken)?;
+    initializer(context, &walk.scope, &d.initializer)
 }
 
 // The variables of a declaration, and what each is initialised with.
 fn variables(
-    alloc: Global,
-    sites: &Sites,
+    context: &Context,
     walk: &mut Walk,
     base: &TypeForm,
     t: &CType,
     span: Span,
     ds: &[Declarator],
 ) -> Result<Vec<Judged>, CheckError>
-    ensures { Answers (λ v. (walk_of walk.new, map (judged_variable (ctype_of t.now)) v.items)) (judged_variables (place_at sites.now) (type_tree base.now) (ctype_of t.now) span (map declarator_tree ds.now) (walk_of walk.old, [])) result }
+    ensures { Answers (λ v. (walk_of walk.new, map (judged_variable (ctype_of t.now)) v.items)) (judged_variables (place_at context.now) (type_tree base.now) (ctype_of t.now) span (map declarator_tree ds.now) (walk_of walk.old, [])) result }
 {
-    let mut walked = Vec::new(alloc);
+    let mut walked = Vec::new(context.alloc());
     for d in ds {
-        let next = variable(alloc, sites, walk, base, t, span, d)?;
+        let next = variable(context, walk, base, t, span, d)?;
         walked.push(next)?;
     }
     Ok(walked)
@@ -167,7 +163,7 @@ fn variables(
 
 // The cells of a variable.
 fn object(
-    alloc: Global,
+    context: &Context,
     walk: &mut Walk,
     span: Span,
     t: &CType,
@@ -175,7 +171,7 @@ fn object(
 ) -> Result<(), CheckError>
     ensures { Answers (λ _. walk_of walk.new) (one_object span (judged_variable (ctype_of t.now) v.now) (walk_of walk.old)) result }
 {
-    let cells = cells_of(alloc, &walk.scope.structs, t, *v, span)?;
+    let cells = cells_of(context, &walk.scope.structs, t, *v, span)?;
     let filled = !cells.is_empty();
     walk.objects.push(Object { cells })?;
     needs(filled, Code::E10, span)
@@ -183,7 +179,7 @@ fn object(
 
 // The cells of variables.
 fn objects(
-    alloc: Global,
+    context: &Context,
     walk: &mut Walk,
     span: Span,
     t: &CType,
@@ -192,31 +188,18 @@ fn objects(
     ensures { Answers (λ _. walk_of walk.new) (judged_objects span (map (judged_variable (ctype_of t.now)) vs.now) (walk_of walk.old)) result }
 {
     for v in vs {
-        object(alloc, walk, span, t, v)?;
+        object(context, walk, span, t, v)?;
     }
     Ok(())
 }
 
 /// A declaration of file-level variables.
-pub fn global(
-    alloc: Global,
-    sites: &Sites,
-    walk: &mut Walk,
-    d: &Declaration,
-) -> Result<(), CheckError>
-    ensures { Answers (λ _. walk_of walk.new) (global_of (place_at sites.now) (walk_of walk.old) (global_tree d.now)) result }
+pub fn global(context: &Context, walk: &mut Walk, d: &Declaration) -> Result<(), CheckError>
+    ensures { Answers (λ _. walk_of walk.new) (global_of (place_at context.now) (walk_of walk.old) (global_tree d.now)) result }
 {
     room_for_first(walk, d)?;
-    let t = base_type(alloc, &walk.scope, &d.base)?;
-    let vs = variables(
-        alloc,
-        sites,
-        walk,
-        &d.base,
-        &t,
-        d.span,
-        d.declarators.as_slice(),
-    )?;
-    objects(alloc, walk, d.span, &t, vs.as_slice())?;
+    let t = base_type(context, &walk.scope, &d.base)?;
+    let vs = variables(context, walk, &d.base, &t, d.span, d.declarators.as_slice())?;
+    objects(context, walk, d.span, &t, vs.as_slice())?;
     needs(!walk.scope.is_off, Code::E15, d.span)
 }

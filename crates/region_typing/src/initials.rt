@@ -20,10 +20,10 @@ use ckc_text::place::Span;
 use ckc_tree::expr::{Expr, UnaryOperator};
 use pointer_modes::ctype::{CType, Member};
 use pointer_modes::structs::Structs;
+use region_typing_scope::context::Context;
 use region_typing_scope::refusals::{CheckError, refusal};
 use region_typing_scope::types::copied;
 use region_typing_values::typed::{Typed, is_zero};
-use std::alloc::Global;
 
 /// What a variable is initialised with.
 #[derive(Drop, Clone, Copy)]
@@ -115,7 +115,7 @@ fn stride(structs: &Structs, t: &CType, cells: u32, i: u32) -> u32
 
 // The only cell of a scalar.
 fn scalar_cell(
-    alloc: Global,
+    context: &Context,
     structs: &Structs,
     t: &CType,
     number: i32,
@@ -124,18 +124,18 @@ fn scalar_cell(
     ensures { IfOk result (λ v. map initial_of v.items ≡ cells_as structs.now (ctype_of t.now) number) }
 {
     let cell = Initial {
-        ctype: copied(alloc, t)?,
+        ctype: copied(context, t)?,
         stride: structs.size_of(t),
         number,
     };
-    let mut cells = Vec::new(alloc);
+    let mut cells = Vec::new(context.alloc());
     cells.push(cell)?;
     Ok(cells)
 }
 
 // A cell for each member of a struct.
 fn member_cells(
-    alloc: Global,
+    context: &Context,
     structs: &Structs,
     t: &CType,
     members: &[Member],
@@ -145,9 +145,9 @@ fn member_cells(
     requires few { length members.now ≤ 64 }
     ensures { IfOk result (λ v. map initial_of v.items ≡ cells_as structs.now (ctype_of t.now) number) }
 {
-    let mut cells = Vec::new(alloc);
+    let mut cells = Vec::new(context.alloc());
     for member in members {
-        let ctype = copied(alloc, &member.ctype)?;
+        let ctype = copied(context, &member.ctype)?;
         let stride = stride(structs, t, members.len() as u32, cells.len() as u32);
         cells.push(Initial {
             ctype,
@@ -160,7 +160,7 @@ fn member_cells(
 
 // The cells of a variable, each with this number.
 fn cells_with(
-    alloc: Global,
+    context: &Context,
     structs: &Structs,
     t: &CType,
     number: i32,
@@ -168,10 +168,10 @@ fn cells_with(
     ensures { IfOk result (λ v. map initial_of v.items ≡ cells_as structs.now (ctype_of t.now) number) }
 {
     match t {
-        CType::Int | CType::Char | CType::Pointer(..) => scalar_cell(alloc, structs, t, number),
+        CType::Int | CType::Char | CType::Pointer(..) => scalar_cell(context, structs, t, number),
         CType::Struct(struct_number) => {
             let members = structs.members(*struct_number);
-            member_cells(alloc, structs, t, members, number)
+            member_cells(context, structs, t, members, number)
         }
     }
 }
@@ -190,7 +190,7 @@ fn cell_number(t: &CType, zero: bool, number: Option<i32>) -> Option<i32>
 
 // The cells of a variable that is initialised with a value.
 fn constant_cells(
-    alloc: Global,
+    context: &Context,
     structs: &Structs,
     t: &CType,
     zero: bool,
@@ -201,13 +201,13 @@ fn constant_cells(
 {
     match cell_number(t, zero, number) {
         None => Err(refusal(Code::E13, span)),
-        Some(n) => Ok(cells_with(alloc, structs, t, n)?),
+        Some(n) => Ok(cells_with(context, structs, t, n)?),
     }
 }
 
 /// The cells of a variable by what it is initialised with.
 pub fn cells_of(
-    alloc: Global,
+    context: &Context,
     structs: &Structs,
     t: &CType,
     initial: Judged,
@@ -216,8 +216,10 @@ pub fn cells_of(
     ensures { Answers (λ v. map initial_of v.items) (judged_cells structs.now (ctype_of t.now) (judged_of initial) span) result }
 {
     match initial {
-        Judged::Missing => Ok(cells_with(alloc, structs, t, 0)?),
-        Judged::Constant { zero, number } => constant_cells(alloc, structs, t, zero, number, span),
+        Judged::Missing => Ok(cells_with(context, structs, t, 0)?),
+        Judged::Constant { zero, number } => constant_cells(
+            context, structs, t, zero, number, span,
+        ),
         Judged::List => Err(refusal(Code::E13, span)),
     }
 }

@@ -22,12 +22,11 @@ use crate::structures::structure;
 use crate::walk::Walk;
 use ckc_text::code::Code;
 use ckc_tree::item::{Function, FunctionKind, Item, Region};
+use region_typing_scope::context::Context;
 use region_typing_scope::refusals::{CheckError, needs};
 use region_typing_scope::scope::Scope;
 use region_typing_scope::signature::Signature;
-use region_typing_scope::sites::Sites;
 use region_typing_statements::marks::is_checked;
-use std::alloc::Global;
 
 /// How many functions a program may declare.
 const MOST_FUNCTIONS: usize = 4096;
@@ -67,8 +66,7 @@ fn has_room(scope: &Scope, name: usize) -> bool
 
 // A function whose declaration is known, where there is room for it.
 fn with_prototype(
-    alloc: Global,
-    sites: &Sites,
+    context: &Context,
     listing: &Listing,
     walk: &mut Walk,
     known: &Prototype,
@@ -76,29 +74,28 @@ fn with_prototype(
 ) -> Result<(), CheckError>
     requires outside { Outside (scope_of walk.old.scope) }
     requires room { function_named (scope_of walk.old.scope).functions known.now.signature.name ≡ None → length walk.old.scope.functions.items < 4096 }
-    ensures { Answers (λ _. walk_of walk.new) (behind_declaration (place_at sites.now) (map item_tree listing.now.items.now) (walk_of walk.old) (function_tree d.now) (declared_view known.now)) result }
+    ensures { Answers (λ _. walk_of walk.new) (behind_declaration (place_at context.now) (map item_tree listing.now.items.now) (walk_of walk.old) (function_tree d.now) (declared_view known.now)) result }
 {
     let suits = fits(&walk.scope, &known.signature);
-    declare(alloc, &mut walk.scope, &known.signature)?;
+    declare(context, &mut walk.scope, &known.signature)?;
     let parameters = known.parameters.as_slice();
-    function_body(alloc, sites, walk, &known.signature, parameters, &d.body)?;
+    function_body(context, walk, &known.signature, parameters, &d.body)?;
     keep_rules(listing, &walk.scope, d, suits)
 }
 
 // A function.
 fn function(
-    alloc: Global,
-    sites: &Sites,
+    context: &Context,
     listing: &Listing,
     walk: &mut Walk,
     d: &Function,
 ) -> Result<(), CheckError>
     requires { Outside (scope_of walk.old.scope) }
-    ensures { Answers (λ _. walk_of walk.new) (function_of (place_at sites.now) (map item_tree listing.now.items.now) (walk_of walk.old) (function_tree d.now)) result }
+    ensures { Answers (λ _. walk_of walk.new) (function_of (place_at context.now) (map item_tree listing.now.items.now) (walk_of walk.old) (function_tree d.now)) result }
 {
     needs(has_room(&walk.scope, d.name.number), Code::E08, d.span)?;
-    let known = declared(alloc, &walk.scope, d)?;
-    with_prototype(alloc, sites, listing, walk, &known, d)
+    let known = declared(context, &walk.scope, d)?;
+    with_prototype(context, listing, walk, &known, d)
 }
 
 fn is_off(region: Region) -> bool
@@ -112,56 +109,45 @@ fn is_off(region: Region) -> bool
 
 // One item of a source.
 fn item(
-    alloc: Global,
-    sites: &Sites,
+    context: &Context,
     listing: &Listing,
     walk: &mut Walk,
     written: &Item,
 ) -> Result<(), CheckError>
     requires { Outside (scope_of walk.old.scope) }
-    ensures { Answers (λ _. walk_of walk.new) (item_of (place_at sites.now) (map item_tree listing.now.items.now) (walk_of walk.old) (item_tree written.now)) result }
+    ensures { Answers (λ _. walk_of walk.new) (item_of (place_at context.now) (map item_tree listing.now.items.now) (walk_of walk.old) (item_tree written.now)) result }
 {
     match written {
         Item::Region { region, .. } => {
             walk.scope.is_off = is_off(*region);
             Ok(())
         }
-        Item::Structure { structure: d } => structure(alloc, walk, d),
-        Item::Global { global: d } => global(alloc, sites, walk, d),
-        Item::Function { function: d } => function(alloc, sites, listing, walk, d),
+        Item::Structure { structure: d } => structure(context, walk, d),
+        Item::Global { global: d } => global(context, walk, d),
+        Item::Function { function: d } => function(context, listing, walk, d),
     }
 }
 
 // Each item of a source, in their order.
-fn each_item(
-    alloc: Global,
-    sites: &Sites,
-    listing: &Listing,
-    walk: &mut Walk,
-) -> Result<(), CheckError>
+fn each_item(context: &Context, listing: &Listing, walk: &mut Walk) -> Result<(), CheckError>
     requires { Outside (scope_of walk.old.scope) }
-    ensures { Answers (λ _. walk_of walk.new) (items_of (place_at sites.now) (map item_tree listing.now.items.now) (walk_of walk.old) (map item_tree listing.now.items.now)) result }
+    ensures { Answers (λ _. walk_of walk.new) (items_of (place_at context.now) (map item_tree listing.now.items.now) (walk_of walk.old) (map item_tree listing.now.items.now)) result }
 {
     let written = listing.items;
     for listed in written {
-        item(alloc, sites, listing, walk, listed)?;
+        item(context, listing, walk, listed)?;
     }
     Ok(())
 }
 
 /// The items of a source, in their order.
-pub fn items(
-    alloc: Global,
-    sites: &Sites,
-    walk: &mut Walk,
-    written: &[Item],
-) -> Result<(), CheckError>
+pub fn items(context: &Context, walk: &mut Walk, written: &[Item]) -> Result<(), CheckError>
     requires { Outside (scope_of walk.old.scope) }
-    ensures { Answers (λ _. walk_of walk.new) (items_of (place_at sites.now) (map item_tree written.now) (walk_of walk.old) (map item_tree written.now)) result }
+    ensures { Answers (λ _. walk_of walk.new) (items_of (place_at context.now) (map item_tree written.now) (walk_of walk.old) (map item_tree written.now)) result }
 {
     let listing = Listing {
         items: written,
-        defined: defined_names(alloc, written)?,
+        defined: defined_names(context, written)?,
     };
-    each_item(alloc, sites, &listing, walk)
+    each_item(context, &listing, walk)
 }

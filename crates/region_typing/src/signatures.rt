@@ -15,11 +15,11 @@ use crate::prototype::Prototype;
 use ckc_text::fault::NoMemory;
 use ckc_tree::item::{Function, FunctionKind};
 use pointer_modes::ctype::CType;
+use region_typing_scope::context::Context;
 use region_typing_scope::refusals::CheckError;
 use region_typing_scope::scope::{Scope, Variable};
 use region_typing_scope::signature::Signature;
 use region_typing_scope::types::{copied, is_scalar, same_type};
-use std::alloc::Global;
 
 fn same_types(a: &[CType], b: &[CType]) -> bool
     ensures { result ≡ same_types_of (map ctype_of a.now) (map ctype_of b.now) }
@@ -96,38 +96,38 @@ pub fn is_scalar_signature(f: &Signature) -> bool
 }
 
 /// A copy of types.
-pub fn copied_types(alloc: Global, types: &[CType]) -> Result<Vec<CType>, NoMemory>
+pub fn copied_types(context: &Context, types: &[CType]) -> Result<Vec<CType>, NoMemory>
     ensures { IfOk result (λ v. map ctype_of v.items ≡ map ctype_of types.now) }
 {
-    let mut copies = Vec::new(alloc);
+    let mut copies = Vec::new(context.alloc());
     for t in types {
-        copies.push(copied(alloc, t)?)?;
+        copies.push(copied(context, t)?)?;
     }
     Ok(copies)
 }
 
 // The types of parameters.
-fn types_of(alloc: Global, parameters: &[Variable]) -> Result<Vec<CType>, NoMemory>
+fn types_of(context: &Context, parameters: &[Variable]) -> Result<Vec<CType>, NoMemory>
     ensures { IfOk result (λ v. map ctype_of v.items ≡ map (λ p. p.type) (map variable_of parameters.now)) }
 {
-    let mut types = Vec::new(alloc);
+    let mut types = Vec::new(context.alloc());
     for p in parameters {
-        types.push(copied(alloc, &p.ctype)?)?;
+        types.push(copied(context, &p.ctype)?)?;
     }
     Ok(types)
 }
 
 /// A declaration of a function.
-pub fn declared(alloc: Global, scope: &Scope, d: &Function) -> Result<Prototype, CheckError>
+pub fn declared(context: &Context, scope: &Scope, d: &Function) -> Result<Prototype, CheckError>
     ensures { Answers declared_view (declared_function (scope_of scope.now) (function_tree d.now)) result }
 {
-    let result = result_type(alloc, scope, &d.result, d.stars)?;
-    let parameters = parameter_types(alloc, scope, &d.parameters)?;
+    let result = result_type(context, scope, &d.result, d.stars)?;
+    let parameters = parameter_types(context, scope, &d.parameters)?;
     let signature = Signature {
         name: d.name.number,
-        text: d.name.name.copy(alloc)?,
+        text: d.name.name.copy(context.alloc())?,
         kind: d.kind,
-        parameters: types_of(alloc, parameters.as_slice())?,
+        parameters: types_of(context, parameters.as_slice())?,
         result,
     };
     Ok(Prototype {
@@ -137,27 +137,27 @@ pub fn declared(alloc: Global, scope: &Scope, d: &Function) -> Result<Prototype,
 }
 
 /// A copy of a signature.
-pub fn copied_signature(alloc: Global, f: &Signature) -> Result<Signature, NoMemory>
+pub fn copied_signature(context: &Context, f: &Signature) -> Result<Signature, NoMemory>
     ensures { IfOk result (λ copy. signature copy ≡ signature f.now) }
 {
     Ok(Signature {
         name: f.name,
-        text: f.text.copy(alloc)?,
+        text: f.text.copy(context.alloc())?,
         kind: f.kind,
-        parameters: copied_types(alloc, f.parameters.as_slice())?,
-        result: copied_result(alloc, &f.result)?,
+        parameters: copied_types(context, f.parameters.as_slice())?,
+        result: copied_result(context, &f.result)?,
     })
 }
 
 /// Makes a function known, where its name wasn't declared before.
-pub fn declare(alloc: Global, scope: &mut Scope, f: &Signature) -> Result<(), NoMemory>
+pub fn declare(context: &Context, scope: &mut Scope, f: &Signature) -> Result<(), NoMemory>
     requires { function_named (scope_of scope.old).functions f.now.name ≡ None → length scope.old.functions.items < 4096 }
     ensures { IfOk result (λ _. scope_of scope.new ≡ with_function (function_named (scope_of scope.old).functions f.now.name) (signature f.now) (scope_of scope.old)) }
 {
     match scope.function(f.name) {
         Some(_) => Ok(()),
         None => {
-            let copy = copied_signature(alloc, f)?;
+            let copy = copied_signature(context, f)?;
             scope.add_function(copy)
         }
     }

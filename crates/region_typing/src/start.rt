@@ -7,21 +7,20 @@ ghost use Rattle.region_typing.specs.Items.{walk as walk_of};
 use crate::walk::Walk;
 use ckc_names_rules::given::Given;
 use ckc_text::fault::NoMemory;
+use region_typing_scope::context::Context;
 use region_typing_scope::scope::Scope;
-use region_typing_values::on_heap::boxed;
-use std::alloc::Global;
 
 impl Walk {
     /// Nothing known, on the heap, so that the many parts are one word to who holds them.
-    pub fn new(alloc: Global, given: Given) -> Result<Box<Walk>, NoMemory>
+    pub fn new(context: &Context, given: Given) -> Result<Box<Walk>, NoMemory>
         ensures { IfOk result (λ walk. walk_of walk.value ≡ start given) }
     {
         let walk = Walk {
-            scope: Scope::new(alloc, given),
-            objects: Vec::new(alloc),
+            scope: Scope::new(context, given),
+            objects: Vec::new(context.alloc()),
             taken: 0,
-            bodies: Vec::new(alloc),
+            bodies: Vec::new(context.alloc()),
         };
-        boxed(alloc, walk)
+        context.boxed(walk)
     }
 }

@@ -15,10 +15,10 @@ use ckc_text::fault::NoMemory;
 use ckc_tree::item;
 use ckc_tree::item::Structure;
 use pointer_modes::ctype::{CType, Member};
+use region_typing_scope::context::Context;
 use region_typing_scope::refusals::{CheckError, needs};
 use region_typing_scope::scope::Scope;
 use region_typing_scope::types::type_named;
-use std::alloc::Global;
 
 /// How many members a struct may have.
 const MOST_MEMBERS: usize = 64;
@@ -31,7 +31,7 @@ fn is_struct(t: &CType) -> bool
 
 // A member more.
 fn push_member(
-    alloc: Global,
+    context: &Context,
     scope: &Scope,
     written: &item::Member,
     members: &mut Vec<Member>,
@@ -45,8 +45,8 @@ fn push_member(
         written.type_name.base.span(),
     )?;
     members.reserve(1)?;
-    let name = written.name.name.copy(alloc)?;
-    let ctype = type_named(alloc, scope, &written.type_name)?;
+    let name = written.name.name.copy(context.alloc())?;
+    let ctype = type_named(context, scope, &written.type_name)?;
     members.push_reserved(Member {
         name,
         ctype,
@@ -57,16 +57,16 @@ fn push_member(
 
 // Members with their types.
 fn member_types(
-    alloc: Global,
+    context: &Context,
     scope: &Scope,
     written: &[item::Member],
 ) -> Result<Vec<Member>, CheckError>
     ensures types { Answers (λ v. map member_of v.items) (member_types_of (scope_of scope.now) (map member_tree written.now) []) result }
     ensures few { IfOk result (λ v. length v.items ≤ 64) }
 {
-    let mut members = Vec::new(alloc);
+    let mut members = Vec::new(context.alloc());
     for member in written {
-        push_member(alloc, scope, member, &mut members)?;
+        push_member(context, scope, member, &mut members)?;
     }
     Ok(members)
 }
@@ -82,10 +82,10 @@ fn are_scalar(members: &[Member]) -> Result<(), CheckError>
 }
 
 // The names of members.
-fn member_names(alloc: Global, members: &[item::Member]) -> Result<Vec<usize>, NoMemory>
+fn member_names(context: &Context, members: &[item::Member]) -> Result<Vec<usize>, NoMemory>
     ensures { IfOk result (λ v. v.items ≡ member_names_of (map member_tree members.now)) }
 {
-    let mut names = Vec::new(alloc);
+    let mut names = Vec::new(context.alloc());
     for member in members {
         names.push(member.name.number)?;
     }
@@ -93,15 +93,15 @@ fn member_names(alloc: Global, members: &[item::Member]) -> Result<Vec<usize>, N
 }
 
 /// A struct.
-pub fn structure(alloc: Global, walk: &mut Walk, d: &Structure) -> Result<(), CheckError>
+pub fn structure(context: &Context, walk: &mut Walk, d: &Structure) -> Result<(), CheckError>
     ensures { Answers (λ _. walk_of walk.new) (structure_of (walk_of walk.old) (structure_tree d.now)) result }
 {
     let checked = !walk.scope.is_off;
-    let names = member_names(alloc, d.members.as_slice())?;
+    let names = member_names(context, d.members.as_slice())?;
     let number = walk
         .scope
         .add_struct(d.tag.number, names, d.tainted, d.span)?;
-    let members = member_types(alloc, &walk.scope, d.members.as_slice())?;
+    let members = member_types(context, &walk.scope, d.members.as_slice())?;
     are_scalar(members.as_slice())?;
     walk.scope.give_members(number, members);
     needs(checked, Code::E15, d.span)

@@ -23,15 +23,13 @@ use ckc_text::place::Span;
 use ckc_tree::expr::Expr;
 use ckc_tree::stmt::{Assignment, StepOperator, StoreOperator};
 use pointer_modes::ctype::CType;
+use region_typing_scope::context::Context;
 use region_typing_scope::refusals::{CheckError, refusal};
 use region_typing_scope::scope::Scope;
-use region_typing_scope::sites::Sites;
 use region_typing_scope::types::{is_number, is_pointer};
 use region_typing_values::conversions::converted;
-use region_typing_values::on_heap::boxed;
 use region_typing_values::operands::{number, scalar};
 use region_typing_values::typed::{Typed, plain};
-use std::alloc::Global;
 
 /// Where a value may be stored.
 #[derive(Drop)]
@@ -48,20 +46,20 @@ pub struct Target {
 }
 
 // A place of a type.
-fn target_at(alloc: Global, ctype: CType, place: Lvalue) -> Result<Box<Target>, CheckError>
+fn target_at(context: &Context, ctype: CType, place: Lvalue) -> Result<Box<Target>, CheckError>
     ensures { Answers target_on_heap (Passes (target_view (record { ctype = ctype; place = place }))) result }
 {
-    Ok(boxed(alloc, Target { ctype, place })?)
+    Ok(context.boxed(Target { ctype, place })?)
 }
 
 /// The place that an expression stands for.
-fn target_of(alloc: Global, t: Box<Typed>, span: Span) -> Result<Box<Target>, CheckError>
+fn target_of(context: &Context, t: Box<Typed>, span: Span) -> Result<Box<Target>, CheckError>
     ensures { Answers target_on_heap (target_in (typed_view t) span) result }
 {
     match Box::into_inner(t) {
         Typed::Value { .. } => Err(refusal(Code::E12, span)),
-        Typed::Local { ctype, local } => target_at(alloc, ctype, Lvalue::Local(local)),
-        Typed::Cell { ctype, place } => target_at(alloc, ctype, Lvalue::Cell(place)),
+        Typed::Local { ctype, local } => target_at(context, ctype, Lvalue::Local(local)),
+        Typed::Cell { ctype, place } => target_at(context, ctype, Lvalue::Cell(place)),
         Typed::Struct { .. } => Err(refusal(Code::E13, span)),
     }
 }
@@ -79,16 +77,16 @@ fn store(target: Target, value: program::Expr) -> Stmt
 
 // A store of a value that converts.
 fn set_to(
-    alloc: Global,
+    context: &Context,
     left: Box<Typed>,
     right: Box<Typed>,
     span: Span,
 ) -> Result<Box<Stmt>, CheckError>
     ensures { Answers statement_on_heap (set_to_of (typed_view left) (typed_view right) span) result }
 {
-    let target = target_of(alloc, left, span)?;
-    let value = converted(alloc, right, &target.ctype, span)?;
-    Ok(boxed(alloc, store(Box::into_inner(target), value))?)
+    let target = target_of(context, left, span)?;
+    let value = converted(context, right, &target.ctype, span)?;
+    Ok(context.boxed(store(Box::into_inner(target), value))?)
 }
 
 // Whether a type is `char`.
@@ -154,7 +152,7 @@ fn update(target: Target, operator: Operator, value: program::Expr, site: Site) 
 
 // An update of a target.
 fn update_target(
-    alloc: Global,
+    context: &Context,
     operator: Operator,
     target: Box<Target>,
     right: Box<Typed>,
@@ -169,42 +167,40 @@ fn update_target(
     if !is_number(&target.ctype) {
         return Err(refusal(Code::E13, span));
     }
-    let value = number(alloc, right, span)?;
+    let value = number(context, right, span)?;
     let target = Box::into_inner(target);
     let value = Box::into_inner(value);
-    Ok(boxed(alloc, update(target, operator, value, site))?)
+    Ok(context.boxed(update(target, operator, value, site))?)
 }
 
 // An update by the rules of the sum or the difference.
 fn updated(
-    alloc: Global,
-    sites: &Sites,
+    context: &Context,
     operator: Operator,
     left: Box<Typed>,
     right: Box<Typed>,
     span: Span,
 ) -> Result<Box<Stmt>, CheckError>
-    ensures { Answers statement_on_heap (updated_of (place_at sites.now) operator (typed_view left) (typed_view right) span) result }
+    ensures { Answers statement_on_heap (updated_of (place_at context.now) operator (typed_view left) (typed_view right) span) result }
 {
-    let target = target_of(alloc, left, span)?;
-    update_target(alloc, operator, target, right, sites.site(span), span)
+    let target = target_of(context, left, span)?;
+    update_target(context, operator, target, right, context.site(span), span)
 }
 
 // An assignment by its operator.
 fn stored(
-    alloc: Global,
-    sites: &Sites,
+    context: &Context,
     operator: StoreOperator,
     left: Box<Typed>,
     right: Box<Typed>,
     span: Span,
 ) -> Result<Box<Stmt>, CheckError>
-    ensures { Answers statement_on_heap (stored_of (place_at sites.now) operator (typed_view left) (typed_view right) span) result }
+    ensures { Answers statement_on_heap (stored_of (place_at context.now) operator (typed_view left) (typed_view right) span) result }
 {
     match operator {
-        StoreOperator::Set => set_to(alloc, left, right, span),
-        StoreOperator::Add => updated(alloc, sites, Operator::Add, left, right, span),
-        StoreOperator::Subtract => updated(alloc, sites, Operator::Subtract, left, right, span),
+        StoreOperator::Set => set_to(context, left, right, span),
+        StoreOperator::Add => updated(context, Operator::Add, left, right, span),
+        StoreOperator::Subtract => updated(context, Operator::Subtract, left, right, span),
     }
 }
 
@@ -218,20 +214,19 @@ fn step_of(operator: StepOperator) -> Operator
 }
 
 // The number 1.
-fn one(alloc: Global) -> Result<Box<Typed>, NoMemory>
+fn one(context: &Context) -> Result<Box<Typed>, NoMemory>
     ensures { IfOk result (λ t. typed_view t ≡ one_of) }
 {
-    plain(alloc, CType::Int, program::Expr::Number(1))
+    plain(context, CType::Int, program::Expr::Number(1))
 }
 
 /// An assignment.
 pub fn assignment(
-    alloc: Global,
-    sites: &Sites,
+    context: &Context,
     scope: &Scope,
     written: &Assignment,
 ) -> Result<Box<Stmt>, CheckError>
-    ensures { Answers statement_on_heap (assignment_of (place_at sites.now) (scope_of scope.now) (assignment_tree written.now)) result }
+    ensures { Answers statement_on_heap (assignment_of (place_at context.now) (scope_of scope.now) (assignment_tree written.now)) result }
 {
     match written {
         Assignment::Store {
@@ -240,9 +235,9 @@ pub fn assignment(
             value,
             span,
         } => {
-            let left = typed(alloc, sites, scope, target)?;
-            let right = typed(alloc, sites, scope, value)?;
-            stored(alloc, sites, *operator, left, right, *span)
+            let left = typed(context, scope, target)?;
+            let right = typed(context, scope, value)?;
+            stored(context, *operator, left, right, *span)
         }
         Assignment::Step {
             operator,
@@ -250,22 +245,21 @@ pub fn assignment(
             span,
             ..
         } => {
-            let left = typed(alloc, sites, scope, target)?;
-            let right = one(alloc)?;
-            updated(alloc, sites, step_of(*operator), left, right, *span)
+            let left = typed(context, scope, target)?;
+            let right = one(context)?;
+            updated(context, step_of(*operator), left, right, *span)
         }
     }
 }
 
 /// A condition.
 pub fn condition(
-    alloc: Global,
-    sites: &Sites,
+    context: &Context,
     scope: &Scope,
     e: &Expr,
 ) -> Result<Box<program::Expr>, CheckError>
-    ensures { Answers expression_on_heap (condition_of (place_at sites.now) (scope_of scope.now) (expression_tree e.now)) result }
+    ensures { Answers expression_on_heap (condition_of (place_at context.now) (scope_of scope.now) (expression_tree e.now)) result }
 {
-    let t = typed(alloc, sites, scope, e)?;
-    scalar(alloc, t, e.span())
+    let t = typed(context, scope, e)?;
+    scalar(context, t, e.span())
 }

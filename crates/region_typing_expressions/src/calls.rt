@@ -19,15 +19,14 @@ use ckc_text::code::Code;
 use ckc_text::fault::NoMemory;
 use ckc_text::place::Span;
 use pointer_modes::ctype::CType;
+use region_typing_scope::context::Context;
 use region_typing_scope::refusals::{CheckError, needs, refusal};
 use region_typing_scope::scope::Scope;
 use region_typing_scope::sides::is_import;
 use region_typing_scope::signature::Signature;
 use region_typing_scope::types::{copied, is_checked_pointer};
 use region_typing_values::conversions::converted;
-use region_typing_values::on_heap::boxed;
 use region_typing_values::typed::Typed;
-use std::alloc::Global;
 use std::collections::VecDeque;
 
 /// What a call is: a value of a type, or a statement where it has no result.
@@ -46,17 +45,17 @@ pub struct Argument {
 
 // The arguments of a call as values of the types of its parameters.
 fn arguments_as(
-    alloc: Global,
+    context: &Context,
     mut arguments: VecDeque<Argument>,
     types: &[CType],
 ) -> Result<Vec<Expr>, CheckError>
     requires { length arguments.items ≡ length types.now }
     ensures { Answers (λ v. arguments_of v.items) (arguments_in (map argument arguments.items) (map ctype_of types.now)) result }
 {
-    let mut built = Vec::new(alloc);
+    let mut built = Vec::new(context.alloc());
     while let Some(argument) = arguments.pop_front() {
         let to = &types[built.len()];
-        let value = converted(alloc, argument.typed, to, argument.span)?;
+        let value = converted(context, argument.typed, to, argument.span)?;
         built.push(value)?;
     }
     Ok(built)
@@ -64,7 +63,7 @@ fn arguments_as(
 
 // The only argument of a call, as a number.
 fn one_number(
-    alloc: Global,
+    context: &Context,
     mut arguments: VecDeque<Argument>,
     span: Span,
 ) -> Result<Expr, CheckError>
@@ -73,33 +72,41 @@ fn one_number(
     match arguments.pop_front() {
         Some(argument) => {
             needs(arguments.is_empty(), Code::E14, span)?;
-            converted(alloc, argument.typed, &CType::Int, argument.span)
+            converted(context, argument.typed, &CType::Int, argument.span)
         }
         None => Err(refusal(Code::E14, span)),
     }
 }
 
 // A call of `print_int`.
-fn prints(alloc: Global, arguments: VecDeque<Argument>, span: Span) -> Result<Called, CheckError>
+fn prints(
+    context: &Context,
+    arguments: VecDeque<Argument>,
+    span: Span,
+) -> Result<Called, CheckError>
     ensures { Answers called_as (writes Print (map argument arguments.items) span) result }
 {
-    let value = one_number(alloc, arguments, span)?;
-    let call = boxed(alloc, Stmt::Print(value))?;
+    let value = one_number(context, arguments, span)?;
+    let call = context.boxed(Stmt::Print(value))?;
     Ok(Called::GivesNothing { call })
 }
 
 // A call of `putchar`.
-fn puts_byte(alloc: Global, arguments: VecDeque<Argument>, span: Span) -> Result<Called, CheckError>
+fn puts_byte(
+    context: &Context,
+    arguments: VecDeque<Argument>,
+    span: Span,
+) -> Result<Called, CheckError>
     ensures { Answers called_as (writes PutByte (map argument arguments.items) span) result }
 {
-    let value = one_number(alloc, arguments, span)?;
-    let call = boxed(alloc, Stmt::PutByte(value))?;
+    let value = one_number(context, arguments, span)?;
+    let call = context.boxed(Stmt::PutByte(value))?;
     Ok(Called::GivesNothing { call })
 }
 
 // A call of a function that is there before the program.
 fn predefined(
-    alloc: Global,
+    context: &Context,
     given: Given,
     name: usize,
     arguments: VecDeque<Argument>,
@@ -109,17 +116,17 @@ fn predefined(
 {
     if name == given.next_input {
         needs(arguments.is_empty(), Code::E14, span)?;
-        let value = boxed(alloc, Expr::NextInput)?;
+        let value = context.boxed(Expr::NextInput)?;
         return Ok(Called::Gives {
             ctype: CType::Int,
             value,
         });
     }
     if name == given.print_int {
-        return prints(alloc, arguments, span);
+        return prints(context, arguments, span);
     }
     if name == given.putchar {
-        return puts_byte(alloc, arguments, span);
+        return puts_byte(context, arguments, span);
     }
     Err(CheckError::Unnamed)
 }
@@ -148,17 +155,17 @@ fn declared_callee(scope: &Scope, f: &Signature, site: Site) -> Callee
 
 // A call as a value, or as a statement where it has no result.
 #[tactic(auto, using(ckc_core::proofs::Rows::call_value))]
-fn call_of(alloc: Global, result_type: &Option<CType>, call: Call) -> Result<Called, NoMemory>
+fn call_of(context: &Context, result_type: &Option<CType>, call: Call) -> Result<Called, NoMemory>
     ensures { IfOk result (λ c. called_as c ≡ call_in (option_map ctype_of result_type.now) call.callee (arguments_of call.arguments.items)) }
 {
     match result_type {
         Some(t) => {
-            let value = boxed(alloc, Expr::Call(call))?;
-            let ctype = copied(alloc, t)?;
+            let value = context.boxed(Expr::Call(call))?;
+            let ctype = copied(context, t)?;
             Ok(Called::Gives { ctype, value })
         }
         None => {
-            let call = boxed(alloc, Stmt::CallAlone(call))?;
+            let call = context.boxed(Stmt::CallAlone(call))?;
             Ok(Called::GivesNothing { call })
         }
     }
@@ -203,7 +210,7 @@ fn crossing(import: bool, arguments: &[Argument]) -> Result<(), CheckError>
 
 // A call of a declared function, where the arguments convert.
 fn call_with(
-    alloc: Global,
+    context: &Context,
     scope: &Scope,
     f: &Signature,
     arguments: Vec<Argument>,
@@ -213,14 +220,14 @@ fn call_with(
     ensures { Answers called_as (converted_call (scope_of scope.now) (signature f.now) (map argument arguments.items) site) result }
 {
     let arguments = VecDeque::from_vec(arguments);
-    let arguments = arguments_as(alloc, arguments, f.parameters.as_slice())?;
+    let arguments = arguments_as(context, arguments, f.parameters.as_slice())?;
     let callee = declared_callee(scope, f, site);
-    Ok(call_of(alloc, &f.result, Call { callee, arguments })?)
+    Ok(call_of(context, &f.result, Call { callee, arguments })?)
 }
 
 // A call of a declared function.
 fn declared(
-    alloc: Global,
+    context: &Context,
     scope: &Scope,
     f: &Signature,
     arguments: Vec<Argument>,
@@ -233,12 +240,12 @@ fn declared(
         return Err(refusal(Code::E14, span));
     }
     crossing(is_import(f), arguments.as_slice())?;
-    call_with(alloc, scope, f, arguments, site)
+    call_with(context, scope, f, arguments, site)
 }
 
 /// A call of a function by its name.
 pub fn call(
-    alloc: Global,
+    context: &Context,
     scope: &Scope,
     name: usize,
     arguments: Vec<Argument>,
@@ -248,9 +255,9 @@ pub fn call(
     ensures { Answers called_as (called_in (scope_of scope.now) (function_named (scope_of scope.now).functions name) name (map argument arguments.items) site span) result }
 {
     match scope.function(name) {
-        Some(f) => declared(alloc, scope, f, arguments, site, span),
+        Some(f) => declared(context, scope, f, arguments, site, span),
         None => predefined(
-            alloc,
+            context,
             scope.given,
             name,
             VecDeque::from_vec(arguments),
@@ -260,18 +267,15 @@ pub fn call(
 }
 
 /// The value of a call that has a result.
-pub fn with_result(alloc: Global, called: Called, span: Span) -> Result<Box<Typed>, CheckError>
+pub fn with_result(context: &Context, called: Called, span: Span) -> Result<Box<Typed>, CheckError>
     ensures { Answers typed (with_result_of (called_as called) span) result }
 {
     match called {
-        Called::Gives { ctype, value } => Ok(boxed(
-            alloc,
-            Typed::Value {
-                ctype,
-                zero: false,
-                value,
-            },
-        )?),
+        Called::Gives { ctype, value } => Ok(context.boxed(Typed::Value {
+            ctype,
+            zero: false,
+            value,
+        })?),
         Called::GivesNothing { .. } => Err(refusal(Code::E13, span)),
     }
 }

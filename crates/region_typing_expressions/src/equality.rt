@@ -12,10 +12,9 @@ use ckc_core::program::{Comparison, Expr};
 use ckc_text::code::Code;
 use ckc_text::fault::NoMemory;
 use ckc_text::place::Span;
+use region_typing_scope::context::Context;
 use region_typing_scope::refusals::{CheckError, needs};
-use region_typing_values::on_heap::boxed;
 use region_typing_values::typed::{Typed, is_zero};
-use std::alloc::Global;
 
 /// How two operands are compared.
 #[derive(Drop, Clone, Copy)]
@@ -54,7 +53,7 @@ pub fn equality_of(left: &Typed, right: &Typed, span: Span) -> Result<Equality, 
 
 /// Whether two values are equal.
 pub fn equated_by(
-    alloc: Global,
+    context: &Context,
     how: Equality,
     left: Box<Expr>,
     right: Box<Expr>,
@@ -70,10 +69,10 @@ pub fn equated_by(
         Equality::Pointers => Ok(Expr::Same { left, right }),
         Equality::RightNull => Ok(Expr::Same {
             left,
-            right: boxed(alloc, Expr::Null)?,
+            right: context.boxed(Expr::Null)?,
         }),
         Equality::LeftNull => Ok(Expr::Same {
-            left: boxed(alloc, Expr::Null)?,
+            left: context.boxed(Expr::Null)?,
             right,
         }),
     }

@@ -25,69 +25,64 @@ use ckc_text::place::Span;
 use ckc_tree::expr::Expr;
 use ckc_tree::type_form::TypeName;
 use pointer_modes::ctype::CType;
+use region_typing_scope::context::Context;
 use region_typing_scope::refusals::{CheckError, refusal};
 use region_typing_scope::scope::Scope;
-use region_typing_scope::sites::Sites;
 use region_typing_scope::types::{copied, type_named};
-use region_typing_values::on_heap::boxed;
 use region_typing_values::typed::{Base, Typed, at_base, at_local};
-use std::alloc::Global;
 
 // A constant, which is 0 or not.
-fn constant(alloc: Global, zero: bool, number: i32) -> Result<Box<Typed>, NoMemory>
+fn constant(context: &Context, zero: bool, number: i32) -> Result<Box<Typed>, NoMemory>
     ensures { IfOk result (λ t. typed_view t ≡ Value Int zero (Number number) None) }
 {
-    let value = boxed(alloc, program::Expr::Number(number))?;
-    boxed(
-        alloc,
-        Typed::Value {
-            ctype: CType::Int,
-            zero,
-            value,
-        },
-    )
+    let value = context.boxed(program::Expr::Number(number))?;
+    context.boxed(Typed::Value {
+        ctype: CType::Int,
+        zero,
+        value,
+    })
 }
 
 // A number, which has at most 31 bits.
-fn number(alloc: Global, value: u32, span: Span) -> Result<Box<Typed>, CheckError>
+fn number(context: &Context, value: u32, span: Span) -> Result<Box<Typed>, CheckError>
     ensures { Answers typed_view (number_typed value span) result }
 {
     match i32::try_from(value) {
-        Ok(number) => Ok(constant(alloc, value == 0, number)?),
+        Ok(number) => Ok(constant(context, value == 0, number)?),
         Err(_) => Err(refusal(Code::E04, span)),
     }
 }
 
 // A character at a span.
-fn character(alloc: Global, value: u8) -> Result<Box<Typed>, NoMemory>
+fn character(context: &Context, value: u8) -> Result<Box<Typed>, NoMemory>
     ensures { IfOk result (λ t. (span : Span) → constant_of value false span ≡ Passes (typed_view t)) }
 {
-    constant(alloc, false, value as i32)
+    constant(context, false, value as i32)
 }
 
 // The bytes of a type.
-fn size_of(alloc: Global, scope: &Scope, t: &TypeName) -> Result<Box<Typed>, CheckError>
+fn size_of(context: &Context, scope: &Scope, t: &TypeName) -> Result<Box<Typed>, CheckError>
     ensures { Answers typed_view (size_typed (scope_of scope.now) (type_name_of t.now)) result }
 {
-    let named = type_named(alloc, scope, t)?;
+    let named = type_named(context, scope, t)?;
     let bytes = scope.structs.size_of(&named);
-    Ok(constant(alloc, false, bytes as i32)?)
+    Ok(constant(context, false, bytes as i32)?)
 }
 
 // What a name stands for.
-fn named(alloc: Global, scope: &Scope, name: usize) -> Result<Box<Typed>, CheckError>
+fn named(context: &Context, scope: &Scope, name: usize) -> Result<Box<Typed>, CheckError>
     ensures { Answers typed_view (name_verdict (scope_of scope.now) name) result }
 {
     if let Some(local) = scope.local(name) {
-        let ctype = copied(alloc, local.ctype)?;
-        return Ok(boxed(alloc, at_local(ctype, local.number))?);
+        let ctype = copied(context, local.ctype)?;
+        return Ok(context.boxed(at_local(ctype, local.number))?);
     }
     if let Some(object) = scope.object(name) {
-        let ctype = copied(alloc, object.ctype)?;
-        return Ok(boxed(alloc, at_base(ctype, Base::Object(object.number)))?);
+        let ctype = copied(context, object.ctype)?;
+        return Ok(context.boxed(at_base(ctype, Base::Object(object.number)))?);
     }
     if name == scope.given.null {
-        Ok(constant(alloc, true, 0)?)
+        Ok(constant(context, true, 0)?)
     } else {
         Err(CheckError::Unnamed)
     }
@@ -95,54 +90,49 @@ fn named(alloc: Global, scope: &Scope, name: usize) -> Result<Box<Typed>, CheckE
 
 /// What an expression is.
 #[cycle(expressions)]
-pub fn typed(
-    alloc: Global,
-    sites: &Sites,
-    scope: &Scope,
-    e: &Expr,
-) -> Result<Box<Typed>, CheckError>
-    ensures { Answers typed_view (typed_of (place_at sites.now) (scope_of scope.now) (expression_of e.now)) result }
+pub fn typed(context: &Context, scope: &Scope, e: &Expr) -> Result<Box<Typed>, CheckError>
+    ensures { Answers typed_view (typed_of (place_at context.now) (scope_of scope.now) (expression_of e.now)) result }
 {
     match e {
-        Expr::Number { value, span } => number(alloc, *value, *span),
-        Expr::Character { value, .. } => Ok(character(alloc, *value)?),
+        Expr::Number { value, span } => number(context, *value, *span),
+        Expr::Character { value, .. } => Ok(character(context, *value)?),
         Expr::Text { span, .. }
         | Expr::Cast { span, .. }
         | Expr::Malloc { span, .. }
         | Expr::Calloc { span, .. } => Err(refusal(Code::E13, *span)),
-        Expr::Name { name } => named(alloc, scope, name.number),
+        Expr::Name { name } => named(context, scope, name.number),
         Expr::Call {
             callee,
             arguments,
             span,
         } => {
             let arguments = arguments.as_slice();
-            let answer = called(alloc, sites, scope, callee.number, arguments, *span)?;
-            with_result(alloc, answer, *span)
+            let answer = called(context, scope, callee.number, arguments, *span)?;
+            with_result(context, answer, *span)
         }
-        Expr::SizeOf { type_name, .. } => size_of(alloc, scope, type_name),
+        Expr::SizeOf { type_name, .. } => size_of(context, scope, type_name),
         Expr::Index { base, index, span } => {
-            let base = typed(alloc, sites, scope, base)?;
-            let index = typed(alloc, sites, scope, index)?;
+            let base = typed(context, scope, base)?;
+            let index = typed(context, scope, index)?;
             indexed(&base, &index, *span)
         }
         Expr::Dot { base, member, span } => {
-            let base = typed(alloc, sites, scope, base)?;
-            let site = sites.site(*span);
-            dotted(alloc, scope, base, member.number, site, *span)
+            let base = typed(context, scope, base)?;
+            let site = context.site(*span);
+            dotted(context, scope, base, member.number, site, *span)
         }
         Expr::Arrow { base, member, span } => {
-            let base = typed(alloc, sites, scope, base)?;
-            let site = sites.site(*span);
-            arrowed(alloc, scope, base, member.number, site, *span)
+            let base = typed(context, scope, base)?;
+            let site = context.site(*span);
+            arrowed(context, scope, base, member.number, site, *span)
         }
         Expr::Unary {
             operator,
             operand,
             span,
         } => {
-            let operand = typed(alloc, sites, scope, operand)?;
-            unary(alloc, *operator, operand, sites.site(*span), *span)
+            let operand = typed(context, scope, operand)?;
+            unary(context, *operator, operand, context.site(*span), *span)
         }
         Expr::Binary {
             operator,
@@ -150,9 +140,9 @@ pub fn typed(
             right,
             span,
         } => {
-            let left = typed(alloc, sites, scope, left)?;
-            let right = typed(alloc, sites, scope, right)?;
-            binary(alloc, *operator, left, right, sites.site(*span), *span)
+            let left = typed(context, scope, left)?;
+            let right = typed(context, scope, right)?;
+            binary(context, *operator, left, right, *span)
         }
     }
 }
@@ -160,16 +150,15 @@ pub fn typed(
 /// What arguments are, from left to right.
 #[cycle(expressions)]
 fn all_typed(
-    alloc: Global,
-    sites: &Sites,
+    context: &Context,
     scope: &Scope,
     arguments: &[Expr],
 ) -> Result<Vec<Argument>, CheckError>
-    ensures { Answers (λ v. map argument v.items) (all_typed_of (place_at sites.now) (scope_of scope.now) (expression_list arguments.now)) result }
+    ensures { Answers (λ v. map argument v.items) (all_typed_of (place_at context.now) (scope_of scope.now) (expression_list arguments.now)) result }
 {
-    let mut built = Vec::new(alloc);
+    let mut built = Vec::new(context.alloc());
     for written in arguments {
-        let typed = typed(alloc, sites, scope, written)?;
+        let typed = typed(context, scope, written)?;
         built.push(Argument {
             typed,
             span: written.span(),
@@ -181,27 +170,21 @@ fn all_typed(
 /// A call of a function by its name, with what its arguments are.
 #[cycle(expressions)]
 fn called(
-    alloc: Global,
-    sites: &Sites,
+    context: &Context,
     scope: &Scope,
     name: usize,
     arguments: &[Expr],
     span: Span,
 ) -> Result<Called, CheckError>
-    ensures { Answers called_as (called_with (place_at sites.now) (scope_of scope.now) name (expression_list arguments.now) span) result }
+    ensures { Answers called_as (called_with (place_at context.now) (scope_of scope.now) name (expression_list arguments.now) span) result }
 {
-    let arguments = all_typed(alloc, sites, scope, arguments)?;
-    call(alloc, scope, name, arguments, sites.site(span), span)
+    let arguments = all_typed(context, scope, arguments)?;
+    call(context, scope, name, arguments, context.site(span), span)
 }
 
 /// A call that stands alone.
-pub fn call_typed(
-    alloc: Global,
-    sites: &Sites,
-    scope: &Scope,
-    e: &Expr,
-) -> Result<Called, CheckError>
-    ensures { Answers called_as (call_typed_of (place_at sites.now) (scope_of scope.now) (expression_of e.now)) result }
+pub fn call_typed(context: &Context, scope: &Scope, e: &Expr) -> Result<Called, CheckError>
+    ensures { Answers called_as (call_typed_of (place_at context.now) (scope_of scope.now) (expression_of e.now)) result }
 {
     match e {
         Expr::Call {
@@ -210,7 +193,7 @@ pub fn call_typed(
             span,
         } => {
             let arguments = arguments.as_slice();
-            called(alloc, sites, scope, callee.number, arguments, *span)
+            called(context, scope, callee.number, arguments, *span)
         }
         _ => Err(refusal(Code::E13, Span { from: 0, to: 0 })),
     }

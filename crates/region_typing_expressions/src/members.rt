@@ -15,13 +15,12 @@ use ckc_text::code::Code;
 use ckc_text::fault::NoMemory;
 use ckc_text::place::Span;
 use pointer_modes::ctype::{CType, Member};
+use region_typing_scope::context::Context;
 use region_typing_scope::refusals::{CheckError, refusal};
 use region_typing_scope::scope::Scope;
 use region_typing_scope::types::copied;
-use region_typing_values::on_heap::boxed;
 use region_typing_values::operands::{Operand, value_of};
 use region_typing_values::typed::{Base, StructPlace, Typed};
-use std::alloc::Global;
 
 // The place of the first of names that is this one.
 fn name_place(names: &[usize], name: usize) -> Option<usize>
@@ -64,7 +63,7 @@ fn cell_of(base: Base, cell: u32, offset: u32, site: Site) -> CellPlace
 
 /// A member of a struct that has one of this name.
 pub fn member_at(
-    alloc: Global,
+    context: &Context,
     scope: &Scope,
     number: u32,
     base: Base,
@@ -82,20 +81,20 @@ pub fn member_at(
             let offset = scope
                 .structs
                 .offset_of_cell(&CType::Struct(number), cell as u32);
-            let ctype = copied(alloc, &members[cell].ctype)?;
+            let ctype = copied(context, &members[cell].ctype)?;
             let place = cell_of(base, cell as u32, offset, site);
-            Ok(boxed(alloc, Typed::Cell { ctype, place })?)
+            Ok(context.boxed(Typed::Cell { ctype, place })?)
         }
     }
 }
 
 // The first cell of a struct. A parameter that is one stands behind a pointer that is none.
-fn base_of(alloc: Global, place: StructPlace, site: Site) -> Result<Base, NoMemory>
+fn base_of(context: &Context, place: StructPlace, site: Site) -> Result<Base, NoMemory>
     ensures { IfOk result (λ base. base_place base ≡ cell_of_struct (struct_place place) site) }
 {
     match place {
         StructPlace::Local(local) => {
-            let pointer = boxed(alloc, Expr::Local(local))?;
+            let pointer = context.boxed(Expr::Local(local))?;
             Ok(Base::Behind { pointer, site })
         }
         StructPlace::Cell(base) => Ok(base),
@@ -104,7 +103,7 @@ fn base_of(alloc: Global, place: StructPlace, site: Site) -> Result<Base, NoMemo
 
 /// A member of a struct.
 pub fn dotted(
-    alloc: Global,
+    context: &Context,
     scope: &Scope,
     t: Box<Typed>,
     name: usize,
@@ -115,8 +114,8 @@ pub fn dotted(
 {
     match Box::into_inner(t) {
         Typed::Struct { number, place } => {
-            let base = base_of(alloc, place, site)?;
-            member_at(alloc, scope, number, base, name, site, span)
+            let base = base_of(context, place, site)?;
+            member_at(context, scope, number, base, name, site, span)
         }
         _ => Err(refusal(Code::E13, span)),
     }
@@ -124,7 +123,7 @@ pub fn dotted(
 
 /// A member of a struct that a pointer points to.
 pub fn arrowed(
-    alloc: Global,
+    context: &Context,
     scope: &Scope,
     t: Box<Typed>,
     name: usize,
@@ -137,10 +136,10 @@ pub fn arrowed(
         ctype,
         zero: _,
         value: pointer,
-    } = value_of(alloc, t, span)?;
+    } = value_of(context, t, span)?;
     match struct_pointed_to(&ctype) {
         Some(number) => member_at(
-            alloc,
+            context,
             scope,
             number,
             Base::Behind { pointer, site },

@@ -1,8 +1,9 @@
 // The rules of operators.
 
+ghost use Rattle.ckc_text.specs.Places.{place_at};
 ghost use Rattle.ckc_core.specs.Core.{expression, Not};
 ghost use Rattle.region_typing_rules.specs.Verdicts.{passing};
-ghost use Rattle.region_typing_rules.specs.Expressions.{number as number_typed, unary_typed as unary_of, binary_typed as binary_of, two_numbers, two_scalars, summands, arithmetic as arithmetic_of, equated as equated_in, ordered as ordered_in, indexed as indexed_in};
+ghost use Rattle.region_typing_rules.specs.Expressions.{site_at, number as number_typed, unary_typed as unary_of, binary_typed as binary_of, two_numbers, two_scalars, summands, arithmetic as arithmetic_of, equated as equated_in, ordered as ordered_in, indexed as indexed_in};
 ghost use Rattle.region_typing_scope.specs.Answering.{Answers};
 ghost use Rattle.region_typing_values.specs.OnHeap.{typed};
 ghost use Rattle.region_typing_values.specs.Operands.{and_also, or_else};
@@ -17,22 +18,21 @@ use ckc_text::code::Code;
 use ckc_text::place::Span;
 use ckc_tree::expr::{BinaryOperator, UnaryOperator};
 use pointer_modes::ctype::CType;
+use region_typing_scope::context::Context;
 use region_typing_scope::refusals::{CheckError, needs, refusal};
-use region_typing_values::on_heap::boxed;
 use region_typing_values::operands::{number, scalar};
 use region_typing_values::typed::{Typed, plain};
-use std::alloc::Global;
 
 // A number.
-fn numeric(alloc: Global, value: Expr) -> Result<Box<Typed>, CheckError>
+fn numeric(context: &Context, value: Expr) -> Result<Box<Typed>, CheckError>
     ensures { Answers typed (number_typed (expression value)) result }
 {
-    Ok(plain(alloc, CType::Int, value)?)
+    Ok(plain(context, CType::Int, value)?)
 }
 
 /// An operator before its operand.
 pub fn unary(
-    alloc: Global,
+    context: &Context,
     operator: UnaryOperator,
     t: Box<Typed>,
     site: Site,
@@ -41,95 +41,93 @@ pub fn unary(
     ensures { Answers typed (unary_of operator (typed t) site span) result }
 {
     match operator {
-        UnaryOperator::Deref => pointed_at(alloc, t, site, span),
-        UnaryOperator::AddressOf => address(alloc, t, site, span),
+        UnaryOperator::Deref => pointed_at(context, t, site, span),
+        UnaryOperator::AddressOf => address(context, t, site, span),
         UnaryOperator::Negate => {
-            let operand = number(alloc, t, span)?;
-            numeric(alloc, Expr::Negate { operand, site })
+            let operand = number(context, t, span)?;
+            numeric(context, Expr::Negate { operand, site })
         }
         UnaryOperator::Not => {
-            let operand = scalar(alloc, t, span)?;
-            numeric(alloc, Expr::Not(operand))
+            let operand = scalar(context, t, span)?;
+            numeric(context, Expr::Not(operand))
         }
         UnaryOperator::Complement => {
-            let operand = number(alloc, t, span)?;
-            numeric(alloc, Expr::Complement(operand))
+            let operand = number(context, t, span)?;
+            numeric(context, Expr::Complement(operand))
         }
     }
 }
 
 // An operator on two numbers.
 fn arithmetic(
-    alloc: Global,
+    context: &Context,
     operator: Operator,
     left: Box<Typed>,
     right: Box<Typed>,
-    site: Site,
     span: Span,
 ) -> Result<Box<Typed>, CheckError>
-    ensures { Answers typed (two_numbers (typed left) (typed right) span (arithmetic_of operator site)) result }
+    ensures { Answers typed (two_numbers (typed left) (typed right) span (arithmetic_of operator (site_at (place_at context.now) span))) result }
 {
-    let left = number(alloc, left, span)?;
-    let right = number(alloc, right, span)?;
+    let left = number(context, left, span)?;
+    let right = number(context, right, span)?;
     numeric(
-        alloc,
+        context,
         Expr::Arithmetic {
             operator,
             left,
             right,
-            site,
+            site: context.site(span),
         },
     )
 }
 
 // A sum or a difference.
 fn sum(
-    alloc: Global,
+    context: &Context,
     operator: Operator,
     left: Box<Typed>,
     right: Box<Typed>,
-    site: Site,
     span: Span,
 ) -> Result<Box<Typed>, CheckError>
-    ensures { Answers typed (summands (typed left) (typed right) span (arithmetic_of operator site)) result }
+    ensures { Answers typed (summands (typed left) (typed right) span (arithmetic_of operator (site_at (place_at context.now) span))) result }
 {
     if has_pointer(&left, &right) {
         return Err(refusal(Code::E19, span));
     }
-    arithmetic(alloc, operator, left, right, site, span)
+    arithmetic(context, operator, left, right, span)
 }
 
 // The first one and the second one.
 fn conjunction(
-    alloc: Global,
+    context: &Context,
     left: Box<Typed>,
     right: Box<Typed>,
     span: Span,
 ) -> Result<Box<Typed>, CheckError>
     ensures { Answers typed (two_scalars (typed left) (typed right) span and_also) result }
 {
-    let left = scalar(alloc, left, span)?;
-    let right = scalar(alloc, right, span)?;
-    numeric(alloc, Expr::AndAlso { left, right })
+    let left = scalar(context, left, span)?;
+    let right = scalar(context, right, span)?;
+    numeric(context, Expr::AndAlso { left, right })
 }
 
 // The first one or the second one.
 fn disjunction(
-    alloc: Global,
+    context: &Context,
     left: Box<Typed>,
     right: Box<Typed>,
     span: Span,
 ) -> Result<Box<Typed>, CheckError>
     ensures { Answers typed (two_scalars (typed left) (typed right) span or_else) result }
 {
-    let left = scalar(alloc, left, span)?;
-    let right = scalar(alloc, right, span)?;
-    numeric(alloc, Expr::OrElse { left, right })
+    let left = scalar(context, left, span)?;
+    let right = scalar(context, right, span)?;
+    numeric(context, Expr::OrElse { left, right })
 }
 
 // Whether two expressions are equal.
 fn equated(
-    alloc: Global,
+    context: &Context,
     left: Box<Typed>,
     right: Box<Typed>,
     span: Span,
@@ -137,41 +135,41 @@ fn equated(
     ensures { Answers expression (equated_in (typed left) (typed right) span) result }
 {
     let how = equality_of(&left, &right, span)?;
-    let left = scalar(alloc, left, span)?;
-    let right = scalar(alloc, right, span)?;
-    Ok(equated_by(alloc, how, left, right)?)
+    let left = scalar(context, left, span)?;
+    let right = scalar(context, right, span)?;
+    Ok(equated_by(context, how, left, right)?)
 }
 
 // Whether two expressions are equal, as a number.
 fn equal(
-    alloc: Global,
+    context: &Context,
     left: Box<Typed>,
     right: Box<Typed>,
     span: Span,
 ) -> Result<Box<Typed>, CheckError>
     ensures { Answers typed (passing (equated_in (typed left) (typed right) span) number_typed) result }
 {
-    let value = equated(alloc, left, right, span)?;
-    numeric(alloc, value)
+    let value = equated(context, left, right, span)?;
+    numeric(context, value)
 }
 
 // Whether two expressions differ, as a number.
 fn different(
-    alloc: Global,
+    context: &Context,
     left: Box<Typed>,
     right: Box<Typed>,
     span: Span,
 ) -> Result<Box<Typed>, CheckError>
     ensures { Answers typed (passing (equated_in (typed left) (typed right) span) (λ v. number_typed (Not v))) result }
 {
-    let value = equated(alloc, left, right, span)?;
-    let value = boxed(alloc, value)?;
-    numeric(alloc, Expr::Not(value))
+    let value = equated(context, left, right, span)?;
+    let value = context.boxed(value)?;
+    numeric(context, Expr::Not(value))
 }
 
 // How two expressions compare.
 fn ordered(
-    alloc: Global,
+    context: &Context,
     comparison: Comparison,
     left: Box<Typed>,
     right: Box<Typed>,
@@ -182,12 +180,12 @@ fn ordered(
     if are_comparable_values(&left, &right) {
         return Err(refusal(Code::E26, span));
     }
-    compared(alloc, comparison, left, right, span)
+    compared(context, comparison, left, right, span)
 }
 
 // How two numbers compare.
 fn compared(
-    alloc: Global,
+    context: &Context,
     comparison: Comparison,
     left: Box<Typed>,
     right: Box<Typed>,
@@ -195,10 +193,10 @@ fn compared(
 ) -> Result<Box<Typed>, CheckError>
     ensures { Answers typed (two_numbers (typed left) (typed right) span (comparison_of comparison)) result }
 {
-    let left = number(alloc, left, span)?;
-    let right = number(alloc, right, span)?;
+    let left = number(context, left, span)?;
+    let right = number(context, right, span)?;
     numeric(
-        alloc,
+        context,
         Expr::Compare {
             comparison,
             left,
@@ -218,54 +216,38 @@ pub fn indexed(left: &Typed, right: &Typed, span: Span) -> Result<Box<Typed>, Ch
 
 /// An operator between its operands.
 pub fn binary(
-    alloc: Global,
+    context: &Context,
     operator: BinaryOperator,
     left: Box<Typed>,
     right: Box<Typed>,
-    site: Site,
     span: Span,
 ) -> Result<Box<Typed>, CheckError>
-    ensures { Answers typed (binary_of operator (typed left) (typed right) site span) result }
+    ensures { Answers typed (binary_of operator (typed left) (typed right) (site_at (place_at context.now) span) span) result }
 {
     match operator {
-        BinaryOperator::Or => disjunction(alloc, left, right, span),
-        BinaryOperator::And => conjunction(alloc, left, right, span),
-        BinaryOperator::BitOr => arithmetic(alloc, Operator::Or, left, right, site, span),
-        BinaryOperator::BitXor => arithmetic(alloc, Operator::Xor, left, right, site, span),
-        BinaryOperator::BitAnd => arithmetic(alloc, Operator::And, left, right, site, span),
-        BinaryOperator::Equal => equal(alloc, left, right, span),
-        BinaryOperator::NotEqual => different(alloc, left, right, span),
-        BinaryOperator::Less => ordered(alloc, Comparison::Less, left, right, span),
-        BinaryOperator::LessEqual => ordered(alloc, Comparison::LessEqual, left, right, span),
-        BinaryOperator::Greater => ordered(alloc, Comparison::Greater, left, right, span),
-        BinaryOperator::GreaterEqual => ordered(alloc, Comparison::GreaterEqual, left, right, span),
-        BinaryOperator::ShiftLeft => arithmetic(
-            alloc,
-            Operator::ShiftLeft,
+        BinaryOperator::Or => disjunction(context, left, right, span),
+        BinaryOperator::And => conjunction(context, left, right, span),
+        BinaryOperator::BitOr => arithmetic(context, Operator::Or, left, right, span),
+        BinaryOperator::BitXor => arithmetic(context, Operator::Xor, left, right, span),
+        BinaryOperator::BitAnd => arithmetic(context, Operator::And, left, right, span),
+        BinaryOperator::Equal => equal(context, left, right, span),
+        BinaryOperator::NotEqual => different(context, left, right, span),
+        BinaryOperator::Less => ordered(context, Comparison::Less, left, right, span),
+        BinaryOperator::LessEqual => ordered(context, Comparison::LessEqual, left, right, span),
+        BinaryOperator::Greater => ordered(context, Comparison::Greater, left, right, span),
+        BinaryOperator::GreaterEqual => ordered(
+            context,
+            Comparison::GreaterEqual,
             left,
             right,
-            site,
             span,
         ),
-        BinaryOperator::ShiftRight => arithmetic(
-            alloc,
-            Operator::ShiftRight,
-            left,
-            right,
-            site,
-            span,
-        ),
-        BinaryOperator::Add => sum(alloc, Operator::Add, left, right, site, span),
-        BinaryOperator::Subtract => sum(alloc, Operator::Subtract, left, right, site, span),
-        BinaryOperator::Multiply => arithmetic(alloc, Operator::Multiply, left, right, site, span),
-        BinaryOperator::Divide => arithmetic(alloc, Operator::Divide, left, right, site, span),
-        BinaryOperator::Remainder => arithmetic(
-            alloc,
-            Operator::Remainder,
-            left,
-            right,
-            site,
-            span,
-        ),
+        BinaryOperator::ShiftLeft => arithmetic(context, Operator::ShiftLeft, left, right, span),
+        BinaryOperator::ShiftRight => arithmetic(context, Operator::ShiftRight, left, right, span),
+        BinaryOperator::Add => sum(context, Operator::Add, left, right, span),
+        BinaryOperator::Subtract => sum(context, Operator::Subtract, left, right, span),
+        BinaryOperator::Multiply => arithmetic(context, Operator::Multiply, left, right, span),
+        BinaryOperator::Divide => arithmetic(context, Operator::Divide, left, right, span),
+        BinaryOperator::Remainder => arithmetic(context, Operator::Remainder, left, right, span),
     }
 }

@@ -12,15 +12,14 @@ use ckc_text::code::Code;
 use ckc_text::fault::NoMemory;
 use ckc_text::place::Span;
 use pointer_modes::ctype::{CType, Kind, Mode};
+use region_typing_scope::context::Context;
 use region_typing_scope::refusals::{CheckError, refusal};
-use region_typing_values::on_heap::boxed;
 use region_typing_values::operands::{Operand, value_of};
 use region_typing_values::typed::{Base, StructPlace, Typed, at_base, first_cell, plain};
-use std::alloc::Global;
 
 /// What a pointer points to.
 pub fn pointed_at(
-    alloc: Global,
+    context: &Context,
     t: Box<Typed>,
     site: Site,
     span: Span,
@@ -31,11 +30,11 @@ pub fn pointed_at(
         ctype,
         zero: _,
         value: pointer,
-    } = value_of(alloc, t, span)?;
+    } = value_of(context, t, span)?;
     match ctype {
         CType::Pointer(_, _, target) => {
             let pointed = at_base(Box::into_inner(target), Base::Behind { pointer, site });
-            Ok(boxed(alloc, pointed)?)
+            Ok(context.boxed(pointed)?)
         }
         _ => Err(refusal(Code::E13, span)),
     }
@@ -43,16 +42,16 @@ pub fn pointed_at(
 
 // A pointer to a place.
 fn pointer_to(
-    alloc: Global,
+    context: &Context,
     ctype: CType,
     place: CellPlace,
     site: Site,
 ) -> Result<Box<Typed>, NoMemory>
     ensures { IfOk result (λ t. typed t ≡ pointer_at (ctype_of ctype) (place_of place) site) }
 {
-    let target = Box::new(alloc, ctype)?;
+    let target = context.boxed(ctype)?;
     let ctype = CType::Pointer(Mode::Checked, Kind::One, target);
-    plain(alloc, ctype, Expr::AddressOf(checked_at(place, site)))
+    plain(context, ctype, Expr::AddressOf(checked_at(place, site)))
 }
 
 // The same place, whose check names another expression.
@@ -85,7 +84,7 @@ fn checked_at(place: CellPlace, site: Site) -> CellPlace
 
 /// The address of a place.
 pub fn address(
-    alloc: Global,
+    context: &Context,
     t: Box<Typed>,
     site: Site,
     span: Span,
@@ -95,12 +94,12 @@ pub fn address(
     match Box::into_inner(t) {
         Typed::Value { .. } => Err(refusal(Code::E12, span)),
         Typed::Local { .. } => Err(refusal(Code::E22, span)),
-        Typed::Cell { ctype, place } => Ok(pointer_to(alloc, ctype, place, site)?),
+        Typed::Cell { ctype, place } => Ok(pointer_to(context, ctype, place, site)?),
         Typed::Struct { number, place } => match place {
             StructPlace::Local(_) => Err(refusal(Code::E22, span)),
             StructPlace::Cell(base) => {
                 let place = first_cell(base);
-                Ok(pointer_to(alloc, CType::Struct(number), place, site)?)
+                Ok(pointer_to(context, CType::Struct(number), place, site)?)
             }
         },
     }

@@ -13,6 +13,7 @@ ghost use Rattle.region_typing_scope.specs.Answering.{Answers};
 ghost use Rattle.region_typing_scope.specs.Views.{scope as scope_of, signature};
 ghost use Rattle.region_typing_scope.specs.Filling.{struct_added};
 
+use crate::context::Context;
 use crate::number_table::NumberTable;
 use crate::refusals::CheckError;
 use crate::scope::{Scope, Variable};
@@ -23,7 +24,6 @@ use ckc_text::fault::NoMemory;
 use ckc_text::place::Span;
 use pointer_modes::ctype::{CType, Member};
 use pointer_modes::structs::Structs;
-use std::alloc::Global;
 use std::mem;
 
 // One more, where a function is tainted.
@@ -36,9 +36,10 @@ fn with_tainted(f: &Signature, number: u32) -> u32
 
 impl Scope {
     /// Nothing known, which takes no memory.
-    pub fn new(alloc: Global, given: Given) -> Scope
+    pub fn new(context: &Context, given: Given) -> Scope
         ensures { scope_of result ≡ nothing_known given }
     {
+        let alloc = context.alloc();
         Scope {
             given,
             tags: Vec::new(alloc),
@@ -116,22 +117,22 @@ impl Scope {
     }
 
     /// Enters a function, of which no local is known yet.
-    pub fn enter(&mut self, alloc: Global, returned: Option<CType>)
+    pub fn enter(&mut self, context: &Context, returned: Option<CType>)
         ensures { scope_of self.new ≡ record (scope_of self.old) { locals = []; visible = []; result = option_map ctype_of returned; in_loop = false } }
     {
-        self.locals = Vec::new(alloc);
-        self.visible = Vec::new(alloc);
+        self.locals = Vec::new(context.alloc());
+        self.visible = Vec::new(context.alloc());
         self.result = returned;
         self.in_loop = false;
     }
 
     /// Leaves a function, and gives the types of its locals.
-    pub fn exit(&mut self, alloc: Global) -> Vec<CType>
+    pub fn exit(&mut self, context: &Context) -> Vec<CType>
         ensures known { scope_of self.new ≡ record (scope_of self.old) { locals = []; visible = []; result = None; in_loop = false } }
         ensures locals { map ctype_of result.items ≡ (scope_of self.old).locals }
     {
-        let locals = mem::replace(&mut self.locals, Vec::new(alloc));
-        self.enter(alloc, None);
+        let locals = mem::replace(&mut self.locals, Vec::new(context.alloc()));
+        self.enter(context, None);
         locals
     }
 }

@@ -8,16 +8,16 @@ ghost use Rattle.region_typing_rules.specs.Types.{mode_of as mode_from, kind_of 
 ghost use Rattle.region_typing_scope.specs.Answering.{Answers};
 ghost use Rattle.region_typing_scope.specs.Views.{scope as scope_of};
 
+use crate::context::Context;
 use crate::refusals::{CheckError, meant, needs};
 use crate::scope::Scope;
 use ckc_text::code::Code;
 use ckc_text::fault::NoMemory;
 use ckc_tree::type_form::{PointerKind, PointerMode, TypeForm, TypeName};
 use pointer_modes::ctype::{CType, Kind, Mode};
-use std::alloc::Global;
 
 /// A copy of a type.
-pub fn copied(alloc: Global, t: &CType) -> Result<CType, NoMemory>
+pub fn copied(context: &Context, t: &CType) -> Result<CType, NoMemory>
     ensures { IfOk result (λ copy. ctype copy ≡ ctype t.now) }
 {
     match t {
@@ -25,7 +25,7 @@ pub fn copied(alloc: Global, t: &CType) -> Result<CType, NoMemory>
         CType::Char => Ok(CType::Char),
         CType::Struct(number) => Ok(CType::Struct(*number)),
         CType::Pointer(mode, kind, target) => {
-            let target = Box::new(alloc, copied(alloc, target)?)?;
+            let target = context.boxed(copied(context, target)?)?;
             Ok(CType::Pointer(*mode, *kind, target))
         }
     }
@@ -172,7 +172,7 @@ pub fn without_stars(base: &TypeForm, stars: usize, t: CType) -> Result<CType, C
 }
 
 /// A type that is written without stars behind it.
-pub fn base_type(alloc: Global, scope: &Scope, base: &TypeForm) -> Result<CType, CheckError>
+pub fn base_type(context: &Context, scope: &Scope, base: &TypeForm) -> Result<CType, CheckError>
     ensures { Answers ctype (base_from (scope_of scope.now) (type_tree base.now)) result }
 {
     match base {
@@ -188,9 +188,9 @@ pub fn base_type(alloc: Global, scope: &Scope, base: &TypeForm) -> Result<CType,
             stars,
             ..
         } => {
-            let target = base_type(alloc, scope, element)?;
+            let target = base_type(context, scope, element)?;
             let target = without_stars(element, *stars, target)?;
-            let target = Box::new(alloc, target)?;
+            let target = context.boxed(target)?;
             Ok(CType::Pointer(mode_of(word.mode), kind_of(word.kind), target))
         }
     }
@@ -198,20 +198,20 @@ pub fn base_type(alloc: Global, scope: &Scope, base: &TypeForm) -> Result<CType,
 
 /// A type with the stars behind it.
 pub fn starred_type(
-    alloc: Global,
+    context: &Context,
     scope: &Scope,
     base: &TypeForm,
     stars: usize,
 ) -> Result<CType, CheckError>
     ensures { Answers ctype (starred_from (scope_of scope.now) (type_tree base.now) stars) result }
 {
-    let written = base_type(alloc, scope, base)?;
+    let written = base_type(context, scope, base)?;
     without_stars(base, stars, written)
 }
 
 /// A type as it is written.
-pub fn type_named(alloc: Global, scope: &Scope, t: &TypeName) -> Result<CType, CheckError>
+pub fn type_named(context: &Context, scope: &Scope, t: &TypeName) -> Result<CType, CheckError>
     ensures { Answers ctype (named_from (scope_of scope.now) (type_name t.now)) result }
 {
-    starred_type(alloc, scope, &t.base, t.stars)
+    starred_type(context, scope, &t.base, t.stars)
 }

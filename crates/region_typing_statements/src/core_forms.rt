@@ -7,25 +7,24 @@ ghost use Rattle.region_typing_values.specs.OnHeap.{expression as expression_of,
 
 use ckc_core::program::{Expr, Stmt};
 use ckc_text::fault::NoMemory;
-use region_typing_values::on_heap::boxed;
-use std::alloc::Global;
+use region_typing_scope::context::Context;
 
 /// Statements in their order.
-pub fn block(alloc: Global, statements: Vec<Stmt>) -> Result<Box<Stmt>, NoMemory>
+pub fn block(context: &Context, statements: Vec<Stmt>) -> Result<Box<Stmt>, NoMemory>
     ensures { IfOk result (λ s. statement_of s ≡ Block (statements_of statements.items)) }
 {
-    boxed(alloc, Stmt::Block(statements))
+    context.boxed(Stmt::Block(statements))
 }
 
 /// Two statements in a row.
-pub fn both(alloc: Global, first: Box<Stmt>, second: Box<Stmt>) -> Result<Box<Stmt>, NoMemory>
+pub fn both(context: &Context, first: Box<Stmt>, second: Box<Stmt>) -> Result<Box<Stmt>, NoMemory>
     ensures { IfOk result (λ s. statement_of s ≡ both_of (statement_of first) (statement_of second)) }
 {
-    let mut statements = Vec::new(alloc);
+    let mut statements = Vec::new(context.alloc());
     statements.reserve(2)?;
     statements.push_reserved(Box::into_inner(first));
     statements.push_reserved(Box::into_inner(second));
-    block(alloc, statements)
+    block(context, statements)
 }
 
 /// A condition with the statement that runs where it holds.
@@ -36,7 +35,11 @@ pub struct Branch {
 }
 
 /// A branch, or else another statement.
-pub fn choice(alloc: Global, branch: Branch, alternative: Box<Stmt>) -> Result<Box<Stmt>, NoMemory>
+pub fn choice(
+    context: &Context,
+    branch: Branch,
+    alternative: Box<Stmt>,
+) -> Result<Box<Stmt>, NoMemory>
     ensures { IfOk result (λ s. statement_of s ≡ If (expression_of branch.condition) (statement_of branch.consequent) (statement_of alternative)) }
 {
     let Branch {
@@ -44,19 +47,16 @@ pub fn choice(alloc: Global, branch: Branch, alternative: Box<Stmt>) -> Result<B
         consequent,
     } = branch;
     let condition = Box::into_inner(condition);
-    boxed(
-        alloc,
-        Stmt::If {
-            condition,
-            consequent,
-            alternative,
-        },
-    )
+    context.boxed(Stmt::If {
+        condition,
+        consequent,
+        alternative,
+    })
 }
 
 /// A loop with what follows each turn.
 pub fn repeated(
-    alloc: Global,
+    context: &Context,
     condition: Box<Expr>,
     body: Box<Stmt>,
     step: Box<Stmt>,
@@ -64,12 +64,9 @@ pub fn repeated(
     ensures { IfOk result (λ s. statement_of s ≡ Loop (expression_of condition) (statement_of body) (statement_of step)) }
 {
     let condition = Box::into_inner(condition);
-    boxed(
-        alloc,
-        Stmt::Loop {
-            condition,
-            body,
-            step,
-        },
-    )
+    context.boxed(Stmt::Loop {
+        condition,
+        body,
+        step,
+    })
 }

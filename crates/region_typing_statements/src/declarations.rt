@@ -20,12 +20,10 @@ use ckc_text::place::Span;
 use ckc_tree::stmt::{Declaration, Declarator};
 use ckc_tree::type_form::TypeForm;
 use pointer_modes::ctype::CType;
+use region_typing_scope::context::Context;
 use region_typing_scope::refusals::{CheckError, needs};
 use region_typing_scope::scope::Scope;
-use region_typing_scope::sites::Sites;
 use region_typing_scope::types::{base_type, copied, without_stars};
-use region_typing_values::on_heap::boxed;
-use std::alloc::Global;
 
 /// How many locals a function may have.
 const MOST_LOCALS: usize = 256;
@@ -41,76 +39,71 @@ fn few_locals(scope: &Scope, span: Span) -> Result<(), CheckError>
 
 // A local more, which is given what it is at first.
 fn declared(
-    alloc: Global,
-    sites: &Sites,
+    context: &Context,
     scope: &mut Scope,
     d: &Declarator,
     t: &CType,
     span: Span,
 ) -> Result<Box<Stmt>, CheckError>
     requires { length scope.old.locals.items < 256 }
-    ensures { Walks statement (declared_local (place_at sites.now) (scope_of scope.old) (declarator_tree d.now) (ctype_of t.now) span) scope.old result scope.new }
+    ensures { Walks statement (declared_local (place_at context.now) (scope_of scope.old) (declarator_tree d.now) (ctype_of t.now) span) scope.old result scope.new }
 {
     let local = scope.locals.len() as u32;
-    let kept = copied(alloc, t)?;
+    let kept = copied(context, t)?;
     scope.add_local(d.name.number, kept)?;
-    from_zero(alloc, sites, scope, &d.initializer, t, local, span)
+    from_zero(context, scope, &d.initializer, t, local, span)
 }
 
 // One local of a declaration.
 fn declarator(
-    alloc: Global,
-    sites: &Sites,
+    context: &Context,
     scope: &mut Scope,
     base: &TypeForm,
     t: &CType,
     span: Span,
     d: &Declarator,
 ) -> Result<Box<Stmt>, CheckError>
-    ensures { Walks statement (declarator_of (place_at sites.now) (scope_of scope.old) (type_tree base.now) (ctype_of t.now) span (declarator_tree d.now)) scope.old result scope.new }
+    ensures { Walks statement (declarator_of (place_at context.now) (scope_of scope.old) (type_tree base.now) (ctype_of t.now) span (declarator_tree d.now)) scope.old result scope.new }
 {
     few_locals(scope, span)?;
-    let given = copied(alloc, t)?;
+    let given = copied(context, t)?;
     let t = without_stars(base, d.stars, given)?;
-    declared(alloc, sites, scope, d, &t, span)
+    declared(context, scope, d, &t, span)
 }
 
 // The locals of a declaration.
 fn declarators(
-    alloc: Global,
-    sites: &Sites,
+    context: &Context,
     scope: &mut Scope,
     base: &TypeForm,
     t: &CType,
     span: Span,
     ds: &[Declarator],
 ) -> Result<Box<Stmt>, CheckError>
-    ensures { Walks statement (declarators_of (place_at sites.now) (scope_of scope.old) (type_tree base.now) (ctype_of t.now) span (map declarator_tree ds.now)) scope.old result scope.new }
+    ensures { Walks statement (declarators_of (place_at context.now) (scope_of scope.old) (type_tree base.now) (ctype_of t.now) span (map declarator_tree ds.now)) scope.old result scope.new }
 {
     match ds {
-        [] => Ok(boxed(alloc, Stmt::Nothing)?),
+        [] => Ok(context.boxed(Stmt::Nothing)?),
         [first, others @ ..] => {
-            let first = declarator(alloc, sites, scope, base, t, span, first)?;
-            let rest = declarators(alloc, sites, scope, base, t, span, others)?;
-            Ok(both(alloc, first, rest)?)
+            let first = declarator(context, scope, base, t, span, first)?;
+            let rest = declarators(context, scope, base, t, span, others)?;
+            Ok(both(context, first, rest)?)
         }
     }
 }
 
 /// A declaration of locals.
 pub fn declaration(
-    alloc: Global,
-    sites: &Sites,
+    context: &Context,
     scope: &mut Scope,
     d: &Declaration,
 ) -> Result<Box<Stmt>, CheckError>
-    ensures { Walks statement (declaration_of (place_at sites.now) (scope_of scope.old) (declaration_tree d.now)) scope.old result scope.new }
+    ensures { Walks statement (declaration_of (place_at context.now) (scope_of scope.old) (declaration_tree d.now)) scope.old result scope.new }
 {
     few_locals(scope, d.span)?;
-    let t = base_type(alloc, scope, &d.base)?;
+    let t = base_type(context, scope, &d.base)?;
     declarators(
-        alloc,
-        sites,
+        context,
         scope,
         &d.base,
         &t,

@@ -14,58 +14,53 @@ use ckc_core::program::{Expr, Stmt};
 use ckc_tree::expr;
 use ckc_tree::stmt::{Assignment, ForInitial};
 use region_typing_expressions::assignments::{assignment, condition};
+use region_typing_scope::context::Context;
 use region_typing_scope::refusals::CheckError;
 use region_typing_scope::scope::Scope;
-use region_typing_scope::sites::Sites;
-use region_typing_values::on_heap::boxed;
-use std::alloc::Global;
 
 /// The condition of a loop, which holds where it isn't written.
 pub fn optional_condition(
-    alloc: Global,
-    sites: &Sites,
+    context: &Context,
     scope: &Scope,
     written: &Option<Box<expr::Expr>>,
 ) -> Result<Box<Expr>, CheckError>
-    ensures { Answers expression (optional_condition_of (place_at sites.now) (scope_of scope.now) (option_map on_heap written.now)) result }
+    ensures { Answers expression (optional_condition_of (place_at context.now) (scope_of scope.now) (option_map on_heap written.now)) result }
 {
     match written {
-        None => Ok(boxed(alloc, Expr::Number(1))?),
-        Some(written) => condition(alloc, sites, scope, written),
+        None => Ok(context.boxed(Expr::Number(1))?),
+        Some(written) => condition(context, scope, written),
     }
 }
 
 /// What follows each turn of a loop.
 pub fn optional_step(
-    alloc: Global,
-    sites: &Sites,
+    context: &Context,
     scope: &Scope,
     written: &Option<Assignment>,
 ) -> Result<Box<Stmt>, CheckError>
-    ensures { Answers statement (optional_step_of (place_at sites.now) (scope_of scope.now) (option_map assignment_tree written.now)) result }
+    ensures { Answers statement (optional_step_of (place_at context.now) (scope_of scope.now) (option_map assignment_tree written.now)) result }
 {
     match written {
-        None => Ok(boxed(alloc, Stmt::Nothing)?),
-        Some(written) => assignment(alloc, sites, scope, written),
+        None => Ok(context.boxed(Stmt::Nothing)?),
+        Some(written) => assignment(context, scope, written),
     }
 }
 
 /// What stands first in the head of a `for`.
 pub fn first_part(
-    alloc: Global,
-    sites: &Sites,
+    context: &Context,
     scope: &mut Scope,
     written: &ForInitial,
 ) -> Result<Box<Stmt>, CheckError>
-    ensures { Walks statement (first_part_of (place_at sites.now) (scope_of scope.old) (initial_tree written.now)) scope.old result scope.new }
+    ensures { Walks statement (first_part_of (place_at context.now) (scope_of scope.old) (initial_tree written.now)) scope.old result scope.new }
 {
     match written {
-        ForInitial::Nothing => Ok(boxed(alloc, Stmt::Nothing)?),
+        ForInitial::Nothing => Ok(context.boxed(Stmt::Nothing)?),
         ForInitial::Declare {
             declaration: written,
-        } => declaration(alloc, sites, scope, written),
+        } => declaration(context, scope, written),
         ForInitial::Assign {
             assignment: written,
-        } => assignment(alloc, sites, scope, written),
+        } => assignment(context, scope, written),
     }
 }

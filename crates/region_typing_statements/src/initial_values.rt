@@ -20,47 +20,43 @@ use ckc_tree::expr::Expr;
 use ckc_tree::stmt::Initializer;
 use pointer_modes::ctype::CType;
 use region_typing_expressions::expressions::typed;
+use region_typing_scope::context::Context;
 use region_typing_scope::refusals::{CheckError, needs, refusal};
 use region_typing_scope::scope::Scope;
-use region_typing_scope::sites::Sites;
 use region_typing_scope::types::is_scalar;
 use region_typing_values::conversions::converted;
-use region_typing_values::on_heap::boxed;
-use std::alloc::Global;
 
 // The value that a local is given.
 fn initial_value(
-    alloc: Global,
-    sites: &Sites,
+    context: &Context,
     scope: &Scope,
     value: &Expr,
     t: &CType,
     local: u32,
     span: Span,
 ) -> Result<Box<Stmt>, CheckError>
-    ensures { Answers statement_of (initial_value_as (place_at sites.now) (scope_of scope.now) (expression_tree value.now) (ctype_of t.now) local span) result }
+    ensures { Answers statement_of (initial_value_as (place_at context.now) (scope_of scope.now) (expression_tree value.now) (ctype_of t.now) local span) result }
 {
-    let given = typed(alloc, sites, scope, value)?;
-    let value = converted(alloc, given, t, span)?;
-    Ok(boxed(alloc, Stmt::SetLocal { local, value })?)
+    let given = typed(context, scope, value)?;
+    let value = converted(context, given, t, span)?;
+    Ok(context.boxed(Stmt::SetLocal { local, value })?)
 }
 
 // The initial value of a local, if it has one.
 fn initialised(
-    alloc: Global,
-    sites: &Sites,
+    context: &Context,
     scope: &Scope,
     written: &Option<Initializer>,
     t: &CType,
     local: u32,
     span: Span,
 ) -> Result<Box<Stmt>, CheckError>
-    ensures { Answers statement_of (initialised_as (place_at sites.now) (scope_of scope.now) (option_map initializer_tree written.now) (ctype_of t.now) local span) result }
+    ensures { Answers statement_of (initialised_as (place_at context.now) (scope_of scope.now) (option_map initializer_tree written.now) (ctype_of t.now) local span) result }
 {
     match written {
-        None => Ok(boxed(alloc, Stmt::Nothing)?),
+        None => Ok(context.boxed(Stmt::Nothing)?),
         Some(Initializer::Value { value }) => {
-            initial_value(alloc, sites, scope, value, t, local, span)
+            initial_value(context, scope, value, t, local, span)
         }
         Some(Initializer::List { .. }) => Err(refusal(Code::E13, span)),
     }
@@ -68,18 +64,17 @@ fn initialised(
 
 /// What a local is before it is given a value, and then its initial value.
 pub fn from_zero(
-    alloc: Global,
-    sites: &Sites,
+    context: &Context,
     scope: &Scope,
     written: &Option<Initializer>,
     t: &CType,
     local: u32,
     span: Span,
 ) -> Result<Box<Stmt>, CheckError>
-    ensures { Answers statement_of (from_zero_as (place_at sites.now) (scope_of scope.now) (option_map initializer_tree written.now) (ctype_of t.now) local span) result }
+    ensures { Answers statement_of (from_zero_as (place_at context.now) (scope_of scope.now) (option_map initializer_tree written.now) (ctype_of t.now) local span) result }
 {
-    let initial = initialised(alloc, sites, scope, written, t, local, span)?;
+    let initial = initialised(context, scope, written, t, local, span)?;
     needs(is_scalar(t), Code::E13, span)?;
-    let first = boxed(alloc, set_to_zero(local, t))?;
-    Ok(both(alloc, first, initial)?)
+    let first = context.boxed(set_to_zero(local, t))?;
+    Ok(both(context, first, initial)?)
 }

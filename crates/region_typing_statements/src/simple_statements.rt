@@ -22,127 +22,116 @@ use ckc_tree::expr::Expr;
 use pointer_modes::ctype::CType;
 use region_typing_expressions::calls::Called;
 use region_typing_expressions::expressions::{call_typed, typed};
+use region_typing_scope::context::Context;
 use region_typing_scope::refusals::{CheckError, needs, refusal};
 use region_typing_scope::scope::Scope;
-use region_typing_scope::sites::Sites;
 use region_typing_values::conversions::converted;
-use region_typing_values::on_heap::boxed;
-use std::alloc::Global;
 
 // A call whose result is left.
-fn alone(alloc: Global, call: Called) -> Result<Box<Stmt>, NoMemory>
+fn alone(context: &Context, call: Called) -> Result<Box<Stmt>, NoMemory>
     ensures { IfOk result (λ s. statement s ≡ alone_of (called_as call)) }
 {
     match call {
         Called::Gives { ctype: _, value } => {
             let value = Box::into_inner(value);
-            boxed(alloc, Stmt::Evaluate(value))
+            context.boxed(Stmt::Evaluate(value))
         }
         Called::GivesNothing { call } => Ok(call),
     }
 }
 
 /// A statement that is a call.
-pub fn call_alone(
-    alloc: Global,
-    sites: &Sites,
-    scope: &Scope,
-    call: &Expr,
-) -> Result<Box<Stmt>, CheckError>
-    ensures { Answers statement (call_statement (place_at sites.now) (scope_of scope.now) (expression_tree call.now)) result }
+pub fn call_alone(context: &Context, scope: &Scope, call: &Expr) -> Result<Box<Stmt>, CheckError>
+    ensures { Answers statement (call_statement (place_at context.now) (scope_of scope.now) (expression_tree call.now)) result }
 {
-    let call = call_typed(alloc, sites, scope, call)?;
-    Ok(alone(alloc, call)?)
+    let call = call_typed(context, scope, call)?;
+    Ok(alone(context, call)?)
 }
 
 // A return without a value.
 fn returned_nothing(
-    alloc: Global,
+    context: &Context,
     result_type: &Option<CType>,
     span: Span,
 ) -> Result<Box<Stmt>, CheckError>
     ensures { Answers statement (nothing_as (option_map ctype_of result_type.now) span) result }
 {
     match result_type {
-        None => Ok(boxed(alloc, Stmt::ReturnNothing)?),
+        None => Ok(context.boxed(Stmt::ReturnNothing)?),
         Some(_) => Err(refusal(Code::E13, span)),
     }
 }
 
 // A value that is returned where there is no result.
 fn refused_value(
-    alloc: Global,
-    sites: &Sites,
+    context: &Context,
     scope: &Scope,
     written: &Expr,
     span: Span,
 ) -> Result<Box<Stmt>, CheckError>
-    ensures { Answers statement (refused_value_in (place_at sites.now) (scope_of scope.now) (expression_tree written.now) span) result }
+    ensures { Answers statement (refused_value_in (place_at context.now) (scope_of scope.now) (expression_tree written.now) span) result }
 {
-    typed(alloc, sites, scope, written)?;
+    typed(context, scope, written)?;
     Err(refusal(Code::E13, span))
 }
 
 // A return of a value that converts.
 fn return_value(
-    alloc: Global,
-    sites: &Sites,
+    context: &Context,
     scope: &Scope,
     t: &CType,
     written: &Expr,
     span: Span,
 ) -> Result<Box<Stmt>, CheckError>
-    ensures { Answers statement (converted_return (place_at sites.now) (scope_of scope.now) (ctype_of t.now) (expression_tree written.now) span) result }
+    ensures { Answers statement (converted_return (place_at context.now) (scope_of scope.now) (ctype_of t.now) (expression_tree written.now) span) result }
 {
-    let given = typed(alloc, sites, scope, written)?;
-    let value = converted(alloc, given, t, span)?;
-    Ok(boxed(alloc, Stmt::Return(value))?)
+    let given = typed(context, scope, written)?;
+    let value = converted(context, given, t, span)?;
+    Ok(context.boxed(Stmt::Return(value))?)
 }
 
 // A return of a value, where the function has a result.
 fn value_returned(
-    alloc: Global,
-    sites: &Sites,
+    context: &Context,
     scope: &Scope,
     written: &Expr,
     span: Span,
 ) -> Result<Box<Stmt>, CheckError>
-    ensures { Answers statement (value_returned_in (place_at sites.now) (scope_of scope.now) (scope_of scope.now).result (expression_tree written.now) span) result }
+    ensures { Answers statement (value_returned_in (place_at context.now) (scope_of scope.now) (scope_of scope.now).result (expression_tree written.now) span) result }
 {
     match &scope.result {
-        None => refused_value(alloc, sites, scope, written, span),
-        Some(t) => return_value(alloc, sites, scope, t, written, span),
+        None => refused_value(context, scope, written, span),
+        Some(t) => return_value(context, scope, t, written, span),
     }
 }
 
 /// A return, which has a value where the function has a result.
 pub fn return_from(
-    alloc: Global,
-    sites: &Sites,
+    context: &Context,
     scope: &Scope,
     written: &Option<Box<Expr>>,
     span: Span,
 ) -> Result<Box<Stmt>, CheckError>
-    ensures { Answers statement (return_of (place_at sites.now) (scope_of scope.now) (option_map on_heap written.now) span) result }
+    ensures { Answers statement (return_of (place_at context.now) (scope_of scope.now) (option_map on_heap written.now) span) result }
 {
     match written {
-        None => returned_nothing(alloc, &scope.result, span),
-        Some(written) => value_returned(alloc, sites, scope, written, span),
+        None => returned_nothing(context, &scope.result, span),
+        Some(written) => value_returned(context, scope, written, span),
     }
 }
 
 /// A `break`, which stands in a loop.
-pub fn break_from(alloc: Global, scope: &Scope, span: Span) -> Result<Box<Stmt>, CheckError>
+pub fn break_from(context: &Context, scope: &Scope, span: Span) -> Result<Box<Stmt>, CheckError>
     ensures { Answers statement (needs_loop (scope_of scope.now) Break span) result }
 {
     needs(scope.in_loop, Code::E30, span)?;
-    Ok(boxed(alloc, Stmt::Break)?)
+    Ok(context.boxed(Stmt::Break)?)
 }
 
 /// A `continue`, which stands in a loop.
-pub fn continue_with(alloc: Global, scope: &Scope, span: Span) -> Result<Box<Stmt>, CheckError>
+pub fn continue_with(context: &Context, scope: &Scope, span: Span) -> Result<Box<Stmt>, CheckError>
     ensures { Answers statement (needs_loop (scope_of scope.now) Continue span) result }
 {
     needs(scope.in_loop, Code::E30, span)?;
-    Ok(boxed(alloc, Stmt::Continue)?)
+    Ok(context.boxed(Stmt::Continue)?)
 }

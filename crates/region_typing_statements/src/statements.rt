@@ -10,117 +10,107 @@ ghost use Rattle.region_typing_rules.specs.Statements.{statement as statement_in
 ghost use Rattle.region_typing_scope.specs.Views.{scope as scope_of};
 ghost use Rattle.region_typing_values.specs.OnHeap.{statement as statement_of};
 ghost use Rattle.region_typing_statements.specs.Walks.{Walks};
-ghost use Rattle.region_typing_statements.specs.Parts.{nested as nested_in, branched, then_branch as branch_in, if_alone as if_in, otherwise as otherwise_in, turns as turns_in, while_loop as while_in, for_loop as for_in};
+ghost use Rattle.region_typing_statements.specs.Parts.{nested as nested_in, branched, then_branch as branch_in, if_alone as if_in, if_else as if_else_in, otherwise as otherwise_in, turns as turns_in, while_loop as while_in, for_loop as for_in};
 
-use crate::core_forms;
 use crate::core_forms::{Branch, both, choice, repeated};
-use crate::declarations::declaration;
 use crate::heads::{first_part, optional_condition, optional_step};
 use crate::marks::is_checked;
 use crate::simple_statements::{break_from, call_alone, continue_with, return_from};
+use crate::{core_forms, declarations};
 use ckc_core::program::Stmt;
 use ckc_text::code::Code;
 use ckc_text::place::Span;
 use ckc_tree::stmt::{Assignment, ForInitial, Mark};
 use ckc_tree::{expr, stmt};
-use region_typing_expressions::assignments::{assignment, condition};
+use region_typing_expressions::assignments;
+use region_typing_expressions::assignments::condition;
+use region_typing_scope::context::Context;
 use region_typing_scope::refusals::{CheckError, needs, refusal};
 use region_typing_scope::scope::Scope;
-use region_typing_scope::sites::Sites;
-use region_typing_values::on_heap::boxed;
-use std::alloc::Global;
 
 /// A statement.
 #[cycle(statements)]
 pub fn statement(
-    alloc: Global,
-    sites: &Sites,
+    context: &Context,
     scope: &mut Scope,
     written: &stmt::Stmt,
 ) -> Result<Box<Stmt>, CheckError>
-    ensures { Walks statement_of (statement_in (place_at sites.now) (scope_of scope.old) (statement_tree written.now)) scope.old result scope.new }
+    ensures { Walks statement_of (statement_in (place_at context.now) (scope_of scope.old) (statement_tree written.now)) scope.old result scope.new }
 {
     match written {
         stmt::Stmt::Block {
             mark,
             statements: inner,
             span,
-        } => block(alloc, sites, scope, inner.as_slice(), *mark, *span),
+        } => block(context, scope, inner.as_slice(), *mark, *span),
         stmt::Stmt::Bundle { span, .. } => Err(refusal(Code::E13, *span)),
-        stmt::Stmt::Declare {
-            declaration: written,
-            ..
-        } => declaration(alloc, sites, scope, written),
-        stmt::Stmt::Assign {
-            assignment: written,
-            ..
-        } => assignment(alloc, sites, scope, written),
-        stmt::Stmt::Call { call, .. } => call_alone(alloc, sites, scope, call),
-        stmt::Stmt::Empty { .. } => Ok(boxed(alloc, Stmt::Nothing)?),
+        stmt::Stmt::Declare { declaration, .. } => {
+            declarations::declaration(context, scope, declaration)
+        }
+        stmt::Stmt::Assign { assignment, .. } => {
+            assignments::assignment(context, scope, assignment)
+        }
+        stmt::Stmt::Call { call, .. } => call_alone(context, scope, call),
+        stmt::Stmt::Empty { .. } => Ok(context.boxed(Stmt::Nothing)?),
         stmt::Stmt::If {
             condition: test,
             consequent,
             alternative,
             ..
         } => match alternative {
-            None => if_alone(alloc, sites, scope, consequent, test),
-            Some(alternative) => {
-                let first = then_branch(alloc, sites, scope, consequent, test)?;
-                otherwise(alloc, sites, scope, alternative, first)
-            }
+            None => if_alone(context, scope, consequent, test),
+            Some(alternative) => if_else(context, scope, consequent, alternative, test),
         },
         stmt::Stmt::While {
             condition: test,
             body,
             ..
-        } => while_loop(alloc, sites, scope, body, test),
+        } => while_loop(context, scope, body, test),
         stmt::Stmt::For {
             initial,
             condition: test,
             step,
             body,
             ..
-        } => for_loop(alloc, sites, scope, body, initial, test, step),
-        stmt::Stmt::Return { value, span } => return_from(alloc, sites, scope, value, *span),
-        stmt::Stmt::Break { span } => break_from(alloc, scope, *span),
-        stmt::Stmt::Continue { span } => continue_with(alloc, scope, *span),
+        } => for_loop(context, scope, body, initial, test, step),
+        stmt::Stmt::Return { value, span } => return_from(context, scope, value, *span),
+        stmt::Stmt::Break { span } => break_from(context, scope, *span),
+        stmt::Stmt::Continue { span } => continue_with(context, scope, *span),
     }
 }
 
 // A block.
 #[cycle(statements)]
 fn block(
-    alloc: Global,
-    sites: &Sites,
+    context: &Context,
     scope: &mut Scope,
     inner: &[stmt::Stmt],
     mark: Option<Mark>,
     span: Span,
 ) -> Result<Box<Stmt>, CheckError>
-    ensures { Walks statement_of (statement_in (place_at sites.now) (scope_of scope.old) (Block mark (statement_list inner.now) span)) scope.old result scope.new }
+    ensures { Walks statement_of (statement_in (place_at context.now) (scope_of scope.old) (Block mark (statement_list inner.now) span)) scope.old result scope.new }
 {
     let start = scope.block_start();
     let checked = is_checked(scope, mark);
-    let built = statements(alloc, sites, scope, inner)?;
+    let built = statements(context, scope, inner)?;
     scope.leave(start);
     needs(checked, Code::E15, span)?;
-    Ok(core_forms::block(alloc, built)?)
+    Ok(core_forms::block(context, built)?)
 }
 
 // A condition with the statement that runs where it holds.
 #[cycle(statements)]
 fn then_branch(
-    alloc: Global,
-    sites: &Sites,
+    context: &Context,
     scope: &mut Scope,
     consequent: &stmt::Stmt,
     test: &expr::Expr,
 ) -> Result<Branch, CheckError>
-    ensures { Walks branched (branch_in (place_at sites.now) (scope_of scope.old) (expression_tree test.now) (statement_tree consequent.now)) scope.old result scope.new }
+    ensures { Walks branched (branch_in (place_at context.now) (scope_of scope.old) (expression_tree test.now) (statement_tree consequent.now)) scope.old result scope.new }
 {
-    let condition = condition(alloc, sites, scope, test)?;
+    let condition = condition(context, scope, test)?;
     let around = scope.in_loop;
-    let consequent = nested(alloc, sites, scope, around, consequent)?;
+    let consequent = nested(context, scope, around, consequent)?;
     Ok(Branch {
         condition,
         consequent,
@@ -130,104 +120,113 @@ fn then_branch(
 // A branch alone.
 #[cycle(statements)]
 fn if_alone(
-    alloc: Global,
-    sites: &Sites,
+    context: &Context,
     scope: &mut Scope,
     consequent: &stmt::Stmt,
     test: &expr::Expr,
 ) -> Result<Box<Stmt>, CheckError>
-    ensures { Walks statement_of (if_in (place_at sites.now) (scope_of scope.old) (expression_tree test.now) (statement_tree consequent.now)) scope.old result scope.new }
+    ensures { Walks statement_of (if_in (place_at context.now) (scope_of scope.old) (expression_tree test.now) (statement_tree consequent.now)) scope.old result scope.new }
 {
-    let first = then_branch(alloc, sites, scope, consequent, test)?;
-    let nothing = boxed(alloc, Stmt::Nothing)?;
-    Ok(choice(alloc, first, nothing)?)
+    let first = then_branch(context, scope, consequent, test)?;
+    let nothing = context.boxed(Stmt::Nothing)?;
+    Ok(choice(context, first, nothing)?)
+}
+
+// A branch and its alternative.
+#[cycle(statements)]
+fn if_else(
+    context: &Context,
+    scope: &mut Scope,
+    consequent: &stmt::Stmt,
+    alternative: &stmt::Stmt,
+    test: &expr::Expr,
+) -> Result<Box<Stmt>, CheckError>
+    ensures { Walks statement_of (if_else_in (place_at context.now) (scope_of scope.old) (expression_tree test.now) (statement_tree consequent.now) (statement_tree alternative.now)) scope.old result scope.new }
+{
+    let first = then_branch(context, scope, consequent, test)?;
+    otherwise(context, scope, alternative, first)
 }
 
 // The alternative of a branch.
 #[cycle(statements)]
 fn otherwise(
-    alloc: Global,
-    sites: &Sites,
+    context: &Context,
     scope: &mut Scope,
     alternative: &stmt::Stmt,
     first: Branch,
 ) -> Result<Box<Stmt>, CheckError>
-    ensures { Walks statement_of (otherwise_in (place_at sites.now) (branched first, scope_of scope.old) (statement_tree alternative.now)) scope.old result scope.new }
+    ensures { Walks statement_of (otherwise_in (place_at context.now) (branched first, scope_of scope.old) (statement_tree alternative.now)) scope.old result scope.new }
 {
     let around = scope.in_loop;
-    let second = nested(alloc, sites, scope, around, alternative)?;
-    Ok(choice(alloc, first, second)?)
+    let second = nested(context, scope, around, alternative)?;
+    Ok(choice(context, first, second)?)
 }
 
 // A loop with a condition alone.
 #[cycle(statements)]
 fn while_loop(
-    alloc: Global,
-    sites: &Sites,
+    context: &Context,
     scope: &mut Scope,
     body: &stmt::Stmt,
     test: &expr::Expr,
 ) -> Result<Box<Stmt>, CheckError>
-    ensures { Walks statement_of (while_in (place_at sites.now) (scope_of scope.old) (expression_tree test.now) (statement_tree body.now)) scope.old result scope.new }
+    ensures { Walks statement_of (while_in (place_at context.now) (scope_of scope.old) (expression_tree test.now) (statement_tree body.now)) scope.old result scope.new }
 {
-    let test = condition(alloc, sites, scope, test)?;
-    let body = nested(alloc, sites, scope, true, body)?;
-    let nothing = boxed(alloc, Stmt::Nothing)?;
-    Ok(repeated(alloc, test, body, nothing)?)
+    let test = condition(context, scope, test)?;
+    let body = nested(context, scope, true, body)?;
+    let nothing = context.boxed(Stmt::Nothing)?;
+    Ok(repeated(context, test, body, nothing)?)
 }
 
 // A loop with a head.
 #[cycle(statements)]
 fn for_loop(
-    alloc: Global,
-    sites: &Sites,
+    context: &Context,
     scope: &mut Scope,
     body: &stmt::Stmt,
     initial: &ForInitial,
     test: &Option<Box<expr::Expr>>,
     step: &Option<Assignment>,
 ) -> Result<Box<Stmt>, CheckError>
-    ensures { Walks statement_of (for_in (place_at sites.now) (scope_of scope.old) (initial_tree initial.now) (option_map on_heap test.now) (option_map assignment_tree step.now) (statement_tree body.now)) scope.old result scope.new }
+    ensures { Walks statement_of (for_in (place_at context.now) (scope_of scope.old) (initial_tree initial.now) (option_map on_heap test.now) (option_map assignment_tree step.now) (statement_tree body.now)) scope.old result scope.new }
 {
     let start = scope.block_start();
-    let first = first_part(alloc, sites, scope, initial)?;
-    let turns = turns(alloc, sites, scope, body, test, step)?;
+    let first = first_part(context, scope, initial)?;
+    let turns = turns(context, scope, body, test, step)?;
     scope.leave(start);
-    Ok(both(alloc, first, turns)?)
+    Ok(both(context, first, turns)?)
 }
 
 // The turns of a loop with a head.
 #[cycle(statements)]
 fn turns(
-    alloc: Global,
-    sites: &Sites,
+    context: &Context,
     scope: &mut Scope,
     body: &stmt::Stmt,
     test: &Option<Box<expr::Expr>>,
     step: &Option<Assignment>,
 ) -> Result<Box<Stmt>, CheckError>
-    ensures { Walks statement_of (turns_in (place_at sites.now) (scope_of scope.old) (statement_tree body.now) (option_map on_heap test.now) (option_map assignment_tree step.now)) scope.old result scope.new }
+    ensures { Walks statement_of (turns_in (place_at context.now) (scope_of scope.old) (statement_tree body.now) (option_map on_heap test.now) (option_map assignment_tree step.now)) scope.old result scope.new }
 {
-    let test = optional_condition(alloc, sites, scope, test)?;
-    let body = nested(alloc, sites, scope, true, body)?;
-    let step = optional_step(alloc, sites, scope, step)?;
-    Ok(repeated(alloc, test, body, step)?)
+    let test = optional_condition(context, scope, test)?;
+    let body = nested(context, scope, true, body)?;
+    let step = optional_step(context, scope, step)?;
+    Ok(repeated(context, test, body, step)?)
 }
 
 // A statement whose locals are gone behind it.
 #[cycle(statements)]
 fn nested(
-    alloc: Global,
-    sites: &Sites,
+    context: &Context,
     scope: &mut Scope,
     in_loop: bool,
     written: &stmt::Stmt,
 ) -> Result<Box<Stmt>, CheckError>
-    ensures { Walks statement_of (nested_in (place_at sites.now) (scope_of scope.old) in_loop (statement_tree written.now)) scope.old result scope.new }
+    ensures { Walks statement_of (nested_in (place_at context.now) (scope_of scope.old) in_loop (statement_tree written.now)) scope.old result scope.new }
 {
     let start = scope.block_start();
     scope.set_in_loop(in_loop);
-    let inner = statement(alloc, sites, scope, written);
+    let inner = statement(context, scope, written);
     scope.leave(start);
     inner
 }
@@ -235,16 +234,15 @@ fn nested(
 /// Statements, in their order.
 #[cycle(statements)]
 pub fn statements(
-    alloc: Global,
-    sites: &Sites,
+    context: &Context,
     scope: &mut Scope,
     written: &[stmt::Stmt],
 ) -> Result<Vec<Stmt>, CheckError>
-    ensures { Walks (λ v. statements_of v.items) (statements_in (place_at sites.now) (scope_of scope.old) (statement_list written.now)) scope.old result scope.new }
+    ensures { Walks (λ v. statements_of v.items) (statements_in (place_at context.now) (scope_of scope.old) (statement_list written.now)) scope.old result scope.new }
 {
-    let mut built = Vec::new(alloc);
+    let mut built = Vec::new(context.alloc());
     for listed in written {
-        let next = statement(alloc, sites, scope, listed)?;
+        let next = statement(context, scope, listed)?;
         built.reserve(1)?;
         built.push_reserved(Box::into_inner(next));
     }

@@ -14,9 +14,9 @@ use ckc_core::program::Expr;
 use ckc_text::code::Code;
 use ckc_text::place::Span;
 use pointer_modes::ctype::CType;
+use region_typing_scope::context::Context;
 use region_typing_scope::refusals::{CheckError, needs};
 use region_typing_scope::types::{converts, is_number};
-use std::alloc::Global;
 
 // A value as one of a type.
 fn in_type(to: &CType, null: bool, value: Box<Expr>) -> Expr
@@ -41,10 +41,15 @@ fn pointer_value(null: bool, value: Box<Expr>) -> Expr
 }
 
 /// A value as one of a type that it converts to.
-pub fn converted(alloc: Global, t: Box<Typed>, to: &CType, span: Span) -> Result<Expr, CheckError>
+pub fn converted(
+    context: &Context,
+    t: Box<Typed>,
+    to: &CType,
+    span: Span,
+) -> Result<Expr, CheckError>
     ensures { Answers expression (converted_to (typed t) (ctype_of to.now) span Passes) result }
 {
-    let Operand { ctype, zero, value } = value_of(alloc, t, span)?;
+    let Operand { ctype, zero, value } = value_of(context, t, span)?;
     needs(converts(&ctype, zero, to), Code::E13, span)?;
     let null = zero && is_number(&ctype);
     Ok(in_type(to, null, value))

@@ -2,6 +2,5 @@
 #![tactic(auto)]
 
 pub mod conversions;
-pub mod on_heap;
 pub mod operands;
 pub mod typed;

@@ -9,15 +9,14 @@ ghost use Rattle.region_typing_scope.specs.Answering.{Answers};
 ghost use Rattle.region_typing_values.specs.OnHeap.{typed, expression as boxed_expression};
 ghost use Rattle.region_typing_values.specs.Operands.{operand as operand_view, operand_of};
 
-use crate::on_heap::boxed;
 use crate::typed::Typed;
 use ckc_core::program::Expr;
 use ckc_text::code::Code;
 use ckc_text::place::Span;
 use pointer_modes::ctype::CType;
+use region_typing_scope::context::Context;
 use region_typing_scope::refusals::{CheckError, needs, refusal};
 use region_typing_scope::types::{copied, is_number};
-use std::alloc::Global;
 
 /// A value of a scalar type, which may be the constant 0.
 #[derive(Drop)]
@@ -28,25 +27,25 @@ pub struct Operand {
 }
 
 /// What an expression that is no struct is as a value.
-pub fn value_of(alloc: Global, t: Box<Typed>, span: Span) -> Result<Operand, CheckError>
+pub fn value_of(context: &Context, t: Box<Typed>, span: Span) -> Result<Operand, CheckError>
     ensures { Answers operand_view (operand_of (typed t) span) result }
 {
     match Box::into_inner(t) {
         Typed::Value { ctype, zero, value } => Ok(Operand { ctype, zero, value }),
-        Typed::Local { ctype, local } => read(alloc, ctype, Expr::Local(local)),
+        Typed::Local { ctype, local } => read(context, ctype, Expr::Local(local)),
         Typed::Cell { ctype, place } => {
-            let copy = copied(alloc, &ctype)?;
-            read(alloc, copy, Expr::Load { ctype, cell: place })
+            let copy = copied(context, &ctype)?;
+            read(context, copy, Expr::Load { ctype, cell: place })
         }
         Typed::Struct { .. } => Err(refusal(Code::E13, span)),
     }
 }
 
 // What is read from a place.
-fn read(alloc: Global, ctype: CType, value: Expr) -> Result<Operand, CheckError>
+fn read(context: &Context, ctype: CType, value: Expr) -> Result<Operand, CheckError>
     ensures { Answers operand_view (Passes (record { type = ctype_of ctype; zero = false; value = expression value })) result }
 {
-    let value = boxed(alloc, value)?;
+    let value = context.boxed(value)?;
     Ok(Operand {
         ctype,
         zero: false,
@@ -55,18 +54,18 @@ fn read(alloc: Global, ctype: CType, value: Expr) -> Result<Operand, CheckError>
 }
 
 /// A number, for an operator that takes numbers.
-pub fn number(alloc: Global, t: Box<Typed>, span: Span) -> Result<Box<Expr>, CheckError>
+pub fn number(context: &Context, t: Box<Typed>, span: Span) -> Result<Box<Expr>, CheckError>
     ensures { Answers boxed_expression (number_of (typed t) span Passes) result }
 {
-    let o = value_of(alloc, t, span)?;
+    let o = value_of(context, t, span)?;
     needs(is_number(&o.ctype), Code::E13, span)?;
     Ok(o.value)
 }
 
 /// A scalar, for a condition and for operators on truth.
-pub fn scalar(alloc: Global, t: Box<Typed>, span: Span) -> Result<Box<Expr>, CheckError>
+pub fn scalar(context: &Context, t: Box<Typed>, span: Span) -> Result<Box<Expr>, CheckError>
     ensures { Answers boxed_expression (scalar_of (typed t) span Passes) result }
 {
-    let o = value_of(alloc, t, span)?;
+    let o = value_of(context, t, span)?;
     Ok(o.value)
 }

@@ -8,11 +8,10 @@ ghost use Rattle.region_typing_rules.specs.Items.{is_zero as zero_typed};
 ghost use Rattle.region_typing_values.specs.Typed.{typed, base_place};
 ghost use Rattle.region_typing_values.specs.OnHeap.{typed as typed_on_heap};
 
-use crate::on_heap::boxed;
 use ckc_core::program::{CellPlace, Expr, Site};
 use ckc_text::fault::NoMemory;
 use pointer_modes::ctype::CType;
-use std::alloc::Global;
+use region_typing_scope::context::Context;
 
 /// The first cell of a struct in memory: that of a file-level variable, or the one that a pointer points to.
 #[derive(Drop)]
@@ -55,18 +54,15 @@ pub enum Typed {
 }
 
 /// A value that isn't the constant 0.
-pub fn plain(alloc: Global, ctype: CType, value: Expr) -> Result<Box<Typed>, NoMemory>
+pub fn plain(context: &Context, ctype: CType, value: Expr) -> Result<Box<Typed>, NoMemory>
     ensures { IfOk result (λ t. typed_on_heap t ≡ Value (ctype_of ctype) false (expression value) None) }
 {
-    let value = boxed(alloc, value)?;
-    boxed(
-        alloc,
-        Typed::Value {
-            ctype,
-            zero: false,
-            value,
-        },
-    )
+    let value = context.boxed(value)?;
+    context.boxed(Typed::Value {
+        ctype,
+        zero: false,
+        value,
+    })
 }
 
 /// Whether a value is the constant 0.

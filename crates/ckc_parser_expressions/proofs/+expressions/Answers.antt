@@ -1,4 +1,4 @@
-use Rattle.std.proofs.Common.{◌≤◌, ◌+◌, [], length, refl, sym, ap, ◌∙◌, arith, add-one, rules}
+use Rattle.std.proofs.Common.{◌≤◌, ◌+◌, [], length, refl, sym, ap, ◌∙◌, arith, rules}
 use Rattle.ckc_tree.specs.Expressions.{expression}
 use Rattle.ckc_tree.specs.Heights.{expression_reach, expressions_reach}
 use Rattle.ckc_parser_grammar.specs.Tokens as words
@@ -95,10 +95,10 @@ pub expressions::expression_before-returns-clause-reads : goal.expressions::expr
 expressions::expression_before-returns-clause-reads t c = (rw c.in_ok-end.ensures at c.in_ok-operand.ensures.reads.0, c.in_ok-operand.ensures.reads.1)
 
 pub expressions::indexed-returns-in_err-index-clause-reads : goal.expressions::indexed-returns-in_err-index-clause-reads
-expressions::indexed-returns-in_err-index-clause-reads t c = λ start. rw (err _ _ c.from_residual.ensures.1) (index_stuck (room _ c.args.operand c.requires) (rw add-one at c.in_err-index.ensures.reads))
+expressions::indexed-returns-in_err-index-clause-reads t c = λ start. rw (err _ _ c.from_residual.ensures.1) (index_stuck (room _ c.args.operand c.requires) (rw c.deeper.ensures at c.in_err-index.ensures.reads))
 
 pub expressions::indexed-returns-clause-reads : goal.expressions::indexed-returns-clause-reads
-expressions::indexed-returns-clause-reads t c = λ start. selects_built _ c.index_with.ensures (index_selects (room _ c.args.operand c.requires) c.in_ok-index.ensures.reads.0 (rw add-one at c.in_ok-index.ensures.reads.1))
+expressions::indexed-returns-clause-reads t c = λ start. selects_built _ c.index_with.ensures (index_selects (room _ c.args.operand c.requires) c.in_ok-index.ensures.reads.0 (rw c.deeper.ensures at c.in_ok-index.ensures.reads.1))
 
 pub expressions::indexed-returns-clause-shorter : goal.expressions::indexed-returns-clause-shorter
 expressions::indexed-returns-clause-shorter t c = takes _ _ _ c.in_ok-index.ensures.shorter
@@ -156,16 +156,16 @@ expressions::selected-returns-in-Arrow-clause-reads t c = λ start. rw c.in-Arro
 pub expressions::selectors-selectors-init : goal.expressions::selectors-selectors-init
 expressions::selectors-selectors-init t c = (selects_none c.requires.low, omega arith)
 
-pub expressions::selectors-overflow_add-depth : goal.expressions::selectors-overflow_add-depth
-expressions::selectors-overflow_add-depth t c = omega (arith, height_is c.selectors.operand, c.selectors.invariant.0.low)
+pub expressions::selectors-check_around-requires : goal.expressions::selectors-check_around-requires
+expressions::selectors-check_around-requires t c = omega (arith, height_is c.selectors.operand, c.selectors.invariant.0.low)
 
-pub expressions::selectors-returns-then-depth-operand-ge-MAX_DEPTH-clause-reads : goal.expressions::selectors-returns-then-depth-operand-ge-MAX_DEPTH-clause-reads
-expressions::selectors-returns-then-depth-operand-ge-MAX_DEPTH-clause-reads t c =
-    let deep : 200 ≤ c.args.depth + (expression_reach (expression c.selectors.operand.expr.value)).height = omega (arith, height_is c.selectors.operand) in
-    rw (start_is c.selectors.operand) (c.selectors.invariant.0.fails (rw c.in-Some.ensures.1 (s.selectors_deep (selector_is c.in-Some.selector) deep)))
+pub expressions::selectors-returns-in_err-check_around-clause-reads : goal.expressions::selectors-returns-in_err-check_around-clause-reads
+expressions::selectors-returns-in_err-check_around-clause-reads t c =
+    let deep = rw (height_is c.selectors.operand) at c.in_err-check_around.ensures.1 in
+    rw (err _ _ c.from_residual.ensures.1, c.in_err-check_around.ensures.0, start_is c.selectors.operand) (c.selectors.invariant.0.fails (rw c.in-Some.ensures.1 (s.selectors_deep (selector_is c.in-Some.selector) deep)))
 
 pub expressions::selectors-returns-in_err-operand-clause-reads : goal.expressions::selectors-returns-in_err-operand-clause-reads
-expressions::selectors-returns-in_err-operand-clause-reads t c = rw (err _ _ c.from_residual.ensures.1) (c.selectors.invariant.0.fails (rw c.in-Some.ensures.1 (c.in_err-operand.ensures.reads c.in-Some.ensures.0)))
+expressions::selectors-returns-in_err-operand-clause-reads t c = rw (err _ _ c.from_residual-in_err-operand.ensures.1) (c.selectors.invariant.0.fails (rw c.in-Some.ensures.1 (c.in_err-operand.ensures.reads c.in-Some.ensures.0)))
 
 pub expressions::selectors-selectors-preserved : goal.expressions::selectors-selectors-preserved
 expressions::selectors-selectors-preserved t c = (selects_more c.selectors.invariant.0 (rw (← c.in-Some.ensures.1) at (c.in_ok-operand.ensures.reads c.in-Some.ensures.0)), omega (arith, ap length c.in-Some.ensures.1, c.in_ok-operand.ensures.shorter))
@@ -254,11 +254,11 @@ primary::last_bounds-returns-clause-reads t c = record {
 }
 
 pub primary::cast-returns-in_err-parts-clause-reads : goal.primary::cast-returns-in_err-parts-clause-reads
-primary::cast-returns-in_err-parts-clause-reads t c = λ k is. rw (err _ _ c.from_residual.ensures.1) (cast_stuck is c.requires (rw add-one at c.in_err-parts.ensures.reads))
+primary::cast-returns-in_err-parts-clause-reads t c = λ k is. rw (err _ _ c.from_residual.ensures.1) (cast_stuck is c.requires (rw c.deeper-below.ensures at c.in_err-parts.ensures.reads))
 
 pub primary::cast-returns-in-Ok-clause-reads : goal.primary::cast-returns-in-Ok-clause-reads
 primary::cast-returns-in-Ok-clause-reads t c = λ k is.
-    let parts = rw add-one at c.in_ok-parts.ensures.reads in
+    let parts = rw c.deeper-below.ensures at c.in_ok-parts.ensures.reads in
     let low = low_around _ c.args.start.from _ c.requires (low_beside _ _ _ parts.type_low parts.low) in
     primary_built _ _ (rw c.join.ensures at c.cast_with.ensures) (g.cast is parts.type (rw c.in-Ok.ensures at parts.operand)) low
 
@@ -267,13 +267,13 @@ primary::cast-returns-in-Ok-clause-shorter t c = takes _ _ _ (omega (arith, ap l
 
 pub primary::cast-returns-in_err-written-clause-reads : goal.primary::cast-returns-in_err-written-clause-reads
 primary::cast-returns-in_err-written-clause-reads t c = λ k is.
-    let parts = rw add-one at c.in_ok-parts.ensures.reads in
-    rw (err _ _ c.from_residual-in_err-written.ensures.1) (last_stuck is c.requires parts c.in_default.ensures.other (rw (add-one, c.in_default.ensures.left) at c.in_err-written.ensures.reads))
+    let parts = rw c.deeper-below.ensures at c.in_ok-parts.ensures.reads in
+    rw (err _ _ c.from_residual-in_err-written.ensures.1) (last_stuck is c.requires parts c.in_default.ensures.other (rw (c.deeper-below.ensures, c.in_default.ensures.left) at c.in_err-written.ensures.reads))
 
 pub primary::cast-returns-clause-reads : goal.primary::cast-returns-clause-reads
 primary::cast-returns-clause-reads t c = λ k is.
-    let parts = rw add-one at c.in_ok-parts.ensures.reads in
-    let last = rw (add-one, c.in_default.ensures.left) at c.in_ok-written.ensures.reads in
+    let parts = rw c.deeper-below.ensures at c.in_ok-parts.ensures.reads in
+    let last = rw (c.deeper-below.ensures, c.in_default.ensures.left) at c.in_ok-written.ensures.reads in
     let low = low_around _ c.args.start.from _ c.requires (low_beside _ _ _ (low_beside _ _ _ parts.type_low parts.low) last.low) in
     primary_built _ _ (rw c.join-2.ensures at c.bounded_cast_with.ensures) (g.bounded_cast is parts.type (rw last.at at parts.operand) last.spelled) low
 
@@ -281,16 +281,16 @@ pub primary::cast-returns-clause-shorter : goal.primary::cast-returns-clause-sho
 primary::cast-returns-clause-shorter t c = takes _ _ _ (omega (arith, ap length c.in_default.ensures.left, c.in_ok-parts.ensures.shorter, c.in_ok-written.ensures.shorter))
 
 pub primary::malloc-returns-in_err-parts-clause-reads : goal.primary::malloc-returns-in_err-parts-clause-reads
-primary::malloc-returns-in_err-parts-clause-reads t c = λ k is. rw (err _ _ c.from_residual.ensures.1) (malloc_stuck is c.requires (rw add-one at c.in_err-parts.ensures.reads))
+primary::malloc-returns-in_err-parts-clause-reads t c = λ k is. rw (err _ _ c.from_residual.ensures.1) (malloc_stuck is c.requires (rw c.deeper.ensures at c.in_err-parts.ensures.reads))
 
 pub primary::malloc-returns-in_err-end-clause-reads : goal.primary::malloc-returns-in_err-end-clause-reads
 primary::malloc-returns-in_err-end-clause-reads t c = λ k is.
-    let parts = rw add-one at c.in_ok-parts.ensures.reads in
+    let parts = rw c.deeper.ensures at c.in_ok-parts.ensures.reads in
     rw (err _ _ c.from_residual-in_err-end.ensures.1, c.in_err-end.ensures.reason, c.in_err-end.ensures.left) (s.malloc_close is parts.type parts.type_low parts.operand parts.low c.in_err-end.ensures.other)
 
 pub primary::malloc-returns-clause-reads : goal.primary::malloc-returns-clause-reads
 primary::malloc-returns-clause-reads t c = λ k is.
-    let parts = rw add-one at c.in_ok-parts.ensures.reads in
+    let parts = rw c.deeper.ensures at c.in_ok-parts.ensures.reads in
     let low = low_around _ c.args.start.from _ c.requires (low_beside _ _ _ parts.type_low parts.low) in
     primary_built _ _ (rw c.join.ensures at c.malloc_with.ensures) (g.malloc is parts.type (rw c.in_ok-end.ensures at parts.operand)) low
 
@@ -298,22 +298,22 @@ pub primary::malloc-returns-clause-shorter : goal.primary::malloc-returns-clause
 primary::malloc-returns-clause-shorter t c = takes _ _ _ (omega (arith, ap length c.in_ok-end.ensures, c.in_ok-parts.ensures.shorter))
 
 pub primary::calloc-returns-in_err-parts-clause-reads : goal.primary::calloc-returns-in_err-parts-clause-reads
-primary::calloc-returns-in_err-parts-clause-reads t c = λ k is. rw (err _ _ c.from_residual.ensures.1) (calloc_stuck is c.requires (rw add-one at c.in_err-parts.ensures.reads))
+primary::calloc-returns-in_err-parts-clause-reads t c = λ k is. rw (err _ _ c.from_residual.ensures.1) (calloc_stuck is c.requires (rw c.deeper-below.ensures at c.in_err-parts.ensures.reads))
 
 pub primary::calloc-returns-in_err-comma-clause-reads : goal.primary::calloc-returns-in_err-comma-clause-reads
 primary::calloc-returns-in_err-comma-clause-reads t c = λ k is.
-    let parts = rw add-one at c.in_ok-parts.ensures.reads in
+    let parts = rw c.deeper-below.ensures at c.in_ok-parts.ensures.reads in
     rw (err _ _ c.from_residual-in_err-comma.ensures.1, c.in_err-comma.ensures.reason, c.in_err-comma.ensures.left) (s.calloc_comma is parts.type parts.type_low parts.operand parts.low c.in_err-comma.ensures.other)
 
 pub primary::calloc-returns-in_err-size-clause-reads : goal.primary::calloc-returns-in_err-size-clause-reads
 primary::calloc-returns-in_err-size-clause-reads t c = λ k is.
-    let parts = rw (add-one, c.in_ok-comma.ensures) at c.in_ok-parts.ensures.reads in
-    rw (err _ _ c.from_residual-in_err-size.ensures.1) (size_stuck is c.requires parts (rw add-one at c.in_err-size.ensures.reads))
+    let parts = rw (c.deeper-below.ensures, c.in_ok-comma.ensures) at c.in_ok-parts.ensures.reads in
+    rw (err _ _ c.from_residual-in_err-size.ensures.1) (size_stuck is c.requires parts (rw c.deeper-below.ensures at c.in_err-size.ensures.reads))
 
 pub primary::calloc-returns-clause-reads : goal.primary::calloc-returns-clause-reads
 primary::calloc-returns-clause-reads t c = λ k is.
-    let parts = rw (add-one, c.in_ok-comma.ensures) at c.in_ok-parts.ensures.reads in
-    let size = rw add-one at c.in_ok-size.ensures.reads in
+    let parts = rw (c.deeper-below.ensures, c.in_ok-comma.ensures) at c.in_ok-parts.ensures.reads in
+    let size = rw c.deeper-below.ensures at c.in_ok-size.ensures.reads in
     let low = low_around _ c.args.start.from _ c.requires (low_beside _ _ _ (low_beside _ _ _ parts.type_low parts.low) size.1) in
     primary_built _ _ c.calloc_with.ensures (g.calloc is parts.type parts.operand size.0) low
 
@@ -333,11 +333,11 @@ pub primary::name_or_call-returns-in_default-clause-shorter : goal.primary::name
 primary::name_or_call-returns-in_default-clause-shorter t c = may_take _ _ _ (omega (arith, ap length c.in_default.ensures.left))
 
 pub primary::name_or_call-returns-in_err-read-clause-reads : goal.primary::name_or_call-returns-in_err-read-clause-reads
-primary::name_or_call-returns-in_err-read-clause-reads t c = rw (err _ _ c.from_residual-in_err-read.ensures.1, c.in-Ok.ensures) (s.arguments c.requires (rw add-one at c.in_err-read.ensures.reads))
+primary::name_or_call-returns-in_err-read-clause-reads t c = rw (err _ _ c.from_residual-in_err-read.ensures.1, c.in-Ok.ensures) (s.arguments c.requires (rw c.deeper.ensures at c.in_err-read.ensures.reads))
 
 pub primary::name_or_call-returns-clause-reads : goal.primary::name_or_call-returns-clause-reads
 primary::name_or_call-returns-clause-reads t c =
-    let low = low_around c.args.depth c.args.span.from (expressions_reach (listed c.in_ok-read.read.items.items)) c.requires (rw add-one at c.in_ok-read.ensures.reads.1) in
+    let low = low_around c.args.depth c.args.span.from (expressions_reach (listed c.in_ok-read.read.items.items)) c.requires (rw c.deeper.ensures at c.in_ok-read.ensures.reads.1) in
     rw c.in-Ok.ensures (primary_built _ _ (rw c.in_ok-name.ensures at c.call_with.ensures) (g.called (g.call c.in_ok-read.ensures.reads.0)) low)
 
 pub primary::name_or_call-returns-clause-shorter : goal.primary::name_or_call-returns-clause-shorter

@@ -69,7 +69,7 @@ decreases-expressions::closed l = 8 * length l.tokens.now.now + 7
 
 -- each form that goes on from here with an operand goes on from the start
 abbrev pub invariant-expressions::operators-operators : goal.invariant-expressions::operators-operators
-invariant-expressions::operators-operators l = NeedsOperand (record { loosest = l.loosest; depth = l.depth; tokens = l.fn.tokens.now }) l.around l.tokens.now × (length l.tokens.now ≤ length l.fn.tokens.now)
+invariant-expressions::operators-operators l = NeedsOperand (record { loosest = l.loosest; depth = l.fn.depth; tokens = l.fn.tokens.now }) l.around l.tokens.now × (length l.tokens.now ≤ length l.fn.tokens.now)
 
 abbrev pub decreases-expressions::operators-operators : goal.decreases-expressions::operators-operators
 decreases-expressions::operators-operators l = length l.tokens.now

@@ -15,10 +15,10 @@ returns-in_err-open_brace c = rw (err _ _ c.from_residual.ensures.1, c.in_err-op
 pub returns-in_err-read : goal.returns-in_err-read
 returns-in_err-read c =
     let marked = rw (c.in_ok-open_brace.ensures, c.in_default.ensures.left) at c.optional_mark-mark.ensures in
-    rw (err _ _ c.from_residual-in_err-read.ensures.1) (stuck.statements marked c.in_err-read.ensures)
+    rw (err _ _ c.from_residual-in_err-read.ensures.1) (stuck.statements marked (rw (c.deeper.ensures, c.new.ensures) at c.in_err-read.ensures))
 
 pub returns : goal.returns
 returns c =
     let marked = rw (c.in_ok-open_brace.ensures, c.in_default.ensures.left) at c.optional_mark-mark.ensures in
     let deep : 0 < 200 = omega arith in
-    rw (c.from_first-span.ensures, c.in_default.ensures.left) (g.present marked c.in_ok-read.ensures.0, low_around 0 _ _ deep c.in_ok-read.ensures.1)
+    rw (c.from_first-span.ensures, c.in_default.ensures.left) (g.present marked c.in_ok-read.ensures.0, low_around 0 _ _ deep (rw (c.deeper.ensures, c.new.ensures) at c.in_ok-read.ensures.1))

@@ -1,4 +1,3 @@
-use Rattle.std.proofs.Common.{add-one}
 use Rattle.ckc_parser_cursor.proofs.Readings.{low_around}
 use Rattle.ckc_parser.proofs.Assignments.{is_assignment}
 use Rattle.ckc_parser.proofs.Blocks.{is_called, stuck_named}
@@ -8,17 +7,17 @@ use Rattle.ckc_parser_cursor.proofs.Readings.{err}
 use Rattle.ckc_parser.proofs.statements.named.Goals as goal
 
 pub returns-in_err-target : goal.returns-in_err-target
-returns-in_err-target c = rw (err _ _ c.from_residual.ensures.1) (stuck.named c.requires.deep c.requires.named (rw add-one at c.in_err-target.ensures.reads))
+returns-in_err-target c = rw (err _ _ c.from_residual.ensures.1) (stuck.named c.requires.deep c.requires.named (rw c.deeper.ensures at c.in_err-target.ensures.reads))
 
 pub returns-in-Some : goal.returns-in-Some
 returns-in-Some c =
     let call = rw c.in-Some.ensures.at at (is_called c.requires.named c.in_ok-target.ensures.reads.0 (rw c.deref.ensures at c.in-Some.ensures.call)) in
-    rw (c.in_ok-boxed.ensures, c.join-span.ensures) (g.call call, low_around _ _ _ c.requires.deep (rw add-one at c.in_ok-target.ensures.reads.1))
+    rw (c.in_ok-boxed.ensures, c.join-span.ensures) (g.call call, low_around _ _ _ c.requires.deep (rw c.deeper.ensures at c.in_ok-target.ensures.reads.1))
 
 pub returns-in_err-assignment : goal.returns-in_err-assignment
 returns-in_err-assignment c =
     rw (err _ _ c.from_residual-in_err-assignment.ensures.1)
-    (stuck_named c.requires.deep c.requires.named c.in_ok-target.ensures.reads.0 (rw add-one at c.in_ok-target.ensures.reads.1) (rw c.deref.ensures at c.in_default.ensures.1) (rw c.in_default.ensures.0 at c.in_err-assignment.ensures))
+    (stuck_named c.requires.deep c.requires.named c.in_ok-target.ensures.reads.0 (rw c.deeper.ensures at c.in_ok-target.ensures.reads.1) (rw c.deref.ensures at c.in_default.ensures.1) (rw c.in_default.ensures.0 at c.in_err-assignment.ensures))
 
 pub returns-in_err-end : goal.returns-in_err-end
 returns-in_err-end c =

@@ -1,4 +1,4 @@
-use Rattle.std.proofs.Common.{◌≤◌, ◌<◌, suc, arith, ◌∙◌, add-one, ap, sym}
+use Rattle.std.proofs.Common.{◌≤◌, ◌<◌, suc, arith, ◌∙◌, ap, sym}
 use Rattle.ckc_parser_grammar.specs.StuckExpressions as s
 use Rattle.ckc_parser_expressions.specs.ContextAnswers.{prefix_word}
 use Rattle.ckc_parser_cursor.proofs.Readings.{err, next_none}
@@ -25,19 +25,18 @@ returns-in_default-unary_operator-clause-reads c = λ b has.
     let is = sym c.in_default.ensures.left ∙ c.in-Some.ensures.cases.0 in
     rw c.in_default.ensures.left (has, no_prefix_word _ _ is c.in_default.ensures.other c.in_default-unary_operator.ensures)
 
-pub returns-then-around-ge-MAX_DEPTH-clause-reads : goal.returns-then-around-ge-MAX_DEPTH-clause-reads
-returns-then-around-ge-MAX_DEPTH-clause-reads c = λ b has.
-    let deep : 200 ≤ c.args.around.now.depth = omega arith in
+pub returns-in_err-check-clause-reads : goal.returns-in_err-check-clause-reads
+returns-in_err-check-clause-reads c = λ b has.
+    let deep = c.in_err-check.ensures.1 in
     let is = sym c.in_default.ensures.left ∙ c.in-Some.ensures.cases.0 in
-    needs_fails (rw is at has.needs) (s.deep_operator (unary_operator_is _ _ (sym c.in-Some-unary_operator.ensures)) (rw has.around.depth at deep))
+    rw (err _ _ c.from_residual-in_err-check.ensures.1, c.in_err-check.ensures.0) (needs_fails (rw is at has.needs) (s.deep_operator (unary_operator_is _ _ (sym c.in-Some-unary_operator.ensures)) (rw has.around.depth at deep)))
 
 pub returns-in_err-push-2-clause-reads : goal.returns-in_err-push-2-clause-reads
 returns-in_err-push-2-clause-reads c = λ b has. rw (err _ _ c.from_residual-in_err-push-2.ensures.1) (has.needs.stuck s.binary_no_room)
 
 pub returns-clause-reads : goal.returns-clause-reads
 returns-clause-reads c = λ b has.
-    let room : c.args.around.now.depth < 200 = omega arith in
-    let less = rw has.around.depth at room in
+    let less = rw has.around.depth at c.in_ok-check.ensures in
     let is = sym c.in_default.ensures.left ∙ c.in-Some.ensures.cases.0 in
     let operand = needs_operand (unary_operator_is _ _ (sym c.in-Some-unary_operator.ensures)) less (rw is at has.needs) in
-    needs_in b _ _ _ (waiting_last _ _ _ c.in_ok-push-2.ensures) has.around.loosest (add-one _ ∙ ap suc has.around.depth) (less, has.around.fits) operand
+    needs_in b _ _ _ (waiting_last _ _ _ c.in_ok-push-2.ensures) has.around.loosest (c.deeper-around.ensures ∙ ap suc has.around.depth) (less, has.around.fits) operand

@@ -1,4 +1,4 @@
-use Rattle.std.proofs.Common.{sym, arith, add-one}
+use Rattle.std.proofs.Common.{sym, arith}
 use Rattle.ckc_parser_grammar.specs.TypeGrammar as grammar
 use Rattle.ckc_parser_grammar.specs.StuckTypes as stuck
 use Rattle.ckc_parser_cursor.proofs.Readings.{err, begins, low_around, pointer_word_is}
@@ -8,11 +8,11 @@ pub pointer_type-returns-in_err-less-clause-reads : goal.pointer_type-returns-in
 pointer_type-returns-in_err-less-clause-reads t c = λ k word. rw (err _ _ c.from_residual.ensures.1, c.in_err-less.ensures.reason, c.in_err-less.ensures.left) (stuck.opens c.requires word c.in_err-less.ensures.other)
 
 pub pointer_type-returns-in_err-element-clause-reads : goal.pointer_type-returns-in_err-element-clause-reads
-pointer_type-returns-in_err-element-clause-reads t c = λ k word. rw (err _ _ c.from_residual-in_err-element.ensures.1, c.in_ok-less.ensures) ((stuck.element c.requires word (rw add-one at c.in_err-element.ensures.reads)))
+pointer_type-returns-in_err-element-clause-reads t c = λ k word. rw (err _ _ c.from_residual-in_err-element.ensures.1, c.in_ok-less.ensures) ((stuck.element c.requires word (rw c.deeper.ensures at c.in_err-element.ensures.reads)))
 
 pub pointer_type-returns-in_err-end-clause-reads : goal.pointer_type-returns-in_err-end-clause-reads
 pointer_type-returns-in_err-end-clause-reads t c = λ k word.
-    rw (err _ _ c.from_residual-in_err-end.ensures.1, c.in_err-end.ensures.reason, c.in_err-end.ensures.left) (rw c.in_ok-less.ensures (stuck.close word c.in_ok-element.ensures.reads.0 (rw add-one at c.in_ok-element.ensures.reads.1) c.stars-stars.ensures.spelled c.in_err-end.ensures.other))
+    rw (err _ _ c.from_residual-in_err-end.ensures.1, c.in_err-end.ensures.reason, c.in_err-end.ensures.left) (rw c.in_ok-less.ensures (stuck.close word c.in_ok-element.ensures.reads.0 (rw c.deeper.ensures at c.in_ok-element.ensures.reads.1) c.stars-stars.ensures.spelled c.in_err-end.ensures.other))
 
 pub pointer_type-returns-in_err-element-2-clause-reads : goal.pointer_type-returns-in_err-element-2-clause-reads
 pointer_type-returns-in_err-element-2-clause-reads t c = λ k word. rw (err _ _ c.from_residual-in_err-element-2.ensures.1) stuck.no_room
@@ -20,7 +20,7 @@ pointer_type-returns-in_err-element-2-clause-reads t c = λ k word. rw (err _ _ 
 pub pointer_type-returns-clause-reads : goal.pointer_type-returns-clause-reads
 pointer_type-returns-clause-reads t c = λ k word.
     let closed = rw c.in_ok-end.ensures at c.stars-stars.ensures.spelled in
-    let low = low_around _ c.args.start.from _ c.requires (rw add-one at c.in_ok-element.ensures.reads.1) in
+    let low = low_around _ c.args.start.from _ c.requires (rw c.deeper.ensures at c.in_ok-element.ensures.reads.1) in
     rw (c.in_ok-less.ensures, c.in_ok-element-2.ensures, c.join-span.ensures) (grammar.pointer word c.in_ok-element.ensures.reads.0 closed, low)
 
 pub type_form-returns-in_err-token-clause-reads : goal.type_form-returns-in_err-token-clause-reads

@@ -15,19 +15,19 @@ pub returns-in-Ok : goal.returns-in-Ok
 returns-in-Ok c =
     let inside : c.deref_mut.result.now ≡ c.in_ok-walk.walk.value = c.deref_mut.ensures.value in
     let at_start = ap walk inside ∙ c.in_ok-walk.ensures in
-    let answer = rw (at_start, c.as_slice.ensures.value, c.program-program.ensures.value, c.in_ok-sites.ensures, c.given-given.ensures, c.in-Ok.is) at c.core_of_items.ensures in
+    let answer = rw (at_start, c.as_slice.ensures.value, c.program-program.ensures.value, c.in_ok-context.ensures, c.given-given.ensures, c.in-Ok.is) at c.core_of_items.ensures in
     answer.so
 
 pub returns-in-Err-Source : goal.returns-in-Err-Source
 returns-in-Err-Source c =
     let inside : c.deref_mut.result.now ≡ c.in_ok-walk.walk.value = c.deref_mut.ensures.value in
     let at_start = ap walk inside ∙ c.in_ok-walk.ensures in
-    let answer = rw (at_start, c.as_slice.ensures.value, c.program-program.ensures.value, c.in_ok-sites.ensures, c.given-given.ensures, c.in-Err-Source.is, c.in-Err-Source.field-0-is) at c.core_of_items.ensures in
+    let answer = rw (at_start, c.as_slice.ensures.value, c.program-program.ensures.value, c.in_ok-context.ensures, c.given-given.ensures, c.in-Err-Source.is, c.in-Err-Source.field-0-is) at c.core_of_items.ensures in
     answer.so
 
 pub unreachable-requires : goal.unreachable-requires
 unreachable-requires c =
     let inside : c.deref_mut.result.now ≡ c.in_ok-walk.walk.value = c.deref_mut.ensures.value in
     let at_start = ap walk inside ∙ c.in_ok-walk.ensures in
-    let answer = rw (at_start, c.as_slice.ensures.value, c.program-program.ensures.value, c.in_ok-sites.ensures, c.given-given.ensures, c.in-Err-Unnamed.is, c.in-Err-Unnamed.field-0-is) at c.core_of_items.ensures in
+    let answer = rw (at_start, c.as_slice.ensures.value, c.program-program.ensures.value, c.in_ok-context.ensures, c.given-given.ensures, c.in-Err-Unnamed.is, c.in-Err-Unnamed.field-0-is) at c.core_of_items.ensures in
     never_unnamed (place_at c.args.src.now) (named_tree c.args.source.now) c.requires.forms (rw c.program-program.ensures.value at c.program-program.ensures.named) answer.so

@@ -15,10 +15,10 @@ pub returns-in_err-needs : goal.returns-in_err-needs
 returns-in_err-needs c =
     let broken = rw c.span.ensures at c.in_err-needs.ensures in
     refused_by c.from_residual-in_err-needs.result c.from_residual-in_err-needs.ensures.1
-    (λ stop breaks. stars_break (place_at c.args.sites.now) (type_tree c.args.base.now) c.args.span (declarator c.args.d.now) (ctype c.args.t.now) c.in_ok-taken.taken (walk c.args.walk.now) stop c.in_ok-taken.ensures.room.so breaks)
+    (λ stop breaks. stars_break (place_at c.args.context.now) (type_tree c.args.base.now) c.args.span (declarator c.args.d.now) (ctype c.args.t.now) c.in_ok-taken.taken (walk c.args.walk.now) stop c.in_ok-taken.ensures.room.so breaks)
     broken
 
 pub returns : goal.returns
 returns c =
     let known = c.in_ok-add_variable.ensures in
-    one_more_variable (place_at c.args.sites.now) (type_tree c.args.base.now) c.args.span (declarator c.args.d.now) (ctype c.args.t.now) c.in_ok-taken.taken (walk c.args.walk.now) (walk c.add_variable.new.walk) c.initializer.result known c.in_ok-taken.ensures.room.so (tested _ _ _ c.in_ok-needs.ensures) c.initializer.ensures
+    one_more_variable (place_at c.args.context.now) (type_tree c.args.base.now) c.args.span (declarator c.args.d.now) (ctype c.args.t.now) c.in_ok-taken.taken (walk c.args.walk.now) (walk c.add_variable.new.walk) c.initializer.result known c.in_ok-taken.ensures.room.so (tested _ _ _ c.in_ok-needs.ensures) c.initializer.ensures

@@ -11,7 +11,7 @@ use Rattle.region_typing.proofs.globals.variables.Goals as goal
 
 pub loop-d-preserved : goal.loop-d-preserved
 loop-d-preserved c =
-    let at = place_at c.args.sites.now in
+    let at = place_at c.args.context.now in
     let base = type_tree c.args.base.now in
     let t = ctype c.args.t.now in
     let s = c.args.span in
@@ -22,7 +22,7 @@ loop-d-preserved c =
 
 pub returns-in_err-next : goal.returns-in_err-next
 returns-in_err-next c =
-    let at = place_at c.args.sites.now in
+    let at = place_at c.args.context.now in
     let base = type_tree c.args.base.now in
     let t = ctype c.args.t.now in
     let s = c.args.span in
@@ -34,7 +34,7 @@ returns-in_err-next c =
 
 pub returns : goal.returns
 returns c =
-    let at = place_at c.args.sites.now in
+    let at = place_at c.args.context.now in
     let base = type_tree c.args.base.now in
     let t = ctype c.args.t.now in
     let s = c.args.span in

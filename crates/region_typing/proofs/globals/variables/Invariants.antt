@@ -9,5 +9,5 @@ use Rattle.region_typing.proofs.globals.variables.Given as goal
 -- the variables so far with those that are left make all of them
 abbrev pub invariant-loop-d : goal.invariant-loop-d
 invariant-loop-d l = record {
-  so_far : judged_variables (place_at l.sites) (type_tree l.base) (ctype l.t) l.span (map declarator l.ds) (walk l.initial.walk, []) ≡ judged_variables (place_at l.sites) (type_tree l.base) (ctype l.t) l.span (map declarator (drop l.d-index l.ds)) (walk l.walk, map (judged_variable (ctype l.t)) l.walked.items);
+  so_far : judged_variables (place_at l.context) (type_tree l.base) (ctype l.t) l.span (map declarator l.ds) (walk l.initial.walk, []) ≡ judged_variables (place_at l.context) (type_tree l.base) (ctype l.t) l.span (map declarator (drop l.d-index l.ds)) (walk l.walk, map (judged_variable (ctype l.t)) l.walked.items);
 }

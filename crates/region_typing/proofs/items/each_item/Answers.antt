@@ -11,7 +11,7 @@ use Rattle.region_typing.proofs.items.each_item.Goals as goal
 
 pub loop-listed-preserved : goal.loop-listed-preserved
 loop-listed-preserved c =
-    let at = place_at c.args.sites.now in
+    let at = place_at c.args.context.now in
     let all = map trees.item c.args.listing.now.items.now in
     record {
       so_far = part_more (items_from at all) (item_step at all) (item_by_step at all) trees.item c.args.listing.now.items.now c.loop-listed.listed-index c.listed-item.result (items at all (walk c.args.walk.now) all) (walk c.loop-listed.walk) (walk c.item.new.walk) (omega (arith, c.loop-listed-test.true)) c.listed-item.is c.loop-listed.invariant.so_far c.in_ok-item.ensures.so;
@@ -20,7 +20,7 @@ loop-listed-preserved c =
 
 pub returns-in_err-item : goal.returns-in_err-item
 returns-in_err-item c =
-    let at = place_at c.args.sites.now in
+    let at = place_at c.args.context.now in
     let all = map trees.item c.args.listing.now.items.now in
     let less : c.loop-listed.listed-index < length c.args.listing.now.items.now = omega (arith, c.loop-listed-test.true) in
     refused_by c.from_residual.result c.from_residual.ensures.1
@@ -29,6 +29,6 @@ returns-in_err-item c =
 
 pub returns : goal.returns
 returns c =
-    let at = place_at c.args.sites.now in
+    let at = place_at c.args.context.now in
     let all = map trees.item c.args.listing.now.items.now in
     record { so = parts_done (items_from at all) (item_step at all) (item_by_step at all) trees.item c.args.listing.now.items.now c.loop-listed.listed-index (items at all (walk c.args.walk.now) all) (walk c.loop-listed.walk) (omega (arith, c.loop-listed-test.false)) c.loop-listed.invariant.so_far }

@@ -9,6 +9,6 @@ use Rattle.region_typing.proofs.items.each_item.Given as goal
 -- the items so far with those that are left make all of them
 abbrev pub invariant-loop-listed : goal.invariant-loop-listed
 invariant-loop-listed l = record {
-  so_far : items (place_at l.sites) (map trees.item l.written) (walk l.initial.walk) (map trees.item l.written) ≡ items (place_at l.sites) (map trees.item l.written) (walk l.walk) (map trees.item (drop l.listed-index l.written));
+  so_far : items (place_at l.context) (map trees.item l.written) (walk l.initial.walk) (map trees.item l.written) ≡ items (place_at l.context) (map trees.item l.written) (walk l.walk) (map trees.item (drop l.listed-index l.written));
   outside : Outside (scope l.walk.scope);
 }

@@ -16,12 +16,12 @@ use Rattle.region_typing.proofs.items.function.Goals as goal
 pub returns-in_err-needs : goal.returns-in_err-needs
 returns-in_err-needs c =
     let room = c.has_room.ensures in
-    rw (function_parts (place_at c.args.sites.now) (map trees.item c.args.listing.now.items.now) (walk c.args.walk.now) (trees.function c.args.d.now)) (fails _ _ _ _ _ c.from_residual.result room c.from_residual.ensures.1 c.in_err-needs.ensures)
+    rw (function_parts (place_at c.args.context.now) (map trees.item c.args.listing.now.items.now) (walk c.args.walk.now) (trees.function c.args.d.now)) (fails _ _ _ _ _ c.from_residual.result room c.from_residual.ensures.1 c.in_err-needs.ensures)
 
 pub returns-in_err-known : goal.returns-in_err-known
 returns-in_err-known c =
     let room = c.has_room.ensures in
-    rw (function_parts (place_at c.args.sites.now) (map trees.item c.args.listing.now.items.now) (walk c.args.walk.now) (trees.function c.args.d.now)) (holds _ _ _ _ _ room c.in_ok-needs.ensures
+    rw (function_parts (place_at c.args.context.now) (map trees.item c.args.listing.now.items.now) (walk c.args.walk.now) (trees.function c.args.d.now)) (holds _ _ _ _ _ room c.in_ok-needs.ensures
     (refused _ c.from_residual-in_err-known.result c.from_residual-in_err-known.ensures.1 c.in_err-known.ensures))
 
 pub with_prototype-requires-clause-room : goal.with_prototype-requires-clause-room
@@ -35,5 +35,5 @@ with_prototype-requires-clause-room c none =
 pub returns : goal.returns
 returns c =
     let room = c.has_room.ensures in
-    rw (function_parts (place_at c.args.sites.now) (map trees.item c.args.listing.now.items.now) (walk c.args.walk.now) (trees.function c.args.d.now)) (holds _ _ _ _ _ room c.in_ok-needs.ensures
-    (function_walk (place_at c.args.sites.now) (map trees.item c.args.listing.now.items.now) (walk c.args.walk.now) (trees.function c.args.d.now) (declared c.in_ok-known.known) c.in_ok-known.ensures.so c.with_prototype.ensures))
+    rw (function_parts (place_at c.args.context.now) (map trees.item c.args.listing.now.items.now) (walk c.args.walk.now) (trees.function c.args.d.now)) (holds _ _ _ _ _ room c.in_ok-needs.ensures
+    (function_walk (place_at c.args.context.now) (map trees.item c.args.listing.now.items.now) (walk c.args.walk.now) (trees.function c.args.d.now) (declared c.in_ok-known.known) c.in_ok-known.ensures.so c.with_prototype.ensures))

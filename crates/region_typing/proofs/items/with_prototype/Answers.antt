@@ -18,12 +18,12 @@ function_body-requires-clause-outside c =
 pub returns-in_err-function_body : goal.returns-in_err-function_body
 returns-in_err-function_body c =
     let broken = rw c.as_slice-parameters.ensures.value at c.in_err-function_body.ensures in
-    behind_scope (place_at c.args.sites.now) (map trees.item c.args.listing.now.items.now) (walk c.args.walk.now) (trees.function c.args.d.now) (declared c.args.known.now) (scope c.declare.new.scope) c.in_ok-declare.ensures
+    behind_scope (place_at c.args.context.now) (map trees.item c.args.listing.now.items.now) (walk c.args.walk.now) (trees.function c.args.d.now) (declared c.args.known.now) (scope c.declare.new.scope) c.in_ok-declare.ensures
     (refused _ c.from_residual-in_err-function_body.result c.from_residual-in_err-function_body.ensures.1 broken)
 
 pub returns : goal.returns
 returns c =
     let passes = rw c.as_slice-parameters.ensures.value at c.in_ok-function_body.ensures in
     let judged = rw c.fits-suits.ensures at c.keep_rules.ensures in
-    behind_scope (place_at c.args.sites.now) (map trees.item c.args.listing.now.items.now) (walk c.args.walk.now) (trees.function c.args.d.now) (declared c.args.known.now) (scope c.declare.new.scope) c.in_ok-declare.ensures
+    behind_scope (place_at c.args.context.now) (map trees.item c.args.listing.now.items.now) (walk c.args.walk.now) (trees.function c.args.d.now) (declared c.args.known.now) (scope c.declare.new.scope) c.in_ok-declare.ensures
     (goes_on _ passes (kept_last _ _ c.keep_rules.result judged))

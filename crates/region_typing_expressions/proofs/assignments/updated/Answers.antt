@@ -6,4 +6,4 @@ use Rattle.region_typing_expressions.proofs.assignments.updated.Goals as goal
 
 pub returns : goal.returns
 returns c =
-    rw (updated_parts (place_at c.args.sites.now) c.args.operator (typed c.args.left) (typed c.args.right) c.args.span) (goes_on _ c.in_ok-target.ensures (rw (← c.site.ensures) c.update_target.ensures))
+    rw (updated_parts (place_at c.args.context.now) c.args.operator (typed c.args.left) (typed c.args.right) c.args.span) (goes_on _ c.in_ok-target.ensures (rw (← c.site.ensures) c.update_target.ensures))

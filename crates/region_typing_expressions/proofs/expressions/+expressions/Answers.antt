@@ -10,14 +10,14 @@ use Rattle.region_typing_expressions.proofs.expressions.+expressions.Goals as go
 pub typed-returns-in_err-answer-in-Call : goal.typed-returns-in_err-answer-in-Call
 typed-returns-in_err-answer-in-Call t c =
     let answer = c.in_err-answer-in-Call.ensures in
-    rw (call_parts (place_at c.args.sites.now) (scope c.args.scope.now) c.args.e.now c.in-Call.callee c.in-Call.arguments c.in-Call.span c.as_slice-arguments.result.now c.in-Call.is c.as_slice-arguments.ensures.value)
-    (refused {verdict = called_with (place_at c.args.sites.now) (scope c.args.scope.now) c.in-Call.callee.number (expression_list c.as_slice-arguments.result.now) c.in-Call.span} _ c.from_residual-in_err-answer-in-Call.result c.from_residual-in_err-answer-in-Call.ensures.1 answer)
+    rw (call_parts (place_at c.args.context.now) (scope c.args.scope.now) c.args.e.now c.in-Call.callee c.in-Call.arguments c.in-Call.span c.as_slice-arguments.result.now c.in-Call.is c.as_slice-arguments.ensures.value)
+    (refused {verdict = called_with (place_at c.args.context.now) (scope c.args.scope.now) c.in-Call.callee.number (expression_list c.as_slice-arguments.result.now) c.in-Call.span} _ c.from_residual-in_err-answer-in-Call.result c.from_residual-in_err-answer-in-Call.ensures.1 answer)
 
 pub typed-returns-in_ok-answer-in-Call : goal.typed-returns-in_ok-answer-in-Call
 typed-returns-in_ok-answer-in-Call t c =
     let answer = c.in_ok-answer-in-Call.ensures in
-    rw (call_parts (place_at c.args.sites.now) (scope c.args.scope.now) c.args.e.now c.in-Call.callee c.in-Call.arguments c.in-Call.span c.as_slice-arguments.result.now c.in-Call.is c.as_slice-arguments.ensures.value)
-    (goes_on {verdict = called_with (place_at c.args.sites.now) (scope c.args.scope.now) c.in-Call.callee.number (expression_list c.as_slice-arguments.result.now) c.in-Call.span} _ answer c.with_result.ensures)
+    rw (call_parts (place_at c.args.context.now) (scope c.args.scope.now) c.args.e.now c.in-Call.callee c.in-Call.arguments c.in-Call.span c.as_slice-arguments.result.now c.in-Call.is c.as_slice-arguments.ensures.value)
+    (goes_on {verdict = called_with (place_at c.args.context.now) (scope c.args.scope.now) c.in-Call.callee.number (expression_list c.as_slice-arguments.result.now) c.in-Call.span} _ answer c.with_result.ensures)
 
 pub called-returns-in_err-arguments : goal.called-returns-in_err-arguments
 called-returns-in_err-arguments t c = refused _ c.from_residual.result c.from_residual.ensures.1 c.in_err-arguments.ensures
@@ -30,7 +30,7 @@ all_typed-returns-in_err-typed t c =
     let xs = c.args.arguments.now in
     let less : c.loop-written.written-index < length xs = omega (arith, c.loop-written-test.true) in
     refused_by c.from_residual.result c.from_residual.ensures.1
-    (λ stop breaks. argument_breaks (place_at c.args.sites.now) (scope c.args.scope.now) xs c.loop-written.written-index c.written-item.result (map argument c.loop-written.built.items) stop less c.written-item.is c.loop-written.invariant.so_far breaks)
+    (λ stop breaks. argument_breaks (place_at c.args.context.now) (scope c.args.scope.now) xs c.loop-written.written-index c.written-item.result (map argument c.loop-written.built.items) stop less c.written-item.is c.loop-written.invariant.so_far breaks)
     c.in_err-typed.ensures
 
 pub all_typed-loop-written-preserved : goal.all_typed-loop-written-preserved
@@ -38,9 +38,9 @@ all_typed-loop-written-preserved t c =
     let xs = c.args.arguments.now in
     let less : c.loop-written.written-index < length xs = omega (arith, c.loop-written-test.true) in
     record {
-      so_far = argument_pushed (place_at c.args.sites.now) (scope c.args.scope.now) xs c.loop-written.written-index c.written-item.result c.loop-written.built.items c.push.new.self.items (record { typed = c.in_ok-typed.typed; span = c.span.result }) c.in_ok-push.ensures.items less c.written-item.is c.span.ensures c.loop-written.invariant.so_far c.in_ok-typed.ensures.so;
+      so_far = argument_pushed (place_at c.args.context.now) (scope c.args.scope.now) xs c.loop-written.written-index c.written-item.result c.loop-written.built.items c.push.new.self.items (record { typed = c.in_ok-typed.typed; span = c.span.result }) c.in_ok-push.ensures.items less c.written-item.is c.span.ensures c.loop-written.invariant.so_far c.in_ok-typed.ensures.so;
     }
 
 pub all_typed-returns : goal.all_typed-returns
 all_typed-returns t c =
-    record { so = arguments_done (place_at c.args.sites.now) (scope c.args.scope.now) c.args.arguments.now c.loop-written.written-index (map argument c.loop-written.built.items) (omega (arith, c.loop-written-test.false)) c.loop-written.invariant.so_far }
+    record { so = arguments_done (place_at c.args.context.now) (scope c.args.scope.now) c.args.arguments.now c.loop-written.written-index (map argument c.loop-written.built.items) (omega (arith, c.loop-written-test.false)) c.loop-written.invariant.so_far }

@@ -10,5 +10,5 @@ use Rattle.region_typing_expressions.proofs.expressions.+expressions.Given as go
 -- the arguments so far with what those are that are left make all of them
 abbrev pub invariant-all_typed-loop-written : goal.invariant-all_typed-loop-written
 invariant-all_typed-loop-written l = record {
-  so_far : all_typed (place_at l.sites) (scope l.scope) (expression_list l.arguments) ≡ behind (map argument l.built.items) (all_typed (place_at l.sites) (scope l.scope) (expression_list (drop l.written-index l.arguments)));
+  so_far : all_typed (place_at l.context) (scope l.scope) (expression_list l.arguments) ≡ behind (map argument l.built.items) (all_typed (place_at l.context) (scope l.scope) (expression_list (drop l.written-index l.arguments)));
 }

@@ -17,19 +17,19 @@ returns-in_ok-boxed-in-empty t c =
 pub returns-in_err-first-in-len1-up : goal.returns-in_err-first-in-len1-up
 returns-in_err-first-in-len1-up t c =
     let some : 0 < length c.args.ds.now = omega (arith, c.in-len1-up.len_at_least) in
-    declarators_walk (place_at c.args.sites.now) (type_tree c.args.base.now) (ctype c.args.t.now) c.args.span c.args.ds.now c.first-item.result some c.first-item.is
+    declarators_walk (place_at c.args.context.now) (type_tree c.args.base.now) (ctype c.args.t.now) c.args.span c.args.ds.now c.first-item.result some c.first-item.is
     (refused_walk _ c.from_residual-in_err-first-in-len1-up.result c.from_residual-in_err-first-in-len1-up.ensures.1 c.in_err-first-in-len1-up.ensures)
 
 pub returns-in_err-rest-in-len1-up : goal.returns-in_err-rest-in-len1-up
 returns-in_err-rest-in-len1-up t c =
     let broken = rw (take_rest c.args.ds.now 1) at c.in_err-rest-in-len1-up.ensures in
     let some : 0 < length c.args.ds.now = omega (arith, c.in-len1-up.len_at_least) in
-    declarators_walk (place_at c.args.sites.now) (type_tree c.args.base.now) (ctype c.args.t.now) c.args.span c.args.ds.now c.first-item.result some c.first-item.is
+    declarators_walk (place_at c.args.context.now) (type_tree c.args.base.now) (ctype c.args.t.now) c.args.span c.args.ds.now c.first-item.result some c.first-item.is
     (walks_on _ c.in_ok-first-in-len1-up.ensures (refused_walk _ c.from_residual-in_err-rest-in-len1-up.result c.from_residual-in_err-rest-in-len1-up.ensures.1 broken))
 
 pub returns-in_ok-both-in-len1-up : goal.returns-in_ok-both-in-len1-up
 returns-in_ok-both-in-len1-up t c =
     let rest = rw (take_rest c.args.ds.now 1) at c.in_ok-rest-in-len1-up.ensures in
     let some : 0 < length c.args.ds.now = omega (arith, c.in-len1-up.len_at_least) in
-    declarators_walk (place_at c.args.sites.now) (type_tree c.args.base.now) (ctype c.args.t.now) c.args.span c.args.ds.now c.first-item.result some c.first-item.is
+    declarators_walk (place_at c.args.context.now) (type_tree c.args.base.now) (ctype c.args.t.now) c.args.span c.args.ds.now c.first-item.result some c.first-item.is
     (walks_on _ c.in_ok-first-in-len1-up.ensures (walks_on _ rest (done statement c.in_ok-both-in-len1-up.field-0 _ c.declarators.new.scope c.in_ok-both-in-len1-up.ensures)))

@@ -19,10 +19,10 @@ pub returns-in_err-t : goal.returns-in_err-t
 returns-in_err-t c =
     let few : nat_lt (length (scope c.args.scope.now).locals) 256 ≡ true = tested _ E08 c.args.span c.in_ok-few_locals.ensures.few in
     let broken = rw c.in_ok-given.ensures at c.in_err-t.ensures in
-    rw (declarator_parts (place_at c.args.sites.now) (scope c.args.scope.now) (type_tree c.args.base.now) (ctype c.args.t.now) c.args.span (declarator c.args.d.now) few) (refused _ c.from_residual-in_err-t.result c.from_residual-in_err-t.ensures.1 broken)
+    rw (declarator_parts (place_at c.args.context.now) (scope c.args.scope.now) (type_tree c.args.base.now) (ctype c.args.t.now) c.args.span (declarator c.args.d.now) few) (refused _ c.from_residual-in_err-t.result c.from_residual-in_err-t.ensures.1 broken)
 
 pub returns : goal.returns
 returns c =
     let few : nat_lt (length (scope c.args.scope.now).locals) 256 ≡ true = tested _ E08 c.args.span c.in_ok-few_locals.ensures.few in
     let passes = rw c.in_ok-given.ensures at c.in_ok-t.ensures in
-    rw (declarator_parts (place_at c.args.sites.now) (scope c.args.scope.now) (type_tree c.args.base.now) (ctype c.args.t.now) c.args.span (declarator c.args.d.now) few) (goes_on _ passes c.declared.ensures)
+    rw (declarator_parts (place_at c.args.context.now) (scope c.args.scope.now) (type_tree c.args.base.now) (ctype c.args.t.now) c.args.span (declarator c.args.d.now) few) (goes_on _ passes c.declared.ensures)

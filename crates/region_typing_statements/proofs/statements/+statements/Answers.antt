@@ -21,7 +21,7 @@ use Rattle.region_typing_statements.proofs.statements.+statements.Goals as goal
 
 pub nested-returns : goal.nested-returns
 nested-returns t c =
-    nested_walk (place_at c.args.sites.now) c.args.in_loop c.block_start-start.result (s.statement c.args.written.now) c.statement-inner.result c.args.scope.now c.statement-inner.new.scope c.leave.new.self c.statement-inner.ensures c.set_in_loop.ensures.known c.set_in_loop.ensures.seen c.block_start-start.ensures c.leave.ensures.known c.leave.ensures.seen
+    nested_walk (place_at c.args.context.now) c.args.in_loop c.block_start-start.result (s.statement c.args.written.now) c.statement-inner.result c.args.scope.now c.statement-inner.new.scope c.leave.new.self c.statement-inner.ensures c.set_in_loop.ensures.known c.set_in_loop.ensures.seen c.block_start-start.ensures c.leave.ensures.known c.leave.ensures.seen
 
 pub then_branch-returns-in_err-condition : goal.then_branch-returns-in_err-condition
 then_branch-returns-in_err-condition t c = refused _ c.from_residual.result c.from_residual.ensures.1 c.in_err-condition.ensures
@@ -39,6 +39,12 @@ pub if_alone-returns : goal.if_alone-returns
 if_alone-returns t c =
     let built = rw c.in_ok-nothing.ensures at c.in_ok-choice.ensures in
     walks_on _ c.in_ok-first.ensures (done statement c.in_ok-choice.field-0 _ c.then_branch.new.scope built)
+
+pub if_else-returns-in_err-first : goal.if_else-returns-in_err-first
+if_else-returns-in_err-first t c = refused_walk _ c.from_residual.result c.from_residual.ensures.1 c.in_err-first.ensures
+
+pub if_else-returns : goal.if_else-returns
+if_else-returns t c = walks_on _ c.in_ok-first.ensures c.otherwise.ensures
 
 pub otherwise-returns-in_err-second : goal.otherwise-returns-in_err-second
 otherwise-returns-in_err-second t c = refused_walk _ c.from_residual.result c.from_residual.ensures.1 c.in_err-second.ensures
@@ -101,7 +107,7 @@ statements-returns-in_err-next t c =
     let xs = c.args.written.now in
     let less : c.loop-listed.listed-index < length xs = omega (arith, c.loop-listed-test.true) in
     refused_by c.from_residual.result c.from_residual.ensures.1
-    (λ stop breaks. statement_breaks (place_at c.args.sites.now) (rules.statements (place_at c.args.sites.now) (scope c.args.scope.now) (statement_list xs)) xs c.loop-listed.listed-index c.listed-item.result (scope c.loop-listed.scope) c.loop-listed.built.items stop less c.listed-item.is c.loop-listed.invariant.so_far breaks)
+    (λ stop breaks. statement_breaks (place_at c.args.context.now) (rules.statements (place_at c.args.context.now) (scope c.args.scope.now) (statement_list xs)) xs c.loop-listed.listed-index c.listed-item.result (scope c.loop-listed.scope) c.loop-listed.built.items stop less c.listed-item.is c.loop-listed.invariant.so_far breaks)
     c.in_err-next.ensures
 
 pub statements-loop-listed-preserved : goal.statements-loop-listed-preserved
@@ -109,13 +115,13 @@ statements-loop-listed-preserved t c =
     let xs = c.args.written.now in
     let pushed : c.push_reserved.new.self.items ≡ c.loop-listed.built.items ++ c.in_ok-next.next.value ∷ [] = c.push_reserved.ensures.items ∙ ap (λ ys. ys ++ c.into_inner.result ∷ []) c.reserve.ensures.items ∙ ap (λ (y : Stmt). c.loop-listed.built.items ++ y ∷ []) c.into_inner.ensures in
     record {
-      so_far = statement_more (place_at c.args.sites.now) (rules.statements (place_at c.args.sites.now) (scope c.args.scope.now) (statement_list xs)) xs c.loop-listed.listed-index c.listed-item.result (scope c.loop-listed.scope) (scope c.statement.new.scope) c.loop-listed.built.items c.push_reserved.new.self.items c.in_ok-next.next.value pushed (omega (arith, c.loop-listed-test.true)) c.listed-item.is c.loop-listed.invariant.so_far c.in_ok-next.ensures.so.0;
+      so_far = statement_more (place_at c.args.context.now) (rules.statements (place_at c.args.context.now) (scope c.args.scope.now) (statement_list xs)) xs c.loop-listed.listed-index c.listed-item.result (scope c.loop-listed.scope) (scope c.statement.new.scope) c.loop-listed.built.items c.push_reserved.new.self.items c.in_ok-next.next.value pushed (omega (arith, c.loop-listed-test.true)) c.listed-item.is c.loop-listed.invariant.so_far c.in_ok-next.ensures.so.0;
       more = grown c.loop-listed.invariant.more c.in_ok-next.ensures.so.1;
     }
 
 pub statements-returns : goal.statements-returns
 statements-returns t c =
-    record { so = (statements_done (place_at c.args.sites.now) (rules.statements (place_at c.args.sites.now) (scope c.args.scope.now) (statement_list c.args.written.now)) c.args.written.now c.loop-listed.listed-index (scope c.loop-listed.scope) c.loop-listed.built.items (omega (arith, c.loop-listed-test.false)) c.loop-listed.invariant.so_far, c.loop-listed.invariant.more) }
+    record { so = (statements_done (place_at c.args.context.now) (rules.statements (place_at c.args.context.now) (scope c.args.scope.now) (statement_list c.args.written.now)) c.args.written.now c.loop-listed.listed-index (scope c.loop-listed.scope) c.loop-listed.built.items (omega (arith, c.loop-listed-test.false)) c.loop-listed.invariant.so_far, c.loop-listed.invariant.more) }
 
 pub statement-returns-in-Block : goal.statement-returns-in-Block
 statement-returns-in-Block t c =
@@ -126,7 +132,7 @@ statement-returns-in-Assign t c = rw c.in-Assign.is (kept c.args.scope.now c.ass
 
 pub statement-returns-in-Call : goal.statement-returns-in-Call
 statement-returns-in-Call t c =
-    let at = place_at c.args.sites.now in
+    let at = place_at c.args.context.now in
     let g = scope c.args.scope.now in
     let answer = rw c.deref.ensures at c.call_alone.ensures in
     rw c.in-Call.is (kept_as (rules.statement at g (s.CallAlone (trees.expression c.in-Call.call.value) c.in-Call.span)) c.args.scope.now (call_parts at g (trees.expression c.in-Call.call.value) c.in-Call.span) answer)
@@ -137,12 +143,12 @@ statement-returns-in_ok-boxed-in-Empty t c = rw c.in-Empty.is (done statement c.
 pub statement-returns-in-While : goal.statement-returns-in-While
 statement-returns-in-While t c =
     let walk = rw (c.deref-in-While.ensures, c.deref-in-While-2.ensures) at c.while_loop.ensures in
-    while_walk (place_at c.args.sites.now) (s.statement c.args.written.now) (trees.expression c.in-While.test.value) (s.statement c.in-While.body.value) c.in-While.span (ap s.statement c.in-While.is) walk
+    while_walk (place_at c.args.context.now) (s.statement c.args.written.now) (trees.expression c.in-While.test.value) (s.statement c.in-While.body.value) c.in-While.span (ap s.statement c.in-While.is) walk
 
 pub statement-returns-in-For : goal.statement-returns-in-For
 statement-returns-in-For t c =
     let walk = rw c.deref-in-For.ensures at c.for_loop.ensures in
-    for_walk (place_at c.args.sites.now) (s.statement c.args.written.now) (s.for_initial c.in-For.initial) (option_map s.on_heap c.in-For.test) (option_map s.assignment c.in-For.step) (s.statement c.in-For.body.value) c.in-For.span (ap s.statement c.in-For.is) walk
+    for_walk (place_at c.args.context.now) (s.statement c.args.written.now) (s.for_initial c.in-For.initial) (option_map s.on_heap c.in-For.test) (option_map s.assignment c.in-For.step) (s.statement c.in-For.body.value) c.in-For.span (ap s.statement c.in-For.is) walk
 
 pub statement-returns-in-Return : goal.statement-returns-in-Return
 statement-returns-in-Return t c = rw c.in-Return.is (kept c.args.scope.now c.return_from.ensures)
@@ -150,30 +156,22 @@ statement-returns-in-Return t c = rw c.in-Return.is (kept c.args.scope.now c.ret
 pub statement-returns-in-Break : goal.statement-returns-in-Break
 statement-returns-in-Break t c =
     let g = scope c.args.scope.now in
-    rw c.in-Break.is (kept_as (rules.statement (place_at c.args.sites.now) g (s.Break c.in-Break.span)) c.args.scope.now (loop_parts g core.Break c.in-Break.span) c.break_from.ensures)
+    rw c.in-Break.is (kept_as (rules.statement (place_at c.args.context.now) g (s.Break c.in-Break.span)) c.args.scope.now (loop_parts g core.Break c.in-Break.span) c.break_from.ensures)
 
 pub statement-returns-in-Continue : goal.statement-returns-in-Continue
 statement-returns-in-Continue t c =
     let g = scope c.args.scope.now in
-    rw c.in-Continue.is (kept_as (rules.statement (place_at c.args.sites.now) g (s.Continue c.in-Continue.span)) c.args.scope.now (loop_parts g core.Continue c.in-Continue.span) c.continue_with.ensures)
+    rw c.in-Continue.is (kept_as (rules.statement (place_at c.args.context.now) g (s.Continue c.in-Continue.span)) c.args.scope.now (loop_parts g core.Continue c.in-Continue.span) c.continue_with.ensures)
 
 pub statement-returns-in-None : goal.statement-returns-in-None
 statement-returns-in-None t c =
     let walk = rw (c.deref-in-None.ensures, c.deref-in-None-2.ensures) at c.if_alone.ensures in
-    if_walk (place_at c.args.sites.now) (s.statement c.args.written.now) (trees.expression c.in-If.test.value) (s.statement c.in-If.consequent.value) c.in-If.span (rw (c.in-If.is, c.in-None.is) refl) walk
+    if_walk (place_at c.args.context.now) (s.statement c.args.written.now) (trees.expression c.in-If.test.value) (s.statement c.in-If.consequent.value) c.in-If.span (rw (c.in-If.is, c.in-None.is) refl) walk
 
-pub statement-returns-in_err-first-in-Some : goal.statement-returns-in_err-first-in-Some
-statement-returns-in_err-first-in-Some t c =
-    let broken = rw (c.deref-in-Some.ensures, c.deref-in-Some-2.ensures) at c.in_err-first-in-Some.ensures in
-    if_else_walk (place_at c.args.sites.now) (s.statement c.args.written.now) (trees.expression c.in-If.test.value) (s.statement c.in-If.consequent.value) (s.statement c.in-Some.alternative.value) c.in-If.span (rw (c.in-If.is, c.in-Some.is) refl)
-    (refused_walk _ c.from_residual-in_err-first-in-Some.result c.from_residual-in_err-first-in-Some.ensures.1 broken)
-
-pub statement-returns-in_ok-first-in-Some : goal.statement-returns-in_ok-first-in-Some
-statement-returns-in_ok-first-in-Some t c =
-    let first = rw (c.deref-in-Some.ensures, c.deref-in-Some-2.ensures) at c.in_ok-first-in-Some.ensures in
-    let second = rw c.deref-in-Some-3.ensures at c.otherwise.ensures in
-    if_else_walk (place_at c.args.sites.now) (s.statement c.args.written.now) (trees.expression c.in-If.test.value) (s.statement c.in-If.consequent.value) (s.statement c.in-Some.alternative.value) c.in-If.span (rw (c.in-If.is, c.in-Some.is) refl)
-    (walks_on _ first second)
+pub statement-returns-in-Some : goal.statement-returns-in-Some
+statement-returns-in-Some t c =
+    let walk = rw (c.deref-in-Some.ensures, c.deref-in-Some-2.ensures, c.deref-in-Some-3.ensures) at c.if_else.ensures in
+    if_else_walk (place_at c.args.context.now) (s.statement c.args.written.now) (trees.expression c.in-If.test.value) (s.statement c.in-If.consequent.value) (s.statement c.in-Some.alternative.value) c.in-If.span (rw (c.in-If.is, c.in-Some.is) refl) walk
 
 pub statements-loop-listed-init : goal.statements-loop-listed-init
 statements-loop-listed-init t c = record { so_far = behind_empty c.new-built.result.items _ c.new-built.ensures.items; more = none_more c.args.scope.now }

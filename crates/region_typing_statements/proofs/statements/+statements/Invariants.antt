@@ -10,6 +10,6 @@ use Rattle.region_typing_statements.proofs.statements.+statements.Given as goal
 -- the statements so far with what those are that are left make all of them
 abbrev pub invariant-statements-loop-listed : goal.invariant-statements-loop-listed
 invariant-statements-loop-listed l = record {
-  so_far : statements (place_at l.sites) (scope l.initial.scope) (statement_list l.written) ≡ behind l.built.items (statements (place_at l.sites) (scope l.scope) (statement_list (drop l.listed-index l.written)));
+  so_far : statements (place_at l.context) (scope l.initial.scope) (statement_list l.written) ≡ behind l.built.items (statements (place_at l.context) (scope l.scope) (statement_list (drop l.listed-index l.written)));
   more : Grows l.initial.scope l.scope;
 }

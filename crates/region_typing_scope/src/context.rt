@@ -1,9 +1,10 @@
-// The places that failed checks name.
+// What the walk over a source has at hand everywhere: the memory for what is built, and the source's places.
 
 ghost use Rattle.std.specs.Prelude.{◌≡◌, ◌≤◌, length, IfOk};
 ghost use Rattle.ckc_text.specs.Places.{place_at};
 ghost use Rattle.region_typing_rules.specs.Expressions.{site_at};
 
+use crate::on_heap;
 use ckc_core::program::Site;
 use ckc_text::fault::NoMemory;
 use ckc_text::line_index::LineIndex;
@@ -11,14 +12,15 @@ use ckc_text::place::Span;
 use std::alloc::Global;
 use std::marker::Model;
 
-/// Finds the sites of a source. Contracts see the source's bytes.
+/// The memory for what is built, and the places of a source, which failed checks name. Contracts see the source's bytes.
 #[derive(Drop)]
-pub struct Sites<'a> {
+pub struct Context<'a> {
+    alloc: Global,
     src: &'a [u8],
     lines: LineIndex,
 }
 
-impl<'a> Model for Sites<'a> {
+impl<'a> Model for Context<'a> {
     ghost use Rattle.std.specs.Prelude.{◌≡◌, ℕ, List, ◌≤◌, length};
     ghost use Rattle.ckc_text.specs.Places.{line_feeds_of};
 
@@ -29,14 +31,26 @@ impl<'a> Model for Sites<'a> {
     ghost invariant = { λ s. (length s.src.now ≤ 1048576) × (s.lines ≡ line_feeds_of s.src.now) };
 }
 
-impl<'a> Sites<'a> {
-    /// The sites of a source of at most 1,048,576 bytes.
-    pub fn new(alloc: Global, src: &'a [u8]) -> Result<Sites<'a>, NoMemory>
+impl<'a> Context<'a> {
+    /// The memory, and the places of a source of at most 1,048,576 bytes.
+    pub fn new(alloc: Global, src: &'a [u8]) -> Result<Context<'a>, NoMemory>
         requires { length src.now ≤ 1048576 }
-        ensures { IfOk result (λ sites. sites ≡ src.now) }
+        ensures { IfOk result (λ context. context ≡ src.now) }
     {
         let lines = LineIndex::new(alloc, src)?;
-        Ok(Sites { src, lines })
+        Ok(Context { alloc, src, lines })
+    }
+
+    /// The memory, for what grows.
+    pub fn alloc(&self) -> Global {
+        self.alloc
+    }
+
+    /// A value on the heap.
+    pub fn boxed<T: Drop>(&self, value: T) -> Result<Box<T>, NoMemory>
+        ensures { IfOk result (λ b. b.value ≡ value) }
+    {
+        on_heap::boxed(self.alloc, value)
     }
 
     /// The site at the start of a span.

@@ -1,4 +1,4 @@
-// Values on the heap, which are one word to who holds them.
+// What takes memory, with the error that says that none is left.
 
 ghost use Rattle.std.specs.Prelude.{◌≡◌, IfOk};
 
