@@ -1,3 +1,4 @@
+pub mod Words
 mod OneType
 mod Heads
 mod OneExpression
