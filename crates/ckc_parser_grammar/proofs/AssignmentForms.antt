@@ -22,11 +22,12 @@ use Rattle.ckc_parser_grammar.specs.Failures.{Failure}
 use Rattle.ckc_parser_grammar.specs.StuckExpressions.{unary_word}
 use Rattle.ckc_parser_grammar.specs.StuckStatements as stuck
 use Rattle.ckc_parser_grammar.specs.StuckStatements.{semicolon, close_brace, step_word, assign_word, assignment_word, StuckAssignment, StuckAssignments}
-use Rattle.ckc_parser_grammar.proofs.Paths.{around_height}
+use Rattle.ckc_parser_grammar.proofs.Paths.{beside_nowhere, around_height}
 use Rattle.ckc_parser_grammar.proofs.Whole.{unary_begins}
-use Rattle.ckc_parser_grammar.proofs.Forms.{end_length, Is, it, ExactBelow, Exact, exact_on_all, none_below, below, seq_all, ended_all, after_all, either_exact, either_all, same_all, done_all, after_exact, done_exact, never, SeqS, SeqB, seq, in_first, in_second, EndedS, EndedB, before_end, end, AfterS, AfterB, not_yet, after, EitherS, yes, no, DoneS, done, HeadS, HeadB, none_yet, headed, OneHead, same_exact}
+use Rattle.ckc_parser_grammar.proofs.Forms.{end_length, Is, it, ExactBelow, Exact, exact_on_all, none_below, below, seq_all, ended_all, after_all, either_exact, either_all, same_all, done_all, after_exact, done_exact, SeqS, SeqB, seq, in_first, in_second, EndedS, EndedB, before_end, end, AfterS, AfterB, not_yet, after, EitherS, yes, no, DoneS, done, HeadS, HeadB, none_yet, headed, OneHead, same_exact}
+use Rattle.ckc_parser_grammar.proofs.Ahead.{never}
 use Rattle.ckc_parser_grammar.proofs.Failing as failing
-use Rattle.ckc_parser_grammar.proofs.Failing.{Fails, beside_nowhere, fails_first, fails_second, fails_before_end, fails_at_end, fails_after, fails_as, fails_headed, fails_unheaded, fails_yes, fails_no}
+use Rattle.ckc_parser_grammar.proofs.Failing.{Fails, fails_first, fails_second, fails_before_end, fails_at_end, fails_after, fails_as, fails_headed, fails_unheaded, fails_yes, fails_no}
 use Rattle.ckc_parser_grammar.proofs.ExpressionLinks.{BinaryS, binary}
 use Rattle.ckc_parser_grammar.proofs.ExpressionForms.{some_node, UnaryS, unary, binary_exact, unary_exact}
 use Rattle.ckc_parser_grammar.proofs.ExpressionFails.{binary_fails, unary_fails}

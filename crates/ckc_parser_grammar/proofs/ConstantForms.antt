@@ -16,7 +16,8 @@ use Rattle.ckc_parser_grammar.specs.StatementBeginnings.{BeginsSigned, BeginsCon
 use Rattle.ckc_parser_grammar.specs.Failures.{Failure}
 use Rattle.ckc_parser_grammar.specs.StuckStatements as stuck
 use Rattle.ckc_parser_grammar.specs.StuckStatements.{constant_token, minus_or_constant, comma_or_brace, StuckSigned, StuckConstants}
-use Rattle.ckc_parser_grammar.proofs.Forms.{ExactBelow, Exact, exact_on_all, none_below, below, after_all, same_all, done_all, never, AfterS, AfterB, not_yet, after, DoneS, done, HeadS, HeadB, none_yet, headed, head_exact, OneHead, same_exact}
+use Rattle.ckc_parser_grammar.proofs.Forms.{ExactBelow, Exact, exact_on_all, none_below, below, after_all, same_all, done_all, AfterS, AfterB, not_yet, after, DoneS, done, HeadS, HeadB, none_yet, headed, head_exact, OneHead, same_exact}
+use Rattle.ckc_parser_grammar.proofs.Ahead.{never}
 use Rattle.ckc_parser_grammar.proofs.Failing as failing
 use Rattle.ckc_parser_grammar.proofs.Failing.{Fails, fails_at_first, fails_as, fails_headed, fails_unheaded}
 use Rattle.ckc_parser_grammar.proofs.MoreForms.{head_all, LeadS, LeadB, lead, in_lead, behind_lead, lead_exact, fails_in_lead, fails_behind_lead}

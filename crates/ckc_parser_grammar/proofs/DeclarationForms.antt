@@ -26,10 +26,11 @@ use Rattle.ckc_parser_grammar.specs.StuckTypes.{name_token, type_word}
 use Rattle.ckc_parser_grammar.specs.StuckExpressions.{unary_word, close_bracket}
 use Rattle.ckc_parser_grammar.specs.StuckStatements as stuck
 use Rattle.ckc_parser_grammar.specs.StuckStatements.{open_bracket, open_brace, number_token, StuckOptionalBounds, StuckOptionalArray, StuckOptionalInitializer, StuckDeclarator, StuckDeclarators, StuckDeclaration}
-use Rattle.ckc_parser_grammar.proofs.Paths.{around_height}
-use Rattle.ckc_parser_grammar.proofs.Forms.{Is, it, IsName, name, ExactBelow, Exact, exact_on_all, none_below, below, seq_all, ended_all, after_all, either_all, same_all, done_all, never, SeqS, SeqB, seq, in_first, in_second, seq_exact, EndedS, EndedB, before_end, end, AfterS, AfterB, not_yet, after, EitherS, yes, no, DoneS, done, same_exact}
+use Rattle.ckc_parser_grammar.proofs.Paths.{beside_nowhere, around_height}
+use Rattle.ckc_parser_grammar.proofs.Forms.{Is, it, IsName, name, ExactBelow, Exact, exact_on_all, none_below, below, seq_all, ended_all, after_all, either_all, same_all, done_all, SeqS, SeqB, seq, in_first, in_second, seq_exact, EndedS, EndedB, before_end, end, AfterS, AfterB, not_yet, after, EitherS, yes, no, DoneS, done, same_exact}
+use Rattle.ckc_parser_grammar.proofs.Ahead.{never}
 use Rattle.ckc_parser_grammar.proofs.Failing as failing
-use Rattle.ckc_parser_grammar.proofs.Failing.{Fails, beside_nowhere, fails_first, fails_second, fails_at_end, fails_after, fails_at_first, fails_as, fails_yes, fails_no}
+use Rattle.ckc_parser_grammar.proofs.Failing.{Fails, fails_first, fails_second, fails_at_end, fails_after, fails_at_first, fails_as, fails_yes, fails_no}
 use Rattle.ckc_parser_grammar.proofs.ConstantForms.{ConstantsS, ConstantsB, listed, spelled_begin, constants_exact, constants_fails}
 use Rattle.ckc_parser_grammar.proofs.TypeForms.{StarsS, StarsB, stars, stars_exact, TypeS, type, type_exact, type_fails}
 use Rattle.ckc_parser_grammar.proofs.ExpressionLinks.{BinaryS, binary}

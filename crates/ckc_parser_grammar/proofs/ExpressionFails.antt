@@ -21,12 +21,13 @@ use Rattle.ckc_parser_grammar.specs.StuckExpressions as stuck
 use Rattle.ckc_parser_grammar.specs.StuckExpressions.{primary_word, unary_word, close_paren, close_bracket, comma_or_paren, StuckBinary, StuckTail, StuckUnary, StuckSelectors, StuckPrimary, StuckArguments, StuckMoreArguments, StuckBounds}
 use Rattle.ckc_parser_grammar.proofs.Heads.{class, class_at}
 use Rattle.ckc_parser_grammar.proofs.OneExpression.{binary_same, behind, found_same, move_binary, after}
-use Rattle.ckc_parser_grammar.proofs.Paths.{around_height, beside_height}
+use Rattle.ckc_parser_grammar.proofs.Paths.{beside_nowhere, around_height, beside_height, low_around, low_beside}
 use Rattle.ckc_parser_grammar.proofs.ExpressionPaths.{no_binary, Marks, mark, shift, marks_at}
-use Rattle.ckc_parser_grammar.proofs.Forms.{all, end_length, Is, it, Exact, ExactValue, exact_on_all, value_on_all, value_within, below, never, move, SeqS, SeqB, seq, in_first, seq_all, EndedS, EndedB, before_end, end, ended_all, not_yet, node_all, no}
+use Rattle.ckc_parser_grammar.proofs.Forms.{all, end_length, Is, it, Exact, ExactValue, exact_on_all, value_on_all, value_within, below, move, SeqS, SeqB, seq, in_first, seq_all, EndedS, EndedB, before_end, end, ended_all, not_yet, node_all, no}
+use Rattle.ckc_parser_grammar.proofs.Ahead.{never}
 use Rattle.ckc_parser_grammar.proofs.Forms as forms
 use Rattle.ckc_parser_grammar.proofs.Failing as failing
-use Rattle.ckc_parser_grammar.proofs.Failing.{Fails, unexpected, too_deep, beside_nowhere, beside_higher, low_beside, low_around, inner_start, deep_around, fails_first, fails_second, fails_before_end, fails_at_end, fails_after, fails_at_first, fails_node, fails_yes, fails_no, fails_in_link, fails_behind_link, fails_headed, fails_unheaded, fails_deep_head, fails_as}
+use Rattle.ckc_parser_grammar.proofs.Failing.{Fails, unexpected, too_deep, beside_higher, inner_start, deep_around, fails_first, fails_second, fails_before_end, fails_at_end, fails_after, fails_at_first, fails_node, fails_yes, fails_no, fails_in_link, fails_behind_link, fails_headed, fails_unheaded, fails_deep_head, fails_as}
 use Rattle.ckc_parser_grammar.proofs.TypeForms.{named, angled, type_name_exact, type_name_fails, angled_exact, angled_fails, paren_is}
 use Rattle.ckc_parser_grammar.proofs.ExpressionLinks as links
 use Rattle.ckc_parser_grammar.proofs.ExpressionLinks.{Value, reach, BinaryS, binary, Selected, Selecting, selected_below, Operated, operated, Operating, operated_below, operator_shrinks}

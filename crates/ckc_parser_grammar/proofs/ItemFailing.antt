@@ -31,7 +31,8 @@ use Rattle.ckc_parser_grammar.specs.StuckItems.{void_word, scope_word, struct_wo
 use Rattle.ckc_parser_grammar.proofs.Roles.{type_role}
 use Rattle.ckc_parser_grammar.proofs.OneItem.{item_same, plain, names, names_at, declarators_name, not_call}
 use Rattle.ckc_parser_grammar.proofs.Whole.{item_begins}
-use Rattle.ckc_parser_grammar.proofs.Forms.{◌ends◌, all, later, end_length, end_trans, Is, it, name, Read, Exact, never, SeqS, SeqB, seq, in_first, in_second, EndedS, end, AfterB, not_yet, after}
+use Rattle.ckc_parser_grammar.proofs.Forms.{◌ends◌, all, later, end_length, end_trans, Is, it, name, Read, Exact, SeqS, SeqB, seq, in_first, in_second, EndedS, end, AfterB, not_yet, after}
+use Rattle.ckc_parser_grammar.proofs.Ahead.{never}
 use Rattle.ckc_parser_grammar.proofs.Failing as failing
 use Rattle.ckc_parser_grammar.proofs.Failing.{Fails, fails_first, fails_second, fails_before_end, fails_at_end, fails_as}
 use Rattle.ckc_parser_grammar.proofs.TypeForms.{stars, stars_exact, TypeS, type, type_exact, type_fails}

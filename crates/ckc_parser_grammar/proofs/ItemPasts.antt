@@ -26,7 +26,8 @@ use Rattle.ckc_parser_grammar.specs.StuckItems as stuck
 use Rattle.ckc_parser_grammar.specs.StuckItems.{is_structure, is_function, IsAlone}
 use Rattle.ckc_parser_grammar.proofs.Roles.{role, role_at, type_role, mark_role}
 use Rattle.ckc_parser_grammar.proofs.OneItem.{plain_kind, plain, value_type, names_at, stars_name, declarator_name, declarators_name, struct_rest, not_call, structure_function, global_function, scope_global, scope_function}
-use Rattle.ckc_parser_grammar.proofs.Forms.{end_length, Is, it, IsName, name, never, seq, in_first, in_second, before_end, end, AfterS, AfterB, not_yet, after}
+use Rattle.ckc_parser_grammar.proofs.Forms.{end_length, Is, it, IsName, name, seq, in_first, in_second, before_end, end, AfterS, AfterB, not_yet, after}
+use Rattle.ckc_parser_grammar.proofs.Ahead.{never}
 use Rattle.ckc_parser_grammar.proofs.TypeForms.{stars, type, type_exact}
 use Rattle.ckc_parser_grammar.proofs.MoreForms.{by_next, lead, in_lead, behind_lead, SideS, side}
 use Rattle.ckc_parser_grammar.proofs.Starting.{type_starts, type_at, type_shorter}

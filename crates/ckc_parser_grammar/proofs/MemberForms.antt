@@ -29,9 +29,11 @@ use Rattle.ckc_parser_grammar.specs.StuckExpressions.{close_paren, comma_or_pare
 use Rattle.ckc_parser_grammar.specs.StuckStatements.{semicolon, open_brace, close_brace}
 use Rattle.ckc_parser_grammar.specs.StuckItems as stuck
 use Rattle.ckc_parser_grammar.specs.StuckItems.{void_word, body_word, IsLowMember, StuckMember, StuckMembers, StuckListed, StuckParameters, StuckBody}
-use Rattle.ckc_parser_grammar.proofs.Forms.{end_length, Is, it, IsName, name, ExactBelow, Exact, exact_on_all, none_below, within, below, seq_exact, seq_all, ended_all, after_all, after_exact, done_exact, done_all, either_exact, either_all, same_all, same_exact, head_exact, never, SeqS, SeqB, seq, in_first, in_second, EndedS, EndedB, before_end, end, AfterS, AfterB, not_yet, after, EitherS, yes, no, DoneS, done, HeadS, HeadB, none_yet, headed, OneHead}
+use Rattle.ckc_parser_grammar.proofs.Forms.{end_length, Is, it, IsName, name, ExactBelow, Exact, exact_on_all, none_below, within, below, seq_exact, seq_all, ended_all, after_all, after_exact, done_exact, done_all, either_exact, either_all, same_all, same_exact, head_exact, SeqS, SeqB, seq, in_first, in_second, EndedS, EndedB, before_end, end, AfterS, AfterB, not_yet, after, EitherS, yes, no, DoneS, done, HeadS, HeadB, none_yet, headed, OneHead}
+use Rattle.ckc_parser_grammar.proofs.Ahead.{never}
 use Rattle.ckc_parser_grammar.proofs.Failing as failing
-use Rattle.ckc_parser_grammar.proofs.Failing.{Fails, beside_nowhere, low_beside, fails_first, fails_second, fails_before_end, fails_at_end, fails_after, fails_at_first, fails_as, fails_headed, fails_unheaded, fails_yes, fails_no}
+use Rattle.ckc_parser_grammar.proofs.Failing.{Fails, fails_first, fails_second, fails_before_end, fails_at_end, fails_after, fails_at_first, fails_as, fails_headed, fails_unheaded, fails_yes, fails_no}
+use Rattle.ckc_parser_grammar.proofs.Paths.{beside_nowhere, low_beside}
 use Rattle.ckc_parser_grammar.proofs.TypeForms.{TypeNameS, named, type_name_exact, type_name_fails}
 use Rattle.ckc_parser_grammar.proofs.MoreForms.{is_it, head_all, Starts, Apart, next_apart, by_next, nothing_read, or_right, list_exact, WithS, so_far, in_whole, PutS, put, put_all, fails_put, begun_node, begun_nothing, beside_high, reach_is}
 use Rattle.ckc_parser_grammar.proofs.Starting.{type_high, type_starts, type_at}

@@ -27,7 +27,7 @@ use Rattle.ckc_parser_grammar.specs.StuckExpressions.{unary_word, StuckExpressio
 use Rattle.ckc_parser_grammar.specs.StuckStatements as stuck
 use Rattle.ckc_parser_grammar.specs.StuckStatements.{open_bracket, open_brace, close_brace, semicolon, number_token, constant_token, minus_or_constant, comma_or_brace, assign_word, assignment_word, StuckOptionalBounds, StuckOptionalArray, StuckSigned, StuckConstants, StuckOptionalInitializer, StuckDeclarator, StuckDeclarators, StuckDeclaration, StuckAssignment, StuckAssignments, StuckForInitial, StuckForCondition, StuckForStep}
 use Rattle.ckc_parser_grammar.proofs.Forms.{it}
-use Rattle.ckc_parser_grammar.proofs.Failing.{low_around, low_beside}
+use Rattle.ckc_parser_grammar.proofs.Paths.{low_around, low_beside}
 use Rattle.ckc_parser_grammar.proofs.MoreForms.{by_next}
 use Rattle.ckc_parser_grammar.proofs.FewNodes.{signed_takes, declarator_takes, assignment_takes}
 use Rattle.ckc_parser_grammar.proofs.Reading.{Reading, read, refused, unexpected, too_deep, Next, here, other, next, Marks, marked, named, by_length, by_room, behind, ended}

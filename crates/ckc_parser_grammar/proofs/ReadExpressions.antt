@@ -24,7 +24,7 @@ use Rattle.ckc_parser_grammar.specs.Failures.{Failure, IsLow}
 use Rattle.ckc_parser_grammar.specs.StuckExpressions as stuck
 use Rattle.ckc_parser_grammar.specs.StuckExpressions.{primary_word, unary_word, close_paren, close_bracket, comma_or_paren, bounds_word, unknown_word, is_unknown, goes_on, IsCountWord, StuckBinary, StuckTail, StuckUnary, StuckSelectors, StuckPrimary, StuckArguments, StuckMoreArguments, StuckBounds}
 use Rattle.ckc_parser_grammar.proofs.Forms.{it}
-use Rattle.ckc_parser_grammar.proofs.Failing.{low_around, low_beside}
+use Rattle.ckc_parser_grammar.proofs.Paths.{low_around, low_beside}
 use Rattle.ckc_parser_grammar.proofs.ExpressionPaths.{marks_at}
 use Rattle.ckc_parser_grammar.proofs.ExpressionLinks.{operator_shrinks}
 use Rattle.ckc_parser_grammar.proofs.BuiltBounds as heads

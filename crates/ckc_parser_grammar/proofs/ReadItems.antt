@@ -18,20 +18,20 @@ use Rattle.ckc_tree.specs.Expressions.{Bounds}
 use Rattle.ckc_tree.specs.Items.{Member, ResultForm, Value, Parameters, Nothing, VoidAlone, Listed, Body, Item, RegionItem, StructureItem, GlobalItem, FunctionItem, Tree}
 use Rattle.ckc_tree.specs.Heights.{◌beside◌, type_reach, optional_bounds_reach, statements_reach, declarators_reach, member_reach, members_reach, result_reach, parameters_reach, optional_body_reach, item_reach, items_reach}
 use Rattle.ckc_tree.specs.Weights.{item_weight}
-use Rattle.ckc_parser_grammar.specs.Tokens.{token, join, identifier, from_first, mark_of, next_is, mark_word, kind_word, tainted_word}
+use Rattle.ckc_parser_grammar.specs.Tokens.{token, join, identifier, from_first, mark_of, next_is, mark_word, kind_word}
 use Rattle.ckc_parser_grammar.specs.TypeGrammar.{SpellsStars, SpellsType, SpellsTypeName}
 use Rattle.ckc_parser_grammar.specs.ItemGrammar as g
 use Rattle.ckc_parser_grammar.specs.ItemGrammar.{SpellsTainted, SpellsKind, SpellsOptionalMark, SpellsMember, SpellsMembers, SpellsListed, SpellsParameters, SpellsResult, SpellsBody, SpellsRegion, SpellsItem, SpellsItems}
 use Rattle.ckc_parser_grammar.specs.Parsing.{IsTree, IsFault}
 use Rattle.ckc_parser_grammar.specs.Refusals.{FaultIs}
 use Rattle.ckc_parser_grammar.specs.Failures.{Failure, IsLow}
-use Rattle.ckc_parser_grammar.specs.StuckTypes.{name_token}
 use Rattle.ckc_parser_grammar.specs.StuckExpressions.{close_paren, comma_or_paren}
 use Rattle.ckc_parser_grammar.specs.StuckStatements.{open_brace}
 use Rattle.ckc_parser_grammar.specs.StuckItems as stuck
 use Rattle.ckc_parser_grammar.specs.StuckItems.{void_word, scope_word, struct_word, body_word, is_name_before, is_structure, is_function, IsAlone, IsLowMember, StuckMember, StuckMembers, StuckListed, StuckParameters, StuckBody, StuckItem, StuckItems}
-use Rattle.ckc_parser_grammar.proofs.Forms.{it, never}
-use Rattle.ckc_parser_grammar.proofs.Failing.{low_around, low_beside}
+use Rattle.ckc_parser_grammar.proofs.Forms.{it}
+use Rattle.ckc_parser_grammar.proofs.Ahead.{never, untainted, no_struct, no_name}
+use Rattle.ckc_parser_grammar.proofs.Paths.{low_around, low_beside}
 use Rattle.ckc_parser_grammar.proofs.MemberForms.{zero_low}
 use Rattle.ckc_parser_grammar.proofs.ItemFailing.{Ahead, call, function_ahead}
 use Rattle.ckc_parser_grammar.proofs.WholeForms.{stuck_is_fault}
@@ -197,14 +197,6 @@ data Side (tokens us : List Token) (k : FunctionKind) (m : Option Mark) : Type 0
   alone : ((result : ResultForm) → IsAlone k m result) → Side tokens us k m
   any : {b : Bool} → SpellsTainted tokens b us → Side tokens us k m
 
-untainted : (ts : List Token) → next_is kind_word ts ≡ false → next_is tainted_word ts ≡ false
-untainted [] not = refl
-untainted (t ∷ ts) not = by t.kind not
-  where
-    by : (k : TokenKind) → kind_word k ≡ false → tainted_word k ≡ false
-    by (kinds.Keyword keywords.Tainted) not = not
-    by _ not = refl
-
 side : {tokens ts us : List Token} {k : FunctionKind} {m : Option Mark} → SpellsKind tokens k ts → SpellsOptionalMark ts m us → Side tokens us k m
 side (g.trusted not) (g.absent f) = any (g.absent (untainted _ not))
 side g.tainted (g.absent f) = any g.present
@@ -242,14 +234,6 @@ variables_read {tokens} {us} {b} {base} t tag d low not = ended is_semicolon (de
 -- the word of a structure, its name and its brace
 data Structure : List Token → Type 0 where
   structure : {x : List ℕ} {s t p : Span} {ts : List Token} → Structure (token (kinds.Keyword keywords.Struct) s ∷ token (kinds.Name x) t ∷ token kinds.OpenBrace p ∷ ts)
-
-no_struct : (ts : List Token) → next_is struct_word ts ≡ false → is_structure ts ≡ false
-no_struct [] not = refl
-no_struct (t ∷ ts) not = rw not refl
-
-no_name : (is : TokenKind → Bool) (ts : List Token) → next_is name_token ts ≡ false → is_name_before is ts ≡ false
-no_name is [] not = refl
-no_name is (t ∷ ts) not = rw not refl
 
 structure_at : (us : List Token) → is_structure us ≡ true → Structure us
 structure_at us so = marked is_struct (λ vs. is_structure vs ≡ true → Structure vs) us (λ vs not so. never so (no_struct vs not))

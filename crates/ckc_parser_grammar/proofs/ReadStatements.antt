@@ -17,10 +17,10 @@ use Rattle.ckc_parser_grammar.specs.Failures.{Failure, IsLow}
 use Rattle.ckc_parser_grammar.specs.StuckTypes.{type_word, name_token}
 use Rattle.ckc_parser_grammar.specs.StuckStatements as stuck
 use Rattle.ckc_parser_grammar.specs.StuckStatements.{close_brace, semicolon, plain_word, assignment_word, statement_word, is_call, is_call_alone, StuckCondition, StuckStatement, StuckStatements}
-use Rattle.ckc_parser_grammar.proofs.Forms.{Is, it, never}
-use Rattle.ckc_parser_grammar.proofs.Failing.{low_around, low_beside}
+use Rattle.ckc_parser_grammar.proofs.Forms.{Is, it}
+use Rattle.ckc_parser_grammar.proofs.Ahead.{never, call_of}
+use Rattle.ckc_parser_grammar.proofs.Paths.{low_around, low_beside}
 use Rattle.ckc_parser_grammar.proofs.MoreForms.{by_next, shrinks}
-use Rattle.ckc_parser_grammar.proofs.SimpleForms.{call_of}
 use Rattle.ckc_parser_grammar.proofs.BoundsFails.{and_true}
 use Rattle.ckc_parser_grammar.proofs.StatementForms as forms
 use Rattle.ckc_parser_grammar.proofs.StatementForms.{IsPlain, stated, statement_high, statement_exact}

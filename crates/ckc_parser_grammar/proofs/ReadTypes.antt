@@ -15,7 +15,7 @@ use Rattle.ckc_parser_grammar.specs.Failures.{IsLow}
 use Rattle.ckc_parser_grammar.specs.StuckTypes as stuck
 use Rattle.ckc_parser_grammar.specs.StuckTypes.{type_word, less, greater, StuckType, StuckTypeName, StuckAngled}
 use Rattle.ckc_parser_grammar.proofs.Forms.{Is, it}
-use Rattle.ckc_parser_grammar.proofs.Failing.{low_around}
+use Rattle.ckc_parser_grammar.proofs.Paths.{low_around}
 use Rattle.ckc_parser_grammar.proofs.Reading.{Reading, read, refused, unexpected, too_deep, Next, here, other, next, Marks, marked, named, by_length, by_room, behind, ended}
 use Rattle.ckc_parser_grammar.proofs.Words.{some_word}
 

@@ -12,7 +12,7 @@ use Rattle.ckc_tree.specs.Statements.{Assignment}
 use Rattle.ckc_tree.specs.Heights.{Reach, nowhere, around, ◌beside◌, expression_reach, assignment_reach}
 use Rattle.ckc_parser_grammar.specs.Tokens.{token, next_is, store_operator_of, step_operator_of}
 use Rattle.ckc_parser_grammar.specs.ExpressionGrammar as eg
-use Rattle.ckc_parser_grammar.specs.ExpressionGrammar.{SpellsUnary, SpellsSelectors, SpellsPrimary, SpellsCall}
+use Rattle.ckc_parser_grammar.specs.ExpressionGrammar.{SpellsUnary, SpellsCall}
 use Rattle.ckc_parser_grammar.specs.StatementGrammar as g
 use Rattle.ckc_parser_grammar.specs.StatementGrammar.{SpellsAssignment}
 use Rattle.ckc_parser_grammar.specs.TypeBeginnings.{begun}
@@ -26,10 +26,11 @@ use Rattle.ckc_parser_grammar.specs.StuckTypes.{name_token}
 use Rattle.ckc_parser_grammar.specs.StuckExpressions.{unary_word, StuckUnary, StuckExpression}
 use Rattle.ckc_parser_grammar.specs.StuckStatements as stuck
 use Rattle.ckc_parser_grammar.specs.StuckStatements.{semicolon, assign_word, assignment_word, is_call, is_call_alone, StuckAssignment}
-use Rattle.ckc_parser_grammar.proofs.Paths.{around_height, beside_height}
+use Rattle.ckc_parser_grammar.proofs.Paths.{beside_nowhere, around_height, beside_height}
 use Rattle.ckc_parser_grammar.proofs.Whole.{unary_begins}
-use Rattle.ckc_parser_grammar.proofs.Forms.{end_same, Is, it, Exact, ended_all, after_all, either_all, same_all, done_all, chain_all, never, EndedS, EndedB, before_end, end, AfterS, AfterB, not_yet, after, EitherS, yes, no, ChainS, ChainB, chain, in_link, behind_link, DoneS, done, HeadS, HeadB, none_yet, headed, OneHead}
-use Rattle.ckc_parser_grammar.proofs.Failing.{Fails, beside_nowhere, fails_before_end, fails_at_end, fails_at_first, fails_as, fails_headed, fails_unheaded, fails_yes, fails_no, fails_in_link, fails_behind_link}
+use Rattle.ckc_parser_grammar.proofs.Forms.{end_same, Is, it, Exact, ended_all, after_all, either_all, same_all, done_all, chain_all, EndedS, EndedB, before_end, end, AfterS, AfterB, not_yet, after, EitherS, yes, no, ChainS, ChainB, chain, in_link, behind_link, DoneS, done, HeadS, HeadB, none_yet, headed, OneHead}
+use Rattle.ckc_parser_grammar.proofs.Ahead.{never, call_of}
+use Rattle.ckc_parser_grammar.proofs.Failing.{Fails, fails_before_end, fails_at_end, fails_at_first, fails_as, fails_headed, fails_unheaded, fails_yes, fails_no, fails_in_link, fails_behind_link}
 use Rattle.ckc_parser_grammar.proofs.ExpressionLinks.{BinaryS, binary}
 use Rattle.ckc_parser_grammar.proofs.ExpressionForms.{some_node, UnaryS, UnaryValue, unary, of_unary, binary_exact, unary_value_exact}
 use Rattle.ckc_parser_grammar.proofs.ExpressionFails.{binary_fails, unary_fails}
@@ -132,34 +133,6 @@ call_is (eg.call a) = refl
 -- a call as an expression that no selector follows
 call_unary : {x : Expression} {o t : Span} {ts m : List Token} → SpellsCall ts x o (token kinds.Semicolon t ∷ m) → SpellsUnary ts x o (token kinds.Semicolon t ∷ m)
 call_unary d = eg.postfix (eg.called d) (eg.unselected refl)
-
--- ---- a call among expressions
-
-selected_call : {x whole : Expression} {o w : Span} {ts m : List Token} → SpellsSelectors x o ts whole w m → is_call x ≡ false → is_call whole ≡ false
-selected_call (eg.unselected f) none = none
-selected_call (eg.index d s) none = selected_call s refl
-selected_call (eg.dot s) none = selected_call s refl
-selected_call (eg.arrow s) none = selected_call s refl
-
-primary_call : {x : Expression} {o : Span} {ts m : List Token} → next_is name_token ts ≡ true → SpellsPrimary ts x o m → is_call x ≡ true → SpellsCall ts x o m
-primary_call so eg.number is = absurd cc
-primary_call so eg.character is = absurd cc
-primary_call so eg.text is = absurd cc
-primary_call so (eg.name f) is = absurd cc
-primary_call so (eg.called d) is = d
-primary_call so (eg.parentheses d) is = absurd cc
-primary_call so (eg.size_of d) is = absurd cc
-primary_call so (eg.cast w a d) is = absurd cc
-primary_call so (eg.bounded_cast w a d c) is = absurd cc
-primary_call so (eg.malloc w a d) is = absurd cc
-primary_call so (eg.calloc w a d c) is = absurd cc
-
-pub call_of : {x : Expression} {o : Span} {ts m : List Token} → next_is name_token ts ≡ true → SpellsUnary ts x o m → is_call x ≡ true → SpellsCall ts x o m
-call_of so (eg.operator w d) is = absurd cc
-call_of so (eg.postfix p (eg.unselected f)) is = primary_call so p is
-call_of so (eg.postfix p (eg.index d s)) is = never is (selected_call s refl)
-call_of so (eg.postfix p (eg.dot s)) is = never is (selected_call s refl)
-call_of so (eg.postfix p (eg.arrow s)) is = never is (selected_call s refl)
 
 -- ---- the built form
 

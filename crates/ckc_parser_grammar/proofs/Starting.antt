@@ -27,7 +27,8 @@ use Rattle.ckc_parser_grammar.specs.StuckTypes.{type_word, name_token}
 use Rattle.ckc_parser_grammar.specs.StuckExpressions.{unary_word}
 use Rattle.ckc_parser_grammar.proofs.Paths.{around_height}
 use Rattle.ckc_parser_grammar.proofs.ExpressionPaths.{no_binary}
-use Rattle.ckc_parser_grammar.proofs.Forms.{end_length, end_same, Exact, never}
+use Rattle.ckc_parser_grammar.proofs.Forms.{end_length, end_same, Exact}
+use Rattle.ckc_parser_grammar.proofs.Ahead.{never}
 use Rattle.ckc_parser_grammar.proofs.TypeForms as tf
 use Rattle.ckc_parser_grammar.proofs.TypeForms.{TypeS, type_exact, type_name_exact, angled_exact}
 use Rattle.ckc_parser_grammar.proofs.ExpressionLinks.{binary}

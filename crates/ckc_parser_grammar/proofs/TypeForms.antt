@@ -17,10 +17,12 @@ use Rattle.ckc_parser_grammar.specs.Failures as failures
 use Rattle.ckc_parser_grammar.specs.Failures.{Failure}
 use Rattle.ckc_parser_grammar.specs.StuckTypes as stuck
 use Rattle.ckc_parser_grammar.specs.StuckTypes.{name_token, less, greater, type_word, StuckType, StuckTypeName, StuckAngled}
-use Rattle.ckc_parser_grammar.proofs.Forms.{◌ends◌, all, later, Is, it, IsName, name, ExactBelow, Exact, exact_on_all, none_below, within, seq_all, ended_all, after_all, same_all, never, SeqS, SeqB, seq, in_first, in_second, seq_exact, EndedS, EndedB, before_end, end, ended_exact, AfterS, AfterB, not_yet, after, after_exact, NodeS, node_exact, DoneS, done, done_exact, HeadS, HeadB, none_yet, headed, head_exact, OneHead, same_exact}
+use Rattle.ckc_parser_grammar.proofs.Forms.{◌ends◌, all, later, Is, it, IsName, name, ExactBelow, Exact, exact_on_all, none_below, within, seq_all, ended_all, after_all, same_all, SeqS, SeqB, seq, in_first, in_second, seq_exact, EndedS, EndedB, before_end, end, ended_exact, AfterS, AfterB, not_yet, after, after_exact, NodeS, node_exact, DoneS, done, done_exact, HeadS, HeadB, none_yet, headed, head_exact, OneHead, same_exact}
+use Rattle.ckc_parser_grammar.proofs.Ahead.{never}
 use Rattle.ckc_parser_grammar.proofs.Forms as forms
 use Rattle.ckc_parser_grammar.proofs.Failing as failing
-use Rattle.ckc_parser_grammar.proofs.Failing.{Fails, beside_nowhere, fails_first, fails_before_end, fails_at_end, fails_after, fails_at_first, fails_node, fails_as, fails_headed, fails_unheaded, fails_deep_head}
+use Rattle.ckc_parser_grammar.proofs.Paths.{beside_nowhere}
+use Rattle.ckc_parser_grammar.proofs.Failing.{Fails, fails_first, fails_before_end, fails_at_end, fails_after, fails_at_first, fails_node, fails_as, fails_headed, fails_unheaded, fails_deep_head}
 use Rattle.ckc_parser_grammar.proofs.Words.{some_word, each_pointer_word, pointer_is}
 
 -- ---- stars, which make no node
