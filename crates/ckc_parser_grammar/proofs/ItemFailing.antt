@@ -12,7 +12,7 @@ use Rattle.ckc_tree.specs.Types.{TypeTree}
 use Rattle.ckc_tree.specs.Statements.{Declarator}
 use Rattle.ckc_tree.specs.Items.{ResultForm, Body, Item}
 use Rattle.ckc_tree.specs.Heights.{Reach, nowhere, type_reach, result_reach, item_reach}
-use Rattle.ckc_parser_grammar.specs.Tokens.{token, next_is, open_paren, star}
+use Rattle.ckc_parser_grammar.specs.Tokens.{token, next_is, open_paren}
 use Rattle.ckc_parser_grammar.specs.TypeGrammar as tg
 use Rattle.ckc_parser_grammar.specs.TypeGrammar.{SpellsStars, SpellsType}
 use Rattle.ckc_parser_grammar.specs.TypeBeginnings as tb

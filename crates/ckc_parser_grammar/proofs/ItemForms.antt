@@ -25,7 +25,6 @@ use Rattle.ckc_parser_grammar.specs.StuckItems.{void_word}
 use Rattle.ckc_parser_grammar.proofs.OneItem.{tainted_same, kind_same}
 use Rattle.ckc_parser_grammar.proofs.Forms.{◌ends◌, all, later, Is, it, IsName, name, Read, Exact, seq_all, ended_all, after_all, done_all, either_all, same_all, SeqS, SeqB, seq, in_first, in_second, EndedS, EndedB, before_end, end, AfterS, AfterB, not_yet, after, EitherS, yes, no, DoneS, done}
 use Rattle.ckc_parser_grammar.proofs.Paths.{beside_nowhere}
-use Rattle.ckc_parser_grammar.proofs.Failing.{}
 use Rattle.ckc_parser_grammar.proofs.TypeForms.{StarsS, StarsB, stars, stars_exact, TypeS, type, type_exact}
 use Rattle.ckc_parser_grammar.proofs.MoreForms.{next_apart, or_right, OptionalS, absent, present, optional_all, LeadS, LeadB, lead, in_lead, behind_lead, lead_all, so_far, in_whole, reach_is, beside_assoc}
 use Rattle.ckc_parser_grammar.proofs.Starting.{type_starts, type_at}

@@ -23,7 +23,6 @@ use Rattle.ckc_parser_grammar.proofs.ExpressionPaths.{no_binary}
 use Rattle.ckc_parser_grammar.proofs.Forms.{Is, it, ExactBelow, below, within, SeqS, SeqB, seq, in_first, in_second, seq_exact, EndedS, EndedB, before_end, end, ended_exact, AfterS, AfterB, not_yet, after, after_exact, NodeS, node_exact, DoneS, done, done_exact, EitherS, yes, no, either_exact, HeadS, HeadB, none_yet, headed, OneHead}
 use Rattle.ckc_parser_grammar.proofs.Forms as forms
 use Rattle.ckc_parser_grammar.proofs.Paths.{beside_nowhere}
-use Rattle.ckc_parser_grammar.proofs.Failing.{}
 use Rattle.ckc_parser_grammar.proofs.TypeForms.{TypeNameS, named, AngledS, angled, type_name_exact, angled_exact}
 use Rattle.ckc_parser_grammar.proofs.ExpressionLinks.{BinaryS, binary}
 use Rattle.ckc_parser_grammar.proofs.Words.{each_cast_word, each_malloc_word, each_calloc_word}

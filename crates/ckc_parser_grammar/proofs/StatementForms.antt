@@ -24,7 +24,6 @@ use Rattle.ckc_parser_grammar.proofs.Whole.{statement_begins, statements_begin}
 use Rattle.ckc_parser_grammar.proofs.Forms.{Is, it, ExactBelow, Exact, exact_on_all, none_below, within, below, seq_exact, after_exact, node_exact, done_exact, either_exact, ended_all, after_all, done_all, head_exact, same_exact, SeqS, SeqB, seq, in_first, in_second, EndedS, EndedB, before_end, end, AfterS, AfterB, not_yet, after, NodeS, EitherS, yes, no, DoneS, done, HeadS, HeadB, none_yet, headed, OneHead}
 use Rattle.ckc_parser_grammar.proofs.Ahead.{never}
 use Rattle.ckc_parser_grammar.proofs.Forms as forms
-use Rattle.ckc_parser_grammar.proofs.Failing.{}
 use Rattle.ckc_parser_grammar.proofs.ExpressionLinks.{binary}
 use Rattle.ckc_parser_grammar.proofs.MoreForms.{is_it, Starts, Apart, next_apart, by_next, nothing_read, or_left, or_right, OptionalS, absent, present, optional_exact, list_exact, so_far, in_whole, reach_is, beside_assoc}
 use Rattle.ckc_parser_grammar.proofs.Starting.{binary_starts}

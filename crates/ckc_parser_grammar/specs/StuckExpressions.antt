@@ -33,10 +33,13 @@ primary_word (kinds.Name x) = true
 primary_word (kinds.Keyword keywords.Sizeof) = true
 primary_word kind = is_some (cast_word_of kind) || (is_some (malloc_word_of kind) || is_some (calloc_word_of kind))
 
+-- an operator or a parenthesis before an operand
+abbrev pub prefix_word : TokenKind → Bool
+prefix_word kind = open_paren kind || is_some (unary_operator_of kind)
+
 -- the first token of an expression
 abbrev pub unary_word : TokenKind → Bool
-unary_word kinds.OpenParen = true
-unary_word kind = is_some (unary_operator_of kind) || primary_word kind
+unary_word kind = prefix_word kind || primary_word kind
 
 abbrev pub close_paren : TokenKind → Bool
 close_paren kinds.CloseParen = true
