@@ -1,44 +1,6 @@
-// Keywords: how they are spelled, and which tokens they are.
+// How keywords are spelled.
 
-ghost use Rattle.std.specs.Prelude.{◌≡◌};
-ghost use Rattle.ckc_lexer.specs.Keywords.{kind};
-
-use ckc_lexer_tokens::token::TokenKind;
-
-/// A keyword; of two spellings one.
-#[derive(Clone, Copy)]
-pub enum Keyword {
-    Int,
-    Char,
-    Void,
-    Struct,
-    If,
-    Else,
-    While,
-    For,
-    Return,
-    Break,
-    Continue,
-    Sizeof,
-    Malloc,
-    Calloc,
-    NtCalloc,
-    TMalloc,
-    Ptr,
-    ArrayPtr,
-    NtArrayPtr,
-    TPtr,
-    TArrayPtr,
-    TNtArrayPtr,
-    Checked,
-    NtChecked,
-    Unchecked,
-    Bundled,
-    Tainted,
-    Callback,
-    DynamicBoundsCast,
-    AssumeBoundsCast,
-}
+use ckc_lexer_tokens::keyword::Keyword;
 
 /// How each keyword is spelled.
 pub const KEYWORDS: [(&[u8], Keyword); 33] = [
@@ -76,43 +38,3 @@ pub const KEYWORDS: [(&[u8], Keyword); 33] = [
     (b"_Dynamic_bounds_cast", Keyword::DynamicBoundsCast),
     (b"_Assume_bounds_cast", Keyword::AssumeBoundsCast),
 ];
-
-impl Keyword {
-    /// The token that it is.
-    pub fn kind(self) -> TokenKind
-        ensures { result ≡ kind self }
-    {
-        match self {
-            Keyword::Int => TokenKind::Int,
-            Keyword::Char => TokenKind::Char,
-            Keyword::Void => TokenKind::Void,
-            Keyword::Struct => TokenKind::Struct,
-            Keyword::If => TokenKind::If,
-            Keyword::Else => TokenKind::Else,
-            Keyword::While => TokenKind::While,
-            Keyword::For => TokenKind::For,
-            Keyword::Return => TokenKind::Return,
-            Keyword::Break => TokenKind::Break,
-            Keyword::Continue => TokenKind::Continue,
-            Keyword::Sizeof => TokenKind::Sizeof,
-            Keyword::Malloc => TokenKind::Malloc,
-            Keyword::Calloc => TokenKind::Calloc,
-            Keyword::NtCalloc => TokenKind::NtCalloc,
-            Keyword::TMalloc => TokenKind::TMalloc,
-            Keyword::Ptr => TokenKind::Ptr,
-            Keyword::ArrayPtr => TokenKind::ArrayPtr,
-            Keyword::NtArrayPtr => TokenKind::NtArrayPtr,
-            Keyword::TPtr => TokenKind::TPtr,
-            Keyword::TArrayPtr => TokenKind::TArrayPtr,
-            Keyword::TNtArrayPtr => TokenKind::TNtArrayPtr,
-            Keyword::Checked => TokenKind::Checked,
-            Keyword::NtChecked => TokenKind::NtChecked,
-            Keyword::Unchecked => TokenKind::Unchecked,
-            Keyword::Bundled => TokenKind::Bundled,
-            Keyword::Tainted => TokenKind::Tainted,
-            Keyword::Callback => TokenKind::Callback,
-            Keyword::DynamicBoundsCast => TokenKind::DynamicBoundsCast,
-            Keyword::AssumeBoundsCast => TokenKind::AssumeBoundsCast,
-        }
-    }
-}

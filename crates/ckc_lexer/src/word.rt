@@ -6,7 +6,8 @@ ghost use Rattle.ckc_lexer.specs.Keywords.{spelled};
 ghost use Rattle.ckc_text.specs.Names.{is_digit, is_word_byte, begins_with};
 ghost use Rattle.ckc_lexer_tokens.specs.Words.{keywords, listed, number_of, number_piece, word_piece};
 
-use crate::keywords::{KEYWORDS, Keyword};
+use crate::keywords::KEYWORDS;
+use ckc_lexer_tokens::keyword::Keyword;
 use ckc_lexer_tokens::number::number_of;
 use ckc_lexer_tokens::piece::Piece;
 use ckc_lexer_tokens::token::TokenKind;
@@ -15,19 +16,19 @@ use ckc_text::name::Name;
 use std::alloc::Global;
 
 /// The keyword of a table that a word is.
-fn listed(word: &[u8], table: &[(&[u8], Keyword)]) -> Option<TokenKind>
+fn listed(word: &[u8], table: &[(&[u8], Keyword)]) -> Option<Keyword>
     ensures { result ≡ listed word.now (map spelled table.now) }
 {
     for (text, keyword) in table {
         if word == *text {
-            return Some(keyword.kind());
+            return Some(*keyword);
         }
     }
     None
 }
 
 /// The keyword that a word is.
-pub fn keyword(word: &[u8]) -> Option<TokenKind>
+pub fn keyword(word: &[u8]) -> Option<Keyword>
     ensures { result ≡ listed word.now keywords }
 {
     listed(word, &KEYWORDS)
@@ -59,7 +60,7 @@ pub fn word_piece(alloc: Global, word: &[u8]) -> Result<Piece, NoMemory>
         return Ok(number_piece(word));
     }
     match keyword(word) {
-        Some(kind) => Ok(Piece::Lexeme(kind)),
+        Some(keyword) => Ok(Piece::Lexeme(TokenKind::Keyword(keyword))),
         None => Ok(Piece::Named(Name::from_slice(alloc, word)?)),
     }
 }

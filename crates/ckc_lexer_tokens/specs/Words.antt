@@ -7,16 +7,14 @@ use Rattle.ckc_text.specs.declared.code.Code.{Code}
 use Rattle.ckc_text.specs.declared.code.Code.TheVariants.{E02, E04}
 use Rattle.ckc_text.specs.Names.{is_digit, begins_with}
 use Rattle.ckc_lexer_tokens.specs.Bytes.{is_hexadecimal_digit}
-use Rattle.ckc_lexer_tokens.specs.declared.token.TokenKind.{TokenKind}
-use Rattle.ckc_lexer_tokens.specs.declared.token.TokenKind.TheVariants.{Int, Char, Void, Struct, If, Else, While, For, Return, Break, Continue}
-use Rattle.ckc_lexer_tokens.specs.declared.token.TokenKind.TheVariants.{Sizeof, Malloc, Calloc, NtCalloc, TMalloc, Ptr, ArrayPtr, NtArrayPtr, TPtr}
-use Rattle.ckc_lexer_tokens.specs.declared.token.TokenKind.TheVariants.{TArrayPtr, TNtArrayPtr, Checked, NtChecked, Unchecked, Bundled, Tainted}
-use Rattle.ckc_lexer_tokens.specs.declared.token.TokenKind.TheVariants.{Callback, DynamicBoundsCast, AssumeBoundsCast, Number}
+use Rattle.ckc_lexer_tokens.specs.declared.keyword.Keyword.{Keyword}
+use Rattle.ckc_lexer_tokens.specs.declared.keyword.Keyword.TheVariants.{Int, Char, Void, Struct, If, Else, While, For, Return, Break, Continue, Sizeof, Malloc, Calloc, NtCalloc, TMalloc, Ptr, ArrayPtr, NtArrayPtr, TPtr, TArrayPtr, TNtArrayPtr, Checked, NtChecked, Unchecked, Bundled, Tainted, Callback, DynamicBoundsCast, AssumeBoundsCast}
+use Rattle.ckc_lexer_tokens.specs.declared.token.TokenKind.TheVariants as kinds
 use Rattle.ckc_lexer_tokens.specs.declared.piece.Piece.{Piece}
 use Rattle.ckc_lexer_tokens.specs.declared.piece.Piece.TheVariants.{Lexeme, Named, Fault}
 
--- each keyword, and the token that it is
-abbrev pub keywords : List (List ℕ × TokenKind)
+-- how each keyword is spelled
+abbrev pub keywords : List (List ℕ × Keyword)
 keywords =
     (codes "int", Int) ∷ (codes "char", Char) ∷ (codes "void", Void) ∷ (codes "struct", Struct) ∷ (codes "if", If) ∷ (codes "else", Else)
     ∷ (codes "while", While) ∷ (codes "for", For) ∷ (codes "return", Return) ∷ (codes "break", Break) ∷ (codes "continue", Continue)
@@ -27,8 +25,8 @@ keywords =
     ∷ (codes "_Tainted", Tainted) ∷ (codes "_Callback", Callback) ∷ (codes "_Dynamic_bounds_cast", DynamicBoundsCast)
     ∷ (codes "_Assume_bounds_cast", AssumeBoundsCast) ∷ []
 
--- the token that the whole text is by a table
-abbrev pub listed : List ℕ → List (List ℕ × TokenKind) → Option TokenKind
+-- what the whole text is by a table
+abbrev pub listed : {A : Type 0} → List ℕ → List (List ℕ × A) → Option A
 listed text [] = None
 listed text (entry ∷ entries) = cond (bytes_eq text entry.0) (Some entry.1) (listed text entries)
 
@@ -55,13 +53,13 @@ number_of text =
     cond (is_decimal text) (limited (digits_value 10 text)) (cond (is_hexadecimal text) (limited (digits_value 16 (drop 2 text))) (Err E02))
 
 abbrev pub number_piece : Result ℕ Code → Piece
-number_piece (Ok n) = Lexeme (Number n)
+number_piece (Ok n) = Lexeme (kinds.Number n)
 number_piece (Err code) = Fault code
 
 -- what isn't in the table is a name
-abbrev pub name_piece : List ℕ → Option TokenKind → Piece
+abbrev pub name_piece : List ℕ → Option Keyword → Piece
 name_piece text None = Named text
-name_piece text (Some kind) = Lexeme kind
+name_piece text (Some keyword) = Lexeme (kinds.Keyword keyword)
 
 -- what letters and digits are, taken to their end
 abbrev pub word_piece : List ℕ → Piece

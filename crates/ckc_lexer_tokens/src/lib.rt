@@ -3,6 +3,7 @@
 
 pub mod comment;
 pub mod definition;
+pub mod keyword;
 pub mod limits;
 pub mod mark;
 pub mod number;

@@ -1,6 +1,7 @@
 // Tokens of a source.
 
 use ckc_text::listed::Listed;
+use crate::keyword::Keyword;
 use ckc_text::name::Name;
 use ckc_text::place::Span;
 
@@ -11,40 +12,11 @@ pub enum CheckedScope {
     Off,
 }
 
-/// What a token is: a keyword, something with a value, the scope that a directive leads to, or a mark. The
-/// two spellings of a pointer word, as `ptr` and `_Ptr`, are one kind.
+/// What a token is: a keyword, something with a value, the scope that a directive leads to, or a mark.
 #[derive(Drop)]
 pub enum TokenKind {
-    Int,
-    Char,
-    Void,
-    Struct,
-    If,
-    Else,
-    While,
-    For,
-    Return,
-    Break,
-    Continue,
-    Sizeof,
-    Malloc,
-    Calloc,
-    NtCalloc,
-    TMalloc,
-    Ptr,
-    ArrayPtr,
-    NtArrayPtr,
-    TPtr,
-    TArrayPtr,
-    TNtArrayPtr,
-    Checked,
-    NtChecked,
-    Unchecked,
-    Bundled,
-    Tainted,
-    Callback,
-    DynamicBoundsCast,
-    AssumeBoundsCast,
+    /// A keyword.
+    Keyword(Keyword),
     /// The bytes of a name.
     Name(Name),
     /// The value of a number, at most 2,147,483,647.

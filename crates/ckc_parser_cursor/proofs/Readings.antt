@@ -1,20 +1,15 @@
 -- What a function that reads a form answers, from what the functions that it calls answered.
-use Rattle.std.proofs.Common.{◌≡◌, ℕ, zero, suc, ◌+◌, ◌<◌, ◌≤◌, Bool, false, List, [], ◌∷◌, Some, Result, Ok, Err, length, refl, ap, ◌∙◌, arith}
-use Rattle.std.proofs.lemmas.Option.{same_Some, none-some}
+use Rattle.std.proofs.Common.{◌≡◌, ℕ, zero, suc, ◌+◌, ◌<◌, ◌≤◌, Bool, false, List, [], ◌∷◌, Result, Ok, Err, length, refl, ap, ◌∙◌, arith}
 use Rattle.std.specs.Result.{IsErrAnd}
 use Rattle.ckc_lexer_tokens.specs.declared.token.Token.{Token}
 use Rattle.ckc_lexer_tokens.specs.declared.token.TokenKind.{TokenKind}
-use Rattle.ckc_lexer_tokens.specs.declared.token.TokenKind.TheVariants as kinds
-use Rattle.ckc_tree.specs.declared.type_form.PointerWord.{PointerWord}
 use Rattle.ckc_tree.specs.declared.identifier.Identifier.{Identifier}
 use Rattle.ckc_tree.specs.Heights.{Reach, around}
 use Rattle.ckc_parser_cursor.specs.declared.stuck.Stuck.{Stuck}
-use Rattle.ckc_parser_grammar.specs.Tokens as words
-use Rattle.ckc_parser_grammar.specs.Tokens.{token, identifier, next_is, IsPointerWord}
+use Rattle.ckc_parser_grammar.specs.Tokens.{token, identifier, next_is}
 use Rattle.ckc_parser_grammar.specs.Failures.{Failure, unexpected, no_memory, IsLow}
 use Rattle.ckc_parser_grammar.specs.StuckTypes.{name_token}
 use Rattle.ckc_parser_cursor.specs.Answers.{FailsName, no_name, no_room, TakesTokens, MayTakeTokens}
-use Rattle.ckc_parser_cursor.specs.WordReadings.{pointer_word_of}
 
 -- an error that is passed on
 pub err : {T : Type 0} (r : Result T Stuck) (e : Stuck) → IsErrAnd r (λ x. x ≡ e) → r ≡ Err e
@@ -60,15 +55,6 @@ low_around d s r less low = around_low r.height r.start less low
     around_low : (h t : ℕ) → d < 200 → suc d + h ≤ 200 → IsLow d (around s (record { height = h; start = t }))
     around_low zero t less low = omega arith
     around_low (suc h) t less low = omega arith
-
-pub pointer_word_is : (k : TokenKind) (word : PointerWord) → pointer_word_of k ≡ Some word → IsPointerWord k word
-pointer_word_is kinds.Ptr word e = rw (← same_Some _ _ e) words.ptr
-pointer_word_is kinds.ArrayPtr word e = rw (← same_Some _ _ e) words.array_ptr
-pointer_word_is kinds.NtArrayPtr word e = rw (← same_Some _ _ e) words.nt_array_ptr
-pointer_word_is kinds.TPtr word e = rw (← same_Some _ _ e) words.t_ptr
-pointer_word_is kinds.TArrayPtr word e = rw (← same_Some _ _ e) words.t_array_ptr
-pointer_word_is kinds.TNtArrayPtr word e = rw (← same_Some _ _ e) words.t_nt_array_ptr
-pointer_word_is _ word e = absurd (none-some _ e)
 
 -- ---- names
 

@@ -2,6 +2,7 @@
 use Rattle.std.proofs.Common.{◌≡◌, false, Some, refl}
 use Rattle.std.proofs.lemmas.Option.{same_Some, none-some}
 use Rattle.ckc_lexer_tokens.specs.declared.token.TokenKind.{TokenKind}
+use Rattle.ckc_lexer_tokens.specs.declared.keyword.Keyword.TheVariants as keywords
 use Rattle.ckc_lexer_tokens.specs.declared.token.TokenKind.TheVariants as kinds
 use Rattle.ckc_parser_cursor.specs.declared.terminal.Terminal.{Terminal}
 use Rattle.ckc_parser_cursor.specs.declared.terminal.Terminal.TheVariants as terminals
@@ -22,9 +23,9 @@ spelled t kinds.Semicolon h = rw (← same_Some _ _ h) refl
 spelled t kinds.Colon h = rw (← same_Some _ _ h) refl
 spelled t kinds.Equal h = rw (← same_Some _ _ h) refl
 spelled t kinds.Minus h = rw (← same_Some _ _ h) refl
-spelled t kinds.Else h = rw (← same_Some _ _ h) refl
-spelled t kinds.Void h = rw (← same_Some _ _ h) refl
-spelled t kinds.Struct h = rw (← same_Some _ _ h) refl
+spelled t (kinds.Keyword keywords.Else) h = rw (← same_Some _ _ h) refl
+spelled t (kinds.Keyword keywords.Void) h = rw (← same_Some _ _ h) refl
+spelled t (kinds.Keyword keywords.Struct) h = rw (← same_Some _ _ h) refl
 spelled t _ h = absurd (none-some _ h)
 
 pub other : (t : Terminal) (k : TokenKind) → (terminal_of k ≡ Some t → ⊥) → is_terminal t k ≡ false
@@ -56,9 +57,9 @@ other terminals.Equal kinds.Equal h = absurd (h refl)
 other terminals.Equal _ h = refl
 other terminals.Minus kinds.Minus h = absurd (h refl)
 other terminals.Minus _ h = refl
-other terminals.Else kinds.Else h = absurd (h refl)
+other terminals.Else (kinds.Keyword keywords.Else) h = absurd (h refl)
 other terminals.Else _ h = refl
-other terminals.Void kinds.Void h = absurd (h refl)
+other terminals.Void (kinds.Keyword keywords.Void) h = absurd (h refl)
 other terminals.Void _ h = refl
-other terminals.Struct kinds.Struct h = absurd (h refl)
+other terminals.Struct (kinds.Keyword keywords.Struct) h = absurd (h refl)
 other terminals.Struct _ h = refl

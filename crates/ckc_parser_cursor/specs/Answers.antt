@@ -1,6 +1,7 @@
 -- Inside: what the functions that read forms answer, in the code's types. Each takes the tokens of a form from the front of
 -- those that are left; where it fails, the tokens that are left then begin where reading stopped.
-use Rattle.std.specs.Prelude.{◌≡◌, ◌≤◌, ◌<◌, Bool, true, false, List, ◌∷◌, ℕ, length, Result, Ok, Err}
+use Rattle.std.specs.Prelude.{◌≡◌, ◌≤◌, ◌<◌, Bool, true, false, List, ◌∷◌, ℕ, length, Option, Some, Result, Ok, Err}
+use Rattle.std.specs.Option.{is_some}
 use Rattle.std.specs.Borrow.{Bor}
 use Rattle.ckc_text.specs.declared.place.Span.{Span}
 use Rattle.ckc_lexer_tokens.specs.declared.token.Token.{Token}
@@ -33,6 +34,18 @@ pub record Stops (is : TokenKind → Bool) (ts : List Token) (e : Stuck) (rest :
 abbrev pub ReadsMark : TokenKind → (TokenKind → Bool) → List Token → Result Span Stuck → List Token → Type 0
 ReadsMark k is ts (Ok span) rest = ts ≡ token k span ∷ rest
 ReadsMark k is ts (Err e) rest = Stops is ts e rest
+
+-- a word that says one thing, with its span, and the tokens behind it
+pub record WordAt {W : Type 0} (word_of : TokenKind → Option W) (word : W) (span : Span) (ts rest : List Token) : Type 0 where
+  pub kind : TokenKind
+  pub says : word_of kind ≡ Some word
+  pub at : ts ≡ token kind span ∷ rest
+
+-- what a function that reads such a word answers: what it says and its span before the tokens that are left, or that another
+-- token stands there
+abbrev pub ReadsWord : {W : Type 0} → (TokenKind → Option W) → List Token → Result (W × Span) Stuck → List Token → Type 0
+ReadsWord word_of ts (Ok found) rest = WordAt word_of found.0 found.1 ts rest
+ReadsWord word_of ts (Err e) rest = Stops (λ kind. is_some (word_of kind)) ts e rest
 
 -- what a function that reads a name answers: its bytes and its span, or that another token stands there
 abbrev pub ReadsName : (TokenKind → Bool) → List Token → Result (Bor (List ℕ) × Span) Stuck → List Token → Type 0

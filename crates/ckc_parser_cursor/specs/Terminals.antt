@@ -1,13 +1,13 @@
 -- Inside: tokens that are always spelled the same.
 use Rattle.std.specs.Prelude.{◌≡◌, Bool, true, false, Option, Some, None}
 use Rattle.ckc_lexer_tokens.specs.declared.token.TokenKind.{TokenKind}
+use Rattle.ckc_lexer_tokens.specs.declared.keyword.Keyword.TheVariants as keywords
 use Rattle.ckc_lexer_tokens.specs.declared.token.TokenKind.TheVariants as kinds
 use Rattle.ckc_parser_grammar.specs.Tokens as words
 use Rattle.ckc_parser_grammar.specs.StuckTypes as types
 use Rattle.ckc_parser_grammar.specs.StuckExpressions as expressions
 use Rattle.ckc_parser_grammar.specs.StuckStatements as statements
 use Rattle.ckc_parser_grammar.specs.StuckItems as items
-use Rattle.ckc_parser_cursor.specs.WordReadings as readings
 use Rattle.ckc_parser_cursor.specs.declared.terminal.Terminal.{Terminal}
 use Rattle.ckc_parser_cursor.specs.declared.terminal.Terminal.TheVariants as terminals
 
@@ -27,9 +27,9 @@ kind_of terminals.Semicolon = kinds.Semicolon
 kind_of terminals.Colon = kinds.Colon
 kind_of terminals.Equal = kinds.Equal
 kind_of terminals.Minus = kinds.Minus
-kind_of terminals.Else = kinds.Else
-kind_of terminals.Void = kinds.Void
-kind_of terminals.Struct = kinds.Struct
+kind_of terminals.Else = kinds.Keyword keywords.Else
+kind_of terminals.Void = kinds.Keyword keywords.Void
+kind_of terminals.Struct = kinds.Keyword keywords.Struct
 
 -- whether a token is this terminal
 abbrev pub is_terminal : Terminal → TokenKind → Bool
@@ -46,7 +46,7 @@ is_terminal terminals.Star = words.star
 is_terminal terminals.Semicolon = statements.semicolon
 is_terminal terminals.Colon = words.colon
 is_terminal terminals.Equal = words.equal
-is_terminal terminals.Minus = readings.minus
+is_terminal terminals.Minus = statements.minus
 is_terminal terminals.Else = words.else_word
 is_terminal terminals.Void = items.void_word
 is_terminal terminals.Struct = items.struct_word
@@ -67,9 +67,9 @@ terminal_of kinds.Semicolon = Some terminals.Semicolon
 terminal_of kinds.Colon = Some terminals.Colon
 terminal_of kinds.Equal = Some terminals.Equal
 terminal_of kinds.Minus = Some terminals.Minus
-terminal_of kinds.Else = Some terminals.Else
-terminal_of kinds.Void = Some terminals.Void
-terminal_of kinds.Struct = Some terminals.Struct
+terminal_of (kinds.Keyword keywords.Else) = Some terminals.Else
+terminal_of (kinds.Keyword keywords.Void) = Some terminals.Void
+terminal_of (kinds.Keyword keywords.Struct) = Some terminals.Struct
 terminal_of _ = None
 
 -- the answer to whether a token is this terminal

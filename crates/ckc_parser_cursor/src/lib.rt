@@ -4,6 +4,7 @@
 pub mod alternative;
 pub mod depth;
 pub mod faults;
+pub mod kinds;
 pub mod memory;
 pub mod operators;
 pub mod spans;

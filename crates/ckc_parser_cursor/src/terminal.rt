@@ -5,6 +5,7 @@ ghost use Rattle.ckc_parser_cursor.specs.Terminals.{terminal_of, kind_of, is_ter
 ghost use Rattle.ckc_parser_cursor.specs.Answers.{ReadsMark};
 
 use crate::stuck::Stuck;
+use ckc_lexer_tokens::keyword::Keyword;
 use ckc_lexer_tokens::token::{Token, TokenKind};
 use ckc_text::place::Span;
 
@@ -49,9 +50,9 @@ fn terminal_of(kind: &TokenKind) -> Option<Terminal>
         TokenKind::Colon => Some(Terminal::Colon),
         TokenKind::Equal => Some(Terminal::Equal),
         TokenKind::Minus => Some(Terminal::Minus),
-        TokenKind::Else => Some(Terminal::Else),
-        TokenKind::Void => Some(Terminal::Void),
-        TokenKind::Struct => Some(Terminal::Struct),
+        TokenKind::Keyword(Keyword::Else) => Some(Terminal::Else),
+        TokenKind::Keyword(Keyword::Void) => Some(Terminal::Void),
+        TokenKind::Keyword(Keyword::Struct) => Some(Terminal::Struct),
         _ => None,
     }
 }

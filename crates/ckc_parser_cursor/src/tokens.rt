@@ -7,7 +7,6 @@ ghost use Rattle.ckc_parser_grammar.specs.StuckTypes as type_words;
 ghost use Rattle.ckc_parser_grammar.specs.StuckExpressions as expression_words;
 ghost use Rattle.ckc_parser_grammar.specs.StuckStatements as statement_words;
 ghost use Rattle.ckc_parser_cursor.specs.Answers.{Reads, ReadsMark, ReadsName, FailsName};
-ghost use Rattle.ckc_parser_cursor.specs.WordReadings.{unary_operator_of};
 
 use crate::stuck::Stuck;
 use crate::terminal::{Terminal, expect};
@@ -15,7 +14,6 @@ use ckc_lexer_tokens::token::{Token, TokenKind};
 use ckc_text::fault::NoMemory;
 use ckc_text::name::Name;
 use ckc_text::place::Span;
-use ckc_tree::expr::UnaryOperator;
 use ckc_tree::identifier::Identifier;
 use std::alloc::Global;
 
@@ -130,18 +128,4 @@ pub fn identifier(alloc: Global, tokens: &mut &[Token]) -> Result<Identifier, St
 {
     let (name, span) = name(tokens)?;
     Ok(copied(alloc, name, span)?)
-}
-
-/// The operator that a token is before an operand.
-pub fn unary_operator(kind: &TokenKind) -> Option<UnaryOperator>
-    ensures { result ≡ unary_operator_of kind.now }
-{
-    match kind {
-        TokenKind::Star => Some(UnaryOperator::Deref),
-        TokenKind::Ampersand => Some(UnaryOperator::AddressOf),
-        TokenKind::Minus => Some(UnaryOperator::Negate),
-        TokenKind::Not => Some(UnaryOperator::Not),
-        TokenKind::Tilde => Some(UnaryOperator::Complement),
-        _ => None,
-    }
 }

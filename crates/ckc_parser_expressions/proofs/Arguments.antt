@@ -14,7 +14,7 @@ use Rattle.ckc_lexer_tokens.specs.declared.token.Token.{Token}
 use Rattle.ckc_lexer_tokens.specs.declared.token.TokenKind.TheVariants as kinds
 use Rattle.ckc_parser_grammar.specs.Tokens.{token}
 use Rattle.ckc_parser_grammar.specs.ExpressionGrammar as g
-use Rattle.ckc_parser_grammar.specs.ExpressionGrammar.{SpellsBinary, SpellsMoreArguments, SpellsArguments}
+use Rattle.ckc_parser_grammar.specs.ExpressionGrammar.{SpellsBinary, SpellsMoreArguments}
 use Rattle.std.proofs.Common.{Result, Ok, Err}
 use Rattle.ckc_parser_cursor.specs.declared.stuck.Stuck.{Stuck}
 use Rattle.ckc_parser_expressions.specs.declared.primary.ReadArguments.{ReadArguments}
@@ -23,7 +23,7 @@ use Rattle.ckc_parser_cursor.specs.Answers.{Reads}
 use Rattle.ckc_parser_grammar.specs.StuckExpressions as s
 use Rattle.ckc_parser_grammar.specs.StuckExpressions.{StuckMoreArguments, StuckArguments}
 use Rattle.ckc_parser_expressions.specs.Readings.{before, listed, IsMore, IsArguments}
-use Rattle.ckc_parser_expressions.proofs.ContextSteps.{low_beside}
+use Rattle.ckc_parser_grammar.proofs.Paths.{low_beside, beside_nowhere}
 
 -- ---- the deepest node of parts side by side
 
@@ -35,9 +35,6 @@ beside_same p q r = by_tests (nat_lt p.height q.height) (nat_lt q.height r.heigh
     by_tests true false f s = rw (f, s, f) refl
     by_tests false true f s = rw (f, s) refl
     by_tests false false f s = let t : nat_lt p.height r.height ≡ false = grind (arith, nat_tests) in rw (f, s, f, t) refl
-
-beside_nowhere : (p : Reach) → p beside nowhere ≡ p
-beside_nowhere p = let f : nat_lt p.height 0 ≡ false = grind (arith, nat_tests) in rw f refl
 
 nowhere_beside : (p : Reach) → 0 < p.height → nowhere beside p ≡ p
 nowhere_beside p h = let t : nat_lt 0 p.height ≡ true = grind (arith, nat_tests) in rw t refl

@@ -4,9 +4,7 @@ use Rattle.std.proofs.lemmas.Bool.Decides.{nat_tests}
 use Rattle.std.proofs.lemmas.Option.{same_Some, none-some}
 use Rattle.ckc_text.specs.declared.place.Span.{Span}
 use Rattle.ckc_lexer_tokens.specs.declared.token.Token.{Token}
-use Rattle.ckc_lexer_tokens.specs.declared.token.TokenKind.{TokenKind}
 use Rattle.ckc_lexer_tokens.specs.declared.token.TokenKind.TheVariants as kinds
-use Rattle.ckc_tree.specs.declared.expr.UnaryOperator.{UnaryOperator}
 use Rattle.ckc_tree.specs.declared.expr.BinaryOperator.{BinaryOperator}
 use Rattle.ckc_tree.specs.Expressions.{Expression, expression}
 use Rattle.ckc_tree.specs.Heights.{Reach, expression_reach, ◌beside◌}
@@ -16,40 +14,22 @@ use Rattle.ckc_parser_expressions.specs.declared.expressions.Around.{Around}
 use Rattle.ckc_parser_expressions.specs.declared.expressions.Pending.{Pending}
 use Rattle.ckc_parser_expressions.specs.declared.expressions.Pending.TheVariants as forms
 use Rattle.ckc_parser_grammar.specs.Tokens as words
-use Rattle.ckc_parser_grammar.specs.Tokens.{token, join, IsUnaryOperator, operator_at, level, next_is}
+use Rattle.ckc_parser_grammar.specs.Tokens.{token, join, unary_operator_of, operator_at, level, next_is}
 use Rattle.ckc_parser_grammar.specs.ExpressionGrammar.{SpellsBinary, SpellsPrimary, SpellsSelectors}
 use Rattle.ckc_parser_grammar.specs.Failures.{Failure, unexpected, too_deep, IsLow}
 use Rattle.ckc_parser_cursor.specs.Answers.{Reads}
 use Rattle.ckc_parser_grammar.specs.StuckExpressions as s
-use Rattle.ckc_parser_grammar.specs.StuckExpressions.{primary_word, unary_word, close_paren, StuckBinary, StuckUnary, StuckSelectors}
+use Rattle.ckc_parser_grammar.specs.StuckExpressions.{primary_word, prefix_word, unary_word, close_paren, StuckBinary, StuckUnary, StuckSelectors}
 use Rattle.ckc_parser_expressions.specs.Readings.{IsBinary, IsUnary, FailsPrimary, no_primary, in_primary}
-use Rattle.ckc_parser_cursor.specs.WordReadings.{unary_operator_of}
 use Rattle.ckc_parser_expressions.specs.Contexts.{Frame, frame, InParens, OperandOf, RightOf, waiting, limit, depth_in, Fits, looseness, looser_at, takes_before, paren_start, Selects, Closes, Base, Fails, Completes, Needs, GoesIn, IsAround, NeedsOperand, HasOperand, HasTight, HasWhole}
-use Rattle.ckc_parser_expressions.specs.ContextAnswers.{prefix_word, Applies, IsSmall, IsUnwrapped}
+use Rattle.ckc_parser_expressions.specs.ContextAnswers.{Applies, IsSmall, IsUnwrapped}
 use Rattle.ckc_parser_cursor.proofs.Readings.{low_around}
-use Rattle.ckc_parser_grammar.proofs.Paths.{beside_height}
 use Rattle.ckc_parser_grammar.proofs.ExpressionPaths.{Marks, mark, shift, marks_at}
 use Rattle.ckc_parser_expressions.proofs.Contexts.{level_positive, limit_ten, depth_low, unary_spelled, unary_stuck, needs_primary, needs_fails, needs_right, right_too_deep, finished}
-
-pub unary_operator_is : (k : TokenKind) (operator : UnaryOperator) → unary_operator_of k ≡ Some operator → IsUnaryOperator k operator
-unary_operator_is kinds.Star operator e = rw (← same_Some _ _ e) words.deref
-unary_operator_is kinds.Ampersand operator e = rw (← same_Some _ _ e) words.address_of
-unary_operator_is kinds.Minus operator e = rw (← same_Some _ _ e) words.negate
-unary_operator_is kinds.Not operator e = rw (← same_Some _ _ e) words.not
-unary_operator_is kinds.Tilde operator e = rw (← same_Some _ _ e) words.complement
-unary_operator_is _ operator e = absurd (none-some _ e)
-
-no_prefix : (k : TokenKind) → words.open_paren k ≡ false → unary_operator_of k ≡ None → prefix_word k ≡ false
-no_prefix kinds.Star other none = absurd cc
-no_prefix kinds.Ampersand other none = absurd cc
-no_prefix kinds.Minus other none = absurd cc
-no_prefix kinds.Not other none = absurd cc
-no_prefix kinds.Tilde other none = absurd cc
-no_prefix kinds.OpenParen other none = other
-no_prefix _ other none = refl
+use Rattle.ckc_parser_grammar.proofs.Paths.{low_beside}
 
 pub no_prefix_word : {rest : List Token} (ts : List Token) (t : Token) → ts ≡ t ∷ rest → next_is words.open_paren ts ≡ false → None ≡ unary_operator_of t.kind → next_is prefix_word ts ≡ false
-no_prefix_word ts t is other none = rw is (no_prefix t.kind (rw is at other) (sym none))
+no_prefix_word ts t is other none = rw is (rw (rw is at other, ← none) refl)
 
 -- an operator takes tokens
 marks_shorter : {ts us : List Token} {operator : BinaryOperator} → Marks ts operator us → length us < length ts
@@ -58,9 +38,6 @@ marks_shorter shift = omega arith
 
 pub operator_shorter : {us : List Token} {operator : BinaryOperator} (ts : List Token) → operator_at ts ≡ Some (operator, us) → length us < length ts
 operator_shorter ts found = marks_shorter (marks_at ts found)
-
-pub low_beside : (d : ℕ) (p q : Reach) → IsLow d p → IsLow d q → IsLow d (p beside q)
-low_beside d p q first second = omega (arith, (beside_height p q).2)
 
 -- ---- the operand that is needed
 
@@ -73,18 +50,9 @@ needs_in b a ts p e loosest depth fits needs = record {
 pub depth_fits : {b : Base} {a : Around} → IsAround b a → a.depth ≤ 200
 depth_fits {b} {a} is = rw is.depth (depth_low b.loosest b.depth (waiting a.pending.items) is.fits)
 
-no_unary : (k : TokenKind) → prefix_word k ≡ false → primary_word k ≡ false → unary_word k ≡ false
-no_unary kinds.Star h p = h
-no_unary kinds.Ampersand h p = h
-no_unary kinds.Minus h p = h
-no_unary kinds.Not h p = h
-no_unary kinds.Tilde h p = h
-no_unary kinds.OpenParen h p = h
-no_unary _ h p = p
-
 no_unary_next : (ts : List Token) → next_is prefix_word ts ≡ false → next_is primary_word ts ≡ false → next_is unary_word ts ≡ false
 no_unary_next [] h p = refl
-no_unary_next (t ∷ ts) h p = no_unary t.kind h p
+no_unary_next (t ∷ ts) h p = rw (h, p) refl
 
 pub primary_fails : {b : Base} {a : Around} {ts : List Token} {f : Failure} → NeedsOperand b a ts → next_is prefix_word ts ≡ false → FailsPrimary a.depth ts f → Fails b f
 primary_fails {ts} needs h (no_primary p) = needs_fails needs.needs (s.no_expression (no_unary_next ts h p))

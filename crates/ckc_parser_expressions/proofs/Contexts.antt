@@ -11,12 +11,12 @@ use Rattle.ckc_tree.specs.declared.expr.BinaryOperator.{BinaryOperator}
 use Rattle.ckc_tree.specs.declared.expr.BinaryOperator.TheVariants as binary
 use Rattle.ckc_tree.specs.Expressions.{Expression, Binary}
 use Rattle.ckc_tree.specs.Heights.{expression_reach}
-use Rattle.ckc_parser_grammar.specs.Tokens.{token, join, IsUnaryOperator, operator_at, level, has_operator}
+use Rattle.ckc_parser_grammar.specs.Tokens.{token, join, unary_operator_of, operator_at, level, has_operator}
 use Rattle.ckc_parser_grammar.specs.ExpressionGrammar as g
-use Rattle.ckc_parser_grammar.specs.ExpressionGrammar.{SpellsBinary, SpellsTail, SpellsUnary, SpellsPrimary, SpellsSelectors}
+use Rattle.ckc_parser_grammar.specs.ExpressionGrammar.{SpellsBinary, SpellsUnary, SpellsPrimary}
 use Rattle.ckc_parser_grammar.specs.Failures.{Failure, too_deep, IsLow}
 use Rattle.ckc_parser_grammar.specs.StuckExpressions as s
-use Rattle.ckc_parser_grammar.specs.StuckExpressions.{StuckBinary, StuckTail, StuckUnary, StuckPrimary, StuckSelectors, unary_word, close_paren}
+use Rattle.ckc_parser_grammar.specs.StuckExpressions.{StuckBinary, StuckUnary}
 use Rattle.ckc_parser_expressions.specs.Contexts.{Frame, InParens, OperandOf, RightOf, limit, depth_in, Fits, looseness, looser_at, Climbs, there, up, StuckClimb, stuck_here, stuck_above, Selects, Base, Fails, Completes, Needs, GoesIn}
 use Rattle.ckc_parser_cursor.proofs.Readings.{low_around}
 
@@ -157,7 +157,7 @@ needs_parens {b} {p} {start} {ts} needs = record { spelled = λ d low. closes d 
       unclosed = λ h. needs_fails needs (s.primary (s.primary_close d low h));
     }
 
-pub needs_operand : {b : Base} {p : List Frame} {k : TokenKind} {operator : UnaryOperator} {start : Span} {ts : List Token} → IsUnaryOperator k operator → depth_in b.depth p < 200 → Needs b p (token k start ∷ ts) → Needs b (OperandOf operator start ∷ p) ts
+pub needs_operand : {b : Base} {p : List Frame} {k : TokenKind} {operator : UnaryOperator} {start : Span} {ts : List Token} → unary_operator_of k ≡ Some operator → depth_in b.depth p < 200 → Needs b p (token k start ∷ ts) → Needs b (OperandOf operator start ∷ p) ts
 needs_operand is less needs = record {
   spelled = λ d low. needs_unary needs (g.operator is (unary_spelled d)) (low_around _ _ _ less low);
   stuck = λ d. needs_fails needs (s.operator is less (unary_stuck d));

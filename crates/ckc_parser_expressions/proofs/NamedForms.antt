@@ -2,6 +2,7 @@
 use Rattle.std.proofs.Common.{◌≡◌, ℕ, ◌+◌, ◌<◌, Bool, List, ◌∷◌, sym, subst}
 use Rattle.ckc_text.specs.declared.place.Span.{Span}
 use Rattle.ckc_lexer_tokens.specs.declared.token.Token.{Token}
+use Rattle.ckc_lexer_tokens.specs.declared.keyword.Keyword.TheVariants as keywords
 use Rattle.ckc_lexer_tokens.specs.declared.token.TokenKind.TheVariants as kinds
 use Rattle.ckc_tree.specs.declared.identifier.Identifier.{Identifier}
 use Rattle.ckc_tree.specs.Types.{StructType}
@@ -15,9 +16,9 @@ use Rattle.ckc_parser_expressions.specs.Readings.{member_word, member_of, Select
 use Rattle.ckc_parser_expressions.proofs.Selecting.{member_selects}
 
 pub struct_named : {s : Span} {rest : List Token} (x : Identifier) → x.number ≡ 0
-    → SpellsType (token kinds.Struct s ∷ token (kinds.Name x.name) x.span ∷ rest) (StructType x (join s x.span)) rest
+    → SpellsType (token (kinds.Keyword keywords.Struct) s ∷ token (kinds.Name x.name) x.span ∷ rest) (StructType x (join s x.span)) rest
 struct_named {s} {rest} x none =
-    subst (λ (y : Identifier). SpellsType (token kinds.Struct s ∷ token (kinds.Name x.name) x.span ∷ rest) (StructType y (join s x.span)) rest)
+    subst (λ (y : Identifier). SpellsType (token (kinds.Keyword keywords.Struct) s ∷ token (kinds.Name x.name) x.span ∷ rest) (StructType y (join s x.span)) rest)
     (sym (named x none)) grammar.struct
 
 pub member_named : {d : ℕ} {o start : Span} {rest : List Token} {e : Expression} (x : Identifier) → x.number ≡ 0 → (is_arrow : Bool) → d + (expression_reach e).height < 200

@@ -2,8 +2,6 @@
 use Rattle.std.specs.Prelude.{◌≡◌, ◌≤◌, ◌<◌, ℕ, Bool, true, false, List, ◌∷◌, length, Option, Some, None, Result, Ok, Err}
 use Rattle.ckc_text.specs.declared.place.Span.{Span}
 use Rattle.ckc_lexer_tokens.specs.declared.token.Token.{Token}
-use Rattle.ckc_lexer_tokens.specs.declared.token.TokenKind.{TokenKind}
-use Rattle.ckc_lexer_tokens.specs.declared.token.TokenKind.TheVariants as kinds
 use Rattle.ckc_tree.specs.declared.expr.BinaryOperator.{BinaryOperator}
 use Rattle.ckc_tree.specs.Expressions.{Expression, Unary, Binary, expression}
 use Rattle.ckc_parser_expressions.specs.declared.expressions.Around.{Around}
@@ -12,18 +10,9 @@ use Rattle.ckc_parser_expressions.specs.declared.expressions.Pending.TheVariants
 use Rattle.ckc_parser_expressions.specs.declared.operand.Operand.{Operand}
 use Rattle.ckc_parser_cursor.specs.declared.stuck.Stuck.{Stuck}
 use Rattle.ckc_parser_grammar.specs.Tokens.{join, operator_at, level, next_is}
+use Rattle.ckc_parser_grammar.specs.StuckExpressions.{prefix_word}
 use Rattle.ckc_parser_cursor.specs.Answers.{failure}
 use Rattle.ckc_parser_expressions.specs.Contexts.{Frame, InParens, OperandOf, RightOf, waiting, looser_at, Base, Fails, NeedsOperand, HasWhole}
-
--- an operator or a parenthesis before an operand
-abbrev pub prefix_word : TokenKind → Bool
-prefix_word kinds.Star = true
-prefix_word kinds.Ampersand = true
-prefix_word kinds.Minus = true
-prefix_word kinds.Not = true
-prefix_word kinds.Tilde = true
-prefix_word kinds.OpenParen = true
-prefix_word _ = false
 
 -- taking one operator or parenthesis before an operand, where one stands next
 abbrev pub IsPrefix : Base → Around → Result Bool Stuck → List Token → Type 0

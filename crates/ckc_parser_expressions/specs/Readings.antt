@@ -5,11 +5,6 @@ use Rattle.ckc_text.specs.declared.place.Span.{Span}
 use Rattle.ckc_lexer_tokens.specs.declared.token.Token.{Token}
 use Rattle.ckc_lexer_tokens.specs.declared.token.TokenKind.{TokenKind}
 use Rattle.ckc_lexer_tokens.specs.declared.token.TokenKind.TheVariants as kinds
-use Rattle.ckc_tree.specs.declared.type_form.PointerWord.{PointerWord}
-use Rattle.ckc_tree.specs.declared.type_form.PointerMode.TheVariants as modes
-use Rattle.ckc_tree.specs.declared.type_form.PointerKind.TheVariants as counts
-use Rattle.ckc_tree.specs.declared.expr.UnaryOperator.{UnaryOperator}
-use Rattle.ckc_tree.specs.declared.expr.UnaryOperator.TheVariants as unary
 use Rattle.ckc_tree.specs.Types.{TypeTree, TypeName}
 use Rattle.ckc_tree.specs.declared.identifier.Identifier.{Identifier}
 use Rattle.ckc_tree.specs.declared.expr.Expr.{Expr}

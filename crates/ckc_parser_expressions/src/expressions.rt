@@ -22,12 +22,13 @@ use crate::operand::Operand;
 use crate::primary::{primary, starts_primary};
 use ckc_lexer_tokens::token::{Token, TokenKind};
 use ckc_parser_cursor::depth::Depth;
+use ckc_parser_cursor::kinds::unary_operator;
 use ckc_parser_cursor::memory::push;
 use ckc_parser_cursor::operators::{self, binary_operator, level};
 use ckc_parser_cursor::spans::join;
 use ckc_parser_cursor::stuck::Stuck;
 use ckc_parser_cursor::terminal::{Terminal, expect};
-use ckc_parser_cursor::tokens::{close_paren, identifier, open_paren, unary_operator};
+use ckc_parser_cursor::tokens::{close_paren, identifier, open_paren};
 use ckc_text::place::Span;
 use ckc_tree::expr::{BinaryOperator, UnaryOperator};
 use std::alloc::Global;
@@ -62,15 +63,7 @@ struct Around {
 pub fn starts_unary(kind: &TokenKind) -> bool
     ensures { result ≡ unary_word kind.now }
 {
-    matches!(
-        kind,
-        TokenKind::Star
-            | TokenKind::Ampersand
-            | TokenKind::Minus
-            | TokenKind::Not
-            | TokenKind::Tilde
-            | TokenKind::OpenParen
-    ) || starts_primary(kind)
+    matches!(kind, TokenKind::OpenParen) || unary_operator(kind).is_some() || starts_primary(kind)
 }
 
 /// An expression with at most `depth` nodes around it.

@@ -1,13 +1,14 @@
 // Reading the smallest expressions, with what stands in their own parentheses.
 
-ghost use Rattle.std.specs.Prelude.{◌≡◌, ◌≤◌, ◌<◌, ◌∷◌, ◌++◌, [], IfOk};
+ghost use Rattle.std.specs.Prelude.{◌≡◌, ◌≤◌, ◌<◌, ◌∷◌, ◌++◌, [], IfOk, Some};
 ghost use Rattle.ckc_lexer_tokens.specs.declared.token.TokenKind.{TokenKind as Kind};
+ghost use Rattle.ckc_lexer_tokens.specs.declared.keyword.Keyword.TheVariants as keywords;
 ghost use Rattle.ckc_lexer_tokens.specs.declared.token.TokenKind.TheVariants as kinds;
 ghost use Rattle.ckc_tree.specs.Types.{type_tree};
 ghost use Rattle.ckc_tree.specs.Expressions as trees;
 ghost use Rattle.ckc_tree.specs.Expressions.{expression};
 ghost use Rattle.ckc_tree.specs.Heights.{◌beside◌, type_reach, expression_reach, expressions_reach};
-ghost use Rattle.ckc_parser_grammar.specs.Tokens.{token, IsCastWord, IsMallocWord, IsCallocWord};
+ghost use Rattle.ckc_parser_grammar.specs.Tokens.{token, cast_word_of, malloc_word_of, calloc_word_of};
 ghost use Rattle.ckc_parser_grammar.specs.StuckExpressions.{primary_word, StuckPrimary, StuckArguments, StuckMoreArguments};
 ghost use Rattle.ckc_parser_grammar.specs.Failures.{IsLow};
 ghost use Rattle.ckc_parser_cursor.specs.Answers.{Reads, Opens, TakesTokens, MayTakeTokens};
@@ -23,8 +24,10 @@ use crate::expressions::{expression, expression_before};
 use crate::operand::{Operand, Reach};
 use crate::types::{ReadTypeName, angled, type_name};
 use ckc_text::listed::Listed;
+use ckc_lexer_tokens::keyword::Keyword;
 use ckc_lexer_tokens::token::{Token, TokenKind};
 use ckc_parser_cursor::depth::Depth;
+use ckc_parser_cursor::kinds::{calloc_word, cast_word, malloc_word};
 use ckc_parser_cursor::memory::push;
 use ckc_parser_cursor::spans::join;
 use ckc_parser_cursor::stuck::Stuck;
@@ -46,14 +49,10 @@ pub fn starts_primary(kind: &TokenKind) -> bool
             | TokenKind::Character(_)
             | TokenKind::Text(_)
             | TokenKind::Name(_)
-            | TokenKind::Sizeof
-            | TokenKind::DynamicBoundsCast
-            | TokenKind::AssumeBoundsCast
-            | TokenKind::Malloc
-            | TokenKind::TMalloc
-            | TokenKind::Calloc
-            | TokenKind::NtCalloc
-    )
+            | TokenKind::Keyword(Keyword::Sizeof)
+    ) || cast_word(kind).is_some()
+        || malloc_word(kind).is_some()
+        || calloc_word(kind).is_some()
 }
 
 /// The first token of an expression without operators and parentheses around it, with at most `depth` nodes around it.
@@ -92,14 +91,13 @@ pub fn primary(depth: Depth, tokens: &mut &[Token]) -> Result<Operand, Stuck>
         }
         TokenKind::Text(text) => text_literal(alloc, text, span),
         TokenKind::Name(name) => name_or_call(depth, name, span, tokens),
-        TokenKind::Sizeof => size_of(depth, span, tokens),
-        TokenKind::DynamicBoundsCast => cast(depth, CastWord::Dynamic, span, tokens),
-        TokenKind::AssumeBoundsCast => cast(depth, CastWord::Assume, span, tokens),
-        TokenKind::Malloc => malloc(depth, MallocWord::Malloc, span, tokens),
-        TokenKind::TMalloc => malloc(depth, MallocWord::TMalloc, span, tokens),
-        TokenKind::Calloc => calloc(depth, CallocWord::Calloc, span, tokens),
-        TokenKind::NtCalloc => calloc(depth, CallocWord::NtCalloc, span, tokens),
-        _ => Err(Stuck::Unexpected),
+        TokenKind::Keyword(Keyword::Sizeof) => size_of(depth, span, tokens),
+        kind => match (cast_word(kind), malloc_word(kind), calloc_word(kind)) {
+            (Some(word), _, _) => cast(depth, word, span, tokens),
+            (_, Some(word), _) => malloc(depth, word, span, tokens),
+            (_, _, Some(word)) => calloc(depth, word, span, tokens),
+            _ => Err(Stuck::Unexpected),
+        },
     }
 }
 
@@ -198,7 +196,7 @@ fn more_arguments(
 /// The type and the parentheses behind the word `sizeof`.
 fn size_of(depth: Depth, word: Span, tokens: &mut &[Token]) -> Result<Operand, Stuck>
     requires { depth < 200 }
-    ensures reads { Reads (λ x rest. IsPrimary depth (token kinds.Sizeof word ∷ tokens.old.now) (expression x.expr.value) x.outer rest) (StuckPrimary depth (token kinds.Sizeof word ∷ tokens.old.now)) result tokens.new.now }
+    ensures reads { Reads (λ x rest. IsPrimary depth (token (kinds.Keyword keywords.Sizeof) word ∷ tokens.old.now) (expression x.expr.value) x.outer rest) (StuckPrimary depth (token (kinds.Keyword keywords.Sizeof) word ∷ tokens.old.now)) result tokens.new.now }
     ensures shorter { TakesTokens tokens.old.now result tokens.new.now }
 {
     open_paren(tokens)?;
@@ -239,7 +237,7 @@ fn typed_operand(depth: Depth, tokens: &mut &[Token]) -> Result<Typed, Stuck>
 #[cycle(expressions)]
 fn cast(depth: Depth, word: CastWord, start: Span, tokens: &mut &[Token]) -> Result<Operand, Stuck>
     requires { depth < 200 }
-    ensures reads { (k : Kind) → IsCastWord k word → Reads (λ x rest. IsPrimary depth (token k start ∷ tokens.old.now) (expression x.expr.value) x.outer rest) (StuckPrimary depth (token k start ∷ tokens.old.now)) result tokens.new.now }
+    ensures reads { (k : Kind) → cast_word_of k ≡ Some word → Reads (λ x rest. IsPrimary depth (token k start ∷ tokens.old.now) (expression x.expr.value) x.outer rest) (StuckPrimary depth (token k start ∷ tokens.old.now)) result tokens.new.now }
     ensures shorter { TakesTokens tokens.old.now result tokens.new.now }
 {
     let alloc = depth.alloc();
@@ -274,7 +272,7 @@ fn malloc(
     tokens: &mut &[Token],
 ) -> Result<Operand, Stuck>
     requires { depth < 200 }
-    ensures reads { (k : Kind) → IsMallocWord k word → Reads (λ x rest. IsPrimary depth (token k start ∷ tokens.old.now) (expression x.expr.value) x.outer rest) (StuckPrimary depth (token k start ∷ tokens.old.now)) result tokens.new.now }
+    ensures reads { (k : Kind) → malloc_word_of k ≡ Some word → Reads (λ x rest. IsPrimary depth (token k start ∷ tokens.old.now) (expression x.expr.value) x.outer rest) (StuckPrimary depth (token k start ∷ tokens.old.now)) result tokens.new.now }
     ensures shorter { TakesTokens tokens.old.now result tokens.new.now }
 {
     let parts = typed_operand(depth.deeper(), tokens)?;
@@ -291,7 +289,7 @@ fn calloc(
     tokens: &mut &[Token],
 ) -> Result<Operand, Stuck>
     requires { depth < 200 }
-    ensures reads { (k : Kind) → IsCallocWord k word → Reads (λ x rest. IsPrimary depth (token k start ∷ tokens.old.now) (expression x.expr.value) x.outer rest) (StuckPrimary depth (token k start ∷ tokens.old.now)) result tokens.new.now }
+    ensures reads { (k : Kind) → calloc_word_of k ≡ Some word → Reads (λ x rest. IsPrimary depth (token k start ∷ tokens.old.now) (expression x.expr.value) x.outer rest) (StuckPrimary depth (token k start ∷ tokens.old.now)) result tokens.new.now }
     ensures shorter { TakesTokens tokens.old.now result tokens.new.now }
 {
     let below = depth.deeper();

@@ -1,6 +1,6 @@
 // Reading types.
 
-ghost use Rattle.std.specs.Prelude.{◌≡◌, ◌≤◌, ◌<◌, ◌∷◌, ℕ, length};
+ghost use Rattle.std.specs.Prelude.{◌≡◌, ◌≤◌, ◌<◌, ◌∷◌, ℕ, length, Some};
 ghost use Rattle.ckc_tree.specs.Heights.{node, type_reach};
 ghost use Rattle.ckc_tree.specs.Types.{type_tree, type_span, type_name as type_name_of};
 ghost use Rattle.ckc_parser_grammar.specs.TypeGrammar.{SpellsStars};
@@ -8,19 +8,21 @@ ghost use Rattle.ckc_parser_grammar.specs.StuckTypes.{type_word, StuckType, Stuc
 ghost use Rattle.ckc_parser_cursor.specs.Answers.{Reads, Opens, TakesTokens};
 ghost use Rattle.ckc_parser_expressions.specs.Reaches.{reach_of};
 ghost use Rattle.ckc_parser_expressions.specs.Readings.{IsType, IsTypeName, IsAngled};
-ghost use Rattle.ckc_parser_cursor.specs.WordReadings.{pointer_word_of};
-ghost use Rattle.ckc_parser_grammar.specs.Tokens.{token, IsPointerWord};
+ghost use Rattle.ckc_parser_grammar.specs.Tokens.{token, pointer_word_of};
 ghost use Rattle.ckc_lexer_tokens.specs.declared.token.TokenKind.{TokenKind as Kind};
+ghost use Rattle.ckc_lexer_tokens.specs.declared.keyword.Keyword.TheVariants as keywords;
 ghost use Rattle.ckc_lexer_tokens.specs.declared.token.TokenKind.TheVariants as kinds;
 
 use crate::operand::Reach;
+use ckc_lexer_tokens::keyword::Keyword;
 use ckc_lexer_tokens::token::{Token, TokenKind};
 use ckc_parser_cursor::depth::Depth;
+use ckc_parser_cursor::kinds::pointer_word;
 use ckc_parser_cursor::spans::join;
 use ckc_parser_cursor::stuck::Stuck;
 use ckc_parser_cursor::tokens::{greater, identifier, less, open_paren, star};
 use ckc_text::place::Span;
-use ckc_tree::type_form::{PointerKind, PointerMode, PointerWord, TypeForm, TypeName};
+use ckc_tree::type_form::{PointerWord, TypeForm, TypeName};
 use std::alloc::Global;
 
 /// A type without stars, with its span and its reach.
@@ -43,38 +45,16 @@ pub struct ReadTypeName {
     ghost exact: { reach_of reach ≡ type_reach (type_tree type_name.base) },
 }
 
-/// What a pointer word says.
-pub fn pointer_word(kind: &TokenKind) -> Option<PointerWord>
-    ensures { result ≡ pointer_word_of kind.now }
-{
-    let (mode, kind) = match kind {
-        TokenKind::Ptr => (PointerMode::Checked, PointerKind::One),
-        TokenKind::ArrayPtr => (PointerMode::Checked, PointerKind::Array),
-        TokenKind::NtArrayPtr => (PointerMode::Checked, PointerKind::NullTerminated),
-        TokenKind::TPtr => (PointerMode::Tainted, PointerKind::One),
-        TokenKind::TArrayPtr => (PointerMode::Tainted, PointerKind::Array),
-        TokenKind::TNtArrayPtr => (PointerMode::Tainted, PointerKind::NullTerminated),
-        _ => return None,
-    };
-    Some(PointerWord { mode, kind })
-}
-
 /// Whether a token is the first of a type.
 pub fn starts_type(kind: &TokenKind) -> bool
     ensures { result ≡ type_word kind.now }
 {
     matches!(
         kind,
-        TokenKind::Int
-            | TokenKind::Char
-            | TokenKind::Struct
-            | TokenKind::Ptr
-            | TokenKind::ArrayPtr
-            | TokenKind::NtArrayPtr
-            | TokenKind::TPtr
-            | TokenKind::TArrayPtr
-            | TokenKind::TNtArrayPtr
-    )
+        TokenKind::Keyword(Keyword::Int)
+            | TokenKind::Keyword(Keyword::Char)
+            | TokenKind::Keyword(Keyword::Struct)
+    ) || pointer_word(kind).is_some()
 }
 
 /// Takes all stars that stand here, and counts them.
@@ -114,9 +94,9 @@ pub fn type_form(depth: Depth, tokens: &mut &[Token]) -> Result<ReadType, Stuck>
     let token = type_word(depth, tokens)?;
     let span = token.span;
     match &token.kind {
-        TokenKind::Int => Ok(innermost(TypeForm::Int { span }, span)),
-        TokenKind::Char => Ok(innermost(TypeForm::Char { span }, span)),
-        TokenKind::Struct => struct_type(depth.alloc(), span, tokens),
+        TokenKind::Keyword(Keyword::Int) => Ok(innermost(TypeForm::Int { span }, span)),
+        TokenKind::Keyword(Keyword::Char) => Ok(innermost(TypeForm::Char { span }, span)),
+        TokenKind::Keyword(Keyword::Struct) => struct_type(depth.alloc(), span, tokens),
         kind => match pointer_word(kind) {
             Some(word) => pointer_type(depth, word, span, tokens),
             None => Err(Stuck::Unexpected),
@@ -136,7 +116,7 @@ fn innermost(form: TypeForm, span: Span) -> ReadType
 
 /// The type behind the word `struct` with this span.
 fn struct_type(alloc: Global, word: Span, tokens: &mut &[Token]) -> Result<ReadType, Stuck>
-    ensures reads { (d : ℕ) → d < 200 → Reads (λ x rest. IsType d (token kinds.Struct word ∷ tokens.old.now) (type_tree x.form) rest) (StuckType d (token kinds.Struct word ∷ tokens.old.now)) result tokens.new.now }
+    ensures reads { (d : ℕ) → d < 200 → Reads (λ x rest. IsType d (token (kinds.Keyword keywords.Struct) word ∷ tokens.old.now) (type_tree x.form) rest) (StuckType d (token (kinds.Keyword keywords.Struct) word ∷ tokens.old.now)) result tokens.new.now }
     ensures shorter { TakesTokens tokens.old.now result tokens.new.now }
 {
     let tag = identifier(alloc, tokens)?;
@@ -153,7 +133,7 @@ fn pointer_type(
     tokens: &mut &[Token],
 ) -> Result<ReadType, Stuck>
     requires { depth < 200 }
-    ensures reads { (k : Kind) → IsPointerWord k word → Reads (λ x rest. IsType depth (token k start ∷ tokens.old.now) (type_tree x.form) rest) (StuckType depth (token k start ∷ tokens.old.now)) result tokens.new.now }
+    ensures reads { (k : Kind) → pointer_word_of k ≡ Some word → Reads (λ x rest. IsType depth (token k start ∷ tokens.old.now) (type_tree x.form) rest) (StuckType depth (token k start ∷ tokens.old.now)) result tokens.new.now }
     ensures shorter { TakesTokens tokens.old.now result tokens.new.now }
 {
     less(tokens)?;

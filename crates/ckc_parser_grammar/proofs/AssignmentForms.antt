@@ -1,5 +1,6 @@
 -- Assignments as forms that are built of others: reading them goes one way, and where they are stuck they fail.
-use Rattle.std.proofs.Common.{◌≡◌, ◌≤◌, ◌<◌, ◌||◌, ◌⊎◌, inl, ℕ, zero, suc, length, Bool, true, false, List, [], ◌∷◌, refl, sym, ap, subst, ◌∙◌, arith}
+use Rattle.std.proofs.Common.{◌≡◌, ◌≤◌, ◌<◌, ◌||◌, ◌⊎◌, inl, ℕ, zero, suc, length, Bool, true, false, List, [], ◌∷◌, refl, sym, ap, subst, ◌∙◌, arith, Some}
+use Rattle.std.specs.Option.{is_some}
 use Rattle.ckc_text.specs.declared.place.Span.{Span}
 use Rattle.ckc_lexer_tokens.specs.declared.token.Token.{Token}
 use Rattle.ckc_lexer_tokens.specs.declared.token.TokenKind.{TokenKind}
@@ -9,8 +10,7 @@ use Rattle.ckc_tree.specs.declared.stmt.StepOperator.{StepOperator}
 use Rattle.ckc_tree.specs.Expressions.{Expression}
 use Rattle.ckc_tree.specs.Statements.{Assignment, assignment_span}
 use Rattle.ckc_tree.specs.Heights.{Reach, nowhere, around, ◌beside◌, expression_reach, assigned_reach, assignment_reach, assignments_reach}
-use Rattle.ckc_parser_grammar.specs.Tokens as words
-use Rattle.ckc_parser_grammar.specs.Tokens.{token, next_is, start_of, IsStoreOperator, IsStepOperator}
+use Rattle.ckc_parser_grammar.specs.Tokens.{token, next_is, store_operator_of, step_operator_of}
 use Rattle.ckc_parser_grammar.specs.ExpressionGrammar.{SpellsUnary}
 use Rattle.ckc_parser_grammar.specs.StatementGrammar as g
 use Rattle.ckc_parser_grammar.specs.StatementGrammar.{SpellsAssignment, SpellsAssignments}
@@ -22,16 +22,18 @@ use Rattle.ckc_parser_grammar.specs.Failures.{Failure}
 use Rattle.ckc_parser_grammar.specs.StuckExpressions.{unary_word}
 use Rattle.ckc_parser_grammar.specs.StuckStatements as stuck
 use Rattle.ckc_parser_grammar.specs.StuckStatements.{semicolon, close_brace, step_word, assign_word, assignment_word, StuckAssignment, StuckAssignments}
-use Rattle.ckc_parser_grammar.proofs.Paths.{around_height}
+use Rattle.ckc_parser_grammar.proofs.Paths.{beside_nowhere, around_height}
 use Rattle.ckc_parser_grammar.proofs.Whole.{unary_begins}
-use Rattle.ckc_parser_grammar.proofs.Forms.{end_length, Is, it, ExactBelow, Exact, exact_on_all, none_below, below, seq_all, ended_all, after_all, either_exact, either_all, same_all, done_all, after_exact, done_exact, never, SeqS, SeqB, seq, in_first, in_second, EndedS, EndedB, before_end, end, AfterS, AfterB, not_yet, after, EitherS, yes, no, DoneS, done, HeadS, HeadB, none_yet, headed, OneHead, same_exact}
+use Rattle.ckc_parser_grammar.proofs.Forms.{end_length, Is, it, ExactBelow, Exact, exact_on_all, none_below, below, seq_all, ended_all, after_all, either_exact, either_all, same_all, done_all, after_exact, done_exact, SeqS, SeqB, seq, in_first, in_second, EndedS, EndedB, before_end, end, AfterS, AfterB, not_yet, after, EitherS, yes, no, DoneS, done, HeadS, HeadB, none_yet, headed, OneHead, same_exact}
+use Rattle.ckc_parser_grammar.proofs.Ahead.{never}
 use Rattle.ckc_parser_grammar.proofs.Failing as failing
-use Rattle.ckc_parser_grammar.proofs.Failing.{Fails, beside_nowhere, fails_first, fails_second, fails_before_end, fails_at_end, fails_after, fails_at_first, fails_as, fails_headed, fails_unheaded, fails_yes, fails_no}
+use Rattle.ckc_parser_grammar.proofs.Failing.{Fails, fails_first, fails_second, fails_before_end, fails_at_end, fails_after, fails_as, fails_headed, fails_unheaded, fails_yes, fails_no}
 use Rattle.ckc_parser_grammar.proofs.ExpressionLinks.{BinaryS, binary}
 use Rattle.ckc_parser_grammar.proofs.ExpressionForms.{some_node, UnaryS, unary, binary_exact, unary_exact}
 use Rattle.ckc_parser_grammar.proofs.ExpressionFails.{binary_fails, unary_fails}
 use Rattle.ckc_parser_grammar.proofs.MoreForms.{is_it, head_all, Starts, PutsFirst, Apart, next_apart, or_right, starts_whole, fails_unstarted, list_exact, PutS, put, put_all, put_node, fails_put, fails_put_deep, seq_first, begun_node, begun_nothing, beside_high, reach_is}
 use Rattle.ckc_parser_grammar.proofs.Starting.{unary_starts, unary_at, unary_shorter, unary_first, unread}
+use Rattle.ckc_parser_grammar.proofs.Words.{store_step, each_store_operator, each_step_operator}
 
 -- ---- one assignment, which is a node
 
@@ -39,11 +41,7 @@ pub data AssignmentS : List Token → List Token → Reach → Type 0 where
   assigned : {x : Assignment} {ts m : List Token} → SpellsAssignment ts x m → AssignmentS ts m (assignment_reach x)
 
 pub data IsStep : TokenKind → Type 0 where
-  step : {k : TokenKind} {w : StepOperator} → IsStepOperator k w → IsStep k
-
-pub step_is : {k : TokenKind} {w : StepOperator} → IsStepOperator k w → step_word k ≡ true
-step_is words.increment = refl
-step_is words.decrement = refl
+  step : {k : TokenKind} {w : StepOperator} → step_operator_of k ≡ Some w → IsStep k
 
 -- what stands behind a target
 pub data Assign : Type 0 where
@@ -51,18 +49,13 @@ pub data Assign : Type 0 where
   steps : Assign
 
 pub data IsAssign : TokenKind → Assign → Type 0 where
-  store : {k : TokenKind} {w : StoreOperator} → IsStoreOperator k w → IsAssign k stores
-  step : {k : TokenKind} {w : StepOperator} → IsStepOperator k w → IsAssign k steps
-
-pub store_step : {k : TokenKind} {v : StoreOperator} {w : StepOperator} {A : Type 0} → IsStoreOperator k v → IsStepOperator k w → A
-store_step words.set w = elim w [ ]
-store_step words.add w = elim w [ ]
-store_step words.subtract w = elim w [ ]
+  store : {k : TokenKind} {w : StoreOperator} → store_operator_of k ≡ Some w → IsAssign k stores
+  step : {k : TokenKind} {w : StepOperator} → step_operator_of k ≡ Some w → IsAssign k steps
 
 one_assign : OneHead IsAssign
 one_assign k h i (store w) (store v) = refl
-one_assign k h i (store w) (step v) = store_step w v
-one_assign k h i (step w) (store v) = store_step v w
+one_assign k h i (store w) (step v) = store_step k w v
+one_assign k h i (step w) (store v) = store_step k v w
 one_assign k h i (step w) (step v) = refl
 
 abbrev AssignBehindS : Assign → ℕ → List Token → List Token → Reach → Type 0
@@ -121,13 +114,13 @@ target_node {x} {r} start d c = put_node target_exact start (in_second (unary d)
 step_node : (k : TokenKind) (s : Span) {ts rest : List Token} {r : Reach} → BeginsUnary ts rest r → begun (token k s ∷ ts) rest r ≡ around s.from r
 step_node k s {ts} {rest} {r} c = begun_node (token k s ∷ ts) rest r (omega (arith, end_length (unary_exact.ended c)))
 
-after_node : {k : TokenKind} {s o : Span} {ts rest : List Token} {x : Expression} {w : StepOperator} → SpellsUnary ts x o (token k s ∷ rest) → IsStepOperator k w → begun ts rest (expression_reach x beside nowhere) ≡ around o.from (expression_reach x)
+after_node : {k : TokenKind} {s o : Span} {ts rest : List Token} {x : Expression} {w : StepOperator} → SpellsUnary ts x o (token k s ∷ rest) → step_operator_of k ≡ Some w → begun ts rest (expression_reach x beside nowhere) ≡ around o.from (expression_reach x)
 after_node {o} {x} d w = target_node o.from d (headed (step w) done) ∙ ap (around o.from) (beside_nowhere (expression_reach x))
 
 assignment_to : (ts m : List Token) (r : Reach) → AssignmentS ts m r → PutS AssignedS ts m r
 assignment_to ts m r (assigned (g.store {o} d w e)) = reach_is (PutS AssignedS) (target_node o.from d (headed (store w) ((binary_exact 10).spelled (binary e)))) (put (no (no_step d) (seq (unary d) (headed (store w) (binary e)))))
 assignment_to ts m r (assigned (g.after d w)) = reach_is (PutS AssignedS) (after_node d w) (put (no (no_step d) (seq (unary d) (headed (step w) done))))
-assignment_to ts m r (assigned (g.before {k} {s} w d)) = reach_is (PutS AssignedS) (step_node k s (unary_begins d)) (put (yes (step_is w) (after (step w) (unary d))))
+assignment_to ts m r (assigned (g.before {k} {s} w d)) = reach_is (PutS AssignedS) (step_node k s (unary_begins d)) (put (yes (ap is_some w) (after (step w) (unary d))))
 
 assignment_begin : (ts m : List Token) (r : Reach) → AssignmentS ts m r → BeginsAssignment ts m r
 assignment_begin ts m r (assigned (g.store d w e)) = b.value d w ((binary_exact 10).spelled (binary e))
@@ -138,7 +131,7 @@ assignment_into : (ts rest : List Token) (q : Reach) → BeginsAssignment ts res
 assignment_into ts rest q (b.target c) = put (target_into _ _ _ c)
 assignment_into ts rest q (b.value {o} d w c) = reach_is (PutS AssignedB) (target_node o.from d (headed (store w) c)) (put (no (no_step d) (in_second (unary d) (headed (store w) c))))
 assignment_into ts rest q (b.after d w) = reach_is (PutS AssignedB) (after_node d w) (put (no (no_step d) (in_second (unary d) (headed (step w) done))))
-assignment_into ts rest q (b.before {k} {s} w c) = reach_is (PutS AssignedB) (step_node k s c) (put (yes (step_is w) (after (step w) c)))
+assignment_into ts rest q (b.before {k} {s} w c) = reach_is (PutS AssignedB) (step_node k s c) (put (yes (ap is_some w) (after (step w) c)))
 
 assignment_from : (ts rest : List Token) (q : Reach) → PutS AssignedB ts rest q → BeginsAssignment ts rest q
 assignment_from ts rest q (put (yes so not_yet)) = b.target (unary_starts.here ts)
@@ -176,7 +169,7 @@ assignment_none : {ts rest : List Token} {q : Reach} → BeginsAssignment ts res
 assignment_none {ts} (b.target c) so = unary_starts.none c (no_unary ts so)
 assignment_none {ts} (b.value d w c) so = never (unary_assigns ts (unary_at d)) so
 assignment_none {ts} (b.after d w) so = never (unary_assigns ts (unary_at d)) so
-assignment_none (b.before {k} w c) so = never (step_assigns k (step_is w)) so
+assignment_none (b.before {k} w c) so = never (step_assigns k (ap is_some w)) so
 
 pub assignment_starts : Starts assignment_word BeginsAssignment
 assignment_starts = record { none = assignment_none; here = λ ts. reach_is BeginsAssignment (begun_nothing ts nowhere) (b.target (unary_starts.here ts)) }
@@ -196,8 +189,8 @@ target_first : PutsFirst unary_word TargetB
 target_first = seq_first unary_exact operator_exact unary_s_shorter unary_first
 
 step_one : {k : TokenKind} {s : Span} {rest : List Token} → step_word k ≡ true → (r : Reach) × AssignedB (token k s ∷ rest) rest r
-step_one {k = kinds.PlusPlus} so = (_, yes refl (after (step words.increment) (unary_starts.here _)))
-step_one {k = kinds.MinusMinus} so = (_, yes refl (after (step words.decrement) (unary_starts.here _)))
+step_one {k = kinds.PlusPlus} so = (_, yes refl (after (step refl) (unary_starts.here _)))
+step_one {k = kinds.MinusMinus} so = (_, yes refl (after (step refl) (unary_starts.here _)))
 step_one {k = _} so = absurd cc
 
 assigned_one : {k : TokenKind} {s : Span} {rest : List Token} → assignment_word k ≡ true → (r : Reach) × AssignedB (token k s ∷ rest) rest r
@@ -218,11 +211,8 @@ assigned_first = record { one = assigned_one; start = assigned_start }
 -- ---- where assignments are stuck
 
 assign_is : {k : TokenKind} {h : Assign} → IsAssign k h → assign_word k ≡ true
-assign_is (store words.set) = refl
-assign_is (store words.add) = refl
-assign_is (store words.subtract) = refl
-assign_is (step words.increment) = refl
-assign_is (step words.decrement) = refl
+assign_is (store {k} w) = each_store_operator (λ k. assign_word k ≡ true) k w refl refl refl
+assign_is (step {k} w) = each_step_operator (λ k. assign_word k ≡ true) k w refl refl
 
 no_assign : (ts : List Token) → next_is assign_word ts ≡ false → (k : TokenKind) (s : Span) (us : List Token) (h : Assign) → ts ≡ token k s ∷ us → IsAssign k h → ⊥
 no_assign ts none k s us h is i = never (assign_is i) (subst (λ (x : List Token). next_is assign_word x ≡ false) is none)
@@ -234,7 +224,7 @@ pub assignment_fails : {d : ℕ} {ts : List Token} {f : Failure} → d ≤ 200 �
 assignment_fails low stuck.no_room = failing.no_memory
 assignment_fails low (stuck.no_assignment none) = fails_unstarted assignment_exact assignment_starts (assignment_high _) low none
 assignment_fails low (stuck.deep {k} so deep) = fails_as assignment_to assignment_into assignment_from (fails_put_deep assigned_exact assigned_first (target_into _ _ _ (unary_starts.here _)) low so deep)
-assignment_fails low (stuck.before some w f) = put_fails some (fails_yes (step_is w) (fails_after (step w) unary_exact (unary_fails (omega (arith, some)) f)))
+assignment_fails low (stuck.before some w f) = put_fails some (fails_yes (ap is_some w) (fails_after (step w) unary_exact (unary_fails (omega (arith, some)) f)))
 assignment_fails {ts} low (stuck.target some so f) = put_fails some (fails_no (next_apart unary_apart ts so) (fails_first unary_exact operator_exact (unary_fails (omega (arith, some)) f)))
 assignment_fails low (stuck.operator d high none) = put_fails (omega (arith, high)) (fails_no (no_step d) (fails_second unary_exact operator_exact (unary d) high (fails_unheaded (omega (arith, high)) (no_assign _ none))))
 assignment_fails low (stuck.value {s} some d high w f) = put_fails some (fails_no (no_step d) (fails_second unary_exact operator_exact (unary d) high (fails_headed one_assign (store w) (assign_behind stores s.from) (binary_fails (omega (arith, some)) f))))

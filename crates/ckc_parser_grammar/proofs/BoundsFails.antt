@@ -24,9 +24,10 @@ use Rattle.ckc_parser_grammar.specs.Failures.{Failure, IsLow}
 use Rattle.ckc_parser_grammar.specs.StuckExpressions.{close_paren, bounds_word, unknown_word, is_unknown, goes_on, after_name}
 use Rattle.ckc_parser_grammar.proofs.OneExpression.{first_kind, binary_same, behind}
 use Rattle.ckc_parser_grammar.proofs.ExpressionPaths.{no_binary, Marks, mark, shift, marks_at}
-use Rattle.ckc_parser_grammar.proofs.Forms.{◌ends◌, all, later, end_length, end_same, Is, it, Exact, exact_on_all, below, never, SeqS, SeqB, seq, in_first, in_second, seq_all, before_end, end, ended_all}
+use Rattle.ckc_parser_grammar.proofs.Forms.{◌ends◌, all, later, end_length, end_same, Is, it, Exact, exact_on_all, below, SeqS, SeqB, seq, in_first, in_second, seq_all, before_end, end, ended_all}
+use Rattle.ckc_parser_grammar.proofs.Ahead.{never}
 use Rattle.ckc_parser_grammar.proofs.Failing as failing
-use Rattle.ckc_parser_grammar.proofs.Failing.{Fails, unexpected, too_deep, beside_nowhere, fails_first, fails_second, fails_before_end, fails_at_end, fails_at_first, fails_headed, fails_unheaded, fails_as}
+use Rattle.ckc_parser_grammar.proofs.Failing.{Fails, unexpected, too_deep, fails_first, fails_second, fails_before_end, fails_at_end, fails_at_first, fails_headed, fails_unheaded, fails_as}
 use Rattle.ckc_parser_grammar.proofs.TypeForms.{paren_is}
 use Rattle.ckc_parser_grammar.proofs.ExpressionLinks.{BinaryS, binary}
 use Rattle.ckc_parser_grammar.proofs.PrimaryForms.{BoundsS}

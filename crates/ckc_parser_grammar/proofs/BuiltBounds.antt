@@ -14,7 +14,7 @@ use Rattle.ckc_parser_grammar.specs.ExpressionBeginnings.{BeginsBinary, BeginsBo
 use Rattle.ckc_parser_grammar.proofs.OneExpression.{first_kind}
 use Rattle.ckc_parser_grammar.proofs.ExpressionPaths.{no_binary}
 use Rattle.ckc_parser_grammar.proofs.Forms.{◌ends◌, all, later, end_length, end_trans, Is, it, Read, ExactBelow, tokens_same, within, SeqS, SeqB, seq, in_first, in_second, seq_exact, EndedS, EndedB, before_end, end, ended_exact, AfterS, AfterB, not_yet, after, after_exact, HeadS, HeadB, none_yet, headed, head_exact, OneHead, same_exact}
-use Rattle.ckc_parser_grammar.proofs.Failing.{beside_nowhere}
+use Rattle.ckc_parser_grammar.proofs.Paths.{beside_nowhere}
 use Rattle.ckc_parser_grammar.proofs.ExpressionLinks.{BinaryS, binary}
 use Rattle.ckc_parser_grammar.proofs.PrimaryForms.{BoundsS, written}
 

@@ -1,5 +1,6 @@
 -- Lists of constants as forms that are built of others: reading them goes one way, and where they are stuck they fail.
-use Rattle.std.proofs.Common.{◌≡◌, ◌≤◌, ℕ, zero, suc, true, false, List, ◌∷◌, refl, subst}
+use Rattle.std.proofs.Common.{◌≡◌, ◌≤◌, ℕ, zero, suc, true, false, List, ◌∷◌, refl, subst, ap, Some}
+use Rattle.std.specs.Option.{is_some}
 use Rattle.ckc_text.specs.declared.place.Span.{Span}
 use Rattle.ckc_lexer_tokens.specs.declared.token.Token.{Token}
 use Rattle.ckc_lexer_tokens.specs.declared.token.TokenKind.{TokenKind}
@@ -7,18 +8,20 @@ use Rattle.ckc_lexer_tokens.specs.declared.token.TokenKind.TheVariants as kinds
 use Rattle.ckc_tree.specs.declared.stmt.Constant.{Constant}
 use Rattle.ckc_tree.specs.declared.stmt.SignedConstant.{SignedConstant}
 use Rattle.ckc_tree.specs.Heights.{Reach, nowhere}
-use Rattle.ckc_parser_grammar.specs.Tokens.{token, next_is}
+use Rattle.ckc_parser_grammar.specs.Tokens.{token, next_is, constant_of}
 use Rattle.ckc_parser_grammar.specs.StatementGrammar as g
-use Rattle.ckc_parser_grammar.specs.StatementGrammar.{SpellsOptionalBounds, SpellsOptionalArray, SpellsConstant, SpellsSigned, SpellsConstants, SpellsOptionalInitializer, SpellsDeclarator, SpellsDeclarators, SpellsDeclaration}
+use Rattle.ckc_parser_grammar.specs.StatementGrammar.{SpellsSigned, SpellsConstants}
 use Rattle.ckc_parser_grammar.specs.StatementBeginnings as b
-use Rattle.ckc_parser_grammar.specs.StatementBeginnings.{BeginsOptionalBounds, BeginsOptionalArray, BeginsSigned, BeginsConstants, BeginsOptionalInitializer, BeginsDeclarator, BeginsDeclarators, BeginsDeclaration}
+use Rattle.ckc_parser_grammar.specs.StatementBeginnings.{BeginsSigned, BeginsConstants}
 use Rattle.ckc_parser_grammar.specs.Failures.{Failure}
 use Rattle.ckc_parser_grammar.specs.StuckStatements as stuck
-use Rattle.ckc_parser_grammar.specs.StuckStatements.{open_bracket, open_brace, number_token, constant_token, minus_or_constant, comma_or_brace, StuckOptionalBounds, StuckOptionalArray, StuckSigned, StuckConstants, StuckOptionalInitializer, StuckDeclarator, StuckDeclarators, StuckDeclaration}
-use Rattle.ckc_parser_grammar.proofs.Forms.{ExactBelow, Exact, exact_on_all, none_below, below, after_all, same_all, done_all, never, AfterS, AfterB, not_yet, after, DoneS, done, HeadS, HeadB, none_yet, headed, head_exact, OneHead, same_exact}
+use Rattle.ckc_parser_grammar.specs.StuckStatements.{constant_token, minus_or_constant, comma_or_brace, StuckSigned, StuckConstants}
+use Rattle.ckc_parser_grammar.proofs.Forms.{ExactBelow, Exact, exact_on_all, none_below, below, after_all, same_all, done_all, AfterS, AfterB, not_yet, after, DoneS, done, HeadS, HeadB, none_yet, headed, head_exact, OneHead, same_exact}
+use Rattle.ckc_parser_grammar.proofs.Ahead.{never}
 use Rattle.ckc_parser_grammar.proofs.Failing as failing
-use Rattle.ckc_parser_grammar.proofs.Failing.{Fails, beside_nowhere, fails_first, fails_second, fails_before_end, fails_at_end, fails_after, fails_at_first, fails_as, fails_headed, fails_unheaded, fails_yes, fails_no}
+use Rattle.ckc_parser_grammar.proofs.Failing.{Fails, fails_at_first, fails_as, fails_headed, fails_unheaded}
 use Rattle.ckc_parser_grammar.proofs.MoreForms.{head_all, LeadS, LeadB, lead, in_lead, behind_lead, lead_exact, fails_in_lead, fails_behind_lead}
+use Rattle.ckc_parser_grammar.proofs.Words.{says_nothing, each_constant}
 
 -- ---- one constant with its sign
 
@@ -33,16 +36,16 @@ data Sign : Type 0 where
   negated : Sign
 
 data IsConstant : TokenKind → Type 0 where
-  constant : {k : TokenKind} {c : Constant} → SpellsConstant k c → IsConstant k
+  constant : {k : TokenKind} {c : Constant} → constant_of k ≡ Some c → IsConstant k
 
 data IsSign : TokenKind → Sign → Type 0 where
-  constant : {k : TokenKind} {c : Constant} → SpellsConstant k c → IsSign k unsigned
+  constant : {k : TokenKind} {c : Constant} → constant_of k ≡ Some c → IsSign k unsigned
   minus : IsSign kinds.Minus negated
 
 one_sign : OneHead IsSign
 one_sign k h i (constant c) (constant c') = refl
-one_sign k h i (constant c) minus = elim c [ ]
-one_sign k h i minus (constant c) = elim c [ ]
+one_sign k h i (constant c) minus = says_nothing c
+one_sign k h i minus (constant c) = says_nothing c
 one_sign k h i minus minus = refl
 
 abbrev SignBehindS : Sign → ℕ → List Token → List Token → Reach → Type 0
@@ -80,12 +83,10 @@ pub signed_exact : Exact nowhere SignedS SignedB
 signed_exact = same_all (head_all {base = λ h start. nowhere} one_sign sign_behind_exact) signed_to signed_begin signed_into
 
 constant_is : (k : TokenKind) → IsConstant k → constant_token k ≡ true
-constant_is k (constant g.number) = refl
-constant_is k (constant g.character) = refl
+constant_is k (constant c) = ap is_some c
 
 sign_is : {k : TokenKind} {h : Sign} → IsSign k h → minus_or_constant k ≡ true
-sign_is (constant g.number) = refl
-sign_is (constant g.character) = refl
+sign_is (constant {k} c) = each_constant (λ k. minus_or_constant k ≡ true) k c (λ n. refl) (λ n. refl)
 sign_is minus = refl
 
 no_sign : (ts : List Token) → next_is minus_or_constant ts ≡ false → (k : TokenKind) (s : Span) (us : List Token) (h : Sign) → ts ≡ token k s ∷ us → IsSign k h → ⊥

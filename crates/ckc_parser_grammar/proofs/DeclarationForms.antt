@@ -1,5 +1,6 @@
 -- Declarations as forms that are built of others: reading them goes one way, and where they are stuck they fail.
-use Rattle.std.proofs.Common.{◌≡◌, ◌≤◌, ◌<◌, ℕ, zero, suc, true, false, List, ◌∷◌, Option, refl, sym, subst, arith}
+use Rattle.std.proofs.Common.{◌≡◌, ◌≤◌, ◌<◌, ℕ, zero, suc, true, false, List, ◌∷◌, Option, refl, sym, subst, arith, ap, Some}
+use Rattle.std.specs.Option.{is_some}
 use Rattle.ckc_text.specs.declared.place.Span.{Span}
 use Rattle.ckc_lexer_tokens.specs.declared.token.Token.{Token}
 use Rattle.ckc_lexer_tokens.specs.declared.token.TokenKind.{TokenKind}
@@ -11,24 +12,25 @@ use Rattle.ckc_tree.specs.Expressions.{Bounds}
 use Rattle.ckc_tree.specs.Statements.{Initializer, Declarator, Declaration}
 use Rattle.ckc_tree.specs.Heights.{Reach, nowhere, around, ◌beside◌, type_reach, optional_bounds_reach, optional_initializer_reach, declarator_reach, declarators_reach, declared_reach}
 use Rattle.ckc_parser_grammar.specs.Tokens as words
-use Rattle.ckc_parser_grammar.specs.Tokens.{token, next_is, start_of, from_first, IsArrayWord}
+use Rattle.ckc_parser_grammar.specs.Tokens.{token, next_is, from_first, array_kind_of}
 use Rattle.ckc_parser_grammar.specs.TypeGrammar.{SpellsStars, SpellsType}
 use Rattle.ckc_parser_grammar.specs.StatementGrammar as g
-use Rattle.ckc_parser_grammar.specs.StatementGrammar.{SpellsOptionalBounds, SpellsOptionalArray, SpellsConstant, SpellsSigned, SpellsConstants, SpellsOptionalInitializer, SpellsDeclarator, SpellsDeclarators, SpellsDeclaration}
+use Rattle.ckc_parser_grammar.specs.StatementGrammar.{SpellsOptionalBounds, SpellsOptionalArray, SpellsOptionalInitializer, SpellsDeclarator, SpellsDeclarators, SpellsDeclaration}
 use Rattle.ckc_parser_grammar.specs.TypeBeginnings as tb
-use Rattle.ckc_parser_grammar.specs.TypeBeginnings.{begun, BeginsStars, BeginsType}
+use Rattle.ckc_parser_grammar.specs.TypeBeginnings.{begun, BeginsType}
 use Rattle.ckc_parser_grammar.specs.StatementBeginnings as b
-use Rattle.ckc_parser_grammar.specs.StatementBeginnings.{BeginsOptionalBounds, BeginsOptionalArray, BeginsSigned, BeginsConstants, BeginsOptionalInitializer, BeginsDeclarator, BeginsDeclarators, BeginsDeclaration}
+use Rattle.ckc_parser_grammar.specs.StatementBeginnings.{BeginsOptionalBounds, BeginsOptionalArray, BeginsOptionalInitializer, BeginsDeclarator, BeginsDeclarators, BeginsDeclaration}
 use Rattle.ckc_parser_grammar.specs.ExpressionBeginnings.{BeginsBinary, BeginsBounds}
 use Rattle.ckc_parser_grammar.specs.Failures.{Failure}
 use Rattle.ckc_parser_grammar.specs.StuckTypes.{name_token, type_word}
 use Rattle.ckc_parser_grammar.specs.StuckExpressions.{unary_word, close_bracket}
 use Rattle.ckc_parser_grammar.specs.StuckStatements as stuck
-use Rattle.ckc_parser_grammar.specs.StuckStatements.{open_bracket, open_brace, number_token, constant_token, minus_or_constant, comma_or_brace, StuckOptionalBounds, StuckOptionalArray, StuckSigned, StuckConstants, StuckOptionalInitializer, StuckDeclarator, StuckDeclarators, StuckDeclaration}
-use Rattle.ckc_parser_grammar.proofs.Paths.{around_height}
-use Rattle.ckc_parser_grammar.proofs.Forms.{Is, it, IsName, name, ExactBelow, Exact, exact_on_all, none_below, below, seq_all, ended_all, after_all, either_all, same_all, done_all, never, SeqS, SeqB, seq, in_first, in_second, seq_exact, EndedS, EndedB, before_end, end, AfterS, AfterB, not_yet, after, EitherS, yes, no, DoneS, done, same_exact}
+use Rattle.ckc_parser_grammar.specs.StuckStatements.{open_bracket, open_brace, number_token, StuckOptionalBounds, StuckOptionalArray, StuckOptionalInitializer, StuckDeclarator, StuckDeclarators, StuckDeclaration}
+use Rattle.ckc_parser_grammar.proofs.Paths.{beside_nowhere, around_height}
+use Rattle.ckc_parser_grammar.proofs.Forms.{Is, it, IsName, name, ExactBelow, Exact, exact_on_all, none_below, below, seq_all, ended_all, after_all, either_all, same_all, done_all, SeqS, SeqB, seq, in_first, in_second, seq_exact, EndedS, EndedB, before_end, end, AfterS, AfterB, not_yet, after, EitherS, yes, no, DoneS, done, same_exact}
+use Rattle.ckc_parser_grammar.proofs.Ahead.{never}
 use Rattle.ckc_parser_grammar.proofs.Failing as failing
-use Rattle.ckc_parser_grammar.proofs.Failing.{Fails, beside_nowhere, fails_first, fails_second, fails_before_end, fails_at_end, fails_after, fails_at_first, fails_as, fails_headed, fails_unheaded, fails_yes, fails_no}
+use Rattle.ckc_parser_grammar.proofs.Failing.{Fails, fails_first, fails_second, fails_at_end, fails_after, fails_at_first, fails_as, fails_yes, fails_no}
 use Rattle.ckc_parser_grammar.proofs.ConstantForms.{ConstantsS, ConstantsB, listed, spelled_begin, constants_exact, constants_fails}
 use Rattle.ckc_parser_grammar.proofs.TypeForms.{StarsS, StarsB, stars, stars_exact, TypeS, type, type_exact, type_fails}
 use Rattle.ckc_parser_grammar.proofs.ExpressionLinks.{BinaryS, binary}
@@ -78,14 +80,13 @@ pub data OptionalArrayB : List Token → List Token → Reach → Type 0 where
   arrayed : {ts rest : List Token} → BeginsOptionalArray ts rest → OptionalArrayB ts rest nowhere
 
 data IsArray : TokenKind → Type 0 where
-  array : {k : TokenKind} {w : ArrayKind} → IsArrayWord k w → IsArray k
+  array : {k : TokenKind} {w : ArrayKind} → array_kind_of k ≡ Some w → IsArray k
 
 data IsNumber : TokenKind → Type 0 where
   number : {n : ℕ} → IsNumber (kinds.Number n)
 
 array_is : (k : TokenKind) → IsArray k → words.array_word k ≡ true
-array_is k (array words.checked) = refl
-array_is k (array words.nt_checked) = refl
+array_is k (array w) = ap is_some w
 
 number_is : (k : TokenKind) → IsNumber k → number_token k ≡ true
 number_is k number = refl
@@ -127,7 +128,7 @@ length_exact = after_all (after_all close_exact)
 pub optional_array_exact : Exact nowhere OptionalArrayS OptionalArrayB
 optional_array_exact = same_all (optional_all array_is length_exact) array_to array_begin array_into
 
-behind_array : {d : ℕ} {k : TokenKind} {s : Span} {kind : ArrayKind} {ts : List Token} {f : Failure} → IsArrayWord k kind → Fails d LengthS LengthB ts f → Fails d OptionalArrayS OptionalArrayB (token k s ∷ ts) f
+behind_array : {d : ℕ} {k : TokenKind} {s : Span} {kind : ArrayKind} {ts : List Token} {f : Failure} → array_kind_of k ≡ Some kind → Fails d LengthS LengthB ts f → Fails d OptionalArrayS OptionalArrayB (token k s ∷ ts) f
 behind_array w f = fails_as array_to array_into array_from (fails_present array_is (array w) length_exact f)
 
 pub optional_array_fails : {d : ℕ} {ts : List Token} {f : Failure} → d ≤ 200 → StuckOptionalArray ts f → Fails d OptionalArrayS OptionalArrayB ts f

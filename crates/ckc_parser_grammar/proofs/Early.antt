@@ -2,6 +2,7 @@
 use Rattle.std.proofs.Common.{ℕ, ◌≤◌, List, [], ◌∷◌, Option, refl, sym, ap, subst, arith}
 use Rattle.ckc_text.specs.declared.place.Span.{Span}
 use Rattle.ckc_lexer_tokens.specs.declared.token.Token.{Token}
+use Rattle.ckc_lexer_tokens.specs.declared.keyword.Keyword.TheVariants as keywords
 use Rattle.ckc_lexer_tokens.specs.declared.token.TokenKind.TheVariants as kinds
 use Rattle.ckc_tree.specs.Statements.{Statement, Statements}
 use Rattle.ckc_tree.specs.Items.{Item, Tree, Body}
@@ -12,12 +13,13 @@ use Rattle.ckc_parser_grammar.specs.TypeGrammar.{SpellsStars}
 use Rattle.ckc_parser_grammar.specs.StatementGrammar as s
 use Rattle.ckc_parser_grammar.specs.StatementGrammar.{SpellsDeclarators, SpellsOptionalBounds, SpellsStatement, SpellsStatements}
 use Rattle.ckc_parser_grammar.specs.ItemGrammar as g
-use Rattle.ckc_parser_grammar.specs.ItemGrammar.{SpellsItem, SpellsItems, SpellsProgram, SpellsBody, SpellsParameters}
+use Rattle.ckc_parser_grammar.specs.ItemGrammar.{SpellsItem, SpellsProgram, SpellsBody, SpellsParameters}
 use Rattle.ckc_parser_grammar.proofs.OneType.{rest_of, type_same, stars_same}
 use Rattle.ckc_parser_grammar.proofs.OneExpression.{behind, after}
 use Rattle.ckc_parser_grammar.proofs.Roles.{statement_starts}
 use Rattle.ckc_parser_grammar.proofs.OneStatement.{statement_same, optional_bounds_same}
 use Rattle.ckc_parser_grammar.proofs.OneItem.{not_call, parameters_same, optional_mark_same}
+use Rattle.ckc_parser_grammar.proofs.Words.{says_nothing}
 
 no_statements : {r : List Token} {x : Statements} {t : Span} → SpellsStatements [] x t r → ⊥
 no_statements (s.more d m) = absurd (omega (arith, statement_starts d))
@@ -32,7 +34,7 @@ no_body known (g.present {t} {rest} {statements} m d) =
     let start = optional_mark_same (g.absent refl) m in
     absurd (omega (arith, after_first known (subst (λ (z : List Token). SpellsStatements z statements t rest) (sym (ap rest_of (after start))) d)))
 
-pub early : {r : List Token} {i : Item} {x : Statement} → SpellsStatement (token kinds.Return (record { from = 17; to = 23 }) ∷ token (kinds.Number 0) (record { from = 24; to = 25 }) ∷ token kinds.Semicolon (record { from = 25; to = 26 }) ∷ []) x [] → SpellsItem (early_tokens []) i r → ⊥
+pub early : {r : List Token} {i : Item} {x : Statement} → SpellsStatement (token (kinds.Keyword keywords.Return) (record { from = 17; to = 23 }) ∷ token (kinds.Number 0) (record { from = 24; to = 25 }) ∷ token kinds.Semicolon (record { from = 25; to = 26 }) ∷ []) x [] → SpellsItem (early_tokens []) i r → ⊥
 early known (g.structure t m) = elim t [ ]
 early known (g.global {q} {w} {us} {rest} {declarators} (g.absent f) d e) =
     not_call (types.none refl) (subst (λ (z : List Token). SpellsDeclarators z declarators w (token kinds.Semicolon q ∷ rest)) (sym (after (type_same types.int d))) e)
@@ -41,10 +43,10 @@ early known (g.function {n} {x} {s = name_span} {t} {p} {q} {w} {ws} {xs} {ys} {
     let parameters_are = parameters_same g.void (subst (λ (z : List Token). SpellsParameters z parameters t xs) (sym (ap (λ (z : List Token). rest_of (rest_of z)) (after name_is))) ps) in
     let bounds_are = optional_bounds_same (s.absent refl) (subst (λ (z : List Token). SpellsOptionalBounds (from_first (early_tokens []) t) z written w ys) (sym (behind parameters_are)) b) in
     no_body known (subst (λ (z : List Token). SpellsBody z body q rest) (sym (behind bounds_are)) y)
-early known (g.function (g.trusted f) (g.present m) d st ps b y) = elim m [ ]
+early known (g.function (g.trusted f) (g.present m) d st ps b y) = says_nothing m
 
 abbrev pub Known : Type 0
-Known = (x : Statement) × SpellsStatement (token kinds.Return (record { from = 17; to = 23 }) ∷ token (kinds.Number 0) (record { from = 24; to = 25 }) ∷ token kinds.Semicolon (record { from = 25; to = 26 }) ∷ []) x []
+Known = (x : Statement) × SpellsStatement (token (kinds.Keyword keywords.Return) (record { from = 17; to = 23 }) ∷ token (kinds.Number 0) (record { from = 24; to = 25 }) ∷ token kinds.Semicolon (record { from = 25; to = 26 }) ∷ []) x []
 
 pub no_tree : Known → {length : ℕ} (t : Tree) → SpellsProgram length (early_tokens []) t → ⊥
 no_tree known t (g.program (g.more d m)) = early known.1 d

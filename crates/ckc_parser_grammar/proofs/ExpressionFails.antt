@@ -1,14 +1,15 @@
 -- Where reading an expression is stuck, it fails.
 use Rattle.std.proofs.Common.{◌≡◌, ◌≤◌, ◌<◌, ◌+◌, ◌⊎◌, inl, inr, ℕ, suc, length, true, false, List, [], ◌∷◌, Some, refl, sym, ap, subst, ◌∙◌, arith}
+use Rattle.std.specs.Option.{is_some}
 use Rattle.ckc_text.specs.declared.place.Span.{Span}
 use Rattle.ckc_lexer_tokens.specs.declared.token.Token.{Token}
 use Rattle.ckc_lexer_tokens.specs.declared.token.TokenKind.{TokenKind}
+use Rattle.ckc_lexer_tokens.specs.declared.keyword.Keyword.TheVariants as keywords
 use Rattle.ckc_lexer_tokens.specs.declared.token.TokenKind.TheVariants as kinds
 use Rattle.ckc_tree.specs.declared.expr.BinaryOperator.{BinaryOperator}
 use Rattle.ckc_tree.specs.Expressions.{Expression}
 use Rattle.ckc_tree.specs.Heights.{Reach, nowhere, node, around, ◌beside◌, type_reach, expression_reach}
-use Rattle.ckc_parser_grammar.specs.Tokens as words
-use Rattle.ckc_parser_grammar.specs.Tokens.{token, next_is, open_paren, comma, selector, operator_at, level}
+use Rattle.ckc_parser_grammar.specs.Tokens.{token, next_is, comma, selector, operator_at, level}
 use Rattle.ckc_parser_grammar.specs.ExpressionGrammar.{SpellsBinary}
 use Rattle.ckc_parser_grammar.specs.TypeBeginnings as tb
 use Rattle.ckc_parser_grammar.specs.ExpressionBeginnings as b
@@ -20,21 +21,22 @@ use Rattle.ckc_parser_grammar.specs.StuckExpressions as stuck
 use Rattle.ckc_parser_grammar.specs.StuckExpressions.{primary_word, unary_word, close_paren, close_bracket, comma_or_paren, StuckBinary, StuckTail, StuckUnary, StuckSelectors, StuckPrimary, StuckArguments, StuckMoreArguments, StuckBounds}
 use Rattle.ckc_parser_grammar.proofs.Heads.{class, class_at}
 use Rattle.ckc_parser_grammar.proofs.OneExpression.{binary_same, behind, found_same, move_binary, after}
-use Rattle.ckc_parser_grammar.proofs.Paths.{around_height, beside_height}
+use Rattle.ckc_parser_grammar.proofs.Paths.{beside_nowhere, around_height, beside_height, low_around, low_beside}
 use Rattle.ckc_parser_grammar.proofs.ExpressionPaths.{no_binary, Marks, mark, shift, marks_at}
-use Rattle.ckc_parser_grammar.proofs.Forms.{◌ends◌, all, later, end_length, end_trans, Is, it, Exact, ExactValue, exact_on_all, value_on_all, value_within, below, never, move, SeqS, SeqB, seq, in_first, in_second, seq_all, EndedS, EndedB, before_end, end, ended_all, AfterS, AfterB, not_yet, after_all, NodeS, node_all, DoneS, done_all, yes, no, either_all, headed}
+use Rattle.ckc_parser_grammar.proofs.Forms.{all, end_length, Is, it, Exact, ExactValue, exact_on_all, value_on_all, value_within, below, move, SeqS, SeqB, seq, in_first, seq_all, EndedS, EndedB, before_end, end, ended_all, not_yet, node_all, no}
+use Rattle.ckc_parser_grammar.proofs.Ahead.{never}
 use Rattle.ckc_parser_grammar.proofs.Forms as forms
 use Rattle.ckc_parser_grammar.proofs.Failing as failing
-use Rattle.ckc_parser_grammar.proofs.Failing.{Fails, unexpected, too_deep, beside_nowhere, beside_higher, low_beside, low_around, inner_start, deep_around, fails_first, fails_second, fails_before_end, fails_at_end, fails_after, fails_at_first, fails_node, fails_yes, fails_no, fails_in_link, fails_behind_link, fails_headed, fails_unheaded, fails_deep_head, fails_as}
+use Rattle.ckc_parser_grammar.proofs.Failing.{Fails, unexpected, too_deep, beside_higher, inner_start, deep_around, fails_first, fails_second, fails_before_end, fails_at_end, fails_after, fails_at_first, fails_node, fails_yes, fails_no, fails_in_link, fails_behind_link, fails_headed, fails_unheaded, fails_deep_head, fails_as}
 use Rattle.ckc_parser_grammar.proofs.TypeForms.{named, angled, type_name_exact, type_name_fails, angled_exact, angled_fails, paren_is}
 use Rattle.ckc_parser_grammar.proofs.ExpressionLinks as links
-use Rattle.ckc_parser_grammar.proofs.ExpressionLinks.{Value, reach, BinaryS, binary, Selected, Selecting, selected_below, Operated, operated, Operating, operated_below, behind_half, operator_shrinks}
+use Rattle.ckc_parser_grammar.proofs.ExpressionLinks.{Value, reach, BinaryS, binary, Selected, Selecting, selected_below, Operated, operated, Operating, operated_below, operator_shrinks}
 use Rattle.ckc_parser_grammar.proofs.PrimaryForms as primaries
-use Rattle.ckc_parser_grammar.proofs.PrimaryForms.{PrimaryS, primary, ArgumentsS, MoreS, MoreB, BoundsS, written, BehindS, BehindB, IsHead, TypedS, TypedB, CastEndS, CastEndB, typed_below, cast_end_below, behind_below}
+use Rattle.ckc_parser_grammar.proofs.PrimaryForms.{PrimaryS, primary, ArgumentsS, MoreS, MoreB, BoundsS, written, BehindS, BehindB, IsHead, TypedS, TypedB, CastEndS, CastEndB, cast_end_below, behind_below}
 use Rattle.ckc_parser_grammar.proofs.BuiltBounds as bounds
 use Rattle.ckc_parser_grammar.proofs.BoundsFails.{worded_fails, opened_fails, unworded_fails, range_exact, low_fails, comma_fails, high_fails, close_fails, pair_fails, not_unknown, no_unknown, word_fails, word_deep}
 use Rattle.ckc_parser_grammar.proofs.ExpressionForms as whole
-use Rattle.ckc_parser_grammar.proofs.ExpressionForms.{binary_exact, unary_exact, more_exact, arguments_exact, bounds_exact, selectors_exact, tail_exact, primary_exact, primary_value_exact, unary_value_exact, binary_value_exact, UnaryS, unary, PrimaryValue, of_primary, BinaryValue, of_binary, UnaryValue, of_unary, SelectorsS, SelectorsB, TailS, TailB, some_node, has, is_word, one_operator, no_primary_word}
+use Rattle.ckc_parser_grammar.proofs.ExpressionForms.{binary_exact, unary_exact, more_exact, arguments_exact, bounds_exact, selectors_exact, tail_exact, primary_value_exact, binary_value_exact, UnaryS, unary, PrimaryValue, of_primary, BinaryValue, of_binary, UnaryValue, of_unary, SelectorsS, SelectorsB, TailS, TailB, some_node, has, one_operator, no_primary_word}
 
 -- ---- tokens that are told apart
 
@@ -278,13 +280,13 @@ deep_at (kinds.Number n) so = literal_deep primaries.number
 deep_at (kinds.Character n) so = literal_deep primaries.character
 deep_at (kinds.Text x) so = literal_deep primaries.text
 deep_at (kinds.Name x) so = record { head = primaries.named_one; is = primaries.name; plain = behind_exact primaries.named_one; begun = λ start ts. forms.node (primaries.name_alone ts) }
-deep_at kinds.Sizeof so = record { head = primaries.size; is = primaries.sizeof; plain = behind_exact primaries.size; begun = λ start ts. forms.node not_yet }
-deep_at kinds.DynamicBoundsCast so = cast_deep (primaries.cast words.dynamic)
-deep_at kinds.AssumeBoundsCast so = cast_deep (primaries.cast words.assume)
-deep_at kinds.Malloc so = malloc_deep (primaries.malloc words.malloc)
-deep_at kinds.TMalloc so = malloc_deep (primaries.malloc words.t_malloc)
-deep_at kinds.Calloc so = calloc_deep (primaries.calloc words.calloc)
-deep_at kinds.NtCalloc so = calloc_deep (primaries.calloc words.nt_calloc)
+deep_at (kinds.Keyword keywords.Sizeof) so = record { head = primaries.size; is = primaries.sizeof; plain = behind_exact primaries.size; begun = λ start ts. forms.node not_yet }
+deep_at (kinds.Keyword keywords.DynamicBoundsCast) so = cast_deep (primaries.cast refl)
+deep_at (kinds.Keyword keywords.AssumeBoundsCast) so = cast_deep (primaries.cast refl)
+deep_at (kinds.Keyword keywords.Malloc) so = malloc_deep (primaries.malloc refl)
+deep_at (kinds.Keyword keywords.TMalloc) so = malloc_deep (primaries.malloc refl)
+deep_at (kinds.Keyword keywords.Calloc) so = calloc_deep (primaries.calloc refl)
+deep_at (kinds.Keyword keywords.NtCalloc) so = calloc_deep (primaries.calloc refl)
 deep_at _ so = absurd cc
 
 primary_deep : {d : ℕ} {k : TokenKind} {s : Span} {ts : List Token} → d ≤ 200 → 200 ≤ d → Deep k → Fails d PrimaryS BeginsPrimary (token k s ∷ ts) (failures.too_deep s.from)
@@ -300,19 +302,19 @@ stuck_class (stuck.primary_close e low none) = inr (omega arith)
 stuck_class (stuck.size_of_open room none) = inr (omega arith)
 stuck_class (stuck.size_of_type room x) = inr (omega arith)
 stuck_class (stuck.size_of_close t low none) = inr (omega arith)
-stuck_class (stuck.cast_type w room x) = inr (omega (arith, (whole.class_some (primaries.cast w)).1))
-stuck_class (stuck.cast_operand w room t high x) = inr (omega (arith, (whole.class_some (primaries.cast w)).1))
-stuck_class (stuck.cast_end w t high e low none) = inr (omega (arith, (whole.class_some (primaries.cast w)).1))
-stuck_class (stuck.cast_bounds w room t high e low x) = inr (omega (arith, (whole.class_some (primaries.cast w)).1))
-stuck_class (stuck.cast_close w t high e low x deep none) = inr (omega (arith, (whole.class_some (primaries.cast w)).1))
-stuck_class (stuck.malloc_type w room x) = inr (omega (arith, (whole.class_some (primaries.malloc w)).1))
-stuck_class (stuck.malloc_size w room t high x) = inr (omega (arith, (whole.class_some (primaries.malloc w)).1))
-stuck_class (stuck.malloc_close w t high e low none) = inr (omega (arith, (whole.class_some (primaries.malloc w)).1))
-stuck_class (stuck.calloc_type w room x) = inr (omega (arith, (whole.class_some (primaries.calloc w)).1))
-stuck_class (stuck.calloc_count w room t high x) = inr (omega (arith, (whole.class_some (primaries.calloc w)).1))
-stuck_class (stuck.calloc_comma w t high e low none) = inr (omega (arith, (whole.class_some (primaries.calloc w)).1))
-stuck_class (stuck.calloc_size w room t high e low x) = inr (omega (arith, (whole.class_some (primaries.calloc w)).1))
-stuck_class (stuck.calloc_close w t high e low i deep none) = inr (omega (arith, (whole.class_some (primaries.calloc w)).1))
+stuck_class (stuck.cast_type {k} w room x) = inr (omega (arith, (whole.class_some (primaries.cast {k = k} w)).1))
+stuck_class (stuck.cast_operand {k} w room t high x) = inr (omega (arith, (whole.class_some (primaries.cast {k = k} w)).1))
+stuck_class (stuck.cast_end {k} w t high e low none) = inr (omega (arith, (whole.class_some (primaries.cast {k = k} w)).1))
+stuck_class (stuck.cast_bounds {k} w room t high e low x) = inr (omega (arith, (whole.class_some (primaries.cast {k = k} w)).1))
+stuck_class (stuck.cast_close {k} w t high e low x deep none) = inr (omega (arith, (whole.class_some (primaries.cast {k = k} w)).1))
+stuck_class (stuck.malloc_type {k} w room x) = inr (omega (arith, (whole.class_some (primaries.malloc {k = k} w)).1))
+stuck_class (stuck.malloc_size {k} w room t high x) = inr (omega (arith, (whole.class_some (primaries.malloc {k = k} w)).1))
+stuck_class (stuck.malloc_close {k} w t high e low none) = inr (omega (arith, (whole.class_some (primaries.malloc {k = k} w)).1))
+stuck_class (stuck.calloc_type {k} w room x) = inr (omega (arith, (whole.class_some (primaries.calloc {k = k} w)).1))
+stuck_class (stuck.calloc_count {k} w room t high x) = inr (omega (arith, (whole.class_some (primaries.calloc {k = k} w)).1))
+stuck_class (stuck.calloc_comma {k} w t high e low none) = inr (omega (arith, (whole.class_some (primaries.calloc {k = k} w)).1))
+stuck_class (stuck.calloc_size {k} w room t high e low x) = inr (omega (arith, (whole.class_some (primaries.calloc {k = k} w)).1))
+stuck_class (stuck.calloc_close {k} w t high e low i deep none) = inr (omega (arith, (whole.class_some (primaries.calloc {k = k} w)).1))
 
 -- ---- forms that are one but for how they are said
 
@@ -359,13 +361,13 @@ no_unary (t ∷ ts) none = by_kind t.kind none
     by_kind (kinds.Text x) none = absurd cc
     by_kind (kinds.Name x) none = absurd cc
     by_kind kinds.OpenParen none = absurd cc
-    by_kind kinds.Sizeof none = absurd cc
-    by_kind kinds.DynamicBoundsCast none = absurd cc
-    by_kind kinds.AssumeBoundsCast none = absurd cc
-    by_kind kinds.Malloc none = absurd cc
-    by_kind kinds.TMalloc none = absurd cc
-    by_kind kinds.Calloc none = absurd cc
-    by_kind kinds.NtCalloc none = absurd cc
+    by_kind (kinds.Keyword keywords.Sizeof) none = absurd cc
+    by_kind (kinds.Keyword keywords.DynamicBoundsCast) none = absurd cc
+    by_kind (kinds.Keyword keywords.AssumeBoundsCast) none = absurd cc
+    by_kind (kinds.Keyword keywords.Malloc) none = absurd cc
+    by_kind (kinds.Keyword keywords.TMalloc) none = absurd cc
+    by_kind (kinds.Keyword keywords.Calloc) none = absurd cc
+    by_kind (kinds.Keyword keywords.NtCalloc) none = absurd cc
     by_kind kinds.Star none = absurd cc
     by_kind kinds.Ampersand none = absurd cc
     by_kind kinds.Minus none = absurd cc
@@ -409,8 +411,8 @@ mutual
   unary_fails {ts} low (stuck.no_expression none) =
       let plain = no_unary ts none in
       prefixed (fails_no (whole.no_word ts (omega (arith, plain))) (fails_in_link primary_value_exact selectors_exact (value_fails primary_of (fails_as primaries.to_s primaries.into_b primaries.from_b (fails_unheaded low (no_head ts plain))))))
-  unary_fails low (stuck.deep_operator w high) = prefixed (fails_yes (is_word w) (fails_deep_head one_operator (whole.operator w) low high (node_all unary_exact) (forms.node (b.primary b.nothing))))
-  unary_fails low (stuck.operator w room x) = prefixed (fails_yes (is_word w) (fails_headed one_operator (whole.operator w) (node_all unary_exact) (fails_node room (unary_fails room x))))
+  unary_fails low (stuck.deep_operator w high) = prefixed (fails_yes (ap is_some w) (fails_deep_head one_operator (whole.operator w) low high (node_all unary_exact) (forms.node (b.primary b.nothing))))
+  unary_fails low (stuck.operator w room x) = prefixed (fails_yes (ap is_some w) (fails_headed one_operator (whole.operator w) (node_all unary_exact) (fails_node room (unary_fails room x))))
   unary_fails low (stuck.primary x) = from_primary (stuck_class x) (primary_fails low x)
   unary_fails low (stuck.selectors p high x) = prefixed (fails_no (no_primary_word p) (fails_behind_link primary_value_exact selectors_exact (of_primary p) (selectors_fails high x)))
 

@@ -1,5 +1,6 @@
 -- Expressions and bounds as forms that are built of others: reading them goes one way.
 use Rattle.std.proofs.Common.{◌≡◌, ◌≤◌, ◌<◌, ℕ, zero, suc, length, Bool, true, false, List, [], ◌∷◌, Some, refl, ap, arith}
+use Rattle.std.specs.Option.{is_some}
 use Rattle.std.proofs.lemmas.Bool.{eq-eqb}
 use Rattle.ckc_text.specs.declared.place.Span.{Span}
 use Rattle.ckc_lexer_tokens.specs.declared.token.Token.{Token}
@@ -11,24 +12,25 @@ use Rattle.ckc_tree.specs.Expressions as trees
 use Rattle.ckc_tree.specs.Expressions.{Expression}
 use Rattle.ckc_tree.specs.Heights.{Reach, nowhere, around, ◌beside◌, type_reach, expression_reach, expressions_reach, bounds_reach}
 use Rattle.ckc_parser_grammar.specs.Tokens as words
-use Rattle.ckc_parser_grammar.specs.Tokens.{token, next_is, comma, selector, operator_at, level, has_operator, IsUnaryOperator}
+use Rattle.ckc_parser_grammar.specs.Tokens.{token, next_is, comma, selector, operator_at, level, has_operator, unary_operator_of}
 use Rattle.ckc_parser_grammar.specs.ExpressionGrammar as g
-use Rattle.ckc_parser_grammar.specs.ExpressionGrammar.{SpellsBinary, SpellsTail, SpellsUnary, SpellsSelectors, SpellsPrimary, SpellsArguments, SpellsMoreArguments}
+use Rattle.ckc_parser_grammar.specs.ExpressionGrammar.{SpellsBinary, SpellsTail, SpellsUnary, SpellsSelectors, SpellsPrimary}
 use Rattle.ckc_parser_grammar.specs.ExpressionBeginnings as b
-use Rattle.ckc_parser_grammar.specs.ExpressionBeginnings.{BeginsBinary, BeginsTail, BeginsUnary, BeginsSelectors, BeginsPrimary, BeginsArguments, BeginsMoreArguments, BeginsBounds}
+use Rattle.ckc_parser_grammar.specs.ExpressionBeginnings.{BeginsBinary, BeginsTail, BeginsUnary, BeginsSelectors, BeginsPrimary, BeginsArguments, BeginsBounds}
 use Rattle.ckc_parser_grammar.specs.StuckExpressions.{close_paren}
-use Rattle.ckc_parser_grammar.proofs.Heads.{class, class_at, primary_class, class_low, unary_class, starts}
+use Rattle.ckc_parser_grammar.proofs.Heads.{class, class_at, primary_class, cast_class, malloc_class, calloc_class, class_low, unary_class, starts}
 use Rattle.ckc_parser_grammar.proofs.OneExpression.{binary_same, unary_same, primary_same}
 use Rattle.ckc_parser_grammar.proofs.Paths.{around_height}
 use Rattle.ckc_parser_grammar.proofs.Whole.{binary_begins, unary_begins, selectors_begin}
 use Rattle.ckc_parser_grammar.proofs.ExpressionPaths.{no_binary}
-use Rattle.ckc_parser_grammar.proofs.Forms.{◌ends◌, all, later, end_length, Is, it, Read, ExactBelow, Exact, exact_on_all, none_below, ExactValueBelow, ExactValue, value_on_all, never, within, SeqS, SeqB, seq, in_first, in_second, seq_exact, AfterS, AfterB, not_yet, after, after_exact, NodeS, node_exact, DoneS, done, done_exact, EitherS, yes, no, either_exact, ChainS, ChainB, chain, in_link, behind_link, chain_exact, HeadS, HeadB, none_yet, headed, head_exact, OneHead, same_exact, StaysS, stays, stays_exact}
+use Rattle.ckc_parser_grammar.proofs.Forms.{◌ends◌, all, later, end_length, Is, it, ExactBelow, Exact, exact_on_all, none_below, ExactValueBelow, ExactValue, value_on_all, within, SeqS, SeqB, seq, in_first, in_second, seq_exact, AfterS, AfterB, not_yet, after, after_exact, NodeS, node_exact, DoneS, done, done_exact, EitherS, yes, no, either_exact, ChainS, ChainB, chain, in_link, behind_link, chain_exact, HeadS, HeadB, none_yet, headed, head_exact, OneHead, same_exact, StaysS, stays, stays_exact}
 use Rattle.ckc_parser_grammar.proofs.Forms as forms
 use Rattle.ckc_parser_grammar.proofs.ExpressionLinks as links
 use Rattle.ckc_parser_grammar.proofs.ExpressionLinks.{Value, reach, BinaryS, binary, Selected, Selecting, selected_below, Operated, operated, Operating, operated_below}
 use Rattle.ckc_parser_grammar.proofs.PrimaryForms as primaries
 use Rattle.ckc_parser_grammar.proofs.PrimaryForms.{PrimaryS, primary, ArgumentsS, arguments, MoreS, MoreB, nothing_more, BoundsS, more_begin, arguments_begin, with_nothing}
 use Rattle.ckc_parser_grammar.proofs.BuiltBounds.{bounds_below}
+use Rattle.ckc_parser_grammar.proofs.Words.{some_word}
 
 pub data UnaryS : List Token → List Token → Reach → Type 0 where
   unary : {e : Expression} {o : Span} {ts m : List Token} → SpellsUnary ts e o m → UnaryS ts m (expression_reach e)
@@ -154,12 +156,9 @@ class_some primaries.text = (omega arith, omega arith)
 class_some primaries.name = (omega arith, omega arith)
 class_some primaries.paren = (omega arith, omega arith)
 class_some primaries.sizeof = (omega arith, omega arith)
-class_some (primaries.cast words.dynamic) = (omega arith, omega arith)
-class_some (primaries.cast words.assume) = (omega arith, omega arith)
-class_some (primaries.malloc words.malloc) = (omega arith, omega arith)
-class_some (primaries.malloc words.t_malloc) = (omega arith, omega arith)
-class_some (primaries.calloc words.calloc) = (omega arith, omega arith)
-class_some (primaries.calloc words.nt_calloc) = (omega arith, omega arith)
+class_some (primaries.cast {k} w) = (omega (arith, cast_class k w), omega (arith, cast_class k w))
+class_some (primaries.malloc {k} w) = (omega (arith, malloc_class k w), omega (arith, malloc_class k w))
+class_some (primaries.calloc {k} w) = (omega (arith, calloc_class k w), omega (arith, calloc_class k w))
 
 pub data Untouched (ts : List Token) : List Token → Reach → Type 0 where
   untouched : Untouched ts ts nowhere
@@ -169,7 +168,7 @@ primary_untouched none_yet none = untouched
 primary_untouched (headed i c) none = absurd (omega (arith, none, (class_some i).0))
 
 unary_untouched : {ts rest : List Token} {q : Reach} → BeginsUnary ts rest q → class_at ts ≡ 0 → Untouched ts rest q
-unary_untouched (b.operator w c) none = absurd (omega (arith, none, unary_class w))
+unary_untouched (b.operator {k} w c) none = absurd (omega (arith, none, unary_class k w))
 unary_untouched (b.primary c) none = primary_untouched (primaries.into_b _ _ _ c) none
 unary_untouched (b.selectors p c) none = absurd (omega (arith, none, primary_class p, (class_low p).0))
 
@@ -322,36 +321,19 @@ tail_begins n v ts m r (tail t) = tail_begin v t
 -- ---- operators before an operand
 
 abbrev pub operator_word : TokenKind → Bool
-operator_word kinds.Star = true
-operator_word kinds.Ampersand = true
-operator_word kinds.Minus = true
-operator_word kinds.Not = true
-operator_word kinds.Tilde = true
-operator_word _ = false
+operator_word kind = is_some (unary_operator_of kind)
 
 pub data Only : Type 0 where
   only : Only
 
 pub data IsOperator : TokenKind → Only → Type 0 where
-  operator : {k : TokenKind} {w : UnaryOperator} → IsUnaryOperator k w → IsOperator k only
+  operator : {k : TokenKind} {w : UnaryOperator} → unary_operator_of k ≡ Some w → IsOperator k only
 
 pub one_operator : OneHead IsOperator
 one_operator k only only i i' = refl
 
-pub is_word : {k : TokenKind} {w : UnaryOperator} → IsUnaryOperator k w → operator_word k ≡ true
-is_word words.deref = refl
-is_word words.address_of = refl
-is_word words.negate = refl
-is_word words.not = refl
-is_word words.complement = refl
-
 word_class : (k : TokenKind) → operator_word k ≡ true → class k ≡ 10
-word_class kinds.Star so = refl
-word_class kinds.Ampersand so = refl
-word_class kinds.Minus so = refl
-word_class kinds.Not so = refl
-word_class kinds.Tilde so = refl
-word_class _ so = absurd cc
+word_class k so = unary_class k (some_word (unary_operator_of k) so).1
 
 words_class : (ts : List Token) → next_is operator_word ts ≡ true → class_at ts ≡ 10
 words_class [] so = absurd cc
@@ -375,7 +357,7 @@ abbrev pub PrefixedB : List Token → List Token → Reach → Type 0
 PrefixedB = EitherS (next_is operator_word) (HeadB IsOperator (λ h start. NodeS start BeginsUnary)) (ChainB PrimaryValue BeginsPrimary SelectorsB)
 
 pub unary_to : (ts m : List Token) (r : Reach) → UnaryS ts m r → PrefixedS ts m r
-unary_to ts m r (unary (g.operator w d)) = yes (is_word w) (headed (operator w) (forms.node (unary d)))
+unary_to ts m r (unary (g.operator w d)) = yes (ap is_some w) (headed (operator w) (forms.node (unary d)))
 unary_to ts m r (unary (g.postfix p s)) = no (no_primary_word p) (chain (of_primary p) (selectors s))
 
 unary_begin : (ts m : List Token) (r : Reach) → UnaryS ts m r → BeginsUnary ts m r
@@ -390,7 +372,7 @@ primary_prefixed {ts} c none_yet = by_test (next_is operator_word ts) refl
 primary_prefixed {ts} c (headed i x) = no (no_word ts (omega (arith, (class_some i).1))) (in_link c)
 
 pub unary_into : (ts rest : List Token) (q : Reach) → BeginsUnary ts rest q → PrefixedB ts rest q
-unary_into ts rest q (b.operator w c) = yes (is_word w) (headed (operator w) (forms.node c))
+unary_into ts rest q (b.operator w c) = yes (ap is_some w) (headed (operator w) (forms.node c))
 unary_into ts rest q (b.primary c) = primary_prefixed c (primaries.into_b ts rest q c)
 unary_into ts rest q (b.selectors p c) = no (no_primary_word p) (behind_link (of_primary p) c)
 

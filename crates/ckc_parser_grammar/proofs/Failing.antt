@@ -9,10 +9,10 @@ use Rattle.ckc_tree.specs.Heights as heights
 use Rattle.ckc_parser_grammar.specs.Tokens.{token, next_is}
 use Rattle.ckc_parser_grammar.specs.Failures as failures
 use Rattle.ckc_parser_grammar.specs.Failures.{Failure, IsLow}
-use Rattle.ckc_parser_grammar.proofs.Paths.{around_height, beside_height}
-use Rattle.ckc_parser_grammar.proofs.Forms.{◌ends◌, all, later, end_length, end_trans, end_same, Read, Exact, ExactValue, tokens_same, reach_same, move, never, SeqS, SeqB, seq, in_first, in_second, EndedS, EndedB, before_end, AfterS, AfterB, not_yet, NodeS, node, EitherS, yes, no, ChainS, ChainB, chain, in_link, behind_link, HeadS, HeadB, none_yet, OneHead, move_head}
+use Rattle.ckc_parser_grammar.proofs.Forms.{◌ends◌, all, end_length, end_same, Exact, ExactValue, tokens_same, reach_same, move, SeqS, SeqB, seq, in_first, in_second, EndedS, EndedB, before_end, AfterS, AfterB, not_yet, NodeS, node, EitherS, yes, no, ChainS, ChainB, chain, in_link, behind_link, HeadS, HeadB, none_yet, OneHead, move_head}
+use Rattle.ckc_parser_grammar.proofs.Ahead.{never}
 use Rattle.ckc_parser_grammar.proofs.Forms as forms
-pub use Rattle.ckc_parser_grammar.proofs.Forms.{beside_nowhere}
+use Rattle.ckc_parser_grammar.proofs.Paths.{beside_nowhere, low_beside, low_around}
 
 -- with d nodes around it, these tokens begin the form low up to the failure, nothing begins further or all that does is too deep
 pub data Fails (d : ℕ) (S B : List Token → List Token → Reach → Type 0) (ts : List Token) : Failure → Type 0 where
@@ -24,9 +24,6 @@ pub data Fails (d : ℕ) (S B : List Token → List Token → Reach → Type 0) 
 
 pub beside_higher : (p q : Reach) → p.height < q.height → p beside q ≡ q
 beside_higher p q less = rw (lt-ltb p.height q.height less) refl
-
-pub low_beside : (d : ℕ) (p q : Reach) → IsLow d p → IsLow d q → IsLow d (p beside q)
-low_beside d p q a b = omega (arith, a, b, (beside_height p q).2)
 
 pub longer : {t : Token} {rest mid at : List Token} {A : Type 0} → at ≡ t ∷ rest → at ends mid → mid ends rest → A
 longer is e f = absurd (omega (arith, ap length is, end_length e, end_length f))
@@ -141,9 +138,6 @@ fails_at_first {d} {K} {is} {S} {B} {ts} known low other = unexpected not_yet (o
     no_further other t rest q here (forms.after {k} t' c) = never (known k t') other
 
 -- ---- a node around a form
-
-pub low_around : (d start : ℕ) (r : Reach) → IsLow (suc d) r → IsLow d (around start r)
-low_around d start r low = omega (arith, low, around_height start r)
 
 pub deep_around : (d start : ℕ) (q : Reach) {at : ℕ} → (200 < suc d + q.height) × (at ≤ q.start) → d < 200 → (200 < d + (around start q).height) × (at ≤ (around start q).start)
 deep_around d start q {at} deep low = by_height q.height refl

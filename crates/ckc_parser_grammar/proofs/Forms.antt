@@ -1,13 +1,14 @@
 -- Forms that are read from left to right: what they are built of, and that reading them goes one way. A form is two
 -- families: its whole spellings and its beginnings, from tokens to the tokens left, with their reaches.
 use Rattle.std.proofs.Common.{◌≡◌, ◌≤◌, ◌<◌, ℕ, zero, suc, length, Bool, true, false, List, [], ◌∷◌, refl, sym, ap, subst, ◌∙◌, arith}
-use Rattle.std.proofs.lemmas.Bool.{le-ltb}
 use Rattle.ckc_text.specs.declared.place.Span.{Span}
 use Rattle.ckc_lexer_tokens.specs.declared.token.Token.{Token}
 use Rattle.ckc_lexer_tokens.specs.declared.token.TokenKind.{TokenKind}
 use Rattle.ckc_lexer_tokens.specs.declared.token.TokenKind.TheVariants as kinds
 use Rattle.ckc_tree.specs.Heights.{Reach, nowhere, around, ◌beside◌}
 use Rattle.ckc_parser_grammar.specs.Tokens.{token}
+use Rattle.ckc_parser_grammar.proofs.Ahead.{never}
+use Rattle.ckc_parser_grammar.proofs.Paths.{beside_nowhere}
 
 -- ---- ends of lists
 
@@ -85,9 +86,6 @@ pub move : (F : List Token → List Token → Reach → Type 0) {ts us m : List 
 move F {m} {r} same f = subst (λ (x : List Token). F x m r) (sym same) f
 
 -- ---- one form behind another
-
-pub beside_nowhere : (p : Reach) → p beside nowhere ≡ p
-beside_nowhere p = rw (le-ltb p.height 0 (omega arith)) refl
 
 pub data SeqS (S T : List Token → List Token → Reach → Type 0) : List Token → List Token → Reach → Type 0 where
   seq : {ts mid m : List Token} {p q : Reach} → S ts mid p → T mid m q → SeqS S T ts m (p beside q)
@@ -274,9 +272,6 @@ done_exact {n} = record { one = one; spelled = λ less a. a; longest = longest; 
     ended less done = all
 
 -- ---- one of two forms, by a test of the tokens that stand here
-
-pub never : {b : Bool} {A : Type 0} → b ≡ true → b ≡ false → A
-never so not = let h : true ≡ false = sym so ∙ not in absurd cc
 
 pub data EitherS (test : List Token → Bool) (S T : List Token → List Token → Reach → Type 0) : List Token → List Token → Reach → Type 0 where
   yes : {ts m : List Token} {r : Reach} → test ts ≡ true → S ts m r → EitherS test S T ts m r

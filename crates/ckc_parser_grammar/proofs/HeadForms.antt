@@ -3,13 +3,14 @@
 use Rattle.std.proofs.Common.{◌≡◌, ◌≤◌, ℕ, Bool, true, false, List, Option, refl, sym, ◌∙◌}
 use Rattle.ckc_lexer_tokens.specs.declared.token.Token.{Token}
 use Rattle.ckc_lexer_tokens.specs.declared.token.TokenKind.{TokenKind}
+use Rattle.ckc_lexer_tokens.specs.declared.keyword.Keyword.TheVariants as keywords
 use Rattle.ckc_lexer_tokens.specs.declared.token.TokenKind.TheVariants as kinds
 use Rattle.ckc_tree.specs.Expressions.{Expression}
 use Rattle.ckc_tree.specs.Statements.{Declaration, Assignment, ForInitial}
 use Rattle.ckc_tree.specs.Heights.{Reach, nowhere, for_initial_reach, optional_expression_reach, optional_assignment_reach}
 use Rattle.ckc_parser_grammar.specs.Tokens.{next_is, open_paren}
 use Rattle.ckc_parser_grammar.specs.StatementGrammar as g
-use Rattle.ckc_parser_grammar.specs.StatementGrammar.{SpellsDeclaration, SpellsAssignment, SpellsForInitial, SpellsForCondition, SpellsForStep}
+use Rattle.ckc_parser_grammar.specs.StatementGrammar.{SpellsDeclaration, SpellsForInitial, SpellsForCondition, SpellsForStep}
 use Rattle.ckc_parser_grammar.specs.ExpressionBeginnings.{BeginsBinary}
 use Rattle.ckc_parser_grammar.specs.StatementBeginnings as b
 use Rattle.ckc_parser_grammar.specs.StatementBeginnings.{BeginsDeclaration, BeginsAssignment, BeginsForInitial, BeginsForCondition, BeginsForStep}
@@ -40,15 +41,15 @@ semicolon_assignment kinds.Semicolon so = refl
 semicolon_assignment _ so = absurd cc
 
 pub type_assignment : Apart type_word assignment_word
-type_assignment kinds.Int so = refl
-type_assignment kinds.Char so = refl
-type_assignment kinds.Struct so = refl
-type_assignment kinds.Ptr so = refl
-type_assignment kinds.ArrayPtr so = refl
-type_assignment kinds.NtArrayPtr so = refl
-type_assignment kinds.TPtr so = refl
-type_assignment kinds.TArrayPtr so = refl
-type_assignment kinds.TNtArrayPtr so = refl
+type_assignment (kinds.Keyword keywords.Int) so = refl
+type_assignment (kinds.Keyword keywords.Char) so = refl
+type_assignment (kinds.Keyword keywords.Struct) so = refl
+type_assignment (kinds.Keyword keywords.Ptr) so = refl
+type_assignment (kinds.Keyword keywords.ArrayPtr) so = refl
+type_assignment (kinds.Keyword keywords.NtArrayPtr) so = refl
+type_assignment (kinds.Keyword keywords.TPtr) so = refl
+type_assignment (kinds.Keyword keywords.TArrayPtr) so = refl
+type_assignment (kinds.Keyword keywords.TNtArrayPtr) so = refl
 type_assignment _ so = absurd cc
 
 -- of two tests that no token meets both of, the second keeps off the first

@@ -3,17 +3,16 @@ use Rattle.std.proofs.Common.{◌≡◌, ◌<◌, ℕ, length, Bool, true, false
 use Rattle.ckc_text.specs.declared.place.Span.{Span}
 use Rattle.ckc_lexer_tokens.specs.declared.token.Token.{Token}
 use Rattle.ckc_lexer_tokens.specs.declared.token.TokenKind.{TokenKind}
+use Rattle.ckc_lexer_tokens.specs.declared.keyword.Keyword.TheVariants as keywords
 use Rattle.ckc_lexer_tokens.specs.declared.token.TokenKind.TheVariants as kinds
 use Rattle.ckc_lexer_tokens.specs.declared.token.CheckedScope.{CheckedScope}
 use Rattle.ckc_tree.specs.declared.stmt.Mark.{Mark}
 use Rattle.ckc_tree.specs.declared.item.FunctionKind.{FunctionKind}
-use Rattle.ckc_tree.specs.declared.type_form.PointerWord.{PointerWord}
 use Rattle.ckc_tree.specs.Types.{TypeTree}
 use Rattle.ckc_tree.specs.Statements.{Declarator}
 use Rattle.ckc_tree.specs.Items.{ResultForm, Body, Item}
 use Rattle.ckc_tree.specs.Heights.{Reach, nowhere, type_reach, result_reach, item_reach}
-use Rattle.ckc_parser_grammar.specs.Tokens as words
-use Rattle.ckc_parser_grammar.specs.Tokens.{token, next_is, open_paren, star, IsPointerWord}
+use Rattle.ckc_parser_grammar.specs.Tokens.{token, next_is, open_paren}
 use Rattle.ckc_parser_grammar.specs.TypeGrammar as tg
 use Rattle.ckc_parser_grammar.specs.TypeGrammar.{SpellsStars, SpellsType}
 use Rattle.ckc_parser_grammar.specs.TypeBeginnings as tb
@@ -28,11 +27,12 @@ use Rattle.ckc_parser_grammar.specs.StuckTypes as st
 use Rattle.ckc_parser_grammar.specs.StuckTypes.{name_token, type_word, StuckType}
 use Rattle.ckc_parser_grammar.specs.StuckStatements.{open_brace}
 use Rattle.ckc_parser_grammar.specs.StuckItems as stuck
-use Rattle.ckc_parser_grammar.specs.StuckItems.{void_word, scope_word, struct_word, is_name_before, is_structure, is_function, IsAlone, StuckItem}
+use Rattle.ckc_parser_grammar.specs.StuckItems.{void_word, scope_word, struct_word, is_structure, is_function, IsAlone, StuckItem}
 use Rattle.ckc_parser_grammar.proofs.Roles.{type_role}
 use Rattle.ckc_parser_grammar.proofs.OneItem.{item_same, plain, names, names_at, declarators_name, not_call}
 use Rattle.ckc_parser_grammar.proofs.Whole.{item_begins}
-use Rattle.ckc_parser_grammar.proofs.Forms.{◌ends◌, all, later, end_length, end_trans, Is, it, name, Read, Exact, never, SeqS, SeqB, seq, in_first, in_second, EndedS, end, AfterB, not_yet, after}
+use Rattle.ckc_parser_grammar.proofs.Forms.{◌ends◌, all, later, end_length, end_trans, Is, it, name, Read, Exact, SeqS, SeqB, seq, in_first, in_second, EndedS, end, AfterB, not_yet, after}
+use Rattle.ckc_parser_grammar.proofs.Ahead.{never}
 use Rattle.ckc_parser_grammar.proofs.Failing as failing
 use Rattle.ckc_parser_grammar.proofs.Failing.{Fails, fails_first, fails_second, fails_before_end, fails_at_end, fails_as}
 use Rattle.ckc_parser_grammar.proofs.TypeForms.{stars, stars_exact, TypeS, type, type_exact, type_fails}
@@ -46,6 +46,7 @@ use Rattle.ckc_parser_grammar.proofs.Pasts.{lead_past, lead_whole, longest_past,
 use Rattle.ckc_parser_grammar.proofs.ItemForms as forms
 use Rattle.ckc_parser_grammar.proofs.ItemForms.{tainted, tainted_exact, kinded, kind_exact, marked, unmarked, word, mark_exact, returned, result_exact, void, value, opened_exact, inside_exact, ending_exact, called_exact, typed_exact, variables_exact, closed_exact, InsideS, InsideB, CalledS, CalledB, GivingS, GivingB, VariablesS, VariablesB, TypedS, TypedB, ClosedS, ClosedB, TaggedS, TaggedB, GlobalB, StructureB, ItemS, item, FunctionS, FunctionB, GlobalS, StructureS, SortedS, SortedB, region, item_to, item_into, item_from, sorted_ended, sorted_nothing}
 use Rattle.ckc_parser_grammar.proofs.ItemPasts.{type_less, tainted_less, mark_less, result_less, typed_none, tainted_long, typed_role, structure_into, structure_all, structure_back, variables_into, variables_all, variables_back, alone_into, alone_all, alone_back, call_into, call_all, call_back}
+use Rattle.ckc_parser_grammar.proofs.Words.{says_nothing, pointer_struct}
 
 -- ---- which item it is
 
@@ -62,12 +63,7 @@ no_structure : {ts us : List Token} {x : TypeTree} → SpellsType ts x us → ne
 no_structure tg.int none = refl
 no_structure tg.char none = refl
 no_structure tg.struct none = none
-no_structure (tg.pointer words.ptr d e) none = refl
-no_structure (tg.pointer words.array_ptr d e) none = refl
-no_structure (tg.pointer words.nt_array_ptr d e) none = refl
-no_structure (tg.pointer words.t_ptr d e) none = refl
-no_structure (tg.pointer words.t_array_ptr d e) none = refl
-no_structure (tg.pointer words.t_nt_array_ptr d e) none = refl
+no_structure (tg.pointer {k} w d e) none = rw (pointer_struct k w) refl
 
 pub data Ahead : List Token → Type 0 where
   call : {n : ℕ} {x : List ℕ} {s p : Span} {us ws : List Token} → SpellsStars us n (token (kinds.Name x) s ∷ token kinds.OpenParen p ∷ ws) → Ahead us
@@ -114,8 +110,8 @@ scope_longest (forms.global (in_lead (tainted (g.absent f)))) = later all
 scope_longest {m} (forms.global (behind_lead (tainted (g.absent f)) c)) = subst (λ (y : List Token). m ends y) (sym (typed_none c refl)) (later all)
 scope_longest (forms.function (in_lead (kinded (g.trusted f)))) = later all
 scope_longest (forms.function (behind_lead (kinded (g.trusted f)) (in_lead unmarked))) = later all
-scope_longest (forms.function (behind_lead (kinded (g.trusted f)) (in_lead (word w)))) = elim w [ ]
-scope_longest (forms.function (behind_lead (kinded (g.trusted f)) (behind_lead (marked (g.present w)) c))) = elim w [ ]
+scope_longest (forms.function (behind_lead (kinded (g.trusted f)) (in_lead (word w)))) = says_nothing w
+scope_longest (forms.function (behind_lead (kinded (g.trusted f)) (behind_lead (marked (g.present w)) c))) = says_nothing w
 scope_longest {m} (forms.function (behind_lead (kinded (g.trusted f)) (behind_lead (marked (g.absent h)) (in_first (value c))))) = subst (λ (y : List Token). m ends y) (sym (type_starts.none c refl)) (later all)
 scope_longest (forms.function (behind_lead (kinded (g.trusted f)) (behind_lead (marked (g.absent h)) (in_second (returned (g.value d)) c)))) = never (type_at d) refl
 
@@ -140,7 +136,7 @@ scope_whole (forms.global (behind_lead (tainted (g.absent f)) c)) = typed_exact.
 scope_whole (forms.function (in_lead (kinded k))) = refl
 scope_whole (forms.function (behind_lead (kinded (g.trusted f)) (in_lead unmarked))) = refl
 scope_whole (forms.function (behind_lead (kinded (g.trusted f)) (in_lead (word w)))) = refl
-scope_whole (forms.function (behind_lead (kinded (g.trusted f)) (behind_lead (marked (g.present w)) c))) = elim w [ ]
+scope_whole (forms.function (behind_lead (kinded (g.trusted f)) (behind_lead (marked (g.present w)) c))) = says_nothing w
 scope_whole (forms.function (behind_lead (kinded (g.trusted f)) (behind_lead (marked (g.absent h)) (in_first (value c))))) = type_exact.nothing c (type_starts.none c refl)
 scope_whole (forms.function (behind_lead (kinded (g.trusted f)) (behind_lead (marked (g.absent h)) (in_second (returned (g.value d)) c)))) = never (type_at d) refl
 
@@ -262,7 +258,7 @@ module _ (tokens ts us : List Token) (k : FunctionKind) (m : Option Mark) (spell
   global_led {ts'} {rest} {q} t c less = by_next type_word ts' (λ so. let same = plain t spelled_kind spelled_mark (typed_role ts' so) in typed_led (moved t same) (subst (λ (y : List Token). TypedB y rest q) same c)) (λ none. led_short t (typed_none c none) less)
 
   -- a structure behind its word
-  structure_led : {b : Bool} {ts' rest : List Token} {q : Reach} → SpellsTainted tokens b ts' → AfterB (Is kinds.Struct) TaggedB ts' rest q → length rest < length us → next_is struct_word us ≡ true
+  structure_led : {b : Bool} {ts' rest : List Token} {q : Reach} → SpellsTainted tokens b ts' → AfterB (Is (kinds.Keyword keywords.Struct)) TaggedB ts' rest q → length rest < length us → next_is struct_word us ≡ true
   structure_led t not_yet less = led_short t refl less
   structure_led t (after it c) less = subst (λ (y : List Token). next_is struct_word y ≡ true) (plain t spelled_kind spelled_mark refl) refl
 
@@ -288,24 +284,24 @@ module _ (tokens ts us : List Token) (k : FunctionKind) (m : Option Mark) (spell
 
 -- ---- the word of a structure type, without a name behind it
 
-tag_type : {us m : List Token} {s : Span} {x : TypeTree} → next_is name_token us ≡ false → SpellsType (token kinds.Struct s ∷ us) x m → ⊥
+tag_type : {us m : List Token} {s : Span} {x : TypeTree} → next_is name_token us ≡ false → SpellsType (token (kinds.Keyword keywords.Struct) s ∷ us) x m → ⊥
 tag_type none tg.struct = absurd cc
-tag_type none (tg.pointer w d e) = elim w [ ]
+tag_type none (tg.pointer w d e) = says_nothing w
 
-tag_begun : {us rest : List Token} {s : Span} {q : Reach} → next_is name_token us ≡ false → BeginsType (token kinds.Struct s ∷ us) rest q → length rest < length us → ⊥
+tag_begun : {us rest : List Token} {s : Span} {q : Reach} → next_is name_token us ≡ false → BeginsType (token (kinds.Keyword keywords.Struct) s ∷ us) rest q → length rest < length us → ⊥
 tag_begun none tb.nothing less = absurd (omega (arith, less))
 tag_begun none tb.struct_word less = absurd (omega (arith, less))
 tag_begun none tb.struct less = absurd cc
-tag_begun none (tb.pointer_word w) less = elim w [ ]
-tag_begun none (tb.element w c) less = elim w [ ]
-tag_begun none (tb.stars w d c) less = elim w [ ]
-tag_begun none (tb.pointer w d e) less = elim w [ ]
+tag_begun none (tb.pointer_word w) less = says_nothing w
+tag_begun none (tb.element w c) less = says_nothing w
+tag_begun none (tb.stars w d c) less = says_nothing w
+tag_begun none (tb.pointer w d e) less = says_nothing w
 
-tag_led : {tokens us rest : List Token} {s : Span} {q : Reach} → next_is name_token us ≡ false → LedB tokens (token kinds.Struct s ∷ us) (token kinds.Struct s ∷ us) rest q → length rest < length us → ⊥
+tag_led : {tokens us rest : List Token} {s : Span} {q : Reach} → next_is name_token us ≡ false → LedB tokens (token (kinds.Keyword keywords.Struct) s ∷ us) (token (kinds.Keyword keywords.Struct) s ∷ us) rest q → length rest < length us → ⊥
 tag_led none (in_first c) less = tag_begun none c less
 tag_led none (in_second (type d) c) less = tag_type none d
 
-tag_whole : {us m : List Token} {s : Span} {r : Reach} → next_is name_token us ≡ false → LedS (token kinds.Struct s ∷ us) m r → ⊥
+tag_whole : {us m : List Token} {s : Span} {r : Reach} → next_is name_token us ≡ false → LedS (token (kinds.Keyword keywords.Struct) s ∷ us) m r → ⊥
 tag_whole none (seq (type d) a) = tag_type none d
 
 -- the tokens behind the first
@@ -313,27 +309,27 @@ abbrev behind : List Token → List Token
 behind [] = []
 behind (t ∷ ts) = ts
 
-tag_tagged : {us vs rest : List Token} {s t : Span} {q : Reach} → next_is name_token us ≡ false → ◌≡◌ {A = List Token} (token kinds.Struct t ∷ vs) (token kinds.Struct s ∷ us) → TaggedB vs rest q → length rest < length us → ⊥
+tag_tagged : {us vs rest : List Token} {s t : Span} {q : Reach} → next_is name_token us ≡ false → ◌≡◌ {A = List Token} (token (kinds.Keyword keywords.Struct) t ∷ vs) (token (kinds.Keyword keywords.Struct) s ∷ us) → TaggedB vs rest q → length rest < length us → ⊥
 tag_tagged none same not_yet less = absurd (omega (arith, less, ap length same))
 tag_tagged none same (after name c) less = never refl (subst (λ (y : List Token). next_is name_token y ≡ false) (sym (ap behind same)) none)
 
-tag_named : {us vs m : List Token} {s t : Span} {r : Reach} → next_is name_token us ≡ false → ◌≡◌ {A = List Token} (token kinds.Struct t ∷ vs) (token kinds.Struct s ∷ us) → TaggedS vs m r → ⊥
+tag_named : {us vs m : List Token} {s t : Span} {r : Reach} → next_is name_token us ≡ false → ◌≡◌ {A = List Token} (token (kinds.Keyword keywords.Struct) t ∷ vs) (token (kinds.Keyword keywords.Struct) s ∷ us) → TaggedS vs m r → ⊥
 tag_named none same (after name a) = never refl (subst (λ (y : List Token). next_is name_token y ≡ false) (sym (ap behind same)) none)
 
-tag_past : {k : FunctionKind} {m : Option Mark} {tokens ts us rest : List Token} {s : Span} {q : Reach} → SpellsKind tokens k ts → SpellsOptionalMark ts m (token kinds.Struct s ∷ us) → next_is name_token us ≡ false → PartB tokens rest q → length rest < length us → ⊥
-tag_past {k} {m} {tokens} {ts} {us} {s} a e none (structure (in_lead (tainted t))) less = led_short tokens ts (token kinds.Struct s ∷ us) k m a e t refl (omega (arith, less))
-tag_past {k} {m} {tokens} {ts} {us} {s} a e none (structure (behind_lead (tainted t) not_yet)) less = led_short tokens ts (token kinds.Struct s ∷ us) k m a e t refl (omega (arith, less))
+tag_past : {k : FunctionKind} {m : Option Mark} {tokens ts us rest : List Token} {s : Span} {q : Reach} → SpellsKind tokens k ts → SpellsOptionalMark ts m (token (kinds.Keyword keywords.Struct) s ∷ us) → next_is name_token us ≡ false → PartB tokens rest q → length rest < length us → ⊥
+tag_past {k} {m} {tokens} {ts} {us} {s} a e none (structure (in_lead (tainted t))) less = led_short tokens ts (token (kinds.Keyword keywords.Struct) s ∷ us) k m a e t refl (omega (arith, less))
+tag_past {k} {m} {tokens} {ts} {us} {s} a e none (structure (behind_lead (tainted t) not_yet)) less = led_short tokens ts (token (kinds.Keyword keywords.Struct) s ∷ us) k m a e t refl (omega (arith, less))
 tag_past a e none (structure (behind_lead (tainted t) (after it c))) less = tag_tagged none (plain t a e refl) c less
-tag_past {k} {m} {tokens} {ts} {us} {s} a e none (global (in_lead (tainted t))) less = led_short tokens ts (token kinds.Struct s ∷ us) k m a e t refl (omega (arith, less))
-tag_past {k} {m} {tokens} {ts} {us} {s} a e none (global (behind_lead (tainted t) c)) less = tag_led none (global_led tokens ts (token kinds.Struct s ∷ us) k m a e t c (omega (arith, less))) less
+tag_past {k} {m} {tokens} {ts} {us} {s} a e none (global (in_lead (tainted t))) less = led_short tokens ts (token (kinds.Keyword keywords.Struct) s ∷ us) k m a e t refl (omega (arith, less))
+tag_past {k} {m} {tokens} {ts} {us} {s} a e none (global (behind_lead (tainted t) c)) less = tag_led none (global_led tokens ts (token (kinds.Keyword keywords.Struct) s ∷ us) k m a e t c (omega (arith, less))) less
 tag_past {tokens} a e none (function c) less = tag_led {tokens = tokens} none (giving_led refl (lead_past mark_exact (marked e) (lead_past kind_exact (kinded a) c (omega (arith, less, mark_less e))) (omega (arith, less)))) less
 
-tag_all : {k : FunctionKind} {m : Option Mark} {tokens ts us ms : List Token} {s : Span} {r : Reach} → SpellsKind tokens k ts → SpellsOptionalMark ts m (token kinds.Struct s ∷ us) → next_is name_token us ≡ false → PartS tokens ms r → ⊥
+tag_all : {k : FunctionKind} {m : Option Mark} {tokens ts us ms : List Token} {s : Span} {r : Reach} → SpellsKind tokens k ts → SpellsOptionalMark ts m (token (kinds.Keyword keywords.Struct) s ∷ us) → next_is name_token us ≡ false → PartS tokens ms r → ⊥
 tag_all a e none (structure (lead (tainted t) (after it c))) = tag_named none (plain t a e refl) c
 tag_all {ms} {r} a e none (global (lead (tainted t) (seq (type d) c))) = tag_whole none (typed_whole (subst (λ (y : List Token). TypedS y ms r) (plain t a e (type_role d)) (seq (type d) c)))
 tag_all a e none (function c) = tag_whole none (given_led refl (lead_whole mark_exact (marked e) (lead_whole kind_exact (kinded a) c)))
 
-tag_fails : {k : FunctionKind} {m : Option Mark} {tokens ts us : List Token} {s : Span} → next_is scope_word tokens ≡ false → SpellsKind tokens k ts → SpellsOptionalMark ts m (token kinds.Struct s ∷ us) → next_is name_token us ≡ false → Fails 0 SortedS SortedB tokens (failures.unexpected us)
+tag_fails : {k : FunctionKind} {m : Option Mark} {tokens ts us : List Token} {s : Span} → next_is scope_word tokens ≡ false → SpellsKind tokens k ts → SpellsOptionalMark ts m (token (kinds.Keyword keywords.Struct) s ∷ us) → next_is name_token us ≡ false → Fails 0 SortedS SortedB tokens (failures.unexpected us)
 tag_fails other a e none = failing.unexpected (forms.function (behind_lead (kinded a) (behind_lead (marked e) (in_first (value tb.struct_word))))) (omega arith) (λ ms r c. tag_all a e none (part_s other c)) (λ t rest q same c. tag_past a e none (part_b other c) (omega (arith, ap length same)))
 
 no_struct : (us : List Token) → next_is type_word us ≡ false → next_is struct_word us ≡ false
@@ -341,32 +337,24 @@ no_struct [] none = refl
 no_struct (t ∷ us) none = by_kind t.kind none
   where
     by_kind : (k : TokenKind) → type_word k ≡ false → struct_word k ≡ false
-    by_kind kinds.Struct none = absurd cc
+    by_kind (kinds.Keyword keywords.Struct) none = absurd cc
     by_kind _ none = refl
-
-pointer_struct : {k : TokenKind} {w : PointerWord} → IsPointerWord k w → struct_word k ≡ false
-pointer_struct words.ptr = refl
-pointer_struct words.array_ptr = refl
-pointer_struct words.nt_array_ptr = refl
-pointer_struct words.t_ptr = refl
-pointer_struct words.t_array_ptr = refl
-pointer_struct words.t_nt_array_ptr = refl
 
 result_fails : {k : FunctionKind} {m : Option Mark} {tokens ts us : List Token} {f : Failure} → next_is scope_word tokens ≡ false → SpellsKind tokens k ts → SpellsOptionalMark ts m us → next_is void_word us ≡ false → StuckType 0 us f → Fails 0 SortedS SortedB tokens f
 result_fails other a e none st.no_room = failing.no_memory
 result_fails {k} {m} {tokens} {ts} {us} other a e none (st.no_type untyped) = led_fails tokens ts us k m a e other none (no_struct us untyped) (st.no_type untyped)
 result_fails other a e none (st.deep so deep) = absurd (omega (arith, deep))
 result_fails other a e none (st.tag room unnamed) = tag_fails other a e unnamed
-result_fails {k} {m} {tokens} {ts} {us} other a e none (st.opens room w x) = led_fails tokens ts us k m a e other none (pointer_struct w) (st.opens room w x)
-result_fails {k} {m} {tokens} {ts} {us} other a e none (st.element room w x) = led_fails tokens ts us k m a e other none (pointer_struct w) (st.element room w x)
-result_fails {k} {m} {tokens} {ts} {us} other a e none (st.close w d high x y) = led_fails tokens ts us k m a e other none (pointer_struct w) (st.close w d high x y)
+result_fails {k} {m} {tokens} {ts} {us} other a e none (st.opens {k = j} room w x) = led_fails tokens ts us k m a e other none (pointer_struct j w) (st.opens room w x)
+result_fails {k} {m} {tokens} {ts} {us} other a e none (st.element {k = j} room w x) = led_fails tokens ts us k m a e other none (pointer_struct j w) (st.element room w x)
+result_fails {k} {m} {tokens} {ts} {us} other a e none (st.close {k = j} w d high x y) = led_fails tokens ts us k m a e other none (pointer_struct j w) (st.close w d high x y)
 
 -- ---- where items are stuck
 
 sorted_fails : {tokens : List Token} {f : Failure} → Fails 0 SortedS SortedB tokens f → Fails 0 ItemS BeginsItem tokens f
 sorted_fails f = fails_as item_to item_into item_from f
 
-structure_fails : {b : Bool} {x : List ℕ} {s t p : Span} {tokens ts : List Token} {f : Failure} → SpellsTainted tokens b (token kinds.Struct s ∷ token (kinds.Name x) t ∷ token kinds.OpenBrace p ∷ ts) → Fails 0 ClosedS ClosedB ts f → Fails 0 ItemS BeginsItem tokens f
+structure_fails : {b : Bool} {x : List ℕ} {s t p : Span} {tokens ts : List Token} {f : Failure} → SpellsTainted tokens b (token (kinds.Keyword keywords.Struct) s ∷ token (kinds.Name x) t ∷ token kinds.OpenBrace p ∷ ts) → Fails 0 ClosedS ClosedB ts f → Fails 0 ItemS BeginsItem tokens f
 structure_fails d f = sorted_fails (fails_past (λ rest q c. closed_exact.ended c) (λ m r a. structure_all d a) (λ rest q c less. structure_into d c less) (λ rest q c. structure_back d c) f)
 
 variables_fails : {b : Bool} {x : TypeTree} {tokens ts us : List Token} {f : Failure} → SpellsTainted tokens b ts → is_structure ts ≡ false → SpellsType ts x us → is_function us ≡ false → IsLow 0 (type_reach x) → Fails 0 VariablesS VariablesB us f → Fails 0 ItemS BeginsItem tokens f

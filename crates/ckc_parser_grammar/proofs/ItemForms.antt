@@ -1,29 +1,30 @@
 -- Items as forms that are built of others: structures, variables and functions, each for itself. They share their first
 -- tokens, so a beginning of an item is one of any of them.
-use Rattle.std.proofs.Common.{◌≡◌, Bool, true, List, ◌∷◌, Option, refl, sym, ap, subst}
+use Rattle.std.proofs.Common.{◌≡◌, Bool, true, List, ◌∷◌, Option, refl, sym, ap, subst, Some}
+use Rattle.std.specs.Option.{is_some}
 use Rattle.ckc_text.specs.declared.place.Span.{Span}
 use Rattle.ckc_lexer_tokens.specs.declared.token.Token.{Token}
 use Rattle.ckc_lexer_tokens.specs.declared.token.TokenKind.{TokenKind}
+use Rattle.ckc_lexer_tokens.specs.declared.keyword.Keyword.TheVariants as keywords
 use Rattle.ckc_lexer_tokens.specs.declared.token.TokenKind.TheVariants as kinds
 use Rattle.ckc_lexer_tokens.specs.declared.token.CheckedScope.{CheckedScope}
 use Rattle.ckc_tree.specs.declared.stmt.Mark.{Mark}
 use Rattle.ckc_tree.specs.declared.item.FunctionKind.{FunctionKind}
 use Rattle.ckc_tree.specs.Items.{ResultForm, Item}
 use Rattle.ckc_tree.specs.Heights.{Reach, nowhere, ◌beside◌, optional_bounds_reach, parameters_reach, result_reach, item_reach}
-use Rattle.ckc_parser_grammar.specs.Tokens as words
-use Rattle.ckc_parser_grammar.specs.Tokens.{token, next_is, from_first, IsMark, mark_word}
+use Rattle.ckc_parser_grammar.specs.Tokens.{token, next_is, from_first, mark_of, mark_word}
 use Rattle.ckc_parser_grammar.specs.TypeBeginnings as tb
 use Rattle.ckc_parser_grammar.specs.TypeBeginnings.{BeginsType}
 use Rattle.ckc_parser_grammar.specs.StatementBeginnings as sb
 use Rattle.ckc_parser_grammar.specs.StatementBeginnings.{BeginsOptionalBounds, BeginsDeclarators}
 use Rattle.ckc_parser_grammar.specs.ItemGrammar as g
-use Rattle.ckc_parser_grammar.specs.ItemGrammar.{SpellsTainted, SpellsKind, SpellsOptionalMark, SpellsResult, SpellsRegion, SpellsItem}
+use Rattle.ckc_parser_grammar.specs.ItemGrammar.{SpellsTainted, SpellsKind, SpellsOptionalMark, SpellsResult, SpellsItem}
 use Rattle.ckc_parser_grammar.specs.ItemBeginnings as b
 use Rattle.ckc_parser_grammar.specs.ItemBeginnings.{BeginsMembers, BeginsBody, BeginsItem}
 use Rattle.ckc_parser_grammar.specs.StuckItems.{void_word}
 use Rattle.ckc_parser_grammar.proofs.OneItem.{tainted_same, kind_same}
 use Rattle.ckc_parser_grammar.proofs.Forms.{◌ends◌, all, later, Is, it, IsName, name, Read, Exact, seq_all, ended_all, after_all, done_all, either_all, same_all, SeqS, SeqB, seq, in_first, in_second, EndedS, EndedB, before_end, end, AfterS, AfterB, not_yet, after, EitherS, yes, no, DoneS, done}
-use Rattle.ckc_parser_grammar.proofs.Failing.{beside_nowhere}
+use Rattle.ckc_parser_grammar.proofs.Paths.{beside_nowhere}
 use Rattle.ckc_parser_grammar.proofs.TypeForms.{StarsS, StarsB, stars, stars_exact, TypeS, type, type_exact}
 use Rattle.ckc_parser_grammar.proofs.MoreForms.{next_apart, or_right, OptionalS, absent, present, optional_all, LeadS, LeadB, lead, in_lead, behind_lead, lead_all, so_far, in_whole, reach_is, beside_assoc}
 use Rattle.ckc_parser_grammar.proofs.Starting.{type_starts, type_at}
@@ -96,11 +97,10 @@ pub data MarkS : List Token → List Token → Reach → Type 0 where
 
 pub data MarkB : List Token → List Token → Reach → Type 0 where
   unmarked : {ts : List Token} → MarkB ts ts nowhere
-  word : {k : TokenKind} {s : Span} {rest : List Token} {w : Mark} → IsMark k w → MarkB (token k s ∷ rest) rest nowhere
+  word : {k : TokenKind} {s : Span} {rest : List Token} {w : Mark} → mark_of k ≡ Some w → MarkB (token k s ∷ rest) rest nowhere
 
 mark_is : (k : TokenKind) → IsMarked k → mark_word k ≡ true
-mark_is k (mark words.checked) = refl
-mark_is k (mark words.unchecked) = refl
+mark_is k (mark w) = ap is_some w
 
 mark_to : (ts m : List Token) (r : Reach) → MarkS ts m r → OptionalS IsMarked mark_word DoneS ts m r
 mark_to ts m r (marked (g.absent f)) = absent f
@@ -123,14 +123,14 @@ pub data ResultS : List Token → List Token → Reach → Type 0 where
   returned : {x : ResultForm} {ts m : List Token} → SpellsResult ts x m → ResultS ts m (result_reach x)
 
 pub data ResultB : List Token → List Token → Reach → Type 0 where
-  void : {s : Span} {rest : List Token} → ResultB (token kinds.Void s ∷ rest) rest nowhere
+  void : {s : Span} {rest : List Token} → ResultB (token (kinds.Keyword keywords.Void) s ∷ rest) rest nowhere
   value : {ts rest : List Token} {q : Reach} → BeginsType ts rest q → ResultB ts rest q
 
 abbrev GivenS : List Token → List Token → Reach → Type 0
-GivenS = EitherS (next_is void_word) (AfterS (Is kinds.Void) DoneS) TypeS
+GivenS = EitherS (next_is void_word) (AfterS (Is (kinds.Keyword keywords.Void)) DoneS) TypeS
 
 abbrev GivenB : List Token → List Token → Reach → Type 0
-GivenB = EitherS (next_is void_word) (AfterB (Is kinds.Void) DoneS) BeginsType
+GivenB = EitherS (next_is void_word) (AfterB (Is (kinds.Keyword keywords.Void)) DoneS) BeginsType
 
 result_to : (ts m : List Token) (r : Reach) → ResultS ts m r → GivenS ts m r
 result_to ts m r (returned g.void) = yes refl (after it done)
@@ -274,10 +274,10 @@ abbrev pub TaggedB : List Token → List Token → Reach → Type 0
 TaggedB = AfterB IsName (AfterB (Is kinds.OpenBrace) ClosedB)
 
 abbrev pub StructureS : List Token → List Token → Reach → Type 0
-StructureS = LeadS TaintedS (AfterS (Is kinds.Struct) TaggedS)
+StructureS = LeadS TaintedS (AfterS (Is (kinds.Keyword keywords.Struct)) TaggedS)
 
 abbrev pub StructureB : List Token → List Token → Reach → Type 0
-StructureB = LeadB TaintedS TaintedS (AfterB (Is kinds.Struct) TaggedB)
+StructureB = LeadB TaintedS TaintedS (AfterB (Is (kinds.Keyword keywords.Struct)) TaggedB)
 
 pub closed_exact : Exact nowhere ClosedS ClosedB
 closed_exact = ended_all members_exact

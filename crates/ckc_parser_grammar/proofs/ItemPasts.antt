@@ -4,6 +4,7 @@ use Rattle.std.proofs.Common.{◌≡◌, ◌≤◌, ◌<◌, ℕ, length, Bool, 
 use Rattle.ckc_text.specs.declared.place.Span.{Span}
 use Rattle.ckc_lexer_tokens.specs.declared.token.Token.{Token}
 use Rattle.ckc_lexer_tokens.specs.declared.token.TokenKind.{TokenKind}
+use Rattle.ckc_lexer_tokens.specs.declared.keyword.Keyword.TheVariants as keywords
 use Rattle.ckc_lexer_tokens.specs.declared.token.TokenKind.TheVariants as kinds
 use Rattle.ckc_tree.specs.declared.stmt.Mark.{Mark}
 use Rattle.ckc_tree.specs.declared.item.FunctionKind.{FunctionKind}
@@ -16,17 +17,17 @@ use Rattle.ckc_parser_grammar.specs.TypeGrammar.{SpellsStars, SpellsType}
 use Rattle.ckc_parser_grammar.specs.TypeBeginnings as tb
 use Rattle.ckc_parser_grammar.specs.TypeBeginnings.{BeginsStars}
 use Rattle.ckc_parser_grammar.specs.StatementGrammar as sg
-use Rattle.ckc_parser_grammar.specs.StatementGrammar.{SpellsDeclarators}
 use Rattle.ckc_parser_grammar.specs.StatementBeginnings as sb
 use Rattle.ckc_parser_grammar.specs.StatementBeginnings.{BeginsDeclarators}
 use Rattle.ckc_parser_grammar.specs.ItemGrammar as g
 use Rattle.ckc_parser_grammar.specs.ItemGrammar.{SpellsTainted, SpellsKind, SpellsOptionalMark, SpellsResult}
 use Rattle.ckc_parser_grammar.specs.StuckTypes.{type_word}
 use Rattle.ckc_parser_grammar.specs.StuckItems as stuck
-use Rattle.ckc_parser_grammar.specs.StuckItems.{is_structure, is_function, struct_word, IsAlone}
+use Rattle.ckc_parser_grammar.specs.StuckItems.{is_structure, is_function, IsAlone}
 use Rattle.ckc_parser_grammar.proofs.Roles.{role, role_at, type_role, mark_role}
 use Rattle.ckc_parser_grammar.proofs.OneItem.{plain_kind, plain, value_type, names_at, stars_name, declarator_name, declarators_name, struct_rest, not_call, structure_function, global_function, scope_global, scope_function}
-use Rattle.ckc_parser_grammar.proofs.Forms.{end_length, Is, it, IsName, name, never, seq, in_first, in_second, before_end, end, AfterS, AfterB, not_yet, after}
+use Rattle.ckc_parser_grammar.proofs.Forms.{end_length, Is, it, IsName, name, seq, in_first, in_second, before_end, end, AfterS, AfterB, not_yet, after}
+use Rattle.ckc_parser_grammar.proofs.Ahead.{never}
 use Rattle.ckc_parser_grammar.proofs.TypeForms.{stars, type, type_exact}
 use Rattle.ckc_parser_grammar.proofs.MoreForms.{by_next, lead, in_lead, behind_lead, SideS, side}
 use Rattle.ckc_parser_grammar.proofs.Starting.{type_starts, type_at, type_shorter}
@@ -66,15 +67,15 @@ typed_role [] so = absurd cc
 typed_role (t ∷ ts) so = by_kind t.kind so
   where
     by_kind : (k : TokenKind) → type_word k ≡ true → role k ≡ 1
-    by_kind kinds.Int so = refl
-    by_kind kinds.Char so = refl
-    by_kind kinds.Struct so = refl
-    by_kind kinds.Ptr so = refl
-    by_kind kinds.ArrayPtr so = refl
-    by_kind kinds.NtArrayPtr so = refl
-    by_kind kinds.TPtr so = refl
-    by_kind kinds.TArrayPtr so = refl
-    by_kind kinds.TNtArrayPtr so = refl
+    by_kind (kinds.Keyword keywords.Int) so = refl
+    by_kind (kinds.Keyword keywords.Char) so = refl
+    by_kind (kinds.Keyword keywords.Struct) so = refl
+    by_kind (kinds.Keyword keywords.Ptr) so = refl
+    by_kind (kinds.Keyword keywords.ArrayPtr) so = refl
+    by_kind (kinds.Keyword keywords.NtArrayPtr) so = refl
+    by_kind (kinds.Keyword keywords.TPtr) so = refl
+    by_kind (kinds.Keyword keywords.TArrayPtr) so = refl
+    by_kind (kinds.Keyword keywords.TNtArrayPtr) so = refl
     by_kind _ so = absurd cc
 
 not_kind : (ts : List Token) → next_is type_word ts ≡ true → next_is kind_word ts ≡ false
@@ -82,8 +83,8 @@ not_kind [] so = absurd cc
 not_kind (t ∷ ts) so = by_kind t.kind so
   where
     by_kind : (k : TokenKind) → type_word k ≡ true → kind_word k ≡ false
-    by_kind kinds.Tainted so = absurd cc
-    by_kind kinds.Callback so = absurd cc
+    by_kind (kinds.Keyword keywords.Tainted) so = absurd cc
+    by_kind (kinds.Keyword keywords.Callback) so = absurd cc
     by_kind _ so = refl
 
 not_mark : (ts : List Token) → next_is type_word ts ≡ true → next_is mark_word ts ≡ false
@@ -91,8 +92,8 @@ not_mark [] so = absurd cc
 not_mark (t ∷ ts) so = by_kind t.kind so
   where
     by_kind : (k : TokenKind) → type_word k ≡ true → mark_word k ≡ false
-    by_kind kinds.Checked so = absurd cc
-    by_kind kinds.Unchecked so = absurd cc
+    by_kind (kinds.Keyword keywords.Checked) so = absurd cc
+    by_kind (kinds.Keyword keywords.Unchecked) so = absurd cc
     by_kind _ so = refl
 
 -- the words before an item that begins with a type, as those of a function
@@ -144,7 +145,7 @@ called_none (side (behind_lead (end (end (stars st) name) it) c)) none = never (
 
 -- ---- structures, behind the brace
 
-pub structure_into : {b : Bool} {x : List ℕ} {s t p : Span} {tokens ts rest : List Token} {q : Reach} → SpellsTainted tokens b (token kinds.Struct s ∷ token (kinds.Name x) t ∷ token kinds.OpenBrace p ∷ ts) → SortedB tokens rest q → length rest < length ts → ClosedB ts rest q
+pub structure_into : {b : Bool} {x : List ℕ} {s t p : Span} {tokens ts rest : List Token} {q : Reach} → SpellsTainted tokens b (token (kinds.Keyword keywords.Struct) s ∷ token (kinds.Name x) t ∷ token kinds.OpenBrace p ∷ ts) → SortedB tokens rest q → length rest < length ts → ClosedB ts rest q
 structure_into d region less = elim d [ ]
 structure_into d (structure c) less = after_past (after_past (after_past (lead_past tainted_exact (tainted d) c (omega (arith, less))) (omega (arith, less))) (omega (arith, less))) (omega (arith, less))
 structure_into d (global c) less =
@@ -160,13 +161,13 @@ no_variables (side (end (declarators l) it)) = declarators_name l
 no_called : {ts m : List Token} {p r : Reach} → SideS p CalledS ts m r → names_at ts ≡ true
 no_called (side (lead (end (end (stars st) name) it) a)) = stars_name st
 
-pub structure_all : {b : Bool} {x : List ℕ} {s t p : Span} {tokens ts m : List Token} {r : Reach} → SpellsTainted tokens b (token kinds.Struct s ∷ token (kinds.Name x) t ∷ token kinds.OpenBrace p ∷ ts) → SortedS tokens m r → ClosedS ts m r
+pub structure_all : {b : Bool} {x : List ℕ} {s t p : Span} {tokens ts m : List Token} {r : Reach} → SpellsTainted tokens b (token (kinds.Keyword keywords.Struct) s ∷ token (kinds.Name x) t ∷ token kinds.OpenBrace p ∷ ts) → SortedS tokens m r → ClosedS ts m r
 structure_all d region = elim d [ ]
 structure_all d (structure a) = after_whole (after_whole (after_whole (lead_whole tainted_exact (tainted d) a)))
 structure_all d (global a) = never (no_variables (seq_whole type_exact (type tg.struct) (lead_whole tainted_exact (tainted d) a))) refl
 structure_all d (function a) = never (no_called (typed_all d tg.struct a)) refl
 
-pub structure_back : {b : Bool} {x : List ℕ} {s t p : Span} {tokens ts rest : List Token} {q : Reach} → SpellsTainted tokens b (token kinds.Struct s ∷ token (kinds.Name x) t ∷ token kinds.OpenBrace p ∷ ts) → ClosedB ts rest q → SortedB tokens rest q
+pub structure_back : {b : Bool} {x : List ℕ} {s t p : Span} {tokens ts rest : List Token} {q : Reach} → SpellsTainted tokens b (token (kinds.Keyword keywords.Struct) s ∷ token (kinds.Name x) t ∷ token kinds.OpenBrace p ∷ ts) → ClosedB ts rest q → SortedB tokens rest q
 structure_back d c = structure (behind_lead (tainted d) (after it (after name (after it c))))
 
 -- ---- variables, behind the type
@@ -186,13 +187,13 @@ called_function : {ts m : List Token} {p r : Reach} → SideS p CalledS ts m r �
 called_function (side (lead (end (end (stars st) name) it) a)) = function_at st
 
 -- no structure has its brace behind a type
-structure_type : {ts us rest : List Token} {x : TypeTree} {q : Reach} → is_structure ts ≡ false → SpellsType ts x us → AfterB (Is kinds.Struct) TaggedB ts rest q → length rest < length us → ⊥
+structure_type : {ts us rest : List Token} {x : TypeTree} {q : Reach} → is_structure ts ≡ false → SpellsType ts x us → AfterB (Is (kinds.Keyword keywords.Struct)) TaggedB ts rest q → length rest < length us → ⊥
 structure_type none d not_yet less = absurd (omega (arith, less, type_less d))
 structure_type none d (after it not_yet) less = absurd (omega (arith, less, type_less d))
 structure_type none d (after it (after name not_yet)) less = absurd (omega (arith, less, ap length (struct_rest refl d)))
 structure_type none d (after it (after name (after it c))) less = absurd cc
 
-structure_whole_type : {ts us m : List Token} {x : TypeTree} {r : Reach} → is_structure ts ≡ false → SpellsType ts x us → AfterS (Is kinds.Struct) (AfterS IsName (AfterS (Is kinds.OpenBrace) ClosedS)) ts m r → ⊥
+structure_whole_type : {ts us m : List Token} {x : TypeTree} {r : Reach} → is_structure ts ≡ false → SpellsType ts x us → AfterS (Is (kinds.Keyword keywords.Struct)) (AfterS IsName (AfterS (Is kinds.OpenBrace) ClosedS)) ts m r → ⊥
 structure_whole_type none d (after it (after name (after it a))) = absurd cc
 
 pub variables_into : {b : Bool} {x : TypeTree} {tokens ts us rest : List Token} {q : Reach} → SpellsTainted tokens b ts → is_structure ts ≡ false → SpellsType ts x us → is_function us ≡ false → SortedB tokens rest q → length rest < length us → SideS (type_reach x) VariablesB us rest q
@@ -224,10 +225,10 @@ typed_none (in_second (type d) c) none = never (type_at d) none
 alone_typed : {b : Bool} {k : FunctionKind} {m : Option Mark} {x : ResultForm} {tokens ts ts' us vs : List Token} → IsAlone k m x → SpellsTainted tokens b ts' → SpellsKind tokens k ts → SpellsOptionalMark ts m us → SpellsResult us x vs → role_at ts' ≡ 1 → ⊥
 alone_typed stuck.callback (g.absent f) g.callback m d typed = absurd (omega (arith, typed))
 alone_typed stuck.callback g.present k m d typed = elim k [ ]
-alone_typed stuck.marked t k (g.present w) d typed = absurd (omega (arith, typed, ap role_at (plain_kind t k typed), mark_role w))
+alone_typed stuck.marked t k (g.present {k = j} w) d typed = absurd (omega (arith, typed, ap role_at (plain_kind t k typed), mark_role j w))
 alone_typed stuck.void t k m g.void typed = absurd (omega (arith, typed, ap role_at (plain t k m typed)))
 
-alone_structure : {b : Bool} {k : FunctionKind} {m : Option Mark} {x : ResultForm} {tokens ts ts' us vs rest : List Token} {q : Reach} → IsAlone k m x → SpellsTainted tokens b ts' → SpellsKind tokens k ts → SpellsOptionalMark ts m us → SpellsResult us x vs → AfterB (Is kinds.Struct) TaggedB ts' rest q → length rest < length vs → ⊥
+alone_structure : {b : Bool} {k : FunctionKind} {m : Option Mark} {x : ResultForm} {tokens ts ts' us vs rest : List Token} {q : Reach} → IsAlone k m x → SpellsTainted tokens b ts' → SpellsKind tokens k ts → SpellsOptionalMark ts m us → SpellsResult us x vs → AfterB (Is (kinds.Keyword keywords.Struct)) TaggedB ts' rest q → length rest < length vs → ⊥
 alone_structure a t k m d not_yet less = short t k m d refl less
 alone_structure a t k m d (after it c) less = alone_typed a t k m d refl
 
@@ -256,7 +257,7 @@ past_call st (side (before_end c)) less = absurd (omega (arith, less, end_length
 past_call st (side (end (declarators l) it)) less = not_call st l
 
 -- behind the words before an item stands a structure that goes no further
-call_structure : {b : Bool} {k : FunctionKind} {m : Option Mark} {y : ResultForm} {n : ℕ} {x : List ℕ} {s p : Span} {tokens ts ts' us vs ws rest : List Token} {q : Reach} → SpellsTainted tokens b ts' → SpellsKind tokens k ts → SpellsOptionalMark ts m us → SpellsResult us y vs → SpellsStars vs n (token (kinds.Name x) s ∷ token kinds.OpenParen p ∷ ws) → AfterB (Is kinds.Struct) TaggedB ts' rest q → length rest < length vs → ⊥
+call_structure : {b : Bool} {k : FunctionKind} {m : Option Mark} {y : ResultForm} {n : ℕ} {x : List ℕ} {s p : Span} {tokens ts ts' us vs ws rest : List Token} {q : Reach} → SpellsTainted tokens b ts' → SpellsKind tokens k ts → SpellsOptionalMark ts m us → SpellsResult us y vs → SpellsStars vs n (token (kinds.Name x) s ∷ token kinds.OpenParen p ∷ ws) → AfterB (Is (kinds.Keyword keywords.Struct)) TaggedB ts' rest q → length rest < length vs → ⊥
 call_structure t k m d st not_yet less = short t k m d refl less
 call_structure t k m d st (after it not_yet) less = absurd (omega (arith, less, result_less d, ap length (plain t k m refl)))
 call_structure t k m d st (after it (after name not_yet)) less =

@@ -1,3 +1,5 @@
+pub mod Words
+pub mod Ahead
 mod OneType
 mod Heads
 mod OneExpression

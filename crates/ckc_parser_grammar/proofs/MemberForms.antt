@@ -1,9 +1,11 @@
 -- Members, parameters and bodies as forms that are built of others: reading them goes one way, and where they are stuck
 -- they fail.
-use Rattle.std.proofs.Common.{◌≡◌, ◌≤◌, ◌<◌, ℕ, zero, suc, length, Bool, true, false, List, [], ◌∷◌, Option, refl, sym, subst, arith}
+use Rattle.std.proofs.Common.{◌≡◌, ◌≤◌, ◌<◌, ℕ, zero, suc, length, Bool, true, false, List, [], ◌∷◌, Option, refl, sym, subst, arith, ap, Some}
+use Rattle.std.specs.Option.{is_some}
 use Rattle.ckc_text.specs.declared.place.Span.{Span}
 use Rattle.ckc_lexer_tokens.specs.declared.token.Token.{Token}
 use Rattle.ckc_lexer_tokens.specs.declared.token.TokenKind.{TokenKind}
+use Rattle.ckc_lexer_tokens.specs.declared.keyword.Keyword.TheVariants as keywords
 use Rattle.ckc_lexer_tokens.specs.declared.token.TokenKind.TheVariants as kinds
 use Rattle.ckc_tree.specs.declared.identifier.Identifier.{Identifier}
 use Rattle.ckc_tree.specs.declared.stmt.Mark.{Mark}
@@ -11,8 +13,7 @@ use Rattle.ckc_tree.specs.Types.{TypeName}
 use Rattle.ckc_tree.specs.Expressions.{Bounds}
 use Rattle.ckc_tree.specs.Items.{Member, Parameters, Body}
 use Rattle.ckc_tree.specs.Heights.{Reach, nowhere, node, around, ◌beside◌, type_reach, optional_bounds_reach, members_reach, parameters_reach, optional_body_reach}
-use Rattle.ckc_parser_grammar.specs.Tokens as words
-use Rattle.ckc_parser_grammar.specs.Tokens.{token, next_is, start_of, IsMark, mark_word}
+use Rattle.ckc_parser_grammar.specs.Tokens.{token, next_is, start_of, mark_of, mark_word}
 use Rattle.ckc_parser_grammar.specs.TypeGrammar as tg
 use Rattle.ckc_parser_grammar.specs.TypeBeginnings as tb
 use Rattle.ckc_parser_grammar.specs.TypeBeginnings.{begun}
@@ -28,9 +29,11 @@ use Rattle.ckc_parser_grammar.specs.StuckExpressions.{close_paren, comma_or_pare
 use Rattle.ckc_parser_grammar.specs.StuckStatements.{semicolon, open_brace, close_brace}
 use Rattle.ckc_parser_grammar.specs.StuckItems as stuck
 use Rattle.ckc_parser_grammar.specs.StuckItems.{void_word, body_word, IsLowMember, StuckMember, StuckMembers, StuckListed, StuckParameters, StuckBody}
-use Rattle.ckc_parser_grammar.proofs.Forms.{end_length, Is, it, IsName, name, ExactBelow, Exact, exact_on_all, none_below, within, below, seq_exact, seq_all, ended_all, after_all, after_exact, done_exact, done_all, either_exact, either_all, same_all, same_exact, head_exact, never, SeqS, SeqB, seq, in_first, in_second, EndedS, EndedB, before_end, end, AfterS, AfterB, not_yet, after, EitherS, yes, no, DoneS, done, HeadS, HeadB, none_yet, headed, OneHead}
+use Rattle.ckc_parser_grammar.proofs.Forms.{end_length, Is, it, IsName, name, ExactBelow, Exact, exact_on_all, none_below, within, below, seq_exact, seq_all, ended_all, after_all, after_exact, done_exact, done_all, either_exact, either_all, same_all, same_exact, head_exact, SeqS, SeqB, seq, in_first, in_second, EndedS, EndedB, before_end, end, AfterS, AfterB, not_yet, after, EitherS, yes, no, DoneS, done, HeadS, HeadB, none_yet, headed, OneHead}
+use Rattle.ckc_parser_grammar.proofs.Ahead.{never}
 use Rattle.ckc_parser_grammar.proofs.Failing as failing
-use Rattle.ckc_parser_grammar.proofs.Failing.{Fails, beside_nowhere, low_beside, fails_first, fails_second, fails_before_end, fails_at_end, fails_after, fails_at_first, fails_as, fails_headed, fails_unheaded, fails_yes, fails_no}
+use Rattle.ckc_parser_grammar.proofs.Failing.{Fails, fails_first, fails_second, fails_before_end, fails_at_end, fails_after, fails_at_first, fails_as, fails_headed, fails_unheaded, fails_yes, fails_no}
+use Rattle.ckc_parser_grammar.proofs.Paths.{beside_nowhere, low_beside}
 use Rattle.ckc_parser_grammar.proofs.TypeForms.{TypeNameS, named, type_name_exact, type_name_fails}
 use Rattle.ckc_parser_grammar.proofs.MoreForms.{is_it, head_all, Starts, Apart, next_apart, by_next, nothing_read, or_right, list_exact, WithS, so_far, in_whole, PutS, put, put_all, fails_put, begun_node, begun_nothing, beside_high, reach_is}
 use Rattle.ckc_parser_grammar.proofs.Starting.{type_high, type_starts, type_at}
@@ -38,6 +41,7 @@ use Rattle.ckc_parser_grammar.proofs.DeclarationForms.{name_is, OptionalBoundsS,
 use Rattle.ckc_parser_grammar.proofs.HeadForms.{turned}
 use Rattle.ckc_parser_grammar.proofs.StatementForms.{StatementsS, listed, statements_exact}
 use Rattle.ckc_parser_grammar.proofs.StatementFailing.{statements_fails}
+use Rattle.ckc_parser_grammar.proofs.Words.{each_mark}
 
 -- ---- what members and parameters have in common
 
@@ -267,10 +271,10 @@ abbrev pub ParametersB : List Token → List Token → Reach → Type 0
 ParametersB = WithS ParametersS BeginsParameters
 
 abbrev VoidS : List Token → List Token → Reach → Type 0
-VoidS = AfterS (Is kinds.Void) (AfterS (Is kinds.CloseParen) DoneS)
+VoidS = AfterS (Is (kinds.Keyword keywords.Void)) (AfterS (Is kinds.CloseParen) DoneS)
 
 abbrev VoidB : List Token → List Token → Reach → Type 0
-VoidB = AfterB (Is kinds.Void) (AfterB (Is kinds.CloseParen) DoneS)
+VoidB = AfterB (Is (kinds.Keyword keywords.Void)) (AfterB (Is kinds.CloseParen) DoneS)
 
 abbrev SomeS : List Token → List Token → Reach → Type 0
 SomeS = EitherS (next_is void_word) VoidS ListedS
@@ -289,7 +293,7 @@ paren_type kinds.CloseParen so = refl
 paren_type _ so = absurd cc
 
 pub void_type : Apart void_word type_word
-void_type kinds.Void so = refl
+void_type (kinds.Keyword keywords.Void) so = refl
 void_type _ so = absurd cc
 
 listed_at : {x : List Member} {t : Span} {ts m : List Token} → SpellsListed ts x t m → next_is type_word ts ≡ true
@@ -342,15 +346,10 @@ pub data BodyS : List Token → List Token → Reach → Type 0 where
   body : {x : Option Body} {t : Span} {ts m : List Token} → SpellsBody ts x t m → BodyS ts m (optional_body_reach x)
 
 pub data IsMarked : TokenKind → Type 0 where
-  mark : {k : TokenKind} {w : Mark} → IsMark k w → IsMarked k
+  mark : {k : TokenKind} {w : Mark} → mark_of k ≡ Some w → IsMarked k
 
-mark_is : {k : TokenKind} {w : Mark} → IsMark k w → mark_word k ≡ true
-mark_is words.checked = refl
-mark_is words.unchecked = refl
-
-mark_semicolon : {k : TokenKind} {w : Mark} → IsMark k w → semicolon k ≡ false
-mark_semicolon words.checked = refl
-mark_semicolon words.unchecked = refl
+mark_semicolon : (k : TokenKind) {w : Mark} → mark_of k ≡ Some w → semicolon k ≡ false
+mark_semicolon k w = each_mark (λ k. semicolon k ≡ false) k w refl refl
 
 abbrev BlockS : List Token → List Token → Reach → Type 0
 BlockS = AfterS (Is kinds.OpenBrace) StatementsS
@@ -394,12 +393,12 @@ word_node k s rest = begun_node (token k s ∷ rest) rest nowhere (omega arith)
 
 block_into : {ts us rest : List Token} {q : Reach} {s : Span} {w : Option Mark} → g.SpellsOptionalMark ts w (token kinds.OpenBrace s ∷ us) → BeginsStatements us rest q → FormB ts rest (around (start_of ts) q)
 block_into {s} (g.absent f) c = no refl (reach_is (PutS MarkedB) (block_node s c) (put (no refl (after it c))))
-block_into {s = p} (g.present {k} {s} w) c = no (mark_semicolon w) (reach_is (PutS MarkedB) (mark_node k s p c) (put (yes (mark_is w) (after (mark w) (after it c)))))
+block_into {s = p} (g.present {k} {s} w) c = no (mark_semicolon k w) (reach_is (PutS MarkedB) (mark_node k s p c) (put (yes (ap is_some w) (after (mark w) (after it c)))))
 
 body_to : (ts m : List Token) (r : Reach) → BodyS ts m r → FormS ts m r
 body_to ts m r (body g.absent) = yes refl (after it done)
 body_to ts m r (body (g.present {s} (g.absent f) d)) = no refl (reach_is (PutS MarkedS) (block_node s (statements_exact.spelled (listed d))) (put (no refl (after it (listed d)))))
-body_to ts m r (body (g.present {s = p} (g.present {k} {s} w) d)) = no (mark_semicolon w) (reach_is (PutS MarkedS) (mark_node k s p (statements_exact.spelled (listed d))) (put (yes (mark_is w) (after (mark w) (after it (listed d))))))
+body_to ts m r (body (g.present {s = p} (g.present {k} {s} w) d)) = no (mark_semicolon k w) (reach_is (PutS MarkedS) (mark_node k s p (statements_exact.spelled (listed d))) (put (yes (ap is_some w) (after (mark w) (after it (listed d))))))
 
 body_begin : (ts m : List Token) (r : Reach) → BodyS ts m r → BeginsBody ts m r
 body_begin ts m r (body g.absent) = b.absent
@@ -411,7 +410,7 @@ form_here ts = by_next semicolon ts (λ so. yes so not_yet) (λ so. no so (reach
 body_into : (ts rest : List Token) (q : Reach) → BeginsBody ts rest q → FormB ts rest q
 body_into ts rest q b.nothing = form_here ts
 body_into ts rest q b.absent = yes refl (after it done)
-body_into ts rest q (b.mark {k} {s} w) = no (mark_semicolon w) (reach_is (PutS MarkedB) (word_node k s rest) (put (yes (mark_is w) (after (mark w) not_yet))))
+body_into ts rest q (b.mark {k} {s} w) = no (mark_semicolon k w) (reach_is (PutS MarkedB) (word_node k s rest) (put (yes (ap is_some w) (after (mark w) not_yet))))
 body_into ts rest q (b.statements w c) = block_into w c
 
 body_from : (ts rest : List Token) (q : Reach) → FormB ts rest q → BeginsBody ts rest q
@@ -440,12 +439,12 @@ brace_body kinds.OpenBrace so = refl
 brace_body _ so = absurd cc
 
 mark_body : (k : TokenKind) → mark_word k ≡ true → body_word k ≡ true
-mark_body kinds.Checked so = refl
-mark_body kinds.Unchecked so = refl
+mark_body (kinds.Keyword keywords.Checked) so = refl
+mark_body (kinds.Keyword keywords.Unchecked) so = refl
 mark_body _ so = absurd cc
 
 pub body_fails : {ts : List Token} {f : Failure} → StuckBody ts f → Fails 0 BodyS BeginsBody ts f
 body_fails {ts} (stuck.no_body none) = fails_as body_to body_into body_from (fails_no (implied semicolon_body ts none) (fails_put marked_exact (omega arith) (fails_no (implied mark_body ts none) (fails_at_first (is_it open_brace refl) (omega arith) (implied brace_body ts none)))))
-body_fails (stuck.mark w none) = fails_as body_to body_into body_from (fails_no (mark_semicolon w) (fails_put marked_exact (omega arith) (fails_yes (mark_is w) (fails_after (mark w) block_exact (fails_at_first (is_it open_brace refl) (omega arith) none)))))
+body_fails (stuck.mark {k} w none) = fails_as body_to body_into body_from (fails_no (mark_semicolon k w) (fails_put marked_exact (omega arith) (fails_yes (ap is_some w) (fails_after (mark w) block_exact (fails_at_first (is_it open_brace refl) (omega arith) none)))))
 body_fails (stuck.statements (g.absent f) x) = fails_as body_to body_into body_from (fails_no refl (fails_put marked_exact (omega arith) (fails_no refl (fails_after it statements_exact (statements_fails (omega arith) x)))))
-body_fails (stuck.statements (g.present w) x) = fails_as body_to body_into body_from (fails_no (mark_semicolon w) (fails_put marked_exact (omega arith) (fails_yes (mark_is w) (fails_after (mark w) block_exact (fails_after it statements_exact (statements_fails (omega arith) x))))))
+body_fails (stuck.statements (g.present {k} w) x) = fails_as body_to body_into body_from (fails_no (mark_semicolon k w) (fails_put marked_exact (omega arith) (fails_yes (ap is_some w) (fails_after (mark w) block_exact (fails_after it statements_exact (statements_fails (omega arith) x))))))

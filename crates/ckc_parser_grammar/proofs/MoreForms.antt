@@ -10,10 +10,11 @@ use Rattle.ckc_parser_grammar.specs.Tokens.{token, next_is, start_of}
 use Rattle.ckc_parser_grammar.specs.TypeBeginnings.{begun}
 use Rattle.ckc_parser_grammar.specs.Failures as failures
 use Rattle.ckc_parser_grammar.specs.Failures.{Failure, IsLow}
-use Rattle.ckc_parser_grammar.proofs.Paths.{around_height, beside_height}
-use Rattle.ckc_parser_grammar.proofs.Forms.{Is, it, HeadS, HeadB, OneHead, head_exact, ◌ends◌, all, later, end_length, end_trans, end_same, end_within, Read, ExactBelow, Exact, exact_on_all, below, within, tokens_same, reach_same, move, beside_same, never, SeqS, SeqB, seq, in_first, in_second, AfterS, AfterB, not_yet, EitherS, yes, no, DoneS, done}
+use Rattle.ckc_parser_grammar.proofs.Paths.{beside_nowhere, around_height, beside_height, low_around, low_beside}
+use Rattle.ckc_parser_grammar.proofs.Forms.{Is, it, HeadS, HeadB, OneHead, head_exact, ◌ends◌, all, later, end_length, end_trans, end_same, Read, ExactBelow, Exact, exact_on_all, below, within, tokens_same, reach_same, move, beside_same, SeqS, SeqB, seq, in_first, in_second, AfterS, AfterB, not_yet, EitherS, yes, no}
+use Rattle.ckc_parser_grammar.proofs.Ahead.{never}
 use Rattle.ckc_parser_grammar.proofs.Forms as forms
-use Rattle.ckc_parser_grammar.proofs.Failing.{Fails, unexpected, too_deep, no_memory, beside_nowhere, beside_higher, low_beside, low_around, deep_around, inner_start, longer, fails_after}
+use Rattle.ckc_parser_grammar.proofs.Failing.{Fails, unexpected, too_deep, no_memory, beside_higher, deep_around, inner_start, longer, fails_after}
 
 -- ---- reaches
 

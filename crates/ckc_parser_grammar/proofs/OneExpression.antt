@@ -8,18 +8,15 @@ use Rattle.ckc_lexer_tokens.specs.declared.token.TokenKind.{TokenKind}
 use Rattle.ckc_lexer_tokens.specs.declared.token.TokenKind.TheVariants as kinds
 use Rattle.ckc_tree.specs.declared.expr.UnaryOperator.{UnaryOperator}
 use Rattle.ckc_tree.specs.declared.expr.BinaryOperator.{BinaryOperator}
-use Rattle.ckc_tree.specs.declared.expr.CastWord.{CastWord}
-use Rattle.ckc_tree.specs.declared.expr.MallocWord.{MallocWord}
-use Rattle.ckc_tree.specs.declared.expr.CallocWord.{CallocWord}
 use Rattle.ckc_tree.specs.Types.{TypeName}
 use Rattle.ckc_tree.specs.Expressions as trees
 use Rattle.ckc_tree.specs.Expressions.{Expression, Expressions, Bounds}
-use Rattle.ckc_parser_grammar.specs.Tokens as words
-use Rattle.ckc_parser_grammar.specs.Tokens.{token, join, identifier, IsUnaryOperator, IsCastWord, IsMallocWord, IsCallocWord, operator_at, level, has_operator, next_is, open_paren, selector}
+use Rattle.ckc_parser_grammar.specs.Tokens.{token, join, identifier, operator_at, level, has_operator}
 use Rattle.ckc_parser_grammar.specs.ExpressionGrammar as g
 use Rattle.ckc_parser_grammar.specs.ExpressionGrammar.{SpellsBinary, SpellsTail, SpellsUnary, SpellsSelectors, SpellsPrimary, SpellsCall, SpellsArguments, SpellsMoreArguments, SpellsBounds}
 use Rattle.ckc_parser_grammar.proofs.OneType.{first_span, rest_of, type_name_same, angled_same}
 use Rattle.ckc_parser_grammar.proofs.Heads.{class_at, class_of, primary_class, unary_class, not_primary, starts}
+use Rattle.ckc_parser_grammar.proofs.Words.{same_word}
 
 -- what is read, the bytes that it stands on, and the tokens behind it
 abbrev pub Read : Type 0 → Type 0
@@ -32,25 +29,6 @@ SameRead {A} a o r b p q = ◌≡◌ {A = Read A} (a, o, r) (b, p, q)
 abbrev pub first_kind : List Token → TokenKind
 first_kind [] = kinds.Semicolon
 first_kind (t ∷ ts) = t.kind
-
-unary_word : {k : TokenKind} {w w' : UnaryOperator} → IsUnaryOperator k w → IsUnaryOperator k w' → w ≡ w'
-unary_word words.deref words.deref = refl
-unary_word words.address_of words.address_of = refl
-unary_word words.negate words.negate = refl
-unary_word words.not words.not = refl
-unary_word words.complement words.complement = refl
-
-cast_word : {k : TokenKind} {w w' : CastWord} → IsCastWord k w → IsCastWord k w' → w ≡ w'
-cast_word words.dynamic words.dynamic = refl
-cast_word words.assume words.assume = refl
-
-malloc_word : {k : TokenKind} {w w' : MallocWord} → IsMallocWord k w → IsMallocWord k w' → w ≡ w'
-malloc_word words.malloc words.malloc = refl
-malloc_word words.t_malloc words.t_malloc = refl
-
-calloc_word : {k : TokenKind} {w w' : CallocWord} → IsCallocWord k w → IsCallocWord k w' → w ≡ w'
-calloc_word words.calloc words.calloc = refl
-calloc_word words.nt_calloc words.nt_calloc = refl
 
 -- ---- the second of two readings, from where the first ended
 
@@ -140,7 +118,7 @@ tail_rest (g.level_done f) same = same
 tail_rest (g.level_more {ts} found l d u) same = absurd (none-some _ (ap operator_at (sym same) ∙ found))
 
 unary_rest : {ts r rest : List Token} {e : Expression} {o q t : Span} {y : List ℕ} → SpellsUnary ts e o r → ts ≡ token (kinds.Name y) q ∷ token kinds.CloseParen t ∷ rest → r ≡ token kinds.CloseParen t ∷ rest
-unary_rest (g.operator w d) same = absurd (omega (arith, unary_class w, ap class_at same))
+unary_rest (g.operator {k} w d) same = absurd (omega (arith, unary_class k w, ap class_at same))
 unary_rest (g.postfix p s) same = selectors_rest s (name_rest p same)
 
 binary_rest : {n : ℕ} {ts r rest : List Token} {e : Expression} {o q t : Span} {y : List ℕ} → SpellsBinary n ts e o r → ts ≡ token (kinds.Name y) q ∷ token kinds.CloseParen t ∷ rest → r ≡ token kinds.CloseParen t ∷ rest
@@ -174,7 +152,7 @@ mutual
       tail_same u (move_longer left o found (binary_same d (move_binary (after found) d')) u')
 
   pub unary_same : {ts r r' : List Token} {e e' : Expression} {o o' : Span} → SpellsUnary ts e o r → SpellsUnary ts e' o' r' → SameRead e o r e' o' r'
-  unary_same (g.operator {s} w d) (g.operator w' d') = unary_of s (unary_word w w') (unary_same d d')
+  unary_same (g.operator {s} w d) (g.operator w' d') = unary_of s (same_word w w') (unary_same d d')
   unary_same (g.operator w d) (g.postfix p s) = absurd (not_primary w p)
   unary_same (g.postfix p s) (g.operator w d) = absurd (not_primary w p)
   unary_same (g.postfix p s) (g.postfix p' s') = selectors_same s (move_selectors (primary_same p p') s')
@@ -204,20 +182,20 @@ mutual
       ap (λ (x : TypeName × List Token). (trees.SizeOf x.0 (join s (first_span x.1)), join s (first_span x.1), rest_of x.1)) (type_name_same d d')
   primary_same (g.cast {s} w a d) (g.cast {type} {cast} w' a' d') =
       let type_is = angled_same a a' in
-      rw (cast_word w w', typed type_is) (within (λ e span. trees.Cast cast type e span) s (binary_same d (move_binary (after type_is) d')))
+      rw (same_word w w', typed type_is) (within (λ e span. trees.Cast cast type e span) s (binary_same d (move_binary (after type_is) d')))
   primary_same (g.cast w a d) (g.bounded_cast w' a' d' b') = absurd (not_end (binary_same d (move_binary (after (angled_same a a')) d')))
   primary_same (g.bounded_cast w a d b) (g.cast w' a' d') = absurd (not_end (sym (binary_same d (move_binary (after (angled_same a a')) d'))))
   primary_same (g.bounded_cast {s} w a d b) (g.bounded_cast {e} {type} {cast} w' a' d' b') =
       let type_is = angled_same a a' in
       let operand_is = binary_same d (move_binary (after type_is) d') in
-      rw (cast_word w w', typed type_is, form operand_is) (within (λ bounds span. trees.BoundedCast cast type e bounds span) s (bounds_same b (move_bounds (ap rest_of (behind operand_is)) b')))
+      rw (same_word w w', typed type_is, form operand_is) (within (λ bounds span. trees.BoundedCast cast type e bounds span) s (bounds_same b (move_bounds (ap rest_of (behind operand_is)) b')))
   primary_same (g.malloc {s} w a d) (g.malloc {type} {malloc_word = word} w' a' d') =
       let type_is = angled_same a a' in
-      rw (malloc_word w w', typed type_is) (within (λ e span. trees.Malloc word type e span) s (binary_same d (move_binary (after type_is) d')))
+      rw (same_word w w', typed type_is) (within (λ e span. trees.Malloc word type e span) s (binary_same d (move_binary (after type_is) d')))
   primary_same (g.calloc {s} w a d b) (g.calloc {count} {type} {calloc_word = word} w' a' d' b') =
       let type_is = angled_same a a' in
       let count_is = binary_same d (move_binary (after type_is) d') in
-      rw (calloc_word w w', typed type_is, form count_is) (within (λ e span. trees.Calloc word type count e span) s (binary_same b (move_binary (ap rest_of (behind count_is)) b')))
+      rw (same_word w w', typed type_is, form count_is) (within (λ e span. trees.Calloc word type count e span) s (binary_same b (move_binary (ap rest_of (behind count_is)) b')))
   primary_same d d' = absurd (omega (arith, one_class d d'))
 
   pub call_same : {ts r r' : List Token} {e e' : Expression} {o o' : Span} → SpellsCall ts e o r → SpellsCall ts e' o' r' → SameRead e o r e' o' r'

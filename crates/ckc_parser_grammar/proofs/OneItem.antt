@@ -1,13 +1,14 @@
 -- Tokens spell one tree.
 use Rattle.std.proofs.Common.{◌≡◌, ℕ, Bool, true, false, List, [], ◌∷◌, Option, refl, sym, ap, subst, ◌∙◌, arith}
+use Rattle.std.specs.Option.{is_some}
 use Rattle.ckc_text.specs.declared.place.Span.{Span}
 use Rattle.ckc_lexer_tokens.specs.declared.token.CheckedScope.{CheckedScope}
 use Rattle.ckc_lexer_tokens.specs.declared.token.Token.{Token}
 use Rattle.ckc_lexer_tokens.specs.declared.token.TokenKind.{TokenKind}
+use Rattle.ckc_lexer_tokens.specs.declared.keyword.Keyword.TheVariants as keywords
 use Rattle.ckc_lexer_tokens.specs.declared.token.TokenKind.TheVariants as kinds
 use Rattle.ckc_tree.specs.declared.identifier.Identifier.{Identifier}
 use Rattle.ckc_tree.specs.declared.stmt.Mark.{Mark}
-use Rattle.ckc_tree.specs.declared.type_form.PointerWord.{PointerWord}
 use Rattle.ckc_tree.specs.declared.item.Region.{Region}
 use Rattle.ckc_tree.specs.declared.item.FunctionKind.{FunctionKind}
 use Rattle.ckc_tree.specs.Types.{TypeTree, TypeName}
@@ -17,8 +18,8 @@ use Rattle.ckc_tree.specs.Statements.{Declarator, Initializer}
 use Rattle.ckc_tree.specs.Items as trees
 use Rattle.ckc_tree.specs.Items.{Member, ResultForm, Parameters, Body, Item, Tree}
 use Rattle.ckc_parser_grammar.specs.Tokens as words
-use Rattle.ckc_parser_grammar.specs.Tokens.{token, join, identifier, from_first, IsPointerWord, IsMark, next_is}
-use Rattle.ckc_parser_grammar.specs.TypeGrammar.{SpellsStars, SpellsType, SpellsTypeName}
+use Rattle.ckc_parser_grammar.specs.Tokens.{token, join, from_first}
+use Rattle.ckc_parser_grammar.specs.TypeGrammar.{SpellsStars, SpellsType}
 use Rattle.ckc_parser_grammar.specs.TypeGrammar as types
 use Rattle.ckc_parser_grammar.specs.StatementGrammar as stmts
 use Rattle.ckc_parser_grammar.specs.StatementGrammar.{SpellsOptionalBounds, SpellsOptionalArray, SpellsOptionalInitializer, SpellsDeclarator, SpellsDeclarators, SpellsStatements}
@@ -27,7 +28,9 @@ use Rattle.ckc_parser_grammar.specs.ItemGrammar.{SpellsTainted, SpellsKind, Spel
 use Rattle.ckc_parser_grammar.proofs.OneType.{Same, first_span, rest_of, stars_same, type_same, type_name_same}
 use Rattle.ckc_parser_grammar.proofs.OneExpression.{Read, SameRead, first_kind, behind, form, typed, after}
 use Rattle.ckc_parser_grammar.proofs.Roles.{role_at, type_role, mark_role}
-use Rattle.ckc_parser_grammar.proofs.OneStatement.{first_name, stands, not_absent, mark_same, optional_bounds_same, declarators_from, statements_same}
+use Rattle.ckc_parser_grammar.proofs.OneStatement.{first_name, stands, optional_bounds_same, declarators_from, statements_same}
+use Rattle.ckc_parser_grammar.proofs.Words.{same_word, says_nothing, pointer_struct}
+use Rattle.ckc_parser_grammar.specs.StuckItems.{struct_word}
 
 pub tainted_same : {ts r r' : List Token} {b b' : Bool} → SpellsTainted ts b r → SpellsTainted ts b' r' → Same b r b' r'
 tainted_same (g.absent f) (g.absent f') = refl
@@ -44,15 +47,11 @@ kind_same g.callback (g.trusted f) = absurd cc
 kind_same g.tainted g.tainted = refl
 kind_same g.callback g.callback = refl
 
-is_mark : {k : TokenKind} {w : Mark} → IsMark k w → words.mark_word k ≡ true
-is_mark words.checked = refl
-is_mark words.unchecked = refl
-
 pub optional_mark_same : {ts r r' : List Token} {m m' : Option Mark} → SpellsOptionalMark ts m r → SpellsOptionalMark ts m' r' → Same m r m' r'
 optional_mark_same (g.absent f) (g.absent f') = refl
-optional_mark_same (g.absent f) (g.present w) = let h : true ≡ false = sym (is_mark w) ∙ f in absurd cc
-optional_mark_same (g.present w) (g.absent f) = let h : true ≡ false = sym (is_mark w) ∙ f in absurd cc
-optional_mark_same (g.present w) (g.present w') = rw (mark_same w w') refl
+optional_mark_same (g.absent f) (g.present w) = let h : true ≡ false = sym (ap is_some w) ∙ f in absurd cc
+optional_mark_same (g.present w) (g.absent f) = let h : true ≡ false = sym (ap is_some w) ∙ f in absurd cc
+optional_mark_same (g.present w) (g.present w') = rw (same_word w w') refl
 
 -- what is read of a member
 pub record Parts : Type 0 where
@@ -134,7 +133,7 @@ parameters_same (g.listed d) g.void = absurd (omega (arith, listed_role d))
 parameters_same (g.listed d) (g.listed d') = ap (λ (x : Read (List Member)). (trees.Listed x.0, x.1, x.2)) (listed_same d d')
 
 not_body : {m : Option Mark} {s t : Span} {ts us : List Token} → SpellsOptionalMark (token kinds.Semicolon t ∷ ts) m (token kinds.OpenBrace s ∷ us) → ⊥
-not_body (g.present w) = elim w [ ]
+not_body (g.present w) = says_nothing w
 
 body_same : {ts r r' : List Token} {b b' : Option Body} {t t' : Span} → SpellsBody ts b t r → SpellsBody ts b' t' r' → SameRead b t r b' t' r'
 body_same g.absent g.absent = refl
@@ -168,19 +167,11 @@ pub declarators_name : {ts r : List Token} {ds : List Declarator} {w : Span} →
 declarators_name (stmts.one d f) = declarator_name d
 declarators_name (stmts.more d m) = declarator_name d
 
-pub struct_rest : {ts r us : List Token} {b : TypeTree} {s t : Span} {x : List ℕ} → ts ≡ token kinds.Struct s ∷ token (kinds.Name x) t ∷ r → SpellsType ts b us → us ≡ r
-struct_rest same types.int = let h : kinds.Int ≡ kinds.Struct = ap first_kind same in absurd cc
-struct_rest same types.char = let h : kinds.Char ≡ kinds.Struct = ap first_kind same in absurd cc
+pub struct_rest : {ts r us : List Token} {b : TypeTree} {s t : Span} {x : List ℕ} → ts ≡ token (kinds.Keyword keywords.Struct) s ∷ token (kinds.Name x) t ∷ r → SpellsType ts b us → us ≡ r
+struct_rest same types.int = let h : (kinds.Keyword keywords.Int) ≡ (kinds.Keyword keywords.Struct) = ap first_kind same in absurd cc
+struct_rest same types.char = let h : (kinds.Keyword keywords.Char) ≡ (kinds.Keyword keywords.Struct) = ap first_kind same in absurd cc
 struct_rest same types.struct = ap (λ (x : List Token). rest_of (rest_of x)) same
-struct_rest same (types.pointer w d e) = absurd (pointer_struct w (ap first_kind same))
-  where
-    pointer_struct : {k : TokenKind} {w : PointerWord} → IsPointerWord k w → k ≡ kinds.Struct → ⊥
-    pointer_struct words.ptr same = absurd cc
-    pointer_struct words.array_ptr same = absurd cc
-    pointer_struct words.nt_array_ptr same = absurd cc
-    pointer_struct words.t_ptr same = absurd cc
-    pointer_struct words.t_array_ptr same = absurd cc
-    pointer_struct words.t_nt_array_ptr same = absurd cc
+struct_rest same (types.pointer {k} w d e) = let h : true ≡ false = sym (ap struct_word (ap first_kind same)) ∙ pointer_struct k w in absurd cc
 
 brace_names : {us ts : List Token} {p : Span} → us ≡ token kinds.OpenBrace p ∷ ts → names_at us ≡ true → ⊥
 brace_names same h = let e : false ≡ true = sym (ap names_at same) ∙ h in absurd cc
@@ -195,7 +186,7 @@ plain_kind g.present g.tainted h = refl
 
 plain_mark : {us vs : List Token} {m : Option Mark} → SpellsOptionalMark us m vs → role_at us ≡ 1 → us ≡ vs
 plain_mark (g.absent f) h = refl
-plain_mark (g.present w) h = absurd (omega (arith, h, mark_role w))
+plain_mark (g.present {k} w) h = absurd (omega (arith, h, mark_role k w))
 
 pub plain : {tokens ts us vs : List Token} {b : Bool} {k : FunctionKind} {m : Option Mark} → SpellsTainted tokens b ts → SpellsKind tokens k us → SpellsOptionalMark us m vs → role_at ts ≡ 1 → ts ≡ vs
 plain t k m h =
@@ -209,7 +200,7 @@ value_type (g.value {base} d) h = (base, d)
 
 array_first : {o p : Span} {us vs : List Token} {a : Option ArrayForm} → SpellsOptionalArray o us a p vs → first_kind us ≡ kinds.OpenParen → first_kind vs ≡ kinds.OpenParen
 array_first (stmts.absent f) same = same
-array_first (stmts.present w) same = let h : true ≡ false = sym (not_absent w) ∙ ap words.array_word same in absurd cc
+array_first (stmts.present w) same = let h : true ≡ false = sym (ap is_some w) ∙ ap words.array_word same in absurd cc
 
 bounds_first : {o p : Span} {us vs : List Token} {a : Option Bounds} → SpellsOptionalBounds o us a p vs → first_kind us ≡ kinds.OpenParen → first_kind vs ≡ kinds.OpenParen
 bounds_first (stmts.absent f) same = same
@@ -229,11 +220,11 @@ not_call st (stmts.one d f) = let h = declarator_call st d in absurd cc
 not_call st (stmts.more d m) = let h = declarator_call st d in absurd cc
 
 structure_global : {tokens ts us vs r : List Token} {b b' : Bool} {x : List ℕ} {s t p w : Span} {base : TypeTree} {ds : List Declarator}
-    → SpellsTainted tokens b (token kinds.Struct s ∷ token (kinds.Name x) t ∷ token kinds.OpenBrace p ∷ ts) → SpellsTainted tokens b' us → SpellsType us base vs → SpellsDeclarators vs ds w r → ⊥
+    → SpellsTainted tokens b (token (kinds.Keyword keywords.Struct) s ∷ token (kinds.Name x) t ∷ token kinds.OpenBrace p ∷ ts) → SpellsTainted tokens b' us → SpellsType us base vs → SpellsDeclarators vs ds w r → ⊥
 structure_global t t' d e = brace_names (struct_rest (sym (after (tainted_same t t'))) d) (declarators_name e)
 
 pub structure_function : {tokens ts us vs ws zs : List Token} {b : Bool} {k : FunctionKind} {m : Option Mark} {x y : List ℕ} {s t p q : Span} {res : ResultForm} {n : ℕ}
-    → SpellsTainted tokens b (token kinds.Struct s ∷ token (kinds.Name x) t ∷ token kinds.OpenBrace p ∷ ts) → SpellsKind tokens k us → SpellsOptionalMark us m vs → SpellsResult vs res ws → SpellsStars ws n (token (kinds.Name y) q ∷ zs) → ⊥
+    → SpellsTainted tokens b (token (kinds.Keyword keywords.Struct) s ∷ token (kinds.Name x) t ∷ token kinds.OpenBrace p ∷ ts) → SpellsKind tokens k us → SpellsOptionalMark us m vs → SpellsResult vs res ws → SpellsStars ws n (token (kinds.Name y) q ∷ zs) → ⊥
 structure_function t k m d e =
     let same = plain t k m refl in
     let value = value_type d (subst (λ (x : List Token). role_at x ≡ 1) same refl) in
@@ -252,7 +243,7 @@ scope_global (g.absent f) d = absurd (omega (arith, type_role d))
 
 pub scope_function : {ts us vs r : List Token} {k : FunctionKind} {m : Option Mark} {sc : CheckedScope} {s : Span} {t : ResultForm} → SpellsKind (token (kinds.Scope sc) s ∷ r) k ts → SpellsOptionalMark ts m us → SpellsResult us t vs → ⊥
 scope_function (g.trusted f) (g.absent f') (g.value d) = absurd (omega (arith, type_role d))
-scope_function (g.trusted f) (g.present w) d = elim w [ ]
+scope_function (g.trusted f) (g.present w) d = says_nothing w
 
 region_same : {sc : CheckedScope} {x y : Region} → SpellsRegion sc x → SpellsRegion sc y → x ≡ y
 region_same g.on g.on = refl

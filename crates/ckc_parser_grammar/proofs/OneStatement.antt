@@ -1,29 +1,27 @@
 -- Tokens that begin with a statement begin with one statement.
 use Rattle.std.proofs.Common.{◌≡◌, ℕ, true, false, List, [], ◌∷◌, Option, Some, None, refl, sym, ap, subst, ◌∙◌, arith}
+use Rattle.std.specs.Option.{is_some}
 use Rattle.ckc_text.specs.declared.place.Span.{Span}
 use Rattle.ckc_lexer_tokens.specs.declared.token.Token.{Token}
 use Rattle.ckc_lexer_tokens.specs.declared.token.TokenKind.{TokenKind}
+use Rattle.ckc_lexer_tokens.specs.declared.keyword.Keyword.TheVariants as keywords
 use Rattle.ckc_lexer_tokens.specs.declared.token.TokenKind.TheVariants as kinds
-use Rattle.ckc_tree.specs.declared.stmt.Mark.{Mark}
 use Rattle.ckc_tree.specs.declared.stmt.ArrayForm.{ArrayForm}
-use Rattle.ckc_tree.specs.declared.stmt.ArrayKind.{ArrayKind}
-use Rattle.ckc_tree.specs.declared.stmt.Constant.{Constant}
 use Rattle.ckc_tree.specs.declared.stmt.SignedConstant.{SignedConstant}
-use Rattle.ckc_tree.specs.declared.stmt.StoreOperator.{StoreOperator}
 use Rattle.ckc_tree.specs.declared.stmt.StepOperator.{StepOperator}
 use Rattle.ckc_tree.specs.Expressions.{Expression, Bounds}
 use Rattle.ckc_tree.specs.Statements as trees
 use Rattle.ckc_tree.specs.Statements.{Initializer, Declarator, Declaration, Assignment, assignment_span, ForInitial, Statement, statement_span, Statements}
-use Rattle.ckc_parser_grammar.specs.Tokens as words
-use Rattle.ckc_parser_grammar.specs.Tokens.{token, join, identifier, from_first, IsMark, IsArrayWord, IsStoreOperator, IsStepOperator, next_is, comma, else_word}
+use Rattle.ckc_parser_grammar.specs.Tokens.{token, join, from_first, store_operator_of, step_operator_of, next_is, comma, else_word}
 use Rattle.ckc_parser_grammar.specs.ExpressionGrammar as expressions
-use Rattle.ckc_parser_grammar.specs.ExpressionGrammar.{SpellsUnary, SpellsBinary, SpellsCall, SpellsExpression}
+use Rattle.ckc_parser_grammar.specs.ExpressionGrammar.{SpellsUnary, SpellsCall}
 use Rattle.ckc_parser_grammar.specs.StatementGrammar as g
-use Rattle.ckc_parser_grammar.specs.StatementGrammar.{SpellsOptionalBounds, SpellsOptionalArray, SpellsConstant, SpellsSigned, SpellsConstants, SpellsOptionalInitializer, SpellsDeclarator, SpellsDeclarators, SpellsDeclaration, SpellsAssignment, SpellsAssignments, SpellsForInitial, SpellsForCondition, SpellsForStep, SpellsStatement, SpellsStatements}
+use Rattle.ckc_parser_grammar.specs.StatementGrammar.{SpellsOptionalBounds, SpellsOptionalArray, SpellsSigned, SpellsConstants, SpellsOptionalInitializer, SpellsDeclarator, SpellsDeclarators, SpellsDeclaration, SpellsAssignment, SpellsAssignments, SpellsForInitial, SpellsForCondition, SpellsForStep, SpellsStatement, SpellsStatements}
 use Rattle.ckc_parser_grammar.proofs.OneType.{Same, first_span, rest_of, stars_same, type_same}
-use Rattle.ckc_parser_grammar.proofs.Heads.{starts, unary_starts}
+use Rattle.ckc_parser_grammar.proofs.Heads.{starts, unary_starts, class}
 use Rattle.ckc_parser_grammar.proofs.OneExpression.{Read, SameRead, first_kind, behind, form, typed, after, move_binary, binary_same, unary_same, call_same, bounds_same}
 use Rattle.ckc_parser_grammar.proofs.Roles.{assignment_role, role_of, statement_role, statement_starts, initial_role_of, initial_role}
+use Rattle.ckc_parser_grammar.proofs.Words.{same_word, says_nothing, each_step_operator, store_step}
 
 abbrev pub first_name : List Token → List ℕ
 first_name [] = []
@@ -36,48 +34,23 @@ stands {A} same = ap (λ (x : Read A). x.1) same
 longer : {A B : Type 0} {e e' : A} {p p' : Span} {r r' : List Token} (make : A → B) (o : Span) → SameRead e p r e' p' r' → SameRead (make e) (join o p) r (make e') (join o p') r'
 longer {A} {B} make o same = ap {A = Read A} {B = Read B} (λ x. (make x.0, join o x.1, x.2)) same
 
-array_word_same : {k : TokenKind} {w w' : ArrayKind} → IsArrayWord k w → IsArrayWord k w' → w ≡ w'
-array_word_same words.checked words.checked = refl
-array_word_same words.nt_checked words.nt_checked = refl
-
-pub mark_same : {k : TokenKind} {w w' : Mark} → IsMark k w → IsMark k w' → w ≡ w'
-mark_same words.checked words.checked = refl
-mark_same words.unchecked words.unchecked = refl
-
-store_word : {k : TokenKind} {w w' : StoreOperator} → IsStoreOperator k w → IsStoreOperator k w' → w ≡ w'
-store_word words.set words.set = refl
-store_word words.add words.add = refl
-store_word words.subtract words.subtract = refl
-
-step_word : {k : TokenKind} {w w' : StepOperator} → IsStepOperator k w → IsStepOperator k w' → w ≡ w'
-step_word words.increment words.increment = refl
-step_word words.decrement words.decrement = refl
-
 pub optional_bounds_same : {o p p' : Span} {ts r r' : List Token} {b b' : Option Bounds} → SpellsOptionalBounds o ts b p r → SpellsOptionalBounds o ts b' p' r' → SameRead b p r b' p' r'
 optional_bounds_same (g.absent f) (g.absent f') = refl
 optional_bounds_same (g.absent f) (g.present d) = absurd cc
 optional_bounds_same (g.present d) (g.absent f) = absurd cc
 optional_bounds_same (g.present {o} d) (g.present d') = longer (λ b. Some b) o (bounds_same d d')
 
-pub not_absent : {k : TokenKind} {w : ArrayKind} → IsArrayWord k w → words.array_word k ≡ true
-not_absent words.checked = refl
-not_absent words.nt_checked = refl
-
 array_same : {o p p' : Span} {ts r r' : List Token} {b b' : Option ArrayForm} → SpellsOptionalArray o ts b p r → SpellsOptionalArray o ts b' p' r' → SameRead b p r b' p' r'
 array_same (g.absent f) (g.absent f') = refl
-array_same (g.absent f) (g.present w) = let h : true ≡ false = sym (not_absent w) ∙ f in absurd cc
-array_same (g.present w) (g.absent f) = let h : true ≡ false = sym (not_absent w) ∙ f in absurd cc
-array_same (g.present w) (g.present w') = rw (array_word_same w w') refl
-
-constant_same : {k : TokenKind} {c c' : Constant} → SpellsConstant k c → SpellsConstant k c' → c ≡ c'
-constant_same g.number g.number = refl
-constant_same g.character g.character = refl
+array_same (g.absent f) (g.present w) = let h : true ≡ false = sym (ap is_some w) ∙ f in absurd cc
+array_same (g.present w) (g.absent f) = let h : true ≡ false = sym (ap is_some w) ∙ f in absurd cc
+array_same (g.present w) (g.present w') = rw (same_word w w') refl
 
 signed_same : {ts r r' : List Token} {c c' : SignedConstant} → SpellsSigned ts c r → SpellsSigned ts c' r' → Same c r c' r'
-signed_same (g.plain c) (g.plain c') = rw (constant_same c c') refl
-signed_same (g.plain c) (g.minus c') = elim c [ ]
-signed_same (g.minus c) (g.plain c') = elim c' [ ]
-signed_same (g.minus c) (g.minus c') = rw (constant_same c c') refl
+signed_same (g.plain c) (g.plain c') = rw (same_word c c') refl
+signed_same (g.plain c) (g.minus c') = says_nothing c
+signed_same (g.minus c) (g.plain c') = says_nothing c'
+signed_same (g.minus c) (g.minus c') = rw (same_word c c') refl
 
 ends_apart : {us vs : List Token} {s t : Span} {c c' : SignedConstant} → Same c (token kinds.CloseBrace s ∷ us) c' (token kinds.Comma t ∷ vs) → ⊥
 ends_apart same =
@@ -136,35 +109,29 @@ declaration_same (g.declaration t d) (g.declaration t' d') =
 
 -- ---- assignments
 
-store_step : {k : TokenKind} {w : StoreOperator} {w' : StepOperator} → IsStoreOperator k w → IsStepOperator k w' → ⊥
-store_step words.set w = elim w [ ]
-store_step words.add w = elim w [ ]
-store_step words.subtract w = elim w [ ]
-
 -- a step operator starts no expression
-step_class : {k : TokenKind} {w : StepOperator} {s o : Span} {ts r : List Token} {e : Expression} → IsStepOperator k w → SpellsUnary (token k s ∷ ts) e o r → ⊥
-step_class words.increment d = absurd (omega (arith, unary_starts d))
-step_class words.decrement d = absurd (omega (arith, unary_starts d))
+step_class : {k : TokenKind} {w : StepOperator} {s o : Span} {ts r : List Token} {e : Expression} → step_operator_of k ≡ Some w → SpellsUnary (token k s ∷ ts) e o r → ⊥
+step_class {k} w d = absurd (omega (arith, unary_starts d, each_step_operator (λ k. class k ≡ 0) k w refl refl))
 
 assignment_same : {ts r r' : List Token} {a a' : Assignment} → SpellsAssignment ts a r → SpellsAssignment ts a' r' → Same a r a' r'
 assignment_same (g.store {store_operator} d w e) (g.store d' w' e') =
     let target_is = unary_same d d' in
-    let word_is = store_word (subst (λ (x : TokenKind). IsStoreOperator x store_operator) (ap first_kind (behind target_is)) w) w' in
+    let word_is = same_word (subst (λ (x : TokenKind). store_operator_of x ≡ Some store_operator) (ap first_kind (behind target_is)) w) w' in
     let value_is = binary_same e (move_binary (ap rest_of (behind target_is)) e') in
     rw (word_is, form target_is, stands target_is, form value_is, stands value_is, behind value_is) refl
-assignment_same (g.store {store_operator} d w e) (g.after d' w') = absurd (store_step (subst (λ (x : TokenKind). IsStoreOperator x store_operator) (ap first_kind (behind (unary_same d d'))) w) w')
-assignment_same (g.after d w) (g.store {store_operator} d' w' e') = absurd (store_step (subst (λ (x : TokenKind). IsStoreOperator x store_operator) (sym (ap first_kind (behind (unary_same d d')))) w') w)
+assignment_same (g.store {store_operator} d w e) (g.after {k} d' w') = absurd (store_step k (subst (λ (x : TokenKind). store_operator_of x ≡ Some store_operator) (ap first_kind (behind (unary_same d d'))) w) w')
+assignment_same (g.after {k} d w) (g.store {store_operator} d' w' e') = absurd (store_step k (subst (λ (x : TokenKind). store_operator_of x ≡ Some store_operator) (sym (ap first_kind (behind (unary_same d d')))) w') w)
 assignment_same (g.store d w e) (g.before w' d') = absurd (step_class w' d)
 assignment_same (g.before w d) (g.store d' w' e') = absurd (step_class w d')
 assignment_same (g.after d w) (g.before w' d') = absurd (step_class w' d)
 assignment_same (g.before w d) (g.after d' w') = absurd (step_class w d')
 assignment_same (g.after {step_operator} d w) (g.after d' w') =
     let target_is = unary_same d d' in
-    let word_is = step_word (subst (λ (x : TokenKind). IsStepOperator x step_operator) (ap first_kind (behind target_is)) w) w' in
+    let word_is = same_word (subst (λ (x : TokenKind). step_operator_of x ≡ Some step_operator) (ap first_kind (behind target_is)) w) w' in
     rw (word_is, form target_is, stands target_is, ap first_span (behind target_is), ap rest_of (behind target_is)) refl
 assignment_same (g.before {s} w d) (g.before w' d') =
     let target_is = unary_same d d' in
-    rw (step_word w w', form target_is, stands target_is, behind target_is) refl
+    rw (same_word w w', form target_is, stands target_is, behind target_is) refl
 
 move_assignments : {us ts r : List Token} {list : List Assignment} {t : Span} → us ≡ ts → SpellsAssignments ts list t r → SpellsAssignments us list t r
 move_assignments {r} {list} {t} same d = subst (λ (x : List Token). SpellsAssignments x list t r) (sym same) d
@@ -217,20 +184,14 @@ head_same {vs'} {r'} {c'} {a'} i c a i' d' e' =
 
 -- ---- statements
 
-no_store : {s : StoreOperator} → IsStoreOperator kinds.Semicolon s → ⊥
-no_store w = elim w [ ]
-
-no_step : {s : StepOperator} → IsStepOperator kinds.Semicolon s → ⊥
-no_step w = elim w [ ]
-
 not_called : {ts r r' : List Token} {a : Assignment} {c : Expression} {o t : Span} → SpellsAssignment ts a r' → SpellsCall ts c o (token kinds.Semicolon t ∷ r) → ⊥
 not_called (g.store {store_operator} d w e) c =
     let target_is = unary_same (expressions.postfix (expressions.called c) (expressions.unselected refl)) d in
-    no_store (subst (λ (x : TokenKind). IsStoreOperator x store_operator) (sym (ap first_kind (behind target_is))) w)
+    says_nothing (subst (λ (x : TokenKind). store_operator_of x ≡ Some store_operator) (sym (ap first_kind (behind target_is))) w)
 not_called (g.after {step_operator} d w) c =
     let target_is = unary_same (expressions.postfix (expressions.called c) (expressions.unselected refl)) d in
-    no_step (subst (λ (x : TokenKind). IsStepOperator x step_operator) (sym (ap first_kind (behind target_is))) w)
-not_called (g.before w d) (expressions.call a) = elim w [ ]
+    says_nothing (subst (λ (x : TokenKind). step_operator_of x ≡ Some step_operator) (sym (ap first_kind (behind target_is))) w)
+not_called (g.before w d) (expressions.call a) = says_nothing w
 
 one_role : {ts r r' : List Token} {s s' : Statement} (d : SpellsStatement ts s r) (d' : SpellsStatement ts s' r') → role_of d ≡ role_of d'
 one_role d d' = sym (statement_role d) ∙ statement_role d'
@@ -241,7 +202,7 @@ move_statement {r} {s} same d = subst (λ (x : List Token). SpellsStatement x s 
 pub move_statements : {us ts r : List Token} {ss : Statements} {t : Span} → us ≡ ts → SpellsStatements ts ss t r → SpellsStatements us ss t r
 move_statements {r} {ss} {t} same d = subst (λ (x : List Token). SpellsStatements x ss t r) (sym same) d
 
-no_else : {c c' : Statement} {r r' : List Token} {w : Span} → next_is else_word r ≡ false → Same c r c' (token kinds.Else w ∷ r') → ⊥
+no_else : {c c' : Statement} {r r' : List Token} {w : Span} → next_is else_word r ≡ false → Same c r c' (token (kinds.Keyword keywords.Else) w ∷ r') → ⊥
 no_else f same =
     let h : true ≡ false = ap (next_is else_word) (sym (after same)) ∙ f in
     absurd cc
@@ -254,7 +215,7 @@ around_body make s same = ap (λ (x : Statement × List Token). (make x.0 (join 
 mutual
   pub statement_same : {ts r r' : List Token} {s s' : Statement} → SpellsStatement ts s r → SpellsStatement ts s' r' → Same s r s' r'
   statement_same (g.block {s} d) (g.block d') = ap (λ (x : Read Statements). (trees.Block None x.0 (join s x.1), x.2)) (statements_same d d')
-  statement_same (g.marked_block {s} w d) (g.marked_block {mark} w' d') = rw (mark_same w w') (ap (λ (x : Read Statements). (trees.Block (Some mark) x.0 (join s x.1), x.2)) (statements_same d d'))
+  statement_same (g.marked_block {s} w d) (g.marked_block {mark} w' d') = rw (same_word w w') (ap (λ (x : Read Statements). (trees.Block (Some mark) x.0 (join s x.1), x.2)) (statements_same d d'))
   statement_same (g.bundle {s} d) (g.bundle d') = ap (λ (x : Read (List Assignment)). (trees.Bundle x.0 (join s x.1), x.2)) (assignments_same d d')
   statement_same (g.declare d) (g.declare d') = ap (λ (x : Declaration × List Token). (trees.Declare x.0 (join x.0.span (first_span x.1)), rest_of x.1)) (declaration_same d d')
   statement_same (g.assign d) (g.assign d') = ap (λ (x : Assignment × List Token). (trees.Assign x.0 (join (assignment_span x.0) (first_span x.1)), rest_of x.1)) (assignment_same d d')

@@ -2,27 +2,19 @@
 use Rattle.std.proofs.Common.{◌≡◌, ℕ, suc, List, [], ◌∷◌, refl, sym, ap, subst}
 use Rattle.ckc_text.specs.declared.place.Span.{Span}
 use Rattle.ckc_lexer_tokens.specs.declared.token.Token.{Token}
-use Rattle.ckc_lexer_tokens.specs.declared.token.TokenKind.{TokenKind}
 use Rattle.ckc_lexer_tokens.specs.declared.token.TokenKind.TheVariants as kinds
 use Rattle.ckc_tree.specs.declared.type_form.PointerWord.{PointerWord}
 use Rattle.ckc_tree.specs.Types.{TypeTree, PointerType, TypeName}
-use Rattle.ckc_parser_grammar.specs.Tokens.{token, join, IsPointerWord, ptr, array_ptr, nt_array_ptr, t_ptr, t_array_ptr, t_nt_array_ptr}
+use Rattle.ckc_parser_grammar.specs.Tokens.{token, join}
 use Rattle.ckc_parser_grammar.specs.TypeGrammar as grammar
 use Rattle.ckc_parser_grammar.specs.TypeGrammar.{SpellsStars, SpellsType, SpellsTypeName, SpellsAngled}
+use Rattle.ckc_parser_grammar.proofs.Words.{same_word, says_nothing}
 
 pub stars_same : {ts r r' : List Token} {n n' : ℕ} → SpellsStars ts n r → SpellsStars ts n' r' → ◌≡◌ {A = ℕ × List Token} (n, r) (n', r')
 stars_same (grammar.none end) (grammar.none end') = refl
 stars_same (grammar.none end) (grammar.more d) = absurd cc
 stars_same (grammar.more d) (grammar.none end) = absurd cc
 stars_same (grammar.more d) (grammar.more d') = ap (λ (x : ℕ × List Token). (suc x.0, x.1)) (stars_same d d')
-
-word_same : {k : TokenKind} {w w' : PointerWord} → IsPointerWord k w → IsPointerWord k w' → w ≡ w'
-word_same ptr ptr = refl
-word_same array_ptr array_ptr = refl
-word_same nt_array_ptr nt_array_ptr = refl
-word_same t_ptr t_ptr = refl
-word_same t_array_ptr t_array_ptr = refl
-word_same t_nt_array_ptr t_nt_array_ptr = refl
 
 abbrev pub first_span : List Token → Span
 first_span [] = record { from = 0; to = 0 }
@@ -46,13 +38,13 @@ pointer_same s {t'} {n'} {rest'} word inner stars stars' =
 
 pub type_same : {ts r r' : List Token} {t t' : TypeTree} → SpellsType ts t r → SpellsType ts t' r' → ◌≡◌ {A = TypeTree × List Token} (t, r) (t', r')
 type_same grammar.int grammar.int = refl
-type_same grammar.int (grammar.pointer w d e) = elim w [ ]
+type_same grammar.int (grammar.pointer w d e) = says_nothing w
 type_same grammar.char grammar.char = refl
-type_same grammar.char (grammar.pointer w d e) = elim w [ ]
+type_same grammar.char (grammar.pointer w d e) = says_nothing w
 type_same grammar.struct grammar.struct = refl
-type_same (grammar.pointer w d e) grammar.int = elim w [ ]
-type_same (grammar.pointer w d e) grammar.char = elim w [ ]
-type_same (grammar.pointer {s} w d e) (grammar.pointer w' d' e') = pointer_same s (word_same w w') (type_same d d') e e'
+type_same (grammar.pointer w d e) grammar.int = says_nothing w
+type_same (grammar.pointer w d e) grammar.char = says_nothing w
+type_same (grammar.pointer {s} w d e) (grammar.pointer w' d' e') = pointer_same s (same_word w w') (type_same d d') e e'
 
 pub type_name_same : {ts r r' : List Token} {t t' : TypeName} → SpellsTypeName ts t r → SpellsTypeName ts t' r' → Same t r t' r'
 type_name_same (grammar.type_name d e) (grammar.type_name {n = n'} {rest} d' e') =

@@ -8,7 +8,8 @@ use Rattle.ckc_tree.specs.Heights.{Reach, nowhere, ◌beside◌}
 use Rattle.ckc_parser_grammar.specs.Tokens.{token}
 use Rattle.ckc_parser_grammar.specs.Failures.{Failure}
 use Rattle.ckc_parser_grammar.proofs.Forms.{◌ends◌, end_length, end_trans, end_same, end_within, Exact, tokens_same, reach_same, move, SeqS, SeqB, seq, in_first, in_second, AfterS, AfterB, not_yet, after}
-use Rattle.ckc_parser_grammar.proofs.Failing.{Fails, unexpected, too_deep, no_memory, beside_nowhere}
+use Rattle.ckc_parser_grammar.proofs.Paths.{beside_nowhere}
+use Rattle.ckc_parser_grammar.proofs.Failing.{Fails, unexpected, too_deep, no_memory}
 use Rattle.ckc_parser_grammar.proofs.MoreForms.{LeadS, LeadB, lead, in_lead, behind_lead, SideS, side}
 
 pub lead_past : {S B C : List Token → List Token → Reach → Type 0} {ts mid rest : List Token} {q : Reach} → Exact nowhere S B → S ts mid nowhere → LeadB S B C ts rest q → length rest < length mid → C mid rest q

@@ -4,6 +4,7 @@ use Rattle.std.proofs.lemmas.Bool.{ltb-true, ltb-false, lt-ltb, le-ltb}
 use Rattle.ckc_lexer_tokens.specs.declared.token.Token.{Token}
 use Rattle.ckc_tree.specs.Heights.{Reach, nowhere, node, around, ◌beside◌}
 use Rattle.ckc_parser_grammar.specs.Tokens.{start_of}
+use Rattle.ckc_parser_grammar.specs.Failures.{IsLow}
 use Rattle.ckc_parser_grammar.specs.TypeBeginnings.{around_if, begun}
 
 -- ---- heights
@@ -70,6 +71,15 @@ begun_none ts = no_node ts nowhere
 
 pub begun_within : (ts us rest : List Token) {p q : Reach} → length rest < length ts → Low p q → Low (begun ts us p) (begun ts rest q)
 begun_within ts us rest shorter low = rw (lt-ltb (length rest) (length ts) shorter) (begun_low ts us (start_of ts) low)
+
+pub beside_nowhere : (p : Reach) → p beside nowhere ≡ p
+beside_nowhere p = rw (le-ltb p.height 0 (omega arith)) refl
+
+pub low_beside : (d : ℕ) (p q : Reach) → IsLow d p → IsLow d q → IsLow d (p beside q)
+low_beside d p q a b = omega (arith, a, b, (beside_height p q).2)
+
+pub low_around : (d start : ℕ) (r : Reach) → IsLow (suc d) r → IsLow d (around start r)
+low_around d start r low = omega (arith, low, around_height start r)
 
 -- ---- paths
 

@@ -1,5 +1,5 @@
 -- The spans of a statement that is spelled stand in order.
-use Rattle.std.proofs.Common.{◌≡◌, ℕ, ◌≤◌, List, [], ◌∷◌, map, Option, refl, arith}
+use Rattle.std.proofs.Common.{◌≡◌, ℕ, ◌≤◌, List, [], ◌∷◌, map, Option, refl, arith, Some}
 use Rattle.std.specs.List.{AllByRecursion}
 use Rattle.ckc_text.specs.declared.place.Span.{Span}
 use Rattle.ckc_lexer_tokens.specs.declared.token.Token.{Token}
@@ -11,15 +11,15 @@ use Rattle.ckc_tree.specs.declared.stmt.StepOperator.{StepOperator}
 use Rattle.ckc_tree.specs.Expressions.{Expression, expression_span, Bounds, bounds_span}
 use Rattle.ckc_tree.specs.Statements.{Initializer, Declarator, Declaration, Assignment, assignment_span, ForInitial, Statement, statement_span, Statements}
 use Rattle.ckc_tree.specs.Placement.{optional, OptionalPlaced, ExpressionPlaced, BoundsPlaced, array_span, initializer_span, InitializerPlaced, declarator_span, DeclaratorPlaced, DeclarationPlaced, AssignmentPlaced, initial_spans, InitialPlaced, statements_spans, StatementPlaced, StatementsPlaced}
-use Rattle.ckc_parser_grammar.specs.Tokens as words
-use Rattle.ckc_parser_grammar.specs.Tokens.{token, IsStepOperator}
+use Rattle.ckc_parser_grammar.specs.Tokens.{token, step_operator_of, constant_of}
 use Rattle.ckc_parser_grammar.specs.TypeGrammar as types
 use Rattle.ckc_parser_grammar.specs.TypeGrammar.{SpellsStars}
 use Rattle.ckc_parser_grammar.specs.StatementGrammar as g
-use Rattle.ckc_parser_grammar.specs.StatementGrammar.{SpellsOptionalBounds, SpellsOptionalArray, SpellsConstant, SpellsSigned, SpellsConstants, SpellsOptionalInitializer, SpellsDeclarator, SpellsDeclarators, SpellsDeclaration, SpellsAssignment, SpellsAssignments, SpellsForInitial, SpellsForCondition, SpellsForStep, SpellsStatement, SpellsStatements}
+use Rattle.ckc_parser_grammar.specs.StatementGrammar.{SpellsOptionalBounds, SpellsOptionalArray, SpellsSigned, SpellsConstants, SpellsOptionalInitializer, SpellsDeclarator, SpellsDeclarators, SpellsDeclaration, SpellsAssignment, SpellsAssignments, SpellsForInitial, SpellsForCondition, SpellsForStep, SpellsStatement, SpellsStatements}
 use Rattle.ckc_parser_grammar.proofs.TokenOrder.{Runs, first, on, follow, skip, IsNotEmpty, starts, from_start, Read, Part, leaf, one_more, alone, together, no_more, omitted}
 use Rattle.ckc_parser_grammar.proofs.PlacedType.{stars_read, type_read}
 use Rattle.ckc_parser_grammar.proofs.PlacedExpression.{binary_read, unary_read, call_read, bounds_read}
+use Rattle.ckc_parser_grammar.proofs.Words.{each_step_operator, each_constant}
 
 -- ---- declarations
 
@@ -47,9 +47,8 @@ optional_array_read (g.present k) h =
     record { start = refl; part = record { more = omega (arith, s, t); order = omega (arith, s, t); placed = tt; on = on close } }
 
 -- the tokens behind a constant
-behind_constant : {from end : ℕ} {k : TokenKind} {s : Span} {rest : List Token} {c : Constant} → SpellsConstant k c → Runs from (token k s ∷ rest) end → Runs s.to rest end
-behind_constant g.number h = on h
-behind_constant g.character h = on h
+behind_constant : {from end : ℕ} {k : TokenKind} {s : Span} {rest : List Token} {c : Constant} → constant_of k ≡ Some c → Runs from (token k s ∷ rest) end → Runs s.to rest end
+behind_constant {from} {end} {k} {s} {rest} c = each_constant (λ k. Runs from (token k s ∷ rest) end → Runs s.to rest end) k c (λ n h. on h) (λ n h. on h)
 
 signed_read : {from end : ℕ} {ts rest : List Token} {c : SignedConstant} → SpellsSigned ts c rest → Runs from ts end → Read from c.span (c.span.from ≤ c.span.to) rest end
 signed_read (g.plain c) h = leaf (first h) (behind_constant c h)
@@ -118,9 +117,8 @@ declaration_read (g.declaration d m) h =
 -- ---- assignments
 
 -- the tokens behind an operator that adds or takes one
-behind_step : {from end : ℕ} {k : TokenKind} {s : Span} {rest : List Token} {w : StepOperator} → IsStepOperator k w → Runs from (token k s ∷ rest) end → Runs s.to rest end
-behind_step words.increment h = on h
-behind_step words.decrement h = on h
+behind_step : {from end : ℕ} {k : TokenKind} {s : Span} {rest : List Token} {w : StepOperator} → step_operator_of k ≡ Some w → Runs from (token k s ∷ rest) end → Runs s.to rest end
+behind_step {from} {end} {k} {s} {rest} w = each_step_operator (λ k. Runs from (token k s ∷ rest) end → Runs s.to rest end) k w (λ h. on h) (λ h. on h)
 
 assignment_read : {from end : ℕ} {ts rest : List Token} {a : Assignment} → SpellsAssignment ts a rest → Runs from ts end → Read from (assignment_span a) (AssignmentPlaced a) rest end
 assignment_read (g.store d w e) h =

@@ -1,8 +1,9 @@
 -- The smallest expressions as forms that are built of others, by their first token.
-use Rattle.std.proofs.Common.{◌≡◌, ℕ, Bool, true, false, List, ◌∷◌, refl, sym, subst, ◌∙◌}
+use Rattle.std.proofs.Common.{◌≡◌, ℕ, Bool, true, false, List, ◌∷◌, refl, sym, subst, ◌∙◌, Some}
 use Rattle.ckc_text.specs.declared.place.Span.{Span}
 use Rattle.ckc_lexer_tokens.specs.declared.token.Token.{Token}
 use Rattle.ckc_lexer_tokens.specs.declared.token.TokenKind.{TokenKind}
+use Rattle.ckc_lexer_tokens.specs.declared.keyword.Keyword.TheVariants as keywords
 use Rattle.ckc_lexer_tokens.specs.declared.token.TokenKind.TheVariants as kinds
 use Rattle.ckc_tree.specs.declared.expr.CastWord.{CastWord}
 use Rattle.ckc_tree.specs.declared.expr.MallocWord.{MallocWord}
@@ -10,8 +11,7 @@ use Rattle.ckc_tree.specs.declared.expr.CallocWord.{CallocWord}
 use Rattle.ckc_tree.specs.Types.{TypeName}
 use Rattle.ckc_tree.specs.Expressions.{Expression, Expressions, Bounds}
 use Rattle.ckc_tree.specs.Heights.{Reach, nowhere, node, around, ◌beside◌, type_reach, expression_reach, expressions_reach, bounds_reach}
-use Rattle.ckc_parser_grammar.specs.Tokens as words
-use Rattle.ckc_parser_grammar.specs.Tokens.{token, next_is, open_paren, comma, IsCastWord, IsMallocWord, IsCallocWord}
+use Rattle.ckc_parser_grammar.specs.Tokens.{token, next_is, open_paren, comma, cast_word_of, malloc_word_of, calloc_word_of}
 use Rattle.ckc_parser_grammar.specs.TypeGrammar.{SpellsAngled}
 use Rattle.ckc_parser_grammar.specs.ExpressionGrammar as g
 use Rattle.ckc_parser_grammar.specs.ExpressionGrammar.{SpellsBinary, SpellsPrimary, SpellsArguments, SpellsMoreArguments, SpellsBounds}
@@ -20,11 +20,12 @@ use Rattle.ckc_parser_grammar.specs.ExpressionBeginnings as b
 use Rattle.ckc_parser_grammar.specs.ExpressionBeginnings.{BeginsBinary, BeginsPrimary, BeginsArguments, BeginsMoreArguments, BeginsBounds}
 use Rattle.ckc_parser_grammar.proofs.Whole.{binary_begins}
 use Rattle.ckc_parser_grammar.proofs.ExpressionPaths.{no_binary}
-use Rattle.ckc_parser_grammar.proofs.Forms.{Is, it, ExactBelow, below, within, SeqS, SeqB, seq, in_first, in_second, seq_exact, EndedS, EndedB, before_end, end, ended_exact, AfterS, AfterB, not_yet, after, after_exact, NodeS, node_exact, DoneS, done, done_exact, EitherS, yes, no, either_exact, HeadS, HeadB, none_yet, headed, head_exact, OneHead, same_exact}
+use Rattle.ckc_parser_grammar.proofs.Forms.{Is, it, ExactBelow, below, within, SeqS, SeqB, seq, in_first, in_second, seq_exact, EndedS, EndedB, before_end, end, ended_exact, AfterS, AfterB, not_yet, after, after_exact, NodeS, node_exact, DoneS, done, done_exact, EitherS, yes, no, either_exact, HeadS, HeadB, none_yet, headed, OneHead}
 use Rattle.ckc_parser_grammar.proofs.Forms as forms
-use Rattle.ckc_parser_grammar.proofs.Failing.{beside_nowhere}
+use Rattle.ckc_parser_grammar.proofs.Paths.{beside_nowhere}
 use Rattle.ckc_parser_grammar.proofs.TypeForms.{TypeNameS, named, AngledS, angled, type_name_exact, angled_exact}
 use Rattle.ckc_parser_grammar.proofs.ExpressionLinks.{BinaryS, binary}
+use Rattle.ckc_parser_grammar.proofs.Words.{each_cast_word, each_malloc_word, each_calloc_word}
 
 pub data PrimaryS : List Token → List Token → Reach → Type 0 where
   primary : {e : Expression} {o : Span} {ts m : List Token} → SpellsPrimary ts e o m → PrimaryS ts m (expression_reach e)
@@ -59,21 +60,21 @@ pub data IsHead : TokenKind → Head → Type 0 where
   text : {x : List ℕ} → IsHead (kinds.Text x) literal
   name : {x : List ℕ} → IsHead (kinds.Name x) named_one
   paren : IsHead kinds.OpenParen parenthesis
-  sizeof : IsHead kinds.Sizeof size
-  cast : {k : TokenKind} {w : CastWord} → IsCastWord k w → IsHead k casting
-  malloc : {k : TokenKind} {w : MallocWord} → IsMallocWord k w → IsHead k mallocs
-  calloc : {k : TokenKind} {w : CallocWord} → IsCallocWord k w → IsHead k callocs
+  sizeof : IsHead (kinds.Keyword keywords.Sizeof) size
+  cast : {k : TokenKind} {w : CastWord} → cast_word_of k ≡ Some w → IsHead k casting
+  malloc : {k : TokenKind} {w : MallocWord} → malloc_word_of k ≡ Some w → IsHead k mallocs
+  calloc : {k : TokenKind} {w : CallocWord} → calloc_word_of k ≡ Some w → IsHead k callocs
 
 abbrev head_of : TokenKind → Head
 head_of (kinds.Name x) = named_one
 head_of kinds.OpenParen = parenthesis
-head_of kinds.Sizeof = size
-head_of kinds.DynamicBoundsCast = casting
-head_of kinds.AssumeBoundsCast = casting
-head_of kinds.Malloc = mallocs
-head_of kinds.TMalloc = mallocs
-head_of kinds.Calloc = callocs
-head_of kinds.NtCalloc = callocs
+head_of (kinds.Keyword keywords.Sizeof) = size
+head_of (kinds.Keyword keywords.DynamicBoundsCast) = casting
+head_of (kinds.Keyword keywords.AssumeBoundsCast) = casting
+head_of (kinds.Keyword keywords.Malloc) = mallocs
+head_of (kinds.Keyword keywords.TMalloc) = mallocs
+head_of (kinds.Keyword keywords.Calloc) = callocs
+head_of (kinds.Keyword keywords.NtCalloc) = callocs
 head_of _ = literal
 
 head_is : {k : TokenKind} {h : Head} → IsHead k h → head_of k ≡ h
@@ -83,12 +84,9 @@ head_is text = refl
 head_is name = refl
 head_is paren = refl
 head_is sizeof = refl
-head_is (cast words.dynamic) = refl
-head_is (cast words.assume) = refl
-head_is (malloc words.malloc) = refl
-head_is (malloc words.t_malloc) = refl
-head_is (calloc words.calloc) = refl
-head_is (calloc words.nt_calloc) = refl
+head_is (cast {k} w) = each_cast_word (λ k. head_of k ≡ casting) k w refl refl
+head_is (malloc {k} w) = each_malloc_word (λ k. head_of k ≡ mallocs) k w refl refl
+head_is (calloc {k} w) = each_calloc_word (λ k. head_of k ≡ callocs) k w refl refl
 
 pub one_head : OneHead IsHead
 one_head k h i a b = sym (head_is a) ∙ head_is b
@@ -230,7 +228,7 @@ into_b ts rest q (b.calloc w a d x) = headed (calloc w) (forms.node (end (seq (e
 pub with_nothing : (F : Reach → Type 0) (p : Reach) → F p → F (p beside nowhere)
 with_nothing F p f = subst F (sym (beside_nowhere p)) f
 
-operand_alone : {k : TokenKind} {s : Span} {w : CastWord} {ts us mid : List Token} {t : TypeName} {e : Expression} {o : Span} → IsCastWord k w → SpellsAngled ts t us → SpellsBinary 10 us e o mid → BeginsPrimary (token k s ∷ ts) mid (around s.from ((type_reach t.base beside expression_reach e) beside nowhere))
+operand_alone : {k : TokenKind} {s : Span} {w : CastWord} {ts us mid : List Token} {t : TypeName} {e : Expression} {o : Span} → cast_word_of k ≡ Some w → SpellsAngled ts t us → SpellsBinary 10 us e o mid → BeginsPrimary (token k s ∷ ts) mid (around s.from ((type_reach t.base beside expression_reach e) beside nowhere))
 operand_alone {k} {s} {ts} {mid} {t} {e} w a d = with_nothing (λ x. BeginsPrimary (token k s ∷ ts) mid (around s.from x)) (type_reach t.base beside expression_reach e) (b.cast_operand w a (binary_begins d))
 
 pub from_b : (ts rest : List Token) (q : Reach) → HeadB IsHead BehindB ts rest q → BeginsPrimary ts rest q

@@ -1,12 +1,11 @@
 -- Each list of tokens is read as a declaration, an assignment or a part of one, or has a refusal.
-use Rattle.std.proofs.Common.{◌≡◌, ◌≤◌, ◌<◌, ℕ, suc, length, true, false, List, [], ◌∷◌, Option, Some, None, arith}
+use Rattle.std.proofs.Common.{◌≡◌, ◌≤◌, ◌<◌, ℕ, suc, length, true, false, List, [], ◌∷◌, Option, Some, None, arith, refl}
 use Rattle.ckc_text.specs.declared.place.Span.{Span}
 use Rattle.ckc_lexer_tokens.specs.declared.token.Token.{Token}
 use Rattle.ckc_lexer_tokens.specs.declared.token.TokenKind.{TokenKind}
 use Rattle.ckc_lexer_tokens.specs.declared.token.TokenKind.TheVariants as kinds
 use Rattle.ckc_tree.specs.declared.stmt.ArrayForm.{ArrayForm}
 use Rattle.ckc_tree.specs.declared.stmt.ArrayKind.{ArrayKind}
-use Rattle.ckc_tree.specs.declared.stmt.ArrayKind.TheVariants as arrays
 use Rattle.ckc_tree.specs.declared.stmt.Constant.{Constant}
 use Rattle.ckc_tree.specs.declared.stmt.SignedConstant.{SignedConstant}
 use Rattle.ckc_tree.specs.declared.stmt.StoreOperator.{StoreOperator}
@@ -16,12 +15,11 @@ use Rattle.ckc_tree.specs.Types.{type_span}
 use Rattle.ckc_tree.specs.Expressions.{Expression, Bounds}
 use Rattle.ckc_tree.specs.Statements.{Initializer, Value, Constants, Declarator, Declaration, Assignment, Store, Step, ForInitial, Nothing, Declares, Assigns}
 use Rattle.ckc_tree.specs.Heights.{nowhere, around, type_reach, expression_reach, optional_bounds_reach, optional_initializer_reach, declarator_reach, declarators_reach, declared_reach, assignment_reach, assignments_reach, for_initial_reach, optional_expression_reach, optional_assignment_reach}
-use Rattle.ckc_parser_grammar.specs.Tokens as words
-use Rattle.ckc_parser_grammar.specs.Tokens.{token, join, identifier, from_first, IsArrayWord, IsStoreOperator, IsStepOperator, next_is, colon, equal, array_word}
+use Rattle.ckc_parser_grammar.specs.Tokens.{token, join, identifier, from_first, array_kind_of, store_operator_of, step_operator_of, next_is, colon, equal, array_word, constant_of}
 use Rattle.ckc_parser_grammar.specs.TypeGrammar.{SpellsStars}
 use Rattle.ckc_parser_grammar.specs.ExpressionGrammar.{SpellsUnary}
 use Rattle.ckc_parser_grammar.specs.StatementGrammar as g
-use Rattle.ckc_parser_grammar.specs.StatementGrammar.{SpellsOptionalBounds, SpellsOptionalArray, SpellsConstant, SpellsSigned, SpellsConstants, SpellsOptionalInitializer, SpellsDeclarator, SpellsDeclarators, SpellsDeclaration, SpellsAssignment, SpellsAssignments, SpellsForInitial, SpellsForCondition, SpellsForStep}
+use Rattle.ckc_parser_grammar.specs.StatementGrammar.{SpellsOptionalBounds, SpellsOptionalArray, SpellsSigned, SpellsConstants, SpellsOptionalInitializer, SpellsDeclarator, SpellsDeclarators, SpellsDeclaration, SpellsAssignment, SpellsAssignments, SpellsForInitial, SpellsForCondition, SpellsForStep}
 use Rattle.ckc_parser_grammar.specs.Failures as failures
 use Rattle.ckc_parser_grammar.specs.Failures.{Failure, IsLow}
 use Rattle.ckc_parser_grammar.specs.StuckTypes.{type_word}
@@ -29,12 +27,13 @@ use Rattle.ckc_parser_grammar.specs.StuckExpressions.{unary_word, StuckExpressio
 use Rattle.ckc_parser_grammar.specs.StuckStatements as stuck
 use Rattle.ckc_parser_grammar.specs.StuckStatements.{open_bracket, open_brace, close_brace, semicolon, number_token, constant_token, minus_or_constant, comma_or_brace, assign_word, assignment_word, StuckOptionalBounds, StuckOptionalArray, StuckSigned, StuckConstants, StuckOptionalInitializer, StuckDeclarator, StuckDeclarators, StuckDeclaration, StuckAssignment, StuckAssignments, StuckForInitial, StuckForCondition, StuckForStep}
 use Rattle.ckc_parser_grammar.proofs.Forms.{it}
-use Rattle.ckc_parser_grammar.proofs.Failing.{low_around, low_beside}
+use Rattle.ckc_parser_grammar.proofs.Paths.{low_around, low_beside}
 use Rattle.ckc_parser_grammar.proofs.MoreForms.{by_next}
 use Rattle.ckc_parser_grammar.proofs.FewNodes.{signed_takes, declarator_takes, assignment_takes}
 use Rattle.ckc_parser_grammar.proofs.Reading.{Reading, read, refused, unexpected, too_deep, Next, here, other, next, Marks, marked, named, by_length, by_room, behind, ended}
 use Rattle.ckc_parser_grammar.proofs.ReadTypes.{stars_read, type_read}
 use Rattle.ckc_parser_grammar.proofs.ReadExpressions.{is_close_paren, is_close_bracket, is_comma, expression_read, target_read, written_bounds_read}
+use Rattle.ckc_parser_grammar.proofs.Words.{some_word}
 
 -- ---- marks and words
 
@@ -69,24 +68,20 @@ is_number : (k : TokenKind) → number_token k ≡ true → IsNumber k
 is_number (kinds.Number n) so = number
 is_number _ so = absurd cc
 
-array_word_at : (k : TokenKind) → array_word k ≡ true → (w : ArrayKind) × IsArrayWord k w
-array_word_at kinds.Checked so = (arrays.Checked, words.checked)
-array_word_at kinds.NtChecked so = (arrays.NullTerminated, words.nt_checked)
-array_word_at _ so = absurd cc
+array_word_at : (k : TokenKind) → array_word k ≡ true → (w : ArrayKind) × (array_kind_of k ≡ Some w)
+array_word_at k so = some_word (array_kind_of k) so
 
-constant_at : (k : TokenKind) → constant_token k ≡ true → (c : Constant) × SpellsConstant k c
-constant_at (kinds.Number n) so = (_, g.number)
-constant_at (kinds.Character n) so = (_, g.character)
-constant_at _ so = absurd cc
+constant_at : (k : TokenKind) → constant_token k ≡ true → (c : Constant) × (constant_of k ≡ Some c)
+constant_at k so = some_word (constant_of k) so
 
 data StartsSigned : TokenKind → Type 0 where
   minus : StartsSigned kinds.Minus
-  plain : {k : TokenKind} {c : Constant} → SpellsConstant k c → StartsSigned k
+  plain : {k : TokenKind} {c : Constant} → constant_of k ≡ Some c → StartsSigned k
 
 signed_at : (k : TokenKind) → minus_or_constant k ≡ true → StartsSigned k
 signed_at kinds.Minus so = minus
-signed_at (kinds.Number n) so = plain g.number
-signed_at (kinds.Character n) so = plain g.character
+signed_at (kinds.Number n) so = plain refl
+signed_at (kinds.Character n) so = plain refl
 signed_at _ so = absurd cc
 
 data EndsConstant : TokenKind → Type 0 where
@@ -99,25 +94,25 @@ ends_constant kinds.CloseBrace so = brace
 ends_constant _ so = absurd cc
 
 data IsAssignWord : TokenKind → Type 0 where
-  stores : {k : TokenKind} {w : StoreOperator} → IsStoreOperator k w → IsAssignWord k
-  steps : {k : TokenKind} {w : StepOperator} → IsStepOperator k w → IsAssignWord k
+  stores : {k : TokenKind} {w : StoreOperator} → store_operator_of k ≡ Some w → IsAssignWord k
+  steps : {k : TokenKind} {w : StepOperator} → step_operator_of k ≡ Some w → IsAssignWord k
 
 assign_word_at : (k : TokenKind) → assign_word k ≡ true → IsAssignWord k
-assign_word_at kinds.Equal so = stores words.set
-assign_word_at kinds.PlusEqual so = stores words.add
-assign_word_at kinds.MinusEqual so = stores words.subtract
-assign_word_at kinds.PlusPlus so = steps words.increment
-assign_word_at kinds.MinusMinus so = steps words.decrement
+assign_word_at kinds.Equal so = stores refl
+assign_word_at kinds.PlusEqual so = stores refl
+assign_word_at kinds.MinusEqual so = stores refl
+assign_word_at kinds.PlusPlus so = steps refl
+assign_word_at kinds.MinusMinus so = steps refl
 assign_word_at _ so = absurd cc
 
 -- the first token of an assignment
 data StartsAssignment : TokenKind → Type 0 where
-  step : {k : TokenKind} {w : StepOperator} → IsStepOperator k w → StartsAssignment k
+  step : {k : TokenKind} {w : StepOperator} → step_operator_of k ≡ Some w → StartsAssignment k
   target : {k : TokenKind} → unary_word k ≡ true → StartsAssignment k
 
 assignment_at : (k : TokenKind) → assignment_word k ≡ true → StartsAssignment k
-assignment_at kinds.PlusPlus so = step words.increment
-assignment_at kinds.MinusMinus so = step words.decrement
+assignment_at kinds.PlusPlus so = step refl
+assignment_at kinds.MinusMinus so = step refl
 assignment_at k so = target so
 
 -- ---- the parts of a declarator that may be left out
@@ -133,7 +128,7 @@ abbrev ReadsOptionalArray : Span → List Token → Type 0
 ReadsOptionalArray o ts = Reading {X = Option ArrayForm × Span} (λ x rest. SpellsOptionalArray o ts x.0 x.1 rest) (StuckOptionalArray ts)
 
 -- behind the word of an array
-array_read : {k : TokenKind} {s : Span} {w : ArrayKind} → IsArrayWord k w → (o : Span) (ts : List Token) → ReadsOptionalArray o (token k s ∷ ts)
+array_read : {k : TokenKind} {s : Span} {w : ArrayKind} → array_kind_of k ≡ Some w → (o : Span) (ts : List Token) → ReadsOptionalArray o (token k s ∷ ts)
 array_read {k} {s} {w} is o ts = marked is_open_bracket (λ us. ReadsOptionalArray o (token k s ∷ us)) ts (λ us none. refused _ unexpected (stuck.opens is none)) (λ p us. sized p (next is_number us))
   where
     sized : (p : Span) {us : List Token} → Next IsNumber number_token us → ReadsOptionalArray o (token k s ∷ token kinds.OpenBracket p ∷ us)
@@ -144,7 +139,7 @@ array_read {k} {s} {w} is o ts = marked is_open_bracket (λ us. ReadsOptionalArr
 optional_array_read : (o : Span) (ts : List Token) → ReadsOptionalArray o ts
 optional_array_read o ts = by (next array_word_at ts)
   where
-    by : {ts : List Token} → Next (λ k. (w : ArrayKind) × IsArrayWord k w) array_word ts → ReadsOptionalArray o ts
+    by : {ts : List Token} → Next (λ k. (w : ArrayKind) × (array_kind_of k ≡ Some w)) array_word ts → ReadsOptionalArray o ts
     by (here {rest} w) = array_read w.1 o rest
     by (other none) = read (None, o) _ (g.absent none)
 
@@ -156,7 +151,7 @@ ReadsSigned ts = Reading {X = SignedConstant} (λ x rest. SpellsSigned ts x rest
 signed_read : (ts : List Token) → ReadsSigned ts
 signed_read ts = by (next signed_at ts)
   where
-    negative : {s : Span} {us : List Token} → Next (λ k. (c : Constant) × SpellsConstant k c) constant_token us → ReadsSigned (token kinds.Minus s ∷ us)
+    negative : {s : Span} {us : List Token} → Next (λ k. (c : Constant) × (constant_of k ≡ Some c)) constant_token us → ReadsSigned (token kinds.Minus s ∷ us)
     negative {s} (here {s = t} {rest} c) = read (record { negative = true; constant = c.0; span = join s t }) rest (g.minus c.1)
     negative (other none) = refused _ unexpected (stuck.behind_minus none)
 
@@ -240,7 +235,7 @@ ReadsAssignment d ts = Reading {X = Assignment} (λ x rest. SpellsAssignment ts 
 
 -- behind the target of an assignment; what fails there is told of the whole
 pub assigned : {d : ℕ} {o : Span} {ts us : List Token} {target : Expression} {Fails : Failure → Type 0} → d < 200 → SpellsUnary ts target o us → IsLow (suc d) (expression_reach target) → (next_is assign_word us ≡ false → Fails (failures.unexpected us))
-    → ((k : TokenKind) (s : Span) (vs : List Token) (w : StoreOperator) (f : Failure) → SpellsUnary ts target o (token k s ∷ vs) → IsStoreOperator k w → StuckExpression (suc d) vs f → Fails f) → Reading {X = Assignment} (λ x rest. SpellsAssignment ts x rest × IsLow d (assignment_reach x)) Fails
+    → ((k : TokenKind) (s : Span) (vs : List Token) (w : StoreOperator) (f : Failure) → SpellsUnary ts target o (token k s ∷ vs) → store_operator_of k ≡ Some w → StuckExpression (suc d) vs f → Fails f) → Reading {X = Assignment} (λ x rest. SpellsAssignment ts x rest × IsLow d (assignment_reach x)) Fails
 assigned {d} {o} {ts} {us} {target} {Fails} room spelled low none value = by (next assign_word_at us) spelled none
   where
     by : {us : List Token} → Next IsAssignWord assign_word us → SpellsUnary ts target o us → (next_is assign_word us ≡ false → Fails (failures.unexpected us)) → Reading {X = Assignment} (λ x rest. SpellsAssignment ts x rest × IsLow d (assignment_reach x)) Fails

@@ -5,6 +5,7 @@ use Rattle.std.proofs.lemmas.Bool.{eqb-true}
 use Rattle.ckc_text.specs.declared.place.Span.{Span}
 use Rattle.ckc_lexer_tokens.specs.declared.token.Token.{Token}
 use Rattle.ckc_lexer_tokens.specs.declared.token.TokenKind.{TokenKind}
+use Rattle.ckc_lexer_tokens.specs.declared.keyword.Keyword.TheVariants as keywords
 use Rattle.ckc_lexer_tokens.specs.declared.token.TokenKind.TheVariants as kinds
 use Rattle.ckc_tree.specs.declared.expr.UnaryOperator.{UnaryOperator}
 use Rattle.ckc_tree.specs.declared.expr.BinaryOperator.{BinaryOperator}
@@ -15,7 +16,7 @@ use Rattle.ckc_tree.specs.Types.{TypeName}
 use Rattle.ckc_tree.specs.Expressions.{Expression, Expressions, NoMore, Then, Number, Character, Text, Name, Call, SizeOf, Cast, BoundedCast, Malloc, Calloc, Index, Dot, Arrow, Unary, Binary, Bounds, Count, ByteCount, Unknown, Range}
 use Rattle.ckc_tree.specs.Heights.{type_reach, expression_reach, expressions_reach, bounds_reach, ◌beside◌}
 use Rattle.ckc_parser_grammar.specs.Tokens as words
-use Rattle.ckc_parser_grammar.specs.Tokens.{token, join, identifier, IsUnaryOperator, IsCastWord, IsMallocWord, IsCallocWord, operator_at, level, is_of_level, has_operator, next_is, selector}
+use Rattle.ckc_parser_grammar.specs.Tokens.{token, join, identifier, unary_operator_of, cast_word_of, malloc_word_of, calloc_word_of, operator_at, level, is_of_level, has_operator, next_is, selector}
 use Rattle.ckc_parser_grammar.specs.TypeGrammar.{SpellsAngled}
 use Rattle.ckc_parser_grammar.specs.ExpressionGrammar as g
 use Rattle.ckc_parser_grammar.specs.ExpressionGrammar.{SpellsBinary, SpellsTail, SpellsUnary, SpellsSelectors, SpellsPrimary, SpellsArguments, SpellsMoreArguments, SpellsBounds}
@@ -23,7 +24,7 @@ use Rattle.ckc_parser_grammar.specs.Failures.{Failure, IsLow}
 use Rattle.ckc_parser_grammar.specs.StuckExpressions as stuck
 use Rattle.ckc_parser_grammar.specs.StuckExpressions.{primary_word, unary_word, close_paren, close_bracket, comma_or_paren, bounds_word, unknown_word, is_unknown, goes_on, IsCountWord, StuckBinary, StuckTail, StuckUnary, StuckSelectors, StuckPrimary, StuckArguments, StuckMoreArguments, StuckBounds}
 use Rattle.ckc_parser_grammar.proofs.Forms.{it}
-use Rattle.ckc_parser_grammar.proofs.Failing.{low_around, low_beside}
+use Rattle.ckc_parser_grammar.proofs.Paths.{low_around, low_beside}
 use Rattle.ckc_parser_grammar.proofs.ExpressionPaths.{marks_at}
 use Rattle.ckc_parser_grammar.proofs.ExpressionLinks.{operator_shrinks}
 use Rattle.ckc_parser_grammar.proofs.BuiltBounds as heads
@@ -276,7 +277,7 @@ bounds_read {m} {d} high shorter ts less = by (next word_at ts) less
 -- ---- casts and allocations
 
 -- behind the word of a cast
-cast_read : {m d : ℕ} {k : TokenKind} {s : Span} {w : CastWord} → IsCastWord k w → d < 200 → Shorter m → (ts : List Token) → length ts < m → ReadsPrimary d (token k s ∷ ts)
+cast_read : {m d : ℕ} {k : TokenKind} {s : Span} {w : CastWord} → cast_word_of k ≡ Some w → d < 200 → Shorter m → (ts : List Token) → length ts < m → ReadsPrimary d (token k s ∷ ts)
 cast_read {m} {d} {k} {s} {w} is room shorter ts less = behind (angled_read ts (suc d)) (λ _ y. stuck.cast_type is room y)
     (λ type us a. behind (shorter us (omega (arith, less, angled_takes a.0)) 10 (suc d)) (λ _ y. stuck.cast_operand is room a.0 a.1 y)
     (λ x rest r. by type us a.0 a.1 x (next ends_argument rest) r.0 r.1))
@@ -291,13 +292,13 @@ cast_read {m} {d} {k} {s} {w} is room shorter ts less = behind (angled_read ts (
     by type us a low x (other none) e low' = refused _ unexpected (stuck.cast_end is a low e low' none)
 
 -- behind `malloc` or `t_malloc`
-malloc_read : {m d : ℕ} {k : TokenKind} {s : Span} {w : MallocWord} → IsMallocWord k w → d < 200 → Shorter m → (ts : List Token) → length ts < m → ReadsPrimary d (token k s ∷ ts)
+malloc_read : {m d : ℕ} {k : TokenKind} {s : Span} {w : MallocWord} → malloc_word_of k ≡ Some w → d < 200 → Shorter m → (ts : List Token) → length ts < m → ReadsPrimary d (token k s ∷ ts)
 malloc_read {d} {s} {w} is room shorter ts less = behind (angled_read ts (suc d)) (λ _ y. stuck.malloc_type is room y)
     (λ type us a. ended is_close_paren (shorter us (omega (arith, less, angled_takes a.0)) 10 (suc d)) (λ _ y. stuck.malloc_size is room a.0 a.1 y) (λ x rest r none. stuck.malloc_close is a.0 a.1 r.0 r.1 none)
     (λ x t rest r. read (Malloc w type x.0 (join s t), join s t) rest (g.malloc is a.0 r.0, low_around d s.from (type_reach type.base beside expression_reach x.0) (low_beside (suc d) (type_reach type.base) (expression_reach x.0) a.1 r.1))))
 
 -- behind `calloc` or `nt_calloc`
-calloc_read : {m d : ℕ} {k : TokenKind} {s : Span} {w : CallocWord} → IsCallocWord k w → d < 200 → Shorter m → (ts : List Token) → length ts < m → ReadsPrimary d (token k s ∷ ts)
+calloc_read : {m d : ℕ} {k : TokenKind} {s : Span} {w : CallocWord} → calloc_word_of k ≡ Some w → d < 200 → Shorter m → (ts : List Token) → length ts < m → ReadsPrimary d (token k s ∷ ts)
 calloc_read {d} {s} {w} is room shorter ts less = behind (angled_read ts (suc d)) (λ _ y. stuck.calloc_type is room y)
     (λ type us a. ended is_comma (shorter us (omega (arith, less, angled_takes a.0)) 10 (suc d)) (λ _ y. stuck.calloc_count is room a.0 a.1 y) (λ x rest r none. stuck.calloc_comma is a.0 a.1 r.0 r.1 none)
     (λ x p vs r. ended is_close_paren (shorter vs (omega (arith, less, angled_takes a.0, binary_takes r.0)) 10 (suc d)) (λ _ y. stuck.calloc_size is room a.0 a.1 r.0 r.1 y) (λ z rest q none. stuck.calloc_close is a.0 a.1 r.0 r.1 q.0 q.1 none)
@@ -314,8 +315,8 @@ name_read {m} {d} {x} {s} room shorter ts less = marked is_open_paren (λ us. le
     less
 
 -- behind `sizeof`
-size_of_read : {d : ℕ} {s : Span} → d < 200 → (ts : List Token) → ReadsPrimary d (token kinds.Sizeof s ∷ ts)
-size_of_read {d} {s} room ts = marked is_open_paren (λ us. ReadsPrimary d (token kinds.Sizeof s ∷ us)) ts (λ us none. refused _ unexpected (stuck.size_of_open room none))
+size_of_read : {d : ℕ} {s : Span} → d < 200 → (ts : List Token) → ReadsPrimary d (token (kinds.Keyword keywords.Sizeof) s ∷ ts)
+size_of_read {d} {s} room ts = marked is_open_paren (λ us. ReadsPrimary d (token (kinds.Keyword keywords.Sizeof) s ∷ us)) ts (λ us none. refused _ unexpected (stuck.size_of_open room none))
     (λ p us. ended is_close_paren (type_name_read us (suc d)) (λ _ y. stuck.size_of_type room y) (λ type rest r none. stuck.size_of_close r.0 r.1 none)
     (λ type t rest r. read (SizeOf type (join s t), join s t) rest (g.size_of r.0, low_around d s.from (type_reach type.base) r.1)))
 
@@ -324,28 +325,28 @@ primary_read {s} room shorter (kinds.Number n) so ts less = read (Number n s, s)
 primary_read {s} room shorter (kinds.Character n) so ts less = read (Character n s, s) ts (g.character, omega (arith, room))
 primary_read {s} room shorter (kinds.Text x) so ts less = read (Text x s, s) ts (g.text, omega (arith, room))
 primary_read room shorter (kinds.Name x) so ts less = name_read room shorter ts (omega (arith, less))
-primary_read room shorter kinds.Sizeof so ts less = size_of_read room ts
-primary_read room shorter kinds.DynamicBoundsCast so ts less = cast_read words.dynamic room shorter ts less
-primary_read room shorter kinds.AssumeBoundsCast so ts less = cast_read words.assume room shorter ts less
-primary_read room shorter kinds.Malloc so ts less = malloc_read words.malloc room shorter ts less
-primary_read room shorter kinds.TMalloc so ts less = malloc_read words.t_malloc room shorter ts less
-primary_read room shorter kinds.Calloc so ts less = calloc_read words.calloc room shorter ts less
-primary_read room shorter kinds.NtCalloc so ts less = calloc_read words.nt_calloc room shorter ts less
+primary_read room shorter (kinds.Keyword keywords.Sizeof) so ts less = size_of_read room ts
+primary_read room shorter (kinds.Keyword keywords.DynamicBoundsCast) so ts less = cast_read refl room shorter ts less
+primary_read room shorter (kinds.Keyword keywords.AssumeBoundsCast) so ts less = cast_read refl room shorter ts less
+primary_read room shorter (kinds.Keyword keywords.Malloc) so ts less = malloc_read refl room shorter ts less
+primary_read room shorter (kinds.Keyword keywords.TMalloc) so ts less = malloc_read refl room shorter ts less
+primary_read room shorter (kinds.Keyword keywords.Calloc) so ts less = calloc_read refl room shorter ts less
+primary_read room shorter (kinds.Keyword keywords.NtCalloc) so ts less = calloc_read refl room shorter ts less
 primary_read room shorter _ so ts less = absurd cc
 
 -- ---- operators before an operand, and what an operand is
 
 data FirstWord : TokenKind → Type 0 where
-  operator : {k : TokenKind} {w : UnaryOperator} → IsUnaryOperator k w → FirstWord k
+  operator : {k : TokenKind} {w : UnaryOperator} → unary_operator_of k ≡ Some w → FirstWord k
   paren : FirstWord kinds.OpenParen
   primary : {k : TokenKind} → primary_word k ≡ true → FirstWord k
 
 first_word : (k : TokenKind) → unary_word k ≡ true → FirstWord k
-first_word kinds.Star so = operator words.deref
-first_word kinds.Ampersand so = operator words.address_of
-first_word kinds.Minus so = operator words.negate
-first_word kinds.Not so = operator words.not
-first_word kinds.Tilde so = operator words.complement
+first_word kinds.Star so = operator refl
+first_word kinds.Ampersand so = operator refl
+first_word kinds.Minus so = operator refl
+first_word kinds.Not so = operator refl
+first_word kinds.Tilde so = operator refl
 first_word kinds.OpenParen so = paren
 first_word k so = primary so
 
@@ -353,7 +354,7 @@ postfix : {m d : ℕ} {ts : List Token} → Shorter m → length ts ≤ m → Re
 postfix {d} shorter less p = behind p (λ _ y. stuck.primary y)
     (λ x mid r. behind (selectors_read shorter d mid (omega (arith, less, primary_takes r.0)) x.0 x.1 r.1) (λ _ y. stuck.selectors r.0 r.1 y) (λ y rest q. read y rest (g.postfix r.0 q.0, q.1)))
 
-operated : {d : ℕ} {k : TokenKind} {s : Span} {ts : List Token} {w : UnaryOperator} → IsUnaryOperator k w → ReadsUnary (suc d) ts → ReadsUnary d (token k s ∷ ts)
+operated : {d : ℕ} {k : TokenKind} {s : Span} {ts : List Token} {w : UnaryOperator} → unary_operator_of k ≡ Some w → ReadsUnary (suc d) ts → ReadsUnary d (token k s ∷ ts)
 operated {d} {s} {w} is inner = by_room d
     (λ room. behind inner (λ _ y. stuck.operator is room y) (λ x rest r. read (Unary w x.0 (join s x.1), join s x.1) rest (g.operator is r.0, low_around d s.from (expression_reach x.0) r.1)))
     (λ full. refused _ too_deep (stuck.deep_operator is full))

@@ -6,33 +6,32 @@ use Rattle.ckc_lexer_tokens.specs.declared.token.CheckedScope.{CheckedScope}
 use Rattle.ckc_lexer_tokens.specs.declared.token.CheckedScope.TheVariants as scopes
 use Rattle.ckc_lexer_tokens.specs.declared.token.Token.{Token}
 use Rattle.ckc_lexer_tokens.specs.declared.token.TokenKind.{TokenKind}
+use Rattle.ckc_lexer_tokens.specs.declared.keyword.Keyword.TheVariants as keywords
 use Rattle.ckc_lexer_tokens.specs.declared.token.TokenKind.TheVariants as kinds
 use Rattle.ckc_tree.specs.declared.identifier.Identifier.{Identifier}
 use Rattle.ckc_tree.specs.declared.item.FunctionKind.{FunctionKind}
 use Rattle.ckc_tree.specs.declared.item.FunctionKind.TheVariants.{Trusted, Tainted, Callback}
 use Rattle.ckc_tree.specs.declared.item.Region.{Region}
 use Rattle.ckc_tree.specs.declared.stmt.Mark.{Mark}
-use Rattle.ckc_tree.specs.declared.stmt.Mark.TheVariants as mark_of
 use Rattle.ckc_tree.specs.Types.{TypeTree, TypeName}
 use Rattle.ckc_tree.specs.Expressions.{Bounds}
 use Rattle.ckc_tree.specs.Items.{Member, ResultForm, Value, Parameters, Nothing, VoidAlone, Listed, Body, Item, RegionItem, StructureItem, GlobalItem, FunctionItem, Tree}
 use Rattle.ckc_tree.specs.Heights.{◌beside◌, type_reach, optional_bounds_reach, statements_reach, declarators_reach, member_reach, members_reach, result_reach, parameters_reach, optional_body_reach, item_reach, items_reach}
 use Rattle.ckc_tree.specs.Weights.{item_weight}
-use Rattle.ckc_parser_grammar.specs.Tokens as words
-use Rattle.ckc_parser_grammar.specs.Tokens.{token, join, identifier, from_first, IsMark, next_is, mark_word, kind_word, tainted_word}
+use Rattle.ckc_parser_grammar.specs.Tokens.{token, join, identifier, from_first, mark_of, next_is, mark_word, kind_word}
 use Rattle.ckc_parser_grammar.specs.TypeGrammar.{SpellsStars, SpellsType, SpellsTypeName}
 use Rattle.ckc_parser_grammar.specs.ItemGrammar as g
 use Rattle.ckc_parser_grammar.specs.ItemGrammar.{SpellsTainted, SpellsKind, SpellsOptionalMark, SpellsMember, SpellsMembers, SpellsListed, SpellsParameters, SpellsResult, SpellsBody, SpellsRegion, SpellsItem, SpellsItems}
 use Rattle.ckc_parser_grammar.specs.Parsing.{IsTree, IsFault}
 use Rattle.ckc_parser_grammar.specs.Refusals.{FaultIs}
 use Rattle.ckc_parser_grammar.specs.Failures.{Failure, IsLow}
-use Rattle.ckc_parser_grammar.specs.StuckTypes.{name_token}
 use Rattle.ckc_parser_grammar.specs.StuckExpressions.{close_paren, comma_or_paren}
 use Rattle.ckc_parser_grammar.specs.StuckStatements.{open_brace}
 use Rattle.ckc_parser_grammar.specs.StuckItems as stuck
 use Rattle.ckc_parser_grammar.specs.StuckItems.{void_word, scope_word, struct_word, body_word, is_name_before, is_structure, is_function, IsAlone, IsLowMember, StuckMember, StuckMembers, StuckListed, StuckParameters, StuckBody, StuckItem, StuckItems}
-use Rattle.ckc_parser_grammar.proofs.Forms.{it, never}
-use Rattle.ckc_parser_grammar.proofs.Failing.{low_around, low_beside}
+use Rattle.ckc_parser_grammar.proofs.Forms.{it}
+use Rattle.ckc_parser_grammar.proofs.Ahead.{never, untainted, no_struct, no_name}
+use Rattle.ckc_parser_grammar.proofs.Paths.{low_around, low_beside}
 use Rattle.ckc_parser_grammar.proofs.MemberForms.{zero_low}
 use Rattle.ckc_parser_grammar.proofs.ItemFailing.{Ahead, call, function_ahead}
 use Rattle.ckc_parser_grammar.proofs.WholeForms.{stuck_is_fault}
@@ -43,15 +42,16 @@ use Rattle.ckc_parser_grammar.proofs.ReadTypes.{is_open_paren, stars_read, type_
 use Rattle.ckc_parser_grammar.proofs.ReadExpressions.{is_close_paren, EndsArgument, comma, paren, ends_argument}
 use Rattle.ckc_parser_grammar.proofs.ReadDeclarations.{is_open_brace, is_close_brace, is_semicolon, optional_bounds_read, declarators_read}
 use Rattle.ckc_parser_grammar.proofs.ReadStatements.{statements_read}
+use Rattle.ckc_parser_grammar.proofs.Words.{some_word}
 
 -- ---- words
 
-is_void : Marks kinds.Void void_word
-is_void kinds.Void so = it
+is_void : Marks (kinds.Keyword keywords.Void) void_word
+is_void (kinds.Keyword keywords.Void) so = it
 is_void _ so = absurd cc
 
-is_struct : Marks kinds.Struct struct_word
-is_struct kinds.Struct so = it
+is_struct : Marks (kinds.Keyword keywords.Struct) struct_word
+is_struct (kinds.Keyword keywords.Struct) so = it
 is_struct _ so = absurd cc
 
 data IsScope : TokenKind → Type 0 where
@@ -62,31 +62,29 @@ scope_at (kinds.Scope scopes.On) so = scope g.on
 scope_at (kinds.Scope scopes.Off) so = scope g.off
 scope_at _ so = absurd cc
 
-mark_at : (k : TokenKind) → mark_word k ≡ true → (w : Mark) × IsMark k w
-mark_at kinds.Checked so = (mark_of.Checked, words.checked)
-mark_at kinds.Unchecked so = (mark_of.Unchecked, words.unchecked)
-mark_at _ so = absurd cc
+mark_at : (k : TokenKind) → mark_word k ≡ true → (w : Mark) × (mark_of k ≡ Some w)
+mark_at k so = some_word (mark_of k) so
 
 data IsKindWord : TokenKind → Type 0 where
-  tainted : IsKindWord kinds.Tainted
-  callback : IsKindWord kinds.Callback
+  tainted : IsKindWord (kinds.Keyword keywords.Tainted)
+  callback : IsKindWord (kinds.Keyword keywords.Callback)
 
 kind_word_at : (k : TokenKind) → kind_word k ≡ true → IsKindWord k
-kind_word_at kinds.Tainted so = tainted
-kind_word_at kinds.Callback so = callback
+kind_word_at (kinds.Keyword keywords.Tainted) so = tainted
+kind_word_at (kinds.Keyword keywords.Callback) so = callback
 kind_word_at _ so = absurd cc
 
 -- what ends a function or begins its body
 data StartsBody : TokenKind → Type 0 where
   none : StartsBody kinds.Semicolon
   brace : StartsBody kinds.OpenBrace
-  mark : {k : TokenKind} {w : Mark} → IsMark k w → StartsBody k
+  mark : {k : TokenKind} {w : Mark} → mark_of k ≡ Some w → StartsBody k
 
 body_at : (k : TokenKind) → body_word k ≡ true → StartsBody k
 body_at kinds.Semicolon so = none
 body_at kinds.OpenBrace so = brace
-body_at kinds.Checked so = mark words.checked
-body_at kinds.Unchecked so = mark words.unchecked
+body_at (kinds.Keyword keywords.Checked) so = mark refl
+body_at (kinds.Keyword keywords.Unchecked) so = mark refl
 body_at _ so = absurd cc
 
 -- ---- members and parameters
@@ -146,7 +144,7 @@ parameters_read ts = marked is_close_paren ReadsParameters ts some (λ t us. rea
     some : (us : List Token) → next_is close_paren us ≡ false → ReadsParameters us
     some us unclosed = marked is_void (λ vs. next_is close_paren vs ≡ false → ReadsParameters vs) us
         (λ vs typed unclosed. behind (listed_read vs) (λ _ y. stuck.listed unclosed typed y) (λ ms rest r. read (Listed ms.0, ms.1) rest (g.listed r.0, r.1)))
-        (λ s vs _. marked is_close_paren (λ ws. ReadsParameters (token kinds.Void s ∷ ws)) vs (λ ws unclosed. refused _ unexpected (stuck.void unclosed)) (λ t ws. read (VoidAlone, t) ws (g.void, zero_low)))
+        (λ s vs _. marked is_close_paren (λ ws. ReadsParameters (token (kinds.Keyword keywords.Void) s ∷ ws)) vs (λ ws unclosed. refused _ unexpected (stuck.void unclosed)) (λ t ws. read (VoidAlone, t) ws (g.void, zero_low)))
         unclosed
 
 -- ---- bodies
@@ -190,7 +188,7 @@ record Marked (ts : List Token) : Type 0 where
 mark_read : (ts : List Token) → Marked ts
 mark_read ts = by (next mark_at ts)
   where
-    by : {ts : List Token} → Next (λ k. (w : Mark) × IsMark k w) mark_word ts → Marked ts
+    by : {ts : List Token} → Next (λ k. (w : Mark) × (mark_of k ≡ Some w)) mark_word ts → Marked ts
     by (here w) = record { mark = Some w.0; rest = _; spelled = g.present w.1 }
     by (other not) = record { mark = None; rest = _; spelled = g.absent not }
 
@@ -198,14 +196,6 @@ mark_read ts = by (next mark_at ts)
 data Side (tokens us : List Token) (k : FunctionKind) (m : Option Mark) : Type 0 where
   alone : ((result : ResultForm) → IsAlone k m result) → Side tokens us k m
   any : {b : Bool} → SpellsTainted tokens b us → Side tokens us k m
-
-untainted : (ts : List Token) → next_is kind_word ts ≡ false → next_is tainted_word ts ≡ false
-untainted [] not = refl
-untainted (t ∷ ts) not = by t.kind not
-  where
-    by : (k : TokenKind) → kind_word k ≡ false → tainted_word k ≡ false
-    by kinds.Tainted not = not
-    by _ not = refl
 
 side : {tokens ts us : List Token} {k : FunctionKind} {m : Option Mark} → SpellsKind tokens k ts → SpellsOptionalMark ts m us → Side tokens us k m
 side (g.trusted not) (g.absent f) = any (g.absent (untainted _ not))
@@ -233,7 +223,7 @@ alone_read {tokens} {vs} is kd md d low = behind (stars_read vs) (λ _ y. absurd
     (λ n rest e. named (λ xs. SpellsStars vs n xs → ReadsItem tokens) rest (λ xs unnamed stars. refused _ unexpected (stuck.function_name kd md d low is stars unnamed))
     (λ x s xs e'. marked is_open_paren (λ ys. SpellsStars vs n (token (kinds.Name x) s ∷ ys) → ReadsItem tokens) xs (λ ys closed stars. refused _ unexpected (stuck.function_open kd md d low is stars closed)) (λ p ys stars. function_read kd md d low stars) e') e)
 
-structure_read : {x : List ℕ} {s t p : Span} {tokens ts : List Token} {b : Bool} → SpellsTainted tokens b (token kinds.Struct s ∷ token (kinds.Name x) t ∷ token kinds.OpenBrace p ∷ ts) → ReadsItem tokens
+structure_read : {x : List ℕ} {s t p : Span} {tokens ts : List Token} {b : Bool} → SpellsTainted tokens b (token (kinds.Keyword keywords.Struct) s ∷ token (kinds.Name x) t ∷ token kinds.OpenBrace p ∷ ts) → ReadsItem tokens
 structure_read {x} {t} {tokens} {ts} {b} d = ended is_semicolon (members_read ts) (λ _ y. stuck.members d y) (λ ms rest r not. stuck.structure_end d r.0 r.1 not)
     (λ ms q rest r. read (StructureItem (record { tainted = b; tag = identifier x t; members = ms; span = from_first tokens q })) rest (g.structure d r.0, r.1))
 
@@ -243,20 +233,12 @@ variables_read {tokens} {us} {b} {base} t tag d low not = ended is_semicolon (de
 
 -- the word of a structure, its name and its brace
 data Structure : List Token → Type 0 where
-  structure : {x : List ℕ} {s t p : Span} {ts : List Token} → Structure (token kinds.Struct s ∷ token (kinds.Name x) t ∷ token kinds.OpenBrace p ∷ ts)
-
-no_struct : (ts : List Token) → next_is struct_word ts ≡ false → is_structure ts ≡ false
-no_struct [] not = refl
-no_struct (t ∷ ts) not = rw not refl
-
-no_name : (is : TokenKind → Bool) (ts : List Token) → next_is name_token ts ≡ false → is_name_before is ts ≡ false
-no_name is [] not = refl
-no_name is (t ∷ ts) not = rw not refl
+  structure : {x : List ℕ} {s t p : Span} {ts : List Token} → Structure (token (kinds.Keyword keywords.Struct) s ∷ token (kinds.Name x) t ∷ token kinds.OpenBrace p ∷ ts)
 
 structure_at : (us : List Token) → is_structure us ≡ true → Structure us
 structure_at us so = marked is_struct (λ vs. is_structure vs ≡ true → Structure vs) us (λ vs not so. never so (no_struct vs not))
-    (λ s vs so. named (λ ws. is_name_before open_brace ws ≡ true → Structure (token kinds.Struct s ∷ ws)) vs (λ ws not so. never so (no_name open_brace ws not))
-    (λ x t ws so. marked is_open_brace (λ xs. next_is open_brace xs ≡ true → Structure (token kinds.Struct s ∷ token (kinds.Name x) t ∷ xs)) ws (λ xs not so. never so not) (λ p xs so. structure) so) so) so
+    (λ s vs so. named (λ ws. is_name_before open_brace ws ≡ true → Structure (token (kinds.Keyword keywords.Struct) s ∷ ws)) vs (λ ws not so. never so (no_name open_brace ws not))
+    (λ x t ws so. marked is_open_brace (λ xs. next_is open_brace xs ≡ true → Structure (token (kinds.Keyword keywords.Struct) s ∷ token (kinds.Name x) t ∷ xs)) ws (λ xs not so. never so not) (λ p xs so. structure) so) so) so
 
 -- behind the words before it, where a type stands or is missing
 typed_read : {tokens ts us : List Token} {k : FunctionKind} {m : Option Mark} {b : Bool} → next_is scope_word tokens ≡ false → SpellsKind tokens k ts → SpellsOptionalMark ts m us → next_is void_word us ≡ false → SpellsTainted tokens b us → is_structure us ≡ false → ReadsItem tokens

@@ -3,12 +3,13 @@ use Rattle.std.proofs.Common.{◌≡◌, ◌≤◌, ◌<◌, ◌||◌, ℕ, suc,
 use Rattle.ckc_text.specs.declared.place.Span.{Span}
 use Rattle.ckc_lexer_tokens.specs.declared.token.Token.{Token}
 use Rattle.ckc_lexer_tokens.specs.declared.token.TokenKind.{TokenKind}
+use Rattle.ckc_lexer_tokens.specs.declared.keyword.Keyword.TheVariants as keywords
 use Rattle.ckc_lexer_tokens.specs.declared.token.TokenKind.TheVariants as kinds
 use Rattle.ckc_tree.specs.declared.stmt.Mark.{Mark}
 use Rattle.ckc_tree.specs.Expressions.{Expression}
 use Rattle.ckc_tree.specs.Statements.{Assignment, assignment_span, ForInitial, Statement, statement_span, Block, Bundle, Declare, Assign, CallAlone, Empty, If, IfElse, While, For, Return, Break, Continue, Statements, NoMore, Then}
 use Rattle.ckc_tree.specs.Heights.{◌beside◌, assignments_reach, expression_reach, for_initial_reach, optional_expression_reach, optional_assignment_reach, statement_reach, statements_reach}
-use Rattle.ckc_parser_grammar.specs.Tokens.{token, join, IsMark, next_is, else_word}
+use Rattle.ckc_parser_grammar.specs.Tokens.{token, join, mark_of, next_is, else_word}
 use Rattle.ckc_parser_grammar.specs.ExpressionGrammar.{SpellsUnary, SpellsExpression}
 use Rattle.ckc_parser_grammar.specs.StatementGrammar as g
 use Rattle.ckc_parser_grammar.specs.StatementGrammar.{SpellsForInitial, SpellsForCondition, SpellsForStep, SpellsStatement, SpellsStatements}
@@ -16,10 +17,10 @@ use Rattle.ckc_parser_grammar.specs.Failures.{Failure, IsLow}
 use Rattle.ckc_parser_grammar.specs.StuckTypes.{type_word, name_token}
 use Rattle.ckc_parser_grammar.specs.StuckStatements as stuck
 use Rattle.ckc_parser_grammar.specs.StuckStatements.{close_brace, semicolon, plain_word, assignment_word, statement_word, is_call, is_call_alone, StuckCondition, StuckStatement, StuckStatements}
-use Rattle.ckc_parser_grammar.proofs.Forms.{Is, it, never}
-use Rattle.ckc_parser_grammar.proofs.Failing.{low_around, low_beside}
+use Rattle.ckc_parser_grammar.proofs.Forms.{Is, it}
+use Rattle.ckc_parser_grammar.proofs.Ahead.{never, call_of}
+use Rattle.ckc_parser_grammar.proofs.Paths.{low_around, low_beside}
 use Rattle.ckc_parser_grammar.proofs.MoreForms.{by_next, shrinks}
-use Rattle.ckc_parser_grammar.proofs.SimpleForms.{call_of}
 use Rattle.ckc_parser_grammar.proofs.BoundsFails.{and_true}
 use Rattle.ckc_parser_grammar.proofs.StatementForms as forms
 use Rattle.ckc_parser_grammar.proofs.StatementForms.{IsPlain, stated, statement_high, statement_exact}
@@ -42,8 +43,8 @@ ReadsStatements d ts = Reading {X = Statements × Span} (λ x rest. SpellsStatem
 abbrev Shorter : ℕ → Type 0
 Shorter n = (us : List Token) → length us < n → (d : ℕ) → d ≤ 200 → ReadsStatement d us
 
-is_else : Marks kinds.Else else_word
-is_else kinds.Else so = it
+is_else : Marks (kinds.Keyword keywords.Else) else_word
+is_else (kinds.Keyword keywords.Else) so = it
 is_else _ so = absurd cc
 
 -- ---- declarations, assignments and calls
@@ -83,13 +84,13 @@ statements_within : {m d : ℕ} → d ≤ 200 → Shorter m → (ts : List Token
 statements_within {m} {d} high shorter = by_length (λ ts. length ts < m → ReadsStatements d ts) (λ ts again less. statements_step high shorter ts (λ us short. again us short (omega (arith, short, less))) less)
 
 -- behind a mark
-marked_block : {m d : ℕ} {k : TokenKind} {s : Span} {w : Mark} → IsMark k w → d < 200 → Shorter m → (ts : List Token) → length ts < m → ReadsStatement d (token k s ∷ ts)
+marked_block : {m d : ℕ} {k : TokenKind} {s : Span} {w : Mark} → mark_of k ≡ Some w → d < 200 → Shorter m → (ts : List Token) → length ts < m → ReadsStatement d (token k s ∷ ts)
 marked_block {m} {d} {k} {s} {w} is room shorter ts less = marked is_open_brace (λ us. length us < m → ReadsStatement d (token k s ∷ us)) ts (λ us none _. refused _ unexpected (stuck.mark room is none))
     (λ p us short. behind (statements_within (omega (arith, room)) shorter us (omega (arith, short))) (λ _ y. stuck.marked_block room is y) (λ xs rest r. read (Block (Some w) xs.0 (join s xs.1)) rest (g.marked_block is r.0, low_around d s.from (statements_reach xs.0) r.1)))
     less
 
-bundled : {d : ℕ} {s : Span} → d < 200 → (ts : List Token) → ReadsStatement d (token kinds.Bundled s ∷ ts)
-bundled {d} {s} room ts = marked is_open_brace (λ us. ReadsStatement d (token kinds.Bundled s ∷ us)) ts (λ us none. refused _ unexpected (stuck.bundle_open room none))
+bundled : {d : ℕ} {s : Span} → d < 200 → (ts : List Token) → ReadsStatement d (token (kinds.Keyword keywords.Bundled) s ∷ ts)
+bundled {d} {s} room ts = marked is_open_brace (λ us. ReadsStatement d (token (kinds.Keyword keywords.Bundled) s ∷ us)) ts (λ us none. refused _ unexpected (stuck.bundle_open room none))
     (λ p us. behind (assignments_read (omega (arith, room)) us) (λ _ y. stuck.bundle room y) (λ xs rest r. read (Bundle xs.0 (join s xs.1)) rest (g.bundle r.0, low_around d s.from (assignments_reach xs.0) r.1)))
 
 -- ---- statements with a condition
@@ -102,18 +103,18 @@ conditional {m} {d} {k} {s} fails go ts less = marked is_open_paren (λ us. leng
     (λ p us short. ended is_close_paren (expression_read us (suc d)) (λ f y. fails (token kinds.OpenParen p ∷ us) f (stuck.inside y)) (λ c rest r none. fails (token kinds.OpenParen p ∷ us) _ (stuck.close r.0 r.1 none)) (λ c q vs r. go p q us vs c r.0 r.1 (omega (arith, short, binary_takes r.0))))
     less
 
-if_read : {m d : ℕ} {s : Span} → d < 200 → Shorter m → (ts : List Token) → length ts < m → ReadsStatement d (token kinds.If s ∷ ts)
+if_read : {m d : ℕ} {s : Span} → d < 200 → Shorter m → (ts : List Token) → length ts < m → ReadsStatement d (token (kinds.Keyword keywords.If) s ∷ ts)
 if_read {m} {d} {s} room shorter = conditional (λ _ _ y. stuck.if_condition room y) consequent
   where
-    consequent : (p q : Span) (us vs : List Token) (c : Expression × Span) → SpellsExpression us c.0 c.1 (token kinds.CloseParen q ∷ vs) → IsLow (suc d) (expression_reach c.0) → length vs < m → ReadsStatement d (token kinds.If s ∷ token kinds.OpenParen p ∷ us)
+    consequent : (p q : Span) (us vs : List Token) (c : Expression × Span) → SpellsExpression us c.0 c.1 (token kinds.CloseParen q ∷ vs) → IsLow (suc d) (expression_reach c.0) → length vs < m → ReadsStatement d (token (kinds.Keyword keywords.If) s ∷ token kinds.OpenParen p ∷ us)
     consequent p q us vs c spelled low less = behind (shorter vs less (suc d) (omega (arith, room))) (λ _ y. stuck.if_consequent room spelled low y)
-        (λ x mid r. marked is_else (λ ws. SpellsStatement vs x ws → ReadsStatement d (token kinds.If s ∷ token kinds.OpenParen p ∷ us)) mid
+        (λ x mid r. marked is_else (λ ws. SpellsStatement vs x ws → ReadsStatement d (token (kinds.Keyword keywords.If) s ∷ token kinds.OpenParen p ∷ us)) mid
         (λ ws none one. read (If c.0 x (join s (statement_span x))) ws (g.if spelled one none, low_around d s.from _ (low_beside (suc d) (expression_reach c.0) (statement_reach x) low r.1)))
         (λ w ws one. behind (shorter ws (omega (arith, less, statement_takes one)) (suc d) (omega (arith, room))) (λ _ y. stuck.if_alternative room spelled low one r.1 y)
         (λ z rest t. read (IfElse c.0 x z (join s (statement_span z))) rest (g.if_else spelled one t.0, low_around d s.from _ (low_beside (suc d) (expression_reach c.0 beside statement_reach x) (statement_reach z) (low_beside (suc d) (expression_reach c.0) (statement_reach x) low r.1) t.1))))
         r.0)
 
-while_read : {m d : ℕ} {s : Span} → d < 200 → Shorter m → (ts : List Token) → length ts < m → ReadsStatement d (token kinds.While s ∷ ts)
+while_read : {m d : ℕ} {s : Span} → d < 200 → Shorter m → (ts : List Token) → length ts < m → ReadsStatement d (token (kinds.Keyword keywords.While) s ∷ ts)
 while_read {d} {s} room shorter = conditional (λ _ _ y. stuck.while_condition room y)
     (λ p q us vs c spelled low less. behind (shorter vs less (suc d) (omega (arith, room))) (λ _ y. stuck.while_body room spelled low y)
     (λ x rest r. read (While c.0 x (join s (statement_span x))) rest (g.while spelled r.0, low_around d s.from _ (low_beside (suc d) (expression_reach c.0) (statement_reach x) low r.1))))
@@ -122,7 +123,7 @@ while_read {d} {s} room shorter = conditional (λ _ _ y. stuck.while_condition r
 
 -- behind the head
 for_body : {m d : ℕ} {s p : Span} {us vs ws xs : List Token} {i : ForInitial} {c : Option Expression} {a : Option Assignment} → d < 200 → Shorter m → SpellsForInitial us i vs → IsLow (suc d) (for_initial_reach i) → SpellsForCondition vs c ws → IsLow (suc d) (optional_expression_reach c)
-    → SpellsForStep ws a xs → IsLow (suc d) (optional_assignment_reach a) → length us < m → ReadsStatement d (token kinds.For s ∷ token kinds.OpenParen p ∷ us)
+    → SpellsForStep ws a xs → IsLow (suc d) (optional_assignment_reach a) → length us < m → ReadsStatement d (token (kinds.Keyword keywords.For) s ∷ token kinds.OpenParen p ∷ us)
 for_body {d} {s} {us} {xs} {i} {c} {a} room shorter initial low condition low' step low'' less =
     behind (shorter xs (omega (arith, less, for_initial_takes initial, for_condition_takes condition, for_step_takes step)) (suc d) (omega (arith, room))) (λ _ y. stuck.for_body room initial low condition low' step low'' y)
     (λ x rest r. read (For i c a x (join s (statement_span x))) rest (
@@ -131,8 +132,8 @@ for_body {d} {s} {us} {xs} {i} {c} {a} room shorter initial low condition low' s
           (low_beside (suc d) (for_initial_reach i beside optional_expression_reach c beside optional_assignment_reach a) (statement_reach x) (low_beside (suc d) (for_initial_reach i beside optional_expression_reach c) (optional_assignment_reach a) (low_beside (suc d) (for_initial_reach i) (optional_expression_reach c) low low') low'') r.1),
     ))
 
-for_read : {m d : ℕ} {s : Span} → d < 200 → Shorter m → (ts : List Token) → length ts < m → ReadsStatement d (token kinds.For s ∷ ts)
-for_read {m} {d} {s} room shorter ts less = marked is_open_paren (λ us. length us < m → ReadsStatement d (token kinds.For s ∷ us)) ts (λ us none _. refused _ unexpected (stuck.for_open room none))
+for_read : {m d : ℕ} {s : Span} → d < 200 → Shorter m → (ts : List Token) → length ts < m → ReadsStatement d (token (kinds.Keyword keywords.For) s ∷ ts)
+for_read {m} {d} {s} room shorter ts less = marked is_open_paren (λ us. length us < m → ReadsStatement d (token (kinds.Keyword keywords.For) s ∷ us)) ts (λ us none _. refused _ unexpected (stuck.for_open room none))
     (λ p us short. behind (for_initial_read (omega (arith, room)) us) (λ _ y. stuck.for_initial room y)
     (λ i vs r. behind (for_condition_read (omega (arith, room)) vs) (λ _ y. stuck.for_condition room r.0 r.1 y)
     (λ c ws q. behind (for_step_read (omega (arith, room)) ws) (λ _ y. stuck.for_step room r.0 r.1 q.0 q.1 y)
@@ -141,15 +142,15 @@ for_read {m} {d} {s} room shorter ts less = marked is_open_paren (λ us. length 
 
 -- ---- what leaves a statement
 
-returned : {d : ℕ} {s : Span} {ts rest : List Token} {x : Option Expression} → d < 200 → SpellsForCondition ts x rest → IsLow (suc d) (optional_expression_reach x) → ReadsStatement d (token kinds.Return s ∷ ts)
+returned : {d : ℕ} {s : Span} {ts rest : List Token} {x : Option Expression} → d < 200 → SpellsForCondition ts x rest → IsLow (suc d) (optional_expression_reach x) → ReadsStatement d (token (kinds.Keyword keywords.Return) s ∷ ts)
 returned {s} {rest} room (g.absent {s = t}) low = read (Return None (join s t)) rest (g.return_nothing, omega (arith, room))
 returned {d} {s} {rest} room (g.present {s = t} {e} spelled) low = read (Return (Some e) (join s t)) rest (g.return spelled, low_around d s.from (expression_reach e) low)
 
-break_read : {d : ℕ} {s : Span} → d < 200 → (ts : List Token) → ReadsStatement d (token kinds.Break s ∷ ts)
-break_read {d} {s} room ts = marked is_semicolon (λ us. ReadsStatement d (token kinds.Break s ∷ us)) ts (λ us none. refused _ unexpected (stuck.break room none)) (λ t us. read (Break (join s t)) us (g.break, omega (arith, room)))
+break_read : {d : ℕ} {s : Span} → d < 200 → (ts : List Token) → ReadsStatement d (token (kinds.Keyword keywords.Break) s ∷ ts)
+break_read {d} {s} room ts = marked is_semicolon (λ us. ReadsStatement d (token (kinds.Keyword keywords.Break) s ∷ us)) ts (λ us none. refused _ unexpected (stuck.break room none)) (λ t us. read (Break (join s t)) us (g.break, omega (arith, room)))
 
-continue_read : {d : ℕ} {s : Span} → d < 200 → (ts : List Token) → ReadsStatement d (token kinds.Continue s ∷ ts)
-continue_read {d} {s} room ts = marked is_semicolon (λ us. ReadsStatement d (token kinds.Continue s ∷ us)) ts (λ us none. refused _ unexpected (stuck.continue room none)) (λ t us. read (Continue (join s t)) us (g.continue, omega (arith, room)))
+continue_read : {d : ℕ} {s : Span} → d < 200 → (ts : List Token) → ReadsStatement d (token (kinds.Keyword keywords.Continue) s ∷ ts)
+continue_read {d} {s} room ts = marked is_semicolon (λ us. ReadsStatement d (token (kinds.Keyword keywords.Continue) s ∷ us)) ts (λ us none. refused _ unexpected (stuck.continue room none)) (λ t us. read (Continue (join s t)) us (g.continue, omega (arith, room)))
 
 -- ---- all statements
 

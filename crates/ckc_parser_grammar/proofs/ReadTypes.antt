@@ -1,22 +1,23 @@
 -- Each list of tokens is read as a type, or has a refusal.
-use Rattle.std.proofs.Common.{◌≡◌, ◌<◌, ℕ, zero, suc, length, true, List, [], ◌∷◌, refl, arith}
+use Rattle.std.proofs.Common.{◌≡◌, ◌<◌, ℕ, zero, suc, length, true, List, [], ◌∷◌, refl, arith, Some}
 use Rattle.ckc_text.specs.declared.place.Span.{Span}
 use Rattle.ckc_lexer_tokens.specs.declared.token.Token.{Token}
 use Rattle.ckc_lexer_tokens.specs.declared.token.TokenKind.{TokenKind}
+use Rattle.ckc_lexer_tokens.specs.declared.keyword.Keyword.TheVariants as keywords
 use Rattle.ckc_lexer_tokens.specs.declared.token.TokenKind.TheVariants as kinds
 use Rattle.ckc_tree.specs.declared.type_form.PointerWord.{PointerWord}
 use Rattle.ckc_tree.specs.Types.{TypeTree, IntType, CharType, StructType, PointerType, TypeName}
 use Rattle.ckc_tree.specs.Heights.{type_reach}
-use Rattle.ckc_parser_grammar.specs.Tokens as words
-use Rattle.ckc_parser_grammar.specs.Tokens.{token, join, identifier, IsPointerWord, star, open_paren}
+use Rattle.ckc_parser_grammar.specs.Tokens.{token, join, identifier, pointer_word_of, star, open_paren}
 use Rattle.ckc_parser_grammar.specs.TypeGrammar as g
 use Rattle.ckc_parser_grammar.specs.TypeGrammar.{SpellsStars, SpellsType, SpellsTypeName, SpellsAngled}
 use Rattle.ckc_parser_grammar.specs.Failures.{IsLow}
 use Rattle.ckc_parser_grammar.specs.StuckTypes as stuck
 use Rattle.ckc_parser_grammar.specs.StuckTypes.{type_word, less, greater, StuckType, StuckTypeName, StuckAngled}
 use Rattle.ckc_parser_grammar.proofs.Forms.{Is, it}
-use Rattle.ckc_parser_grammar.proofs.Failing.{low_around}
+use Rattle.ckc_parser_grammar.proofs.Paths.{low_around}
 use Rattle.ckc_parser_grammar.proofs.Reading.{Reading, read, refused, unexpected, too_deep, Next, here, other, next, Marks, marked, named, by_length, by_room, behind, ended}
+use Rattle.ckc_parser_grammar.proofs.Words.{some_word}
 
 -- ---- marks
 
@@ -59,7 +60,7 @@ abbrev Shorter : ℕ → Type 0
 Shorter n = (us : List Token) → length us < n → (d : ℕ) → ReadsType d us
 
 -- behind the word of a pointer
-pointed : {d : ℕ} {k : TokenKind} {s : Span} {ts : List Token} {w : PointerWord} → IsPointerWord k w → d < 200 → Shorter (suc (length ts)) → ReadsType d (token k s ∷ ts)
+pointed : {d : ℕ} {k : TokenKind} {s : Span} {ts : List Token} {w : PointerWord} → pointer_word_of k ≡ Some w → d < 200 → Shorter (suc (length ts)) → ReadsType d (token k s ∷ ts)
 pointed {d} {k} {s} {ts} {w} is room shorter = marked is_less (λ us. Shorter (suc (length us)) → ReadsType d (token k s ∷ us)) ts (λ us none all. refused _ unexpected (stuck.opens room is none)) (λ p us all. inside p us (all us (omega arith) (suc d))) shorter
   where
     inside : (p : Span) (us : List Token) → ReadsType (suc d) us → ReadsType d (token k s ∷ token kinds.Less p ∷ us)
@@ -68,16 +69,10 @@ pointed {d} {k} {s} {ts} {w} is room shorter = marked is_less (λ us. Shorter (s
         (λ n t rest stars. read (PointerType w x n (join s t)) rest (g.pointer is e.0 stars, low_around d s.from (type_reach x) e.1)))
 
 worded : {d : ℕ} {s : Span} {ts : List Token} (k : TokenKind) → type_word k ≡ true → d < 200 → Shorter (suc (length ts)) → ReadsType d (token k s ∷ ts)
-worded {s} {ts} kinds.Int so room shorter = read (IntType s) ts (g.int, omega (arith, room))
-worded {s} {ts} kinds.Char so room shorter = read (CharType s) ts (g.char, omega (arith, room))
-worded {d} {s} {ts} kinds.Struct so room shorter = named (λ us. ReadsType d (token kinds.Struct s ∷ us)) ts (λ us none. refused _ unexpected (stuck.tag room none)) (λ x t us. read (StructType (identifier x t) (join s t)) us (g.struct, omega (arith, room)))
-worded kinds.Ptr so room shorter = pointed words.ptr room shorter
-worded kinds.ArrayPtr so room shorter = pointed words.array_ptr room shorter
-worded kinds.NtArrayPtr so room shorter = pointed words.nt_array_ptr room shorter
-worded kinds.TPtr so room shorter = pointed words.t_ptr room shorter
-worded kinds.TArrayPtr so room shorter = pointed words.t_array_ptr room shorter
-worded kinds.TNtArrayPtr so room shorter = pointed words.t_nt_array_ptr room shorter
-worded _ so room shorter = absurd cc
+worded {s} {ts} (kinds.Keyword keywords.Int) so room shorter = read (IntType s) ts (g.int, omega (arith, room))
+worded {s} {ts} (kinds.Keyword keywords.Char) so room shorter = read (CharType s) ts (g.char, omega (arith, room))
+worded {d} {s} {ts} (kinds.Keyword keywords.Struct) so room shorter = named (λ us. ReadsType d (token (kinds.Keyword keywords.Struct) s ∷ us)) ts (λ us none. refused _ unexpected (stuck.tag room none)) (λ x t us. read (StructType (identifier x t) (join s t)) us (g.struct, omega (arith, room)))
+worded k so room shorter = pointed (some_word (pointer_word_of k) so).1 room shorter
 
 type_step : (ts : List Token) → Shorter (length ts) → (d : ℕ) → ReadsType d ts
 type_step ts shorter d = by (next (λ k so. so) ts) shorter

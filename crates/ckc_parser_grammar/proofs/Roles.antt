@@ -1,8 +1,9 @@
 -- The token with which a statement starts.
-use Rattle.std.proofs.Common.{◌≡◌, ℕ, ◌≤◌, List, [], ◌∷◌, refl, arith}
+use Rattle.std.proofs.Common.{◌≡◌, ℕ, ◌≤◌, List, [], ◌∷◌, refl, arith, Some}
 use Rattle.ckc_text.specs.declared.place.Span.{Span}
 use Rattle.ckc_lexer_tokens.specs.declared.token.Token.{Token}
 use Rattle.ckc_lexer_tokens.specs.declared.token.TokenKind.{TokenKind}
+use Rattle.ckc_lexer_tokens.specs.declared.keyword.Keyword.TheVariants as keywords
 use Rattle.ckc_lexer_tokens.specs.declared.token.TokenKind.TheVariants as kinds
 use Rattle.ckc_tree.specs.declared.type_form.PointerWord.{PointerWord}
 use Rattle.ckc_tree.specs.declared.expr.UnaryOperator.{UnaryOperator}
@@ -14,38 +15,38 @@ use Rattle.ckc_tree.specs.declared.stmt.StepOperator.{StepOperator}
 use Rattle.ckc_tree.specs.Types.{TypeTree}
 use Rattle.ckc_tree.specs.Expressions.{Expression}
 use Rattle.ckc_tree.specs.Statements.{Declaration, Assignment, Statement, ForInitial}
-use Rattle.ckc_parser_grammar.specs.Tokens as words
-use Rattle.ckc_parser_grammar.specs.Tokens.{IsPointerWord, IsUnaryOperator, IsCastWord, IsMallocWord, IsCallocWord, IsMark, IsStepOperator}
+use Rattle.ckc_parser_grammar.specs.Tokens.{pointer_word_of, unary_operator_of, cast_word_of, malloc_word_of, calloc_word_of, mark_of, step_operator_of}
 use Rattle.ckc_parser_grammar.specs.TypeGrammar as types
 use Rattle.ckc_parser_grammar.specs.TypeGrammar.{SpellsType}
 use Rattle.ckc_parser_grammar.specs.ExpressionGrammar as grammar
 use Rattle.ckc_parser_grammar.specs.ExpressionGrammar.{SpellsUnary, SpellsPrimary, SpellsCall}
 use Rattle.ckc_parser_grammar.specs.StatementGrammar as g
 use Rattle.ckc_parser_grammar.specs.StatementGrammar.{SpellsDeclaration, SpellsAssignment, SpellsStatement, SpellsForInitial}
+use Rattle.ckc_parser_grammar.proofs.Words.{each_pointer_word, each_unary_operator, each_cast_word, each_malloc_word, each_calloc_word, each_mark, each_step_operator}
 
 -- which statement a token starts: 0 for none, 1 for a declaration, 2 for an assignment or a call
 abbrev pub role : TokenKind → ℕ
-role kinds.Int = 1
-role kinds.Char = 1
-role kinds.Struct = 1
-role kinds.Ptr = 1
-role kinds.ArrayPtr = 1
-role kinds.NtArrayPtr = 1
-role kinds.TPtr = 1
-role kinds.TArrayPtr = 1
-role kinds.TNtArrayPtr = 1
+role (kinds.Keyword keywords.Int) = 1
+role (kinds.Keyword keywords.Char) = 1
+role (kinds.Keyword keywords.Struct) = 1
+role (kinds.Keyword keywords.Ptr) = 1
+role (kinds.Keyword keywords.ArrayPtr) = 1
+role (kinds.Keyword keywords.NtArrayPtr) = 1
+role (kinds.Keyword keywords.TPtr) = 1
+role (kinds.Keyword keywords.TArrayPtr) = 1
+role (kinds.Keyword keywords.TNtArrayPtr) = 1
 role (kinds.Number n) = 2
 role (kinds.Character n) = 2
 role (kinds.Text x) = 2
 role (kinds.Name x) = 2
 role kinds.OpenParen = 2
-role kinds.Sizeof = 2
-role kinds.DynamicBoundsCast = 2
-role kinds.AssumeBoundsCast = 2
-role kinds.Malloc = 2
-role kinds.TMalloc = 2
-role kinds.Calloc = 2
-role kinds.NtCalloc = 2
+role (kinds.Keyword keywords.Sizeof) = 2
+role (kinds.Keyword keywords.DynamicBoundsCast) = 2
+role (kinds.Keyword keywords.AssumeBoundsCast) = 2
+role (kinds.Keyword keywords.Malloc) = 2
+role (kinds.Keyword keywords.TMalloc) = 2
+role (kinds.Keyword keywords.Calloc) = 2
+role (kinds.Keyword keywords.NtCalloc) = 2
 role kinds.Star = 2
 role kinds.Ampersand = 2
 role kinds.Minus = 2
@@ -54,62 +55,48 @@ role kinds.Tilde = 2
 role kinds.PlusPlus = 2
 role kinds.MinusMinus = 2
 role kinds.OpenBrace = 3
-role kinds.Checked = 4
-role kinds.Unchecked = 4
-role kinds.Bundled = 5
+role (kinds.Keyword keywords.Checked) = 4
+role (kinds.Keyword keywords.Unchecked) = 4
+role (kinds.Keyword keywords.Bundled) = 5
 role kinds.Semicolon = 6
-role kinds.If = 7
-role kinds.While = 8
-role kinds.For = 9
-role kinds.Return = 10
-role kinds.Break = 11
-role kinds.Continue = 12
+role (kinds.Keyword keywords.If) = 7
+role (kinds.Keyword keywords.While) = 8
+role (kinds.Keyword keywords.For) = 9
+role (kinds.Keyword keywords.Return) = 10
+role (kinds.Keyword keywords.Break) = 11
+role (kinds.Keyword keywords.Continue) = 12
 role _ = 0
 
 abbrev pub role_at : List Token → ℕ
 role_at [] = 0
 role_at (t ∷ ts) = role t.kind
 
-pointer_role : {k : TokenKind} {w : PointerWord} → IsPointerWord k w → role k ≡ 1
-pointer_role words.ptr = refl
-pointer_role words.array_ptr = refl
-pointer_role words.nt_array_ptr = refl
-pointer_role words.t_ptr = refl
-pointer_role words.t_array_ptr = refl
-pointer_role words.t_nt_array_ptr = refl
+pointer_role : (k : TokenKind) {w : PointerWord} → pointer_word_of k ≡ Some w → role k ≡ 1
+pointer_role k w = each_pointer_word (λ k. role k ≡ 1) k w refl refl refl refl refl refl
 
 pub type_role : {ts r : List Token} {t : TypeTree} → SpellsType ts t r → role_at ts ≡ 1
 type_role types.int = refl
 type_role types.char = refl
 type_role types.struct = refl
-type_role (types.pointer w d e) = pointer_role w
+type_role (types.pointer {k} w d e) = pointer_role k w
 
-operator_role : {k : TokenKind} {w : UnaryOperator} → IsUnaryOperator k w → role k ≡ 2
-operator_role words.deref = refl
-operator_role words.address_of = refl
-operator_role words.negate = refl
-operator_role words.not = refl
-operator_role words.complement = refl
+operator_role : (k : TokenKind) {w : UnaryOperator} → unary_operator_of k ≡ Some w → role k ≡ 2
+operator_role k w = each_unary_operator (λ k. role k ≡ 2) k w refl refl refl refl refl
 
-cast_role : {k : TokenKind} {w : CastWord} → IsCastWord k w → role k ≡ 2
-cast_role words.dynamic = refl
-cast_role words.assume = refl
+cast_role : (k : TokenKind) {w : CastWord} → cast_word_of k ≡ Some w → role k ≡ 2
+cast_role k w = each_cast_word (λ k. role k ≡ 2) k w refl refl
 
-malloc_role : {k : TokenKind} {w : MallocWord} → IsMallocWord k w → role k ≡ 2
-malloc_role words.malloc = refl
-malloc_role words.t_malloc = refl
+malloc_role : (k : TokenKind) {w : MallocWord} → malloc_word_of k ≡ Some w → role k ≡ 2
+malloc_role k w = each_malloc_word (λ k. role k ≡ 2) k w refl refl
 
-calloc_role : {k : TokenKind} {w : CallocWord} → IsCallocWord k w → role k ≡ 2
-calloc_role words.calloc = refl
-calloc_role words.nt_calloc = refl
+calloc_role : (k : TokenKind) {w : CallocWord} → calloc_word_of k ≡ Some w → role k ≡ 2
+calloc_role k w = each_calloc_word (λ k. role k ≡ 2) k w refl refl
 
-pub mark_role : {k : TokenKind} {w : Mark} → IsMark k w → role k ≡ 4
-mark_role words.checked = refl
-mark_role words.unchecked = refl
+pub mark_role : (k : TokenKind) {w : Mark} → mark_of k ≡ Some w → role k ≡ 4
+mark_role k w = each_mark (λ k. role k ≡ 4) k w refl refl
 
-step_role : {k : TokenKind} {w : StepOperator} → IsStepOperator k w → role k ≡ 2
-step_role words.increment = refl
-step_role words.decrement = refl
+step_role : (k : TokenKind) {w : StepOperator} → step_operator_of k ≡ Some w → role k ≡ 2
+step_role k w = each_step_operator (λ k. role k ≡ 2) k w refl refl
 
 call_role : {ts r : List Token} {e : Expression} {o : Span} → SpellsCall ts e o r → role_at ts ≡ 2
 call_role (grammar.call a) = refl
@@ -122,13 +109,13 @@ primary_role (grammar.name f) = refl
 primary_role (grammar.called d) = call_role d
 primary_role (grammar.parentheses d) = refl
 primary_role (grammar.size_of d) = refl
-primary_role (grammar.cast w a d) = cast_role w
-primary_role (grammar.bounded_cast w a d b) = cast_role w
-primary_role (grammar.malloc w a d) = malloc_role w
-primary_role (grammar.calloc w a d b) = calloc_role w
+primary_role (grammar.cast {k} w a d) = cast_role k w
+primary_role (grammar.bounded_cast {k} w a d b) = cast_role k w
+primary_role (grammar.malloc {k} w a d) = malloc_role k w
+primary_role (grammar.calloc {k} w a d b) = calloc_role k w
 
 unary_role : {ts r : List Token} {e : Expression} {o : Span} → SpellsUnary ts e o r → role_at ts ≡ 2
-unary_role (grammar.operator w d) = operator_role w
+unary_role (grammar.operator {k} w d) = operator_role k w
 unary_role (grammar.postfix p s) = primary_role p
 
 declaration_role : {ts r : List Token} {d : Declaration} → SpellsDeclaration ts d r → role_at ts ≡ 1
@@ -137,7 +124,7 @@ declaration_role (g.declaration t d) = type_role t
 pub assignment_role : {ts r : List Token} {a : Assignment} → SpellsAssignment ts a r → role_at ts ≡ 2
 assignment_role (g.store d w e) = unary_role d
 assignment_role (g.after d w) = unary_role d
-assignment_role (g.before w d) = step_role w
+assignment_role (g.before {k} w d) = step_role k w
 
 abbrev pub role_of : {ts r : List Token} {s : Statement} → SpellsStatement ts s r → ℕ
 role_of (g.block d) = 3
@@ -158,7 +145,7 @@ role_of g.continue = 12
 
 pub statement_role : {ts r : List Token} {s : Statement} (d : SpellsStatement ts s r) → role_at ts ≡ role_of d
 statement_role (g.block d) = refl
-statement_role (g.marked_block w d) = mark_role w
+statement_role (g.marked_block {k} w d) = mark_role k w
 statement_role (g.bundle d) = refl
 statement_role (g.declare d) = declaration_role d
 statement_role (g.assign d) = assignment_role d

@@ -12,13 +12,14 @@ use Rattle.ckc_parser_grammar.specs.ExpressionGrammar.{SpellsBinary, SpellsPrima
 use Rattle.ckc_parser_grammar.specs.ExpressionBeginnings as b
 use Rattle.ckc_parser_grammar.specs.ExpressionBeginnings.{BeginsBinary, BeginsUnary, BeginsSelectors, BeginsPrimary}
 use Rattle.ckc_parser_grammar.proofs.ExpressionPaths.{marks_at}
-use Rattle.ckc_parser_grammar.proofs.Forms.{◌ends◌, all, later, end_length, end_same, yes, no, HeadB, none_yet, headed, not_yet, after, in_link, behind_link, stays}
+use Rattle.ckc_parser_grammar.proofs.Forms.{◌ends◌, all, later, end_length, end_same, yes, no, HeadB, none_yet, headed, not_yet, after, stays}
 use Rattle.ckc_parser_grammar.proofs.Forms as forms
 use Rattle.ckc_parser_grammar.proofs.ExpressionLinks.{binary, operator_shrinks}
 use Rattle.ckc_parser_grammar.proofs.PrimaryForms as primaries
 use Rattle.ckc_parser_grammar.proofs.PrimaryForms.{primary}
 use Rattle.ckc_parser_grammar.proofs.ExpressionForms as whole
-use Rattle.ckc_parser_grammar.proofs.ExpressionForms.{binary_exact, arguments_exact, selectors_exact, tail_exact, primary_exact, some_node, TailB, no_tail}
+use Rattle.ckc_parser_grammar.proofs.ExpressionForms.{binary_exact, arguments_exact, selectors_exact, tail_exact, primary_exact, some_node}
+use Rattle.ckc_parser_grammar.proofs.Words.{says_nothing}
 
 -- ---- with the name alone read
 
@@ -27,9 +28,9 @@ primary_first none_yet is = absurd (omega (arith, ap length is))
 primary_first (headed primaries.name (forms.node (yes f not_yet))) is = refl
 primary_first (headed primaries.name (forms.node (yes f (after k c)))) is = absurd (omega (arith, ap length is, end_length (arguments_exact.ended c)))
 primary_first (headed primaries.name (forms.node (no f forms.done))) is = refl
-primary_first (headed (primaries.cast w) c) is = elim w [ ]
-primary_first (headed (primaries.malloc w) c) is = elim w [ ]
-primary_first (headed (primaries.calloc w) c) is = elim w [ ]
+primary_first (headed (primaries.cast w) c) is = says_nothing w
+primary_first (headed (primaries.malloc w) c) is = says_nothing w
+primary_first (headed (primaries.calloc w) c) is = says_nothing w
 
 -- what has a node is read over a token at least
 some_read : {X B : List Token → List Token → Reach → Type 0} {ts m : List Token} {r : Reach} → forms.Exact nowhere X B → X ts m r → 1 ≤ r.height → length m < length ts
@@ -50,7 +51,7 @@ same_rest : {mid us rest : List Token} → length mid < suc (length us) → rest
 same_rest less end is = end_same end (omega (arith, less, ap length is))
 
 unary_first : {y : List ℕ} {q : Span} {us rest : List Token} {p : Reach} → BeginsUnary (token (kinds.Name y) q ∷ us) rest p → rest ≡ us → p ≡ node q.from
-unary_first (b.operator w c) is = elim w [ ]
+unary_first (b.operator w c) is = says_nothing w
 unary_first (b.primary c) is = primary_first (primaries.into_b _ _ _ c) is
 unary_first {us} (b.selectors {o} {mid} {e} p c) is =
     let same = same_rest (primary_read p) ((selectors_exact (e, o)).ended c) is in
@@ -84,9 +85,9 @@ primary_second none_yet is = absurd (omega (arith, ap length is))
 primary_second (headed primaries.name (forms.node (yes f not_yet))) is = absurd (omega (arith, ap length is))
 primary_second {q} (headed primaries.name (forms.node (yes f (after k c)))) is = name_second (ap (λ (x : Reach). around q.from x) (arguments_exact.nothing c is))
 primary_second (headed primaries.name (forms.node (no f forms.done))) is = absurd (omega (arith, ap length is))
-primary_second (headed (primaries.cast w) c) is = elim w [ ]
-primary_second (headed (primaries.malloc w) c) is = elim w [ ]
-primary_second (headed (primaries.calloc w) c) is = elim w [ ]
+primary_second (headed (primaries.cast w) c) is = says_nothing w
+primary_second (headed (primaries.malloc w) c) is = says_nothing w
+primary_second (headed (primaries.calloc w) c) is = says_nothing w
 
 -- behind a name that is read
 selectors_second : {e : Expression} {o : Span} {start : ℕ} {t : Token} {mid us rest : List Token} {p : Reach} → expression_reach e ≡ node start → BeginsSelectors e o mid rest p → mid ≡ t ∷ us → rest ≡ us → Second start p
@@ -105,7 +106,7 @@ between (later all) less end is both first = first refl
 between {us} {rest} (later (later e)) less end is both first = both (end_same e (omega (arith, ap length is, end_length end)))
 
 unary_second : {y : List ℕ} {q : Span} {t : Token} {us rest : List Token} {p : Reach} → BeginsUnary (token (kinds.Name y) q ∷ t ∷ us) rest p → rest ≡ us → Second q.from p
-unary_second (b.operator w c) is = elim w [ ]
+unary_second (b.operator w c) is = says_nothing w
 unary_second (b.primary c) is = primary_second (primaries.into_b _ _ _ c) is
 unary_second {y} {q} {t} {us} {rest} {p} (b.selectors {o} {mid} {e} pr c) is =
     between (primary_exact.ended begun) (primary_read pr) ((selectors_exact (e, o)).ended c) is

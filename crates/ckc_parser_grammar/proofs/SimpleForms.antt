@@ -1,6 +1,6 @@
 -- Statements that are an assignment or a call, as forms that are built of others: reading them goes one way, and where they
 -- are stuck they fail. What begins with a name is read as an expression first; what it is says how it goes on.
-use Rattle.std.proofs.Common.{◌≡◌, ◌≤◌, ◌<◌, ◌&&◌, ◌⊎◌, inl, inr, ℕ, suc, length, Bool, true, false, List, [], ◌∷◌, refl, sym, ap, subst, ◌∙◌, arith}
+use Rattle.std.proofs.Common.{◌≡◌, ◌≤◌, ◌<◌, ◌&&◌, ◌⊎◌, inl, inr, ℕ, suc, length, Bool, true, false, List, [], ◌∷◌, refl, sym, ap, subst, ◌∙◌, arith, Some}
 use Rattle.ckc_text.specs.declared.place.Span.{Span}
 use Rattle.ckc_lexer_tokens.specs.declared.token.Token.{Token}
 use Rattle.ckc_lexer_tokens.specs.declared.token.TokenKind.{TokenKind}
@@ -10,10 +10,9 @@ use Rattle.ckc_tree.specs.declared.stmt.StepOperator.{StepOperator}
 use Rattle.ckc_tree.specs.Expressions.{Expression}
 use Rattle.ckc_tree.specs.Statements.{Assignment}
 use Rattle.ckc_tree.specs.Heights.{Reach, nowhere, around, ◌beside◌, expression_reach, assignment_reach}
-use Rattle.ckc_parser_grammar.specs.Tokens as words
-use Rattle.ckc_parser_grammar.specs.Tokens.{token, next_is, IsStoreOperator, IsStepOperator}
+use Rattle.ckc_parser_grammar.specs.Tokens.{token, next_is, store_operator_of, step_operator_of}
 use Rattle.ckc_parser_grammar.specs.ExpressionGrammar as eg
-use Rattle.ckc_parser_grammar.specs.ExpressionGrammar.{SpellsBinary, SpellsUnary, SpellsSelectors, SpellsPrimary, SpellsCall}
+use Rattle.ckc_parser_grammar.specs.ExpressionGrammar.{SpellsUnary, SpellsCall}
 use Rattle.ckc_parser_grammar.specs.StatementGrammar as g
 use Rattle.ckc_parser_grammar.specs.StatementGrammar.{SpellsAssignment}
 use Rattle.ckc_parser_grammar.specs.TypeBeginnings.{begun}
@@ -27,17 +26,19 @@ use Rattle.ckc_parser_grammar.specs.StuckTypes.{name_token}
 use Rattle.ckc_parser_grammar.specs.StuckExpressions.{unary_word, StuckUnary, StuckExpression}
 use Rattle.ckc_parser_grammar.specs.StuckStatements as stuck
 use Rattle.ckc_parser_grammar.specs.StuckStatements.{semicolon, assign_word, assignment_word, is_call, is_call_alone, StuckAssignment}
-use Rattle.ckc_parser_grammar.proofs.Paths.{around_height, beside_height}
+use Rattle.ckc_parser_grammar.proofs.Paths.{beside_nowhere, around_height, beside_height}
 use Rattle.ckc_parser_grammar.proofs.Whole.{unary_begins}
-use Rattle.ckc_parser_grammar.proofs.Forms.{end_same, Is, it, Exact, ended_all, after_all, either_all, same_all, done_all, chain_all, never, EndedS, EndedB, before_end, end, AfterS, AfterB, not_yet, after, EitherS, yes, no, ChainS, ChainB, chain, in_link, behind_link, DoneS, done, HeadS, HeadB, none_yet, headed, OneHead}
-use Rattle.ckc_parser_grammar.proofs.Failing.{Fails, beside_nowhere, fails_before_end, fails_at_end, fails_at_first, fails_as, fails_headed, fails_unheaded, fails_yes, fails_no, fails_in_link, fails_behind_link}
+use Rattle.ckc_parser_grammar.proofs.Forms.{end_same, Is, it, Exact, ended_all, after_all, either_all, same_all, done_all, chain_all, EndedS, EndedB, before_end, end, AfterS, AfterB, not_yet, after, EitherS, yes, no, ChainS, ChainB, chain, in_link, behind_link, DoneS, done, HeadS, HeadB, none_yet, headed, OneHead}
+use Rattle.ckc_parser_grammar.proofs.Ahead.{never, call_of}
+use Rattle.ckc_parser_grammar.proofs.Failing.{Fails, fails_before_end, fails_at_end, fails_at_first, fails_as, fails_headed, fails_unheaded, fails_yes, fails_no, fails_in_link, fails_behind_link}
 use Rattle.ckc_parser_grammar.proofs.ExpressionLinks.{BinaryS, binary}
 use Rattle.ckc_parser_grammar.proofs.ExpressionForms.{some_node, UnaryS, UnaryValue, unary, of_unary, binary_exact, unary_value_exact}
 use Rattle.ckc_parser_grammar.proofs.ExpressionFails.{binary_fails, unary_fails}
 use Rattle.ckc_parser_grammar.proofs.MoreForms.{head_all, Starts, PutsFirst, by_next, SideS, side, side_all, fails_side, fails_fewer, PutS, put, put_all, put_node, fails_put, fails_put_deep, beside_high, reach_is}
 use Rattle.ckc_parser_grammar.proofs.Starting.{unary_starts, unary_shorter, unary_first, call_at, call_begun_at}
 use Rattle.ckc_parser_grammar.proofs.HeadForms.{semicolon_is}
-use Rattle.ckc_parser_grammar.proofs.AssignmentForms.{assigned, ClosedS, ClosedB, closed_exact, store_step, unary_assigns, assignment_exact, assignment_starts, assignment_at, assignment_fails}
+use Rattle.ckc_parser_grammar.proofs.AssignmentForms.{assigned, ClosedS, ClosedB, closed_exact, unary_assigns, assignment_exact, assignment_starts, assignment_at, assignment_fails}
+use Rattle.ckc_parser_grammar.proofs.Words.{says_nothing, each_store_operator, each_step_operator, store_step}
 
 -- an assignment or a call, with its semicolon
 pub data SimpleS : List Token → List Token → Reach → Type 0 where
@@ -56,19 +57,19 @@ data Named : Type 0 where
   calls : Named
 
 data IsNamed (c : Bool) : TokenKind → Named → Type 0 where
-  store : {k : TokenKind} {w : StoreOperator} → IsStoreOperator k w → IsNamed c k stores
-  step : {k : TokenKind} {w : StepOperator} → IsStepOperator k w → IsNamed c k steps
+  store : {k : TokenKind} {w : StoreOperator} → store_operator_of k ≡ Some w → IsNamed c k stores
+  step : {k : TokenKind} {w : StepOperator} → step_operator_of k ≡ Some w → IsNamed c k steps
   alone : c ≡ true → IsNamed c kinds.Semicolon calls
 
 one_named : {c : Bool} → OneHead (IsNamed c)
 one_named k h i (store w) (store v) = refl
-one_named k h i (store w) (step v) = store_step w v
-one_named k h i (store w) (alone v) = elim w [ ]
-one_named k h i (step w) (store v) = store_step v w
+one_named k h i (store w) (step v) = store_step k w v
+one_named k h i (store w) (alone v) = says_nothing w
+one_named k h i (step w) (store v) = store_step k v w
 one_named k h i (step w) (step v) = refl
-one_named k h i (step w) (alone v) = elim w [ ]
-one_named k h i (alone w) (store v) = elim v [ ]
-one_named k h i (alone w) (step v) = elim v [ ]
+one_named k h i (step w) (alone v) = says_nothing w
+one_named k h i (alone w) (store v) = says_nothing v
+one_named k h i (alone w) (step v) = says_nothing v
 one_named k h i (alone w) (alone v) = refl
 
 abbrev NamedBehindS : Named → ℕ → List Token → List Token → Reach → Type 0
@@ -123,9 +124,8 @@ link_node {x} {o} {r} start d c = put_node link_exact start (behind_link {a = (x
 bare_node : {ts us rest : List Token} {x : Expression} {o : Span} (start : ℕ) → SpellsUnary ts x o us → HeadB (IsNamed (is_call x)) NamedBehindB us rest nowhere → begun ts rest (expression_reach x beside nowhere) ≡ around start (expression_reach x)
 bare_node {x} start d c = link_node start d c ∙ ap (around start) (beside_nowhere (expression_reach x))
 
-name_step : {k : TokenKind} {w : StepOperator} {A : Type 0} → IsStepOperator k w → name_token k ≡ true → A
-name_step words.increment so = absurd cc
-name_step words.decrement so = absurd cc
+name_step : (k : TokenKind) {w : StepOperator} {A : Type 0} → step_operator_of k ≡ Some w → name_token k ≡ true → A
+name_step k w so = never so (each_step_operator (λ k. name_token k ≡ false) k w refl refl)
 
 call_is : {x : Expression} {o : Span} {ts m : List Token} → SpellsCall ts x o m → is_call x ≡ true
 call_is (eg.call a) = refl
@@ -134,40 +134,12 @@ call_is (eg.call a) = refl
 call_unary : {x : Expression} {o t : Span} {ts m : List Token} → SpellsCall ts x o (token kinds.Semicolon t ∷ m) → SpellsUnary ts x o (token kinds.Semicolon t ∷ m)
 call_unary d = eg.postfix (eg.called d) (eg.unselected refl)
 
--- ---- a call among expressions
-
-selected_call : {x whole : Expression} {o w : Span} {ts m : List Token} → SpellsSelectors x o ts whole w m → is_call x ≡ false → is_call whole ≡ false
-selected_call (eg.unselected f) none = none
-selected_call (eg.index d s) none = selected_call s refl
-selected_call (eg.dot s) none = selected_call s refl
-selected_call (eg.arrow s) none = selected_call s refl
-
-primary_call : {x : Expression} {o : Span} {ts m : List Token} → next_is name_token ts ≡ true → SpellsPrimary ts x o m → is_call x ≡ true → SpellsCall ts x o m
-primary_call so eg.number is = absurd cc
-primary_call so eg.character is = absurd cc
-primary_call so eg.text is = absurd cc
-primary_call so (eg.name f) is = absurd cc
-primary_call so (eg.called d) is = d
-primary_call so (eg.parentheses d) is = absurd cc
-primary_call so (eg.size_of d) is = absurd cc
-primary_call so (eg.cast w a d) is = absurd cc
-primary_call so (eg.bounded_cast w a d c) is = absurd cc
-primary_call so (eg.malloc w a d) is = absurd cc
-primary_call so (eg.calloc w a d c) is = absurd cc
-
-pub call_of : {x : Expression} {o : Span} {ts m : List Token} → next_is name_token ts ≡ true → SpellsUnary ts x o m → is_call x ≡ true → SpellsCall ts x o m
-call_of so (eg.operator w d) is = absurd cc
-call_of so (eg.postfix p (eg.unselected f)) is = primary_call so p is
-call_of so (eg.postfix p (eg.index d s)) is = never is (selected_call s refl)
-call_of so (eg.postfix p (eg.dot s)) is = never is (selected_call s refl)
-call_of so (eg.postfix p (eg.arrow s)) is = never is (selected_call s refl)
-
 -- ---- the built form
 
 named_to : {x : Assignment} {t : Span} {ts m : List Token} → next_is name_token ts ≡ true → SpellsAssignment ts x (token kinds.Semicolon t ∷ m) → PutS LinkS ts m (assignment_reach x)
 named_to so (g.store {o} d w e) = reach_is (PutS LinkS) (link_node o.from d (headed (store w) (end (binary e) it))) (put (chain (of_unary d) (side (headed (store w) (end (binary e) it)))))
 named_to so (g.after {o} d w) = reach_is (PutS LinkS) (bare_node o.from d (headed (step w) (after it done))) (put (chain (of_unary d) (side (headed (step w) (after it done)))))
-named_to so (g.before w d) = name_step w so
+named_to so (g.before {k} w d) = name_step k w so
 
 simple_to : (ts m : List Token) (r : Reach) → SimpleS ts m r → FormS ts m r
 simple_to ts m r (assign d) = by_next name_token ts (λ so. yes so (named_to so d)) (λ so. no so (end (assigned d) it))
@@ -177,7 +149,7 @@ named_into : {ts rest : List Token} {q : Reach} → next_is name_token ts ≡ tr
 named_into so (b.target c) = put (in_link c)
 named_into so (b.value {o} d w c) = reach_is (PutS LinkB) (link_node o.from d (headed (store w) (before_end c))) (put (behind_link (of_unary d) (side (headed (store w) (before_end c)))))
 named_into so (b.after {o} d w) = reach_is (PutS LinkB) (bare_node o.from d (headed (step w) not_yet)) (put (behind_link (of_unary d) (side (headed (step w) not_yet))))
-named_into so (b.before w c) = name_step w so
+named_into so (b.before {k} w c) = name_step k w so
 
 simple_into : (ts rest : List Token) (q : Reach) → SimpleB ts rest q → FormB ts rest q
 simple_into ts rest q (assignment c) = by_next name_token ts (λ so. yes so (named_into so c)) (λ so. no so (before_end c))
@@ -270,11 +242,8 @@ named_fails {d} {ts} some so f = form_fails (fails_yes so (fails_put link_exact 
         value x (of_unary d) same = reach_is UnaryS (sym same) (unary d)
 
 assign_is : {c : Bool} {k : TokenKind} {h : Named} → IsNamed c k h → (assign_word k ≡ true) ⊎ ((c ≡ true) × (semicolon k ≡ true))
-assign_is (store words.set) = inl refl
-assign_is (store words.add) = inl refl
-assign_is (store words.subtract) = inl refl
-assign_is (step words.increment) = inl refl
-assign_is (step words.decrement) = inl refl
+assign_is (store {k} w) = inl (each_store_operator (λ k. assign_word k ≡ true) k w refl refl refl)
+assign_is (step {k} w) = inl (each_step_operator (λ k. assign_word k ≡ true) k w refl refl)
 assign_is (alone so) = inr (so, refl)
 
 both_true : (a c : Bool) → a ≡ true → c ≡ true → a && c ≡ true
@@ -291,7 +260,7 @@ no_named x ts none other k s us h same i =
 pub named_end_fails : {d : ℕ} {o : Span} {ts rest : List Token} {x : Expression} → next_is name_token ts ≡ true → SpellsUnary ts x o rest → IsLow (suc d) (expression_reach x) → next_is assign_word rest ≡ false → is_call_alone x rest ≡ false → Fails d SimpleS SimpleB ts (failures.unexpected rest)
 named_end_fails so d high none other = behind_fails (omega (arith, high)) so d high (fails_unheaded (omega (arith, high)) (no_named _ _ none other))
 
-pub named_value_fails : {d : ℕ} {k : TokenKind} {s o : Span} {ts us : List Token} {x : Expression} {w : StoreOperator} {f : Failure} → d < 200 → next_is name_token ts ≡ true → SpellsUnary ts x o (token k s ∷ us) → IsLow (suc d) (expression_reach x) → IsStoreOperator k w → StuckExpression (suc d) us f → Fails d SimpleS SimpleB ts f
+pub named_value_fails : {d : ℕ} {k : TokenKind} {s o : Span} {ts us : List Token} {x : Expression} {w : StoreOperator} {f : Failure} → d < 200 → next_is name_token ts ≡ true → SpellsUnary ts x o (token k s ∷ us) → IsLow (suc d) (expression_reach x) → store_operator_of k ≡ Some w → StuckExpression (suc d) us f → Fails d SimpleS SimpleB ts f
 named_value_fails {s} some so d high w f = behind_fails some so d high (fails_headed one_named (store w) (named_behind stores s.from) (fails_before_end (binary_exact 10) (binary_fails (omega (arith, some)) f)))
 
 -- behind a whole assignment
@@ -303,7 +272,7 @@ end_fails so (g.store {s} {o} {e} {target} d w v) high none =
 end_fails so (g.after {s} {o} {target} d w) high none =
     let node = around_height o.from (expression_reach target) in
     behind_fails (omega (arith, high, node)) so d (omega (arith, high, node)) (fails_headed one_named (step w) (named_behind steps s.from) (fails_at_first semicolon_is (omega (arith, high, node)) none))
-end_fails so (g.before w d) high none = name_step w so
+end_fails so (g.before {k} w d) high none = name_step k w so
 
 pub assign_end_fails : {d : ℕ} {ts rest : List Token} {x : Assignment} → SpellsAssignment ts x rest → IsLow d (assignment_reach x) → next_is semicolon rest ≡ false → Fails d SimpleS SimpleB ts (failures.unexpected rest)
 assign_end_fails {ts} d high none = by_next name_token ts (λ so. end_fails so d high none) (λ so. form_fails (fails_no so (fails_at_end semicolon_is assignment_exact (assigned d) high none)))

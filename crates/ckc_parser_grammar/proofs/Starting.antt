@@ -1,10 +1,10 @@
 -- The tokens with which types and expressions start, and the nodes that the first of them puts.
-use Rattle.std.proofs.Common.{◌≡◌, ◌≤◌, ◌<◌, ◌⊎◌, inl, inr, ℕ, length, true, false, List, ◌∷◌, refl, ap, ◌∙◌, arith}
+use Rattle.std.proofs.Common.{◌≡◌, ◌≤◌, ◌<◌, ◌⊎◌, inl, inr, ℕ, length, true, false, List, ◌∷◌, refl, ap, ◌∙◌, arith, Some}
 use Rattle.ckc_text.specs.declared.place.Span.{Span}
 use Rattle.ckc_lexer_tokens.specs.declared.token.Token.{Token}
 use Rattle.ckc_lexer_tokens.specs.declared.token.TokenKind.{TokenKind}
+use Rattle.ckc_lexer_tokens.specs.declared.keyword.Keyword.TheVariants as keywords
 use Rattle.ckc_lexer_tokens.specs.declared.token.TokenKind.TheVariants as kinds
-use Rattle.ckc_tree.specs.declared.type_form.PointerWord.{PointerWord}
 use Rattle.ckc_tree.specs.declared.expr.UnaryOperator.{UnaryOperator}
 use Rattle.ckc_tree.specs.declared.expr.CastWord.{CastWord}
 use Rattle.ckc_tree.specs.declared.expr.MallocWord.{MallocWord}
@@ -14,12 +14,11 @@ use Rattle.ckc_tree.specs.Types.{TypeTree, TypeName}
 use Rattle.ckc_tree.specs.Expressions as e
 use Rattle.ckc_tree.specs.Expressions.{Expression}
 use Rattle.ckc_tree.specs.Heights.{Reach, nowhere, around, type_reach, expression_reach}
-use Rattle.ckc_parser_grammar.specs.Tokens as words
-use Rattle.ckc_parser_grammar.specs.Tokens.{token, next_is, IsPointerWord, IsUnaryOperator, IsCastWord, IsMallocWord, IsCallocWord}
+use Rattle.ckc_parser_grammar.specs.Tokens.{token, next_is, pointer_word_of, unary_operator_of, cast_word_of, malloc_word_of, calloc_word_of}
 use Rattle.ckc_parser_grammar.specs.TypeGrammar as tg
 use Rattle.ckc_parser_grammar.specs.TypeGrammar.{SpellsType, SpellsTypeName, SpellsAngled}
 use Rattle.ckc_parser_grammar.specs.TypeBeginnings as tb
-use Rattle.ckc_parser_grammar.specs.TypeBeginnings.{BeginsType, BeginsAngled}
+use Rattle.ckc_parser_grammar.specs.TypeBeginnings.{BeginsType}
 use Rattle.ckc_parser_grammar.specs.ExpressionGrammar as g
 use Rattle.ckc_parser_grammar.specs.ExpressionGrammar.{SpellsBinary, SpellsUnary, SpellsPrimary, SpellsCall, SpellsArguments, SpellsMoreArguments, SpellsBounds}
 use Rattle.ckc_parser_grammar.specs.ExpressionBeginnings as b
@@ -28,13 +27,15 @@ use Rattle.ckc_parser_grammar.specs.StuckTypes.{type_word, name_token}
 use Rattle.ckc_parser_grammar.specs.StuckExpressions.{unary_word}
 use Rattle.ckc_parser_grammar.proofs.Paths.{around_height}
 use Rattle.ckc_parser_grammar.proofs.ExpressionPaths.{no_binary}
-use Rattle.ckc_parser_grammar.proofs.Forms.{end_length, end_same, Exact, never}
+use Rattle.ckc_parser_grammar.proofs.Forms.{end_length, end_same, Exact}
+use Rattle.ckc_parser_grammar.proofs.Ahead.{never}
 use Rattle.ckc_parser_grammar.proofs.TypeForms as tf
-use Rattle.ckc_parser_grammar.proofs.TypeForms.{TypeS, TypeNameS, AngledS, type_exact, type_name_exact, angled_exact}
+use Rattle.ckc_parser_grammar.proofs.TypeForms.{TypeS, type_exact, type_name_exact, angled_exact}
 use Rattle.ckc_parser_grammar.proofs.ExpressionLinks.{binary}
 use Rattle.ckc_parser_grammar.proofs.PrimaryForms.{written}
 use Rattle.ckc_parser_grammar.proofs.ExpressionForms.{some_node, unary, binary_exact, unary_exact, bounds_exact}
 use Rattle.ckc_parser_grammar.proofs.MoreForms.{Starts, PutsFirst, takes, shrinks}
+use Rattle.ckc_parser_grammar.proofs.Words.{some_word, each_unary_operator, each_cast_word, each_malloc_word, each_calloc_word, pointer_is}
 
 -- with no token read there is no node
 pub unread : {S B : List Token → List Token → Reach → Type 0} {ts rest : List Token} {q : Reach} → Exact nowhere S B → B ts rest q → length rest ≡ length ts → q ≡ nowhere
@@ -50,24 +51,16 @@ type_high (t.PointerType w element n s) = omega (arith, around_height s.from (ty
 
 -- ---- types
 
-pointer_is : {k : TokenKind} {w : PointerWord} → IsPointerWord k w → type_word k ≡ true
-pointer_is words.ptr = refl
-pointer_is words.array_ptr = refl
-pointer_is words.nt_array_ptr = refl
-pointer_is words.t_ptr = refl
-pointer_is words.t_array_ptr = refl
-pointer_is words.t_nt_array_ptr = refl
-
 type_none : {ts rest : List Token} {q : Reach} → BeginsType ts rest q → next_is type_word ts ≡ false → rest ≡ ts
 type_none tb.nothing so = refl
 type_none tb.int so = absurd cc
 type_none tb.char so = absurd cc
 type_none tb.struct_word so = absurd cc
 type_none tb.struct so = absurd cc
-type_none (tb.pointer_word w) so = never (pointer_is w) so
-type_none (tb.element w c) so = never (pointer_is w) so
-type_none (tb.stars w d c) so = never (pointer_is w) so
-type_none (tb.pointer w d c) so = never (pointer_is w) so
+type_none (tb.pointer_word {k} w) so = never (pointer_is k w) so
+type_none (tb.element {k} w c) so = never (pointer_is k w) so
+type_none (tb.stars {k} w d c) so = never (pointer_is k w) so
+type_none (tb.pointer {k} w d c) so = never (pointer_is k w) so
 
 pub type_starts : Starts type_word BeginsType
 type_starts = record { none = type_none; here = λ ts. tb.nothing }
@@ -76,22 +69,16 @@ pub type_at : {ts m : List Token} {x : TypeTree} → SpellsType ts x m → next_
 type_at tg.int = refl
 type_at tg.char = refl
 type_at tg.struct = refl
-type_at (tg.pointer w d e) = pointer_is w
+type_at (tg.pointer {k} w d e) = pointer_is k w
 
 pub type_shorter : (ts m : List Token) (r : Reach) → TypeS ts m r → length m < length ts
 type_shorter ts m r (tf.type {t = x} d) = shrinks type_exact (tf.type d) (type_high x)
 
 type_one : {k : TokenKind} {s : Span} {rest : List Token} → type_word k ≡ true → (r : Reach) × BeginsType (token k s ∷ rest) rest r
-type_one {k = kinds.Int} so = (_, tb.int)
-type_one {k = kinds.Char} so = (_, tb.char)
-type_one {k = kinds.Struct} so = (_, tb.struct_word)
-type_one {k = kinds.Ptr} so = (_, tb.pointer_word words.ptr)
-type_one {k = kinds.ArrayPtr} so = (_, tb.pointer_word words.array_ptr)
-type_one {k = kinds.NtArrayPtr} so = (_, tb.pointer_word words.nt_array_ptr)
-type_one {k = kinds.TPtr} so = (_, tb.pointer_word words.t_ptr)
-type_one {k = kinds.TArrayPtr} so = (_, tb.pointer_word words.t_array_ptr)
-type_one {k = kinds.TNtArrayPtr} so = (_, tb.pointer_word words.t_nt_array_ptr)
-type_one {k = _} so = absurd cc
+type_one {k = kinds.Keyword keywords.Int} so = (_, tb.int)
+type_one {k = kinds.Keyword keywords.Char} so = (_, tb.char)
+type_one {k = kinds.Keyword keywords.Struct} so = (_, tb.struct_word)
+type_one {k} so = (_, tb.pointer_word (some_word (pointer_word_of k) so).1)
 
 type_start : {t : Token} {ts rest : List Token} {r : Reach} → BeginsType (t ∷ ts) rest r → length rest ≡ length ts → (r.height ≡ 0) ⊎ (r.start ≡ t.span.from)
 type_start tb.nothing same = inl refl
@@ -109,24 +96,17 @@ type_first = record { one = type_one; start = type_start }
 
 -- ---- expressions
 
-operator_is : {k : TokenKind} {w : UnaryOperator} → IsUnaryOperator k w → unary_word k ≡ true
-operator_is words.deref = refl
-operator_is words.address_of = refl
-operator_is words.negate = refl
-operator_is words.not = refl
-operator_is words.complement = refl
+operator_is : (k : TokenKind) {w : UnaryOperator} → unary_operator_of k ≡ Some w → unary_word k ≡ true
+operator_is k w = each_unary_operator (λ k. unary_word k ≡ true) k w refl refl refl refl refl
 
-cast_is : {k : TokenKind} {w : CastWord} → IsCastWord k w → unary_word k ≡ true
-cast_is words.dynamic = refl
-cast_is words.assume = refl
+cast_is : (k : TokenKind) {w : CastWord} → cast_word_of k ≡ Some w → unary_word k ≡ true
+cast_is k w = each_cast_word (λ k. unary_word k ≡ true) k w refl refl
 
-malloc_is : {k : TokenKind} {w : MallocWord} → IsMallocWord k w → unary_word k ≡ true
-malloc_is words.malloc = refl
-malloc_is words.t_malloc = refl
+malloc_is : (k : TokenKind) {w : MallocWord} → malloc_word_of k ≡ Some w → unary_word k ≡ true
+malloc_is k w = each_malloc_word (λ k. unary_word k ≡ true) k w refl refl
 
-calloc_is : {k : TokenKind} {w : CallocWord} → IsCallocWord k w → unary_word k ≡ true
-calloc_is words.calloc = refl
-calloc_is words.nt_calloc = refl
+calloc_is : (k : TokenKind) {w : CallocWord} → calloc_word_of k ≡ Some w → unary_word k ≡ true
+calloc_is k w = each_calloc_word (λ k. unary_word k ≡ true) k w refl refl
 
 pub call_at : {ts m : List Token} {x : Expression} {o : Span} → SpellsCall ts x o m → next_is name_token ts ≡ true
 call_at (g.call a) = refl
@@ -142,13 +122,13 @@ primary_at (g.name f) = refl
 primary_at (g.called d) = call_word_at d
 primary_at (g.parentheses d) = refl
 primary_at (g.size_of d) = refl
-primary_at (g.cast w a d) = cast_is w
-primary_at (g.bounded_cast w a d c) = cast_is w
-primary_at (g.malloc w a d) = malloc_is w
-primary_at (g.calloc w a d c) = calloc_is w
+primary_at (g.cast {k} w a d) = cast_is k w
+primary_at (g.bounded_cast {k} w a d c) = cast_is k w
+primary_at (g.malloc {k} w a d) = malloc_is k w
+primary_at (g.calloc {k} w a d c) = calloc_is k w
 
 pub unary_at : {ts m : List Token} {x : Expression} {o : Span} → SpellsUnary ts x o m → next_is unary_word ts ≡ true
-unary_at (g.operator w d) = operator_is w
+unary_at (g.operator {k} w d) = operator_is k w
 unary_at (g.postfix p s) = primary_at p
 
 pub binary_at : {n : ℕ} {ts m : List Token} {x : Expression} {o : Span} → SpellsBinary n ts x o m → next_is unary_word ts ≡ true
@@ -175,21 +155,21 @@ primary_none (b.parentheses d) so = absurd cc
 primary_none b.size_of_word so = absurd cc
 primary_none (b.size_of_type c) so = absurd cc
 primary_none (b.size_of d) so = absurd cc
-primary_none (b.cast_type w c) so = never (cast_is w) so
-primary_none (b.cast_operand w a c) so = never (cast_is w) so
-primary_none (b.cast w a d) so = never (cast_is w) so
-primary_none (b.cast_bounds w a d c) so = never (cast_is w) so
-primary_none (b.bounded_cast w a d c) so = never (cast_is w) so
-primary_none (b.malloc_type w c) so = never (malloc_is w) so
-primary_none (b.malloc_size w a c) so = never (malloc_is w) so
-primary_none (b.malloc w a d) so = never (malloc_is w) so
-primary_none (b.calloc_type w c) so = never (calloc_is w) so
-primary_none (b.calloc_count w a c) so = never (calloc_is w) so
-primary_none (b.calloc_size w a d c) so = never (calloc_is w) so
-primary_none (b.calloc w a d c) so = never (calloc_is w) so
+primary_none (b.cast_type {k} w c) so = never (cast_is k w) so
+primary_none (b.cast_operand {k} w a c) so = never (cast_is k w) so
+primary_none (b.cast {k} w a d) so = never (cast_is k w) so
+primary_none (b.cast_bounds {k} w a d c) so = never (cast_is k w) so
+primary_none (b.bounded_cast {k} w a d c) so = never (cast_is k w) so
+primary_none (b.malloc_type {k} w c) so = never (malloc_is k w) so
+primary_none (b.malloc_size {k} w a c) so = never (malloc_is k w) so
+primary_none (b.malloc {k} w a d) so = never (malloc_is k w) so
+primary_none (b.calloc_type {k} w c) so = never (calloc_is k w) so
+primary_none (b.calloc_count {k} w a c) so = never (calloc_is k w) so
+primary_none (b.calloc_size {k} w a d c) so = never (calloc_is k w) so
+primary_none (b.calloc {k} w a d c) so = never (calloc_is k w) so
 
 unary_none : {ts rest : List Token} {q : Reach} → BeginsUnary ts rest q → next_is unary_word ts ≡ false → rest ≡ ts
-unary_none (b.operator w c) so = never (operator_is w) so
+unary_none (b.operator {k} w c) so = never (operator_is k w) so
 unary_none (b.primary c) so = primary_none c so
 unary_none (b.selectors p c) so = never (primary_at p) so
 
@@ -323,23 +303,23 @@ unary_start (b.selectors {mid} p c) same =
     inr (ap (λ (x : Reach). x.start) (unselected c (omega (arith, same, short))) ∙ single_start p (omega (arith, same, short, within)))
 
 unary_one : {k : TokenKind} {s : Span} {rest : List Token} → unary_word k ≡ true → (r : Reach) × BeginsUnary (token k s ∷ rest) rest r
-unary_one {k = kinds.Star} so = (_, b.operator words.deref (b.primary b.nothing))
-unary_one {k = kinds.Ampersand} so = (_, b.operator words.address_of (b.primary b.nothing))
-unary_one {k = kinds.Minus} so = (_, b.operator words.negate (b.primary b.nothing))
-unary_one {k = kinds.Not} so = (_, b.operator words.not (b.primary b.nothing))
-unary_one {k = kinds.Tilde} so = (_, b.operator words.complement (b.primary b.nothing))
+unary_one {k = kinds.Star} so = (_, b.operator refl (b.primary b.nothing))
+unary_one {k = kinds.Ampersand} so = (_, b.operator refl (b.primary b.nothing))
+unary_one {k = kinds.Minus} so = (_, b.operator refl (b.primary b.nothing))
+unary_one {k = kinds.Not} so = (_, b.operator refl (b.primary b.nothing))
+unary_one {k = kinds.Tilde} so = (_, b.operator refl (b.primary b.nothing))
 unary_one {k = kinds.OpenParen} so = (_, b.primary (b.inside (no_binary 10)))
 unary_one {k = kinds.Number n} so = (_, b.primary b.number)
 unary_one {k = kinds.Character n} so = (_, b.primary b.character)
 unary_one {k = kinds.Text x} so = (_, b.primary b.text)
 unary_one {k = kinds.Name x} so = (_, b.primary b.name)
-unary_one {k = kinds.Sizeof} so = (_, b.primary b.size_of_word)
-unary_one {k = kinds.DynamicBoundsCast} so = (_, b.primary (b.cast_type words.dynamic tb.nothing))
-unary_one {k = kinds.AssumeBoundsCast} so = (_, b.primary (b.cast_type words.assume tb.nothing))
-unary_one {k = kinds.Malloc} so = (_, b.primary (b.malloc_type words.malloc tb.nothing))
-unary_one {k = kinds.TMalloc} so = (_, b.primary (b.malloc_type words.t_malloc tb.nothing))
-unary_one {k = kinds.Calloc} so = (_, b.primary (b.calloc_type words.calloc tb.nothing))
-unary_one {k = kinds.NtCalloc} so = (_, b.primary (b.calloc_type words.nt_calloc tb.nothing))
+unary_one {k = kinds.Keyword keywords.Sizeof} so = (_, b.primary b.size_of_word)
+unary_one {k = kinds.Keyword keywords.DynamicBoundsCast} so = (_, b.primary (b.cast_type refl tb.nothing))
+unary_one {k = kinds.Keyword keywords.AssumeBoundsCast} so = (_, b.primary (b.cast_type refl tb.nothing))
+unary_one {k = kinds.Keyword keywords.Malloc} so = (_, b.primary (b.malloc_type refl tb.nothing))
+unary_one {k = kinds.Keyword keywords.TMalloc} so = (_, b.primary (b.malloc_type refl tb.nothing))
+unary_one {k = kinds.Keyword keywords.Calloc} so = (_, b.primary (b.calloc_type refl tb.nothing))
+unary_one {k = kinds.Keyword keywords.NtCalloc} so = (_, b.primary (b.calloc_type refl tb.nothing))
 unary_one {k = _} so = absurd cc
 
 pub unary_first : PutsFirst unary_word BeginsUnary

@@ -3,18 +3,18 @@ use Rattle.std.proofs.Common.{◌≡◌, ◌≤◌, ◌<◌, ◌||◌, ℕ, suc,
 use Rattle.ckc_text.specs.declared.place.Span.{Span}
 use Rattle.ckc_lexer_tokens.specs.declared.token.Token.{Token}
 use Rattle.ckc_lexer_tokens.specs.declared.token.TokenKind.{TokenKind}
+use Rattle.ckc_lexer_tokens.specs.declared.keyword.Keyword.TheVariants as keywords
 use Rattle.ckc_lexer_tokens.specs.declared.token.TokenKind.TheVariants as kinds
 use Rattle.ckc_tree.specs.Heights.{nowhere}
-use Rattle.ckc_parser_grammar.specs.Tokens as words
-use Rattle.ckc_parser_grammar.specs.Tokens.{token, next_is, open_paren, IsMark}
+use Rattle.ckc_parser_grammar.specs.Tokens.{token, next_is, open_paren}
 use Rattle.ckc_parser_grammar.specs.StatementBeginnings as b
 use Rattle.ckc_parser_grammar.specs.StatementBeginnings.{BeginsStatement, BeginsStatements}
 use Rattle.ckc_parser_grammar.specs.Failures as failures
-use Rattle.ckc_parser_grammar.specs.Failures.{Failure, IsLow}
+use Rattle.ckc_parser_grammar.specs.Failures.{Failure}
 use Rattle.ckc_parser_grammar.specs.StuckTypes.{type_word}
 use Rattle.ckc_parser_grammar.specs.StuckStatements as stuck
-use Rattle.ckc_parser_grammar.specs.StuckStatements.{semicolon, open_brace, close_brace, plain_word, assignment_word, statement_word, StuckStatement, StuckStatements}
-use Rattle.ckc_parser_grammar.proofs.Forms.{Is, it, Exact, seq_all, after_all, ended_all, done_all, node_all, never, in_first, not_yet, done}
+use Rattle.ckc_parser_grammar.specs.StuckStatements.{open_brace, plain_word, assignment_word, statement_word, StuckStatement, StuckStatements}
+use Rattle.ckc_parser_grammar.proofs.Forms.{Is, it, Exact, seq_all, node_all, in_first, not_yet, done}
 use Rattle.ckc_parser_grammar.proofs.Forms as forms
 use Rattle.ckc_parser_grammar.proofs.Failing as failing
 use Rattle.ckc_parser_grammar.proofs.Failing.{Fails, fails_first, fails_second, fails_before_end, fails_at_end, fails_after, fails_at_first, fails_as, fails_node, fails_headed, fails_deep_head, fails_yes, fails_no}
@@ -24,7 +24,7 @@ use Rattle.ckc_parser_grammar.proofs.DeclarationForms.{declaration, declaration_
 use Rattle.ckc_parser_grammar.proofs.AssignmentForms.{assignment_at, assignments_exact, assignments_fails}
 use Rattle.ckc_parser_grammar.proofs.HeadForms.{semicolon_is, turned, type_assignment, declaration_at, initial, initial_exact, initial_fails, tested, for_condition_exact, for_condition_fails, stepped, step_exact, step_fails, condition_exact, condition_fails}
 use Rattle.ckc_parser_grammar.proofs.SimpleForms.{SimpleS, SimpleB, name_assigns, simple_deep, other_fails, named_fails, named_end_fails, named_value_fails, assign_end_fails}
-use Rattle.ckc_parser_grammar.proofs.StatementForms.{StatementS, StatementsS, stated, Plain, IsPlain, block, mark, bundle, empty, if, while, for, return, break, continue, blocks, marks, bundles, empties, ifs, whiles, fors, returns, leaves, one_plain, FormS, FormB, DeclaredS, DeclaredB, InnerS, InnerB, ElseS, ElseB, BranchesS, BranchesB, SteppingS, SteppingB, TestingS, TestingB, LoopS, LoopB, ListS, ListB, statement_to, statement_into, statement_from, list_to, list_into, list_from, plain_type, plain_assignment, no_brace, in_parens, else_is, statement_high, inner_exact, statement_exact, statements_exact, statement_starts}
+use Rattle.ckc_parser_grammar.proofs.StatementForms.{StatementS, StatementsS, stated, Plain, IsPlain, block, mark, bundle, empty, if, while, for, return, break, continue, blocks, marks, bundles, empties, ifs, whiles, fors, returns, leaves, one_plain, FormS, FormB, DeclaredS, DeclaredB, InnerS, InnerB, ElseS, ElseB, BranchesS, BranchesB, SteppingS, SteppingB, TestingS, TestingB, LoopS, LoopB, ListS, ListB, statement_to, statement_into, statement_from, list_to, list_into, list_from, plain_type, plain_assignment, mark_plain, no_brace, in_parens, else_is, statement_high, inner_exact, statement_exact, statements_exact, statement_starts}
 
 statement_as : {d : ℕ} {ts : List Token} {f : Failure} → Fails d FormS FormB ts f → Fails d StatementS BeginsStatement ts f
 statement_as f = fails_as statement_to statement_into statement_from f
@@ -36,8 +36,7 @@ list_as f = fails_as list_to list_into list_from f
 
 plain_is : {k : TokenKind} {h : Plain} → IsPlain k h → plain_word k ≡ true
 plain_is block = refl
-plain_is (mark words.checked) = refl
-plain_is (mark words.unchecked) = refl
+plain_is (mark {k} w) = mark_plain k w
 plain_is bundle = refl
 plain_is empty = refl
 plain_is if = refl
@@ -52,17 +51,17 @@ pub record PlainAt (k : TokenKind) : Type 0 where
   pub is : IsPlain k plain
 
 pub plain_at : (k : TokenKind) → plain_word k ≡ true → PlainAt k
-plain_at kinds.Checked so = record { plain = marks; is = mark words.checked }
-plain_at kinds.Unchecked so = record { plain = marks; is = mark words.unchecked }
+plain_at (kinds.Keyword keywords.Checked) so = record { plain = marks; is = mark refl }
+plain_at (kinds.Keyword keywords.Unchecked) so = record { plain = marks; is = mark refl }
 plain_at kinds.OpenBrace so = record { plain = blocks; is = block }
-plain_at kinds.Bundled so = record { plain = bundles; is = bundle }
+plain_at (kinds.Keyword keywords.Bundled) so = record { plain = bundles; is = bundle }
 plain_at kinds.Semicolon so = record { plain = empties; is = empty }
-plain_at kinds.If so = record { plain = ifs; is = if }
-plain_at kinds.While so = record { plain = whiles; is = while }
-plain_at kinds.For so = record { plain = fors; is = for }
-plain_at kinds.Return so = record { plain = returns; is = return }
-plain_at kinds.Break so = record { plain = leaves; is = break }
-plain_at kinds.Continue so = record { plain = leaves; is = continue }
+plain_at (kinds.Keyword keywords.If) so = record { plain = ifs; is = if }
+plain_at (kinds.Keyword keywords.While) so = record { plain = whiles; is = while }
+plain_at (kinds.Keyword keywords.For) so = record { plain = fors; is = for }
+plain_at (kinds.Keyword keywords.Return) so = record { plain = returns; is = return }
+plain_at (kinds.Keyword keywords.Break) so = record { plain = leaves; is = break }
+plain_at (kinds.Keyword keywords.Continue) so = record { plain = leaves; is = continue }
 plain_at _ so = absurd cc
 
 inner_here : (h : Plain) (ts : List Token) → InnerB h ts ts nowhere
@@ -124,7 +123,7 @@ paren_is : (k : TokenKind) → Is kinds.OpenParen k → open_paren k ≡ true
 paren_is = is_it open_paren refl
 
 -- inside the head of a for, and behind it
-loop_fails : {d : ℕ} {s p : Span} {ts : List Token} {f : Failure} → d < 200 → Fails (suc d) LoopS LoopB ts f → Fails d StatementS BeginsStatement (token kinds.For s ∷ token kinds.OpenParen p ∷ ts) f
+loop_fails : {d : ℕ} {s p : Span} {ts : List Token} {f : Failure} → d < 200 → Fails (suc d) LoopS LoopB ts f → Fails d StatementS BeginsStatement (token (kinds.Keyword keywords.For) s ∷ token kinds.OpenParen p ∷ ts) f
 loop_fails some f = plain_fails for some (fails_after it loop_exact f)
 
 mutual

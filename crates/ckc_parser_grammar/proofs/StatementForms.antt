@@ -1,28 +1,29 @@
 -- Statements as forms that are built of others: reading them goes one way.
-use Rattle.std.proofs.Common.{◌≡◌, ◌<◌, ◌||◌, ℕ, zero, suc, Bool, true, false, List, [], ◌∷◌, refl, sym, ap, ◌∙◌, arith}
+use Rattle.std.proofs.Common.{◌≡◌, ◌<◌, ◌||◌, ℕ, zero, suc, Bool, true, false, List, [], ◌∷◌, refl, sym, ap, ◌∙◌, arith, Some}
 use Rattle.ckc_text.specs.declared.place.Span.{Span}
 use Rattle.ckc_lexer_tokens.specs.declared.token.Token.{Token}
 use Rattle.ckc_lexer_tokens.specs.declared.token.TokenKind.{TokenKind}
+use Rattle.ckc_lexer_tokens.specs.declared.keyword.Keyword.TheVariants as keywords
 use Rattle.ckc_lexer_tokens.specs.declared.token.TokenKind.TheVariants as kinds
 use Rattle.ckc_tree.specs.declared.stmt.Mark.{Mark}
 use Rattle.ckc_tree.specs.Expressions.{Expression}
 use Rattle.ckc_tree.specs.Statements as s
-use Rattle.ckc_tree.specs.Statements.{Statement, Statements, Declaration}
+use Rattle.ckc_tree.specs.Statements.{Statement, Statements}
 use Rattle.ckc_tree.specs.Heights.{Reach, nowhere, node, around, ◌beside◌, expression_reach, declared_reach, assigned_reach, assignments_reach, for_initial_reach, optional_expression_reach, optional_assignment_reach, statement_reach, statements_reach}
 use Rattle.ckc_parser_grammar.specs.Tokens as words
-use Rattle.ckc_parser_grammar.specs.Tokens.{token, next_is, IsMark}
+use Rattle.ckc_parser_grammar.specs.Tokens.{token, next_is, mark_of}
 use Rattle.ckc_parser_grammar.specs.ExpressionGrammar.{SpellsExpression}
 use Rattle.ckc_parser_grammar.specs.StatementGrammar as g
-use Rattle.ckc_parser_grammar.specs.StatementGrammar.{SpellsDeclaration, SpellsStatement, SpellsStatements}
+use Rattle.ckc_parser_grammar.specs.StatementGrammar.{SpellsStatement, SpellsStatements}
 use Rattle.ckc_parser_grammar.specs.StatementBeginnings as b
 use Rattle.ckc_parser_grammar.specs.StatementBeginnings.{BeginsDeclaration, BeginsAssignments, BeginsStatement, BeginsStatements}
 use Rattle.ckc_parser_grammar.specs.StuckTypes.{type_word}
 use Rattle.ckc_parser_grammar.specs.StuckStatements.{close_brace, plain_word, assignment_word, statement_word}
-use Rattle.ckc_parser_grammar.proofs.Paths.{around_height}
+use Rattle.ckc_parser_grammar.proofs.Paths.{beside_nowhere, around_height}
 use Rattle.ckc_parser_grammar.proofs.Whole.{statement_begins, statements_begin}
-use Rattle.ckc_parser_grammar.proofs.Forms.{Is, it, ExactBelow, Exact, exact_on_all, none_below, within, below, seq_exact, after_exact, node_exact, done_exact, either_exact, ended_all, after_all, done_all, head_exact, same_exact, never, SeqS, SeqB, seq, in_first, in_second, EndedS, EndedB, before_end, end, AfterS, AfterB, not_yet, after, NodeS, EitherS, yes, no, DoneS, done, HeadS, HeadB, none_yet, headed, OneHead}
+use Rattle.ckc_parser_grammar.proofs.Forms.{Is, it, ExactBelow, Exact, exact_on_all, none_below, within, below, seq_exact, after_exact, node_exact, done_exact, either_exact, ended_all, after_all, done_all, head_exact, same_exact, SeqS, SeqB, seq, in_first, in_second, EndedS, EndedB, before_end, end, AfterS, AfterB, not_yet, after, NodeS, EitherS, yes, no, DoneS, done, HeadS, HeadB, none_yet, headed, OneHead}
+use Rattle.ckc_parser_grammar.proofs.Ahead.{never}
 use Rattle.ckc_parser_grammar.proofs.Forms as forms
-use Rattle.ckc_parser_grammar.proofs.Failing.{beside_nowhere}
 use Rattle.ckc_parser_grammar.proofs.ExpressionLinks.{binary}
 use Rattle.ckc_parser_grammar.proofs.MoreForms.{is_it, Starts, Apart, next_apart, by_next, nothing_read, or_left, or_right, OptionalS, absent, present, optional_exact, list_exact, so_far, in_whole, reach_is, beside_assoc}
 use Rattle.ckc_parser_grammar.proofs.Starting.{binary_starts}
@@ -31,6 +32,7 @@ use Rattle.ckc_parser_grammar.proofs.AssignmentForms.{AssignmentsS, bundled, ass
 use Rattle.ckc_parser_grammar.proofs.HeadForms.{turned, type_assignment, declaration_at, ForInitialS, initial, InitialB, initial_exact, ForConditionS, tested, TestedB, for_condition_exact, ForStepS, stepped, SteppedB, step_exact, ConditionS, ConditionB, condition_exact}
 use Rattle.ckc_parser_grammar.proofs.SimpleForms as simple
 use Rattle.ckc_parser_grammar.proofs.SimpleForms.{SimpleS, SimpleB, assign, call, assignment, call_begun, simple_exact, simple_starts, simple_at}
+use Rattle.ckc_parser_grammar.proofs.Words.{each_mark}
 
 pub data StatementS : List Token → List Token → Reach → Type 0 where
   stated : {x : Statement} {ts m : List Token} → SpellsStatement ts x m → StatementS ts m (statement_reach x)
@@ -53,34 +55,33 @@ pub data Plain : Type 0 where
 
 pub data IsPlain : TokenKind → Plain → Type 0 where
   block : IsPlain kinds.OpenBrace blocks
-  mark : {k : TokenKind} {w : Mark} → IsMark k w → IsPlain k marks
-  bundle : IsPlain kinds.Bundled bundles
+  mark : {k : TokenKind} {w : Mark} → mark_of k ≡ Some w → IsPlain k marks
+  bundle : IsPlain (kinds.Keyword keywords.Bundled) bundles
   empty : IsPlain kinds.Semicolon empties
-  if : IsPlain kinds.If ifs
-  while : IsPlain kinds.While whiles
-  for : IsPlain kinds.For fors
-  return : IsPlain kinds.Return returns
-  break : IsPlain kinds.Break leaves
-  continue : IsPlain kinds.Continue leaves
+  if : IsPlain (kinds.Keyword keywords.If) ifs
+  while : IsPlain (kinds.Keyword keywords.While) whiles
+  for : IsPlain (kinds.Keyword keywords.For) fors
+  return : IsPlain (kinds.Keyword keywords.Return) returns
+  break : IsPlain (kinds.Keyword keywords.Break) leaves
+  continue : IsPlain (kinds.Keyword keywords.Continue) leaves
 
 -- the form that a token begins
 plain_of : TokenKind → Plain
 plain_of kinds.OpenBrace = blocks
-plain_of kinds.Checked = marks
-plain_of kinds.Unchecked = marks
-plain_of kinds.Bundled = bundles
+plain_of (kinds.Keyword keywords.Checked) = marks
+plain_of (kinds.Keyword keywords.Unchecked) = marks
+plain_of (kinds.Keyword keywords.Bundled) = bundles
 plain_of kinds.Semicolon = empties
-plain_of kinds.If = ifs
-plain_of kinds.While = whiles
-plain_of kinds.For = fors
-plain_of kinds.Return = returns
+plain_of (kinds.Keyword keywords.If) = ifs
+plain_of (kinds.Keyword keywords.While) = whiles
+plain_of (kinds.Keyword keywords.For) = fors
+plain_of (kinds.Keyword keywords.Return) = returns
 plain_of _ = leaves
 
 plain_is_of : {k : TokenKind} {h : Plain} → IsPlain k h → h ≡ plain_of k
 unfolding plain_of
 plain_is_of block = refl
-plain_is_of (mark words.checked) = refl
-plain_is_of (mark words.unchecked) = refl
+plain_is_of (mark {k} w) = each_mark (λ k. marks ≡ plain_of k) k w refl refl
 plain_is_of bundle = refl
 plain_is_of empty = refl
 plain_is_of if = refl
@@ -94,10 +95,10 @@ pub one_plain : OneHead IsPlain
 one_plain k h i p q = plain_is_of p ∙ sym (plain_is_of q)
 
 abbrev pub ElseS : List Token → List Token → Reach → Type 0
-ElseS = OptionalS (Is kinds.Else) words.else_word StatementS
+ElseS = OptionalS (Is (kinds.Keyword keywords.Else)) words.else_word StatementS
 
 abbrev pub ElseB : List Token → List Token → Reach → Type 0
-ElseB = AfterB (Is kinds.Else) BeginsStatement
+ElseB = AfterB (Is (kinds.Keyword keywords.Else)) BeginsStatement
 
 abbrev pub BranchesS : List Token → List Token → Reach → Type 0
 BranchesS = SeqS StatementS ElseS
@@ -174,36 +175,35 @@ FormB = EitherS (next_is plain_word) (HeadB IsPlain PlainB) OtherB
 -- ---- what starts a statement
 
 pub plain_type : Apart plain_word type_word
-plain_type kinds.Checked so = refl
-plain_type kinds.Unchecked so = refl
+plain_type (kinds.Keyword keywords.Checked) so = refl
+plain_type (kinds.Keyword keywords.Unchecked) so = refl
 plain_type kinds.OpenBrace so = refl
-plain_type kinds.Bundled so = refl
+plain_type (kinds.Keyword keywords.Bundled) so = refl
 plain_type kinds.Semicolon so = refl
-plain_type kinds.If so = refl
-plain_type kinds.While so = refl
-plain_type kinds.For so = refl
-plain_type kinds.Return so = refl
-plain_type kinds.Break so = refl
-plain_type kinds.Continue so = refl
+plain_type (kinds.Keyword keywords.If) so = refl
+plain_type (kinds.Keyword keywords.While) so = refl
+plain_type (kinds.Keyword keywords.For) so = refl
+plain_type (kinds.Keyword keywords.Return) so = refl
+plain_type (kinds.Keyword keywords.Break) so = refl
+plain_type (kinds.Keyword keywords.Continue) so = refl
 plain_type _ so = absurd cc
 
 pub plain_assignment : Apart plain_word assignment_word
-plain_assignment kinds.Checked so = refl
-plain_assignment kinds.Unchecked so = refl
+plain_assignment (kinds.Keyword keywords.Checked) so = refl
+plain_assignment (kinds.Keyword keywords.Unchecked) so = refl
 plain_assignment kinds.OpenBrace so = refl
-plain_assignment kinds.Bundled so = refl
+plain_assignment (kinds.Keyword keywords.Bundled) so = refl
 plain_assignment kinds.Semicolon so = refl
-plain_assignment kinds.If so = refl
-plain_assignment kinds.While so = refl
-plain_assignment kinds.For so = refl
-plain_assignment kinds.Return so = refl
-plain_assignment kinds.Break so = refl
-plain_assignment kinds.Continue so = refl
+plain_assignment (kinds.Keyword keywords.If) so = refl
+plain_assignment (kinds.Keyword keywords.While) so = refl
+plain_assignment (kinds.Keyword keywords.For) so = refl
+plain_assignment (kinds.Keyword keywords.Return) so = refl
+plain_assignment (kinds.Keyword keywords.Break) so = refl
+plain_assignment (kinds.Keyword keywords.Continue) so = refl
 plain_assignment _ so = absurd cc
 
-mark_plain : {k : TokenKind} {w : Mark} → IsMark k w → plain_word k ≡ true
-mark_plain words.checked = refl
-mark_plain words.unchecked = refl
+pub mark_plain : (k : TokenKind) {w : Mark} → mark_of k ≡ Some w → plain_word k ≡ true
+mark_plain k w = each_mark (λ k. plain_word k ≡ true) k w refl refl
 
 -- ---- from statements to the built form
 
@@ -223,7 +223,7 @@ four p q r t = sym (beside_assoc (p beside q) r t ∙ beside_assoc p q (r beside
 
 pub statement_to : (ts m : List Token) (r : Reach) → StatementS ts m r → FormS ts m r
 statement_to ts m r (stated (g.block d)) = yes refl (headed block (forms.node (listed d)))
-statement_to ts m r (stated (g.marked_block w d)) = yes (mark_plain w) (headed (mark w) (forms.node (after it (listed d))))
+statement_to ts m r (stated (g.marked_block {k} w d)) = yes (mark_plain k w) (headed (mark w) (forms.node (after it (listed d))))
 statement_to ts m r (stated (g.bundle d)) = yes refl (headed bundle (forms.node (after it (bundled d))))
 statement_to ts m r (stated (g.declare d)) = declared_to (declaration_at d) (end (declaration d) it)
 statement_to ts m r (stated (g.assign d)) = simple_form (assign d)
@@ -252,8 +252,8 @@ simple_into = or_right simple_exact plain_assignment simple_starts (λ ts. none_
 pub statement_into : (ts rest : List Token) (q : Reach) → BeginsStatement ts rest q → FormB ts rest q
 statement_into ts rest q b.nothing = declaration_into _ _ _ (declaration_starts.here ts)
 statement_into ts rest q (b.block c) = yes refl (headed block (forms.node c))
-statement_into ts rest q (b.mark w) = yes (mark_plain w) (headed (mark w) (forms.node not_yet))
-statement_into ts rest q (b.marked_block w c) = yes (mark_plain w) (headed (mark w) (forms.node (after it c)))
+statement_into ts rest q (b.mark {k} w) = yes (mark_plain k w) (headed (mark w) (forms.node not_yet))
+statement_into ts rest q (b.marked_block {k} w c) = yes (mark_plain k w) (headed (mark w) (forms.node (after it c)))
 statement_into ts rest q b.bundle_word = yes refl (headed bundle (forms.node not_yet))
 statement_into ts rest q (b.bundle c) = yes refl (headed bundle (forms.node (after it c)))
 statement_into ts rest q (b.declaration c) = declaration_into _ _ _ c
@@ -283,7 +283,7 @@ statement_into ts rest q b.break = yes refl (headed break (forms.node (after it 
 statement_into ts rest q b.continue_word = yes refl (headed continue (forms.node not_yet))
 statement_into ts rest q b.continue = yes refl (headed continue (forms.node (after it done)))
 
-if_from : {ts rest : List Token} {q : Reach} (s : Span) → InnerB ifs ts rest q → BeginsStatement (token kinds.If s ∷ ts) rest (around s.from q)
+if_from : {ts rest : List Token} {q : Reach} (s : Span) → InnerB ifs ts rest q → BeginsStatement (token (kinds.Keyword keywords.If) s ∷ ts) rest (around s.from q)
 if_from s (in_first not_yet) = b.if_word
 if_from s (in_first (after it (before_end c))) = b.if_condition c
 if_from {rest} s (in_first (after it (end (binary {e} d) it))) = reach_is BeginsStatement (ap (around s.from) (beside_nowhere (expression_reach e))) (b.if_consequent d (b.nothing {ts = rest}))
@@ -291,13 +291,13 @@ if_from s (in_second (after it (end (binary d) it)) (in_first c)) = b.if_consequ
 if_from s (in_second (after it (end (binary {e} d) it)) (in_second (stated {x} st) not_yet)) = reach_is BeginsStatement (ap (λ (y : Reach). around s.from (expression_reach e beside y)) (sym (beside_nowhere (statement_reach x)))) (b.if_consequent d (statement_begins st))
 if_from s (in_second (after it (end (binary {e} d) it)) (in_second {q} (stated {x} st) (after it c))) = reach_is BeginsStatement (ap (around s.from) (beside_assoc (expression_reach e) (statement_reach x) _)) (b.if_alternative d st c)
 
-while_from : {ts rest : List Token} {q : Reach} (s : Span) → InnerB whiles ts rest q → BeginsStatement (token kinds.While s ∷ ts) rest (around s.from q)
+while_from : {ts rest : List Token} {q : Reach} (s : Span) → InnerB whiles ts rest q → BeginsStatement (token (kinds.Keyword keywords.While) s ∷ ts) rest (around s.from q)
 while_from s (in_first not_yet) = b.while_word
 while_from s (in_first (after it (before_end c))) = b.while_condition c
 while_from {rest} s (in_first (after it (end (binary {e} d) it))) = reach_is BeginsStatement (ap (around s.from) (beside_nowhere (expression_reach e))) (b.while_body d (b.nothing {ts = rest}))
 while_from s (in_second (after it (end (binary d) it)) c) = b.while_body d c
 
-for_from : {ts rest : List Token} {q : Reach} (s : Span) → InnerB fors ts rest q → BeginsStatement (token kinds.For s ∷ ts) rest (around s.from q)
+for_from : {ts rest : List Token} {q : Reach} (s : Span) → InnerB fors ts rest q → BeginsStatement (token (kinds.Keyword keywords.For) s ∷ ts) rest (around s.from q)
 for_from s not_yet = b.for_word
 for_from s (after it (in_first (so_far c))) = b.for_initial c
 for_from {rest} s (after it (in_first (in_whole (initial {x} d)))) = reach_is BeginsStatement (ap (around s.from) (beside_nowhere (for_initial_reach x))) (b.for_condition d (b.present (binary_starts.here rest)))
@@ -307,7 +307,7 @@ for_from s (after it (in_second (initial {x} d) (in_second (tested {x = y} t) (i
 for_from {rest} s (after it (in_second (initial {x} d) (in_second (tested {x = y} t) (in_first (in_whole (stepped {x = z} a)))))) = reach_is BeginsStatement (ap (around s.from) (beside_nowhere (for_initial_reach x beside optional_expression_reach y beside optional_assignment_reach z) ∙ beside_assoc (for_initial_reach x) (optional_expression_reach y) (optional_assignment_reach z))) (b.for_body d t a (b.nothing {ts = rest}))
 for_from s (after it (in_second (initial {x} d) (in_second (tested {x = y} t) (in_second (stepped {x = z} a) c)))) = reach_is BeginsStatement (ap (around s.from) (sym (four (for_initial_reach x) (optional_expression_reach y) (optional_assignment_reach z) _))) (b.for_body d t a c)
 
-return_from : {ts rest : List Token} {q : Reach} (s : Span) → InnerB returns ts rest q → BeginsStatement (token kinds.Return s ∷ ts) rest (around s.from q)
+return_from : {ts rest : List Token} {q : Reach} (s : Span) → InnerB returns ts rest q → BeginsStatement (token (kinds.Keyword keywords.Return) s ∷ ts) rest (around s.from q)
 return_from s (so_far (b.present c)) = b.return_value c
 return_from s (in_whole (tested g.absent)) = b.return_nothing
 return_from s (in_whole (tested (g.present d))) = b.return d
@@ -361,7 +361,7 @@ high_of (s.Continue w) = omega arith
 pub statement_high : (ts m : List Token) (r : Reach) → StatementS ts m r → 0 < r.height
 statement_high ts m r (stated {x} d) = high_of x
 
-pub else_is : (k : TokenKind) → Is kinds.Else k → words.else_word k ≡ true
+pub else_is : (k : TokenKind) → Is (kinds.Keyword keywords.Else) k → words.else_word k ≡ true
 else_is = is_it words.else_word refl
 
 inner_below : {n : ℕ} → ExactBelow n nowhere StatementS BeginsStatement → ExactBelow n nowhere StatementsS BeginsStatements → (h : Plain) → ExactBelow n nowhere (InnerS h) (InnerB h)

@@ -10,7 +10,6 @@ use Rattle.ckc_tree.specs.Heights.{Reach, around, optional_bounds_reach, optiona
 use Rattle.ckc_parser_grammar.specs.StatementGrammar as g
 use Rattle.ckc_parser_grammar.specs.StatementGrammar.{SpellsOptionalBounds, SpellsOptionalArray, SpellsSigned, SpellsConstants, SpellsOptionalInitializer, SpellsDeclarator, SpellsDeclarators, SpellsDeclaration, SpellsAssignment, SpellsAssignments, SpellsForInitial, SpellsForCondition, SpellsForStep, SpellsStatement, SpellsStatements}
 use Rattle.ckc_parser_grammar.specs.ExpressionBeginnings as expressions
-use Rattle.ckc_parser_grammar.specs.ExpressionBeginnings.{BeginsUnary, BeginsCall}
 use Rattle.ckc_parser_grammar.specs.StatementBeginnings as b
 use Rattle.ckc_parser_grammar.specs.StatementBeginnings.{BeginsOptionalBounds, BeginsOptionalArray, BeginsSigned, BeginsConstants, BeginsOptionalInitializer, BeginsDeclarator, BeginsDeclarators, BeginsDeclaration, BeginsAssignment, BeginsAssignments, BeginsForInitial, BeginsForCondition, BeginsForStep, BeginsStatement, BeginsStatements}
 use Rattle.ckc_parser_grammar.proofs.Paths.{same, least, deep, one, grow, along, begun_low, begun_none, begun_within, Fact, fact, Path, here, next, on, past, part, led, led_shorter, begun_path}

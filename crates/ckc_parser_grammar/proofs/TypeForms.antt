@@ -1,26 +1,29 @@
 -- Types as forms that are built of others: reading them goes one way, and where they are stuck they fail.
-use Rattle.std.proofs.Common.{◌≡◌, ◌≤◌, ◌<◌, ℕ, zero, suc, length, true, false, List, ◌∷◌, refl, sym, ap, subst, arith}
+use Rattle.std.proofs.Common.{◌≡◌, ◌≤◌, ◌<◌, ℕ, zero, suc, length, true, false, List, ◌∷◌, refl, sym, ap, subst, arith, ◌∙◌, Some}
 use Rattle.ckc_text.specs.declared.place.Span.{Span}
 use Rattle.ckc_lexer_tokens.specs.declared.token.Token.{Token}
 use Rattle.ckc_lexer_tokens.specs.declared.token.TokenKind.{TokenKind}
+use Rattle.ckc_lexer_tokens.specs.declared.keyword.Keyword.TheVariants as keywords
 use Rattle.ckc_lexer_tokens.specs.declared.token.TokenKind.TheVariants as kinds
 use Rattle.ckc_tree.specs.declared.type_form.PointerWord.{PointerWord}
 use Rattle.ckc_tree.specs.Types.{TypeTree, TypeName}
 use Rattle.ckc_tree.specs.Heights.{Reach, nowhere, node, around, type_reach}
-use Rattle.ckc_parser_grammar.specs.Tokens as words
-use Rattle.ckc_parser_grammar.specs.Tokens.{token, next_is, star, open_paren, IsPointerWord}
+use Rattle.ckc_parser_grammar.specs.Tokens.{token, next_is, open_paren, pointer_word_of}
 use Rattle.ckc_parser_grammar.specs.TypeGrammar as g
 use Rattle.ckc_parser_grammar.specs.TypeGrammar.{SpellsStars, SpellsType, SpellsTypeName, SpellsAngled}
 use Rattle.ckc_parser_grammar.specs.TypeBeginnings as b
 use Rattle.ckc_parser_grammar.specs.TypeBeginnings.{BeginsStars, BeginsType, BeginsTypeName, BeginsAngled}
 use Rattle.ckc_parser_grammar.specs.Failures as failures
-use Rattle.ckc_parser_grammar.specs.Failures.{Failure, IsLow}
+use Rattle.ckc_parser_grammar.specs.Failures.{Failure}
 use Rattle.ckc_parser_grammar.specs.StuckTypes as stuck
 use Rattle.ckc_parser_grammar.specs.StuckTypes.{name_token, less, greater, type_word, StuckType, StuckTypeName, StuckAngled}
-use Rattle.ckc_parser_grammar.proofs.Forms.{◌ends◌, all, later, Is, it, IsName, name, ExactBelow, Exact, exact_on_all, none_below, within, seq_all, ended_all, after_all, same_all, never, SeqS, SeqB, seq, in_first, in_second, seq_exact, EndedS, EndedB, before_end, end, ended_exact, AfterS, AfterB, not_yet, after, after_exact, NodeS, node_exact, DoneS, done, done_exact, HeadS, HeadB, none_yet, headed, head_exact, OneHead, same_exact}
+use Rattle.ckc_parser_grammar.proofs.Forms.{◌ends◌, all, later, Is, it, IsName, name, ExactBelow, Exact, exact_on_all, none_below, within, seq_all, ended_all, after_all, same_all, SeqS, SeqB, seq, in_first, in_second, seq_exact, EndedS, EndedB, before_end, end, ended_exact, AfterS, AfterB, not_yet, after, after_exact, NodeS, node_exact, DoneS, done, done_exact, HeadS, HeadB, none_yet, headed, head_exact, OneHead, same_exact}
+use Rattle.ckc_parser_grammar.proofs.Ahead.{never}
 use Rattle.ckc_parser_grammar.proofs.Forms as forms
 use Rattle.ckc_parser_grammar.proofs.Failing as failing
-use Rattle.ckc_parser_grammar.proofs.Failing.{Fails, beside_nowhere, fails_first, fails_second, fails_before_end, fails_at_end, fails_after, fails_at_first, fails_node, fails_as, fails_headed, fails_unheaded, fails_deep_head}
+use Rattle.ckc_parser_grammar.proofs.Paths.{beside_nowhere}
+use Rattle.ckc_parser_grammar.proofs.Failing.{Fails, fails_first, fails_before_end, fails_at_end, fails_after, fails_at_first, fails_node, fails_as, fails_headed, fails_unheaded, fails_deep_head}
+use Rattle.ckc_parser_grammar.proofs.Words.{some_word, each_pointer_word, pointer_is}
 
 -- ---- stars, which make no node
 
@@ -84,22 +87,26 @@ data Head : Type 0 where
   pointer : Head
 
 data IsHead : TokenKind → Head → Type 0 where
-  int : IsHead kinds.Int plain
-  char : IsHead kinds.Char plain
-  struct : IsHead kinds.Struct structure
-  word : {k : TokenKind} {w : PointerWord} → IsPointerWord k w → IsHead k pointer
+  int : IsHead (kinds.Keyword keywords.Int) plain
+  char : IsHead (kinds.Keyword keywords.Char) plain
+  struct : IsHead (kinds.Keyword keywords.Struct) structure
+  word : {k : TokenKind} {w : PointerWord} → pointer_word_of k ≡ Some w → IsHead k pointer
+
+head_of : TokenKind → Head
+head_of (kinds.Keyword keywords.Int) = plain
+head_of (kinds.Keyword keywords.Char) = plain
+head_of (kinds.Keyword keywords.Struct) = structure
+head_of _ = pointer
+
+head_is : {k : TokenKind} {h : Head} → IsHead k h → head_of k ≡ h
+unfolding head_of
+head_is int = refl
+head_is char = refl
+head_is struct = refl
+head_is (word {k} w) = each_pointer_word (λ k. head_of k ≡ pointer) k w refl refl refl refl refl refl
 
 one_head : OneHead IsHead
-one_head k h i int int = refl
-one_head k h i int (word w) = elim w [ ]
-one_head k h i char char = refl
-one_head k h i char (word w) = elim w [ ]
-one_head k h i struct struct = refl
-one_head k h i struct (word w) = elim w [ ]
-one_head k h i (word w) int = elim w [ ]
-one_head k h i (word w) char = elim w [ ]
-one_head k h i (word w) struct = elim w [ ]
-one_head k h i (word w) (word w') = refl
+one_head k h i a b = sym (head_is a) ∙ head_is b
 
 abbrev ElementS : List Token → List Token → Reach → Type 0
 ElementS = AfterS (Is kinds.Less) (EndedS (Is kinds.Greater) (SeqS TypeS StarsS))
@@ -181,27 +188,16 @@ record Headed (k : TokenKind) : Type 0 where
   is : IsHead k head
 
 head_at : (k : TokenKind) → type_word k ≡ true → Headed k
-head_at kinds.Int so = record { head = plain; is = int }
-head_at kinds.Char so = record { head = plain; is = char }
-head_at kinds.Struct so = record { head = structure; is = struct }
-head_at kinds.Ptr so = record { head = pointer; is = word words.ptr }
-head_at kinds.ArrayPtr so = record { head = pointer; is = word words.array_ptr }
-head_at kinds.NtArrayPtr so = record { head = pointer; is = word words.nt_array_ptr }
-head_at kinds.TPtr so = record { head = pointer; is = word words.t_ptr }
-head_at kinds.TArrayPtr so = record { head = pointer; is = word words.t_array_ptr }
-head_at kinds.TNtArrayPtr so = record { head = pointer; is = word words.t_nt_array_ptr }
-head_at _ so = absurd cc
+head_at (kinds.Keyword keywords.Int) so = record { head = plain; is = int }
+head_at (kinds.Keyword keywords.Char) so = record { head = plain; is = char }
+head_at (kinds.Keyword keywords.Struct) so = record { head = structure; is = struct }
+head_at k so = record { head = pointer; is = word (some_word (pointer_word_of k) so).1 }
 
 head_word : {k : TokenKind} {h : Head} → IsHead k h → type_word k ≡ true
 head_word int = refl
 head_word char = refl
 head_word struct = refl
-head_word (word words.ptr) = refl
-head_word (word words.array_ptr) = refl
-head_word (word words.nt_array_ptr) = refl
-head_word (word words.t_ptr) = refl
-head_word (word words.t_array_ptr) = refl
-head_word (word words.t_nt_array_ptr) = refl
+head_word (word {k} w) = pointer_is k w
 
 no_head : (ts : List Token) → next_is type_word ts ≡ false → (k : TokenKind) (s : Span) (us : List Token) (h : Head) → ts ≡ token k s ∷ us → IsHead k h → ⊥
 no_head ts none k s us h is i = never (head_word i) (subst (λ (x : List Token). next_is type_word x ≡ false) is none)

@@ -16,7 +16,8 @@ use Rattle.ckc_parser_grammar.specs.StuckItems.{StuckItems}
 use Rattle.ckc_parser_grammar.specs.Refusals.{FaultIs}
 use Rattle.ckc_parser_grammar.proofs.OneItem.{item_same, items_same}
 use Rattle.ckc_parser_grammar.proofs.Whole.{items_begin}
-use Rattle.ckc_parser_grammar.proofs.Forms.{◌ends◌, all, later, end_length, end_trans, end_same, move, beside_same, beside_nowhere, Read, Exact, seq_all, SeqS, SeqB, seq, in_first, in_second}
+use Rattle.ckc_parser_grammar.proofs.Forms.{◌ends◌, all, later, end_length, end_trans, end_same, move, beside_same, Read, Exact, seq_all, SeqS, SeqB, seq, in_first, in_second}
+use Rattle.ckc_parser_grammar.proofs.Paths.{beside_nowhere}
 use Rattle.ckc_parser_grammar.proofs.Failing as failing
 use Rattle.ckc_parser_grammar.proofs.Failing.{Fails, fails_first, fails_second}
 use Rattle.ckc_parser_grammar.proofs.MoreForms.{fails_past}

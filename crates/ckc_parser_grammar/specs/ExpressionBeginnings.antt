@@ -3,6 +3,7 @@ use Rattle.std.specs.Prelude.{◌≡◌, ℕ, zero, suc, List, ◌∷◌, codes,
 use Rattle.ckc_text.specs.declared.place.Span.{Span}
 use Rattle.ckc_lexer_tokens.specs.declared.token.Token.{Token}
 use Rattle.ckc_lexer_tokens.specs.declared.token.TokenKind.{TokenKind}
+use Rattle.ckc_lexer_tokens.specs.declared.keyword.Keyword.TheVariants as keywords
 use Rattle.ckc_lexer_tokens.specs.declared.token.TokenKind.TheVariants as kinds
 use Rattle.ckc_tree.specs.declared.expr.UnaryOperator.{UnaryOperator}
 use Rattle.ckc_tree.specs.declared.expr.BinaryOperator.{BinaryOperator}
@@ -13,7 +14,7 @@ use Rattle.ckc_tree.specs.declared.expr.CallocWord.{CallocWord}
 use Rattle.ckc_tree.specs.Types.{TypeName}
 use Rattle.ckc_tree.specs.Expressions.{Expression, Index, Dot, Arrow, Binary, Bounds}
 use Rattle.ckc_tree.specs.Heights.{Reach, nowhere, node, around, ◌beside◌, type_reach, expression_reach, bounds_reach}
-use Rattle.ckc_parser_grammar.specs.Tokens.{token, join, identifier, IsUnaryOperator, IsCastWord, IsMallocWord, IsCallocWord, operator_at, level}
+use Rattle.ckc_parser_grammar.specs.Tokens.{token, join, identifier, unary_operator_of, cast_word_of, malloc_word_of, calloc_word_of, operator_at, level}
 use Rattle.ckc_parser_grammar.specs.TypeGrammar.{SpellsTypeName, SpellsAngled}
 use Rattle.ckc_parser_grammar.specs.ExpressionGrammar.{SpellsBinary, SpellsPrimary, SpellsBounds}
 use Rattle.ckc_parser_grammar.specs.TypeBeginnings.{BeginsTypeName, BeginsAngled}
@@ -38,7 +39,7 @@ mutual
         → BeginsTail n (Binary binary_operator left right (join o p)) (join o p) mid rest r → BeginsTail n left o ts rest r
 
   pub data BeginsUnary : List Token → List Token → Reach → Type 0 where
-    operator : {k : TokenKind} {s : Span} {ts rest : List Token} {unary_operator : UnaryOperator} {r : Reach} → IsUnaryOperator k unary_operator
+    operator : {k : TokenKind} {s : Span} {ts rest : List Token} {unary_operator : UnaryOperator} {r : Reach} → unary_operator_of k ≡ Some unary_operator
         → BeginsUnary ts rest r → BeginsUnary (token k s ∷ ts) rest (around s.from r)
     primary : {ts rest : List Token} {r : Reach} → BeginsPrimary ts rest r → BeginsUnary ts rest r
     selectors : {o : Span} {ts mid rest : List Token} {e : Expression} {r : Reach} → SpellsPrimary ts e o mid → BeginsSelectors e o mid rest r
@@ -70,41 +71,41 @@ mutual
     inside : {s : Span} {ts rest : List Token} {r : Reach} → BeginsBinary 10 ts rest r → BeginsPrimary (token kinds.OpenParen s ∷ ts) rest r
     parentheses : {s t o : Span} {ts rest : List Token} {e : Expression} → SpellsBinary 10 ts e o (token kinds.CloseParen t ∷ rest)
         → BeginsPrimary (token kinds.OpenParen s ∷ ts) rest (expression_reach e)
-    size_of_word : {s : Span} {rest : List Token} → BeginsPrimary (token kinds.Sizeof s ∷ rest) rest (node s.from)
+    size_of_word : {s : Span} {rest : List Token} → BeginsPrimary (token (kinds.Keyword keywords.Sizeof) s ∷ rest) rest (node s.from)
     size_of_type : {s p : Span} {ts rest : List Token} {r : Reach} → BeginsTypeName ts rest r
-        → BeginsPrimary (token kinds.Sizeof s ∷ token kinds.OpenParen p ∷ ts) rest (around s.from r)
+        → BeginsPrimary (token (kinds.Keyword keywords.Sizeof) s ∷ token kinds.OpenParen p ∷ ts) rest (around s.from r)
     size_of : {s t p : Span} {ts rest : List Token} {type : TypeName} → SpellsTypeName ts type (token kinds.CloseParen t ∷ rest)
-        → BeginsPrimary (token kinds.Sizeof s ∷ token kinds.OpenParen p ∷ ts) rest (around s.from (type_reach type.base))
-    cast_type : {k : TokenKind} {s : Span} {ts rest : List Token} {cast : CastWord} {r : Reach} → IsCastWord k cast → BeginsAngled ts rest r
+        → BeginsPrimary (token (kinds.Keyword keywords.Sizeof) s ∷ token kinds.OpenParen p ∷ ts) rest (around s.from (type_reach type.base))
+    cast_type : {k : TokenKind} {s : Span} {ts rest : List Token} {cast : CastWord} {r : Reach} → cast_word_of k ≡ Some cast → BeginsAngled ts rest r
         → BeginsPrimary (token k s ∷ ts) rest (around s.from r)
-    cast_operand : {k : TokenKind} {s : Span} {ts us rest : List Token} {type : TypeName} {cast : CastWord} {r : Reach} → IsCastWord k cast
+    cast_operand : {k : TokenKind} {s : Span} {ts us rest : List Token} {type : TypeName} {cast : CastWord} {r : Reach} → cast_word_of k ≡ Some cast
         → SpellsAngled ts type us → BeginsBinary 10 us rest r → BeginsPrimary (token k s ∷ ts) rest (around s.from (type_reach type.base beside r))
-    cast : {k : TokenKind} {s t o : Span} {ts us rest : List Token} {e : Expression} {type : TypeName} {cast : CastWord} → IsCastWord k cast
+    cast : {k : TokenKind} {s t o : Span} {ts us rest : List Token} {e : Expression} {type : TypeName} {cast : CastWord} → cast_word_of k ≡ Some cast
         → SpellsAngled ts type us → SpellsBinary 10 us e o (token kinds.CloseParen t ∷ rest)
         → BeginsPrimary (token k s ∷ ts) rest (around s.from (type_reach type.base beside expression_reach e))
     cast_bounds : {k : TokenKind} {s p o : Span} {ts us vs rest : List Token} {e : Expression} {type : TypeName} {cast : CastWord} {r : Reach}
-        → IsCastWord k cast → SpellsAngled ts type us → SpellsBinary 10 us e o (token kinds.Comma p ∷ vs) → BeginsBounds vs rest r
+        → cast_word_of k ≡ Some cast → SpellsAngled ts type us → SpellsBinary 10 us e o (token kinds.Comma p ∷ vs) → BeginsBounds vs rest r
         → BeginsPrimary (token k s ∷ ts) rest (around s.from (type_reach type.base beside expression_reach e beside r))
     bounded_cast : {k : TokenKind} {s t p o w : Span} {ts us vs rest : List Token} {e : Expression} {bounds : Bounds} {type : TypeName} {cast : CastWord}
-        → IsCastWord k cast → SpellsAngled ts type us → SpellsBinary 10 us e o (token kinds.Comma p ∷ vs)
+        → cast_word_of k ≡ Some cast → SpellsAngled ts type us → SpellsBinary 10 us e o (token kinds.Comma p ∷ vs)
         → SpellsBounds vs bounds w (token kinds.CloseParen t ∷ rest) → BeginsPrimary (token k s
         ∷ ts) rest (around s.from (type_reach type.base beside expression_reach e beside bounds_reach bounds))
-    malloc_type : {k : TokenKind} {s : Span} {ts rest : List Token} {malloc_word : MallocWord} {r : Reach} → IsMallocWord k malloc_word
+    malloc_type : {k : TokenKind} {s : Span} {ts rest : List Token} {malloc_word : MallocWord} {r : Reach} → malloc_word_of k ≡ Some malloc_word
         → BeginsAngled ts rest r → BeginsPrimary (token k s ∷ ts) rest (around s.from r)
-    malloc_size : {k : TokenKind} {s : Span} {ts us rest : List Token} {type : TypeName} {malloc_word : MallocWord} {r : Reach} → IsMallocWord k malloc_word
+    malloc_size : {k : TokenKind} {s : Span} {ts us rest : List Token} {type : TypeName} {malloc_word : MallocWord} {r : Reach} → malloc_word_of k ≡ Some malloc_word
         → SpellsAngled ts type us → BeginsBinary 10 us rest r → BeginsPrimary (token k s ∷ ts) rest (around s.from (type_reach type.base beside r))
     malloc : {k : TokenKind} {s t o : Span} {ts us rest : List Token} {size : Expression} {type : TypeName} {malloc_word : MallocWord}
-        → IsMallocWord k malloc_word → SpellsAngled ts type us → SpellsBinary 10 us size o (token kinds.CloseParen t ∷ rest)
+        → malloc_word_of k ≡ Some malloc_word → SpellsAngled ts type us → SpellsBinary 10 us size o (token kinds.CloseParen t ∷ rest)
         → BeginsPrimary (token k s ∷ ts) rest (around s.from (type_reach type.base beside expression_reach size))
-    calloc_type : {k : TokenKind} {s : Span} {ts rest : List Token} {calloc_word : CallocWord} {r : Reach} → IsCallocWord k calloc_word
+    calloc_type : {k : TokenKind} {s : Span} {ts rest : List Token} {calloc_word : CallocWord} {r : Reach} → calloc_word_of k ≡ Some calloc_word
         → BeginsAngled ts rest r → BeginsPrimary (token k s ∷ ts) rest (around s.from r)
-    calloc_count : {k : TokenKind} {s : Span} {ts us rest : List Token} {type : TypeName} {calloc_word : CallocWord} {r : Reach} → IsCallocWord k calloc_word
+    calloc_count : {k : TokenKind} {s : Span} {ts us rest : List Token} {type : TypeName} {calloc_word : CallocWord} {r : Reach} → calloc_word_of k ≡ Some calloc_word
         → SpellsAngled ts type us → BeginsBinary 10 us rest r → BeginsPrimary (token k s ∷ ts) rest (around s.from (type_reach type.base beside r))
     calloc_size : {k : TokenKind} {s p o : Span} {ts us vs rest : List Token} {count : Expression} {type : TypeName} {calloc_word : CallocWord} {r : Reach}
-        → IsCallocWord k calloc_word → SpellsAngled ts type us → SpellsBinary 10 us count o (token kinds.Comma p ∷ vs) → BeginsBinary 10 vs rest r
+        → calloc_word_of k ≡ Some calloc_word → SpellsAngled ts type us → SpellsBinary 10 us count o (token kinds.Comma p ∷ vs) → BeginsBinary 10 vs rest r
         → BeginsPrimary (token k s ∷ ts) rest (around s.from (type_reach type.base beside expression_reach count beside r))
     calloc : {k : TokenKind} {s t p o w : Span} {ts us vs rest : List Token} {size count : Expression} {type : TypeName} {calloc_word : CallocWord}
-        → IsCallocWord k calloc_word → SpellsAngled ts type us → SpellsBinary 10 us count o (token kinds.Comma p ∷ vs)
+        → calloc_word_of k ≡ Some calloc_word → SpellsAngled ts type us → SpellsBinary 10 us count o (token kinds.Comma p ∷ vs)
         → SpellsBinary 10 vs size w (token kinds.CloseParen t ∷ rest) → BeginsPrimary (token k s
         ∷ ts) rest (around s.from (type_reach type.base beside expression_reach count beside expression_reach size))
 

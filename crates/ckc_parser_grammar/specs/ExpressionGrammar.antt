@@ -16,6 +16,7 @@ use Rattle.std.specs.Prelude.{◌≡◌, ℕ, zero, suc, false, List, ◌∷◌,
 use Rattle.ckc_text.specs.declared.place.Span.{Span}
 use Rattle.ckc_lexer_tokens.specs.declared.token.Token.{Token}
 use Rattle.ckc_lexer_tokens.specs.declared.token.TokenKind.{TokenKind}
+use Rattle.ckc_lexer_tokens.specs.declared.keyword.Keyword.TheVariants as keywords
 use Rattle.ckc_lexer_tokens.specs.declared.token.TokenKind.TheVariants as kinds
 use Rattle.ckc_tree.specs.declared.expr.UnaryOperator.{UnaryOperator}
 use Rattle.ckc_tree.specs.declared.expr.BinaryOperator.{BinaryOperator}
@@ -25,7 +26,7 @@ use Rattle.ckc_tree.specs.declared.expr.CallocWord.{CallocWord}
 use Rattle.ckc_tree.specs.Types.{TypeName}
 use Rattle.ckc_tree.specs.Expressions.{Expression, Expressions, NoMore, Then, Number, Character, Text, Name, Call, SizeOf, Cast, BoundedCast}
 use Rattle.ckc_tree.specs.Expressions.{Malloc, Calloc, Index, Dot, Arrow, Unary, Binary, Bounds, Count, ByteCount, Unknown, Range}
-use Rattle.ckc_parser_grammar.specs.Tokens.{token, join, identifier, IsUnaryOperator, IsCastWord, IsMallocWord, IsCallocWord, operator_at, level}
+use Rattle.ckc_parser_grammar.specs.Tokens.{token, join, identifier, unary_operator_of, cast_word_of, malloc_word_of, calloc_word_of, operator_at, level}
 use Rattle.ckc_parser_grammar.specs.Tokens.{has_operator, next_is, open_paren, selector}
 use Rattle.ckc_parser_grammar.specs.TypeGrammar.{SpellsTypeName, SpellsAngled}
 
@@ -45,7 +46,7 @@ mutual
         → SpellsTail n (Binary binary_operator left right (join o p)) (join o p) mid whole w rest → SpellsTail n left o ts whole w rest
 
   pub data SpellsUnary : List Token → Expression → Span → List Token → Type 0 where
-    operator : {k : TokenKind} {s o : Span} {ts rest : List Token} {e : Expression} {unary_operator : UnaryOperator} → IsUnaryOperator k unary_operator
+    operator : {k : TokenKind} {s o : Span} {ts rest : List Token} {e : Expression} {unary_operator : UnaryOperator} → unary_operator_of k ≡ Some unary_operator
         → SpellsUnary ts e o rest → SpellsUnary (token k s ∷ ts) (Unary unary_operator e (join s o)) (join s o) rest
     postfix : {o w : Span} {ts mid rest : List Token} {e whole : Expression} → SpellsPrimary ts e o mid → SpellsSelectors e o mid whole w rest
         → SpellsUnary ts whole w rest
@@ -73,19 +74,19 @@ mutual
     parentheses : {s t o : Span} {ts rest : List Token} {e : Expression} → SpellsBinary 10 ts e o (token kinds.CloseParen t ∷ rest)
         → SpellsPrimary (token kinds.OpenParen s ∷ ts) e (join s t) rest
     size_of : {s t p : Span} {ts rest : List Token} {type : TypeName} → SpellsTypeName ts type (token kinds.CloseParen t ∷ rest)
-        → SpellsPrimary (token kinds.Sizeof s ∷ token kinds.OpenParen p ∷ ts) (SizeOf type (join s t)) (join s t) rest
-    cast : {k : TokenKind} {s t o : Span} {ts us rest : List Token} {e : Expression} {type : TypeName} {cast : CastWord} → IsCastWord k cast
+        → SpellsPrimary (token (kinds.Keyword keywords.Sizeof) s ∷ token kinds.OpenParen p ∷ ts) (SizeOf type (join s t)) (join s t) rest
+    cast : {k : TokenKind} {s t o : Span} {ts us rest : List Token} {e : Expression} {type : TypeName} {cast : CastWord} → cast_word_of k ≡ Some cast
         → SpellsAngled ts type us → SpellsBinary 10 us e o (token kinds.CloseParen t ∷ rest)
         → SpellsPrimary (token k s ∷ ts) (Cast cast type e (join s t)) (join s t) rest
     bounded_cast : {k : TokenKind} {s t p o w : Span} {ts us vs rest : List Token} {e : Expression} {bounds : Bounds} {type : TypeName} {cast : CastWord}
-        → IsCastWord k cast → SpellsAngled ts type us → SpellsBinary 10 us e o (token kinds.Comma p ∷ vs)
+        → cast_word_of k ≡ Some cast → SpellsAngled ts type us → SpellsBinary 10 us e o (token kinds.Comma p ∷ vs)
         → SpellsBounds vs bounds w (token kinds.CloseParen t ∷ rest) → SpellsPrimary (token k s
         ∷ ts) (BoundedCast cast type e bounds (join s t)) (join s t) rest
     malloc : {k : TokenKind} {s t o : Span} {ts us rest : List Token} {e : Expression} {type : TypeName} {malloc_word : MallocWord}
-        → IsMallocWord k malloc_word → SpellsAngled ts type us → SpellsBinary 10 us e o (token kinds.CloseParen t ∷ rest)
+        → malloc_word_of k ≡ Some malloc_word → SpellsAngled ts type us → SpellsBinary 10 us e o (token kinds.CloseParen t ∷ rest)
         → SpellsPrimary (token k s ∷ ts) (Malloc malloc_word type e (join s t)) (join s t) rest
     calloc : {k : TokenKind} {s t p o w : Span} {ts us vs rest : List Token} {size count : Expression} {type : TypeName} {calloc_word : CallocWord}
-        → IsCallocWord k calloc_word → SpellsAngled ts type us → SpellsBinary 10 us count o (token kinds.Comma p ∷ vs)
+        → calloc_word_of k ≡ Some calloc_word → SpellsAngled ts type us → SpellsBinary 10 us count o (token kinds.Comma p ∷ vs)
         → SpellsBinary 10 vs size w (token kinds.CloseParen t ∷ rest) → SpellsPrimary (token k s
         ∷ ts) (Calloc calloc_word type count size (join s t)) (join s t) rest
 

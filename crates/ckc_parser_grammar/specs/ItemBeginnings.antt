@@ -1,8 +1,9 @@
 -- Which tokens begin a whole source, and the nodes that they have put.
-use Rattle.std.specs.Prelude.{ℕ, Bool, List, ◌∷◌, Option}
+use Rattle.std.specs.Prelude.{◌≡◌, ℕ, Bool, List, ◌∷◌, Option, Some}
 use Rattle.ckc_text.specs.declared.place.Span.{Span}
 use Rattle.ckc_lexer_tokens.specs.declared.token.Token.{Token}
 use Rattle.ckc_lexer_tokens.specs.declared.token.TokenKind.{TokenKind}
+use Rattle.ckc_lexer_tokens.specs.declared.keyword.Keyword.TheVariants as keywords
 use Rattle.ckc_lexer_tokens.specs.declared.token.TokenKind.TheVariants as kinds
 use Rattle.ckc_lexer_tokens.specs.declared.token.CheckedScope.{CheckedScope}
 use Rattle.ckc_tree.specs.declared.identifier.Identifier.{Identifier}
@@ -14,7 +15,7 @@ use Rattle.ckc_tree.specs.Statements.{Declarator}
 use Rattle.ckc_tree.specs.Items.{Member, ResultForm, Parameters, Item}
 use Rattle.ckc_tree.specs.Heights.{Reach, nowhere, node, around, ◌beside◌, type_reach, optional_bounds_reach, declarators_reach, members_reach}
 use Rattle.ckc_tree.specs.Heights.{result_reach, parameters_reach, item_reach}
-use Rattle.ckc_parser_grammar.specs.Tokens.{token, start_of, from_first, IsMark}
+use Rattle.ckc_parser_grammar.specs.Tokens.{token, start_of, from_first, mark_of}
 use Rattle.ckc_parser_grammar.specs.TypeGrammar.{SpellsStars, SpellsType, SpellsTypeName}
 use Rattle.ckc_parser_grammar.specs.StatementGrammar.{SpellsOptionalBounds, SpellsDeclarators}
 use Rattle.ckc_parser_grammar.specs.ItemGrammar.{SpellsTainted, SpellsKind, SpellsOptionalMark, SpellsMember, SpellsMembers, SpellsResult}
@@ -44,27 +45,27 @@ pub data BeginsListed : List Token → List Token → Reach → Type 0 where
 
 -- the parenthesis behind the parameters is read where the next part begins
 pub data BeginsParameters : List Token → List Token → Reach → Type 0 where
-  void : {s : Span} {rest : List Token} → BeginsParameters (token kinds.Void s ∷ rest) rest nowhere
+  void : {s : Span} {rest : List Token} → BeginsParameters (token (kinds.Keyword keywords.Void) s ∷ rest) rest nowhere
   listed : {ts rest : List Token} {r : Reach} → BeginsListed ts rest r → BeginsParameters ts rest r
 
 pub data BeginsBody : List Token → List Token → Reach → Type 0 where
   nothing : {ts : List Token} → BeginsBody ts ts nowhere
   absent : {t : Span} {rest : List Token} → BeginsBody (token kinds.Semicolon t ∷ rest) rest nowhere
-  mark : {k : TokenKind} {s : Span} {rest : List Token} {mark : Mark} → IsMark k mark → BeginsBody (token k s ∷ rest) rest (node s.from)
+  mark : {k : TokenKind} {s : Span} {rest : List Token} {mark : Mark} → mark_of k ≡ Some mark → BeginsBody (token k s ∷ rest) rest (node s.from)
   statements : {s : Span} {ts us rest : List Token} {optional_mark : Option Mark} {r : Reach}
       → SpellsOptionalMark ts optional_mark (token kinds.OpenBrace s ∷ us) → BeginsStatements us rest r → BeginsBody ts rest (around (start_of ts) r)
 
 pub data BeginsItem : List Token → List Token → Reach → Type 0 where
   region : {s : Span} {rest : List Token} {scope : CheckedScope} → BeginsItem (token (kinds.Scope scope) s ∷ rest) rest nowhere
-  struct_word : {s : Span} {rest tokens : List Token} {tainted : Bool} → SpellsTainted tokens tainted (token kinds.Struct s ∷ rest)
+  struct_word : {s : Span} {rest tokens : List Token} {tainted : Bool} → SpellsTainted tokens tainted (token (kinds.Keyword keywords.Struct) s ∷ rest)
       → BeginsItem tokens rest nowhere
   struct_tag : {x : List ℕ} {s t : Span} {rest tokens : List Token} {tainted : Bool}
-      → SpellsTainted tokens tainted (token kinds.Struct s ∷ token (kinds.Name x) t ∷ rest) → BeginsItem tokens rest nowhere
+      → SpellsTainted tokens tainted (token (kinds.Keyword keywords.Struct) s ∷ token (kinds.Name x) t ∷ rest) → BeginsItem tokens rest nowhere
   struct_members : {x : List ℕ} {s t p : Span} {ts rest tokens : List Token} {tainted : Bool} {r : Reach}
-      → SpellsTainted tokens tainted (token kinds.Struct s ∷ token (kinds.Name x) t ∷ token kinds.OpenBrace p ∷ ts) → BeginsMembers ts rest r
+      → SpellsTainted tokens tainted (token (kinds.Keyword keywords.Struct) s ∷ token (kinds.Name x) t ∷ token kinds.OpenBrace p ∷ ts) → BeginsMembers ts rest r
       → BeginsItem tokens rest r
   structure : {x : List ℕ} {s t p q : Span} {ts rest tokens : List Token} {tainted : Bool} {members : List Member}
-      → SpellsTainted tokens tainted (token kinds.Struct s ∷ token (kinds.Name x) t ∷ token kinds.OpenBrace p ∷ ts)
+      → SpellsTainted tokens tainted (token (kinds.Keyword keywords.Struct) s ∷ token (kinds.Name x) t ∷ token kinds.OpenBrace p ∷ ts)
       → SpellsMembers ts members (token kinds.Semicolon q ∷ rest) → BeginsItem tokens rest (members_reach members)
   global_type : {ts rest tokens : List Token} {tainted : Bool} {r : Reach} → SpellsTainted tokens tainted ts → BeginsType ts rest r → BeginsItem tokens rest r
   global_declarators : {ts us rest tokens : List Token} {base : TypeTree} {tainted : Bool} {r : Reach} → SpellsTainted tokens tainted ts
@@ -74,9 +75,9 @@ pub data BeginsItem : List Token → List Token → Reach → Type 0 where
       → BeginsItem tokens rest (type_reach base beside declarators_reach declarators)
   function_word : {rest tokens : List Token} {function_kind : FunctionKind} → SpellsKind tokens function_kind rest → BeginsItem tokens rest nowhere
   function_mark : {k : TokenKind} {s : Span} {rest tokens : List Token} {mark : Mark} {function_kind : FunctionKind}
-      → SpellsKind tokens function_kind (token k s ∷ rest) → IsMark k mark → BeginsItem tokens rest nowhere
+      → SpellsKind tokens function_kind (token k s ∷ rest) → mark_of k ≡ Some mark → BeginsItem tokens rest nowhere
   function_void : {s : Span} {ts rest tokens : List Token} {optional_mark : Option Mark} {function_kind : FunctionKind} → SpellsKind tokens function_kind ts
-      → SpellsOptionalMark ts optional_mark (token kinds.Void s ∷ rest) → BeginsItem tokens rest nowhere
+      → SpellsOptionalMark ts optional_mark (token (kinds.Keyword keywords.Void) s ∷ rest) → BeginsItem tokens rest nowhere
   function_type : {ts us rest tokens : List Token} {optional_mark : Option Mark} {function_kind : FunctionKind} {r : Reach}
       → SpellsKind tokens function_kind ts → SpellsOptionalMark ts optional_mark us → BeginsType us rest r → BeginsItem tokens rest r
   function_stars : {ts us vs rest tokens : List Token} {optional_mark : Option Mark} {result : ResultForm} {function_kind : FunctionKind}

@@ -15,6 +15,7 @@ use Rattle.ckc_lexer_tokens.specs.declared.token.CheckedScope.{CheckedScope}
 use Rattle.ckc_lexer_tokens.specs.declared.token.CheckedScope.TheVariants as scopes
 use Rattle.ckc_lexer_tokens.specs.declared.token.Token.{Token}
 use Rattle.ckc_lexer_tokens.specs.declared.token.TokenKind.{TokenKind}
+use Rattle.ckc_lexer_tokens.specs.declared.keyword.Keyword.TheVariants as keywords
 use Rattle.ckc_lexer_tokens.specs.declared.token.TokenKind.TheVariants as kinds
 use Rattle.ckc_tree.specs.declared.identifier.Identifier.{Identifier}
 use Rattle.ckc_tree.specs.declared.stmt.Mark.{Mark}
@@ -27,7 +28,7 @@ use Rattle.ckc_tree.specs.Expressions.{Bounds}
 use Rattle.ckc_tree.specs.Statements.{Statements, Declarator}
 use Rattle.ckc_tree.specs.Items.{Member, ResultForm, Void, Value, Parameters, Nothing, VoidAlone, Listed, Body, Item, RegionItem, StructureItem}
 use Rattle.ckc_tree.specs.Items.{GlobalItem, FunctionItem, Tree}
-use Rattle.ckc_parser_grammar.specs.Tokens.{token, join, identifier, from_first, IsMark, next_is, mark_word, kind_word, tainted_word}
+use Rattle.ckc_parser_grammar.specs.Tokens.{token, join, identifier, from_first, mark_of, next_is, mark_word, kind_word, tainted_word}
 use Rattle.ckc_parser_grammar.specs.TypeGrammar.{SpellsStars, SpellsType, SpellsTypeName}
 use Rattle.ckc_parser_grammar.specs.StatementGrammar.{SpellsOptionalBounds, SpellsDeclarators, SpellsStatements}
 
@@ -35,16 +36,16 @@ use Rattle.ckc_parser_grammar.specs.StatementGrammar.{SpellsOptionalBounds, Spel
 
 pub data SpellsTainted : List Token → Bool → List Token → Type 0 where
   absent : {rest : List Token} → next_is tainted_word rest ≡ false → SpellsTainted rest false rest
-  present : {s : Span} {rest : List Token} → SpellsTainted (token kinds.Tainted s ∷ rest) true rest
+  present : {s : Span} {rest : List Token} → SpellsTainted (token (kinds.Keyword keywords.Tainted) s ∷ rest) true rest
 
 pub data SpellsKind : List Token → FunctionKind → List Token → Type 0 where
   trusted : {rest : List Token} → next_is kind_word rest ≡ false → SpellsKind rest Trusted rest
-  tainted : {s : Span} {rest : List Token} → SpellsKind (token kinds.Tainted s ∷ rest) Tainted rest
-  callback : {s : Span} {rest : List Token} → SpellsKind (token kinds.Callback s ∷ rest) Callback rest
+  tainted : {s : Span} {rest : List Token} → SpellsKind (token (kinds.Keyword keywords.Tainted) s ∷ rest) Tainted rest
+  callback : {s : Span} {rest : List Token} → SpellsKind (token (kinds.Keyword keywords.Callback) s ∷ rest) Callback rest
 
 pub data SpellsOptionalMark : List Token → Option Mark → List Token → Type 0 where
   absent : {rest : List Token} → next_is mark_word rest ≡ false → SpellsOptionalMark rest None rest
-  present : {k : TokenKind} {s : Span} {rest : List Token} {mark : Mark} → IsMark k mark → SpellsOptionalMark (token k s ∷ rest) (Some mark) rest
+  present : {k : TokenKind} {s : Span} {rest : List Token} {mark : Mark} → mark_of k ≡ Some mark → SpellsOptionalMark (token k s ∷ rest) (Some mark) rest
 
 -- ---- structures
 
@@ -68,7 +69,7 @@ pub data SpellsMembers : List Token → List Member → List Token → Type 0 wh
 -- ---- functions
 
 pub data SpellsResult : List Token → ResultForm → List Token → Type 0 where
-  void : {s : Span} {rest : List Token} → SpellsResult (token kinds.Void s ∷ rest) (Void s) rest
+  void : {s : Span} {rest : List Token} → SpellsResult (token (kinds.Keyword keywords.Void) s ∷ rest) (Void s) rest
   value : {ts rest : List Token} {base : TypeTree} → SpellsType ts base rest → SpellsResult ts (Value base) rest
 
 -- at least one parameter, and the parenthesis behind them
@@ -83,7 +84,7 @@ pub data SpellsListed : List Token → List Member → Span → List Token → T
 -- the parameters and the parenthesis behind them
 pub data SpellsParameters : List Token → Parameters → Span → List Token → Type 0 where
   nothing : {t : Span} {rest : List Token} → SpellsParameters (token kinds.CloseParen t ∷ rest) Nothing t rest
-  void : {s t : Span} {rest : List Token} → SpellsParameters (token kinds.Void s ∷ token kinds.CloseParen t ∷ rest) VoidAlone t rest
+  void : {s t : Span} {rest : List Token} → SpellsParameters (token (kinds.Keyword keywords.Void) s ∷ token kinds.CloseParen t ∷ rest) VoidAlone t rest
   listed : {t : Span} {ts rest : List Token} {members : List Member} → SpellsListed ts members t rest → SpellsParameters ts (Listed members) t rest
 
 -- what ends a function: a semicolon, or a body; the span is that of the semicolon or the body
@@ -103,7 +104,7 @@ pub data SpellsItem : List Token → Item → List Token → Type 0 where
   region : {s : Span} {rest : List Token} {region : Region} {scope : CheckedScope} → SpellsRegion scope region
       → SpellsItem (token (kinds.Scope scope) s ∷ rest) (RegionItem region s) rest
   structure : {x : List ℕ} {s t p q : Span} {ts rest tokens : List Token} {tainted : Bool} {members : List Member}
-      → SpellsTainted tokens tainted (token kinds.Struct s ∷ token (kinds.Name x) t ∷ token kinds.OpenBrace p ∷ ts)
+      → SpellsTainted tokens tainted (token (kinds.Keyword keywords.Struct) s ∷ token (kinds.Name x) t ∷ token kinds.OpenBrace p ∷ ts)
       → SpellsMembers ts members (token kinds.Semicolon q ∷ rest)
       → SpellsItem tokens (StructureItem (record { tainted = tainted; tag = identifier x t; members = members; span = from_first tokens q })) rest
   global : {q w : Span} {ts us rest tokens : List Token} {base : TypeTree} {tainted : Bool} {declarators : List Declarator} → SpellsTainted tokens tainted ts

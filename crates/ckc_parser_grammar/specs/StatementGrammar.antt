@@ -17,12 +17,12 @@ use Rattle.std.specs.Prelude.{◌≡◌, ℕ, true, false, List, [], ◌∷◌, 
 use Rattle.ckc_text.specs.declared.place.Span.{Span}
 use Rattle.ckc_lexer_tokens.specs.declared.token.Token.{Token}
 use Rattle.ckc_lexer_tokens.specs.declared.token.TokenKind.{TokenKind}
+use Rattle.ckc_lexer_tokens.specs.declared.keyword.Keyword.TheVariants as keywords
 use Rattle.ckc_lexer_tokens.specs.declared.token.TokenKind.TheVariants as kinds
 use Rattle.ckc_tree.specs.declared.stmt.Mark.{Mark}
 use Rattle.ckc_tree.specs.declared.stmt.ArrayForm.{ArrayForm}
 use Rattle.ckc_tree.specs.declared.stmt.ArrayKind.{ArrayKind}
 use Rattle.ckc_tree.specs.declared.stmt.Constant.{Constant}
-use Rattle.ckc_tree.specs.declared.stmt.Constant.TheVariants as constant_of
 use Rattle.ckc_tree.specs.declared.stmt.SignedConstant.{SignedConstant}
 use Rattle.ckc_tree.specs.declared.stmt.StoreOperator.{StoreOperator}
 use Rattle.ckc_tree.specs.declared.stmt.StepOperator.{StepOperator}
@@ -32,7 +32,7 @@ use Rattle.ckc_tree.specs.Expressions.{Expression, Bounds}
 use Rattle.ckc_tree.specs.Statements.{Initializer, Value, Constants, Declarator, Declaration, Assignment, assignment_span, Store, Step, ForInitial}
 use Rattle.ckc_tree.specs.Statements.{Nothing, Declares, Assigns, Statement, statement_span, Block, Bundle, Declare, Assign, CallAlone, Empty, If}
 use Rattle.ckc_tree.specs.Statements.{IfElse, While, For, Return, Break, Continue, Statements, NoMore, Then}
-use Rattle.ckc_parser_grammar.specs.Tokens.{token, join, identifier, from_first, IsMark, IsArrayWord, IsStoreOperator, IsStepOperator, next_is}
+use Rattle.ckc_parser_grammar.specs.Tokens.{token, join, identifier, from_first, mark_of, array_kind_of, constant_of, store_operator_of, step_operator_of, next_is}
 use Rattle.ckc_parser_grammar.specs.Tokens.{colon, equal, comma, array_word, else_word}
 use Rattle.ckc_parser_grammar.specs.TypeGrammar.{SpellsStars, SpellsType}
 use Rattle.ckc_parser_grammar.specs.ExpressionGrammar.{SpellsUnary, SpellsCall, SpellsBounds, SpellsExpression}
@@ -47,18 +47,14 @@ pub data SpellsOptionalBounds : Span → List Token → Option Bounds → Span �
 
 pub data SpellsOptionalArray : Span → List Token → Option ArrayForm → Span → List Token → Type 0 where
   absent : {o : Span} {rest : List Token} → next_is array_word rest ≡ false → SpellsOptionalArray o rest None o rest
-  present : {n : ℕ} {k : TokenKind} {s t p q o : Span} {rest : List Token} {kind : ArrayKind} → IsArrayWord k kind
+  present : {n : ℕ} {k : TokenKind} {s t p q o : Span} {rest : List Token} {kind : ArrayKind} → array_kind_of k ≡ Some kind
       → SpellsOptionalArray o (token k s ∷ token kinds.OpenBracket p ∷ token (kinds.Number n) q ∷ token kinds.CloseBracket t
       ∷ rest) (Some (record { kind = kind; length = n; span = join s t })) (join o t) rest
 
-pub data SpellsConstant : TokenKind → Constant → Type 0 where
-  number : {n : ℕ} → SpellsConstant (kinds.Number n) (constant_of.Number n)
-  character : {n : ℕ} → SpellsConstant (kinds.Character n) (constant_of.Character n)
-
 pub data SpellsSigned : List Token → SignedConstant → List Token → Type 0 where
-  plain : {k : TokenKind} {s : Span} {rest : List Token} {value_of : Constant} → SpellsConstant k value_of
+  plain : {k : TokenKind} {s : Span} {rest : List Token} {value_of : Constant} → constant_of k ≡ Some value_of
       → SpellsSigned (token k s ∷ rest) (record { negative = false; constant = value_of; span = s }) rest
-  minus : {k : TokenKind} {s t : Span} {rest : List Token} {value_of : Constant} → SpellsConstant k value_of
+  minus : {k : TokenKind} {s t : Span} {rest : List Token} {value_of : Constant} → constant_of k ≡ Some value_of
       → SpellsSigned (token kinds.Minus s ∷ token k t ∷ rest) (record { negative = true; constant = value_of; span = join s t }) rest
 
 -- at least one constant, and the brace behind them
@@ -97,11 +93,11 @@ pub data SpellsDeclaration : List Token → Declaration → List Token → Type 
 
 pub data SpellsAssignment : List Token → Assignment → List Token → Type 0 where
   store : {k : TokenKind} {s o w : Span} {ts us rest : List Token} {e target : Expression} {store_operator : StoreOperator}
-      → SpellsUnary ts target o (token k s ∷ us) → IsStoreOperator k store_operator → SpellsExpression us e w rest
+      → SpellsUnary ts target o (token k s ∷ us) → store_operator_of k ≡ Some store_operator → SpellsExpression us e w rest
       → SpellsAssignment ts (Store store_operator target e (join o w)) rest
   after : {k : TokenKind} {s o : Span} {ts rest : List Token} {target : Expression} {step_operator : StepOperator} → SpellsUnary ts target o (token k s ∷ rest)
-      → IsStepOperator k step_operator → SpellsAssignment ts (Step step_operator After target (join o s)) rest
-  before : {k : TokenKind} {s o : Span} {ts rest : List Token} {target : Expression} {step_operator : StepOperator} → IsStepOperator k step_operator
+      → step_operator_of k ≡ Some step_operator → SpellsAssignment ts (Step step_operator After target (join o s)) rest
+  before : {k : TokenKind} {s o : Span} {ts rest : List Token} {target : Expression} {step_operator : StepOperator} → step_operator_of k ≡ Some step_operator
       → SpellsUnary ts target o rest → SpellsAssignment (token k s ∷ ts) (Step step_operator Before target (join s o)) rest
 
 -- assignments with a semicolon behind each, and the brace behind them
@@ -136,10 +132,10 @@ mutual
   pub data SpellsStatement : List Token → Statement → List Token → Type 0 where
     block : {s t : Span} {ts rest : List Token} {statements : Statements} → SpellsStatements ts statements t rest
         → SpellsStatement (token kinds.OpenBrace s ∷ ts) (Block None statements (join s t)) rest
-    marked_block : {k : TokenKind} {s t p : Span} {ts rest : List Token} {statements : Statements} {mark : Mark} → IsMark k mark
+    marked_block : {k : TokenKind} {s t p : Span} {ts rest : List Token} {statements : Statements} {mark : Mark} → mark_of k ≡ Some mark
         → SpellsStatements ts statements t rest → SpellsStatement (token k s ∷ token kinds.OpenBrace p ∷ ts) (Block (Some mark) statements (join s t)) rest
     bundle : {s t p : Span} {ts rest : List Token} {assignments : List Assignment} → SpellsAssignments ts assignments t rest
-        → SpellsStatement (token kinds.Bundled s ∷ token kinds.OpenBrace p ∷ ts) (Bundle assignments (join s t)) rest
+        → SpellsStatement (token (kinds.Keyword keywords.Bundled) s ∷ token kinds.OpenBrace p ∷ ts) (Bundle assignments (join s t)) rest
     declare : {t : Span} {ts rest : List Token} {declaration : Declaration} → SpellsDeclaration ts declaration (token kinds.Semicolon t ∷ rest)
         → SpellsStatement ts (Declare declaration (join declaration.span t)) rest
     assign : {t : Span} {ts rest : List Token} {assignment : Assignment} → SpellsAssignment ts assignment (token kinds.Semicolon t ∷ rest)
@@ -149,23 +145,23 @@ mutual
     empty : {t : Span} {rest : List Token} → SpellsStatement (token kinds.Semicolon t ∷ rest) (Empty t) rest
     if : {s p q o : Span} {ts us rest : List Token} {condition : Expression} {consequent : Statement}
         → SpellsExpression ts condition o (token kinds.CloseParen q ∷ us) → SpellsStatement us consequent rest → next_is else_word rest ≡ false
-        → SpellsStatement (token kinds.If s ∷ token kinds.OpenParen p ∷ ts) (If condition consequent (join s (statement_span consequent))) rest
+        → SpellsStatement (token (kinds.Keyword keywords.If) s ∷ token kinds.OpenParen p ∷ ts) (If condition consequent (join s (statement_span consequent))) rest
     if_else : {s p q o w : Span} {ts us vs rest : List Token} {condition : Expression} {consequent alternative : Statement}
-        → SpellsExpression ts condition o (token kinds.CloseParen q ∷ us) → SpellsStatement us consequent (token kinds.Else w ∷ vs)
-        → SpellsStatement vs alternative rest → SpellsStatement (token kinds.If s ∷ token kinds.OpenParen p
+        → SpellsExpression ts condition o (token kinds.CloseParen q ∷ us) → SpellsStatement us consequent (token (kinds.Keyword keywords.Else) w ∷ vs)
+        → SpellsStatement vs alternative rest → SpellsStatement (token (kinds.Keyword keywords.If) s ∷ token kinds.OpenParen p
         ∷ ts) (IfElse condition consequent alternative (join s (statement_span alternative))) rest
     while : {s p q o : Span} {ts us rest : List Token} {condition : Expression} {body_statement : Statement}
         → SpellsExpression ts condition o (token kinds.CloseParen q ∷ us) → SpellsStatement us body_statement rest
-        → SpellsStatement (token kinds.While s ∷ token kinds.OpenParen p ∷ ts) (While condition body_statement (join s (statement_span body_statement))) rest
+        → SpellsStatement (token (kinds.Keyword keywords.While) s ∷ token kinds.OpenParen p ∷ ts) (While condition body_statement (join s (statement_span body_statement))) rest
     for : {s p : Span} {ts us vs ws rest : List Token} {initial : ForInitial} {optional : Option Expression} {step : Option Assignment}
         {body_statement : Statement} → SpellsForInitial ts initial us → SpellsForCondition us optional vs → SpellsForStep vs step ws
-        → SpellsStatement ws body_statement rest → SpellsStatement (token kinds.For s ∷ token kinds.OpenParen p
+        → SpellsStatement ws body_statement rest → SpellsStatement (token (kinds.Keyword keywords.For) s ∷ token kinds.OpenParen p
         ∷ ts) (For initial optional step body_statement (join s (statement_span body_statement))) rest
-    return_nothing : {s t : Span} {rest : List Token} → SpellsStatement (token kinds.Return s ∷ token kinds.Semicolon t ∷ rest) (Return None (join s t)) rest
+    return_nothing : {s t : Span} {rest : List Token} → SpellsStatement (token (kinds.Keyword keywords.Return) s ∷ token kinds.Semicolon t ∷ rest) (Return None (join s t)) rest
     return : {s t o : Span} {ts rest : List Token} {e : Expression} → SpellsExpression ts e o (token kinds.Semicolon t ∷ rest)
-        → SpellsStatement (token kinds.Return s ∷ ts) (Return (Some e) (join s t)) rest
-    break : {s t : Span} {rest : List Token} → SpellsStatement (token kinds.Break s ∷ token kinds.Semicolon t ∷ rest) (Break (join s t)) rest
-    continue : {s t : Span} {rest : List Token} → SpellsStatement (token kinds.Continue s ∷ token kinds.Semicolon t ∷ rest) (Continue (join s t)) rest
+        → SpellsStatement (token (kinds.Keyword keywords.Return) s ∷ ts) (Return (Some e) (join s t)) rest
+    break : {s t : Span} {rest : List Token} → SpellsStatement (token (kinds.Keyword keywords.Break) s ∷ token kinds.Semicolon t ∷ rest) (Break (join s t)) rest
+    continue : {s t : Span} {rest : List Token} → SpellsStatement (token (kinds.Keyword keywords.Continue) s ∷ token kinds.Semicolon t ∷ rest) (Continue (join s t)) rest
 
   -- statements, and the brace behind them
   pub data SpellsStatements : List Token → Statements → Span → List Token → Type 0 where

@@ -6,6 +6,7 @@ use Rattle.std.specs.Str.{bytes_eq}
 use Rattle.ckc_text.specs.declared.place.Span.{Span}
 use Rattle.ckc_lexer_tokens.specs.declared.token.Token.{Token}
 use Rattle.ckc_lexer_tokens.specs.declared.token.TokenKind.{TokenKind}
+use Rattle.ckc_lexer_tokens.specs.declared.keyword.Keyword.TheVariants as keywords
 use Rattle.ckc_lexer_tokens.specs.declared.token.TokenKind.TheVariants as kinds
 use Rattle.ckc_tree.specs.declared.expr.UnaryOperator.{UnaryOperator}
 use Rattle.ckc_tree.specs.declared.expr.BinaryOperator.{BinaryOperator}
@@ -16,7 +17,7 @@ use Rattle.ckc_tree.specs.Types.{TypeName}
 use Rattle.ckc_tree.specs.Expressions.{Expression, Index, Dot, Arrow, Binary, Bounds}
 use Rattle.ckc_tree.specs.Heights.{type_reach, expression_reach, bounds_reach}
 use Rattle.ckc_parser_grammar.specs.Tokens as words
-use Rattle.ckc_parser_grammar.specs.Tokens.{token, join, identifier, IsUnaryOperator, IsCastWord, IsMallocWord, IsCallocWord, operator_at, level}
+use Rattle.ckc_parser_grammar.specs.Tokens.{token, join, identifier, unary_operator_of, cast_word_of, malloc_word_of, calloc_word_of, operator_at, level}
 use Rattle.ckc_parser_grammar.specs.Tokens.{next_is, open_paren, selector}
 use Rattle.ckc_parser_grammar.specs.TypeGrammar.{SpellsTypeName, SpellsAngled}
 use Rattle.ckc_parser_grammar.specs.ExpressionGrammar.{SpellsBinary, SpellsPrimary, SpellsBounds}
@@ -29,24 +30,16 @@ primary_word (kinds.Number n) = true
 primary_word (kinds.Character n) = true
 primary_word (kinds.Text x) = true
 primary_word (kinds.Name x) = true
-primary_word kinds.Sizeof = true
-primary_word kinds.DynamicBoundsCast = true
-primary_word kinds.AssumeBoundsCast = true
-primary_word kinds.Malloc = true
-primary_word kinds.TMalloc = true
-primary_word kinds.Calloc = true
-primary_word kinds.NtCalloc = true
-primary_word _ = false
+primary_word (kinds.Keyword keywords.Sizeof) = true
+primary_word kind = is_some (cast_word_of kind) || (is_some (malloc_word_of kind) || is_some (calloc_word_of kind))
+
+-- an operator or a parenthesis before an operand
+abbrev pub prefix_word : TokenKind → Bool
+prefix_word kind = open_paren kind || is_some (unary_operator_of kind)
 
 -- the first token of an expression
 abbrev pub unary_word : TokenKind → Bool
-unary_word kinds.Star = true
-unary_word kinds.Ampersand = true
-unary_word kinds.Minus = true
-unary_word kinds.Not = true
-unary_word kinds.Tilde = true
-unary_word kinds.OpenParen = true
-unary_word kind = primary_word kind
+unary_word kind = prefix_word kind || primary_word kind
 
 abbrev pub close_paren : TokenKind → Bool
 close_paren kinds.CloseParen = true
@@ -115,9 +108,9 @@ mutual
   pub data StuckUnary : ℕ → List Token → Failure → Type 0 where
     unary_no_room : {d : ℕ} {ts : List Token} → StuckUnary d ts no_memory
     no_expression : {d : ℕ} {ts : List Token} → next_is unary_word ts ≡ false → StuckUnary d ts (unexpected ts)
-    deep_operator : {d : ℕ} {k : TokenKind} {s : Span} {rest : List Token} {unary_operator : UnaryOperator} → IsUnaryOperator k unary_operator → 200 ≤ d
+    deep_operator : {d : ℕ} {k : TokenKind} {s : Span} {rest : List Token} {unary_operator : UnaryOperator} → unary_operator_of k ≡ Some unary_operator → 200 ≤ d
         → StuckUnary d (token k s ∷ rest) (too_deep s.from)
-    operator : {d : ℕ} {k : TokenKind} {s : Span} {ts : List Token} {unary_operator : UnaryOperator} {f : Failure} → IsUnaryOperator k unary_operator → d < 200
+    operator : {d : ℕ} {k : TokenKind} {s : Span} {ts : List Token} {unary_operator : UnaryOperator} {f : Failure} → unary_operator_of k ≡ Some unary_operator → d < 200
         → StuckUnary (suc d) ts f → StuckUnary d (token k s ∷ ts) f
     primary : {d : ℕ} {ts : List Token} {f : Failure} → StuckPrimary d ts f → StuckUnary d ts f
     selectors : {d : ℕ} {o : Span} {ts mid : List Token} {e : Expression} {f : Failure} → SpellsPrimary ts e o mid → IsLow d (expression_reach e)
@@ -157,52 +150,52 @@ mutual
     primary_close : {d : ℕ} {s o : Span} {ts rest : List Token} {e : Expression} → SpellsBinary 10 ts e o rest → IsLow d (expression_reach e)
         → next_is close_paren rest ≡ false → StuckPrimary d (token kinds.OpenParen s ∷ ts) (unexpected rest)
     size_of_open : {d : ℕ} {s : Span} {rest : List Token} → d < 200 → next_is open_paren rest ≡ false
-        → StuckPrimary d (token kinds.Sizeof s ∷ rest) (unexpected rest)
+        → StuckPrimary d (token (kinds.Keyword keywords.Sizeof) s ∷ rest) (unexpected rest)
     size_of_type : {d : ℕ} {s p : Span} {ts : List Token} {f : Failure} → d < 200 → StuckTypeName (suc d) ts f
-        → StuckPrimary d (token kinds.Sizeof s ∷ token kinds.OpenParen p ∷ ts) f
+        → StuckPrimary d (token (kinds.Keyword keywords.Sizeof) s ∷ token kinds.OpenParen p ∷ ts) f
     size_of_close : {d : ℕ} {s p : Span} {ts rest : List Token} {type : TypeName} → SpellsTypeName ts type rest → IsLow (suc d) (type_reach type.base)
-        → next_is close_paren rest ≡ false → StuckPrimary d (token kinds.Sizeof s ∷ token kinds.OpenParen p ∷ ts) (unexpected rest)
-    cast_type : {d : ℕ} {k : TokenKind} {s : Span} {ts : List Token} {cast : CastWord} {f : Failure} → IsCastWord k cast → d < 200 → StuckAngled (suc d) ts f
+        → next_is close_paren rest ≡ false → StuckPrimary d (token (kinds.Keyword keywords.Sizeof) s ∷ token kinds.OpenParen p ∷ ts) (unexpected rest)
+    cast_type : {d : ℕ} {k : TokenKind} {s : Span} {ts : List Token} {cast : CastWord} {f : Failure} → cast_word_of k ≡ Some cast → d < 200 → StuckAngled (suc d) ts f
         → StuckPrimary d (token k s ∷ ts) f
-    cast_operand : {d : ℕ} {k : TokenKind} {s : Span} {ts us : List Token} {type : TypeName} {cast : CastWord} {f : Failure} → IsCastWord k cast → d < 200
+    cast_operand : {d : ℕ} {k : TokenKind} {s : Span} {ts us : List Token} {type : TypeName} {cast : CastWord} {f : Failure} → cast_word_of k ≡ Some cast → d < 200
         → SpellsAngled ts type us → IsLow (suc d) (type_reach type.base) → StuckBinary 10 (suc d) us f → StuckPrimary d (token k s ∷ ts) f
-    cast_end : {d : ℕ} {k : TokenKind} {s o : Span} {ts us rest : List Token} {e : Expression} {type : TypeName} {cast : CastWord} → IsCastWord k cast
+    cast_end : {d : ℕ} {k : TokenKind} {s o : Span} {ts us rest : List Token} {e : Expression} {type : TypeName} {cast : CastWord} → cast_word_of k ≡ Some cast
         → SpellsAngled ts type us → IsLow (suc d) (type_reach type.base) → SpellsBinary 10 us e o rest → IsLow (suc d) (expression_reach e)
         → next_is comma_or_paren rest ≡ false
         → StuckPrimary d (token k s ∷ ts) (unexpected rest)
     cast_bounds : {d : ℕ} {k : TokenKind} {s p o : Span} {ts us vs : List Token} {e : Expression} {type : TypeName} {cast : CastWord} {f : Failure}
-        → IsCastWord k cast → d < 200 → SpellsAngled ts type us → IsLow (suc d) (type_reach type.base) → SpellsBinary 10 us e o (token kinds.Comma p ∷ vs)
+        → cast_word_of k ≡ Some cast → d < 200 → SpellsAngled ts type us → IsLow (suc d) (type_reach type.base) → SpellsBinary 10 us e o (token kinds.Comma p ∷ vs)
         → IsLow (suc d) (expression_reach e) → StuckBounds (suc d) vs f
         → StuckPrimary d (token k s ∷ ts) f
     cast_close : {d : ℕ} {k : TokenKind} {s p o w : Span} {ts us vs rest : List Token} {e : Expression} {bounds : Bounds} {type : TypeName} {cast : CastWord}
-        → IsCastWord k cast → SpellsAngled ts type us → IsLow (suc d) (type_reach type.base) → SpellsBinary 10 us e o (token kinds.Comma p ∷ vs)
+        → cast_word_of k ≡ Some cast → SpellsAngled ts type us → IsLow (suc d) (type_reach type.base) → SpellsBinary 10 us e o (token kinds.Comma p ∷ vs)
         → IsLow (suc d) (expression_reach e)
         → SpellsBounds vs bounds w rest → IsLow (suc d) (bounds_reach bounds) → next_is close_paren rest ≡ false
         → StuckPrimary d (token k s ∷ ts) (unexpected rest)
-    malloc_type : {d : ℕ} {k : TokenKind} {s : Span} {ts : List Token} {malloc_word : MallocWord} {f : Failure} → IsMallocWord k malloc_word → d < 200
+    malloc_type : {d : ℕ} {k : TokenKind} {s : Span} {ts : List Token} {malloc_word : MallocWord} {f : Failure} → malloc_word_of k ≡ Some malloc_word → d < 200
         → StuckAngled (suc d) ts f → StuckPrimary d (token k s ∷ ts) f
     malloc_size : {d : ℕ} {k : TokenKind} {s : Span} {ts us : List Token} {type : TypeName} {malloc_word : MallocWord} {f : Failure}
-        → IsMallocWord k malloc_word → d < 200 → SpellsAngled ts type us → IsLow (suc d) (type_reach type.base) → StuckBinary 10 (suc d) us f
+        → malloc_word_of k ≡ Some malloc_word → d < 200 → SpellsAngled ts type us → IsLow (suc d) (type_reach type.base) → StuckBinary 10 (suc d) us f
         → StuckPrimary d (token k s ∷ ts) f
     malloc_close : {d : ℕ} {k : TokenKind} {s o : Span} {ts us rest : List Token} {size : Expression} {type : TypeName} {malloc_word : MallocWord}
-        → IsMallocWord k malloc_word → SpellsAngled ts type us → IsLow (suc d) (type_reach type.base) → SpellsBinary 10 us size o rest
+        → malloc_word_of k ≡ Some malloc_word → SpellsAngled ts type us → IsLow (suc d) (type_reach type.base) → SpellsBinary 10 us size o rest
         → IsLow (suc d) (expression_reach size) → next_is close_paren rest ≡ false
         → StuckPrimary d (token k s ∷ ts) (unexpected rest)
-    calloc_type : {d : ℕ} {k : TokenKind} {s : Span} {ts : List Token} {calloc_word : CallocWord} {f : Failure} → IsCallocWord k calloc_word → d < 200
+    calloc_type : {d : ℕ} {k : TokenKind} {s : Span} {ts : List Token} {calloc_word : CallocWord} {f : Failure} → calloc_word_of k ≡ Some calloc_word → d < 200
         → StuckAngled (suc d) ts f → StuckPrimary d (token k s ∷ ts) f
     calloc_count : {d : ℕ} {k : TokenKind} {s : Span} {ts us : List Token} {type : TypeName} {calloc_word : CallocWord} {f : Failure}
-        → IsCallocWord k calloc_word → d < 200 → SpellsAngled ts type us → IsLow (suc d) (type_reach type.base) → StuckBinary 10 (suc d) us f
+        → calloc_word_of k ≡ Some calloc_word → d < 200 → SpellsAngled ts type us → IsLow (suc d) (type_reach type.base) → StuckBinary 10 (suc d) us f
         → StuckPrimary d (token k s ∷ ts) f
     calloc_comma : {d : ℕ} {k : TokenKind} {s o : Span} {ts us rest : List Token} {count : Expression} {type : TypeName} {calloc_word : CallocWord}
-        → IsCallocWord k calloc_word → SpellsAngled ts type us → IsLow (suc d) (type_reach type.base) → SpellsBinary 10 us count o rest
+        → calloc_word_of k ≡ Some calloc_word → SpellsAngled ts type us → IsLow (suc d) (type_reach type.base) → SpellsBinary 10 us count o rest
         → IsLow (suc d) (expression_reach count) → next_is words.comma rest ≡ false
         → StuckPrimary d (token k s ∷ ts) (unexpected rest)
     calloc_size : {d : ℕ} {k : TokenKind} {s p o : Span} {ts us vs : List Token} {count : Expression} {type : TypeName} {calloc_word : CallocWord}
-        {f : Failure} → IsCallocWord k calloc_word → d < 200 → SpellsAngled ts type us → IsLow (suc d) (type_reach type.base)
+        {f : Failure} → calloc_word_of k ≡ Some calloc_word → d < 200 → SpellsAngled ts type us → IsLow (suc d) (type_reach type.base)
         → SpellsBinary 10 us count o (token kinds.Comma p ∷ vs) → IsLow (suc d) (expression_reach count)
         → StuckBinary 10 (suc d) vs f → StuckPrimary d (token k s ∷ ts) f
     calloc_close : {d : ℕ} {k : TokenKind} {s p o w : Span} {ts us vs rest : List Token} {size count : Expression} {type : TypeName} {calloc_word : CallocWord}
-        → IsCallocWord k calloc_word → SpellsAngled ts type us → IsLow (suc d) (type_reach type.base) → SpellsBinary 10 us count o (token kinds.Comma p ∷ vs)
+        → calloc_word_of k ≡ Some calloc_word → SpellsAngled ts type us → IsLow (suc d) (type_reach type.base) → SpellsBinary 10 us count o (token kinds.Comma p ∷ vs)
         → IsLow (suc d) (expression_reach count)
         → SpellsBinary 10 vs size w rest → IsLow (suc d) (expression_reach size) → next_is close_paren rest ≡ false
         → StuckPrimary d (token k s ∷ ts) (unexpected rest)

@@ -4,6 +4,7 @@ use Rattle.std.specs.Prelude.{◌≡◌, ◌&&◌, cond, ℕ, Bool, true, false,
 use Rattle.ckc_text.specs.declared.place.Span.{Span}
 use Rattle.ckc_lexer_tokens.specs.declared.token.Token.{Token}
 use Rattle.ckc_lexer_tokens.specs.declared.token.TokenKind.{TokenKind}
+use Rattle.ckc_lexer_tokens.specs.declared.keyword.Keyword.TheVariants as keywords
 use Rattle.ckc_lexer_tokens.specs.declared.token.TokenKind.TheVariants as kinds
 use Rattle.ckc_tree.specs.declared.identifier.Identifier.{Identifier}
 use Rattle.ckc_tree.specs.declared.stmt.Mark.{Mark}
@@ -14,7 +15,7 @@ use Rattle.ckc_tree.specs.Expressions.{Bounds}
 use Rattle.ckc_tree.specs.Statements.{Declarator}
 use Rattle.ckc_tree.specs.Items.{Member, ResultForm, Void, Parameters, Item}
 use Rattle.ckc_tree.specs.Heights.{type_reach, optional_bounds_reach, declarators_reach, members_reach, result_reach, parameters_reach, item_reach}
-use Rattle.ckc_parser_grammar.specs.Tokens.{token, from_first, IsMark, next_is, open_paren, star}
+use Rattle.ckc_parser_grammar.specs.Tokens.{token, from_first, mark_of, mark_word, next_is, open_paren, star}
 use Rattle.ckc_parser_grammar.specs.TypeGrammar.{SpellsStars, SpellsType, SpellsTypeName}
 use Rattle.ckc_parser_grammar.specs.StatementGrammar.{SpellsOptionalBounds, SpellsDeclarators}
 use Rattle.ckc_parser_grammar.specs.ItemGrammar.{SpellsTainted, SpellsKind, SpellsOptionalMark, SpellsMember, SpellsMembers, SpellsResult}
@@ -27,7 +28,7 @@ use Rattle.ckc_parser_grammar.specs.StuckStatements.{semicolon, open_brace, clos
 -- ---- what is seen some tokens ahead
 
 abbrev pub void_word : TokenKind → Bool
-void_word kinds.Void = true
+void_word (kinds.Keyword keywords.Void) = true
 void_word _ = false
 
 -- a directive, which is an item of its own
@@ -36,16 +37,14 @@ scope_word (kinds.Scope scope) = true
 scope_word _ = false
 
 abbrev pub struct_word : TokenKind → Bool
-struct_word kinds.Struct = true
+struct_word (kinds.Keyword keywords.Struct) = true
 struct_word _ = false
 
 -- what ends a function or begins its body
 abbrev pub body_word : TokenKind → Bool
 body_word kinds.Semicolon = true
 body_word kinds.OpenBrace = true
-body_word kinds.Checked = true
-body_word kinds.Unchecked = true
-body_word _ = false
+body_word kind = mark_word kind
 
 -- a name, and then such a token
 abbrev pub is_name_before : (TokenKind → Bool) → List Token → Bool
@@ -100,14 +99,14 @@ pub data StuckListed : List Token → Failure → Type 0 where
       → SpellsMember ts type name written o (token kinds.Comma p ∷ us) → IsLowMember type written → StuckListed us f → StuckListed ts f
 
 pub data StuckParameters : List Token → Failure → Type 0 where
-  void : {s : Span} {rest : List Token} → next_is close_paren rest ≡ false → StuckParameters (token kinds.Void s ∷ rest) (unexpected rest)
+  void : {s : Span} {rest : List Token} → next_is close_paren rest ≡ false → StuckParameters (token (kinds.Keyword keywords.Void) s ∷ rest) (unexpected rest)
   listed : {ts : List Token} {f : Failure} → next_is close_paren ts ≡ false → next_is void_word ts ≡ false → StuckListed ts f → StuckParameters ts f
 
 -- ---- items
 
 pub data StuckBody : List Token → Failure → Type 0 where
   no_body : {ts : List Token} → next_is body_word ts ≡ false → StuckBody ts (unexpected ts)
-  mark : {k : TokenKind} {s : Span} {rest : List Token} {mark : Mark} → IsMark k mark → next_is open_brace rest ≡ false
+  mark : {k : TokenKind} {s : Span} {rest : List Token} {mark : Mark} → mark_of k ≡ Some mark → next_is open_brace rest ≡ false
       → StuckBody (token k s ∷ rest) (unexpected rest)
   statements : {s : Span} {ts us : List Token} {optional_mark : Option Mark} {f : Failure} → SpellsOptionalMark ts optional_mark (token kinds.OpenBrace s ∷ us)
       → StuckStatements 1 us f → StuckBody ts f
@@ -117,9 +116,9 @@ pub data StuckItem : List Token → Failure → Type 0 where
   result : {ts us tokens : List Token} {optional_mark : Option Mark} {function_kind : FunctionKind} {f : Failure} → next_is scope_word tokens ≡ false
       → SpellsKind tokens function_kind ts → SpellsOptionalMark ts optional_mark us → next_is void_word us ≡ false → StuckType 0 us f → StuckItem tokens f
   members : {x : List ℕ} {s t p : Span} {ts tokens : List Token} {tainted : Bool} {f : Failure}
-      → SpellsTainted tokens tainted (token kinds.Struct s ∷ token (kinds.Name x) t ∷ token kinds.OpenBrace p ∷ ts) → StuckMembers ts f → StuckItem tokens f
+      → SpellsTainted tokens tainted (token (kinds.Keyword keywords.Struct) s ∷ token (kinds.Name x) t ∷ token kinds.OpenBrace p ∷ ts) → StuckMembers ts f → StuckItem tokens f
   structure_end : {x : List ℕ} {s t p : Span} {ts rest tokens : List Token} {tainted : Bool} {members : List Member}
-      → SpellsTainted tokens tainted (token kinds.Struct s ∷ token (kinds.Name x) t ∷ token kinds.OpenBrace p ∷ ts) → SpellsMembers ts members rest
+      → SpellsTainted tokens tainted (token (kinds.Keyword keywords.Struct) s ∷ token (kinds.Name x) t ∷ token kinds.OpenBrace p ∷ ts) → SpellsMembers ts members rest
       → IsLow 0 (members_reach members) → next_is semicolon rest ≡ false → StuckItem tokens (unexpected rest)
   -- what a type begins is a function where a name and a parenthesis follow, and else a list of variables
   variables : {ts us tokens : List Token} {base : TypeTree} {tainted : Bool} {f : Failure} → SpellsTainted tokens tainted ts → is_structure ts ≡ false

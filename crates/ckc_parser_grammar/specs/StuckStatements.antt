@@ -1,9 +1,11 @@
 -- Inside: where reading a declaration or a statement fails, with so many nodes around it. One case for each part that can
 -- fail: those before it are spelled, and no node so far is too deep.
-use Rattle.std.specs.Prelude.{◌≡◌, ◌≤◌, ◌<◌, ◌&&◌, ◌||◌, ℕ, suc, Bool, true, false, List, ◌∷◌, Option}
+use Rattle.std.specs.Prelude.{◌≡◌, ◌≤◌, ◌<◌, ◌&&◌, ◌||◌, ℕ, suc, Bool, true, false, List, ◌∷◌, Option, Some}
+use Rattle.std.specs.Option.{is_some}
 use Rattle.ckc_text.specs.declared.place.Span.{Span}
 use Rattle.ckc_lexer_tokens.specs.declared.token.Token.{Token}
 use Rattle.ckc_lexer_tokens.specs.declared.token.TokenKind.{TokenKind}
+use Rattle.ckc_lexer_tokens.specs.declared.keyword.Keyword.TheVariants as keywords
 use Rattle.ckc_lexer_tokens.specs.declared.token.TokenKind.TheVariants as kinds
 use Rattle.ckc_tree.specs.declared.stmt.Mark.{Mark}
 use Rattle.ckc_tree.specs.declared.stmt.ArrayForm.{ArrayForm}
@@ -16,7 +18,7 @@ use Rattle.ckc_tree.specs.Expressions.{Expression, Call, Bounds}
 use Rattle.ckc_tree.specs.Statements.{Declarator, Declaration, Assignment, ForInitial, Statement}
 use Rattle.ckc_tree.specs.Heights.{around, type_reach, expression_reach, optional_bounds_reach, declarator_reach, declared_reach, assignment_reach}
 use Rattle.ckc_tree.specs.Heights.{for_initial_reach, optional_expression_reach, optional_assignment_reach, statement_reach}
-use Rattle.ckc_parser_grammar.specs.Tokens.{token, from_first, IsMark, IsArrayWord, IsStoreOperator, IsStepOperator, next_is, open_paren}
+use Rattle.ckc_parser_grammar.specs.Tokens.{token, from_first, mark_of, array_kind_of, number_of, constant_of, store_operator_of, step_operator_of, mark_word, next_is, open_paren}
 use Rattle.ckc_parser_grammar.specs.TypeGrammar.{SpellsStars, SpellsType}
 use Rattle.ckc_parser_grammar.specs.ExpressionGrammar.{SpellsUnary, SpellsExpression}
 use Rattle.ckc_parser_grammar.specs.StatementGrammar.{SpellsOptionalBounds, SpellsOptionalArray, SpellsSigned, SpellsDeclarator, SpellsDeclaration}
@@ -44,17 +46,17 @@ semicolon kinds.Semicolon = true
 semicolon _ = false
 
 abbrev pub number_token : TokenKind → Bool
-number_token (kinds.Number n) = true
-number_token _ = false
+number_token kind = is_some (number_of kind)
 
 abbrev pub constant_token : TokenKind → Bool
-constant_token (kinds.Number n) = true
-constant_token (kinds.Character n) = true
-constant_token _ = false
+constant_token kind = is_some (constant_of kind)
+
+abbrev pub minus : TokenKind → Bool
+minus kinds.Minus = true
+minus _ = false
 
 abbrev pub minus_or_constant : TokenKind → Bool
-minus_or_constant kinds.Minus = true
-minus_or_constant kind = constant_token kind
+minus_or_constant kind = minus kind || constant_token kind
 
 abbrev pub comma_or_brace : TokenKind → Bool
 comma_or_brace kinds.Comma = true
@@ -62,16 +64,14 @@ comma_or_brace kinds.CloseBrace = true
 comma_or_brace _ = false
 
 abbrev pub step_word : TokenKind → Bool
-step_word kinds.PlusPlus = true
-step_word kinds.MinusMinus = true
-step_word _ = false
+step_word kind = is_some (step_operator_of kind)
+
+abbrev pub store_word : TokenKind → Bool
+store_word kind = is_some (store_operator_of kind)
 
 -- what stands behind the target of an assignment
 abbrev pub assign_word : TokenKind → Bool
-assign_word kinds.Equal = true
-assign_word kinds.PlusEqual = true
-assign_word kinds.MinusEqual = true
-assign_word kind = step_word kind
+assign_word kind = store_word kind || step_word kind
 
 -- the first token of an assignment
 abbrev pub assignment_word : TokenKind → Bool
@@ -79,18 +79,16 @@ assignment_word kind = step_word kind || unary_word kind
 
 -- the first token of a statement that is none of a type, an expression or an assignment
 abbrev pub plain_word : TokenKind → Bool
-plain_word kinds.Checked = true
-plain_word kinds.Unchecked = true
 plain_word kinds.OpenBrace = true
-plain_word kinds.Bundled = true
+plain_word (kinds.Keyword keywords.Bundled) = true
 plain_word kinds.Semicolon = true
-plain_word kinds.If = true
-plain_word kinds.While = true
-plain_word kinds.For = true
-plain_word kinds.Return = true
-plain_word kinds.Break = true
-plain_word kinds.Continue = true
-plain_word _ = false
+plain_word (kinds.Keyword keywords.If) = true
+plain_word (kinds.Keyword keywords.While) = true
+plain_word (kinds.Keyword keywords.For) = true
+plain_word (kinds.Keyword keywords.Return) = true
+plain_word (kinds.Keyword keywords.Break) = true
+plain_word (kinds.Keyword keywords.Continue) = true
+plain_word kind = mark_word kind
 
 -- the first token of a statement
 abbrev pub statement_word : TokenKind → Bool
@@ -111,11 +109,11 @@ pub data StuckOptionalBounds : ℕ → List Token → Failure → Type 0 where
   bounds : {d : ℕ} {s : Span} {ts : List Token} {f : Failure} → StuckBounds d ts f → StuckOptionalBounds d (token kinds.Colon s ∷ ts) f
 
 pub data StuckOptionalArray : List Token → Failure → Type 0 where
-  opens : {k : TokenKind} {s : Span} {rest : List Token} {kind : ArrayKind} → IsArrayWord k kind → next_is open_bracket rest ≡ false
+  opens : {k : TokenKind} {s : Span} {rest : List Token} {kind : ArrayKind} → array_kind_of k ≡ Some kind → next_is open_bracket rest ≡ false
       → StuckOptionalArray (token k s ∷ rest) (unexpected rest)
-  length : {k : TokenKind} {s p : Span} {rest : List Token} {kind : ArrayKind} → IsArrayWord k kind → next_is number_token rest ≡ false
+  length : {k : TokenKind} {s p : Span} {rest : List Token} {kind : ArrayKind} → array_kind_of k ≡ Some kind → next_is number_token rest ≡ false
       → StuckOptionalArray (token k s ∷ token kinds.OpenBracket p ∷ rest) (unexpected rest)
-  close : {n : ℕ} {k : TokenKind} {s p q : Span} {rest : List Token} {kind : ArrayKind} → IsArrayWord k kind → next_is close_bracket rest ≡ false
+  close : {n : ℕ} {k : TokenKind} {s p q : Span} {rest : List Token} {kind : ArrayKind} → array_kind_of k ≡ Some kind → next_is close_bracket rest ≡ false
       → StuckOptionalArray (token k s ∷ token kinds.OpenBracket p ∷ token (kinds.Number n) q ∷ rest) (unexpected rest)
 
 pub data StuckSigned : List Token → Failure → Type 0 where
@@ -172,13 +170,13 @@ pub data StuckAssignment : ℕ → List Token → Failure → Type 0 where
   no_room : {d : ℕ} {ts : List Token} → StuckAssignment d ts no_memory
   no_assignment : {d : ℕ} {ts : List Token} → next_is assignment_word ts ≡ false → StuckAssignment d ts (unexpected ts)
   deep : {d : ℕ} {k : TokenKind} {s : Span} {rest : List Token} → assignment_word k ≡ true → 200 ≤ d → StuckAssignment d (token k s ∷ rest) (too_deep s.from)
-  before : {d : ℕ} {k : TokenKind} {s : Span} {ts : List Token} {step_operator : StepOperator} {f : Failure} → d < 200 → IsStepOperator k step_operator
+  before : {d : ℕ} {k : TokenKind} {s : Span} {ts : List Token} {step_operator : StepOperator} {f : Failure} → d < 200 → step_operator_of k ≡ Some step_operator
       → StuckUnary (suc d) ts f → StuckAssignment d (token k s ∷ ts) f
   target : {d : ℕ} {ts : List Token} {f : Failure} → d < 200 → next_is unary_word ts ≡ true → StuckUnary (suc d) ts f → StuckAssignment d ts f
   operator : {d : ℕ} {o : Span} {ts rest : List Token} {target : Expression} → SpellsUnary ts target o rest → IsLow (suc d) (expression_reach target)
       → next_is assign_word rest ≡ false → StuckAssignment d ts (unexpected rest)
   value : {d : ℕ} {k : TokenKind} {s o : Span} {ts us : List Token} {target : Expression} {store_operator : StoreOperator} {f : Failure} → d < 200
-      → SpellsUnary ts target o (token k s ∷ us) → IsLow (suc d) (expression_reach target) → IsStoreOperator k store_operator → StuckExpression (suc d) us f
+      → SpellsUnary ts target o (token k s ∷ us) → IsLow (suc d) (expression_reach target) → store_operator_of k ≡ Some store_operator → StuckExpression (suc d) us f
       → StuckAssignment d ts f
 
 -- the assignments of a bundle, and the brace behind them
@@ -232,14 +230,14 @@ mutual
     no_statement : {d : ℕ} {ts : List Token} → next_is statement_word ts ≡ false → StuckStatement d ts (unexpected ts)
     deep : {d : ℕ} {k : TokenKind} {s : Span} {rest : List Token} → statement_word k ≡ true → 200 ≤ d → StuckStatement d (token k s ∷ rest) (too_deep s.from)
     block : {d : ℕ} {s : Span} {ts : List Token} {f : Failure} → d < 200 → StuckStatements (suc d) ts f → StuckStatement d (token kinds.OpenBrace s ∷ ts) f
-    mark : {d : ℕ} {k : TokenKind} {s : Span} {rest : List Token} {mark : Mark} → d < 200 → IsMark k mark → next_is open_brace rest ≡ false
+    mark : {d : ℕ} {k : TokenKind} {s : Span} {rest : List Token} {mark : Mark} → d < 200 → mark_of k ≡ Some mark → next_is open_brace rest ≡ false
         → StuckStatement d (token k s ∷ rest) (unexpected rest)
-    marked_block : {d : ℕ} {k : TokenKind} {s p : Span} {ts : List Token} {mark : Mark} {f : Failure} → d < 200 → IsMark k mark → StuckStatements (suc d) ts f
+    marked_block : {d : ℕ} {k : TokenKind} {s p : Span} {ts : List Token} {mark : Mark} {f : Failure} → d < 200 → mark_of k ≡ Some mark → StuckStatements (suc d) ts f
         → StuckStatement d (token k s ∷ token kinds.OpenBrace p ∷ ts) f
     bundle_open : {d : ℕ} {s : Span} {rest : List Token} → d < 200 → next_is open_brace rest ≡ false
-        → StuckStatement d (token kinds.Bundled s ∷ rest) (unexpected rest)
+        → StuckStatement d (token (kinds.Keyword keywords.Bundled) s ∷ rest) (unexpected rest)
     bundle : {d : ℕ} {s p : Span} {ts : List Token} {f : Failure} → d < 200 → StuckAssignments (suc d) ts f
-        → StuckStatement d (token kinds.Bundled s ∷ token kinds.OpenBrace p ∷ ts) f
+        → StuckStatement d (token (kinds.Keyword keywords.Bundled) s ∷ token kinds.OpenBrace p ∷ ts) f
     declaration : {d : ℕ} {ts : List Token} {f : Failure} → next_is type_word ts ≡ true → StuckDeclaration d ts f → StuckStatement d ts f
     declare_end : {d : ℕ} {ts rest : List Token} {declaration : Declaration} → SpellsDeclaration ts declaration rest
         → IsLow d (around declaration.span.from (declared_reach declaration)) → next_is semicolon rest ≡ false → StuckStatement d ts (unexpected rest)
@@ -252,40 +250,40 @@ mutual
     named_end : {d : ℕ} {o : Span} {ts rest : List Token} {target : Expression} → next_is name_token ts ≡ true → SpellsUnary ts target o rest
         → IsLow (suc d) (expression_reach target) → next_is assign_word rest ≡ false → is_call_alone target rest ≡ false → StuckStatement d ts (unexpected rest)
     named_value : {d : ℕ} {k : TokenKind} {s o : Span} {ts us : List Token} {target : Expression} {store_operator : StoreOperator} {f : Failure} → d < 200
-        → next_is name_token ts ≡ true → SpellsUnary ts target o (token k s ∷ us) → IsLow (suc d) (expression_reach target) → IsStoreOperator k store_operator
+        → next_is name_token ts ≡ true → SpellsUnary ts target o (token k s ∷ us) → IsLow (suc d) (expression_reach target) → store_operator_of k ≡ Some store_operator
         → StuckExpression (suc d) us f
         → StuckStatement d ts f
-    if_condition : {d : ℕ} {s : Span} {ts : List Token} {f : Failure} → d < 200 → StuckCondition (suc d) ts f → StuckStatement d (token kinds.If s ∷ ts) f
+    if_condition : {d : ℕ} {s : Span} {ts : List Token} {f : Failure} → d < 200 → StuckCondition (suc d) ts f → StuckStatement d (token (kinds.Keyword keywords.If) s ∷ ts) f
     if_consequent : {d : ℕ} {s p q o : Span} {ts us : List Token} {condition : Expression} {f : Failure} → d < 200
         → SpellsExpression ts condition o (token kinds.CloseParen q ∷ us) → IsLow (suc d) (expression_reach condition) → StuckStatement (suc d) us f
-        → StuckStatement d (token kinds.If s ∷ token kinds.OpenParen p ∷ ts) f
+        → StuckStatement d (token (kinds.Keyword keywords.If) s ∷ token kinds.OpenParen p ∷ ts) f
     if_alternative : {d : ℕ} {s p q o w : Span} {ts us vs : List Token} {condition : Expression} {consequent : Statement} {f : Failure} → d < 200
         → SpellsExpression ts condition o (token kinds.CloseParen q ∷ us) → IsLow (suc d) (expression_reach condition)
-        → SpellsStatement us consequent (token kinds.Else w ∷ vs) → IsLow (suc d) (statement_reach consequent)
-        → StuckStatement (suc d) vs f → StuckStatement d (token kinds.If s ∷ token kinds.OpenParen p ∷ ts) f
-    while_condition : {d : ℕ} {s : Span} {ts : List Token} {f : Failure} → d < 200 → StuckCondition (suc d) ts f → StuckStatement d (token kinds.While s ∷ ts) f
+        → SpellsStatement us consequent (token (kinds.Keyword keywords.Else) w ∷ vs) → IsLow (suc d) (statement_reach consequent)
+        → StuckStatement (suc d) vs f → StuckStatement d (token (kinds.Keyword keywords.If) s ∷ token kinds.OpenParen p ∷ ts) f
+    while_condition : {d : ℕ} {s : Span} {ts : List Token} {f : Failure} → d < 200 → StuckCondition (suc d) ts f → StuckStatement d (token (kinds.Keyword keywords.While) s ∷ ts) f
     while_body : {d : ℕ} {s p q o : Span} {ts us : List Token} {condition : Expression} {f : Failure} → d < 200
         → SpellsExpression ts condition o (token kinds.CloseParen q ∷ us) → IsLow (suc d) (expression_reach condition) → StuckStatement (suc d) us f
-        → StuckStatement d (token kinds.While s ∷ token kinds.OpenParen p ∷ ts) f
+        → StuckStatement d (token (kinds.Keyword keywords.While) s ∷ token kinds.OpenParen p ∷ ts) f
     for_open : {d : ℕ} {s : Span} {rest : List Token} → d < 200 → next_is open_paren rest ≡ false
-        → StuckStatement d (token kinds.For s ∷ rest) (unexpected rest)
+        → StuckStatement d (token (kinds.Keyword keywords.For) s ∷ rest) (unexpected rest)
     for_initial : {d : ℕ} {s p : Span} {ts : List Token} {f : Failure} → d < 200 → StuckForInitial (suc d) ts f
-        → StuckStatement d (token kinds.For s ∷ token kinds.OpenParen p ∷ ts) f
+        → StuckStatement d (token (kinds.Keyword keywords.For) s ∷ token kinds.OpenParen p ∷ ts) f
     for_condition : {d : ℕ} {s p : Span} {ts us : List Token} {initial : ForInitial} {f : Failure} → d < 200 → SpellsForInitial ts initial us
-        → IsLow (suc d) (for_initial_reach initial) → StuckForCondition (suc d) us f → StuckStatement d (token kinds.For s ∷ token kinds.OpenParen p ∷ ts) f
+        → IsLow (suc d) (for_initial_reach initial) → StuckForCondition (suc d) us f → StuckStatement d (token (kinds.Keyword keywords.For) s ∷ token kinds.OpenParen p ∷ ts) f
     for_step : {d : ℕ} {s p : Span} {ts us vs : List Token} {initial : ForInitial} {optional : Option Expression} {f : Failure} → d < 200
         → SpellsForInitial ts initial us → IsLow (suc d) (for_initial_reach initial) → SpellsForCondition us optional vs
         → IsLow (suc d) (optional_expression_reach optional) → StuckForStep (suc d) vs f
-        → StuckStatement d (token kinds.For s ∷ token kinds.OpenParen p ∷ ts) f
+        → StuckStatement d (token (kinds.Keyword keywords.For) s ∷ token kinds.OpenParen p ∷ ts) f
     for_body : {d : ℕ} {s p : Span} {ts us vs ws : List Token} {initial : ForInitial} {optional : Option Expression} {step : Option Assignment} {f : Failure}
         → d < 200 → SpellsForInitial ts initial us → IsLow (suc d) (for_initial_reach initial) → SpellsForCondition us optional vs
         → IsLow (suc d) (optional_expression_reach optional)
         → SpellsForStep vs step ws → IsLow (suc d) (optional_assignment_reach step) → StuckStatement (suc d) ws f
-        → StuckStatement d (token kinds.For s ∷ token kinds.OpenParen p ∷ ts) f
-    return : {d : ℕ} {s : Span} {ts : List Token} {f : Failure} → d < 200 → StuckForCondition (suc d) ts f → StuckStatement d (token kinds.Return s ∷ ts) f
-    break : {d : ℕ} {s : Span} {rest : List Token} → d < 200 → next_is semicolon rest ≡ false → StuckStatement d (token kinds.Break s ∷ rest) (unexpected rest)
+        → StuckStatement d (token (kinds.Keyword keywords.For) s ∷ token kinds.OpenParen p ∷ ts) f
+    return : {d : ℕ} {s : Span} {ts : List Token} {f : Failure} → d < 200 → StuckForCondition (suc d) ts f → StuckStatement d (token (kinds.Keyword keywords.Return) s ∷ ts) f
+    break : {d : ℕ} {s : Span} {rest : List Token} → d < 200 → next_is semicolon rest ≡ false → StuckStatement d (token (kinds.Keyword keywords.Break) s ∷ rest) (unexpected rest)
     continue : {d : ℕ} {s : Span} {rest : List Token} → d < 200 → next_is semicolon rest ≡ false
-        → StuckStatement d (token kinds.Continue s ∷ rest) (unexpected rest)
+        → StuckStatement d (token (kinds.Keyword keywords.Continue) s ∷ rest) (unexpected rest)
 
   pub data StuckStatements : ℕ → List Token → Failure → Type 0 where
     statements_no_room : {d : ℕ} {ts : List Token} → StuckStatements d ts no_memory

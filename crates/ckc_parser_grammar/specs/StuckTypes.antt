@@ -1,28 +1,25 @@
 -- Inside: where reading a type fails, with so many nodes around it. One case for each part that can fail: those before it
 -- are spelled, and no node so far is too deep.
-use Rattle.std.specs.Prelude.{◌≡◌, ◌≤◌, ◌<◌, ℕ, suc, Bool, true, false, List, ◌∷◌}
+use Rattle.std.specs.Prelude.{◌≡◌, ◌≤◌, ◌<◌, ℕ, suc, Bool, true, false, List, ◌∷◌, Some}
+use Rattle.std.specs.Option.{is_some}
 use Rattle.ckc_text.specs.declared.place.Span.{Span}
 use Rattle.ckc_lexer_tokens.specs.declared.token.Token.{Token}
 use Rattle.ckc_lexer_tokens.specs.declared.token.TokenKind.{TokenKind}
+use Rattle.ckc_lexer_tokens.specs.declared.keyword.Keyword.TheVariants as keywords
 use Rattle.ckc_lexer_tokens.specs.declared.token.TokenKind.TheVariants as kinds
 use Rattle.ckc_tree.specs.declared.type_form.PointerWord.{PointerWord}
 use Rattle.ckc_tree.specs.Types.{TypeTree, TypeName}
 use Rattle.ckc_tree.specs.Heights.{type_reach}
-use Rattle.ckc_parser_grammar.specs.Tokens.{token, IsPointerWord, next_is, open_paren}
+use Rattle.ckc_parser_grammar.specs.Tokens.{token, pointer_word_of, next_is, open_paren}
 use Rattle.ckc_parser_grammar.specs.TypeGrammar.{SpellsStars, SpellsType, SpellsTypeName}
 use Rattle.ckc_parser_grammar.specs.Failures.{Failure, unexpected, too_deep, no_memory, IsLow}
 
+-- the first token of a type
 abbrev pub type_word : TokenKind → Bool
-type_word kinds.Int = true
-type_word kinds.Char = true
-type_word kinds.Struct = true
-type_word kinds.Ptr = true
-type_word kinds.ArrayPtr = true
-type_word kinds.NtArrayPtr = true
-type_word kinds.TPtr = true
-type_word kinds.TArrayPtr = true
-type_word kinds.TNtArrayPtr = true
-type_word _ = false
+type_word (kinds.Keyword keywords.Int) = true
+type_word (kinds.Keyword keywords.Char) = true
+type_word (kinds.Keyword keywords.Struct) = true
+type_word kind = is_some (pointer_word_of kind)
 
 abbrev pub name_token : TokenKind → Bool
 name_token (kinds.Name x) = true
@@ -40,12 +37,12 @@ pub data StuckType : ℕ → List Token → Failure → Type 0 where
   no_room : {d : ℕ} {ts : List Token} → StuckType d ts no_memory
   no_type : {d : ℕ} {ts : List Token} → next_is type_word ts ≡ false → StuckType d ts (unexpected ts)
   deep : {d : ℕ} {k : TokenKind} {s : Span} {rest : List Token} → type_word k ≡ true → 200 ≤ d → StuckType d (token k s ∷ rest) (too_deep s.from)
-  tag : {d : ℕ} {s : Span} {rest : List Token} → d < 200 → next_is name_token rest ≡ false → StuckType d (token kinds.Struct s ∷ rest) (unexpected rest)
-  opens : {d : ℕ} {k : TokenKind} {s : Span} {rest : List Token} {word : PointerWord} → d < 200 → IsPointerWord k word → next_is less rest ≡ false
+  tag : {d : ℕ} {s : Span} {rest : List Token} → d < 200 → next_is name_token rest ≡ false → StuckType d (token (kinds.Keyword keywords.Struct) s ∷ rest) (unexpected rest)
+  opens : {d : ℕ} {k : TokenKind} {s : Span} {rest : List Token} {word : PointerWord} → d < 200 → pointer_word_of k ≡ Some word → next_is less rest ≡ false
       → StuckType d (token k s ∷ rest) (unexpected rest)
-  element : {d : ℕ} {k : TokenKind} {s p : Span} {ts : List Token} {word : PointerWord} {f : Failure} → d < 200 → IsPointerWord k word → StuckType (suc d) ts f
+  element : {d : ℕ} {k : TokenKind} {s p : Span} {ts : List Token} {word : PointerWord} {f : Failure} → d < 200 → pointer_word_of k ≡ Some word → StuckType (suc d) ts f
       → StuckType d (token k s ∷ token kinds.Less p ∷ ts) f
-  close : {d n : ℕ} {k : TokenKind} {s p : Span} {ts mid rest : List Token} {element : TypeTree} {word : PointerWord} → IsPointerWord k word
+  close : {d n : ℕ} {k : TokenKind} {s p : Span} {ts mid rest : List Token} {element : TypeTree} {word : PointerWord} → pointer_word_of k ≡ Some word
       → SpellsType ts element mid → IsLow (suc d) (type_reach element) → SpellsStars mid n rest → next_is greater rest ≡ false
       → StuckType d (token k s ∷ token kinds.Less p ∷ ts) (unexpected rest)
 

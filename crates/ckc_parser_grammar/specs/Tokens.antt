@@ -1,8 +1,10 @@
 -- Tokens as the grammar reads them: the words and marks that say one thing each, and a look at the next token.
 use Rattle.std.specs.Prelude.{ℕ, nat_eq, Bool, true, false, List, [], ◌∷◌, Option, Some, None}
+use Rattle.std.specs.Option.{is_some}
 use Rattle.ckc_text.specs.declared.place.Span.{Span}
 use Rattle.ckc_lexer_tokens.specs.declared.token.Token.{Token}
 use Rattle.ckc_lexer_tokens.specs.declared.token.TokenKind.{TokenKind}
+use Rattle.ckc_lexer_tokens.specs.declared.keyword.Keyword.TheVariants as keywords
 use Rattle.ckc_lexer_tokens.specs.declared.token.TokenKind.TheVariants as kinds
 use Rattle.ckc_tree.specs.declared.identifier.Identifier.{Identifier}
 use Rattle.ckc_tree.specs.declared.type_form.PointerWord.{PointerWord}
@@ -24,6 +26,8 @@ use Rattle.ckc_tree.specs.declared.stmt.ArrayKind.{ArrayKind}
 use Rattle.ckc_tree.specs.declared.stmt.ArrayKind.TheVariants as arrays
 use Rattle.ckc_tree.specs.declared.stmt.StoreOperator.{StoreOperator}
 use Rattle.ckc_tree.specs.declared.stmt.StoreOperator.TheVariants as stores
+use Rattle.ckc_tree.specs.declared.stmt.Constant.{Constant}
+use Rattle.ckc_tree.specs.declared.stmt.Constant.TheVariants as constants
 use Rattle.ckc_tree.specs.declared.stmt.StepOperator.{StepOperator}
 use Rattle.ckc_tree.specs.declared.stmt.StepOperator.TheVariants as steps
 
@@ -48,51 +52,80 @@ start_of (t ∷ ts) = t.span.from
 abbrev pub from_first : List Token → Span → Span
 from_first ts last = record { from = start_of ts; to = last.to }
 
--- ---- words that say one thing each
+-- ---- words and marks that say one thing each
 
-pub data IsPointerWord : TokenKind → PointerWord → Type 0 where
-  ptr : IsPointerWord kinds.Ptr (record { mode = modes.Checked; kind = counts.One })
-  array_ptr : IsPointerWord kinds.ArrayPtr (record { mode = modes.Checked; kind = counts.Array })
-  nt_array_ptr : IsPointerWord kinds.NtArrayPtr (record { mode = modes.Checked; kind = counts.NullTerminated })
-  t_ptr : IsPointerWord kinds.TPtr (record { mode = modes.Tainted; kind = counts.One })
-  t_array_ptr : IsPointerWord kinds.TArrayPtr (record { mode = modes.Tainted; kind = counts.Array })
-  t_nt_array_ptr : IsPointerWord kinds.TNtArrayPtr (record { mode = modes.Tainted; kind = counts.NullTerminated })
+-- what a pointer word says
+abbrev pub pointer_word_of : TokenKind → Option PointerWord
+pointer_word_of (kinds.Keyword keywords.Ptr) = Some (record { mode = modes.Checked; kind = counts.One })
+pointer_word_of (kinds.Keyword keywords.ArrayPtr) = Some (record { mode = modes.Checked; kind = counts.Array })
+pointer_word_of (kinds.Keyword keywords.NtArrayPtr) = Some (record { mode = modes.Checked; kind = counts.NullTerminated })
+pointer_word_of (kinds.Keyword keywords.TPtr) = Some (record { mode = modes.Tainted; kind = counts.One })
+pointer_word_of (kinds.Keyword keywords.TArrayPtr) = Some (record { mode = modes.Tainted; kind = counts.Array })
+pointer_word_of (kinds.Keyword keywords.TNtArrayPtr) = Some (record { mode = modes.Tainted; kind = counts.NullTerminated })
+pointer_word_of _ = None
 
-pub data IsUnaryOperator : TokenKind → UnaryOperator → Type 0 where
-  deref : IsUnaryOperator kinds.Star unary.Deref
-  address_of : IsUnaryOperator kinds.Ampersand unary.AddressOf
-  negate : IsUnaryOperator kinds.Minus unary.Negate
-  not : IsUnaryOperator kinds.Not unary.Not
-  complement : IsUnaryOperator kinds.Tilde unary.Complement
+-- the operator that a mark is before an operand, where it is one
+abbrev pub unary_operator_of : TokenKind → Option UnaryOperator
+unary_operator_of kinds.Star = Some unary.Deref
+unary_operator_of kinds.Ampersand = Some unary.AddressOf
+unary_operator_of kinds.Minus = Some unary.Negate
+unary_operator_of kinds.Not = Some unary.Not
+unary_operator_of kinds.Tilde = Some unary.Complement
+unary_operator_of _ = None
 
-pub data IsCastWord : TokenKind → CastWord → Type 0 where
-  dynamic : IsCastWord kinds.DynamicBoundsCast casts.Dynamic
-  assume : IsCastWord kinds.AssumeBoundsCast casts.Assume
+-- the cast that a word begins
+abbrev pub cast_word_of : TokenKind → Option CastWord
+cast_word_of (kinds.Keyword keywords.DynamicBoundsCast) = Some casts.Dynamic
+cast_word_of (kinds.Keyword keywords.AssumeBoundsCast) = Some casts.Assume
+cast_word_of _ = None
 
-pub data IsMallocWord : TokenKind → MallocWord → Type 0 where
-  malloc : IsMallocWord kinds.Malloc mallocs.Malloc
-  t_malloc : IsMallocWord kinds.TMalloc mallocs.TMalloc
+-- the allocation of one size that a word begins
+abbrev pub malloc_word_of : TokenKind → Option MallocWord
+malloc_word_of (kinds.Keyword keywords.Malloc) = Some mallocs.Malloc
+malloc_word_of (kinds.Keyword keywords.TMalloc) = Some mallocs.TMalloc
+malloc_word_of _ = None
 
-pub data IsCallocWord : TokenKind → CallocWord → Type 0 where
-  calloc : IsCallocWord kinds.Calloc callocs.Calloc
-  nt_calloc : IsCallocWord kinds.NtCalloc callocs.NtCalloc
+-- the allocation of a count and a size that a word begins
+abbrev pub calloc_word_of : TokenKind → Option CallocWord
+calloc_word_of (kinds.Keyword keywords.Calloc) = Some callocs.Calloc
+calloc_word_of (kinds.Keyword keywords.NtCalloc) = Some callocs.NtCalloc
+calloc_word_of _ = None
 
-pub data IsMark : TokenKind → Mark → Type 0 where
-  checked : IsMark kinds.Checked marks.Checked
-  unchecked : IsMark kinds.Unchecked marks.Unchecked
+-- what a word makes of a block or a function
+abbrev pub mark_of : TokenKind → Option Mark
+mark_of (kinds.Keyword keywords.Checked) = Some marks.Checked
+mark_of (kinds.Keyword keywords.Unchecked) = Some marks.Unchecked
+mark_of _ = None
 
-pub data IsArrayWord : TokenKind → ArrayKind → Type 0 where
-  checked : IsArrayWord kinds.Checked arrays.Checked
-  nt_checked : IsArrayWord kinds.NtChecked arrays.NullTerminated
+-- the array that a word makes of a variable
+abbrev pub array_kind_of : TokenKind → Option ArrayKind
+array_kind_of (kinds.Keyword keywords.Checked) = Some arrays.Checked
+array_kind_of (kinds.Keyword keywords.NtChecked) = Some arrays.NullTerminated
+array_kind_of _ = None
 
-pub data IsStoreOperator : TokenKind → StoreOperator → Type 0 where
-  set : IsStoreOperator kinds.Equal stores.Set
-  add : IsStoreOperator kinds.PlusEqual stores.Add
-  subtract : IsStoreOperator kinds.MinusEqual stores.Subtract
+-- the operator that a mark is between a target and a value
+abbrev pub store_operator_of : TokenKind → Option StoreOperator
+store_operator_of kinds.Equal = Some stores.Set
+store_operator_of kinds.PlusEqual = Some stores.Add
+store_operator_of kinds.MinusEqual = Some stores.Subtract
+store_operator_of _ = None
 
-pub data IsStepOperator : TokenKind → StepOperator → Type 0 where
-  increment : IsStepOperator kinds.PlusPlus steps.Increment
-  decrement : IsStepOperator kinds.MinusMinus steps.Decrement
+-- the operator that a mark is before or behind a target
+abbrev pub step_operator_of : TokenKind → Option StepOperator
+step_operator_of kinds.PlusPlus = Some steps.Increment
+step_operator_of kinds.MinusMinus = Some steps.Decrement
+step_operator_of _ = None
+
+-- the value of a number
+abbrev pub number_of : TokenKind → Option ℕ
+number_of (kinds.Number n) = Some n
+number_of _ = None
+
+-- the value of a number or a character constant
+abbrev pub constant_of : TokenKind → Option Constant
+constant_of (kinds.Number n) = Some (constants.Number n)
+constant_of (kinds.Character n) = Some (constants.Character n)
+constant_of _ = None
 
 -- ---- binary operators
 
@@ -206,24 +239,20 @@ comma kinds.Comma = true
 comma _ = false
 
 abbrev pub array_word : TokenKind → Bool
-array_word kinds.Checked = true
-array_word kinds.NtChecked = true
-array_word _ = false
+array_word kind = is_some (array_kind_of kind)
 
 abbrev pub mark_word : TokenKind → Bool
-mark_word kinds.Checked = true
-mark_word kinds.Unchecked = true
-mark_word _ = false
+mark_word kind = is_some (mark_of kind)
 
 abbrev pub kind_word : TokenKind → Bool
-kind_word kinds.Tainted = true
-kind_word kinds.Callback = true
+kind_word (kinds.Keyword keywords.Tainted) = true
+kind_word (kinds.Keyword keywords.Callback) = true
 kind_word _ = false
 
 abbrev pub tainted_word : TokenKind → Bool
-tainted_word kinds.Tainted = true
+tainted_word (kinds.Keyword keywords.Tainted) = true
 tainted_word _ = false
 
 abbrev pub else_word : TokenKind → Bool
-else_word kinds.Else = true
+else_word (kinds.Keyword keywords.Else) = true
 else_word _ = false

@@ -3,14 +3,15 @@
 --
 --     type     = 'int' | 'char' | 'struct' NAME | pword '<' type stars '>'
 --     stars    = '*'*
-use Rattle.std.specs.Prelude.{◌≡◌, ℕ, zero, suc, false, List, ◌∷◌}
+use Rattle.std.specs.Prelude.{◌≡◌, ℕ, zero, suc, false, List, ◌∷◌, Some}
 use Rattle.ckc_text.specs.declared.place.Span.{Span}
 use Rattle.ckc_lexer_tokens.specs.declared.token.Token.{Token}
 use Rattle.ckc_lexer_tokens.specs.declared.token.TokenKind.{TokenKind}
+use Rattle.ckc_lexer_tokens.specs.declared.keyword.Keyword.TheVariants as keywords
 use Rattle.ckc_lexer_tokens.specs.declared.token.TokenKind.TheVariants as kinds
 use Rattle.ckc_tree.specs.declared.type_form.PointerWord.{PointerWord}
 use Rattle.ckc_tree.specs.Types.{TypeTree, IntType, CharType, StructType, PointerType, TypeName}
-use Rattle.ckc_parser_grammar.specs.Tokens.{token, join, identifier, IsPointerWord, next_is, star}
+use Rattle.ckc_parser_grammar.specs.Tokens.{token, join, identifier, pointer_word_of, next_is, star}
 
 -- all stars that stand here, counted
 pub data SpellsStars : List Token → ℕ → List Token → Type 0 where
@@ -18,11 +19,11 @@ pub data SpellsStars : List Token → ℕ → List Token → Type 0 where
   more : {n : ℕ} {s : Span} {ts rest : List Token} → SpellsStars ts n rest → SpellsStars (token kinds.Star s ∷ ts) (suc n) rest
 
 pub data SpellsType : List Token → TypeTree → List Token → Type 0 where
-  int : {s : Span} {rest : List Token} → SpellsType (token kinds.Int s ∷ rest) (IntType s) rest
-  char : {s : Span} {rest : List Token} → SpellsType (token kinds.Char s ∷ rest) (CharType s) rest
-  struct : {x : List ℕ} {s t : Span} {rest : List Token} → SpellsType (token kinds.Struct s ∷ token (kinds.Name x) t
+  int : {s : Span} {rest : List Token} → SpellsType (token (kinds.Keyword keywords.Int) s ∷ rest) (IntType s) rest
+  char : {s : Span} {rest : List Token} → SpellsType (token (kinds.Keyword keywords.Char) s ∷ rest) (CharType s) rest
+  struct : {x : List ℕ} {s t : Span} {rest : List Token} → SpellsType (token (kinds.Keyword keywords.Struct) s ∷ token (kinds.Name x) t
       ∷ rest) (StructType (identifier x t) (join s t)) rest
-  pointer : {n : ℕ} {k : TokenKind} {s t p : Span} {ts mid rest : List Token} {element : TypeTree} {word : PointerWord} → IsPointerWord k word
+  pointer : {n : ℕ} {k : TokenKind} {s t p : Span} {ts mid rest : List Token} {element : TypeTree} {word : PointerWord} → pointer_word_of k ≡ Some word
       → SpellsType ts element mid → SpellsStars mid n (token kinds.Greater t ∷ rest)
       → SpellsType (token k s ∷ token kinds.Less p ∷ ts) (PointerType word element n (join s t)) rest
 

@@ -1,7 +1,7 @@
 use Rattle.std.proofs.Common.{◌≤◌, ◌+◌, [], length, refl, sym, ap, ◌∙◌, arith, rules}
+use Rattle.ckc_lexer_tokens.specs.declared.token.TokenKind.TheVariants as kinds
 use Rattle.ckc_tree.specs.Expressions.{expression}
 use Rattle.ckc_tree.specs.Heights.{expression_reach, expressions_reach}
-use Rattle.ckc_parser_grammar.specs.Tokens as words
 use Rattle.ckc_parser_grammar.specs.ExpressionGrammar as g
 use Rattle.ckc_parser_grammar.specs.StuckExpressions as s
 use Rattle.ckc_parser_expressions.specs.Readings.{listed}
@@ -15,7 +15,8 @@ use Rattle.ckc_parser_expressions.proofs.Arguments.{follows_none, follows_more, 
 use Rattle.ckc_parser_expressions.proofs.BoundsForms.{word_of_bounds, count_stuck, count_read, no_comma_or_paren, low_stuck, high_stuck, unknown_refused}
 use Rattle.ckc_parser_expressions.proofs.TypedParts.{cast_stuck, malloc_stuck, calloc_stuck, last_stuck, size_stuck}
 use Rattle.ckc_parser_expressions.proofs.Contexts.{needs_first}
-use Rattle.ckc_parser_expressions.proofs.ContextSteps.{operator_shorter, low_beside, needs_in, depth_fits, primary_fails, primary_read, selectors_fail, selectors_read, unclosed, closed_again, some_wait, whole_before, whole_outside, whole_read, tight_before}
+use Rattle.ckc_parser_grammar.proofs.Paths.{low_beside}
+use Rattle.ckc_parser_expressions.proofs.ContextSteps.{operator_shorter, needs_in, depth_fits, primary_fails, primary_read, selectors_fail, selectors_read, unclosed, closed_again, some_wait, whole_before, whole_outside, whole_read, tight_before}
 use Rattle.ckc_parser_expressions.proofs.+expressions.Goals as goal
 
 pub bounds::bounds-returns-in_err-form-clause-reads : goal.bounds::bounds-returns-in_err-form-clause-reads
@@ -367,23 +368,14 @@ primary::primary-returns-in-Text-clause-shorter t c = takes _ _ _ (omega (arith,
 pub primary::primary-returns-in-Name-clause-reads : goal.primary::primary-returns-in-Name-clause-reads
 primary::primary-returns-in-Name-clause-reads t c = rw (begins _ _ _ _ c.in_ok-token.ensures.0 c.in-Name.is) (primary_reads _ _ _ _ c.name_or_call.ensures.reads)
 
-pub primary::primary-returns-in-Sizeof-clause-reads : goal.primary::primary-returns-in-Sizeof-clause-reads
-primary::primary-returns-in-Sizeof-clause-reads t c = rw (begins _ _ _ _ c.in_ok-token.ensures.0 c.in-Sizeof.is) (primary_reads _ _ _ _ c.size_of.ensures.reads)
+pub primary::primary-returns-in-Keyword-Sizeof-clause-reads : goal.primary::primary-returns-in-Keyword-Sizeof-clause-reads
+primary::primary-returns-in-Keyword-Sizeof-clause-reads t c = rw (begins _ _ _ _ c.in_ok-token.ensures.0 (c.in-Keyword-Sizeof.is ∙ ap kinds.Keyword (rw c.in-Keyword-Sizeof.is at c.in-Keyword-Sizeof.field-0-is))) (primary_reads _ _ _ _ c.size_of.ensures.reads)
 
-pub primary::primary-returns-in-DynamicBoundsCast-clause-reads : goal.primary::primary-returns-in-DynamicBoundsCast-clause-reads
-primary::primary-returns-in-DynamicBoundsCast-clause-reads t c = rw (begins _ _ _ _ c.in_ok-token.ensures.0 c.in-DynamicBoundsCast.is) (primary_reads _ _ _ _ (c.cast.ensures.reads _ words.dynamic))
+pub primary::primary-returns-in-Some-default-default-clause-reads : goal.primary::primary-returns-in-Some-default-default-clause-reads
+primary::primary-returns-in-Some-default-default-clause-reads t c = rw (c.in_ok-token.ensures.0) (primary_reads _ _ _ _ (c.cast.ensures.reads _ (sym c.cast_word.ensures ∙ c.in-Some-default-default.is-0)))
 
-pub primary::primary-returns-in-AssumeBoundsCast-clause-reads : goal.primary::primary-returns-in-AssumeBoundsCast-clause-reads
-primary::primary-returns-in-AssumeBoundsCast-clause-reads t c = rw (begins _ _ _ _ c.in_ok-token.ensures.0 c.in-AssumeBoundsCast.is) (primary_reads _ _ _ _ (c.cast-in-AssumeBoundsCast.ensures.reads _ words.assume))
+pub primary::primary-returns-in_default-Some-default-clause-reads : goal.primary::primary-returns-in_default-Some-default-clause-reads
+primary::primary-returns-in_default-Some-default-clause-reads t c = rw (c.in_ok-token.ensures.0) (primary_reads _ _ _ _ (c.malloc.ensures.reads _ (sym c.malloc_word.ensures ∙ c.in_default-Some-default.is-1)))
 
-pub primary::primary-returns-in-Malloc-clause-reads : goal.primary::primary-returns-in-Malloc-clause-reads
-primary::primary-returns-in-Malloc-clause-reads t c = rw (begins _ _ _ _ c.in_ok-token.ensures.0 c.in-Malloc.is) (primary_reads _ _ _ _ (c.malloc.ensures.reads _ words.malloc))
-
-pub primary::primary-returns-in-TMalloc-clause-reads : goal.primary::primary-returns-in-TMalloc-clause-reads
-primary::primary-returns-in-TMalloc-clause-reads t c = rw (begins _ _ _ _ c.in_ok-token.ensures.0 c.in-TMalloc.is) (primary_reads _ _ _ _ (c.malloc-in-TMalloc.ensures.reads _ words.t_malloc))
-
-pub primary::primary-returns-in-Calloc-clause-reads : goal.primary::primary-returns-in-Calloc-clause-reads
-primary::primary-returns-in-Calloc-clause-reads t c = rw (begins _ _ _ _ c.in_ok-token.ensures.0 c.in-Calloc.is) (primary_reads _ _ _ _ (c.calloc.ensures.reads _ words.calloc))
-
-pub primary::primary-returns-in-NtCalloc-clause-reads : goal.primary::primary-returns-in-NtCalloc-clause-reads
-primary::primary-returns-in-NtCalloc-clause-reads t c = rw (begins _ _ _ _ c.in_ok-token.ensures.0 c.in-NtCalloc.is) (primary_reads _ _ _ _ (c.calloc-in-NtCalloc.ensures.reads _ words.nt_calloc))
+pub primary::primary-returns-in_default-default-Some-clause-reads : goal.primary::primary-returns-in_default-default-Some-clause-reads
+primary::primary-returns-in_default-default-Some-clause-reads t c = rw (c.in_ok-token.ensures.0) (primary_reads _ _ _ _ (c.calloc.ensures.reads _ (sym c.calloc_word.ensures ∙ c.in_default-default-Some.is-2)))

@@ -2,6 +2,7 @@ use Rattle.std.proofs.Common.{true, false, codes, refl, arith}
 use Rattle.ckc_text.specs.declared.code.Code.TheVariants.{E02, E03, E04}
 use Rattle.ckc_lexer_tokens.specs.declared.piece.ScopeWord.TheVariants as word
 use Rattle.ckc_lexer_tokens.specs.declared.piece.Piece.TheVariants.{Gap, Lexeme, Named, Define, Scope, CommentFault, Fault}
+use Rattle.ckc_lexer_tokens.specs.declared.keyword.Keyword.TheVariants as keyword
 use Rattle.ckc_lexer_tokens.specs.declared.token.TokenKind.TheVariants as kind
 use Rattle.ckc_lexer.specs.Directives.{part, named_directive, definition_of, signed_definition, numbered_definition, pragma_of, scope_of}
 use Rattle.ckc_lexer.specs.Runs.{ends, goes}
@@ -13,7 +14,7 @@ use Rattle.ckc_lexer.proofs.laws.examples_of_faults.Goals as goal
 pub returns-clause-leading_zero : goal.returns-clause-leading_zero
 unfolding push part named_directive definition_of signed_definition numbered_definition pragma_of scope_of
 returns-clause-leading_zero c =
-    tokens.cut (omega arith) (go (Lexeme kind.Int) 3 (omega arith) (refl, refl) refl
+    tokens.cut (omega arith) (go (Lexeme (kind.Keyword keyword.Int)) 3 (omega arith) (refl, refl) refl
     (go (Gap false) 1 (omega arith) (refl, refl) refl
     (go (Named (codes "x")) 1 (omega arith) (refl, refl) refl
     (go (Gap false) 1 (omega arith) (refl, refl) refl

@@ -1,9 +1,10 @@
-use Rattle.ckc_parser_grammar.specs.StatementGrammar as g
-use Rattle.ckc_parser_cursor.proofs.SingleWords.{word_at}
+use Rattle.std.proofs.Common.{sym, ◌∙◌}
+use Rattle.ckc_parser_grammar.specs.Tokens.{constant_of}
+use Rattle.ckc_parser_cursor.proofs.SingleWords.{word_at, no_word}
 use Rattle.ckc_parser_cursor.proofs.words.constant.Goals as goal
 
-pub returns-in-Number : goal.returns-in-Number
-returns-in-Number c = word_at c.in-Some.ensures.cases.0 c.in-Number.is g.number
+pub returns-in-Some-constant : goal.returns-in-Some-constant
+returns-in-Some-constant c = word_at c.in-Some.ensures.cases.0 (sym c.in-Some-constant.is ∙ c.constant.ensures)
 
-pub returns-in-Character : goal.returns-in-Character
-returns-in-Character c = word_at c.in-Some.ensures.cases.0 c.in-Character.is g.character
+pub returns-in-None : goal.returns-in-None
+returns-in-None c = no_word constant_of c.in-Some.ensures.cases.0 (sym c.in-None.is ∙ c.constant.ensures)

@@ -1,9 +1,10 @@
-use Rattle.ckc_parser_grammar.specs.Tokens as words
-use Rattle.ckc_parser_cursor.proofs.SingleWords.{word_at}
+use Rattle.std.proofs.Common.{sym, ◌∙◌}
+use Rattle.ckc_parser_grammar.specs.Tokens.{mark_of}
+use Rattle.ckc_parser_cursor.proofs.SingleWords.{word_at, no_word}
 use Rattle.ckc_parser_cursor.proofs.words.mark.Goals as goal
 
-pub returns-in-Checked : goal.returns-in-Checked
-returns-in-Checked c = word_at c.in-Some.ensures.cases.0 c.in-Checked.is words.checked
+pub returns-in-Some-mark : goal.returns-in-Some-mark
+returns-in-Some-mark c = word_at c.in-Some.ensures.cases.0 (sym c.in-Some-mark.is ∙ c.mark.ensures)
 
-pub returns-in-Unchecked : goal.returns-in-Unchecked
-returns-in-Unchecked c = word_at c.in-Some.ensures.cases.0 c.in-Unchecked.is words.unchecked
+pub returns-in-None : goal.returns-in-None
+returns-in-None c = no_word mark_of c.in-Some.ensures.cases.0 (sym c.in-None.is ∙ c.mark.ensures)

@@ -1,9 +1,10 @@
-use Rattle.ckc_parser_grammar.specs.Tokens as words
-use Rattle.ckc_parser_cursor.proofs.SingleWords.{word_at}
+use Rattle.std.proofs.Common.{sym, ◌∙◌}
+use Rattle.ckc_parser_grammar.specs.Tokens.{step_operator_of}
+use Rattle.ckc_parser_cursor.proofs.SingleWords.{word_at, no_word}
 use Rattle.ckc_parser_cursor.proofs.words.step_operator.Goals as goal
 
-pub returns-in-PlusPlus : goal.returns-in-PlusPlus
-returns-in-PlusPlus c = word_at c.in-Some.ensures.cases.0 c.in-PlusPlus.is words.increment
+pub returns-in-Some-step_operator : goal.returns-in-Some-step_operator
+returns-in-Some-step_operator c = word_at c.in-Some.ensures.cases.0 (sym c.in-Some-step_operator.is ∙ c.step_operator.ensures)
 
-pub returns-in-MinusMinus : goal.returns-in-MinusMinus
-returns-in-MinusMinus c = word_at c.in-Some.ensures.cases.0 c.in-MinusMinus.is words.decrement
+pub returns-in-None : goal.returns-in-None
+returns-in-None c = no_word step_operator_of c.in-Some.ensures.cases.0 (sym c.in-None.is ∙ c.step_operator.ensures)

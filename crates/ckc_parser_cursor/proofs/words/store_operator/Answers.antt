@@ -1,12 +1,10 @@
-use Rattle.ckc_parser_grammar.specs.Tokens as words
-use Rattle.ckc_parser_cursor.proofs.SingleWords.{word_at}
+use Rattle.std.proofs.Common.{sym, ◌∙◌}
+use Rattle.ckc_parser_grammar.specs.Tokens.{store_operator_of}
+use Rattle.ckc_parser_cursor.proofs.SingleWords.{word_at, no_word}
 use Rattle.ckc_parser_cursor.proofs.words.store_operator.Goals as goal
 
-pub returns-in-Equal : goal.returns-in-Equal
-returns-in-Equal c = word_at c.in-Some.ensures.cases.0 c.in-Equal.is words.set
+pub returns-in-Some-store_operator : goal.returns-in-Some-store_operator
+returns-in-Some-store_operator c = word_at c.in-Some.ensures.cases.0 (sym c.in-Some-store_operator.is ∙ c.store_operator.ensures)
 
-pub returns-in-PlusEqual : goal.returns-in-PlusEqual
-returns-in-PlusEqual c = word_at c.in-Some.ensures.cases.0 c.in-PlusEqual.is words.add
-
-pub returns-in-MinusEqual : goal.returns-in-MinusEqual
-returns-in-MinusEqual c = word_at c.in-Some.ensures.cases.0 c.in-MinusEqual.is words.subtract
+pub returns-in-None : goal.returns-in-None
+returns-in-None c = no_word store_operator_of c.in-Some.ensures.cases.0 (sym c.in-None.is ∙ c.store_operator.ensures)

@@ -1,10 +1,10 @@
 use Rattle.std.proofs.Common.{◌≤◌, ◌<◌, suc, arith, ◌∙◌, ap, sym}
 use Rattle.ckc_parser_grammar.specs.StuckExpressions as s
-use Rattle.ckc_parser_expressions.specs.ContextAnswers.{prefix_word}
+use Rattle.ckc_parser_grammar.specs.StuckExpressions.{prefix_word}
 use Rattle.ckc_parser_cursor.proofs.Readings.{err, next_none}
 use Rattle.ckc_parser_expressions.proofs.Waiting.{waiting_last}
 use Rattle.ckc_parser_expressions.proofs.Contexts.{needs_fails, needs_parens, needs_operand}
-use Rattle.ckc_parser_expressions.proofs.ContextSteps.{needs_in, unary_operator_is, no_prefix_word}
+use Rattle.ckc_parser_expressions.proofs.ContextSteps.{needs_in, no_prefix_word}
 use Rattle.ckc_parser_expressions.proofs.expressions.prefix.Goals as goal
 
 pub returns-in_err-push-clause-reads : goal.returns-in_err-push-clause-reads
@@ -29,7 +29,7 @@ pub returns-in_err-check-clause-reads : goal.returns-in_err-check-clause-reads
 returns-in_err-check-clause-reads c = λ b has.
     let deep = c.in_err-check.ensures.1 in
     let is = sym c.in_default.ensures.left ∙ c.in-Some.ensures.cases.0 in
-    rw (err _ _ c.from_residual-in_err-check.ensures.1, c.in_err-check.ensures.0) (needs_fails (rw is at has.needs) (s.deep_operator (unary_operator_is _ _ (sym c.in-Some-unary_operator.ensures)) (rw has.around.depth at deep)))
+    rw (err _ _ c.from_residual-in_err-check.ensures.1, c.in_err-check.ensures.0) (needs_fails (rw is at has.needs) (s.deep_operator (sym c.in-Some-unary_operator.ensures) (rw has.around.depth at deep)))
 
 pub returns-in_err-push-2-clause-reads : goal.returns-in_err-push-2-clause-reads
 returns-in_err-push-2-clause-reads c = λ b has. rw (err _ _ c.from_residual-in_err-push-2.ensures.1) (has.needs.stuck s.binary_no_room)
@@ -38,5 +38,5 @@ pub returns-clause-reads : goal.returns-clause-reads
 returns-clause-reads c = λ b has.
     let less = rw has.around.depth at c.in_ok-check.ensures in
     let is = sym c.in_default.ensures.left ∙ c.in-Some.ensures.cases.0 in
-    let operand = needs_operand (unary_operator_is _ _ (sym c.in-Some-unary_operator.ensures)) less (rw is at has.needs) in
+    let operand = needs_operand (sym c.in-Some-unary_operator.ensures) less (rw is at has.needs) in
     needs_in b _ _ _ (waiting_last _ _ _ c.in_ok-push-2.ensures) has.around.loosest (c.deeper-around.ensures ∙ ap suc has.around.depth) (less, has.around.fits) operand

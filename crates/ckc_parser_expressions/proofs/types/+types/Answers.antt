@@ -1,7 +1,8 @@
-use Rattle.std.proofs.Common.{sym, arith}
+use Rattle.std.proofs.Common.{sym, arith, ap, ◌∙◌, Some}
 use Rattle.ckc_parser_grammar.specs.TypeGrammar as grammar
 use Rattle.ckc_parser_grammar.specs.StuckTypes as stuck
-use Rattle.ckc_parser_cursor.proofs.Readings.{err, begins, low_around, pointer_word_is}
+use Rattle.ckc_lexer_tokens.specs.declared.token.TokenKind.TheVariants as kinds
+use Rattle.ckc_parser_cursor.proofs.Readings.{err, begins, low_around}
 use Rattle.ckc_parser_expressions.proofs.types.+types.Goals as goal
 
 pub pointer_type-returns-in_err-less-clause-reads : goal.pointer_type-returns-in_err-less-clause-reads
@@ -26,14 +27,14 @@ pointer_type-returns-clause-reads t c = λ k word.
 pub type_form-returns-in_err-token-clause-reads : goal.type_form-returns-in_err-token-clause-reads
 type_form-returns-in_err-token-clause-reads t c = rw (err _ _ c.from_residual.ensures.1) c.in_err-token.ensures
 
-pub type_form-returns-in-Int-clause-reads : goal.type_form-returns-in-Int-clause-reads
-type_form-returns-in-Int-clause-reads t c = rw (begins _ _ _ _ c.in_ok-token.ensures.0 c.in-Int.is, c.innermost.ensures) (grammar.int, omega (arith, c.in_ok-token.ensures.2))
+pub type_form-returns-in-Keyword-Int-clause-reads : goal.type_form-returns-in-Keyword-Int-clause-reads
+type_form-returns-in-Keyword-Int-clause-reads t c = rw (begins _ _ _ _ c.in_ok-token.ensures.0 (c.in-Keyword-Int.is ∙ ap kinds.Keyword (rw c.in-Keyword-Int.is at c.in-Keyword-Int.field-0-is)), c.innermost.ensures) (grammar.int, omega (arith, c.in_ok-token.ensures.2))
 
-pub type_form-returns-in-Char-clause-reads : goal.type_form-returns-in-Char-clause-reads
-type_form-returns-in-Char-clause-reads t c = rw (begins _ _ _ _ c.in_ok-token.ensures.0 c.in-Char.is, c.innermost-in-Char.ensures) (grammar.char, omega (arith, c.in_ok-token.ensures.2))
+pub type_form-returns-in-Keyword-Char-clause-reads : goal.type_form-returns-in-Keyword-Char-clause-reads
+type_form-returns-in-Keyword-Char-clause-reads t c = rw (begins _ _ _ _ c.in_ok-token.ensures.0 (c.in-Keyword-Char.is ∙ ap kinds.Keyword (rw c.in-Keyword-Char.is at c.in-Keyword-Char.field-0-is)), c.innermost-in-Keyword-Char.ensures) (grammar.char, omega (arith, c.in_ok-token.ensures.2))
 
-pub type_form-returns-in-Struct-clause-reads : goal.type_form-returns-in-Struct-clause-reads
-type_form-returns-in-Struct-clause-reads t c = rw (begins _ _ _ _ c.in_ok-token.ensures.0 c.in-Struct.is) (c.struct_type.ensures.reads _ c.in_ok-token.ensures.2)
+pub type_form-returns-in-Keyword-Struct-clause-reads : goal.type_form-returns-in-Keyword-Struct-clause-reads
+type_form-returns-in-Keyword-Struct-clause-reads t c = rw (begins _ _ _ _ c.in_ok-token.ensures.0 (c.in-Keyword-Struct.is ∙ ap kinds.Keyword (rw c.in-Keyword-Struct.is at c.in-Keyword-Struct.field-0-is))) (c.struct_type.ensures.reads _ c.in_ok-token.ensures.2)
 
 pub type_form-returns-in-Some-clause-reads : goal.type_form-returns-in-Some-clause-reads
-type_form-returns-in-Some-clause-reads t c = rw (c.in_ok-token.ensures.0) (c.pointer_type.ensures.reads _ (pointer_word_is _ _ (sym c.in-Some.ensures)))
+type_form-returns-in-Some-clause-reads t c = rw (c.in_ok-token.ensures.0) (c.pointer_type.ensures.reads _ (sym c.in-Some.ensures))

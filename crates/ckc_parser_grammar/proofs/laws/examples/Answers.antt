@@ -3,7 +3,7 @@ use Rattle.ckc_text.specs.declared.place.Span.{Span}
 use Rattle.ckc_lexer_tokens.specs.declared.token.Token.{Token}
 use Rattle.ckc_lexer_tokens.specs.declared.token.TokenKind.TheVariants as kinds
 use Rattle.ckc_tree.specs.Expressions.{Expression, Name}
-use Rattle.ckc_parser_grammar.specs.Tokens.{token, identifier, ptr, operator_at, next_is, open_paren, selector}
+use Rattle.ckc_parser_grammar.specs.Tokens.{token, identifier, operator_at, next_is, open_paren, selector}
 use Rattle.ckc_parser_grammar.specs.TypeGrammar.{int, pointer, none, type_name}
 use Rattle.ckc_parser_grammar.specs.ExpressionGrammar.{SpellsBinary, SpellsExpression, operand, operators, level_done, level_more, postfix, unselected, number, name, parentheses}
 use Rattle.ckc_parser_grammar.specs.StatementGrammar.{if, if_else, empty, return}
@@ -53,7 +53,7 @@ returns-clause-shift c =
     (level_more refl refl (up refl (up refl (alone refl refl))) (level_done refl)))
 
 pub returns-clause-types : goal.returns-clause-types
-returns-clause-types c = type_name (pointer ptr (pointer ptr int (none refl)) (none refl)) (none refl)
+returns-clause-types c = type_name (pointer refl (pointer refl int (none refl)) (none refl)) (none refl)
 
 pub returns-clause-nearest : goal.returns-clause-nearest
 returns-clause-nearest c = if (all_levels refl (alone refl refl)) (if_else (all_levels refl (alone refl refl)) empty empty) refl

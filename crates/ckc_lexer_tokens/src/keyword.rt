@@ -1,0 +1,36 @@
+// Keywords of a source.
+
+/// A keyword. The two spellings of a pointer word, as `ptr` and `_Ptr`, are one.
+#[derive(Clone, Copy)]
+pub enum Keyword {
+    Int,
+    Char,
+    Void,
+    Struct,
+    If,
+    Else,
+    While,
+    For,
+    Return,
+    Break,
+    Continue,
+    Sizeof,
+    Malloc,
+    Calloc,
+    NtCalloc,
+    TMalloc,
+    Ptr,
+    ArrayPtr,
+    NtArrayPtr,
+    TPtr,
+    TArrayPtr,
+    TNtArrayPtr,
+    Checked,
+    NtChecked,
+    Unchecked,
+    Bundled,
+    Tainted,
+    Callback,
+    DynamicBoundsCast,
+    AssumeBoundsCast,
+}
