@@ -62,8 +62,7 @@ pub fn built_expression(written: &Expr) -> bool
             callee,
             arguments,
             ..
-        } => callee.name.as_bytes() != STRLEN.as_slice()
-            && built_arguments(arguments.as_slice()),
+        } => callee.name.as_bytes() != STRLEN.as_slice() && built_arguments(arguments.as_slice()),
         Expr::SizeOf { type_name, .. } => built_type(&type_name.base),
         Expr::Index { base, index, .. } => built_expression(base) && built_expression(index),
         Expr::Dot { base, .. } | Expr::Arrow { base, .. } => built_expression(base),

@@ -11,8 +11,8 @@ ghost use Rattle.ccbox_call.specs.Calls.{CallEnds};
 
 use crate::run::run_file;
 use ccbox_call_words::output::give_usage;
-use ccbox_call_words::status::Status;
 use ccbox_call_words::request::{Request, request_from};
+use ccbox_call_words::status::Status;
 use ckc_io::shelf::Shelf;
 use ckc_io::sink::Sink;
 use std::alloc::Global;

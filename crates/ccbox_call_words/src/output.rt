@@ -6,13 +6,13 @@ ghost use Rattle.ccbox_call_words.specs.Statuses.{number_of};
 ghost use Rattle.act_recorder.specs.Diagnostics.{refused_text, act_refused_text, missing_text, usage_text};
 
 use crate::status::{Status, status_of};
+use act_recorder::diagnostics::{act_refused_line, missing_line, refused_line, usage_line};
 use act_words::ending::Ending;
 use ckc_io::sink::{Sink, SinkFault};
 use ckc_io::whole::write_whole;
 use ckc_text::code::Code;
 use ckc_text::fault::NoMemory;
 use ckc_text::place::Place;
-use act_recorder::diagnostics::{act_refused_line, missing_line, refused_line, usage_line};
 use run_core_transcript::fault::RunFault;
 use std::alloc::Global;
 

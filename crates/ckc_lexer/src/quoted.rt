@@ -14,10 +14,10 @@ use crate::front::{is_control, is_forbidden};
 use crate::run::{Run, extent};
 use ckc_lexer_tokens::number::digit_value;
 use ckc_lexer_tokens::piece::Piece;
-use ckc_text::listed::Listed;
 use ckc_lexer_tokens::token::TokenKind;
 use ckc_text::code::Code;
 use ckc_text::fault::NoMemory;
+use ckc_text::listed::Listed;
 use std::alloc::Global;
 
 /// The byte that a backslash and this byte are, and how many bytes the escape takes.

@@ -1,7 +1,7 @@
 // Tokens of a source.
 
-use ckc_text::listed::Listed;
 use crate::keyword::Keyword;
+use ckc_text::listed::Listed;
 use ckc_text::name::Name;
 use ckc_text::place::Span;
 

@@ -23,7 +23,6 @@ use crate::build::{
 use crate::expressions::{expression, expression_before};
 use crate::operand::{Operand, Reach};
 use crate::types::{ReadTypeName, angled, type_name};
-use ckc_text::listed::Listed;
 use ckc_lexer_tokens::keyword::Keyword;
 use ckc_lexer_tokens::token::{Token, TokenKind};
 use ckc_parser_cursor::depth::Depth;
@@ -34,6 +33,7 @@ use ckc_parser_cursor::stuck::Stuck;
 use ckc_parser_cursor::terminal::Terminal;
 use ckc_parser_cursor::tokens::{close_paren, comma, copied, open_paren};
 use ckc_text::fault::NoMemory;
+use ckc_text::listed::Listed;
 use ckc_text::name::Name;
 use ckc_text::place::Span;
 use ckc_tree::expr::{CallocWord, CastWord, Expr, MallocWord};

@@ -6,8 +6,8 @@ ghost use Rattle.flat_bytes.specs.Blocks.{first_offset, grown};
 ghost use Rattle.code_words.specs.Fitting.{BlocksFit, Fits, HasMain};
 
 use crate::image::Image;
-use ckc_text::listed::Listed;
 use act_words::settings::Settings;
+use ckc_text::listed::Listed;
 
 // The offset of the first block of a memory.
 const FIRST_OFFSET: u32 = 16;

@@ -3,8 +3,8 @@
 ghost use Rattle.std.specs.Prelude.{◌≡◌};
 ghost use Rattle.code_words.specs.Formats.{KeepsFormat};
 
-use ckc_text::listed::Listed;
 use crate::op::Op;
+use ckc_text::listed::Listed;
 use ckc_text::name::Name;
 use marshalling::kind::WordKind;
 use marshalling::signature::Signature;

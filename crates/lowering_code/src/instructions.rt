@@ -8,8 +8,7 @@ ghost use Rattle.lowering_code.specs.Code as code;
 
 use crate::code_sizes::has_one_byte;
 use act_words::operator::Operator;
-use ckc_core::program::Site;
-use ckc_core::program::{Callee};
+use ckc_core::program::{Callee, Site};
 use ckc_text::fault::NoMemory;
 use code_words::op::Op;
 use pointer_modes::ctype::CType;

@@ -7,7 +7,7 @@ ghost use Rattle.code_words.specs.declared.op.Op.TheVariants as ops_of;
 ghost use Rattle.lowering_code.specs.Code as code;
 
 use act_words::operator::Comparison;
-use ckc_core::program::{CellPlace, Expr, Callee};
+use ckc_core::program::{Callee, CellPlace, Expr};
 use ckc_text::fault::NoMemory;
 use code_words::op::Op;
 use lowering_code::code_sizes::expression_size;

@@ -4,9 +4,9 @@ ghost use Rattle.std.specs.Prelude.{◌≡◌};
 ghost use Rattle.sandbox_actor.specs.Answers.{moment_of};
 ghost use Rattle.run_core_transcript.specs.Asked.{AskAnswers, AskLowers, PlayCounts};
 
+use crate::fault::RunFault;
 use act_words::act::Act;
 use ckc_io::shelf::Shelf;
-use crate::fault::RunFault;
 use sandbox_actor::actor::{Actor, ActorFault, Now};
 
 /// Asks an actor for its next act, unless it has ended. `None` says that no act is left.

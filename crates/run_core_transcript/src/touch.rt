@@ -5,10 +5,10 @@ ghost use Rattle.act_words.specs.Acts.{seen_view};
 ghost use Rattle.run_core_transcript.specs.Texts.{events_text};
 ghost use Rattle.run_core_transcript.specs.Touched.{last_of, touched};
 
+use crate::transcript;
 use act_words::act::{Release, Seen};
 use act_words::settings::Settings;
 use ckc_text::fault::NoMemory;
-use crate::transcript;
 use std::alloc::Global;
 
 /// Tells of a touch: what it released, and then what the sandbox was shown of it, if it is shown.
