@@ -7,7 +7,7 @@ ghost use Rattle.ckc_core.specs.Core as cores;
 ghost use Rattle.code_words.specs.declared.op.Op.TheVariants as ops_of;
 ghost use Rattle.lowering_code.specs.Code as code;
 ghost use Rattle.lowering_code.specs.Code.{Places};
-ghost use Rattle.lowering_fragments.specs.Views.{targets_of};
+ghost use Rattle.lowering_expressions.specs.Views.{targets_of};
 
 use act_words::operator::Operator;
 use ckc_core::program::{CellPlace, Expr, Site, Stmt};
@@ -16,8 +16,8 @@ use code_words::op::Op;
 use lowering_code::code_sizes::{expression_size, has_one_byte, statement_size};
 use lowering_code::instructions::{load_op, operator_op, place_behind, put, put_two, store_op};
 use lowering_expressions::expressions::{emit_call, emit_expression, emit_place, emit_with};
-use lowering_fragments::addresses::{emit_address, emit_behind_value};
-use lowering_fragments::loops::{Targets, begin_loop, loop_targets};
+use lowering_expressions::addresses::{emit_address, emit_behind_value};
+use lowering_expressions::loops::{Targets, begin_loop, loop_targets};
 use pointer_modes::ctype::CType;
 
 // The address that a store needs before its value, or its pointer.

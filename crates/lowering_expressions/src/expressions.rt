@@ -14,8 +14,8 @@ use lowering_code::code_sizes::expression_size;
 use lowering_code::instructions::{
     begin_and, begin_or, callee_op, end_and, load_op, operator_op, put, put_two,
 };
-use lowering_fragments::addresses::{emit_address, emit_through};
-use lowering_fragments::calls::{argument_at, put_call};
+use crate::addresses::{emit_address, emit_through};
+use crate::calls::{argument_at, put_call};
 
 /// The word of an expression's value.
 #[cycle(expressions)]

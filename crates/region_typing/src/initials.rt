@@ -9,7 +9,7 @@ ghost use Rattle.ckc_core.specs.Meaning.{low_byte as low_byte_of};
 ghost use Rattle.region_typing_rules.specs.Types.{is_scalar};
 ghost use Rattle.region_typing_rules.specs.Items.{Written, negative as negative_of, null_number as null_number_of, unsigned_constant as unsigned_of, signed_constant as signed_of, cells_with as cells_as};
 ghost use Rattle.region_typing_scope.specs.Answering.{Answers};
-ghost use Rattle.region_typing_values.specs.Typed.{typed as typed_view};
+ghost use Rattle.region_typing_scope.specs.Typed.{typed as typed_view};
 ghost use Rattle.region_typing.specs.Initials.{IsSmall, IsStructOf, judged_as, judged_cells, cell_number as cell_number_as, constant_cells as constant_cells_as, judged as judged_of, stride_at};
 
 use ckc_core::program::Initial;
@@ -23,7 +23,7 @@ use pointer_modes::structs::Structs;
 use region_typing_scope::context::Context;
 use region_typing_scope::refusals::{CheckError, refusal};
 use region_typing_scope::types::copied;
-use region_typing_values::typed::{Typed, is_zero};
+use region_typing_scope::typed::{Typed, is_zero};
 
 /// What a variable is initialised with.
 #[derive(Drop, Clone, Copy)]

@@ -11,7 +11,7 @@ use Rattle.region_typing_rules.specs.Verdicts.{Stop, Verdict, Passes, Stops, pas
 use Rattle.region_typing_rules.specs.Scopes.{Scope}
 use Rattle.region_typing_rules.specs.Expressions.{Places, Typed, typed, all_typed, with_result}
 use Rattle.region_typing_expressions.specs.declared.calls.Argument as code
-use Rattle.region_typing_values.specs.OnHeap.{typed as typed_view}
+use Rattle.region_typing_scope.specs.OnHeap.{typed as typed_view}
 use Rattle.region_typing_expressions.specs.Calls.{argument, called_with}
 use Rattle.region_typing_expressions.specs.Slices.{expression_list}
 

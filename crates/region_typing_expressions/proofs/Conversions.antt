@@ -12,7 +12,7 @@ use Rattle.ckc_text.specs.declared.code.Code.TheVariants.{E14}
 use Rattle.region_typing_rules.specs.Verdicts.{Stop, Broken, Verdict, Passes, Stops, passing, needs}
 use Rattle.region_typing_rules.specs.Expressions.{arguments_as, converted}
 use Rattle.region_typing_expressions.specs.declared.calls.Argument as code
-use Rattle.region_typing_values.specs.OnHeap.{typed}
+use Rattle.region_typing_scope.specs.OnHeap.{typed}
 use Rattle.region_typing_expressions.specs.Calls.{argument, only_number}
 use Rattle.region_typing_expressions.proofs.Continuing.{converted_then}
 use Rattle.region_typing_expressions.proofs.CoreRows.{joined, joined_none, joined_one}

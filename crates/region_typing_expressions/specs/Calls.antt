@@ -14,7 +14,7 @@ use Rattle.region_typing_rules.specs.Expressions.{declared_callee, call_of, all_
 use Rattle.region_typing_expressions.specs.declared.calls.Called as code
 use Rattle.region_typing_expressions.specs.declared.calls.Called.TheVariants as calls
 use Rattle.region_typing_expressions.specs.declared.calls.Argument as code_argument
-use Rattle.region_typing_values.specs.OnHeap.{typed}
+use Rattle.region_typing_scope.specs.OnHeap.{typed}
 
 abbrev pub called : code.Called → Called
 called (calls.Gives type value) = Gives (ctype type) (expression value.value)

@@ -10,7 +10,7 @@ ghost use Rattle.region_typing_rules.specs.Verdicts.{Passes};
 ghost use Rattle.region_typing_rules.specs.Statements.{is_char as is_char_of, store as store_of, update as update_with, updated_place as updated_at, set_to as set_to_of, updated as updated_of, stored as stored_of, step_of as step_from, one as one_of, assignment as assignment_of, condition as condition_of};
 ghost use Rattle.region_typing_scope.specs.Answering.{Answers};
 ghost use Rattle.region_typing_scope.specs.Views.{scope as scope_of};
-ghost use Rattle.region_typing_values.specs.OnHeap.{typed as typed_view, expression as expression_on_heap, statement as statement_on_heap};
+ghost use Rattle.region_typing_scope.specs.OnHeap.{typed as typed_view, expression as expression_on_heap, statement as statement_on_heap};
 ghost use Rattle.region_typing_expressions.specs.Targets.{target as target_view, target_on_heap, lvalue, target_of as target_in, updated_target};
 
 use crate::expressions::typed;
@@ -27,9 +27,9 @@ use region_typing_scope::context::Context;
 use region_typing_scope::refusals::{CheckError, refusal};
 use region_typing_scope::scope::Scope;
 use region_typing_scope::types::{is_number, is_pointer};
-use region_typing_values::conversions::converted;
-use region_typing_values::operands::{number, scalar};
-use region_typing_values::typed::{Typed, plain};
+use region_typing_scope::conversions::converted;
+use region_typing_scope::operands::{number, scalar};
+use region_typing_scope::typed::{Typed, plain};
 
 /// Where a value may be stored.
 #[derive(Drop)]

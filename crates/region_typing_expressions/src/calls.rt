@@ -9,8 +9,8 @@ ghost use Rattle.region_typing_rules.specs.Scopes.{function_named};
 ghost use Rattle.region_typing_scope.specs.Views.{scope as scope_of, signature};
 ghost use Rattle.region_typing_scope.specs.Answering.{Answers};
 ghost use Rattle.region_typing_rules.specs.Verdicts.{Passes};
-ghost use Rattle.region_typing_values.specs.Typed.{typed as inline_typed};
-ghost use Rattle.region_typing_values.specs.OnHeap.{typed};
+ghost use Rattle.region_typing_scope.specs.Typed.{typed as inline_typed};
+ghost use Rattle.region_typing_scope.specs.OnHeap.{typed};
 ghost use Rattle.region_typing_expressions.specs.Calls.{argument, called as called_as, converted_call, only_number};
 
 use ckc_core::program::{Call, Callee, Expr, Site, Stmt};
@@ -25,8 +25,8 @@ use region_typing_scope::scope::Scope;
 use region_typing_scope::sides::is_import;
 use region_typing_scope::signature::Signature;
 use region_typing_scope::types::{copied, is_checked_pointer};
-use region_typing_values::conversions::converted;
-use region_typing_values::typed::Typed;
+use region_typing_scope::conversions::converted;
+use region_typing_scope::typed::Typed;
 use std::collections::VecDeque;
 
 /// What a call is: a value of a type, or a statement where it has no result.

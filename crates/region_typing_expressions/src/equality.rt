@@ -3,7 +3,7 @@
 ghost use Rattle.std.specs.Prelude.{◌≡◌, ◌&&◌, IfOk};
 ghost use Rattle.ckc_core.specs.Core.{expression};
 ghost use Rattle.region_typing_scope.specs.Answering.{Answers};
-ghost use Rattle.region_typing_values.specs.Typed.{typed};
+ghost use Rattle.region_typing_scope.specs.Typed.{typed};
 ghost use Rattle.region_typing_expressions.specs.Comparing.{is_number_value as number_value_of};
 ghost use Rattle.region_typing_expressions.specs.Equality.{equality as equality_in, equated_by as equated_as};
 
@@ -14,7 +14,7 @@ use ckc_text::fault::NoMemory;
 use ckc_text::place::Span;
 use region_typing_scope::context::Context;
 use region_typing_scope::refusals::{CheckError, needs};
-use region_typing_values::typed::{Typed, is_zero};
+use region_typing_scope::typed::{Typed, is_zero};
 
 /// How two operands are compared.
 #[derive(Drop, Clone, Copy)]

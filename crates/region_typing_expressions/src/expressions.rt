@@ -10,8 +10,8 @@ ghost use Rattle.region_typing_rules.specs.Verdicts.{Passes};
 ghost use Rattle.region_typing_rules.specs.Expressions.{constant as constant_of, Value, typed as typed_of, all_typed as all_typed_of, call_typed as call_typed_of};
 ghost use Rattle.region_typing_scope.specs.Answering.{Answers};
 ghost use Rattle.region_typing_scope.specs.Views.{scope as scope_of};
-ghost use Rattle.region_typing_values.specs.OnHeap.{typed as typed_view};
-ghost use Rattle.region_typing_values.specs.Typed.{number_typed, size_typed};
+ghost use Rattle.region_typing_scope.specs.OnHeap.{typed as typed_view};
+ghost use Rattle.region_typing_scope.specs.Typed.{number_typed, size_typed};
 ghost use Rattle.region_typing_expressions.specs.Calls.{argument, called as called_as, called_with, name_verdict};
 ghost use Rattle.region_typing_expressions.specs.Slices.{expression_list};
 
@@ -29,7 +29,7 @@ use region_typing_scope::context::Context;
 use region_typing_scope::refusals::{CheckError, refusal};
 use region_typing_scope::scope::Scope;
 use region_typing_scope::types::{copied, type_named};
-use region_typing_values::typed::{Base, Typed, at_base, at_local};
+use region_typing_scope::typed::{Base, Typed, at_base, at_local};
 
 // A constant, which is 0 or not.
 fn constant(context: &Context, zero: bool, number: i32) -> Result<Box<Typed>, NoMemory>

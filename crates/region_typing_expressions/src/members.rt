@@ -7,8 +7,8 @@ ghost use Rattle.region_typing_rules.specs.Expressions.{member_from, member_at a
 ghost use Rattle.region_typing_scope.specs.Answering.{Answers};
 ghost use Rattle.region_typing_scope.specs.Searches.{member_at as member_found_at};
 ghost use Rattle.region_typing_scope.specs.Views.{scope as scope_of};
-ghost use Rattle.region_typing_values.specs.Typed.{base_place, struct_place, struct_of, struct_behind};
-ghost use Rattle.region_typing_values.specs.OnHeap.{typed};
+ghost use Rattle.region_typing_scope.specs.Typed.{base_place, struct_place, struct_of, struct_behind};
+ghost use Rattle.region_typing_scope.specs.OnHeap.{typed};
 
 use ckc_core::program::{CellPlace, Expr, Site};
 use ckc_text::code::Code;
@@ -19,8 +19,8 @@ use region_typing_scope::context::Context;
 use region_typing_scope::refusals::{CheckError, refusal};
 use region_typing_scope::scope::Scope;
 use region_typing_scope::types::copied;
-use region_typing_values::operands::{Operand, value_of};
-use region_typing_values::typed::{Base, StructPlace, Typed};
+use region_typing_scope::operands::{Operand, value_of};
+use region_typing_scope::typed::{Base, StructPlace, Typed};
 
 // The place of the first of names that is this one.
 fn name_place(names: &[usize], name: usize) -> Option<usize>

@@ -5,9 +5,9 @@ ghost use Rattle.ckc_core.specs.Core.{expression, Not};
 ghost use Rattle.region_typing_rules.specs.Verdicts.{passing};
 ghost use Rattle.region_typing_rules.specs.Expressions.{site_at, number as number_typed, unary_typed as unary_of, binary_typed as binary_of, two_numbers, two_scalars, summands, arithmetic as arithmetic_of, equated as equated_in, ordered as ordered_in, indexed as indexed_in};
 ghost use Rattle.region_typing_scope.specs.Answering.{Answers};
-ghost use Rattle.region_typing_values.specs.OnHeap.{typed};
-ghost use Rattle.region_typing_values.specs.Operands.{and_also, or_else};
-ghost use Rattle.region_typing_values.specs.Typed.{typed as typed_of};
+ghost use Rattle.region_typing_scope.specs.OnHeap.{typed};
+ghost use Rattle.region_typing_scope.specs.Operands.{and_also, or_else};
+ghost use Rattle.region_typing_scope.specs.Typed.{typed as typed_of};
 ghost use Rattle.region_typing_expressions.specs.Comparing.{compared as comparison_of};
 
 use crate::equality::{equality_of, equated_by};
@@ -20,8 +20,8 @@ use ckc_tree::expr::{BinaryOperator, UnaryOperator};
 use pointer_modes::ctype::CType;
 use region_typing_scope::context::Context;
 use region_typing_scope::refusals::{CheckError, needs, refusal};
-use region_typing_values::operands::{number, scalar};
-use region_typing_values::typed::{Typed, plain};
+use region_typing_scope::operands::{number, scalar};
+use region_typing_scope::typed::{Typed, plain};
 
 // A number.
 fn numeric(context: &Context, value: Expr) -> Result<Box<Typed>, CheckError>

@@ -5,7 +5,7 @@ ghost use Rattle.pointer_modes.specs.Types.{ctype as ctype_of};
 ghost use Rattle.ckc_core.specs.Core.{place as place_of};
 ghost use Rattle.region_typing_rules.specs.Expressions.{dereferenced, address as address_of, pointer_to as pointer_at, checked_at as checked_at_of};
 ghost use Rattle.region_typing_scope.specs.Answering.{Answers};
-ghost use Rattle.region_typing_values.specs.OnHeap.{typed};
+ghost use Rattle.region_typing_scope.specs.OnHeap.{typed};
 
 use ckc_core::program::{CellPlace, Expr, Site};
 use ckc_text::code::Code;
@@ -14,8 +14,8 @@ use ckc_text::place::Span;
 use pointer_modes::ctype::{CType, Kind, Mode};
 use region_typing_scope::context::Context;
 use region_typing_scope::refusals::{CheckError, refusal};
-use region_typing_values::operands::{Operand, value_of};
-use region_typing_values::typed::{Base, StructPlace, Typed, at_base, first_cell, plain};
+use region_typing_scope::operands::{Operand, value_of};
+use region_typing_scope::typed::{Base, StructPlace, Typed, at_base, first_cell, plain};
 
 /// What a pointer points to.
 pub fn pointed_at(

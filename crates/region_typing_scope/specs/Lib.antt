@@ -8,3 +8,6 @@ pub mod Searches
 pub mod Locals
 pub mod Filling
 pub mod Visibles
+pub mod Typed
+pub mod OnHeap
+pub mod Operands

@@ -1,15 +1,19 @@
-// What the names of a source stand for while its types are checked, and the types that are written in it.
+// What the names of a source stand for while its types are checked, the types that are written in it, and values with their
+// types.
 #![tactic(auto)]
 
 pub mod context;
+pub mod conversions;
 mod filling;
 mod locals;
 pub mod lookups;
 pub mod number_table;
 pub mod on_heap;
+pub mod operands;
 pub mod refusals;
 pub mod scope;
 pub mod sides;
 pub mod signature;
+pub mod typed;
 pub mod types;
 pub mod visible;

@@ -7,7 +7,7 @@ use Rattle.ckc_core.specs.declared.program.Stmt.TheVariants as stmts
 use Rattle.ckc_core.specs.Core as core
 use Rattle.ckc_core.specs.Core.{statement, statements, statements_of}
 use Rattle.ckc_text.specs.declared.fault.NoMemory.{NoMemory}
-use Rattle.region_typing_values.specs.OnHeap as on_heap
+use Rattle.region_typing_scope.specs.OnHeap as on_heap
 
 abbrev core_row : Stmt → (n : Count) × Row_of-Stmt n
 core_row (stmts.Block' shape row) = (_, row)

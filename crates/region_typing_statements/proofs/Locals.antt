@@ -10,7 +10,7 @@ use Rattle.ckc_tree.specs.Statements.{Declarator, declarator as declarator_tree}
 use Rattle.pointer_modes.specs.Types.{CType, ctype}
 use Rattle.ckc_core.specs.declared.program.Stmt.{Stmt}
 use Rattle.ckc_core.specs.Core as core
-use Rattle.region_typing_values.specs.OnHeap.{statement}
+use Rattle.region_typing_scope.specs.OnHeap.{statement}
 use Rattle.region_typing_rules.specs.Verdicts.{Verdict, Passes, Stops, passing, needs}
 use Rattle.region_typing_rules.specs.Scopes.{Scope}
 use Rattle.region_typing_rules.specs.Types.{without_stars, is_scalar}

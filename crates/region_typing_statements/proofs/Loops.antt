@@ -15,7 +15,7 @@ use Rattle.region_typing_rules.specs.Expressions.{Places, call_typed}
 use Rattle.region_typing_rules.specs.Statements.{both, alone, behind_block, in_loop, condition, optional_condition, optional_step, first_part, statement}
 use Rattle.region_typing_scope.specs.declared.scope as code
 use Rattle.region_typing_scope.specs.Views.{scope, visible}
-use Rattle.region_typing_values.specs.OnHeap as on_heap
+use Rattle.region_typing_scope.specs.OnHeap as on_heap
 use Rattle.region_typing_statements.specs.Walks.{Walks}
 use Rattle.region_typing_statements.proofs.Walking.{left, left_walk, grown, other_loop}
 use Rattle.region_typing_statements.proofs.Verdicts.{same_behind, in_parts}

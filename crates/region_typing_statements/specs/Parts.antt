@@ -12,7 +12,7 @@ use Rattle.region_typing_rules.specs.Expressions.{Places, typed, converted, call
 use Rattle.region_typing_rules.specs.Statements.{both, alone, statement, behind_block, condition, optional_condition, optional_step, first_part, returned}
 use Rattle.region_typing_rules.specs.Scopes.{Scope}
 use Rattle.region_typing_statements.specs.declared.core_forms.Branch as code
-use Rattle.region_typing_values.specs.OnHeap as on_heap
+use Rattle.region_typing_scope.specs.OnHeap as on_heap
 
 -- a statement whose locals are gone behind it, where a loop is around or not
 abbrev pub nested : Places → Scope → Bool → Statement → Verdict (core.Statement × Scope)

@@ -3,7 +3,7 @@
 ghost use Rattle.std.specs.Prelude.{◌≡◌, IfOk};
 ghost use Rattle.ckc_core.specs.Core.{statements_of, Block, If, Loop};
 ghost use Rattle.region_typing_rules.specs.Statements.{both as both_of};
-ghost use Rattle.region_typing_values.specs.OnHeap.{expression as expression_of, statement as statement_of};
+ghost use Rattle.region_typing_scope.specs.OnHeap.{expression as expression_of, statement as statement_of};
 
 use ckc_core::program::{Expr, Stmt};
 use ckc_text::fault::NoMemory;

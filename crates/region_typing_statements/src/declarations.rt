@@ -9,7 +9,7 @@ ghost use Rattle.region_typing_rules.specs.Statements.{few_locals as few_locals_
 ghost use Rattle.region_typing_rules.specs.Verdicts.{Passes};
 ghost use Rattle.region_typing_scope.specs.Answering.{Answers};
 ghost use Rattle.region_typing_scope.specs.Views.{scope as scope_of};
-ghost use Rattle.region_typing_values.specs.OnHeap.{statement};
+ghost use Rattle.region_typing_scope.specs.OnHeap.{statement};
 ghost use Rattle.region_typing_statements.specs.Walks.{Walks, declared_local};
 
 use crate::core_forms::both;

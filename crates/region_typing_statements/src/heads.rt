@@ -6,7 +6,7 @@ ghost use Rattle.ckc_tree.specs.Statements.{on_heap, assignment as assignment_tr
 ghost use Rattle.region_typing_rules.specs.Statements.{optional_condition as optional_condition_of, optional_step as optional_step_of, first_part as first_part_of};
 ghost use Rattle.region_typing_scope.specs.Answering.{Answers};
 ghost use Rattle.region_typing_scope.specs.Views.{scope as scope_of};
-ghost use Rattle.region_typing_values.specs.OnHeap.{expression, statement};
+ghost use Rattle.region_typing_scope.specs.OnHeap.{expression, statement};
 ghost use Rattle.region_typing_statements.specs.Walks.{Walks};
 
 use crate::declarations::declaration;

@@ -8,7 +8,7 @@ ghost use Rattle.pointer_modes.specs.Types.{ctype as ctype_of};
 ghost use Rattle.region_typing_rules.specs.Statements.{initialised as initialised_as};
 ghost use Rattle.region_typing_scope.specs.Answering.{Answers};
 ghost use Rattle.region_typing_scope.specs.Views.{scope as scope_of};
-ghost use Rattle.region_typing_values.specs.OnHeap.{statement as statement_of};
+ghost use Rattle.region_typing_scope.specs.OnHeap.{statement as statement_of};
 ghost use Rattle.region_typing_statements.specs.Walks.{initial_value as initial_value_as, from_zero as from_zero_as};
 
 use crate::core_forms::both;
@@ -24,7 +24,7 @@ use region_typing_scope::context::Context;
 use region_typing_scope::refusals::{CheckError, needs, refusal};
 use region_typing_scope::scope::Scope;
 use region_typing_scope::types::is_scalar;
-use region_typing_values::conversions::converted;
+use region_typing_scope::conversions::converted;
 
 // The value that a local is given.
 fn initial_value(

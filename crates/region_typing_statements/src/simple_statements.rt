@@ -11,7 +11,7 @@ ghost use Rattle.region_typing_rules.specs.Statements.{return as return_of, retu
 ghost use Rattle.region_typing_scope.specs.Answering.{Answers};
 ghost use Rattle.region_typing_scope.specs.Views.{scope as scope_of};
 ghost use Rattle.region_typing_expressions.specs.Calls.{called as called_as};
-ghost use Rattle.region_typing_values.specs.OnHeap.{statement};
+ghost use Rattle.region_typing_scope.specs.OnHeap.{statement};
 ghost use Rattle.region_typing_statements.specs.Parts.{call_statement, needs_loop, value_returned as value_returned_in, converted_return, refused_value as refused_value_in};
 
 use ckc_core::program::Stmt;
@@ -25,7 +25,7 @@ use region_typing_expressions::expressions::{call_typed, typed};
 use region_typing_scope::context::Context;
 use region_typing_scope::refusals::{CheckError, needs, refusal};
 use region_typing_scope::scope::Scope;
-use region_typing_values::conversions::converted;
+use region_typing_scope::conversions::converted;
 
 // A call whose result is left.
 fn alone(context: &Context, call: Called) -> Result<Box<Stmt>, NoMemory>

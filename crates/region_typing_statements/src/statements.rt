@@ -8,7 +8,7 @@ ghost use Rattle.ckc_tree.specs.Items.{statement_list};
 ghost use Rattle.ckc_core.specs.Core.{statements_of};
 ghost use Rattle.region_typing_rules.specs.Statements.{statement as statement_in, statements as statements_in};
 ghost use Rattle.region_typing_scope.specs.Views.{scope as scope_of};
-ghost use Rattle.region_typing_values.specs.OnHeap.{statement as statement_of};
+ghost use Rattle.region_typing_scope.specs.OnHeap.{statement as statement_of};
 ghost use Rattle.region_typing_statements.specs.Walks.{Walks};
 ghost use Rattle.region_typing_statements.specs.Parts.{nested as nested_in, branched, then_branch as branch_in, if_alone as if_in, if_else as if_else_in, otherwise as otherwise_in, turns as turns_in, while_loop as while_in, for_loop as for_in};
 

@@ -13,7 +13,7 @@ use ckc_text::fault::NoMemory;
 use code_words::image::Image;
 use std::alloc::Global;
 use std::marker::Model;
-use two_memory_machine_acts::acts;
+use two_memory_machine_steps::acts;
 use two_memory_machine_states::event::{Event, Waiting};
 use two_memory_machine_states::running_image::RunningImage;
 use two_memory_machine_steps::running;

@@ -3,3 +3,4 @@ pub mod CallStacks
 pub mod CallInsides
 pub mod Texts
 pub mod Faults
+pub mod CheckedNumbers

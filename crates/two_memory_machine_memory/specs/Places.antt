@@ -1,7 +1,7 @@
 -- Blocks in a memory, and where the static ones stand.
 use Rattle.std.specs.Prelude.{ℕ, List, [], ◌∷◌, length}
 use Rattle.flat_bytes.specs.Blocks.{Block, grown}
-use Rattle.two_memory_machine_arithmetic.specs.declared.blocks.BlockRow.{BlockRow}
+use Rattle.two_memory_machine_memory.specs.declared.blocks.BlockRow.{BlockRow}
 
 -- where blocks stand, of which the first stands at an offset
 abbrev pub offsets_from : ℕ → List (List ℕ) → List ℕ

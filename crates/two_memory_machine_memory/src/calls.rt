@@ -13,7 +13,7 @@ use code_words::image::Func;
 use code_words::op::Op;
 use std::alloc::Global;
 use std::marker::Model;
-use two_memory_machine_arithmetic::limits::MAX_DEPTH;
+use crate::limits::MAX_DEPTH;
 
 /// Why a call waits.
 #[derive(Clone, Copy)]

@@ -8,7 +8,7 @@ ghost use Rattle.two_memory_machine_memory.specs.Places.{offsets_from, block_row
 use ckc_text::fault::NoMemory;
 use ckc_text::listed::Listed;
 use std::alloc::Global;
-use two_memory_machine_arithmetic::blocks::BlockRow;
+use crate::blocks::BlockRow;
 
 /// The offset of the first block.
 pub const FIRST_OFFSET: u32 = 16;

@@ -23,7 +23,7 @@ use ckc_text::place::Place;
 use flat_bytes::words;
 use marshalling::kind::WordKind;
 use marshalling::reply::unpack_reply;
-use two_memory_machine_arithmetic::limits;
+use two_memory_machine_memory::limits;
 use two_memory_machine_memory::calls::Link;
 
 /// The end of a run that no line of the table goes on with.

@@ -10,7 +10,7 @@ use crate::running_image::{Phase, RunningImage};
 use act_words::ending::Ending;
 use ckc_text::code::Code;
 use code_words::image::Callback;
-use two_memory_machine_arithmetic::limits;
+use two_memory_machine_memory::limits;
 use two_memory_machine_memory::callbacks;
 use two_memory_machine_memory::calls::Link;
 

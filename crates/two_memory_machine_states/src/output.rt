@@ -19,7 +19,7 @@ use act_words::row::Octets;
 use ckc_text::code::Code;
 use code_words::op::Op;
 use itoa::Buffer;
-use two_memory_machine_arithmetic::blocks::BlockRow;
+use two_memory_machine_memory::blocks::BlockRow;
 use two_memory_machine_memory::texts;
 use two_memory_machine_memory::texts::TextEnd;
 

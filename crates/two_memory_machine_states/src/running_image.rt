@@ -26,7 +26,7 @@ use code_words::op::Op;
 use std::alloc::Global;
 use std::marker::Model;
 use trusted_memory::memory::Trusted;
-use two_memory_machine_arithmetic::blocks::BlockRow;
+use two_memory_machine_memory::blocks::BlockRow;
 use two_memory_machine_memory::calls::CallWords;
 use two_memory_machine_memory::memory;
 

@@ -11,7 +11,7 @@ use ckc_text::code::Code;
 use ckc_text::place::Place;
 use code_words::op::Op;
 use marshalling::kind::WordKind;
-use two_memory_machine_arithmetic::limits;
+use two_memory_machine_memory::limits;
 use two_memory_machine_memory::calls::Link;
 
 impl<'a> RunningImage<'a> {

@@ -1,2 +1,4 @@
 mod Pops
 mod Tries
+pub mod Stepped
+mod Turns

@@ -14,11 +14,11 @@ use Rattle.act_words.specs.declared.ending.Ending.{Ending}
 use Rattle.two_memory_machine_states.specs.Machines.{Machine, Running, Gives, TellsStep, Steps, StepsIf, is_input, waits_for_number, next_op_of, state_of, waiting_of, TellsSomething}
 use Rattle.two_memory_machine_steps.specs.Families.{ActsUnlessTold}
 use Rattle.two_memory_machine_states.specs.Steps.{EventBy, GoesBy, Brings, Acts, IsGivenTo, Tells, event_of}
-use Rattle.two_memory_machine_acts.specs.Told.{IsStep}
+use Rattle.two_memory_machine_steps.specs.Told.{IsStep}
 use Rattle.two_memory_machine_steps.specs.Running.{IsEndedIf, TriesStep}
 use Rattle.two_memory_machine_states.proofs.Moving.{stands_in, runs_of, runs_other, steps_wild, step_over, gives_told, event_told}
 use Rattle.two_memory_machine_states.proofs.Ends.{step_sooner}
-use Rattle.two_memory_machine_acts.proofs.Stepped.{stepped}
+use Rattle.two_memory_machine_steps.proofs.Stepped.{stepped}
 
 -- behind a step that tells nothing an instruction is next
 pub runs_again : (old new : Machine) → Steps old Ran new → waiting_of new ≡ waiting.Runs

@@ -5,7 +5,7 @@ use Rattle.code_words.specs.declared.op.Op.TheVariants as ops
 use Rattle.two_memory_machine_states.specs.declared.outcome.Outcome.{Outcome}
 use Rattle.two_memory_machine_states.specs.Machines.{Machine, is_input}
 use Rattle.two_memory_machine_states.specs.Steps.{Acts}
-use Rattle.two_memory_machine_acts.specs.Told.{IsTold}
+use Rattle.two_memory_machine_steps.specs.Told.{IsTold}
 
 -- an instruction takes no input number, and its step was made; or it writes or waits for a number, and nothing was done
 abbrev pub ActsUnlessTold : Op → Machine → Option Outcome → Machine → Type 0

@@ -7,7 +7,7 @@ use Rattle.two_memory_machine_states.specs.declared.event.Waiting.TheVariants as
 use Rattle.two_memory_machine_states.specs.declared.outcome.Outcome.{Outcome}
 use Rattle.two_memory_machine_states.specs.declared.outcome.Outcome.TheVariants as outcomes
 use Rattle.two_memory_machine_states.specs.Machines.{Machine, Steps, waiting_of, next_op_of}
-use Rattle.two_memory_machine_acts.specs.Told.{IsStep, IsTold}
+use Rattle.two_memory_machine_steps.specs.Told.{IsStep, IsTold}
 use Rattle.two_memory_machine_states.specs.Steps.{event_of}
 
 -- steps that tell nothing, and one more

@@ -6,7 +6,7 @@ ghost use Rattle.two_memory_machine_states.specs.Steps.{IsReady};
 
 use crate::{bounds, memory, operations, stack};
 use code_words::op::Op;
-use two_memory_machine_acts::touches;
+use crate::touches;
 use two_memory_machine_states::outcome::Outcome;
 use two_memory_machine_states::running_image::RunningImage;
 

@@ -6,7 +6,7 @@ use crate::stack;
 use act_words::operator::{ArithmeticOperator, BitwiseOperator, Comparison};
 use ckc_text::place::Place;
 use code_words::op::Op;
-use two_memory_machine_arithmetic::arithmetic;
+use two_memory_machine_memory::arithmetic;
 use two_memory_machine_states::outcome::Outcome;
 use two_memory_machine_states::running_image::RunningImage;
 

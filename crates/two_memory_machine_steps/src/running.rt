@@ -6,7 +6,7 @@ ghost use Rattle.two_memory_machine_steps.specs.Running.{StepsOn, TriesStep};
 
 use crate::families;
 use code_words::op::Op;
-use two_memory_machine_acts::told::told_step;
+use crate::told::told_step;
 use two_memory_machine_states::event::{Event, Waiting};
 use two_memory_machine_states::outcome::Outcome;
 use two_memory_machine_states::running_image::RunningImage;

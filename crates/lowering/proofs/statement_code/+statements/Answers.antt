@@ -4,7 +4,7 @@ use Rattle.ckc_core.specs.declared.program.Stmt.{the_lemmas}
 use Rattle.ckc_core.specs.Core.{expression, statement}
 use Rattle.ckc_core.proofs.Rows.{block_of}
 use Rattle.lowering_code.specs.Code.{statement_size, statement_code}
-use Rattle.lowering_fragments.specs.Views.{targets_of}
+use Rattle.lowering_expressions.specs.Views.{targets_of}
 use Rattle.lowering_code.proofs.Emitting.{place_after, after_condition, after_statement, if_emitted, loop_emitted, statement_room, statements_emitted}
 use Rattle.lowering.proofs.statement_code.+statements.Goals as goal
 

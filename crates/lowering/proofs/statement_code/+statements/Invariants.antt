@@ -3,7 +3,7 @@ use Rattle.std.specs.Prelude.{max}
 use Rattle.ckc_core.specs.declared.program.Stmt.{size-Stmt}
 use Rattle.ckc_core.specs.Core.{statements_of}
 use Rattle.lowering_code.specs.Code.{statements_code}
-use Rattle.lowering_fragments.specs.Views.{targets_of}
+use Rattle.lowering_expressions.specs.Views.{targets_of}
 use Rattle.lowering.proofs.statement_code.+statements.Given as goal
 
 -- each call has a part that is less deep, or one as deep and a function that is lower here

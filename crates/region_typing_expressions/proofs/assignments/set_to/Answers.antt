@@ -1,4 +1,4 @@
-use Rattle.region_typing_values.specs.OnHeap.{typed}
+use Rattle.region_typing_scope.specs.OnHeap.{typed}
 use Rattle.region_typing_scope.proofs.Going.{goes_on, refused}
 use Rattle.region_typing_expressions.proofs.Continuing.{set_parts}
 use Rattle.region_typing_expressions.proofs.assignments.set_to.Goals as goal

@@ -1,5 +1,5 @@
 use Rattle.ckc_text.specs.Places.{place_at}
-use Rattle.region_typing_values.specs.OnHeap.{typed}
+use Rattle.region_typing_scope.specs.OnHeap.{typed}
 use Rattle.region_typing_scope.proofs.Going.{goes_on}
 use Rattle.region_typing_expressions.proofs.Continuing.{updated_parts}
 use Rattle.region_typing_expressions.proofs.assignments.updated.Goals as goal

@@ -5,7 +5,7 @@ use Rattle.pointer_modes.proofs.Cells.{length_of_cells}
 use Rattle.ckc_core.specs.Core.{place}
 use Rattle.region_typing_scope.specs.Views.{scope}
 use Rattle.region_typing_rules.specs.Verdicts.{Passes}
-use Rattle.region_typing_values.specs.Typed.{typed, base_place}
+use Rattle.region_typing_scope.specs.Typed.{typed, base_place}
 use Rattle.region_typing_expressions.proofs.MemberCells.{no_member, member_cell}
 use Rattle.region_typing_expressions.proofs.members.member_at.Goals as goal
 

@@ -1,6 +1,6 @@
 use Rattle.std.proofs.Common.{ap, sym}
 use Rattle.region_typing_rules.specs.Verdicts.{Passes}
-use Rattle.region_typing_values.specs.OnHeap.{typed}
+use Rattle.region_typing_scope.specs.OnHeap.{typed}
 use Rattle.region_typing_scope.proofs.Going.{goes_on, refused}
 use Rattle.region_typing_expressions.proofs.Comparing.{equated_parts}
 use Rattle.region_typing_expressions.proofs.operators.equated.Goals as goal

@@ -1,5 +1,5 @@
 use Rattle.std.proofs.Common.{sym, ◌∙◌}
-use Rattle.region_typing_values.specs.OnHeap.{typed}
+use Rattle.region_typing_scope.specs.OnHeap.{typed}
 use Rattle.region_typing_expressions.proofs.Comparing.{ordered_parts}
 use Rattle.region_typing_expressions.proofs.operators.ordered.Goals as goal
 

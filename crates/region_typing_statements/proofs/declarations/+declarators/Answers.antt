@@ -4,7 +4,7 @@ use Rattle.ckc_text.specs.Places.{place_at}
 use Rattle.ckc_tree.specs.Types.{type_tree}
 use Rattle.pointer_modes.specs.Types.{ctype}
 use Rattle.ckc_core.specs.Core as core
-use Rattle.region_typing_values.specs.OnHeap.{statement}
+use Rattle.region_typing_scope.specs.OnHeap.{statement}
 use Rattle.region_typing_statements.proofs.Walking.{walks_on, refused_walk, done}
 use Rattle.region_typing_statements.proofs.Locals.{declarators_walk}
 use Rattle.region_typing_statements.proofs.declarations.+declarators.Goals as goal

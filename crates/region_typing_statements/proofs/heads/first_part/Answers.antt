@@ -1,6 +1,6 @@
 use Rattle.std.proofs.Common.{ap}
 use Rattle.ckc_core.specs.Core as core
-use Rattle.region_typing_values.specs.OnHeap.{statement}
+use Rattle.region_typing_scope.specs.OnHeap.{statement}
 use Rattle.region_typing_statements.proofs.Walking.{done, kept}
 use Rattle.region_typing_statements.proofs.heads.first_part.Goals as goal
 

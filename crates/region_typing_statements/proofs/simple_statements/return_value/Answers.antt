@@ -2,7 +2,7 @@ use Rattle.std.proofs.Common.{sym, ap}
 use Rattle.pointer_modes.specs.Types.{ctype}
 use Rattle.ckc_core.specs.Core as core
 use Rattle.region_typing_rules.specs.Verdicts.{Passes}
-use Rattle.region_typing_values.specs.OnHeap.{typed}
+use Rattle.region_typing_scope.specs.OnHeap.{typed}
 use Rattle.region_typing_scope.proofs.Going.{goes_on, refused}
 use Rattle.region_typing_expressions.proofs.Continuing.{converted_then}
 use Rattle.region_typing_statements.proofs.simple_statements.return_value.Goals as goal

@@ -10,7 +10,7 @@ use Rattle.ckc_core.specs.Core as core
 use Rattle.ckc_core.specs.Core.{statements_of}
 use Rattle.region_typing_rules.specs.Statements as rules
 use Rattle.region_typing_scope.specs.Views.{scope}
-use Rattle.region_typing_values.specs.OnHeap.{statement}
+use Rattle.region_typing_scope.specs.OnHeap.{statement}
 use Rattle.region_typing_statements.specs.Parts.{branched}
 use Rattle.region_typing_statements.proofs.Walking.{goes_on, refused, walks_on, refused_walk, refused_by, done, left, left_walk, grown, none_more, kept, kept_as}
 use Rattle.region_typing_statements.proofs.Testing.{walk_fails, tested}

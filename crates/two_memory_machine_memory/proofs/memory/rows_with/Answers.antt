@@ -5,7 +5,7 @@ use Rattle.std.proofs.lemmas.List.{drop_more, take_more_set, append_assoc, map-a
 use Rattle.std.proofs.lemmas.List.Elements.{All-set}
 use Rattle.flat_bytes.specs.Blocks.{grown, blocks_from}
 use Rattle.code_words.specs.Runs.{counter_behind}
-use Rattle.two_memory_machine_arithmetic.specs.declared.blocks.BlockRow.{BlockRow}
+use Rattle.two_memory_machine_memory.specs.declared.blocks.BlockRow.{BlockRow}
 use Rattle.two_memory_machine_memory.specs.Places.{block_row}
 use Rattle.two_memory_machine_memory.proofs.Statics.{next_within, blocks_from-block}
 use Rattle.two_memory_machine_memory.proofs.memory.rows_with.Goals as goal

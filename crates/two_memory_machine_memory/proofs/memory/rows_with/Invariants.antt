@@ -2,7 +2,7 @@ use Rattle.std.proofs.Common.{◌≡◌, ◌++◌, ◌+◌, ◌*◌, ◌/◌, �
 use Rattle.flat_bytes.specs.Blocks.{blocks_of, blocks_from}
 use Rattle.code_words.specs.Runs.{counter_behind}
 use Rattle.std.specs.Prelude.{All}
-use Rattle.two_memory_machine_arithmetic.specs.declared.blocks.BlockRow.{BlockRow}
+use Rattle.two_memory_machine_memory.specs.declared.blocks.BlockRow.{BlockRow}
 use Rattle.two_memory_machine_memory.specs.Places.{block_row}
 use Rattle.two_memory_machine_memory.proofs.memory.rows_with.Given as goal
 

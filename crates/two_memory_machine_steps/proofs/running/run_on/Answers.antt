@@ -3,7 +3,7 @@ use Rattle.two_memory_machine_states.specs.declared.event.Event.TheVariants.{Ran
 use Rattle.two_memory_machine_states.specs.Machines.{Steps, moves_left}
 use Rattle.two_memory_machine_states.specs.declared.outcome.Outcome.TheVariants as outcomes
 use Rattle.two_memory_machine_states.specs.Steps.{event_of}
-use Rattle.two_memory_machine_acts.specs.Told.{IsStep}
+use Rattle.two_memory_machine_steps.specs.Told.{IsStep}
 use Rattle.two_memory_machine_steps.specs.Running.{StepsOn, IsEndedIf}
 use Rattle.two_memory_machine_steps.proofs.Tries.{runs_again, tells_other, told_by}
 use Rattle.two_memory_machine_steps.proofs.running.run_on.Goals as goal

@@ -3,7 +3,7 @@ use Rattle.std.specs.Prelude.{slice_get}
 use Rattle.std.proofs.lemmas.List.{length-take}
 use Rattle.std.proofs.lemmas.List.Elements.{All-take}
 use Rattle.std.proofs.lemmas.Option.{slice_get_within}
-use Rattle.two_memory_machine_arithmetic.specs.declared.blocks.BlockRow.{BlockRow}
+use Rattle.two_memory_machine_memory.specs.declared.blocks.BlockRow.{BlockRow}
 use Rattle.two_memory_machine_memory.specs.Places.{block_row}
 use Rattle.two_memory_machine_states.proofs.Callers.{item_found, all_found}
 use Rattle.two_memory_machine_memory.proofs.Statics.{slice_get-map}

@@ -1,0 +1,55 @@
+-- Inside: what an expression is, as the code holds it.
+use Rattle.std.specs.Prelude.{ℕ, ◌==◌, pos, false, Option, Some, None}
+use Rattle.ckc_text.specs.declared.place.Span.{Span}
+use Rattle.ckc_tree.specs.Types.{TypeName}
+use Rattle.pointer_modes.specs.Layout.{size_of}
+use Rattle.pointer_modes.specs.Types.{CType, Int, Char, Struct, Pointer, ctype}
+use Rattle.ckc_core.specs.Core as core
+use Rattle.ckc_core.specs.Core.{expression, place}
+use Rattle.region_typing_rules.specs.Verdicts.{Verdict, passing}
+use Rattle.region_typing_rules.specs.Scopes.{Scope}
+use Rattle.region_typing_rules.specs.Types.{type_named}
+use Rattle.region_typing_rules.specs.Expressions.{constant, number, Lvalue, OfLocal, OfCell, Typed, Value, AStruct}
+use Rattle.region_typing_scope.specs.declared.typed.Base as code_base
+use Rattle.region_typing_scope.specs.declared.typed.Base.TheVariants as bases
+use Rattle.region_typing_scope.specs.declared.typed.StructPlace as code_place
+use Rattle.region_typing_scope.specs.declared.typed.StructPlace.TheVariants as places
+use Rattle.region_typing_scope.specs.declared.typed.Typed as code
+use Rattle.region_typing_scope.specs.declared.typed.Typed.TheVariants as forms
+
+-- the first cell of a struct
+abbrev pub base_place : code_base.Base → core.Place
+base_place (bases.Object object) = core.Direct object 0 0
+base_place (bases.Behind pointer site) = core.Through (expression pointer.value) 0 0 site
+
+-- where a struct stands
+abbrev pub struct_place : code_place.StructPlace → Lvalue
+struct_place (places.Local local) = OfLocal local
+struct_place (places.Cell base) = OfCell (base_place base)
+
+-- what a value of the code's type stands for
+abbrev pub typed : code.Typed → Typed
+typed (forms.Value type zero value) = Value (ctype type) zero (expression value.value) None
+typed (forms.Local type local) = Value (ctype type) false (core.Local local) (Some (OfLocal local))
+typed (forms.Cell type at) = Value (ctype type) false (core.Load (ctype type) (place at)) (Some (OfCell (place at)))
+typed (forms.Struct struct at) = AStruct struct (struct_place at)
+
+-- the struct that a type is, and the one that a pointer of a type points to
+abbrev pub struct_of : CType → Option ℕ
+struct_of (Struct struct) = Some struct
+struct_of Int = None
+struct_of Char = None
+struct_of (Pointer mode kind target) = None
+
+abbrev pub struct_behind : CType → Option ℕ
+struct_behind (Pointer mode kind target) = struct_of target
+struct_behind Int = None
+struct_behind Char = None
+struct_behind (Struct struct) = None
+
+-- numbers and sizes
+abbrev pub number_typed : ℕ → Span → Verdict Typed
+number_typed value span = constant value (value == 0) span
+
+abbrev pub size_typed : Scope → TypeName → Verdict Typed
+size_typed s t = passing (type_named s t) (λ u. number (core.Number (pos (size_of s.structs u))))

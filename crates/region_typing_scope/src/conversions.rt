@@ -1,0 +1,56 @@
+// Values as those of the types that they convert to.
+
+ghost use Rattle.std.specs.Prelude.{◌≡◌};
+ghost use Rattle.pointer_modes.specs.Types.{ctype as ctype_of};
+ghost use Rattle.ckc_core.specs.Core.{expression};
+ghost use Rattle.region_typing_rules.specs.Verdicts.{Passes};
+ghost use Rattle.region_typing_rules.specs.Expressions.{converted as converted_to, in_type as value_in_type, as_pointer};
+ghost use Rattle.region_typing_scope.specs.Answering.{Answers};
+ghost use Rattle.region_typing_scope.specs.OnHeap.{typed};
+
+use crate::operands::{Operand, value_of};
+use crate::typed::Typed;
+use ckc_core::program::Expr;
+use ckc_text::code::Code;
+use ckc_text::place::Span;
+use pointer_modes::ctype::CType;
+use crate::context::Context;
+use crate::refusals::{CheckError, needs};
+use crate::types::{converts, is_number};
+
+// A value as one of a type.
+fn in_type(to: &CType, null: bool, value: Box<Expr>) -> Expr
+    ensures { expression result ≡ value_in_type (ctype_of to.now) null (expression value.value) }
+{
+    match to {
+        CType::Char => Expr::LowByte(value),
+        CType::Pointer(..) => pointer_value(null, value),
+        CType::Int | CType::Struct(_) => Box::into_inner(value),
+    }
+}
+
+// A pointer, where the constant 0 is null.
+fn pointer_value(null: bool, value: Box<Expr>) -> Expr
+    ensures { expression result ≡ as_pointer null (expression value.value) }
+{
+    if null {
+        Expr::Null
+    } else {
+        Box::into_inner(value)
+    }
+}
+
+/// A value as one of a type that it converts to.
+pub fn converted(
+    context: &Context,
+    t: Box<Typed>,
+    to: &CType,
+    span: Span,
+) -> Result<Expr, CheckError>
+    ensures { Answers expression (converted_to (typed t) (ctype_of to.now) span Passes) result }
+{
+    let Operand { ctype, zero, value } = value_of(context, t, span)?;
+    needs(converts(&ctype, zero, to), Code::E13, span)?;
+    let null = zero && is_number(&ctype);
+    Ok(in_type(to, null, value))
+}

@@ -1,0 +1,124 @@
+// What an expression is.
+
+ghost use Rattle.std.specs.Prelude.{◌≡◌, IfOk, false, None};
+ghost use Rattle.pointer_modes.specs.Types.{ctype as ctype_of};
+ghost use Rattle.ckc_core.specs.Core.{expression, place as place_of};
+ghost use Rattle.region_typing_rules.specs.Expressions.{Value, at_place, local_typed};
+ghost use Rattle.region_typing_rules.specs.Items.{is_zero as zero_typed};
+ghost use Rattle.region_typing_scope.specs.Typed.{typed, base_place};
+ghost use Rattle.region_typing_scope.specs.OnHeap.{typed as typed_on_heap};
+
+use ckc_core::program::{CellPlace, Expr, Site};
+use ckc_text::fault::NoMemory;
+use pointer_modes::ctype::CType;
+use crate::context::Context;
+
+/// The first cell of a struct in memory: that of a file-level variable, or the one that a pointer points to.
+#[derive(Drop)]
+pub enum Base {
+    Object(u32),
+    Behind { pointer: Box<Expr>, site: Site },
+}
+
+/// Where a struct stands: it is a parameter, or begins at a cell.
+#[derive(Drop)]
+pub enum StructPlace {
+    Local(u32),
+    Cell(Base),
+}
+
+/// What an expression is.
+#[derive(Drop)]
+pub enum Typed {
+    /// A value of a scalar type, which may be the constant 0, and stands for no place.
+    Value {
+        ctype: CType,
+        zero: bool,
+        value: Box<Expr>,
+    },
+    /// What a local holds.
+    Local {
+        ctype: CType,
+        local: u32,
+    },
+    /// What a cell holds.
+    Cell {
+        ctype: CType,
+        place: CellPlace,
+    },
+    /// A struct, which is a parameter, or stands at a place.
+    Struct {
+        number: u32,
+        place: StructPlace,
+    },
+}
+
+/// A value that isn't the constant 0.
+pub fn plain(context: &Context, ctype: CType, value: Expr) -> Result<Box<Typed>, NoMemory>
+    ensures { IfOk result (λ t. typed_on_heap t ≡ Value (ctype_of ctype) false (expression value) None) }
+{
+    let value = context.boxed(value)?;
+    context.boxed(Typed::Value {
+        ctype,
+        zero: false,
+        value,
+    })
+}
+
+/// Whether a value is the constant 0.
+pub fn is_zero(t: &Typed) -> bool
+    ensures { result ≡ zero_typed (typed t.now) }
+{
+    match t {
+        Typed::Value { zero, .. } => *zero,
+        Typed::Local { .. } | Typed::Cell { .. } | Typed::Struct { .. } => false,
+    }
+}
+
+/// What stands at a base.
+pub fn at_base(ctype: CType, base: Base) -> Typed
+    ensures { typed result ≡ at_place (ctype_of ctype) (base_place base) }
+{
+    match ctype {
+        CType::Struct(number) => Typed::Struct {
+            number,
+            place: StructPlace::Cell(base),
+        },
+        ctype => Typed::Cell {
+            ctype,
+            place: first_cell(base),
+        },
+    }
+}
+
+/// The cell at a base.
+pub fn first_cell(base: Base) -> CellPlace
+    ensures { place_of result ≡ base_place base }
+{
+    match base {
+        Base::Object(object) => CellPlace::Direct {
+            object,
+            cell: 0,
+            offset: 0,
+        },
+        Base::Behind { pointer, site } => CellPlace::Through {
+            pointer,
+            cell: 0,
+            offset: 0,
+            site,
+        },
+    }
+}
+
+/// What a local holds.
+pub fn at_local(ctype: CType, local: u32) -> Typed
+    ensures { typed result ≡ local_typed local (ctype_of ctype) }
+{
+    match ctype {
+        CType::Struct(number) => Typed::Struct {
+            number,
+            place: StructPlace::Local(local),
+        },
+        ctype => Typed::Local { ctype, local },
+    }
+}

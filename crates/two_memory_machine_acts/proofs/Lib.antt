@@ -1,2 +1,0 @@
-pub mod Stepped
-mod Turns
