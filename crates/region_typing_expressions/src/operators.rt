@@ -1,5 +1,6 @@
 // The rules of operators.
 
+ghost use Rattle.act_words.specs.declared.operator.Operator.TheVariants as operators;
 ghost use Rattle.ckc_core.specs.Core.{expression, Not};
 ghost use Rattle.region_typing_rules.specs.Verdicts.{passing};
 ghost use Rattle.region_typing_rules.specs.Expressions.{number as number_typed, unary_typed as unary_of, binary_typed as binary_of, two_numbers, two_scalars, summands, arithmetic as arithmetic_of, equated as equated_in, ordered as ordered_in, indexed as indexed_in};
@@ -12,7 +13,8 @@ ghost use Rattle.region_typing_expressions.specs.Comparing.{compared as comparis
 use crate::equality::{equality_of, equated_by};
 use crate::operand_tests::{are_comparable_values, has_pointer, is_number_value, is_pointer_value};
 use crate::places::{address, pointed_at};
-use ckc_core::program::{Comparison, Expr, Operator, Site};
+use act_words::operator::{ArithmeticOperator, BitwiseOperator, Comparison, Operator};
+use ckc_core::program::{Expr, Site};
 use ckc_text::code::Code;
 use ckc_text::place::Span;
 use ckc_tree::expr::{BinaryOperator, UnaryOperator};
@@ -59,7 +61,7 @@ pub fn unary(
 }
 
 // An operator on two numbers.
-fn arithmetic(
+fn operated(
     alloc: Global,
     operator: Operator,
     left: Box<Typed>,
@@ -82,16 +84,51 @@ fn arithmetic(
     )
 }
 
-// A sum or a difference.
-fn sum(
+// A bitwise operator.
+fn bitwise(
     alloc: Global,
-    operator: Operator,
+    operator: BitwiseOperator,
     left: Box<Typed>,
     right: Box<Typed>,
     site: Site,
     span: Span,
 ) -> Result<Box<Typed>, CheckError>
-    ensures { Answers typed (summands (typed left) (typed right) span (arithmetic_of operator site)) result }
+    ensures { Answers typed (two_numbers (typed left) (typed right) span (arithmetic_of (operators.Bitwise operator) site)) result }
+{
+    operated(alloc, Operator::Bitwise(operator), left, right, site, span)
+}
+
+// An arithmetic operator.
+fn arithmetic(
+    alloc: Global,
+    operator: ArithmeticOperator,
+    left: Box<Typed>,
+    right: Box<Typed>,
+    site: Site,
+    span: Span,
+) -> Result<Box<Typed>, CheckError>
+    ensures { Answers typed (two_numbers (typed left) (typed right) span (arithmetic_of (operators.Arithmetic operator) site)) result }
+{
+    operated(
+        alloc,
+        Operator::Arithmetic(operator),
+        left,
+        right,
+        site,
+        span,
+    )
+}
+
+// A sum or a difference.
+fn sum(
+    alloc: Global,
+    operator: ArithmeticOperator,
+    left: Box<Typed>,
+    right: Box<Typed>,
+    site: Site,
+    span: Span,
+) -> Result<Box<Typed>, CheckError>
+    ensures { Answers typed (summands (typed left) (typed right) span (arithmetic_of (operators.Arithmetic operator) site)) result }
 {
     if has_pointer(&left, &right) {
         return Err(refusal(Code::E19, span));
@@ -230,9 +267,9 @@ pub fn binary(
     match operator {
         BinaryOperator::Or => disjunction(alloc, left, right, span),
         BinaryOperator::And => conjunction(alloc, left, right, span),
-        BinaryOperator::BitOr => arithmetic(alloc, Operator::Or, left, right, site, span),
-        BinaryOperator::BitXor => arithmetic(alloc, Operator::Xor, left, right, site, span),
-        BinaryOperator::BitAnd => arithmetic(alloc, Operator::And, left, right, site, span),
+        BinaryOperator::BitOr => bitwise(alloc, BitwiseOperator::Or, left, right, site, span),
+        BinaryOperator::BitXor => bitwise(alloc, BitwiseOperator::Xor, left, right, site, span),
+        BinaryOperator::BitAnd => bitwise(alloc, BitwiseOperator::And, left, right, site, span),
         BinaryOperator::Equal => equal(alloc, left, right, span),
         BinaryOperator::NotEqual => different(alloc, left, right, span),
         BinaryOperator::Less => ordered(alloc, Comparison::Less, left, right, span),
@@ -241,7 +278,7 @@ pub fn binary(
         BinaryOperator::GreaterEqual => ordered(alloc, Comparison::GreaterEqual, left, right, span),
         BinaryOperator::ShiftLeft => arithmetic(
             alloc,
-            Operator::ShiftLeft,
+            ArithmeticOperator::ShiftLeft,
             left,
             right,
             site,
@@ -249,19 +286,40 @@ pub fn binary(
         ),
         BinaryOperator::ShiftRight => arithmetic(
             alloc,
-            Operator::ShiftRight,
+            ArithmeticOperator::ShiftRight,
             left,
             right,
             site,
             span,
         ),
-        BinaryOperator::Add => sum(alloc, Operator::Add, left, right, site, span),
-        BinaryOperator::Subtract => sum(alloc, Operator::Subtract, left, right, site, span),
-        BinaryOperator::Multiply => arithmetic(alloc, Operator::Multiply, left, right, site, span),
-        BinaryOperator::Divide => arithmetic(alloc, Operator::Divide, left, right, site, span),
+        BinaryOperator::Add => sum(alloc, ArithmeticOperator::Add, left, right, site, span),
+        BinaryOperator::Subtract => sum(
+            alloc,
+            ArithmeticOperator::Subtract,
+            left,
+            right,
+            site,
+            span,
+        ),
+        BinaryOperator::Multiply => arithmetic(
+            alloc,
+            ArithmeticOperator::Multiply,
+            left,
+            right,
+            site,
+            span,
+        ),
+        BinaryOperator::Divide => arithmetic(
+            alloc,
+            ArithmeticOperator::Divide,
+            left,
+            right,
+            site,
+            span,
+        ),
         BinaryOperator::Remainder => arithmetic(
             alloc,
-            Operator::Remainder,
+            ArithmeticOperator::Remainder,
             left,
             right,
             site,
