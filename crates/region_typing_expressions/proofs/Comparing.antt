@@ -2,7 +2,7 @@
 use Rattle.std.proofs.Common.{◌≡◌, Bool, true, false, not, ◌&&◌, refl}
 use Rattle.ckc_text.specs.declared.place.Span.{Span}
 use Rattle.ckc_text.specs.declared.code.Code.TheVariants.{E13, E19, E26}
-use Rattle.ckc_core.specs.declared.program.Comparison.{Comparison}
+use Rattle.act_words.specs.declared.operator.Comparison.{Comparison}
 use Rattle.ckc_core.specs.Core as core
 use Rattle.pointer_modes.specs.Types.{CType, Int, Char, Struct, Pointer}
 use Rattle.region_typing_rules.specs.Types.{is_number, is_pointer, are_comparable}

@@ -5,7 +5,7 @@ use Rattle.ckc_text.specs.declared.code.Code.{Code}
 use Rattle.ckc_text.specs.declared.code.Code.TheVariants.{E13, E19}
 use Rattle.pointer_modes.specs.Types.{CType, Int}
 use Rattle.ckc_core.specs.Core as core
-use Rattle.ckc_core.specs.declared.program.Operator.{Operator}
+use Rattle.act_words.specs.declared.operator.Operator.{Operator}
 use Rattle.region_typing_rules.specs.Verdicts.{Verdict, Passes, Stops, passing, needs}
 use Rattle.region_typing_rules.specs.Types.{is_number, is_pointer, converts}
 use Rattle.region_typing_rules.specs.Expressions.{Places, Typed, Value, AStruct, GivesNothing, number_of, converted, is_pointer_value, site_at, first_of, writes}

@@ -2,7 +2,7 @@
 use Rattle.std.specs.Prelude.{Bool, false}
 use Rattle.pointer_modes.specs.Types.{CType}
 use Rattle.ckc_core.specs.Core as core
-use Rattle.ckc_core.specs.declared.program.Comparison.{Comparison}
+use Rattle.act_words.specs.declared.operator.Comparison.{Comparison}
 use Rattle.region_typing_rules.specs.Types.{is_number, are_comparable}
 use Rattle.region_typing_rules.specs.Verdicts.{Verdict}
 use Rattle.region_typing_rules.specs.Expressions.{Typed, Value, AStruct, number}

@@ -2,7 +2,7 @@
 use Rattle.std.specs.Prelude.{◌&&◌}
 use Rattle.ckc_text.specs.declared.place.Span.{Span}
 use Rattle.ckc_text.specs.declared.code.Code.TheVariants.{E13}
-use Rattle.ckc_core.specs.declared.program.Comparison.TheVariants as comparisons
+use Rattle.act_words.specs.declared.operator.Comparison.TheVariants as comparisons
 use Rattle.ckc_core.specs.Core as core
 use Rattle.region_typing_rules.specs.Verdicts.{Verdict, Passes, needs, picked}
 use Rattle.region_typing_rules.specs.Expressions.{Typed, is_pointer_value}

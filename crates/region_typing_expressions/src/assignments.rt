@@ -15,8 +15,9 @@ ghost use Rattle.region_typing_expressions.specs.Targets.{target as target_view,
 
 use crate::expressions::typed;
 use crate::operand_tests::is_pointer_value;
+use act_words::operator::{ArithmeticOperator, Operator};
 use ckc_core::program;
-use ckc_core::program::{CellPlace, Operator, Site, Stmt};
+use ckc_core::program::{CellPlace, Site, Stmt};
 use ckc_text::code::Code;
 use ckc_text::fault::NoMemory;
 use ckc_text::place::Span;
@@ -199,8 +200,20 @@ fn stored(
 {
     match operator {
         StoreOperator::Set => set_to(context, left, right, span),
-        StoreOperator::Add => updated(context, Operator::Add, left, right, span),
-        StoreOperator::Subtract => updated(context, Operator::Subtract, left, right, span),
+        StoreOperator::Add => updated(
+            context,
+            Operator::Arithmetic(ArithmeticOperator::Add),
+            left,
+            right,
+            span,
+        ),
+        StoreOperator::Subtract => updated(
+            context,
+            Operator::Arithmetic(ArithmeticOperator::Subtract),
+            left,
+            right,
+            span,
+        ),
     }
 }
 
@@ -208,8 +221,8 @@ fn step_of(operator: StepOperator) -> Operator
     ensures { result ≡ step_from operator }
 {
     match operator {
-        StepOperator::Increment => Operator::Add,
-        StepOperator::Decrement => Operator::Subtract,
+        StepOperator::Increment => Operator::Arithmetic(ArithmeticOperator::Add),
+        StepOperator::Decrement => Operator::Arithmetic(ArithmeticOperator::Subtract),
     }
 }
 

@@ -8,7 +8,8 @@ ghost use Rattle.region_typing_expressions.specs.Comparing.{is_number_value as n
 ghost use Rattle.region_typing_expressions.specs.Equality.{equality as equality_in, equated_by as equated_as};
 
 use crate::operand_tests::{are_comparable_values, is_number_value, is_pointer_value};
-use ckc_core::program::{Comparison, Expr};
+use act_words::operator::Comparison;
+use ckc_core::program::Expr;
 use ckc_text::code::Code;
 use ckc_text::fault::NoMemory;
 use ckc_text::place::Span;

@@ -1,6 +1,7 @@
 // The rules of operators.
 
 ghost use Rattle.ckc_text.specs.Places.{place_at};
+ghost use Rattle.act_words.specs.declared.operator.Operator.TheVariants as operators;
 ghost use Rattle.ckc_core.specs.Core.{expression, Not};
 ghost use Rattle.region_typing_rules.specs.Verdicts.{passing};
 ghost use Rattle.region_typing_rules.specs.Expressions.{site_at, number as number_typed, unary_typed as unary_of, binary_typed as binary_of, two_numbers, two_scalars, summands, arithmetic as arithmetic_of, equated as equated_in, ordered as ordered_in, indexed as indexed_in};
@@ -13,7 +14,8 @@ ghost use Rattle.region_typing_expressions.specs.Comparing.{compared as comparis
 use crate::equality::{equality_of, equated_by};
 use crate::operand_tests::{are_comparable_values, has_pointer, is_number_value, is_pointer_value};
 use crate::places::{address, pointed_at};
-use ckc_core::program::{Comparison, Expr, Operator, Site};
+use act_words::operator::{ArithmeticOperator, BitwiseOperator, Comparison, Operator};
+use ckc_core::program::{Expr, Site};
 use ckc_text::code::Code;
 use ckc_text::place::Span;
 use ckc_tree::expr::{BinaryOperator, UnaryOperator};
@@ -59,7 +61,7 @@ pub fn unary(
 }
 
 // An operator on two numbers.
-fn arithmetic(
+fn operated(
     context: &Context,
     operator: Operator,
     left: Box<Typed>,
@@ -81,15 +83,41 @@ fn arithmetic(
     )
 }
 
-// A sum or a difference.
-fn sum(
+// A bitwise operator.
+fn bitwise(
     context: &Context,
-    operator: Operator,
+    operator: BitwiseOperator,
     left: Box<Typed>,
     right: Box<Typed>,
     span: Span,
 ) -> Result<Box<Typed>, CheckError>
-    ensures { Answers typed (summands (typed left) (typed right) span (arithmetic_of operator (site_at (place_at context.now) span))) result }
+    ensures { Answers typed (two_numbers (typed left) (typed right) span (arithmetic_of (operators.Bitwise operator) (site_at (place_at context.now) span))) result }
+{
+    operated(context, Operator::Bitwise(operator), left, right, span)
+}
+
+// An arithmetic operator.
+fn arithmetic(
+    context: &Context,
+    operator: ArithmeticOperator,
+    left: Box<Typed>,
+    right: Box<Typed>,
+    span: Span,
+) -> Result<Box<Typed>, CheckError>
+    ensures { Answers typed (two_numbers (typed left) (typed right) span (arithmetic_of (operators.Arithmetic operator) (site_at (place_at context.now) span))) result }
+{
+    operated(context, Operator::Arithmetic(operator), left, right, span)
+}
+
+// A sum or a difference.
+fn sum(
+    context: &Context,
+    operator: ArithmeticOperator,
+    left: Box<Typed>,
+    right: Box<Typed>,
+    span: Span,
+) -> Result<Box<Typed>, CheckError>
+    ensures { Answers typed (summands (typed left) (typed right) span (arithmetic_of (operators.Arithmetic operator) (site_at (place_at context.now) span))) result }
 {
     if has_pointer(&left, &right) {
         return Err(refusal(Code::E19, span));
@@ -227,9 +255,9 @@ pub fn binary(
     match operator {
         BinaryOperator::Or => disjunction(context, left, right, span),
         BinaryOperator::And => conjunction(context, left, right, span),
-        BinaryOperator::BitOr => arithmetic(context, Operator::Or, left, right, span),
-        BinaryOperator::BitXor => arithmetic(context, Operator::Xor, left, right, span),
-        BinaryOperator::BitAnd => arithmetic(context, Operator::And, left, right, span),
+        BinaryOperator::BitOr => bitwise(context, BitwiseOperator::Or, left, right, span),
+        BinaryOperator::BitXor => bitwise(context, BitwiseOperator::Xor, left, right, span),
+        BinaryOperator::BitAnd => bitwise(context, BitwiseOperator::And, left, right, span),
         BinaryOperator::Equal => equal(context, left, right, span),
         BinaryOperator::NotEqual => different(context, left, right, span),
         BinaryOperator::Less => ordered(context, Comparison::Less, left, right, span),
@@ -242,12 +270,12 @@ pub fn binary(
             right,
             span,
         ),
-        BinaryOperator::ShiftLeft => arithmetic(context, Operator::ShiftLeft, left, right, span),
-        BinaryOperator::ShiftRight => arithmetic(context, Operator::ShiftRight, left, right, span),
-        BinaryOperator::Add => sum(context, Operator::Add, left, right, span),
-        BinaryOperator::Subtract => sum(context, Operator::Subtract, left, right, span),
-        BinaryOperator::Multiply => arithmetic(context, Operator::Multiply, left, right, span),
-        BinaryOperator::Divide => arithmetic(context, Operator::Divide, left, right, span),
-        BinaryOperator::Remainder => arithmetic(context, Operator::Remainder, left, right, span),
+        BinaryOperator::ShiftLeft => arithmetic(context, ArithmeticOperator::ShiftLeft, left, right, span),
+        BinaryOperator::ShiftRight => arithmetic(context, ArithmeticOperator::ShiftRight, left, right, span),
+        BinaryOperator::Add => sum(context, ArithmeticOperator::Add, left, right, span),
+        BinaryOperator::Subtract => sum(context, ArithmeticOperator::Subtract, left, right, span),
+        BinaryOperator::Multiply => arithmetic(context, ArithmeticOperator::Multiply, left, right, span),
+        BinaryOperator::Divide => arithmetic(context, ArithmeticOperator::Divide, left, right, span),
+        BinaryOperator::Remainder => arithmetic(context, ArithmeticOperator::Remainder, left, right, span),
     }
 }
