@@ -32,6 +32,7 @@ use Rattle.code_words.specs.Table.{State, Step, Goes, Over, act, push, push_some
 use Rattle.code_words.specs.declared.op.Op.{Op}
 use Rattle.code_words.specs.declared.op.Op.TheVariants as ops
 use Rattle.lowering_code.specs.Code.{operator_code}
+use Rattle.ckc_core.proofs.Elements.{of_element}
 use Rattle.lowering_code.proofs.Worlds.{KeptWorld}
 use Rattle.ckc_core.proofs.Numbers.{IsNumber, IfHolds, bits_small, signed-word, word_small, word-signed, signed_fits, equal_words, complement_fits, overflow_fits, result_fits}
 use Rattle.lowering_code.proofs.Executions.{Execution, image, word_of, IsKept}
@@ -44,12 +45,6 @@ pub mapped_there : {X Y : Type 0} (f : X → Y) (xs : List X) (ys : List Y) (k :
 mapped_there f [] ys k x h = absurd (cc)
 mapped_there f (y ∷ xs) ys zero x h = let e : y ≡ x = cc in ap (λ z. Some (f z)) e
 mapped_there f (y ∷ xs) ys (suc k) x h = mapped_there f xs ys k x h
-
--- what is so of each element is so of one
-pub of_element : {X : Type 0} (P : X → Type 0) (xs : List X) (k : ℕ) (x : X) → AllByRecursion P xs → slice_get xs k ≡ Some x → P x
-of_element P [] k x all h = absurd (cc)
-of_element P (y ∷ xs) zero x all h = let e : y ≡ x = cc in subst P e all.0
-of_element P (y ∷ xs) (suc k) x all h = of_element P xs k x all.1 h
 
 -- an index at which something stands
 pub index_below : {X : Type 0} (xs : List X) (i : ℕ) (x : X) → slice_get xs i ≡ Some x → i < length xs

@@ -24,12 +24,13 @@ use Rattle.lowering_code.specs.Code as codes
 use Rattle.ckc_core.specs.Stacks.{offset_stack}
 use Rattle.lowering_code.specs.Correct.{width_if}
 use Rattle.ckc_core.proofs.Numbers.{word_small, word-signed, zero_word}
+use Rattle.ckc_core.proofs.Elements.{of_element}
 use Rattle.lowering_code.proofs.Shapes.{strides, shape_offset, row_place, row_of, address, place_by_shape, block_there, row_there, row_place_le, offset_least, block_within, blocks_apart, HaveBytes}
 use Rattle.lowering_code.proofs.Bytes.{word_behind, length_word, word_read}
 use Rattle.lowering_code.proofs.Memory.{value_bytes, block_seam}
 use Rattle.lowering_code.proofs.Executions.{Execution, image, rows, word_of, tail, memory, IsKept, KeptCell, KeptBlocks, static_address, end_small, IsRow, all_rows, rooms_kept}
 use Rattle.lowering_code.proofs.Steps.{HasAt, Leads, Finishes, Layout, code, frame, standing, Here, moved, pushes, ended, here_at, Evaluates}
-use Rattle.lowering_code.proofs.Expressions.{of_element, index_below}
+use Rattle.lowering_code.proofs.Expressions.{index_below}
 
 -- ---- where a cell stands
 

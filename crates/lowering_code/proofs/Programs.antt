@@ -27,11 +27,11 @@ use Rattle.lowering_code.specs.Code.{Places, body_places, ending_code, function_
 use Rattle.lowering_code.specs.Images.{function_code, image_of, object_bytes}
 use Rattle.lowering_code.specs.Correct.{IsCell, IsFunction, IsLowerable, SameEnd}
 use Rattle.ckc_core.proofs.Numbers.{IsNumber, signed-word}
+use Rattle.ckc_core.proofs.Elements.{of_element}
 use Rattle.lowering_code.proofs.Worlds.{KeptWorld}
 use Rattle.lowering_code.proofs.Executions.{Execution, image, rows, word_of, tail, memory, static, state, IsKept, KeptCell, KeptBlocks, IsObject, all_objects, contents_of, same_end}
 use Rattle.lowering_code.proofs.Steps.{HasAt, has_front, has_back, has_all, Leads, leads_on, Reached, Finishes, last_move, Layout, code, Kept, Here, function_found, pushes}
 use Rattle.lowering_code.proofs.Sizes.{length_statements}
-use Rattle.lowering_code.proofs.Expressions.{of_element}
 use Rattle.lowering_code.proofs.Calls.{entered, Leaves, Returns, FlowsTo, ArePlaces, KnotRuns}
 use Rattle.lowering_code.proofs.Values.{setting}
 use Rattle.lowering_code.proofs.Statements.{return_runs, nothing_runs, loop_runs, effect_runs, effects_run}

@@ -17,6 +17,7 @@ use Rattle.code_words.specs.declared.op.Op.TheVariants as ops
 use Rattle.lowering_code.specs.Code.{Places, store_code, through_code, byte_code, byte_size, offset_size}
 use Rattle.lowering_code.specs.Code as codes
 use Rattle.ckc_core.specs.Stacks.{offset_stack}
+use Rattle.ckc_core.proofs.Elements.{of_element}
 use Rattle.lowering_code.specs.Correct.{width_if}
 use Rattle.lowering_code.proofs.Shapes.{strides}
 use Rattle.lowering_code.proofs.Bytes.{with_word_behind, word_written}
@@ -24,7 +25,7 @@ use Rattle.lowering_code.proofs.Memory.{value_bytes}
 use Rattle.lowering_code.proofs.Executions.{Execution, image, rows, word_of, memory, IsKept, KeptCell, KeptBlocks}
 use Rattle.lowering_code.proofs.Steps.{HasAt, has_front, has_back, leads_on, Finishes, Layout, Holds, code, frame, standing, Kept, Here, moved, one_move, fetched, here_at, Arrives, Evaluates}
 use Rattle.lowering_code.proofs.Sizes.{length_offset}
-use Rattle.lowering_code.proofs.Expressions.{of_element, low_byte_runs}
+use Rattle.lowering_code.proofs.Expressions.{low_byte_runs}
 use Rattle.lowering_code.proofs.Places.{address_of, cell_of_block, Placed, through_runs, seam, seam_inside, typed_small, same_char}
 use Rattle.lowering_code.proofs.Calls.{FlowsTo, Affects, ArePlaces}
 

@@ -1,4 +1,4 @@
-use Rattle.std.proofs.Common.{◌≡◌, ◌++◌, length, refl, sym, ap, ◌∙◌, arith, rules}
+use Rattle.std.proofs.Common.{◌++◌, length, refl, sym, ap, ◌∙◌, arith, rules}
 use Rattle.std.proofs.lemmas.Result.{IfOk-weaker}
 use Rattle.ckc_core.specs.declared.program.Expr.{the_lemmas}
 use Rattle.ckc_core.specs.Core.{expression}
