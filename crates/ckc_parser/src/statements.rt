@@ -2,6 +2,7 @@
 
 ghost use Rattle.std.specs.Prelude.{◌≡◌, ℕ, ◌∷◌, ◌≤◌, ◌<◌, suc, true, false, map, None, Some};
 ghost use Rattle.std.specs.Option.{option_map};
+ghost use Rattle.ckc_lexer_tokens.specs.declared.keyword.Keyword.TheVariants as keywords;
 ghost use Rattle.ckc_lexer_tokens.specs.declared.token.TokenKind.TheVariants as kinds;
 ghost use Rattle.ckc_tree.specs.Expressions.{expression};
 ghost use Rattle.ckc_tree.specs.Statements as views;
@@ -16,9 +17,11 @@ ghost use Rattle.ckc_parser_grammar.specs.StuckStatements.{plain_word, statement
 ghost use Rattle.ckc_parser.specs.StatementReadings.{SpellsCondition, SpellsEnd, EndsCall, IsForHead, jump_word, jump};
 
 use crate::declarations::{Read, assigned, assignment, declaration, starts_assignment};
+use ckc_lexer_tokens::keyword::Keyword;
 use ckc_lexer_tokens::token::{Token, TokenKind};
 use ckc_parser_cursor::alternative::else_word;
 use ckc_parser_cursor::depth::MAX_DEPTH;
+use ckc_parser_cursor::kinds;
 use ckc_parser_cursor::memory::{boxed, push};
 use ckc_parser_cursor::spans::join;
 use ckc_parser_cursor::stuck::Stuck;
@@ -37,18 +40,16 @@ fn starts_plain(kind: &TokenKind) -> bool
 {
     matches!(
         kind,
-        TokenKind::Checked
-            | TokenKind::Unchecked
-            | TokenKind::OpenBrace
-            | TokenKind::Bundled
+        TokenKind::OpenBrace
+            | TokenKind::Keyword(Keyword::Bundled)
             | TokenKind::Semicolon
-            | TokenKind::If
-            | TokenKind::While
-            | TokenKind::For
-            | TokenKind::Return
-            | TokenKind::Break
-            | TokenKind::Continue
-    )
+            | TokenKind::Keyword(Keyword::If)
+            | TokenKind::Keyword(Keyword::While)
+            | TokenKind::Keyword(Keyword::For)
+            | TokenKind::Keyword(Keyword::Return)
+            | TokenKind::Keyword(Keyword::Break)
+            | TokenKind::Keyword(Keyword::Continue)
+    ) || kinds::mark(kind).is_some()
 }
 
 /// Whether a token is the first of a statement.
@@ -105,13 +106,13 @@ fn plain(alloc: Global, depth: u32, tokens: &mut &[Token]) -> Result<Box<Stmt>, 
     let start = token.span;
     *tokens = rest;
     match &token.kind {
-        TokenKind::Bundled => bundle(alloc, depth, start, tokens),
-        TokenKind::If => if_statement(alloc, depth, start, tokens),
-        TokenKind::While => while_statement(alloc, depth, start, tokens),
-        TokenKind::For => for_statement(alloc, depth, start, tokens),
-        TokenKind::Return => return_statement(alloc, depth, start, tokens),
-        TokenKind::Break => jump(alloc, true, start, tokens),
-        TokenKind::Continue => jump(alloc, false, start, tokens),
+        TokenKind::Keyword(Keyword::Bundled) => bundle(alloc, depth, start, tokens),
+        TokenKind::Keyword(Keyword::If) => if_statement(alloc, depth, start, tokens),
+        TokenKind::Keyword(Keyword::While) => while_statement(alloc, depth, start, tokens),
+        TokenKind::Keyword(Keyword::For) => for_statement(alloc, depth, start, tokens),
+        TokenKind::Keyword(Keyword::Return) => return_statement(alloc, depth, start, tokens),
+        TokenKind::Keyword(Keyword::Break) => jump(alloc, true, start, tokens),
+        TokenKind::Keyword(Keyword::Continue) => jump(alloc, false, start, tokens),
         TokenKind::Semicolon => Ok(boxed(alloc, Stmt::Empty { span: start })?),
         _ => Err(Stuck::Unexpected),
     }
@@ -198,7 +199,7 @@ fn assignments(
 /// What stands behind the word of a bundle.
 fn bundle(alloc: Global, depth: u32, start: Span, tokens: &mut &[Token]) -> Result<Box<Stmt>, Stuck>
     requires { depth < 200 }
-    ensures { Reads (λ x rest. SpellsStatement (token kinds.Bundled start ∷ tokens.old.now) (views.statement x.value) rest × IsLow depth (statement_reach (views.statement x.value))) (StuckStatement depth (token kinds.Bundled start ∷ tokens.old.now)) result tokens.new.now }
+    ensures { Reads (λ x rest. SpellsStatement (token (kinds.Keyword keywords.Bundled) start ∷ tokens.old.now) (views.statement x.value) rest × IsLow depth (statement_reach (views.statement x.value))) (StuckStatement depth (token (kinds.Keyword keywords.Bundled) start ∷ tokens.old.now)) result tokens.new.now }
 {
     open_brace(tokens)?;
     let read = assignments(alloc, depth + 1, tokens)?;
@@ -307,7 +308,7 @@ fn if_statement(
     tokens: &mut &[Token],
 ) -> Result<Box<Stmt>, Stuck>
     requires { depth < 200 }
-    ensures { Reads (λ x rest. SpellsStatement (token kinds.If start ∷ tokens.old.now) (views.statement x.value) rest × IsLow depth (statement_reach (views.statement x.value))) (StuckStatement depth (token kinds.If start ∷ tokens.old.now)) result tokens.new.now }
+    ensures { Reads (λ x rest. SpellsStatement (token (kinds.Keyword keywords.If) start ∷ tokens.old.now) (views.statement x.value) rest × IsLow depth (statement_reach (views.statement x.value))) (StuckStatement depth (token (kinds.Keyword keywords.If) start ∷ tokens.old.now)) result tokens.new.now }
 {
     let condition = condition(alloc, depth + 1, tokens)?;
     let consequent = statement(alloc, depth + 1, tokens)?;
@@ -353,7 +354,7 @@ fn while_statement(
     tokens: &mut &[Token],
 ) -> Result<Box<Stmt>, Stuck>
     requires { depth < 200 }
-    ensures { Reads (λ x rest. SpellsStatement (token kinds.While start ∷ tokens.old.now) (views.statement x.value) rest × IsLow depth (statement_reach (views.statement x.value))) (StuckStatement depth (token kinds.While start ∷ tokens.old.now)) result tokens.new.now }
+    ensures { Reads (λ x rest. SpellsStatement (token (kinds.Keyword keywords.While) start ∷ tokens.old.now) (views.statement x.value) rest × IsLow depth (statement_reach (views.statement x.value))) (StuckStatement depth (token (kinds.Keyword keywords.While) start ∷ tokens.old.now)) result tokens.new.now }
 {
     let condition = condition(alloc, depth + 1, tokens)?;
     let body = statement(alloc, depth + 1, tokens)?;
@@ -448,7 +449,7 @@ fn for_head(
     tokens: &mut &[Token],
 ) -> Result<Box<ForHead>, Stuck>
     requires { depth < 200 }
-    ensures { Reads (λ x rest. IsForHead depth tokens.old.now (views.for_initial x.value.initial) (option_map views.on_heap x.value.condition) (option_map views.assignment x.value.step) rest) (StuckStatement depth (token kinds.For start ∷ tokens.old.now)) result tokens.new.now }
+    ensures { Reads (λ x rest. IsForHead depth tokens.old.now (views.for_initial x.value.initial) (option_map views.on_heap x.value.condition) (option_map views.assignment x.value.step) rest) (StuckStatement depth (token (kinds.Keyword keywords.For) start ∷ tokens.old.now)) result tokens.new.now }
 {
     open_paren(tokens)?;
     let initial = for_initial(alloc, depth + 1, tokens)?;
@@ -472,7 +473,7 @@ fn for_statement(
     tokens: &mut &[Token],
 ) -> Result<Box<Stmt>, Stuck>
     requires { depth < 200 }
-    ensures { Reads (λ x rest. SpellsStatement (token kinds.For start ∷ tokens.old.now) (views.statement x.value) rest × IsLow depth (statement_reach (views.statement x.value))) (StuckStatement depth (token kinds.For start ∷ tokens.old.now)) result tokens.new.now }
+    ensures { Reads (λ x rest. SpellsStatement (token (kinds.Keyword keywords.For) start ∷ tokens.old.now) (views.statement x.value) rest × IsLow depth (statement_reach (views.statement x.value))) (StuckStatement depth (token (kinds.Keyword keywords.For) start ∷ tokens.old.now)) result tokens.new.now }
 {
     let head = for_head(alloc, depth, start, tokens)?;
     let body = statement(alloc, depth + 1, tokens)?;
@@ -501,7 +502,7 @@ fn return_statement(
     tokens: &mut &[Token],
 ) -> Result<Box<Stmt>, Stuck>
     requires { depth < 200 }
-    ensures { Reads (λ x rest. SpellsStatement (token kinds.Return start ∷ tokens.old.now) (views.statement x.value) rest × IsLow depth (statement_reach (views.statement x.value))) (StuckStatement depth (token kinds.Return start ∷ tokens.old.now)) result tokens.new.now }
+    ensures { Reads (λ x rest. SpellsStatement (token (kinds.Keyword keywords.Return) start ∷ tokens.old.now) (views.statement x.value) rest × IsLow depth (statement_reach (views.statement x.value))) (StuckStatement depth (token (kinds.Keyword keywords.Return) start ∷ tokens.old.now)) result tokens.new.now }
 {
     let read = optional_value(alloc, depth + 1, tokens)?;
     let value = read.form;
