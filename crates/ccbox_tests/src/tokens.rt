@@ -5,6 +5,7 @@ use crate::places::has_places;
 use crate::questions::{Question, is_refusal};
 use crate::rows::{Table, expect, expect_tables};
 use ckc_lexer::lexer::lex;
+use ckc_lexer_tokens::keyword::Keyword;
 use ckc_lexer_tokens::token::{CheckedScope, Token, TokenKind};
 use ckc_text::place::Span;
 use std::alloc::Global;
@@ -124,47 +125,55 @@ name:a@#include <a/*b>¶a
 off off on off@#pragma CHECKED_SCOPE Off¶#pragma CHECKED_SCOPE PUSH¶# pragma  CHECKED_SCOPE on // c¶#pragma CHECKED_SCOPE pop¶
 E05 53@#pragma CHECKED_SCOPE push¶#pragma CHECKED_SCOPE pop¶#pragma CHECKED_SCOPE pop";
 
-// How a keyword of types or statements is spelled, and what other tokens go by.
+// How a token is spelled; of two spellings of a keyword the short one.
 fn spelling(kind: &TokenKind) -> &'static str {
     match kind {
-        TokenKind::Int => "int",
-        TokenKind::Char => "char",
-        TokenKind::Void => "void",
-        TokenKind::Struct => "struct",
-        TokenKind::If => "if",
-        TokenKind::Else => "else",
-        TokenKind::While => "while",
-        TokenKind::For => "for",
-        TokenKind::Return => "return",
-        TokenKind::Break => "break",
-        TokenKind::Continue => "continue",
-        TokenKind::Sizeof => "sizeof",
-        _ => checked_spelling(kind),
+        TokenKind::Keyword(keyword) => keyword_spelling(*keyword),
+        _ => mark_spelling(kind),
     }
 }
 
-// How a keyword of Checked C is spelled; of two spellings the short one.
-fn checked_spelling(kind: &TokenKind) -> &'static str {
-    match kind {
-        TokenKind::Malloc => "malloc",
-        TokenKind::Calloc => "calloc",
-        TokenKind::NtCalloc => "nt_calloc",
-        TokenKind::TMalloc => "t_malloc",
-        TokenKind::Ptr => "ptr",
-        TokenKind::ArrayPtr => "array_ptr",
-        TokenKind::NtArrayPtr => "nt_array_ptr",
-        TokenKind::TPtr => "_TPtr",
-        TokenKind::TArrayPtr => "_TArray_ptr",
-        TokenKind::TNtArrayPtr => "_TNt_array_ptr",
-        TokenKind::Checked => "_Checked",
-        TokenKind::NtChecked => "_Nt_checked",
-        TokenKind::Unchecked => "_Unchecked",
-        TokenKind::Bundled => "_Bundled",
-        TokenKind::Tainted => "_Tainted",
-        TokenKind::Callback => "_Callback",
-        TokenKind::DynamicBoundsCast => "_Dynamic_bounds_cast",
-        TokenKind::AssumeBoundsCast => "_Assume_bounds_cast",
-        _ => mark_spelling(kind),
+// How a keyword of types or statements is spelled.
+fn keyword_spelling(keyword: Keyword) -> &'static str {
+    match keyword {
+        Keyword::Int => "int",
+        Keyword::Char => "char",
+        Keyword::Void => "void",
+        Keyword::Struct => "struct",
+        Keyword::If => "if",
+        Keyword::Else => "else",
+        Keyword::While => "while",
+        Keyword::For => "for",
+        Keyword::Return => "return",
+        Keyword::Break => "break",
+        Keyword::Continue => "continue",
+        Keyword::Sizeof => "sizeof",
+        _ => checked_spelling(keyword),
+    }
+}
+
+// How a keyword of Checked C is spelled, and no text for others.
+fn checked_spelling(keyword: Keyword) -> &'static str {
+    match keyword {
+        Keyword::Malloc => "malloc",
+        Keyword::Calloc => "calloc",
+        Keyword::NtCalloc => "nt_calloc",
+        Keyword::TMalloc => "t_malloc",
+        Keyword::Ptr => "ptr",
+        Keyword::ArrayPtr => "array_ptr",
+        Keyword::NtArrayPtr => "nt_array_ptr",
+        Keyword::TPtr => "_TPtr",
+        Keyword::TArrayPtr => "_TArray_ptr",
+        Keyword::TNtArrayPtr => "_TNt_array_ptr",
+        Keyword::Checked => "_Checked",
+        Keyword::NtChecked => "_Nt_checked",
+        Keyword::Unchecked => "_Unchecked",
+        Keyword::Bundled => "_Bundled",
+        Keyword::Tainted => "_Tainted",
+        Keyword::Callback => "_Callback",
+        Keyword::DynamicBoundsCast => "_Dynamic_bounds_cast",
+        Keyword::AssumeBoundsCast => "_Assume_bounds_cast",
+        _ => "",
     }
 }
 

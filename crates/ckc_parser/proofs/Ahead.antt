@@ -4,26 +4,15 @@ use Rattle.ckc_lexer_tokens.specs.declared.token.Token.{Token}
 use Rattle.ckc_lexer_tokens.specs.declared.token.TokenKind.{TokenKind}
 use Rattle.ckc_lexer_tokens.specs.declared.token.TokenKind.TheVariants as kinds
 use Rattle.ckc_parser_grammar.specs.Tokens.{next_is, comma}
-use Rattle.ckc_parser_grammar.specs.StuckStatements.{constant_token, minus_or_constant, step_word, assign_word, comma_or_brace, close_brace}
-use Rattle.ckc_parser_cursor.specs.WordReadings.{minus, store_word}
-
-neither_minus : (k : TokenKind) → minus k ≡ false → constant_token k ≡ false → minus_or_constant k ≡ false
-neither_minus kinds.Minus m c = m
-neither_minus k m c = c
+use Rattle.ckc_parser_grammar.specs.StuckStatements.{minus, store_word, constant_token, minus_or_constant, step_word, assign_word, comma_or_brace, close_brace}
 
 pub no_minus_or_constant : (ts : List Token) → next_is minus ts ≡ false → next_is constant_token ts ≡ false → next_is minus_or_constant ts ≡ false
 no_minus_or_constant [] m c = refl
-no_minus_or_constant (t ∷ ts) m c = neither_minus t.kind m c
-
-neither_store : (k : TokenKind) → store_word k ≡ false → step_word k ≡ false → assign_word k ≡ false
-neither_store kinds.Equal m c = m
-neither_store kinds.PlusEqual m c = m
-neither_store kinds.MinusEqual m c = m
-neither_store k m c = c
+no_minus_or_constant (t ∷ ts) m c = rw (m, c) refl
 
 pub no_assign_word : (ts : List Token) → next_is store_word ts ≡ false → next_is step_word ts ≡ false → next_is assign_word ts ≡ false
 no_assign_word [] m c = refl
-no_assign_word (t ∷ ts) m c = neither_store t.kind m c
+no_assign_word (t ∷ ts) m c = rw (m, c) refl
 
 neither_comma : (k : TokenKind) → comma k ≡ false → close_brace k ≡ false → comma_or_brace k ≡ false
 neither_comma kinds.Comma m c = m

@@ -3,6 +3,7 @@ use Rattle.std.proofs.Common.{◌≡◌, ◌<◌, ℕ, suc, length, Bool, true, 
 use mathlib.Core.Former.{Count}
 use Rattle.ckc_text.specs.declared.place.Span.{Span}
 use Rattle.ckc_lexer_tokens.specs.declared.token.Token.{Token}
+use Rattle.ckc_lexer_tokens.specs.declared.keyword.Keyword.TheVariants as keywords
 use Rattle.ckc_lexer_tokens.specs.declared.token.TokenKind.TheVariants as kinds
 use Rattle.ckc_tree.specs.declared.stmt.Mark.{Mark}
 use Rattle.ckc_tree.specs.declared.stmt.Stmt.{Stmt, Row_of-Stmt, end_of-Stmt, more_of-Stmt, items-the_row-Stmt, items_hidden-the_row-Stmt-0}
@@ -12,19 +13,17 @@ use Rattle.ckc_tree.specs.Statements.{ForInitial, Assignment, Statement, Stateme
 use Rattle.ckc_tree.specs.Items.{statement_list}
 use Rattle.ckc_tree.specs.Heights.{◌beside◌, around, expression_reach, optional_expression_reach, optional_assignment_reach, for_initial_reach, statement_reach}
 use Rattle.ckc_parser_grammar.specs.Tokens.{token, join, next_is, else_word}
-use Rattle.ckc_parser_grammar.specs.ExpressionGrammar as grammar
-use Rattle.ckc_parser_grammar.specs.ExpressionGrammar.{SpellsUnary, SpellsSelectors, SpellsPrimary, SpellsCall}
+use Rattle.ckc_parser_grammar.specs.ExpressionGrammar.{SpellsUnary}
 use Rattle.ckc_parser_grammar.specs.StatementGrammar as g
 use Rattle.ckc_parser_grammar.specs.StatementGrammar.{SpellsForInitial, SpellsForCondition, SpellsForStep, SpellsStatement}
 use Rattle.ckc_parser_grammar.specs.Failures.{Failure, unexpected, IsLow}
 use Rattle.ckc_parser_grammar.specs.StuckTypes.{type_word, name_token}
 use Rattle.ckc_parser_grammar.specs.StuckStatements as stuck
-use Rattle.ckc_parser_grammar.specs.StuckStatements.{semicolon, plain_word, assignment_word, statement_word, is_call, is_call_alone, StuckStatement}
+use Rattle.ckc_parser_grammar.specs.StuckStatements.{semicolon, plain_word, assignment_word, statement_word, is_call_alone, StuckStatement}
 use Rattle.ckc_parser.specs.StatementReadings as r
 use Rattle.ckc_parser.specs.StatementReadings.{SpellsCondition, SpellsEnd, IsForHead, StuckAssigned, jump_word, jump}
 use Rattle.ckc_parser_cursor.proofs.Readings.{low_around}
-use Rattle.ckc_parser_expressions.proofs.ContextSteps.{low_beside}
-use Rattle.ckc_parser_grammar.proofs.Paths.{shorter, led_shorter}
+use Rattle.ckc_parser_grammar.proofs.Paths.{low_beside, shorter, led_shorter}
 use Rattle.ckc_parser_grammar.proofs.ExpressionPaths.{binary_path, call_path}
 use Rattle.ckc_parser_grammar.proofs.StatementPaths.{declaration_path, assignment_path, assignments_path, statement_path, statements_path}
 
@@ -50,43 +49,11 @@ pub end_of : {ts rest : List Token} {x : Option Expression} {s : Span} → Spell
 end_of r.absent = g.absent
 end_of (r.present d) = g.present d
 
-pub is_return : {ts rest : List Token} {x : Option Expression} {s start : Span} → SpellsEnd ts x s rest → SpellsStatement (token kinds.Return start ∷ ts) (Return x (join start s)) rest
+pub is_return : {ts rest : List Token} {x : Option Expression} {s start : Span} → SpellsEnd ts x s rest → SpellsStatement (token (kinds.Keyword keywords.Return) start ∷ ts) (Return x (join start s)) rest
 is_return r.absent = g.return_nothing
 is_return (r.present d) = g.return d
 
 -- ---- what begins with a name
-
-selected_no_call : {e whole : Expression} {o w : Span} {ts rest : List Token} → SpellsSelectors e o ts whole w rest → is_call e ≡ false → is_call whole ≡ false
-selected_no_call (grammar.unselected f) none = none
-selected_no_call (grammar.index d s) none = selected_no_call s refl
-selected_no_call (grammar.dot s) none = selected_no_call s refl
-selected_no_call (grammar.arrow s) none = selected_no_call s refl
-
-never : {A : Type 0} {b : Bool} → b ≡ false → b ≡ true → A
-never is_false is_true = absurd (cc)
-
-called : {e : Expression} {o : Span} {ts mid : List Token} → next_is name_token ts ≡ true → SpellsPrimary ts e o mid → is_call e ≡ true → SpellsCall ts e o mid
-called named grammar.number call = never refl call
-called named grammar.character call = never refl call
-called named grammar.text call = never refl call
-called named (grammar.name f) call = never refl call
-called named (grammar.called d) call = d
-called named (grammar.parentheses d) call = never refl named
-called named (grammar.size_of d) call = never refl call
-called named (grammar.cast w a d) call = never refl call
-called named (grammar.bounded_cast w a d b) call = never refl call
-called named (grammar.malloc w a d) call = never refl call
-called named (grammar.calloc w a d b) call = never refl call
-
-behind_primary : {e whole : Expression} {o w : Span} {ts mid rest : List Token} → next_is name_token ts ≡ true → SpellsPrimary ts e o mid → SpellsSelectors e o mid whole w rest → is_call whole ≡ true → SpellsCall ts whole w rest
-behind_primary named p (grammar.unselected f) call = called named p call
-behind_primary named p (grammar.index d s) call = never (selected_no_call s refl) call
-behind_primary named p (grammar.dot s) call = never (selected_no_call s refl) call
-behind_primary named p (grammar.arrow s) call = never (selected_no_call s refl) call
-
-pub is_called : {e : Expression} {o : Span} {ts rest : List Token} → next_is name_token ts ≡ true → SpellsUnary ts e o rest → is_call e ≡ true → SpellsCall ts e o rest
-is_called named (grammar.operator w d) call = never refl call
-is_called named (grammar.postfix p s) call = behind_primary named p s call
 
 pub stuck_named : {target : Expression} {d : ℕ} {o : Span} {ts mid : List Token} {f : Failure} → d < 200 → next_is name_token ts ≡ true → SpellsUnary ts target o mid → IsLow (suc d) (expression_reach target) → is_call_alone target mid ≡ false → StuckAssigned d mid f → StuckStatement d ts f
 stuck_named deep named u low alone r.no_room = stuck.statement_no_room
@@ -103,28 +70,28 @@ pub is_jump : (is_break : Bool) {d : ℕ} {s end : Span} {rest : List Token} →
 is_jump true deep = (g.break, omega arith)
 is_jump false deep = (g.continue, omega arith)
 
-pub stuck_consequent : {d : ℕ} {s : Span} {ts us : List Token} {e : Expression} {f : Failure} → d < 200 → SpellsCondition ts e us → IsLow (suc d) (expression_reach e) → StuckStatement (suc d) us f → StuckStatement d (token kinds.If s ∷ ts) f
+pub stuck_consequent : {d : ℕ} {s : Span} {ts us : List Token} {e : Expression} {f : Failure} → d < 200 → SpellsCondition ts e us → IsLow (suc d) (expression_reach e) → StuckStatement (suc d) us f → StuckStatement d (token (kinds.Keyword keywords.If) s ∷ ts) f
 stuck_consequent deep (r.condition e) low fails = stuck.if_consequent deep e low fails
 
-pub stuck_alternative : {d : ℕ} {s w : Span} {ts us vs : List Token} {e : Expression} {x : Statement} {f : Failure} → d < 200 → SpellsCondition ts e us → IsLow (suc d) (expression_reach e) → SpellsStatement us x (token kinds.Else w ∷ vs) → IsLow (suc d) (statement_reach x) → StuckStatement (suc d) vs f → StuckStatement d (token kinds.If s ∷ ts) f
+pub stuck_alternative : {d : ℕ} {s w : Span} {ts us vs : List Token} {e : Expression} {x : Statement} {f : Failure} → d < 200 → SpellsCondition ts e us → IsLow (suc d) (expression_reach e) → SpellsStatement us x (token (kinds.Keyword keywords.Else) w ∷ vs) → IsLow (suc d) (statement_reach x) → StuckStatement (suc d) vs f → StuckStatement d (token (kinds.Keyword keywords.If) s ∷ ts) f
 stuck_alternative deep (r.condition e) low x x_low fails = stuck.if_alternative deep e low x x_low fails
 
-pub stuck_body : {d : ℕ} {s : Span} {ts us : List Token} {e : Expression} {f : Failure} → d < 200 → SpellsCondition ts e us → IsLow (suc d) (expression_reach e) → StuckStatement (suc d) us f → StuckStatement d (token kinds.While s ∷ ts) f
+pub stuck_body : {d : ℕ} {s : Span} {ts us : List Token} {e : Expression} {f : Failure} → d < 200 → SpellsCondition ts e us → IsLow (suc d) (expression_reach e) → StuckStatement (suc d) us f → StuckStatement d (token (kinds.Keyword keywords.While) s ∷ ts) f
 stuck_body deep (r.condition e) low fails = stuck.while_body deep e low fails
 
-pub stuck_for_body : {d : ℕ} {s : Span} {ts us : List Token} {initial : ForInitial} {condition : Option Expression} {step : Option Assignment} {f : Failure} → d < 200 → IsForHead d ts initial condition step us → StuckStatement (suc d) us f → StuckStatement d (token kinds.For s ∷ ts) f
+pub stuck_for_body : {d : ℕ} {s : Span} {ts us : List Token} {initial : ForInitial} {condition : Option Expression} {step : Option Assignment} {f : Failure} → d < 200 → IsForHead d ts initial condition step us → StuckStatement (suc d) us f → StuckStatement d (token (kinds.Keyword keywords.For) s ∷ ts) f
 stuck_for_body deep h fails = rw h.opened (stuck.for_body deep h.begun h.begun_low h.tested h.tested_low h.stepped h.stepped_low fails)
 
-pub is_if : {s : Span} {ts us rest : List Token} {e : Expression} {x : Statement} → SpellsCondition ts e us → SpellsStatement us x rest → next_is else_word rest ≡ false → SpellsStatement (token kinds.If s ∷ ts) (If e x (join s (statement_span x))) rest
+pub is_if : {s : Span} {ts us rest : List Token} {e : Expression} {x : Statement} → SpellsCondition ts e us → SpellsStatement us x rest → next_is else_word rest ≡ false → SpellsStatement (token (kinds.Keyword keywords.If) s ∷ ts) (If e x (join s (statement_span x))) rest
 is_if (r.condition e) x none = g.if e x none
 
-pub is_if_else : {s w : Span} {ts us vs rest : List Token} {e : Expression} {x y : Statement} → SpellsCondition ts e us → SpellsStatement us x (token kinds.Else w ∷ vs) → SpellsStatement vs y rest → SpellsStatement (token kinds.If s ∷ ts) (IfElse e x y (join s (statement_span y))) rest
+pub is_if_else : {s w : Span} {ts us vs rest : List Token} {e : Expression} {x y : Statement} → SpellsCondition ts e us → SpellsStatement us x (token (kinds.Keyword keywords.Else) w ∷ vs) → SpellsStatement vs y rest → SpellsStatement (token (kinds.Keyword keywords.If) s ∷ ts) (IfElse e x y (join s (statement_span y))) rest
 is_if_else (r.condition e) x y = g.if_else e x y
 
-pub is_while : {s : Span} {ts us rest : List Token} {e : Expression} {x : Statement} → SpellsCondition ts e us → SpellsStatement us x rest → SpellsStatement (token kinds.While s ∷ ts) (While e x (join s (statement_span x))) rest
+pub is_while : {s : Span} {ts us rest : List Token} {e : Expression} {x : Statement} → SpellsCondition ts e us → SpellsStatement us x rest → SpellsStatement (token (kinds.Keyword keywords.While) s ∷ ts) (While e x (join s (statement_span x))) rest
 is_while (r.condition e) x = g.while e x
 
-pub is_for : {d : ℕ} {s : Span} {ts us rest : List Token} {initial : ForInitial} {condition : Option Expression} {step : Option Assignment} {x : Statement} → IsForHead d ts initial condition step us → SpellsStatement us x rest → SpellsStatement (token kinds.For s ∷ ts) (For initial condition step x (join s (statement_span x))) rest
+pub is_for : {d : ℕ} {s : Span} {ts us rest : List Token} {initial : ForInitial} {condition : Option Expression} {step : Option Assignment} {x : Statement} → IsForHead d ts initial condition step us → SpellsStatement us x rest → SpellsStatement (token (kinds.Keyword keywords.For) s ∷ ts) (For initial condition step x (join s (statement_span x))) rest
 is_for h x = rw h.opened (g.for h.begun h.tested h.stepped x)
 
 pub low_for : {d : ℕ} {ts us : List Token} {initial : ForInitial} {condition : Option Expression} {step : Option Assignment} (x : Statement) (start : ℕ) → d < 200 → IsForHead d ts initial condition step us → IsLow (suc d) (statement_reach x)

@@ -3,66 +3,43 @@ use Rattle.std.proofs.Common.{◌≡◌, ◌<◌, ◌≤◌, ℕ, length, Bool, 
 use Rattle.ckc_text.specs.declared.place.Span.{Span}
 use Rattle.ckc_lexer_tokens.specs.declared.token.Token.{Token}
 use Rattle.ckc_lexer_tokens.specs.declared.token.TokenKind.{TokenKind}
+use Rattle.ckc_lexer_tokens.specs.declared.keyword.Keyword.TheVariants as keywords
 use Rattle.ckc_lexer_tokens.specs.declared.token.TokenKind.TheVariants as kinds
 use Rattle.ckc_tree.specs.declared.identifier.Identifier.{Identifier}
 use Rattle.ckc_tree.specs.declared.stmt.Mark.{Mark}
 use Rattle.ckc_tree.specs.declared.item.Item as code
-use Rattle.ckc_tree.specs.declared.item.Region.{Region}
 use Rattle.ckc_tree.specs.declared.item.FunctionKind.{FunctionKind}
 use Rattle.ckc_tree.specs.Types.{TypeName}
 use Rattle.ckc_tree.specs.Expressions.{Bounds}
-use Rattle.ckc_tree.specs.Items.{Member, ResultForm, Void, Parameters, Body, RegionItem, Item}
+use Rattle.ckc_tree.specs.Items.{Member, ResultForm, Void, Parameters, Body, Item}
 use Rattle.ckc_tree.specs.Heights.{result_reach, member_reach}
 use Rattle.ckc_parser_grammar.specs.Tokens as words
-use Rattle.ckc_parser_grammar.specs.Tokens.{token, next_is, star, tainted_word, mark_word, kind_word, open_paren}
+use Rattle.ckc_parser_grammar.specs.Tokens.{token, next_is, star, mark_word, open_paren}
 use Rattle.ckc_parser_grammar.specs.TypeGrammar as types
 use Rattle.ckc_parser_grammar.specs.TypeGrammar.{SpellsStars}
 use Rattle.ckc_parser_grammar.specs.ItemGrammar as g
-use Rattle.ckc_parser_grammar.specs.ItemGrammar.{SpellsTainted, SpellsKind, SpellsOptionalMark, SpellsMember, SpellsListed, SpellsParameters, SpellsResult, SpellsBody, SpellsRegion, SpellsItem}
+use Rattle.ckc_parser_grammar.specs.ItemGrammar.{SpellsTainted, SpellsKind, SpellsOptionalMark, SpellsMember, SpellsListed, SpellsParameters, SpellsResult, SpellsBody, SpellsItem}
 use Rattle.ckc_parser_grammar.specs.Failures.{Failure, unexpected, IsLow}
-use Rattle.ckc_parser_grammar.specs.StuckTypes.{name_token}
 use Rattle.ckc_parser_grammar.specs.StuckExpressions.{close_paren, comma_or_paren}
 use Rattle.ckc_parser_grammar.specs.StuckStatements.{open_brace, semicolon}
 use Rattle.ckc_parser_grammar.specs.StuckItems as stuck
-use Rattle.ckc_parser_grammar.specs.StuckItems.{scope_word, struct_word, body_word, is_name_before, is_structure, is_function, IsAlone, IsLowMember, StuckBody, StuckItem, StuckItems}
-use Rattle.ckc_parser_cursor.specs.WordReadings.{WordAt}
+use Rattle.ckc_parser_grammar.specs.StuckItems.{scope_word, body_word, is_name_before, is_function, IsAlone, IsLowMember, StuckBody, StuckItem, StuckItems}
 use Rattle.ckc_parser.specs.ItemReadings as r
-use Rattle.ckc_parser.specs.ItemReadings.{IsScope, IsKindWord, IsSide, IsLed, IsStructureHead, StuckNamed, StuckResult}
-use Rattle.ckc_parser_expressions.proofs.ContextSteps.{low_beside}
+use Rattle.ckc_parser.specs.ItemReadings.{IsSide, IsLed, IsStructureHead, StuckNamed, StuckResult}
 use Rattle.ckc_parser_grammar.proofs.Lists.{GoesOn, AreItems, ended}
-use Rattle.ckc_parser_grammar.proofs.Paths.{shorter}
+use Rattle.ckc_parser_grammar.proofs.Paths.{low_beside, shorter}
 use Rattle.ckc_parser_grammar.proofs.TypePaths.{type_path, type_name_path, stars_path}
 use Rattle.ckc_parser_grammar.proofs.StatementPaths.{optional_bounds_path, declarators_path, statements_path}
 use Rattle.ckc_parser_grammar.proofs.ItemPaths.{members_path}
+use Rattle.ckc_parser_grammar.proofs.Ahead.{untainted, no_name}
 
 -- ---- words before an item
-
-pub is_region : {region : Region} {s : Span} {ts rest : List Token} → WordAt IsScope region s ts rest → SpellsItem ts (RegionItem region s) rest
-is_region w = by_word w.says w.at
-  where
-    by_word : {k : TokenKind} {region : Region} {s : Span} {ts rest : List Token} → IsScope k region → ts ≡ token k s ∷ rest → SpellsItem ts (RegionItem region s) rest
-    by_word (r.scope d) at = rw at (g.region d)
-
-pub is_kind : {kind : FunctionKind} {s : Span} {ts rest : List Token} → WordAt IsKindWord kind s ts rest → SpellsKind ts kind rest
-is_kind w = by_word w.says w.at
-  where
-    by_word : {k : TokenKind} {kind : FunctionKind} {s : Span} {ts rest : List Token} → IsKindWord k kind → ts ≡ token k s ∷ rest → SpellsKind ts kind rest
-    by_word r.tainted_word at = rw at g.tainted
-    by_word r.callback_word at = rw at g.callback
 
 pub is_led : {ts mid rest : List Token} {kind : FunctionKind} {mark : Option Mark} → next_is scope_word ts ≡ false → SpellsKind ts kind mid → SpellsOptionalMark mid mark rest → IsLed ts kind mark rest
 is_led none k m = record { marked = _; no_scope = none; spelled_kind = k; spelled_mark = m }
 
-no_tainted : (k : TokenKind) → kind_word k ≡ false → tainted_word k ≡ false
-no_tainted kinds.Tainted none = none
-no_tainted k none = refl
-
-no_tainted_word : (ts : List Token) → next_is kind_word ts ≡ false → next_is tainted_word ts ≡ false
-no_tainted_word [] none = refl
-no_tainted_word (t ∷ ts) none = no_tainted t.kind none
-
 of_side : {ts rest : List Token} {kind : FunctionKind} {tainted : Bool} → SpellsKind ts kind rest → IsSide kind tainted → SpellsTainted ts tainted rest
-of_side (g.trusted none) r.trusted = g.absent (no_tainted_word _ none)
+of_side (g.trusted none) r.trusted = g.absent (untainted _ none)
 of_side g.tainted r.tainted = g.present
 of_side g.callback side = elim side [ ]
 
@@ -70,14 +47,6 @@ pub is_tainted : {ts mid rest : List Token} {kind : FunctionKind} {tainted : Boo
 is_tainted k (g.absent none) side = of_side k side
 
 -- ---- what is seen some tokens ahead
-
-pub no_struct : (ts : List Token) → next_is struct_word ts ≡ false → is_structure ts ≡ false
-no_struct [] none = refl
-no_struct (t ∷ ts) none = rw none refl
-
-pub no_name : (is : TokenKind → Bool) (ts : List Token) → next_is name_token ts ≡ false → is_name_before is ts ≡ false
-no_name is [] none = refl
-no_name is (t ∷ ts) none = rw none refl
 
 function_here : (ts : List Token) → next_is star ts ≡ false → is_function ts ≡ is_name_before open_paren ts
 function_here [] none = refl
@@ -91,12 +60,12 @@ pub no_function : {ts : List Token} {f : Failure} → StuckNamed ts f → is_fun
 no_function (r.name d none) = function_behind d ∙ no_name open_paren _ none
 no_function (r.opens d none) = function_behind d ∙ none
 
-pub structure_at : {x : List ℕ} {w s b : Span} {ts us vs rest : List Token} → ts ≡ token kinds.Struct w ∷ us → us ≡ token (kinds.Name x) s ∷ vs → vs ≡ token kinds.OpenBrace b ∷ rest → IsStructureHead x s ts rest
+pub structure_at : {x : List ℕ} {w s b : Span} {ts us vs rest : List Token} → ts ≡ token (kinds.Keyword keywords.Struct) w ∷ us → us ≡ token (kinds.Name x) s ∷ vs → vs ≡ token kinds.OpenBrace b ∷ rest → IsStructureHead x s ts rest
 structure_at {w} {b} word name brace = record { word = w; brace = b; at = rw (word, name, brace) refl }
 
 -- ---- functions
 
-pub void_result : {s : Span} {ts rest : List Token} → ts ≡ token kinds.Void s ∷ rest → SpellsResult ts (Void s) rest
+pub void_result : {s : Span} {ts rest : List Token} → ts ≡ token (kinds.Keyword keywords.Void) s ∷ rest → SpellsResult ts (Void s) rest
 void_result at = rw at g.void
 
 pub stuck_result : {ts rest : List Token} {kind : FunctionKind} {mark : Option Mark} {f : Failure} → IsLed ts kind mark rest → StuckResult rest f → StuckItem ts f
@@ -118,11 +87,9 @@ no_comma_or_paren (t ∷ ts) m c = neither_comma t.kind m c
 -- ---- bodies
 
 neither_body : (k : TokenKind) → semicolon k ≡ false → mark_word k ≡ false → open_brace k ≡ false → body_word k ≡ false
-neither_body kinds.Semicolon s m o = s
-neither_body kinds.OpenBrace s m o = o
-neither_body kinds.Checked s m o = m
-neither_body kinds.Unchecked s m o = m
-neither_body k s m o = refl
+neither_body kinds.Semicolon s m b = s
+neither_body kinds.OpenBrace s m b = b
+neither_body k s m b = m
 
 no_body_word : (ts : List Token) → next_is semicolon ts ≡ false → next_is mark_word ts ≡ false → next_is open_brace ts ≡ false → next_is body_word ts ≡ false
 no_body_word [] s m o = refl

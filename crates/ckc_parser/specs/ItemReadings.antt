@@ -1,33 +1,36 @@
 -- Inside: what the functions that read items answer, and what stands before the parts that they read.
-use Rattle.std.specs.Prelude.{◌≡◌, ℕ, Bool, true, false, List, ◌∷◌, Option, Some, None}
+use Rattle.std.specs.Prelude.{◌≡◌, ℕ, Bool, true, false, List, ◌∷◌, Option, Some, None, Result, Ok, Err}
 use Rattle.ckc_text.specs.declared.place.Span.{Span}
 use Rattle.ckc_lexer_tokens.specs.declared.token.Token.{Token}
-use Rattle.ckc_lexer_tokens.specs.declared.token.TokenKind.{TokenKind}
+use Rattle.ckc_lexer_tokens.specs.declared.keyword.Keyword.TheVariants as keywords
 use Rattle.ckc_lexer_tokens.specs.declared.token.TokenKind.TheVariants as kinds
-use Rattle.ckc_lexer_tokens.specs.declared.token.CheckedScope.{CheckedScope}
 use Rattle.ckc_tree.specs.declared.stmt.Mark.{Mark}
 use Rattle.ckc_tree.specs.declared.item.Region.{Region}
 use Rattle.ckc_tree.specs.declared.item.FunctionKind.{FunctionKind}
-use Rattle.ckc_tree.specs.declared.item.FunctionKind.TheVariants.{Trusted, Tainted, Callback}
+use Rattle.ckc_tree.specs.declared.item.FunctionKind.TheVariants.{Trusted, Tainted}
 use Rattle.ckc_tree.specs.Types.{TypeTree}
-use Rattle.ckc_tree.specs.Items.{ResultForm}
+use Rattle.ckc_tree.specs.Items.{ResultForm, RegionItem}
 use Rattle.ckc_tree.specs.Heights.{type_reach, result_reach}
-use Rattle.ckc_parser_grammar.specs.Tokens.{token, next_is, open_paren}
+use Rattle.ckc_parser_cursor.specs.declared.stuck.Stuck.{Stuck}
+use Rattle.ckc_parser_cursor.specs.Answers.{Stops}
+use Rattle.ckc_parser_grammar.specs.Tokens.{token, next_is, kind_word, open_paren}
 use Rattle.ckc_parser_grammar.specs.TypeGrammar.{SpellsStars, SpellsType}
-use Rattle.ckc_parser_grammar.specs.ItemGrammar.{SpellsTainted, SpellsKind, SpellsOptionalMark, SpellsRegion, SpellsResult}
+use Rattle.ckc_parser_grammar.specs.ItemGrammar.{SpellsTainted, SpellsKind, SpellsOptionalMark, SpellsResult, SpellsItem}
 use Rattle.ckc_parser_grammar.specs.Failures.{Failure, unexpected, IsLow}
 use Rattle.ckc_parser_grammar.specs.StuckTypes.{name_token, StuckType}
 use Rattle.ckc_parser_grammar.specs.StuckItems.{scope_word, void_word, is_structure, is_function, IsAlone}
 
 -- ---- words before an item
 
-pub data IsScope : TokenKind → Region → Type 0 where
-  scope : {scope : CheckedScope} {region : Region} → SpellsRegion scope region → IsScope (kinds.Scope scope) region
+-- what a function that reads a directive answers
+abbrev pub ReadsRegion : List Token → Result (Region × Span) Stuck → List Token → Type 0
+ReadsRegion ts (Ok found) rest = SpellsItem ts (RegionItem found.0 found.1) rest
+ReadsRegion ts (Err e) rest = Stops scope_word ts e rest
 
--- on which side a function runs
-pub data IsKindWord : TokenKind → FunctionKind → Type 0 where
-  tainted_word : IsKindWord kinds.Tainted Tainted
-  callback_word : IsKindWord kinds.Callback Callback
+-- what a function that reads the word for the side on which a function runs answers
+abbrev pub ReadsKind : List Token → Result (FunctionKind × Span) Stuck → List Token → Type 0
+ReadsKind ts (Ok found) rest = SpellsKind ts found.0 rest
+ReadsKind ts (Err e) rest = Stops kind_word ts e rest
 
 -- of a function that can be another item so far, whether it is tainted
 pub data IsSide : FunctionKind → Bool → Type 0 where
@@ -61,12 +64,12 @@ pub record IsBase (whole : List Token) (tainted : Bool) (base : TypeTree) (rest 
 pub record IsStructureHead (name : List ℕ) (span : Span) (ts rest : List Token) : Type 0 where
   pub word : Span
   pub brace : Span
-  pub at : ts ≡ token kinds.Struct word ∷ token (kinds.Name name) span ∷ token kinds.OpenBrace brace ∷ rest
+  pub at : ts ≡ token (kinds.Keyword keywords.Struct) word ∷ token (kinds.Name name) span ∷ token kinds.OpenBrace brace ∷ rest
 
 pub record IsStructure (whole : List Token) (tainted : Bool) (name : List ℕ) (span : Span) (rest : List Token) : Type 0 where
   pub word : Span
   pub brace : Span
-  pub taint : SpellsTainted whole tainted (token kinds.Struct word ∷ token (kinds.Name name) span ∷ token kinds.OpenBrace brace ∷ rest)
+  pub taint : SpellsTainted whole tainted (token (kinds.Keyword keywords.Struct) word ∷ token (kinds.Name name) span ∷ token kinds.OpenBrace brace ∷ rest)
 
 -- ---- functions
 

@@ -3,6 +3,7 @@ use Rattle.std.specs.Prelude.{◌≡◌, ℕ, suc, Bool, true, false, List, ◌�
 use Rattle.ckc_text.specs.declared.place.Span.{Span}
 use Rattle.ckc_lexer_tokens.specs.declared.token.Token.{Token}
 use Rattle.ckc_lexer_tokens.specs.declared.token.TokenKind.{TokenKind}
+use Rattle.ckc_lexer_tokens.specs.declared.keyword.Keyword.TheVariants as keywords
 use Rattle.ckc_lexer_tokens.specs.declared.token.TokenKind.TheVariants as kinds
 use Rattle.ckc_tree.specs.declared.stmt.StoreOperator.{StoreOperator}
 use Rattle.ckc_tree.specs.declared.stmt.StepOperator.{StepOperator}
@@ -10,7 +11,7 @@ use Rattle.ckc_tree.specs.declared.stmt.StepSide.TheVariants.{After}
 use Rattle.ckc_tree.specs.Expressions.{Expression}
 use Rattle.ckc_tree.specs.Statements.{Assignment, Store, Step, ForInitial, Statement, Break, Continue}
 use Rattle.ckc_tree.specs.Heights.{for_initial_reach, optional_expression_reach, optional_assignment_reach}
-use Rattle.ckc_parser_grammar.specs.Tokens.{token, join, IsStoreOperator, IsStepOperator, next_is}
+use Rattle.ckc_parser_grammar.specs.Tokens.{token, join, store_operator_of, step_operator_of, next_is}
 use Rattle.ckc_parser_grammar.specs.ExpressionGrammar.{SpellsExpression}
 use Rattle.ckc_parser_grammar.specs.StatementGrammar.{SpellsForInitial, SpellsForCondition, SpellsForStep}
 use Rattle.ckc_parser_grammar.specs.Failures.{Failure, unexpected, no_memory, IsLow}
@@ -20,15 +21,15 @@ use Rattle.ckc_parser_grammar.specs.StuckStatements.{assign_word, is_call, is_ca
 -- ---- what stands behind the target of an assignment
 
 pub data SpellsAssigned : Expression → Span → List Token → Assignment → List Token → Type 0 where
-  store : {k : TokenKind} {s o w : Span} {us rest : List Token} {e target : Expression} {store_operator : StoreOperator} → IsStoreOperator k store_operator
+  store : {k : TokenKind} {s o w : Span} {us rest : List Token} {e target : Expression} {store_operator : StoreOperator} → store_operator_of k ≡ Some store_operator
       → SpellsExpression us e w rest → SpellsAssigned target o (token k s ∷ us) (Store store_operator target e (join o w)) rest
-  after : {k : TokenKind} {s o : Span} {rest : List Token} {target : Expression} {step_operator : StepOperator} → IsStepOperator k step_operator
+  after : {k : TokenKind} {s o : Span} {rest : List Token} {target : Expression} {step_operator : StepOperator} → step_operator_of k ≡ Some step_operator
       → SpellsAssigned target o (token k s ∷ rest) (Step step_operator After target (join o s)) rest
 
 pub data StuckAssigned : ℕ → List Token → Failure → Type 0 where
   no_room : {d : ℕ} {ts : List Token} → StuckAssigned d ts no_memory
   operator : {d : ℕ} {rest : List Token} → next_is assign_word rest ≡ false → StuckAssigned d rest (unexpected rest)
-  value : {d : ℕ} {k : TokenKind} {s : Span} {us : List Token} {store_operator : StoreOperator} {f : Failure} → IsStoreOperator k store_operator
+  value : {d : ℕ} {k : TokenKind} {s : Span} {us : List Token} {store_operator : StoreOperator} {f : Failure} → store_operator_of k ≡ Some store_operator
       → StuckExpression (suc d) us f → StuckAssigned d (token k s ∷ us) f
 
 -- ---- parts of statements
@@ -55,8 +56,8 @@ EndsCall target ts (Some end) rest = IsCallEnd target end ts rest
 
 -- the word `break`, or `continue`
 abbrev pub jump_word : Bool → TokenKind
-jump_word true = kinds.Break
-jump_word false = kinds.Continue
+jump_word true = kinds.Keyword keywords.Break
+jump_word false = kinds.Keyword keywords.Continue
 
 -- the statement that such a word begins
 abbrev pub jump : Bool → Span → Statement

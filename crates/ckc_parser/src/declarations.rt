@@ -15,6 +15,7 @@ ghost use Rattle.ckc_parser.specs.StatementReadings.{SpellsAssigned, StuckAssign
 
 use ckc_lexer_tokens::token::{Token, TokenKind};
 use ckc_parser_cursor::depth::Depth;
+use ckc_parser_cursor::kinds;
 use ckc_parser_cursor::memory::push;
 use ckc_parser_cursor::spans::join;
 use ckc_parser_cursor::stuck::Stuck;
@@ -232,7 +233,7 @@ pub fn declaration(depth: Depth, tokens: &mut &[Token]) -> Result<Declaration, S
 pub fn starts_assignment(kind: &TokenKind) -> bool
     ensures { result ≡ assignment_word kind.now }
 {
-    matches!(kind, TokenKind::PlusPlus | TokenKind::MinusMinus) || starts_unary(kind)
+    kinds::step_operator(kind).is_some() || starts_unary(kind)
 }
 
 /// An assignment with at most `depth` nodes around it.

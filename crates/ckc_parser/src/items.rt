@@ -2,24 +2,24 @@
 
 ghost use Rattle.std.specs.Prelude.{◌≡◌, false, map, None, MatchOption};
 ghost use Rattle.std.specs.Option.{option_map};
+ghost use Rattle.ckc_lexer_tokens.specs.declared.keyword.Keyword.TheVariants as keywords;
 ghost use Rattle.ckc_lexer_tokens.specs.declared.token.TokenKind.TheVariants as kinds;
 ghost use Rattle.ckc_tree.specs.Types.{type_tree, type_name};
 ghost use Rattle.ckc_tree.specs.Expressions.{bounds};
 ghost use Rattle.ckc_tree.specs.Statements as statements;
 ghost use Rattle.ckc_tree.specs.Items as views;
 ghost use Rattle.ckc_tree.specs.Heights.{type_reach, members_reach, result_reach, parameters_reach, optional_body_reach, item_reach};
-ghost use Rattle.ckc_parser_grammar.specs.Tokens as words;
 ghost use Rattle.ckc_parser_grammar.specs.ItemGrammar.{SpellsTainted, SpellsKind, SpellsOptionalMark, SpellsMember, SpellsMembers, SpellsListed, SpellsParameters, SpellsResult, SpellsBody, SpellsRegion, SpellsItem, SpellsItems};
 ghost use Rattle.ckc_parser_grammar.specs.TypeGrammar.{SpellsType};
 ghost use Rattle.ckc_parser_grammar.specs.Failures.{IsLow};
 ghost use Rattle.ckc_parser_cursor.specs.Answers.{Reads, ReadsMark};
 ghost use Rattle.ckc_parser_grammar.specs.StuckItems as marks;
 ghost use Rattle.ckc_parser_grammar.specs.StuckItems.{IsLowMember, StuckMember, StuckMembers, StuckListed, StuckParameters, StuckBody, StuckItem};
-ghost use Rattle.ckc_parser_cursor.specs.WordReadings.{ReadsWord};
-ghost use Rattle.ckc_parser.specs.ItemReadings.{IsScope, IsKindWord, SideAnswers, IsLed, IsBase, IsStructureHead, IsStructure, IsNamed, StuckNamed, StuckResult, IsHead};
+ghost use Rattle.ckc_parser.specs.ItemReadings.{ReadsRegion, ReadsKind, SideAnswers, IsLed, IsBase, IsStructureHead, IsStructure, IsNamed, StuckNamed, StuckResult, IsHead};
 
 use crate::declarations::{Read, declarators, from_first, optional_bounds};
 use crate::statements::statements;
+use ckc_lexer_tokens::keyword::Keyword;
 use ckc_lexer_tokens::token::{CheckedScope, Token, TokenKind};
 use ckc_parser_cursor::depth::Depth;
 use ckc_parser_cursor::memory::push;
@@ -45,21 +45,21 @@ use std::alloc::Global;
 
 /// The span of the word `void`.
 fn void_word(tokens: &mut &[Token]) -> Result<Span, Stuck>
-    ensures { ReadsMark kinds.Void marks.void_word tokens.old.now result tokens.new.now }
+    ensures { ReadsMark (kinds.Keyword keywords.Void) marks.void_word tokens.old.now result tokens.new.now }
 {
     expect(Terminal::Void, tokens)
 }
 
 /// The span of the word `struct`.
 fn struct_word(tokens: &mut &[Token]) -> Result<Span, Stuck>
-    ensures { ReadsMark kinds.Struct marks.struct_word tokens.old.now result tokens.new.now }
+    ensures { ReadsMark (kinds.Keyword keywords.Struct) marks.struct_word tokens.old.now result tokens.new.now }
 {
     expect(Terminal::Struct, tokens)
 }
 
 /// What a directive says of all that stands behind it, with its span.
 fn region(tokens: &mut &[Token]) -> Result<(Region, Span), Stuck>
-    ensures { ReadsWord IsScope marks.scope_word tokens.old.now result tokens.new.now }
+    ensures { ReadsRegion tokens.old.now result tokens.new.now }
 {
     let Some((token, rest)) = tokens.split_first() else {
         return Err(Stuck::Unexpected);
@@ -85,17 +85,17 @@ fn region_of(scope: CheckedScope) -> Region
 
 /// The word that says on which side a function runs, with its span.
 fn kind_word(tokens: &mut &[Token]) -> Result<(FunctionKind, Span), Stuck>
-    ensures { ReadsWord IsKindWord words.kind_word tokens.old.now result tokens.new.now }
+    ensures { ReadsKind tokens.old.now result tokens.new.now }
 {
     let Some((token, rest)) = tokens.split_first() else {
         return Err(Stuck::Unexpected);
     };
     match &token.kind {
-        TokenKind::Tainted => {
+        TokenKind::Keyword(Keyword::Tainted) => {
             *tokens = rest;
             Ok((FunctionKind::Tainted, token.span))
         }
-        TokenKind::Callback => {
+        TokenKind::Keyword(Keyword::Callback) => {
             *tokens = rest;
             Ok((FunctionKind::Callback, token.span))
         }

@@ -2,6 +2,7 @@
 
 ghost use Rattle.std.specs.Prelude.{◌≡◌, ℕ, ◌∷◌, ◌≤◌, ◌<◌, suc, true, false, map, None, Some};
 ghost use Rattle.std.specs.Option.{option_map};
+ghost use Rattle.ckc_lexer_tokens.specs.declared.keyword.Keyword.TheVariants as keywords;
 ghost use Rattle.ckc_lexer_tokens.specs.declared.token.TokenKind.TheVariants as kinds;
 ghost use Rattle.ckc_tree.specs.Expressions.{expression};
 ghost use Rattle.ckc_tree.specs.Statements as views;
@@ -16,9 +17,11 @@ ghost use Rattle.ckc_parser_grammar.specs.StuckStatements.{plain_word, statement
 ghost use Rattle.ckc_parser.specs.StatementReadings.{SpellsCondition, SpellsEnd, EndsCall, IsForHead, jump_word, jump};
 
 use crate::declarations::{Read, assigned, assignment, declaration, starts_assignment};
+use ckc_lexer_tokens::keyword::Keyword;
 use ckc_lexer_tokens::token::{Token, TokenKind};
 use ckc_parser_cursor::alternative::else_word;
 use ckc_parser_cursor::depth::Depth;
+use ckc_parser_cursor::kinds;
 use ckc_parser_cursor::memory::{boxed, push};
 use ckc_parser_cursor::spans::join;
 use ckc_parser_cursor::stuck::Stuck;
@@ -37,18 +40,16 @@ fn starts_plain(kind: &TokenKind) -> bool
 {
     matches!(
         kind,
-        TokenKind::Checked
-            | TokenKind::Unchecked
-            | TokenKind::OpenBrace
-            | TokenKind::Bundled
+        TokenKind::OpenBrace
+            | TokenKind::Keyword(Keyword::Bundled)
             | TokenKind::Semicolon
-            | TokenKind::If
-            | TokenKind::While
-            | TokenKind::For
-            | TokenKind::Return
-            | TokenKind::Break
-            | TokenKind::Continue
-    )
+            | TokenKind::Keyword(Keyword::If)
+            | TokenKind::Keyword(Keyword::While)
+            | TokenKind::Keyword(Keyword::For)
+            | TokenKind::Keyword(Keyword::Return)
+            | TokenKind::Keyword(Keyword::Break)
+            | TokenKind::Keyword(Keyword::Continue)
+    ) || kinds::mark(kind).is_some()
 }
 
 /// Whether a token is the first of a statement.
@@ -103,13 +104,13 @@ fn plain(depth: Depth, tokens: &mut &[Token]) -> Result<Box<Stmt>, Stuck>
     let start = token.span;
     *tokens = rest;
     match &token.kind {
-        TokenKind::Bundled => bundle(depth, start, tokens),
-        TokenKind::If => if_statement(depth, start, tokens),
-        TokenKind::While => while_statement(depth, start, tokens),
-        TokenKind::For => for_statement(depth, start, tokens),
-        TokenKind::Return => return_statement(depth, start, tokens),
-        TokenKind::Break => jump(depth.alloc(), true, start, tokens),
-        TokenKind::Continue => jump(depth.alloc(), false, start, tokens),
+        TokenKind::Keyword(Keyword::Bundled) => bundle(depth, start, tokens),
+        TokenKind::Keyword(Keyword::If) => if_statement(depth, start, tokens),
+        TokenKind::Keyword(Keyword::While) => while_statement(depth, start, tokens),
+        TokenKind::Keyword(Keyword::For) => for_statement(depth, start, tokens),
+        TokenKind::Keyword(Keyword::Return) => return_statement(depth, start, tokens),
+        TokenKind::Keyword(Keyword::Break) => jump(depth.alloc(), true, start, tokens),
+        TokenKind::Keyword(Keyword::Continue) => jump(depth.alloc(), false, start, tokens),
         TokenKind::Semicolon => Ok(depth.boxed(Stmt::Empty { span: start })?),
         _ => Err(Stuck::Unexpected),
     }
@@ -188,7 +189,7 @@ fn assignments(depth: Depth, tokens: &mut &[Token]) -> Result<Read<Vec<Assignmen
 /// What stands behind the word of a bundle.
 fn bundle(depth: Depth, start: Span, tokens: &mut &[Token]) -> Result<Box<Stmt>, Stuck>
     requires { depth < 200 }
-    ensures { Reads (λ x rest. SpellsStatement (token kinds.Bundled start ∷ tokens.old.now) (views.statement x.value) rest × IsLow depth (statement_reach (views.statement x.value))) (StuckStatement depth (token kinds.Bundled start ∷ tokens.old.now)) result tokens.new.now }
+    ensures { Reads (λ x rest. SpellsStatement (token (kinds.Keyword keywords.Bundled) start ∷ tokens.old.now) (views.statement x.value) rest × IsLow depth (statement_reach (views.statement x.value))) (StuckStatement depth (token (kinds.Keyword keywords.Bundled) start ∷ tokens.old.now)) result tokens.new.now }
 {
     open_brace(tokens)?;
     let read = assignments(depth.deeper(), tokens)?;
@@ -292,7 +293,7 @@ fn condition(depth: Depth, tokens: &mut &[Token]) -> Result<Box<Expr>, Stuck>
 #[cycle(statements)]
 fn if_statement(depth: Depth, start: Span, tokens: &mut &[Token]) -> Result<Box<Stmt>, Stuck>
     requires { depth < 200 }
-    ensures { Reads (λ x rest. SpellsStatement (token kinds.If start ∷ tokens.old.now) (views.statement x.value) rest × IsLow depth (statement_reach (views.statement x.value))) (StuckStatement depth (token kinds.If start ∷ tokens.old.now)) result tokens.new.now }
+    ensures { Reads (λ x rest. SpellsStatement (token (kinds.Keyword keywords.If) start ∷ tokens.old.now) (views.statement x.value) rest × IsLow depth (statement_reach (views.statement x.value))) (StuckStatement depth (token (kinds.Keyword keywords.If) start ∷ tokens.old.now)) result tokens.new.now }
 {
     let below = depth.deeper();
     let condition = condition(below, tokens)?;
@@ -334,7 +335,7 @@ fn if_else(condition: Box<Expr>, consequent: Box<Stmt>, alternative: Box<Stmt>, 
 #[cycle(statements)]
 fn while_statement(depth: Depth, start: Span, tokens: &mut &[Token]) -> Result<Box<Stmt>, Stuck>
     requires { depth < 200 }
-    ensures { Reads (λ x rest. SpellsStatement (token kinds.While start ∷ tokens.old.now) (views.statement x.value) rest × IsLow depth (statement_reach (views.statement x.value))) (StuckStatement depth (token kinds.While start ∷ tokens.old.now)) result tokens.new.now }
+    ensures { Reads (λ x rest. SpellsStatement (token (kinds.Keyword keywords.While) start ∷ tokens.old.now) (views.statement x.value) rest × IsLow depth (statement_reach (views.statement x.value))) (StuckStatement depth (token (kinds.Keyword keywords.While) start ∷ tokens.old.now)) result tokens.new.now }
 {
     let below = depth.deeper();
     let condition = condition(below, tokens)?;
@@ -421,7 +422,7 @@ struct ForHead {
 /// What stands between the word `for` and its body.
 fn for_head(depth: Depth, start: Span, tokens: &mut &[Token]) -> Result<Box<ForHead>, Stuck>
     requires { depth < 200 }
-    ensures { Reads (λ x rest. IsForHead depth tokens.old.now (views.for_initial x.value.initial) (option_map views.on_heap x.value.condition) (option_map views.assignment x.value.step) rest) (StuckStatement depth (token kinds.For start ∷ tokens.old.now)) result tokens.new.now }
+    ensures { Reads (λ x rest. IsForHead depth tokens.old.now (views.for_initial x.value.initial) (option_map views.on_heap x.value.condition) (option_map views.assignment x.value.step) rest) (StuckStatement depth (token (kinds.Keyword keywords.For) start ∷ tokens.old.now)) result tokens.new.now }
 {
     open_paren(tokens)?;
     let below = depth.deeper();
@@ -441,7 +442,7 @@ fn for_head(depth: Depth, start: Span, tokens: &mut &[Token]) -> Result<Box<ForH
 #[cycle(statements)]
 fn for_statement(depth: Depth, start: Span, tokens: &mut &[Token]) -> Result<Box<Stmt>, Stuck>
     requires { depth < 200 }
-    ensures { Reads (λ x rest. SpellsStatement (token kinds.For start ∷ tokens.old.now) (views.statement x.value) rest × IsLow depth (statement_reach (views.statement x.value))) (StuckStatement depth (token kinds.For start ∷ tokens.old.now)) result tokens.new.now }
+    ensures { Reads (λ x rest. SpellsStatement (token (kinds.Keyword keywords.For) start ∷ tokens.old.now) (views.statement x.value) rest × IsLow depth (statement_reach (views.statement x.value))) (StuckStatement depth (token (kinds.Keyword keywords.For) start ∷ tokens.old.now)) result tokens.new.now }
 {
     let head = for_head(depth, start, tokens)?;
     let body = statement(depth.deeper(), tokens)?;
@@ -465,7 +466,7 @@ fn for_loop(head: ForHead, body: Box<Stmt>, span: Span) -> Stmt
 /// What stands behind the word `return`.
 fn return_statement(depth: Depth, start: Span, tokens: &mut &[Token]) -> Result<Box<Stmt>, Stuck>
     requires { depth < 200 }
-    ensures { Reads (λ x rest. SpellsStatement (token kinds.Return start ∷ tokens.old.now) (views.statement x.value) rest × IsLow depth (statement_reach (views.statement x.value))) (StuckStatement depth (token kinds.Return start ∷ tokens.old.now)) result tokens.new.now }
+    ensures { Reads (λ x rest. SpellsStatement (token (kinds.Keyword keywords.Return) start ∷ tokens.old.now) (views.statement x.value) rest × IsLow depth (statement_reach (views.statement x.value))) (StuckStatement depth (token (kinds.Keyword keywords.Return) start ∷ tokens.old.now)) result tokens.new.now }
 {
     let read = optional_value(depth.deeper(), tokens)?;
     let value = read.form;

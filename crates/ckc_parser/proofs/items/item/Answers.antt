@@ -1,9 +1,9 @@
 use Rattle.std.proofs.Common.{arith}
-use Rattle.ckc_parser.proofs.FileLevel.{is_region, is_led, is_tainted}
+use Rattle.ckc_parser.proofs.FileLevel.{is_led, is_tainted}
 use Rattle.ckc_parser.proofs.items.item.Goals as goal
 
 pub returns-in-Ok : goal.returns-in-Ok
-returns-in-Ok c = (is_region c.in-Ok.ensures, omega arith)
+returns-in-Ok c = (c.in-Ok.ensures, omega arith)
 
 pub unmarked-requires : goal.unmarked-requires
 unmarked-requires c =

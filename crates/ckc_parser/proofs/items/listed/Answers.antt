@@ -1,5 +1,5 @@
 use Rattle.std.proofs.Common.{length, ap, arith}
-use Rattle.ckc_parser_expressions.proofs.ContextSteps.{low_beside}
+use Rattle.ckc_parser_grammar.proofs.Paths.{low_beside}
 use Rattle.ckc_parser.proofs.FileLevel.{low_parameter, member_shorter, no_comma_or_paren}
 use Rattle.ckc_parser_grammar.proofs.Lists.{goes_on, ends}
 use Rattle.ckc_parser_grammar.specs.ItemGrammar as g

@@ -1,5 +1,6 @@
 use Rattle.ckc_parser_grammar.specs.StuckStatements.{open_brace}
-use Rattle.ckc_parser.proofs.FileLevel.{no_struct, no_name, structure_at}
+use Rattle.ckc_parser_grammar.proofs.Ahead.{no_struct, no_name}
+use Rattle.ckc_parser.proofs.FileLevel.{structure_at}
 use Rattle.ckc_parser.proofs.items.structure_head.Goals as goal
 
 pub returns-in_default : goal.returns-in_default

@@ -1,4 +1,4 @@
-use Rattle.ckc_parser_expressions.proofs.ContextSteps.{low_beside}
+use Rattle.ckc_parser_grammar.proofs.Paths.{low_beside}
 use Rattle.ckc_parser_grammar.specs.ItemGrammar as g
 use Rattle.ckc_parser_grammar.specs.StuckItems as stuck
 use Rattle.ckc_parser_cursor.proofs.Readings.{err}

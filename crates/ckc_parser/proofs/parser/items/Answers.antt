@@ -1,6 +1,6 @@
 use Rattle.std.proofs.Common.{arith}
 use Rattle.ckc_parser_grammar.specs.Parsing.{point}
-use Rattle.ckc_parser_expressions.proofs.ContextSteps.{low_beside}
+use Rattle.ckc_parser_grammar.proofs.Paths.{low_beside}
 use Rattle.ckc_parser.proofs.FileLevel.{stuck_first, item_shorter, none_left}
 use Rattle.ckc_parser_grammar.proofs.Lists.{goes_on}
 use Rattle.ckc_parser_grammar.specs.ItemGrammar as g

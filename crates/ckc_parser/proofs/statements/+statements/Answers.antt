@@ -1,11 +1,11 @@
-use Rattle.std.proofs.Common.{◌≡◌, ◌≤◌, [], ◌∷◌, ◌++◌, length, true, sym, ap, ◌∙◌, arith}
+use Rattle.std.proofs.Common.{◌≡◌, [], ◌∷◌, ◌++◌, length, true, sym, ap, ◌∙◌, arith}
 use Rattle.ckc_tree.specs.Statements.{statement}
+use Rattle.ckc_lexer_tokens.specs.declared.token.TokenKind.TheVariants as kinds
 use Rattle.ckc_parser_grammar.specs.Tokens.{next_is}
 use Rattle.ckc_parser_grammar.specs.StuckStatements.{plain_word, statement_word}
 use Rattle.ckc_parser_cursor.proofs.Readings.{begins, next, next_none, low_around}
-use Rattle.ckc_parser_expressions.proofs.ContextSteps.{low_beside}
 use Rattle.ckc_parser_grammar.proofs.Lists.{goes_on, ended}
-use Rattle.ckc_parser_grammar.proofs.Paths.{shorter}
+use Rattle.ckc_parser_grammar.proofs.Paths.{low_beside, shorter}
 use Rattle.ckc_parser_grammar.proofs.StatementPaths.{statement_path}
 use Rattle.ckc_parser.proofs.Blocks as blocks
 use Rattle.ckc_parser.proofs.Blocks.{no_other_word, condition_shorter, head_shorter, statement_shorter}
@@ -80,26 +80,26 @@ plain-for_statement-requires t c =
     let less = ap length (rw (c.in_default-open_brace.ensures.left, c.in_default.ensures.left) at c.in-Some.ensures.cases.0) in
     (omega arith, c.requires.deep)
 
-pub plain-returns-in-Bundled : goal.plain-returns-in-Bundled
-plain-returns-in-Bundled t c = rw (begins _ _ _ _ (rw (c.in_default-open_brace.ensures.left, c.in_default.ensures.left) at c.in-Some.ensures.cases.0) c.in-Bundled.is) c.bundle.ensures
+pub plain-returns-in-Keyword-Bundled : goal.plain-returns-in-Keyword-Bundled
+plain-returns-in-Keyword-Bundled t c = rw (begins _ _ _ _ (rw (c.in_default-open_brace.ensures.left, c.in_default.ensures.left) at c.in-Some.ensures.cases.0) (c.in-Keyword-Bundled.is ∙ ap kinds.Keyword (rw c.in-Keyword-Bundled.is at c.in-Keyword-Bundled.field-0-is))) c.bundle.ensures
 
-pub plain-returns-in-If : goal.plain-returns-in-If
-plain-returns-in-If t c = rw (begins _ _ _ _ (rw (c.in_default-open_brace.ensures.left, c.in_default.ensures.left) at c.in-Some.ensures.cases.0) c.in-If.is) c.if_statement.ensures
+pub plain-returns-in-Keyword-If : goal.plain-returns-in-Keyword-If
+plain-returns-in-Keyword-If t c = rw (begins _ _ _ _ (rw (c.in_default-open_brace.ensures.left, c.in_default.ensures.left) at c.in-Some.ensures.cases.0) (c.in-Keyword-If.is ∙ ap kinds.Keyword (rw c.in-Keyword-If.is at c.in-Keyword-If.field-0-is))) c.if_statement.ensures
 
-pub plain-returns-in-While : goal.plain-returns-in-While
-plain-returns-in-While t c = rw (begins _ _ _ _ (rw (c.in_default-open_brace.ensures.left, c.in_default.ensures.left) at c.in-Some.ensures.cases.0) c.in-While.is) c.while_statement.ensures
+pub plain-returns-in-Keyword-While : goal.plain-returns-in-Keyword-While
+plain-returns-in-Keyword-While t c = rw (begins _ _ _ _ (rw (c.in_default-open_brace.ensures.left, c.in_default.ensures.left) at c.in-Some.ensures.cases.0) (c.in-Keyword-While.is ∙ ap kinds.Keyword (rw c.in-Keyword-While.is at c.in-Keyword-While.field-0-is))) c.while_statement.ensures
 
-pub plain-returns-in-For : goal.plain-returns-in-For
-plain-returns-in-For t c = rw (begins _ _ _ _ (rw (c.in_default-open_brace.ensures.left, c.in_default.ensures.left) at c.in-Some.ensures.cases.0) c.in-For.is) c.for_statement.ensures
+pub plain-returns-in-Keyword-For : goal.plain-returns-in-Keyword-For
+plain-returns-in-Keyword-For t c = rw (begins _ _ _ _ (rw (c.in_default-open_brace.ensures.left, c.in_default.ensures.left) at c.in-Some.ensures.cases.0) (c.in-Keyword-For.is ∙ ap kinds.Keyword (rw c.in-Keyword-For.is at c.in-Keyword-For.field-0-is))) c.for_statement.ensures
 
-pub plain-returns-in-Return : goal.plain-returns-in-Return
-plain-returns-in-Return t c = rw (begins _ _ _ _ (rw (c.in_default-open_brace.ensures.left, c.in_default.ensures.left) at c.in-Some.ensures.cases.0) c.in-Return.is) c.return_statement.ensures
+pub plain-returns-in-Keyword-Return : goal.plain-returns-in-Keyword-Return
+plain-returns-in-Keyword-Return t c = rw (begins _ _ _ _ (rw (c.in_default-open_brace.ensures.left, c.in_default.ensures.left) at c.in-Some.ensures.cases.0) (c.in-Keyword-Return.is ∙ ap kinds.Keyword (rw c.in-Keyword-Return.is at c.in-Keyword-Return.field-0-is))) c.return_statement.ensures
 
-pub plain-returns-in-Break : goal.plain-returns-in-Break
-plain-returns-in-Break t c = rw (begins _ _ _ _ (rw (c.in_default-open_brace.ensures.left, c.in_default.ensures.left) at c.in-Some.ensures.cases.0) c.in-Break.is) (c.jump.ensures _ c.requires.deep)
+pub plain-returns-in-Keyword-Break : goal.plain-returns-in-Keyword-Break
+plain-returns-in-Keyword-Break t c = rw (begins _ _ _ _ (rw (c.in_default-open_brace.ensures.left, c.in_default.ensures.left) at c.in-Some.ensures.cases.0) (c.in-Keyword-Break.is ∙ ap kinds.Keyword (rw c.in-Keyword-Break.is at c.in-Keyword-Break.field-0-is))) (c.jump.ensures _ c.requires.deep)
 
-pub plain-returns-in-Continue : goal.plain-returns-in-Continue
-plain-returns-in-Continue t c = rw (begins _ _ _ _ (rw (c.in_default-open_brace.ensures.left, c.in_default.ensures.left) at c.in-Some.ensures.cases.0) c.in-Continue.is) (c.jump-in-Continue.ensures _ c.requires.deep)
+pub plain-returns-in-Keyword-Continue : goal.plain-returns-in-Keyword-Continue
+plain-returns-in-Keyword-Continue t c = rw (begins _ _ _ _ (rw (c.in_default-open_brace.ensures.left, c.in_default.ensures.left) at c.in-Some.ensures.cases.0) (c.in-Keyword-Continue.is ∙ ap kinds.Keyword (rw c.in-Keyword-Continue.is at c.in-Keyword-Continue.field-0-is))) (c.jump-in-Keyword-Continue.ensures _ c.requires.deep)
 
 pub plain-returns-in_err-boxed : goal.plain-returns-in_err-boxed
 plain-returns-in_err-boxed t c = rw (err _ _ c.from_residual-in_err-boxed.ensures.1) stuck.statement_no_room

@@ -1,7 +1,6 @@
 use Rattle.std.proofs.Common.{length, ap, arith}
-use Rattle.ckc_parser_expressions.proofs.ContextSteps.{low_beside}
 use Rattle.ckc_parser_grammar.proofs.Lists.{goes_on, ended}
-use Rattle.ckc_parser_grammar.proofs.Paths.{shorter}
+use Rattle.ckc_parser_grammar.proofs.Paths.{low_beside, shorter}
 use Rattle.ckc_parser_grammar.proofs.StatementPaths.{assignment_path}
 use Rattle.ckc_parser_grammar.specs.StatementGrammar as g
 use Rattle.ckc_parser_grammar.specs.StuckStatements as stuck

@@ -1,6 +1,7 @@
 use Rattle.ckc_parser_cursor.proofs.Readings.{low_around}
 use Rattle.ckc_parser.proofs.Assignments.{is_assignment}
-use Rattle.ckc_parser.proofs.Blocks.{is_called, stuck_named}
+use Rattle.ckc_parser_grammar.proofs.Ahead.{call_of}
+use Rattle.ckc_parser.proofs.Blocks.{stuck_named}
 use Rattle.ckc_parser_grammar.specs.StatementGrammar as g
 use Rattle.ckc_parser_grammar.specs.StuckStatements as stuck
 use Rattle.ckc_parser_cursor.proofs.Readings.{err}
@@ -11,7 +12,7 @@ returns-in_err-target c = rw (err _ _ c.from_residual.ensures.1) (stuck.named c.
 
 pub returns-in-Some : goal.returns-in-Some
 returns-in-Some c =
-    let call = rw c.in-Some.ensures.at at (is_called c.requires.named c.in_ok-target.ensures.reads.0 (rw c.deref.ensures at c.in-Some.ensures.call)) in
+    let call = rw c.in-Some.ensures.at at (call_of c.requires.named c.in_ok-target.ensures.reads.0 (rw c.deref.ensures at c.in-Some.ensures.call)) in
     rw (c.in_ok-boxed.ensures, c.join-span.ensures) (g.call call, low_around _ _ _ c.requires.deep (rw c.deeper.ensures at c.in_ok-target.ensures.reads.1))
 
 pub returns-in_err-assignment : goal.returns-in_err-assignment

@@ -1,4 +1,4 @@
-use Rattle.std.proofs.Common.{sym, arith, ap, ◌∙◌, Some}
+use Rattle.std.proofs.Common.{sym, arith, ap, ◌∙◌}
 use Rattle.ckc_parser_grammar.specs.TypeGrammar as grammar
 use Rattle.ckc_parser_grammar.specs.StuckTypes as stuck
 use Rattle.ckc_lexer_tokens.specs.declared.token.TokenKind.TheVariants as kinds
