@@ -15,8 +15,8 @@ use ckc_text::fault::NoMemory;
 use code_words::op::Op;
 use lowering_code::code_sizes::{expression_size, has_one_byte, statement_size};
 use lowering_code::instructions::{load_op, operator_op, place_behind, put, put_two, store_op};
-use lowering_expressions::expressions::{emit_call, emit_expression, emit_place, emit_with};
 use lowering_expressions::addresses::{emit_address, emit_behind_value};
+use lowering_expressions::expressions::{emit_call, emit_expression, emit_place, emit_with};
 use lowering_expressions::loops::{Targets, begin_loop, loop_targets};
 use pointer_modes::ctype::CType;
 

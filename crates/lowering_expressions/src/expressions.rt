@@ -6,6 +6,8 @@ ghost use Rattle.ckc_core.specs.Core.{expression, place as place_of, arguments_o
 ghost use Rattle.code_words.specs.declared.op.Op.TheVariants as ops_of;
 ghost use Rattle.lowering_code.specs.Code as code;
 
+use crate::addresses::{emit_address, emit_through};
+use crate::calls::{argument_at, put_call};
 use act_words::operator::Comparison;
 use ckc_core::program::{Callee, CellPlace, Expr};
 use ckc_text::fault::NoMemory;
@@ -14,8 +16,6 @@ use lowering_code::code_sizes::expression_size;
 use lowering_code::instructions::{
     begin_and, begin_or, callee_op, end_and, load_op, operator_op, put, put_two,
 };
-use crate::addresses::{emit_address, emit_through};
-use crate::calls::{argument_at, put_call};
 
 /// The word of an expression's value.
 #[cycle(expressions)]

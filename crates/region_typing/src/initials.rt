@@ -22,8 +22,8 @@ use pointer_modes::ctype::{CType, Member};
 use pointer_modes::structs::Structs;
 use region_typing_scope::context::Context;
 use region_typing_scope::refusals::{CheckError, refusal};
-use region_typing_scope::types::copied;
 use region_typing_scope::typed::{Typed, is_zero};
+use region_typing_scope::types::copied;
 
 /// What a variable is initialised with.
 #[derive(Drop, Clone, Copy)]

@@ -25,12 +25,12 @@ use ckc_tree::expr::Expr;
 use ckc_tree::stmt::{Assignment, StepOperator, StoreOperator};
 use pointer_modes::ctype::CType;
 use region_typing_scope::context::Context;
-use region_typing_scope::refusals::{CheckError, refusal};
-use region_typing_scope::scope::Scope;
-use region_typing_scope::types::{is_number, is_pointer};
 use region_typing_scope::conversions::converted;
 use region_typing_scope::operands::{number, scalar};
+use region_typing_scope::refusals::{CheckError, refusal};
+use region_typing_scope::scope::Scope;
 use region_typing_scope::typed::{Typed, plain};
+use region_typing_scope::types::{is_number, is_pointer};
 
 /// Where a value may be stored.
 #[derive(Drop)]

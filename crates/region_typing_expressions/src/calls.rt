@@ -20,13 +20,13 @@ use ckc_text::fault::NoMemory;
 use ckc_text::place::Span;
 use pointer_modes::ctype::CType;
 use region_typing_scope::context::Context;
+use region_typing_scope::conversions::converted;
 use region_typing_scope::refusals::{CheckError, needs, refusal};
 use region_typing_scope::scope::Scope;
 use region_typing_scope::sides::is_import;
 use region_typing_scope::signature::Signature;
-use region_typing_scope::types::{copied, is_checked_pointer};
-use region_typing_scope::conversions::converted;
 use region_typing_scope::typed::Typed;
+use region_typing_scope::types::{copied, is_checked_pointer};
 use std::collections::VecDeque;
 
 /// What a call is: a value of a type, or a statement where it has no result.

@@ -28,8 +28,8 @@ use pointer_modes::ctype::CType;
 use region_typing_scope::context::Context;
 use region_typing_scope::refusals::{CheckError, refusal};
 use region_typing_scope::scope::Scope;
-use region_typing_scope::types::{copied, type_named};
 use region_typing_scope::typed::{Base, Typed, at_base, at_local};
+use region_typing_scope::types::{copied, type_named};
 
 // A constant, which is 0 or not.
 fn constant(context: &Context, zero: bool, number: i32) -> Result<Box<Typed>, NoMemory>

@@ -16,11 +16,11 @@ use ckc_text::fault::NoMemory;
 use ckc_text::place::Span;
 use pointer_modes::ctype::{CType, Member};
 use region_typing_scope::context::Context;
+use region_typing_scope::operands::{Operand, value_of};
 use region_typing_scope::refusals::{CheckError, refusal};
 use region_typing_scope::scope::Scope;
-use region_typing_scope::types::copied;
-use region_typing_scope::operands::{Operand, value_of};
 use region_typing_scope::typed::{Base, StructPlace, Typed};
+use region_typing_scope::types::copied;
 
 // The place of the first of names that is this one.
 fn name_place(names: &[usize], name: usize) -> Option<usize>

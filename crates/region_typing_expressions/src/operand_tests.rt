@@ -7,8 +7,8 @@ ghost use Rattle.region_typing_scope.specs.Typed.{typed};
 ghost use Rattle.region_typing_expressions.specs.Comparing.{is_number_value as number_value_of, is_comparable_value, are_comparable_values as comparable_values};
 
 use pointer_modes::ctype::CType;
-use region_typing_scope::types::{are_comparable, is_number, is_pointer};
 use region_typing_scope::typed::Typed;
+use region_typing_scope::types::{are_comparable, is_number, is_pointer};
 
 /// Whether an expression is a pointer.
 pub fn is_pointer_value(t: &Typed) -> bool

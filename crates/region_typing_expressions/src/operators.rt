@@ -21,8 +21,8 @@ use ckc_text::place::Span;
 use ckc_tree::expr::{BinaryOperator, UnaryOperator};
 use pointer_modes::ctype::CType;
 use region_typing_scope::context::Context;
-use region_typing_scope::refusals::{CheckError, needs, refusal};
 use region_typing_scope::operands::{number, scalar};
+use region_typing_scope::refusals::{CheckError, needs, refusal};
 use region_typing_scope::typed::{Typed, plain};
 
 // A number.
@@ -270,12 +270,42 @@ pub fn binary(
             right,
             span,
         ),
-        BinaryOperator::ShiftLeft => arithmetic(context, ArithmeticOperator::ShiftLeft, left, right, span),
-        BinaryOperator::ShiftRight => arithmetic(context, ArithmeticOperator::ShiftRight, left, right, span),
+        BinaryOperator::ShiftLeft => arithmetic(
+            context,
+            ArithmeticOperator::ShiftLeft,
+            left,
+            right,
+            span,
+        ),
+        BinaryOperator::ShiftRight => arithmetic(
+            context,
+            ArithmeticOperator::ShiftRight,
+            left,
+            right,
+            span,
+        ),
         BinaryOperator::Add => sum(context, ArithmeticOperator::Add, left, right, span),
         BinaryOperator::Subtract => sum(context, ArithmeticOperator::Subtract, left, right, span),
-        BinaryOperator::Multiply => arithmetic(context, ArithmeticOperator::Multiply, left, right, span),
-        BinaryOperator::Divide => arithmetic(context, ArithmeticOperator::Divide, left, right, span),
-        BinaryOperator::Remainder => arithmetic(context, ArithmeticOperator::Remainder, left, right, span),
+        BinaryOperator::Multiply => arithmetic(
+            context,
+            ArithmeticOperator::Multiply,
+            left,
+            right,
+            span,
+        ),
+        BinaryOperator::Divide => arithmetic(
+            context,
+            ArithmeticOperator::Divide,
+            left,
+            right,
+            span,
+        ),
+        BinaryOperator::Remainder => arithmetic(
+            context,
+            ArithmeticOperator::Remainder,
+            left,
+            right,
+            span,
+        ),
     }
 }

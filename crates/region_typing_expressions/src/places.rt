@@ -13,8 +13,8 @@ use ckc_text::fault::NoMemory;
 use ckc_text::place::Span;
 use pointer_modes::ctype::{CType, Kind, Mode};
 use region_typing_scope::context::Context;
-use region_typing_scope::refusals::{CheckError, refusal};
 use region_typing_scope::operands::{Operand, value_of};
+use region_typing_scope::refusals::{CheckError, refusal};
 use region_typing_scope::typed::{Base, StructPlace, Typed, at_base, first_cell, plain};
 
 /// What a pointer points to.

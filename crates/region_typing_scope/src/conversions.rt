@@ -8,15 +8,15 @@ ghost use Rattle.region_typing_rules.specs.Expressions.{converted as converted_t
 ghost use Rattle.region_typing_scope.specs.Answering.{Answers};
 ghost use Rattle.region_typing_scope.specs.OnHeap.{typed};
 
+use crate::context::Context;
 use crate::operands::{Operand, value_of};
+use crate::refusals::{CheckError, needs};
 use crate::typed::Typed;
+use crate::types::{converts, is_number};
 use ckc_core::program::Expr;
 use ckc_text::code::Code;
 use ckc_text::place::Span;
 use pointer_modes::ctype::CType;
-use crate::context::Context;
-use crate::refusals::{CheckError, needs};
-use crate::types::{converts, is_number};
 
 // A value as one of a type.
 fn in_type(to: &CType, null: bool, value: Box<Expr>) -> Expr

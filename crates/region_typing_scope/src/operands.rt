@@ -9,14 +9,14 @@ ghost use Rattle.region_typing_scope.specs.Answering.{Answers};
 ghost use Rattle.region_typing_scope.specs.OnHeap.{typed, expression as boxed_expression};
 ghost use Rattle.region_typing_scope.specs.Operands.{operand as operand_view, operand_of};
 
+use crate::context::Context;
+use crate::refusals::{CheckError, needs, refusal};
 use crate::typed::Typed;
+use crate::types::{copied, is_number};
 use ckc_core::program::Expr;
 use ckc_text::code::Code;
 use ckc_text::place::Span;
 use pointer_modes::ctype::CType;
-use crate::context::Context;
-use crate::refusals::{CheckError, needs, refusal};
-use crate::types::{copied, is_number};
 
 /// A value of a scalar type, which may be the constant 0.
 #[derive(Drop)]

@@ -8,10 +8,10 @@ ghost use Rattle.region_typing_rules.specs.Items.{is_zero as zero_typed};
 ghost use Rattle.region_typing_scope.specs.Typed.{typed, base_place};
 ghost use Rattle.region_typing_scope.specs.OnHeap.{typed as typed_on_heap};
 
+use crate::context::Context;
 use ckc_core::program::{CellPlace, Expr, Site};
 use ckc_text::fault::NoMemory;
 use pointer_modes::ctype::CType;
-use crate::context::Context;
 
 /// The first cell of a struct in memory: that of a file-level variable, or the one that a pointer points to.
 #[derive(Drop)]

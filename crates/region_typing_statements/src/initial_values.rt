@@ -21,10 +21,10 @@ use ckc_tree::stmt::Initializer;
 use pointer_modes::ctype::CType;
 use region_typing_expressions::expressions::typed;
 use region_typing_scope::context::Context;
+use region_typing_scope::conversions::converted;
 use region_typing_scope::refusals::{CheckError, needs, refusal};
 use region_typing_scope::scope::Scope;
 use region_typing_scope::types::is_scalar;
-use region_typing_scope::conversions::converted;
 
 // The value that a local is given.
 fn initial_value(

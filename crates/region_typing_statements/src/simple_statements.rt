@@ -23,9 +23,9 @@ use pointer_modes::ctype::CType;
 use region_typing_expressions::calls::Called;
 use region_typing_expressions::expressions::{call_typed, typed};
 use region_typing_scope::context::Context;
+use region_typing_scope::conversions::converted;
 use region_typing_scope::refusals::{CheckError, needs, refusal};
 use region_typing_scope::scope::Scope;
-use region_typing_scope::conversions::converted;
 
 // A call whose result is left.
 fn alone(context: &Context, call: Called) -> Result<Box<Stmt>, NoMemory>

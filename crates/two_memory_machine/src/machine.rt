@@ -13,10 +13,9 @@ use ckc_text::fault::NoMemory;
 use code_words::image::Image;
 use std::alloc::Global;
 use std::marker::Model;
-use two_memory_machine_steps::acts;
 use two_memory_machine_states::event::{Event, Waiting};
 use two_memory_machine_states::running_image::RunningImage;
-use two_memory_machine_steps::running;
+use two_memory_machine_steps::{acts, running};
 
 /// A machine: an image that runs over a trusted memory and a sandbox's.
 #[derive(Drop)]

@@ -7,13 +7,13 @@ ghost use Rattle.code_words.specs.declared.image.Func.{Func as FuncData};
 ghost use Rattle.two_memory_machine_memory.specs.CallInsides.{window};
 ghost use Rattle.two_memory_machine_memory.specs.CallStacks.{Behind, CallStack, framed, with_stack, pushed_if, slot_set_if, at_next, link_of, entered, IsFirstCall};
 
+use crate::limits::MAX_DEPTH;
 use ckc_text::fault::NoMemory;
 use ckc_text::place::Place;
 use code_words::image::Func;
 use code_words::op::Op;
 use std::alloc::Global;
 use std::marker::Model;
-use crate::limits::MAX_DEPTH;
 
 /// Why a call waits.
 #[derive(Clone, Copy)]

@@ -5,10 +5,10 @@ ghost use Rattle.flat_bytes.specs.Blocks.{rounded_up, grown, first_offset, block
 ghost use Rattle.code_words.specs.Runs.{memory_of, counter_behind};
 ghost use Rattle.two_memory_machine_memory.specs.Places.{offsets_from, block_row};
 
+use crate::blocks::BlockRow;
 use ckc_text::fault::NoMemory;
 use ckc_text::listed::Listed;
 use std::alloc::Global;
-use crate::blocks::BlockRow;
 
 /// The offset of the first block.
 pub const FIRST_OFFSET: u32 = 16;

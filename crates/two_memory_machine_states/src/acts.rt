@@ -23,8 +23,8 @@ use ckc_text::place::Place;
 use flat_bytes::words;
 use marshalling::kind::WordKind;
 use marshalling::reply::unpack_reply;
-use two_memory_machine_memory::limits;
 use two_memory_machine_memory::calls::Link;
+use two_memory_machine_memory::limits;
 
 /// The end of a run that no line of the table goes on with.
 pub const WILD: Ending = Ending::Stop {

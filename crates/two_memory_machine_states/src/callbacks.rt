@@ -10,9 +10,8 @@ use crate::running_image::{Phase, RunningImage};
 use act_words::ending::Ending;
 use ckc_text::code::Code;
 use code_words::image::Callback;
-use two_memory_machine_memory::limits;
-use two_memory_machine_memory::callbacks;
 use two_memory_machine_memory::calls::Link;
+use two_memory_machine_memory::{callbacks, limits};
 
 impl<'a> RunningImage<'a> {
     /// Calls a callback for the sandbox: the count of arguments (S5), a tick (S1), an open call (S2), the arguments (C9, C4).

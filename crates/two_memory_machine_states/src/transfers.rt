@@ -11,8 +11,8 @@ use ckc_text::code::Code;
 use ckc_text::place::Place;
 use code_words::op::Op;
 use marshalling::kind::WordKind;
-use two_memory_machine_memory::limits;
 use two_memory_machine_memory::calls::Link;
+use two_memory_machine_memory::limits;
 
 impl<'a> RunningImage<'a> {
     /// Calls a function of the same side with the words that it pops (S2).

@@ -6,8 +6,8 @@ use crate::stack;
 use ckc_text::code::Code;
 use ckc_text::place::Place;
 use code_words::op::Op;
-use two_memory_machine_memory::limits;
 use two_memory_machine_memory::bounds::Ends;
+use two_memory_machine_memory::limits;
 use two_memory_machine_states::outcome::Outcome;
 use two_memory_machine_states::running_image::RunningImage;
 

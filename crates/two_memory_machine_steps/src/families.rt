@@ -4,9 +4,8 @@ ghost use Rattle.std.specs.Prelude.{◌≤◌};
 ghost use Rattle.two_memory_machine_steps.specs.Families.{family, ActsUnlessTold};
 ghost use Rattle.two_memory_machine_states.specs.Steps.{IsReady};
 
-use crate::{bounds, memory, operations, stack};
+use crate::{bounds, memory, operations, stack, touches};
 use code_words::op::Op;
-use crate::touches;
 use two_memory_machine_states::outcome::Outcome;
 use two_memory_machine_states::running_image::RunningImage;
 

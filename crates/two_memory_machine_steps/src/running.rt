@@ -5,8 +5,8 @@ ghost use Rattle.two_memory_machine_states.specs.Machines.{Steps, waiting_of, en
 ghost use Rattle.two_memory_machine_steps.specs.Running.{StepsOn, TriesStep};
 
 use crate::families;
-use code_words::op::Op;
 use crate::told::told_step;
+use code_words::op::Op;
 use two_memory_machine_states::event::{Event, Waiting};
 use two_memory_machine_states::outcome::Outcome;
 use two_memory_machine_states::running_image::RunningImage;
