@@ -18,6 +18,7 @@ use Rattle.ckc_lexer.specs.declared.front.Front.TheVariants.{BlankByte, LineComm
 use Rattle.ckc_lexer_tokens.specs.declared.piece.Piece.{Piece}
 use Rattle.ckc_lexer_tokens.specs.declared.piece.Piece.TheVariants.{Lexeme, Named, Include, Define, CommentFault, Forbidden, Fault}
 use Rattle.ckc_lexer_tokens.specs.declared.piece.ScopeWord.{ScopeWord}
+use Rattle.ckc_lexer_tokens.specs.declared.keyword.Keyword.{Keyword}
 use Rattle.ckc_lexer_tokens.specs.declared.token.TokenKind.{TokenKind}
 use Rattle.ckc_lexer.proofs.Fronts.{word_first}
 use Rattle.ckc_printer.specs.ReadingBack.{IsName, IsLexical, AreBytes}
@@ -65,15 +66,14 @@ starts_name : (text : List ℕ) → begins_with is_word_byte text ≡ true → b
 starts_name [] h e = h
 starts_name (b ∷ bs) h e = grind (arith, nat_tests)
 
-name_lexical : (text : List ℕ) (found : Option TokenKind) → begins_with is_letter text ≡ true → prefix_len is_word_byte text ≡ length text → listed text keywords ≡ found → IfSome found IsLexical
-    → IsLexicalPiece (name_piece text found)
-name_lexical text None starts whole free h = record { starts = starts; whole = whole; free = free }
-name_lexical text (Some k) starts whole is h = h
+name_lexical : (text : List ℕ) (found : Option Keyword) → begins_with is_letter text ≡ true → prefix_len is_word_byte text ≡ length text → listed text keywords ≡ found → IsLexicalPiece (name_piece text found)
+name_lexical text None starts whole free = record { starts = starts; whole = whole; free = free }
+name_lexical text (Some keyword) starts whole is = tt
 
 word_lexical : (text : List ℕ) → begins_with is_word_byte text ≡ true → prefix_len is_word_byte text ≡ length text → IsLexicalPiece (word_piece text)
 word_lexical text starts whole =
     decided IsLexicalPiece (begins_with is_digit text) (number_piece (number_of text)) (name_piece text (listed text keywords)) (λ e. number_lexical (number_of text) (number_small text))
-    (λ e. name_lexical text (listed text keywords) (starts_name text starts e) whole refl (listed_lexical text keywords (search rules)))
+    (λ e. name_lexical text (listed text keywords) (starts_name text starts e) whole refl)
 
 -- what is taken as long as it passes passes whole
 passed_step : {A : Type 0} (p : A → Bool) (x : A) (xs : List A) (n : ℕ) (c : Bool) → p x ≡ c → prefix_len p (take n xs) ≡ length (take n xs) → prefix_len p (take (cond c (1 + n) 0) (x ∷ xs)) ≡ length (take (cond c (1 + n) 0) (x ∷ xs))
