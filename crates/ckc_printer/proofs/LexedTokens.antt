@@ -15,6 +15,8 @@ use Rattle.ckc_lexer.specs.declared.front.Front.TheVariants.{Word}
 use Rattle.ckc_lexer_tokens.specs.declared.piece.Piece.{Piece}
 use Rattle.ckc_lexer_tokens.specs.declared.piece.Piece.TheVariants.{Lexeme, Named}
 use Rattle.ckc_lexer_tokens.specs.declared.token.TokenKind.{TokenKind}
+use Rattle.ckc_lexer_tokens.specs.declared.keyword.Keyword.{Keyword}
+use Rattle.ckc_lexer_tokens.specs.declared.keyword.Keyword.TheVariants as keywords
 use Rattle.ckc_lexer_tokens.specs.declared.token.TokenKind.TheVariants as kinds
 use Rattle.ckc_lexer_tokens.proofs.Numerals.{is_decimal_digits}
 use Rattle.ckc_printer.specs.Pieces.{kind_text}
@@ -40,12 +42,17 @@ IsFixed kind = Unit {0}
 abbrev pub StandsBefore : Bool → TokenKind → Piece → Type 0
 StandsBefore ends k piece = (first : Bool) (rest : List ℕ) → Stands first (kind_text k ++ gap_byte ends ∷ rest) piece (length (kind_text k))
 
+keyword_before : (word : Keyword) → StandsBefore true (kinds.Keyword word) (Lexeme (kinds.Keyword word)) × StandsBefore false (kinds.Keyword word) (Lexeme (kinds.Keyword word))
+keyword_before keywords.Int = (λ first rest. search rules, λ first rest. search rules)
+keyword_before word = (λ first rest. search rules, λ first rest. search rules)
+
 fixed_before : (k : TokenKind) → IsFixed k → StandsBefore true k (Lexeme k) × StandsBefore false k (Lexeme k)
 fixed_before (kinds.Name name) f = absurd f
 fixed_before (kinds.Number n) f = absurd f
 fixed_before (kinds.Character b) f = absurd f
 fixed_before (kinds.Text bytes) f = absurd f
 fixed_before (kinds.Scope scope) f = absurd f
+fixed_before (kinds.Keyword word) f = keyword_before word
 fixed_before k f = (λ first rest. search rules, λ first rest. search rules)
 
 pub fixed_stands : (ends : Bool) (k : TokenKind) → IsFixed k → StandsBefore ends k (Lexeme k)

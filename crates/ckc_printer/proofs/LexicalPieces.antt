@@ -19,6 +19,7 @@ use Rattle.ckc_lexer.specs.declared.front.Front.TheVariants.{BlankByte, LineComm
 use Rattle.ckc_lexer_tokens.specs.declared.piece.Piece.{Piece}
 use Rattle.ckc_lexer_tokens.specs.declared.piece.Piece.TheVariants.{Lexeme, Named, Include, Define, CommentFault, Forbidden, Fault}
 use Rattle.ckc_lexer_tokens.specs.declared.piece.ScopeWord.{ScopeWord}
+use Rattle.ckc_lexer_tokens.specs.declared.keyword.Keyword.{Keyword}
 use Rattle.ckc_lexer_tokens.specs.declared.token.TokenKind.{TokenKind}
 use Rattle.ckc_lexer.proofs.Words.{IsWordText, word_text, name_of_word}
 use Rattle.ckc_printer.specs.ReadingBack.{IsFreeName, IsLexical, AreBytes}
@@ -61,15 +62,14 @@ number_lexical : (r : Result ℕ Code) → IfOk r (λ n. n ≤ 2147483647) → I
 number_lexical (Ok n) h = h
 number_lexical (Err code) h = tt
 
-name_lexical : (text : List ℕ) (found : Option TokenKind) → IsName text → listed text keywords ≡ found → IfSome found IsLexical
-    → IsLexicalPiece (name_piece text found)
-name_lexical text None word free h = record { word = word; free = free }
-name_lexical text (Some k) word is h = h
+name_lexical : (text : List ℕ) (found : Option Keyword) → IsName text → listed text keywords ≡ found → IsLexicalPiece (name_piece text found)
+name_lexical text None word free = record { word = word; free = free }
+name_lexical text (Some keyword) word is = tt
 
 word_lexical : (text : List ℕ) → IsWordText text → IsLexicalPiece (word_piece text)
 word_lexical text word =
     decided IsLexicalPiece (begins_with is_digit text) (number_piece (number_of text)) (name_piece text (listed text keywords)) (λ e. number_lexical (number_of text) (number_small text))
-    (λ e. name_lexical text (listed text keywords) (name_of_word text word e) refl (listed_lexical text keywords (search rules)))
+    (λ e. name_lexical text (listed text keywords) (name_of_word text word e) refl)
 
 word_taken : (text : List ℕ) → front_of text ≡ Word → IsLexicalPiece (word_piece (take (prefix_len is_word_byte text) text))
 word_taken text e = word_lexical (take (prefix_len is_word_byte text) text) (word_text text e)

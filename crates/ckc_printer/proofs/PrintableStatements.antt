@@ -1,9 +1,11 @@
 -- What is printed of statements that tokens spell can be read as tokens, since these are.
-use Rattle.std.proofs.Common.{List, [], ◌∷◌, Option, Some, None}
+use Rattle.std.proofs.Common.{◌≡◌, List, [], ◌∷◌, Option, Some, None}
+use Rattle.std.proofs.lemmas.Option.{same_Some, none-some}
 use Rattle.std.specs.List.{flat_map}
 use Rattle.ckc_text.specs.declared.place.Span.{Span}
 use Rattle.ckc_lexer_tokens.specs.declared.token.Token.{Token}
 use Rattle.ckc_lexer_tokens.specs.declared.token.TokenKind.{TokenKind}
+use Rattle.ckc_lexer_tokens.specs.declared.token.TokenKind.TheVariants as kinds
 use Rattle.ckc_tree.specs.declared.stmt.Mark.{Mark}
 use Rattle.ckc_tree.specs.declared.stmt.Mark.TheVariants as marks
 use Rattle.ckc_tree.specs.declared.stmt.ArrayForm.{ArrayForm}
@@ -18,11 +20,12 @@ use Rattle.ckc_tree.specs.declared.stmt.StepOperator.TheVariants as steps
 use Rattle.ckc_tree.specs.Expressions.{Expression, Bounds}
 use Rattle.ckc_tree.specs.Statements.{Initializer, Declarator, Declaration, Assignment, ForInitial, Statement, Statements}
 use Rattle.ckc_parser_grammar.specs.StatementGrammar as g
-use Rattle.ckc_parser_grammar.specs.StatementGrammar.{SpellsOptionalBounds, SpellsOptionalArray, SpellsConstant, SpellsSigned, SpellsConstants, SpellsOptionalInitializer, SpellsDeclarator, SpellsDeclarators, SpellsDeclaration, SpellsAssignment, SpellsAssignments, SpellsForInitial, SpellsForCondition, SpellsForStep, SpellsStatement, SpellsStatements}
+use Rattle.ckc_parser_grammar.specs.StatementGrammar.{SpellsOptionalBounds, SpellsOptionalArray, SpellsSigned, SpellsConstants, SpellsOptionalInitializer, SpellsDeclarator, SpellsDeclarators, SpellsDeclaration, SpellsAssignment, SpellsAssignments, SpellsForInitial, SpellsForCondition, SpellsForStep, SpellsStatement, SpellsStatements}
 use Rattle.ckc_printer.specs.Pieces.{Sign, One, with_commas, after_commas}
 use Rattle.ckc_printer.specs.StatementPieces.{optional_bounds_pieces, array_kind, array_pieces, constant_kind, constant_pieces, initializer_pieces, declarator_pieces, declaration_pieces, store_kind, step_kind, assignment_pieces, bundled_pieces, mark_kind, mark_pieces, initial_pieces, optional_expression_pieces, optional_assignment_pieces, statement_pieces, statements_pieces}
 use Rattle.ckc_printer.specs.ReadingBack.{IsLexical, CanSign}
 use Rattle.ckc_printer.proofs.Printable.{Lexical, Printable, Can, nothing, first, joined, target_can, stars_can, stars_on, type_can, expression_can, unary_expression_can, call_can, bounds_can}
+use Rattle.ckc_parser_grammar.specs.Tokens.{constant_of}
 
 -- others behind a comma
 pub others_can : {A : Type 0} (pieces : A → List Sign) (others : List A) → Printable (with_commas pieces others) → Printable (after_commas pieces others)
@@ -45,13 +48,14 @@ array_can : {o w : Span} {ts rest : List Token} {array : Option ArrayForm} → S
 array_can (g.absent f) h = (nothing, h)
 array_can (g.present {kind} w) h = (first (array_word_can kind) (first tt (first h.1.1.0 (first tt nothing))), h.1.1.1.1)
 
-constant_can : {k : TokenKind} {c : Constant} → SpellsConstant k c → IsLexical k → CanSign (One (constant_kind c))
-constant_can g.number h = h
-constant_can g.character h = h
+constant_can : (k : TokenKind) {c : Constant} → constant_of k ≡ Some c → IsLexical k → CanSign (One (constant_kind c))
+constant_can (kinds.Number n) is h = rw (← same_Some _ _ is) h
+constant_can (kinds.Character n) is h = rw (← same_Some _ _ is) h
+constant_can _ is h = absurd (none-some _ is)
 
 signed_can : {ts rest : List Token} {c : SignedConstant} → SpellsSigned ts c rest → Lexical ts → Can (constant_pieces c) rest
-signed_can (g.plain c) h = (first (constant_can c h.0) nothing, h.1)
-signed_can (g.minus c) h = (first tt (first (constant_can c h.1.0) nothing), h.1.1)
+signed_can (g.plain {k} c) h = (first (constant_can k c h.0) nothing, h.1)
+signed_can (g.minus {k} c) h = (first tt (first (constant_can k c h.1.0) nothing), h.1.1)
 
 constants_can : {t : Span} {ts rest : List Token} {cs : List SignedConstant} → SpellsConstants ts cs t rest → Lexical ts → Can (with_commas constant_pieces cs) rest
 constants_can (g.one d) h =

@@ -10,7 +10,7 @@ use Rattle.ckc_tree.specs.declared.stmt.ArrayForm.{ArrayForm}
 use Rattle.ckc_tree.specs.declared.stmt.ArrayKind.{ArrayKind}
 use Rattle.ckc_tree.specs.declared.stmt.ArrayKind.TheVariants as arrays
 use Rattle.ckc_tree.specs.declared.stmt.Constant.{Constant}
-use Rattle.ckc_tree.specs.declared.stmt.Constant.TheVariants as constant_of
+use Rattle.ckc_tree.specs.declared.stmt.Constant.TheVariants as constants
 use Rattle.ckc_tree.specs.declared.stmt.SignedConstant.{SignedConstant}
 use Rattle.ckc_tree.specs.declared.stmt.StoreOperator.{StoreOperator}
 use Rattle.ckc_tree.specs.declared.stmt.StoreOperator.TheVariants as stores
@@ -21,11 +21,10 @@ use Rattle.ckc_tree.specs.Types.{type_span}
 use Rattle.ckc_tree.specs.Expressions.{Bounds}
 use Rattle.ckc_tree.specs.Statements.{Initializer, Value, Constants, Declarator, Declaration, Assignment, Store, Step}
 use Rattle.ckc_tree.specs.Bare.{bare_bounds, bare_array, bare_constant, bare_initializer, bare_declarator, bare_declaration, bare_assignment}
-use Rattle.ckc_parser_grammar.specs.Tokens as words
-use Rattle.ckc_parser_grammar.specs.Tokens.{token, join, identifier, from_first, IsArrayWord, IsStoreOperator, IsStepOperator, colon, equal, comma, array_word, open_paren, selector}
+use Rattle.ckc_parser_grammar.specs.Tokens.{join, identifier, from_first, array_kind_of, store_operator_of, step_operator_of, colon, equal, comma, array_word, open_paren, selector, constant_of}
 use Rattle.ckc_parser_grammar.specs.TypeGrammar.{SpellsStars}
 use Rattle.ckc_parser_grammar.specs.StatementGrammar as g
-use Rattle.ckc_parser_grammar.specs.StatementGrammar.{SpellsOptionalBounds, SpellsOptionalArray, SpellsConstant, SpellsSigned, SpellsConstants, SpellsOptionalInitializer, SpellsDeclarator, SpellsDeclarators, SpellsDeclaration, SpellsAssignment, SpellsAssignments}
+use Rattle.ckc_parser_grammar.specs.StatementGrammar.{SpellsOptionalBounds, SpellsOptionalArray, SpellsSigned, SpellsConstants, SpellsOptionalInitializer, SpellsDeclarator, SpellsDeclarators, SpellsDeclaration, SpellsAssignment, SpellsAssignments}
 use Rattle.ckc_printer.specs.Pieces.{Sign, One, with_commas}
 use Rattle.ckc_printer.specs.TypePieces.{stars_pieces, type_pieces}
 use Rattle.ckc_printer.specs.ExpressionPieces.{expression_pieces, target_pieces}
@@ -45,9 +44,9 @@ read_optional_bounds (Some bounds) o more ts f (one {ts = us} b h) =
     let x = read_bounds bounds more us h in
     record { tree = Some x.tree; rest = x.rest; spelled = (join o x.spelled.0, g.present x.spelled.1); same = cc; on = x.on }
 
-array_word_of : (kind : ArrayKind) → IsArrayWord (array_kind kind) kind
-array_word_of arrays.Checked = words.checked
-array_word_of arrays.NullTerminated = words.nt_checked
+array_word_of : (kind : ArrayKind) → array_kind_of (array_kind kind) ≡ Some kind
+array_word_of arrays.Checked = refl
+array_word_of arrays.NullTerminated = refl
 
 read_array : (array : Option ArrayForm) (o : Span) (more : List Sign) (ts : List Token) → first_is array_word more ≡ false → AreSigns (array_pieces array ++ more) ts
     → Read (option_map bare_array) (Somewhere (SpellsOptionalArray o ts)) array more
@@ -57,9 +56,9 @@ read_array (Some array) o more ts f (one {s} b (one c (one d (one {s = t} {ts = 
 
 -- ---- constants
 
-constant_spelled : (c : Constant) → SpellsConstant (constant_kind c) c
-constant_spelled (constant_of.Number n) = g.number
-constant_spelled (constant_of.Character n) = g.character
+constant_spelled : (c : Constant) → constant_of (constant_kind c) ≡ Some c
+constant_spelled (constants.Number n) = refl
+constant_spelled (constants.Character n) = refl
 
 signed_by : (negative : Bool) (constant : Constant) (span : Span) (more : List Sign) (ts : List Token) → AreSigns ((sign_pieces negative ++ One (constant_kind constant) ∷ []) ++ more) ts
     → Read bare_constant (SpellsSigned ts) (record { negative = negative; constant = constant; span = span }) more
@@ -143,14 +142,14 @@ read_declaration (g.declaration {base} {declarators} d m) more ts h =
 
 -- ---- assignments
 
-store_word : (w : StoreOperator) → IsStoreOperator (store_kind w) w
-store_word stores.Set = words.set
-store_word stores.Add = words.add
-store_word stores.Subtract = words.subtract
+store_word : (w : StoreOperator) → store_operator_of (store_kind w) ≡ Some w
+store_word stores.Set = refl
+store_word stores.Add = refl
+store_word stores.Subtract = refl
 
-step_word : (w : StepOperator) → IsStepOperator (step_kind w) w
-step_word steps.Increment = words.increment
-step_word steps.Decrement = words.decrement
+step_word : (w : StepOperator) → step_operator_of (step_kind w) ≡ Some w
+step_word steps.Increment = refl
+step_word steps.Decrement = refl
 
 -- a test that no operator of an assignment passes
 store_other : (w : StoreOperator) (is : TokenKind → Bool) → is kinds.Equal ≡ false → is kinds.PlusEqual ≡ false → is kinds.MinusEqual ≡ false → is (store_kind w) ≡ false

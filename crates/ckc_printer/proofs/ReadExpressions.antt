@@ -2,6 +2,7 @@
 use Rattle.std.proofs.Common.{◌≡◌, ℕ, Bool, true, false, List, [], ◌∷◌, ◌++◌, codes, refl, ◌∙◌}
 use Rattle.ckc_text.specs.declared.place.Span.{Span}
 use Rattle.ckc_lexer_tokens.specs.declared.token.Token.{Token}
+use Rattle.ckc_lexer_tokens.specs.declared.keyword.Keyword.TheVariants as keywords
 use Rattle.ckc_lexer_tokens.specs.declared.token.TokenKind.TheVariants as kinds
 use Rattle.ckc_tree.specs.declared.identifier.Identifier.{Identifier}
 use Rattle.ckc_tree.specs.declared.expr.UnaryOperator.{UnaryOperator}
@@ -91,7 +92,7 @@ read_name : (name : Identifier) → Operand (Name name) (name_sign name ∷ [])
 read_name name more ts p (one {s} {ts = us} b h) =
     primary (record { tree = Name (identifier name.name s); rest = us; spelled = (s, g.name (next_by_sign open_paren h ∙ p)); same = refl; on = h })
 
-read_size_of : (type : TypeName) (span : Span) → Operand (SizeOf type span) (One kinds.Sizeof ∷ One kinds.OpenParen ∷ (type_name_pieces type ++ One kinds.CloseParen ∷ []))
+read_size_of : (type : TypeName) (span : Span) → Operand (SizeOf type span) (One (kinds.Keyword keywords.Sizeof) ∷ One kinds.OpenParen ∷ (type_name_pieces type ++ One kinds.CloseParen ∷ []))
 read_size_of type span more ts p (one {s} b (one {ts = us} c h)) =
     let x = ended (read_type_name type (One kinds.CloseParen ∷ more) us refl (part (type_name_pieces type) _ more h)) in
     primary (record { tree = SizeOf x.tree (join s x.spelled.0); rest = x.rest; spelled = (join s x.spelled.0, g.size_of x.spelled.1); same = cc; on = x.on })

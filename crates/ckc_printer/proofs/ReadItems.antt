@@ -6,6 +6,7 @@ use Rattle.std.specs.List.{flat_map}
 use Rattle.ckc_text.specs.declared.place.Span.{Span}
 use Rattle.ckc_lexer_tokens.specs.declared.token.Token.{Token}
 use Rattle.ckc_lexer_tokens.specs.declared.token.TokenKind.{TokenKind}
+use Rattle.ckc_lexer_tokens.specs.declared.keyword.Keyword.TheVariants as keywords
 use Rattle.ckc_lexer_tokens.specs.declared.token.TokenKind.TheVariants as kinds
 use Rattle.ckc_tree.specs.declared.stmt.Mark.{Mark}
 use Rattle.ckc_tree.specs.declared.stmt.Mark.TheVariants as marks
@@ -60,9 +61,9 @@ regrouped is first others more f = rw append_assoc f
 
 -- no word of a type passes
 record NoType (is : TokenKind → Bool) : Type 0 where
-  int : is kinds.Int ≡ false
-  char : is kinds.Char ≡ false
-  struct : is kinds.Struct ≡ false
+  int : is (kinds.Keyword keywords.Int) ≡ false
+  char : is (kinds.Keyword keywords.Char) ≡ false
+  struct : is (kinds.Keyword keywords.Struct) ≡ false
   pointer : (mode : PointerMode) (kind : PointerKind) → is (word_kind mode kind) ≡ false
 
 type_first : (is : TokenKind → Bool) (t : TypeTree) (more : List Sign) → NoType is → first_is is (type_pieces t ++ more) ≡ false
@@ -71,7 +72,7 @@ type_first is (CharType span) more other = other.char
 type_first is (StructType tag span) more other = other.struct
 type_first is (PointerType word element stars span) more other = other.pointer word.mode word.kind
 
-pointer_other : (is : TokenKind → Bool) → is kinds.Ptr ≡ false → is kinds.ArrayPtr ≡ false → is kinds.NtArrayPtr ≡ false → is kinds.TPtr ≡ false → is kinds.TArrayPtr ≡ false → is kinds.TNtArrayPtr ≡ false
+pointer_other : (is : TokenKind → Bool) → is (kinds.Keyword keywords.Ptr) ≡ false → is (kinds.Keyword keywords.ArrayPtr) ≡ false → is (kinds.Keyword keywords.NtArrayPtr) ≡ false → is (kinds.Keyword keywords.TPtr) ≡ false → is (kinds.Keyword keywords.TArrayPtr) ≡ false → is (kinds.Keyword keywords.TNtArrayPtr) ≡ false
     → (mode : PointerMode) (kind : PointerKind) → is (word_kind mode kind) ≡ false
 pointer_other is p a n t u v Checked counts.One = p
 pointer_other is p a n t u v Checked counts.Array = a
@@ -89,11 +90,11 @@ not_mark = record { int = refl; char = refl; struct = refl; pointer = pointer_ot
 not_tainted : NoType tainted_word
 not_tainted = record { int = refl; char = refl; struct = refl; pointer = pointer_other tainted_word refl refl refl refl refl refl }
 
-result_first : (is : TokenKind → Bool) (result : ResultForm) (more : List Sign) → is kinds.Void ≡ false → NoType is → first_is is (result_pieces result ++ more) ≡ false
+result_first : (is : TokenKind → Bool) (result : ResultForm) (more : List Sign) → is (kinds.Keyword keywords.Void) ≡ false → NoType is → first_is is (result_pieces result ++ more) ≡ false
 result_first is (Void span) more v other = v
 result_first is (Value base) more v other = type_first is base more other
 
-mark_first : (is : TokenKind → Bool) (mark : Option Mark) (more : List Sign) → is kinds.Checked ≡ false → is kinds.Unchecked ≡ false → first_is is more ≡ false → first_is is (mark_pieces mark ++ more) ≡ false
+mark_first : (is : TokenKind → Bool) (mark : Option Mark) (more : List Sign) → is (kinds.Keyword keywords.Checked) ≡ false → is (kinds.Keyword keywords.Unchecked) ≡ false → first_is is more ≡ false → first_is is (mark_pieces mark ++ more) ≡ false
 mark_first is None more c u f = f
 mark_first is (Some marks.Checked) more c u f = c
 mark_first is (Some marks.Unchecked) more c u f = u
@@ -179,7 +180,7 @@ region_spelled regions.On = g.on
 region_spelled regions.Off = g.off
 
 -- an item from its parts, one behind the other
-structure_of : {tainted : Bool} {members : List Member} {tag : List ℕ} {s o : Span} {ts : List Token} {more others : List Sign} (x : Read (λ b. b) (Ending kinds.OpenBrace (Ending (kinds.Name tag) (Ending kinds.Struct (SpellsTainted ts)))) tainted others) → Read (map bare_member) (Ending kinds.Semicolon (SpellsMembers x.rest)) members more
+structure_of : {tainted : Bool} {members : List Member} {tag : List ℕ} {s o : Span} {ts : List Token} {more others : List Sign} (x : Read (λ b. b) (Ending kinds.OpenBrace (Ending (kinds.Name tag) (Ending (kinds.Keyword keywords.Struct) (SpellsTainted ts)))) tainted others) → Read (map bare_member) (Ending kinds.Semicolon (SpellsMembers x.rest)) members more
     → Read bare_item (SpellsItem ts) (StructureItem (record { tainted = tainted; tag = identifier tag s; members = members; span = o })) more
 structure_of {tag} {ts} x y =
     record { tree = StructureItem (record { tainted = x.tree; tag = identifier tag x.spelled.1.0; members = y.tree; span = from_first ts y.spelled.0 }); rest = y.rest; spelled = g.structure x.spelled.1.1.1 y.spelled.1; same = cc; on = y.on }
@@ -205,7 +206,7 @@ function_of {name} {ts} k m r x p b y =
 read_item : {item : Item} {us r : List Token} → SpellsItem us item r → (more : List Sign) (ts : List Token) → AreSigns (item_signs item ++ more) ts → Read bare_item (SpellsItem ts) item more
 read_item (g.region {region} d) more ts (one {s} {ts = us} b h) = record { tree = RegionItem region s; rest = us; spelled = g.region (region_spelled region); same = refl; on = h }
 read_item (g.structure {x = tag} {tainted} {members} t m) more ts h =
-    let x = ended (ended (ended (read_tainted tainted (One kinds.Struct ∷ One (kinds.Name tag) ∷ One kinds.OpenBrace ∷ ((flat_map ended_member_pieces members ++ One kinds.CloseBrace ∷ One kinds.Semicolon ∷ []) ++ more)) ts refl (part (tainted_pieces tainted) _ more h)))) in
+    let x = ended (ended (ended (read_tainted tainted (One (kinds.Keyword keywords.Struct) ∷ One (kinds.Name tag) ∷ One kinds.OpenBrace ∷ ((flat_map ended_member_pieces members ++ One kinds.CloseBrace ∷ One kinds.Semicolon ∷ []) ++ more)) ts refl (part (tainted_pieces tainted) _ more h)))) in
     structure_of x (ended (read_members m (One kinds.Semicolon ∷ more) x.rest (part (flat_map ended_member_pieces members) _ more x.on)))
 read_item (g.global {base} {tainted} {declarators} t d m) more ts h =
     let listed = with_commas declarator_pieces declarators in
@@ -218,7 +219,7 @@ read_item (g.function {n} {x = name} {written} {optional_mark} {result} {paramet
     let last = optional_bounds_pieces written ++ body_pieces body in
     let behind = One kinds.OpenParen ∷ ((parameters_pieces parameters ++ One kinds.CloseParen ∷ last) ++ more) in
     let returned = result_pieces result ++ named in
-    let not_first = λ (is : TokenKind → Bool) (void : is kinds.Void ≡ false) (type : NoType is). regrouped is (result_pieces result) named behind (result_first is result (named ++ behind) void type) in
+    let not_first = λ (is : TokenKind → Bool) (void : is (kinds.Keyword keywords.Void) ≡ false) (type : NoType is). regrouped is (result_pieces result) named behind (result_first is result (named ++ behind) void type) in
     let k' = read_kind function_kind ((mark_pieces optional_mark ++ returned) ++ behind) ts (regrouped kind_word (mark_pieces optional_mark) returned behind (mark_first kind_word optional_mark (returned ++ behind) refl refl (not_first kind_word refl not_kind))) (part (kind_pieces function_kind) _ behind (part (kind_pieces function_kind ++ (mark_pieces optional_mark ++ returned)) _ more h)) in
     let m' = read_mark optional_mark (returned ++ behind) k'.rest (not_first mark_word refl not_mark) (part (mark_pieces optional_mark) returned behind {ts = k'.rest} k'.on) in
     let r = read_result result (named ++ behind) m'.rest (part (result_pieces result) named behind {ts = m'.rest} m'.on) in

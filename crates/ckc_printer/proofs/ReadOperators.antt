@@ -16,8 +16,7 @@ use Rattle.ckc_tree.specs.declared.expr.MallocWord.TheVariants as mallocs
 use Rattle.ckc_tree.specs.declared.expr.CallocWord.{CallocWord}
 use Rattle.ckc_tree.specs.declared.expr.CallocWord.TheVariants as callocs
 use Rattle.ckc_tree.specs.Expressions.{Expression, Binary}
-use Rattle.ckc_parser_grammar.specs.Tokens as words
-use Rattle.ckc_parser_grammar.specs.Tokens.{token, join, IsUnaryOperator, IsCastWord, IsMallocWord, IsCallocWord, level, operator_of, operator_at, operator_with, with_rest, behind_greater, greater_or_shift, right_shift, has_operator, open_paren, selector}
+use Rattle.ckc_parser_grammar.specs.Tokens.{token, join, unary_operator_of, cast_word_of, malloc_word_of, calloc_word_of, level, operator_of, operator_at, operator_with, with_rest, behind_greater, greater_or_shift, right_shift, has_operator, open_paren, selector}
 use Rattle.ckc_parser_grammar.specs.ExpressionGrammar as g
 use Rattle.ckc_parser_grammar.specs.ExpressionGrammar.{SpellsBinary, SpellsUnary}
 use Rattle.ckc_printer.specs.Pieces.{Sign, One, RightShift}
@@ -27,24 +26,24 @@ use Rattle.ckc_printer.proofs.SignedTokens.{first_is}
 
 -- ---- words
 
-pub unary_word : (w : UnaryOperator) → IsUnaryOperator (unary_kind w) w
-unary_word unary.Deref = words.deref
-unary_word unary.AddressOf = words.address_of
-unary_word unary.Negate = words.negate
-unary_word unary.Not = words.not
-unary_word unary.Complement = words.complement
+pub unary_word : (w : UnaryOperator) → unary_operator_of (unary_kind w) ≡ Some w
+unary_word unary.Deref = refl
+unary_word unary.AddressOf = refl
+unary_word unary.Negate = refl
+unary_word unary.Not = refl
+unary_word unary.Complement = refl
 
-pub cast_word : (w : CastWord) → IsCastWord (cast_kind w) w
-cast_word casts.Dynamic = words.dynamic
-cast_word casts.Assume = words.assume
+pub cast_word : (w : CastWord) → cast_word_of (cast_kind w) ≡ Some w
+cast_word casts.Dynamic = refl
+cast_word casts.Assume = refl
 
-pub malloc_word : (w : MallocWord) → IsMallocWord (malloc_kind w) w
-malloc_word mallocs.Malloc = words.malloc
-malloc_word mallocs.TMalloc = words.t_malloc
+pub malloc_word : (w : MallocWord) → malloc_word_of (malloc_kind w) ≡ Some w
+malloc_word mallocs.Malloc = refl
+malloc_word mallocs.TMalloc = refl
 
-pub calloc_word : (w : CallocWord) → IsCallocWord (calloc_kind w) w
-calloc_word callocs.Calloc = words.calloc
-calloc_word callocs.NtCalloc = words.nt_calloc
+pub calloc_word : (w : CallocWord) → calloc_word_of (calloc_kind w) ≡ Some w
+calloc_word callocs.Calloc = refl
+calloc_word callocs.NtCalloc = refl
 
 -- ---- the operator that stands first
 

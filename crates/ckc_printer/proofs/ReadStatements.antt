@@ -5,6 +5,7 @@ use Rattle.std.specs.List.{flat_map}
 use Rattle.ckc_text.specs.declared.place.Span.{Span}
 use Rattle.ckc_lexer_tokens.specs.declared.token.Token.{Token}
 use Rattle.ckc_lexer_tokens.specs.declared.token.TokenKind.{TokenKind}
+use Rattle.ckc_lexer_tokens.specs.declared.keyword.Keyword.TheVariants as keywords
 use Rattle.ckc_lexer_tokens.specs.declared.token.TokenKind.TheVariants as kinds
 use Rattle.ckc_tree.specs.declared.stmt.Mark.{Mark}
 use Rattle.ckc_tree.specs.declared.stmt.Mark.TheVariants as marks
@@ -12,8 +13,7 @@ use Rattle.ckc_tree.specs.Expressions.{Expression}
 use Rattle.ckc_tree.specs.Statements as trees
 use Rattle.ckc_tree.specs.Statements.{Assignment, assignment_span, ForInitial, Statement, statement_span, Statements}
 use Rattle.ckc_tree.specs.Bare.{bare_expression, bare_assignment, bare_initial, bare_statement, bare_statements}
-use Rattle.ckc_parser_grammar.specs.Tokens as words
-use Rattle.ckc_parser_grammar.specs.Tokens.{token, join, identifier, IsMark, next_is, else_word}
+use Rattle.ckc_parser_grammar.specs.Tokens.{token, join, identifier, mark_of, next_is, else_word}
 use Rattle.ckc_parser_grammar.specs.ExpressionGrammar as e
 use Rattle.ckc_parser_grammar.specs.ExpressionGrammar.{SpellsExpression}
 use Rattle.ckc_parser_grammar.specs.StatementGrammar as g
@@ -66,7 +66,7 @@ not_else true there f on = let t : there ≡ true = on refl in absurd cc
 not_else false there f on = refl
 
 kind_not_else : (k : TokenKind) → 1 ≤ role k → else_word k ≡ false
-kind_not_else kinds.Else h = absurd (omega arith)
+kind_not_else (kinds.Keyword keywords.Else) h = absurd (omega arith)
 kind_not_else _ h = refl
 
 start_not_else : (ts : List Token) → 1 ≤ role_at ts → next_is else_word ts ≡ false
@@ -79,14 +79,14 @@ no_else (g.more {ts} d m) = start_not_else ts (statement_starts d)
 
 -- ---- statements
 
-pub mark_word : (mark : Mark) → IsMark (mark_kind mark) mark
-mark_word marks.Checked = words.checked
-mark_word marks.Unchecked = words.unchecked
+pub mark_word : (mark : Mark) → mark_of (mark_kind mark) ≡ Some mark
+mark_word marks.Checked = refl
+mark_word marks.Unchecked = refl
 
 -- a for from its parts, one behind the other
 for_of : {initial : ForInitial} {condition : Option Expression} {step : Option Assignment} {body_statement : Statement} {more is cs ss : List Sign} {ts : List Token} (old : List Token) (s p o : Span) (x : Read bare_initial (SpellsForInitial ts) initial is) (y : Read (option_map bare_expression) (SpellsForCondition x.rest) condition cs)
     (z : Read (option_map bare_assignment) (SpellsForStep y.rest) step ss) → Read bare_statement (Unless old z.rest) body_statement more
-    → Read bare_statement (Unless old (token kinds.For s ∷ token kinds.OpenParen p ∷ ts)) (trees.For initial condition step body_statement o) more
+    → Read bare_statement (Unless old (token (kinds.Keyword keywords.For) s ∷ token kinds.OpenParen p ∷ ts)) (trees.For initial condition step body_statement o) more
 for_of old s p o x y z w =
     record { tree = trees.For x.tree y.tree z.tree w.tree (join s (statement_span w.tree)); rest = w.rest; spelled = λ follows. g.for x.spelled y.spelled z.spelled (w.spelled follows); same = cc; on = w.on }
 
@@ -116,9 +116,9 @@ mutual
       let y = read_statement d more x.rest x.on in
       record { tree = trees.If x.tree y.tree (join s (statement_span y.tree)); rest = y.rest; spelled = λ follows. g.if x.spelled.1.1 (y.spelled follows) (not_else (next_is else_word y.rest) _ f follows); same = cc; on = y.on }
   read_statement (g.if_else {condition} {consequent} {alternative} c d a) more ts (one {s} b (one {ts = us} o h)) =
-      let others = statement_pieces consequent ++ One kinds.Else ∷ statement_pieces alternative in
+      let others = statement_pieces consequent ++ One (kinds.Keyword keywords.Else) ∷ statement_pieces alternative in
       let x = read_tested condition (others ++ more) us (part (expression_pieces condition) _ _ (part (expression_pieces condition ++ One kinds.CloseParen ∷ []) others more h)) in
-      let y = ended (read_statement d (One kinds.Else ∷ (statement_pieces alternative ++ more)) x.rest (part (statement_pieces consequent) _ more x.on)) in
+      let y = ended (read_statement d (One (kinds.Keyword keywords.Else) ∷ (statement_pieces alternative ++ more)) x.rest (part (statement_pieces consequent) _ more x.on)) in
       let z = read_statement a more y.rest y.on in
       record { tree = trees.IfElse x.tree y.tree z.tree (join s (statement_span z.tree)); rest = z.rest; spelled = λ follows. g.if_else x.spelled.1.1 (y.spelled.1 (λ f. refl)) (z.spelled follows); same = cc; on = z.on }
   read_statement (g.while {condition} {body_statement} c d) more ts (one {s} b (one {ts = us} o h)) =

@@ -1,5 +1,5 @@
 -- The signs of a type are read as the type.
-use Rattle.std.proofs.Common.{◌≡◌, ℕ, zero, suc, false, List, [], ◌∷◌, ◌++◌, refl, ◌∙◌, ap}
+use Rattle.std.proofs.Common.{◌≡◌, ℕ, zero, suc, false, List, [], ◌∷◌, ◌++◌, refl, ◌∙◌, ap, Some}
 use Rattle.ckc_lexer_tokens.specs.declared.token.Token.{Token}
 use Rattle.ckc_lexer_tokens.specs.declared.token.TokenKind.TheVariants as kinds
 use Rattle.ckc_tree.specs.declared.type_form.PointerMode.{PointerMode}
@@ -8,7 +8,7 @@ use Rattle.ckc_tree.specs.declared.type_form.PointerKind.{PointerKind}
 use Rattle.ckc_tree.specs.declared.type_form.PointerKind.TheVariants as counts
 use Rattle.ckc_tree.specs.Types.{TypeTree, IntType, CharType, StructType, PointerType, TypeName}
 use Rattle.ckc_tree.specs.Bare.{bare_type, bare_type_name}
-use Rattle.ckc_parser_grammar.specs.Tokens.{join, identifier, star, IsPointerWord, ptr, array_ptr, nt_array_ptr, t_ptr, t_array_ptr, t_nt_array_ptr}
+use Rattle.ckc_parser_grammar.specs.Tokens.{join, identifier, star, pointer_word_of}
 use Rattle.ckc_parser_grammar.specs.TypeGrammar as g
 use Rattle.ckc_parser_grammar.specs.TypeGrammar.{SpellsStars, SpellsType, SpellsTypeName, SpellsAngled}
 use Rattle.ckc_printer.specs.Pieces.{Sign, One}
@@ -16,13 +16,13 @@ use Rattle.ckc_printer.specs.TypePieces.{word_kind, stars_pieces, type_pieces, t
 use Rattle.ckc_printer.specs.ReadingBack.{AreSigns, one}
 use Rattle.ckc_printer.proofs.SignedTokens.{first_is, next_by_sign, Read, ended, part}
 
-pointer_word : (mode : PointerMode) (kind : PointerKind) → IsPointerWord (word_kind mode kind) (record { mode = mode; kind = kind })
-pointer_word Checked counts.One = ptr
-pointer_word Checked counts.Array = array_ptr
-pointer_word Checked counts.NullTerminated = nt_array_ptr
-pointer_word Tainted counts.One = t_ptr
-pointer_word Tainted counts.Array = t_array_ptr
-pointer_word Tainted counts.NullTerminated = t_nt_array_ptr
+pointer_word : (mode : PointerMode) (kind : PointerKind) → pointer_word_of (word_kind mode kind) ≡ Some (record { mode = mode; kind = kind })
+pointer_word Checked counts.One = refl
+pointer_word Checked counts.Array = refl
+pointer_word Checked counts.NullTerminated = refl
+pointer_word Tainted counts.One = refl
+pointer_word Tainted counts.Array = refl
+pointer_word Tainted counts.NullTerminated = refl
 
 pub read_stars : (n : ℕ) (more : List Sign) (ts : List Token) → first_is star more ≡ false → AreSigns (stars_pieces n ++ more) ts → Read (λ n. n) (SpellsStars ts) n more
 read_stars zero more ts f h = record { tree = zero; rest = ts; spelled = g.none (next_by_sign star h ∙ f); same = refl; on = h }

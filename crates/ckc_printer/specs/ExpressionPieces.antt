@@ -1,6 +1,7 @@
 -- The signs of expressions and bounds.
 use Rattle.std.specs.Prelude.{Bool, true, false, List, [], ◌∷◌, ◌++◌, codes}
 use Rattle.ckc_lexer_tokens.specs.declared.token.TokenKind.{TokenKind}
+use Rattle.ckc_lexer_tokens.specs.declared.keyword.Keyword.TheVariants as keywords
 use Rattle.ckc_lexer_tokens.specs.declared.token.TokenKind.TheVariants as kinds
 use Rattle.ckc_tree.specs.declared.expr.UnaryOperator.{UnaryOperator}
 use Rattle.ckc_tree.specs.declared.expr.UnaryOperator.TheVariants as unary
@@ -47,16 +48,16 @@ binary_sign binary.Divide = One kinds.Slash
 binary_sign binary.Remainder = One kinds.Percent
 
 abbrev pub cast_kind : CastWord → TokenKind
-cast_kind casts.Dynamic = kinds.DynamicBoundsCast
-cast_kind casts.Assume = kinds.AssumeBoundsCast
+cast_kind casts.Dynamic = kinds.Keyword keywords.DynamicBoundsCast
+cast_kind casts.Assume = kinds.Keyword keywords.AssumeBoundsCast
 
 abbrev pub malloc_kind : MallocWord → TokenKind
-malloc_kind mallocs.Malloc = kinds.Malloc
-malloc_kind mallocs.TMalloc = kinds.TMalloc
+malloc_kind mallocs.Malloc = kinds.Keyword keywords.Malloc
+malloc_kind mallocs.TMalloc = kinds.Keyword keywords.TMalloc
 
 abbrev pub calloc_kind : CallocWord → TokenKind
-calloc_kind callocs.Calloc = kinds.Calloc
-calloc_kind callocs.NtCalloc = kinds.NtCalloc
+calloc_kind callocs.Calloc = kinds.Keyword keywords.Calloc
+calloc_kind callocs.NtCalloc = kinds.Keyword keywords.NtCalloc
 
 -- what stands in parentheses where it is an operand or a base
 abbrev pub is_compound : Expression → Bool
@@ -101,7 +102,7 @@ abbrev mutual
   expression_pieces (Text bytes span) = One (kinds.Text bytes) ∷ []
   expression_pieces (Name name) = name_sign name ∷ []
   expression_pieces (Call callee arguments span) = name_sign callee ∷ One kinds.OpenParen ∷ (arguments_pieces arguments ++ One kinds.CloseParen ∷ [])
-  expression_pieces (SizeOf type span) = One kinds.Sizeof ∷ One kinds.OpenParen ∷ (type_name_pieces type ++ One kinds.CloseParen ∷ [])
+  expression_pieces (SizeOf type span) = One (kinds.Keyword keywords.Sizeof) ∷ One kinds.OpenParen ∷ (type_name_pieces type ++ One kinds.CloseParen ∷ [])
   expression_pieces (Cast word type operand span) =
       One (cast_kind word) ∷ (angled_pieces type ++ One kinds.OpenParen ∷ (expression_pieces operand ++ One kinds.CloseParen ∷ []))
   expression_pieces (BoundedCast word type operand bounds span) =

@@ -3,6 +3,7 @@ use Rattle.std.specs.Prelude.{ℕ, Bool, true, false, List, [], ◌∷◌, ◌++
 use Rattle.std.specs.List.{flat_map}
 use Rattle.ckc_lexer_tokens.specs.declared.token.CheckedScope.{CheckedScope}
 use Rattle.ckc_lexer_tokens.specs.declared.token.CheckedScope.TheVariants as scopes
+use Rattle.ckc_lexer_tokens.specs.declared.keyword.Keyword.TheVariants as keywords
 use Rattle.ckc_lexer_tokens.specs.declared.token.TokenKind.TheVariants as kinds
 use Rattle.ckc_tree.specs.declared.item.Region.{Region}
 use Rattle.ckc_tree.specs.declared.item.Region.TheVariants as regions
@@ -16,7 +17,7 @@ use Rattle.ckc_printer.specs.StatementPieces.{optional_bounds_pieces, declarator
 
 abbrev pub tainted_pieces : Bool → List Sign
 tainted_pieces false = []
-tainted_pieces true = One kinds.Tainted ∷ []
+tainted_pieces true = One (kinds.Keyword keywords.Tainted) ∷ []
 
 abbrev pub member_pieces : Member → List Sign
 member_pieces m = type_name_pieces m.type ++ name_sign m.name ∷ optional_bounds_pieces m.bounds
@@ -27,7 +28,7 @@ ended_member_pieces m = member_pieces m ++ One kinds.Semicolon ∷ []
 
 abbrev pub structure_pieces : Structure → List Sign
 structure_pieces s =
-    tainted_pieces s.tainted ++ One kinds.Struct ∷ name_sign s.tag ∷ One kinds.OpenBrace
+    tainted_pieces s.tainted ++ One (kinds.Keyword keywords.Struct) ∷ name_sign s.tag ∷ One kinds.OpenBrace
     ∷ (flat_map ended_member_pieces s.members ++ One kinds.CloseBrace ∷ One kinds.Semicolon ∷ [])
 
 abbrev pub global_pieces : Global → List Sign
@@ -35,16 +36,16 @@ global_pieces g = tainted_pieces g.tainted ++ (type_pieces g.base ++ (with_comma
 
 abbrev pub kind_pieces : FunctionKind → List Sign
 kind_pieces Trusted = []
-kind_pieces Tainted = One kinds.Tainted ∷ []
-kind_pieces Callback = One kinds.Callback ∷ []
+kind_pieces Tainted = One (kinds.Keyword keywords.Tainted) ∷ []
+kind_pieces Callback = One (kinds.Keyword keywords.Callback) ∷ []
 
 abbrev pub result_pieces : ResultForm → List Sign
-result_pieces (Void span) = One kinds.Void ∷ []
+result_pieces (Void span) = One (kinds.Keyword keywords.Void) ∷ []
 result_pieces (Value base) = type_pieces base
 
 abbrev pub parameters_pieces : Parameters → List Sign
 parameters_pieces Nothing = []
-parameters_pieces VoidAlone = One kinds.Void ∷ []
+parameters_pieces VoidAlone = One (kinds.Keyword keywords.Void) ∷ []
 parameters_pieces (Listed parameters) = with_commas member_pieces parameters
 
 abbrev pub body_pieces : Option Body → List Sign

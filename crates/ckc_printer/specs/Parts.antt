@@ -2,6 +2,7 @@
 use Rattle.std.specs.Prelude.{List, [], ◌∷◌, ◌++◌, Option, Some, None, Box}
 use Rattle.std.proofs.Common.{Global}
 use Rattle.std.specs.List.{flat_map}
+use Rattle.ckc_lexer_tokens.specs.declared.keyword.Keyword.TheVariants as keywords
 use Rattle.ckc_lexer_tokens.specs.declared.token.TokenKind.TheVariants as kinds
 use Rattle.ckc_tree.specs.declared.expr.BoundsText.{BoundsText}
 use Rattle.ckc_tree.specs.declared.expr.UnaryOperator.{UnaryOperator}
@@ -29,7 +30,7 @@ abbrev pub limits_pieces : Bounds → List Sign
 limits_pieces bounds = One kinds.Comma ∷ (bounds_pieces bounds ++ One kinds.CloseParen ∷ [])
 
 abbrev pub size_pieces : TypeName → List Sign
-size_pieces type = One kinds.Sizeof ∷ One kinds.OpenParen ∷ (type_name_pieces type ++ One kinds.CloseParen ∷ [])
+size_pieces type = One (kinds.Keyword keywords.Sizeof) ∷ One kinds.OpenParen ∷ (type_name_pieces type ++ One kinds.CloseParen ∷ [])
 
 abbrev pub call_pieces : Identifier → Expressions → List Sign
 call_pieces callee arguments = name_sign callee ∷ One kinds.OpenParen ∷ (arguments_pieces arguments ++ One kinds.CloseParen ∷ [])
@@ -62,10 +63,10 @@ abbrev pub binary_pieces : BinaryOperator → Expression → Expression → List
 binary_pieces operator left right = operand_pieces left ++ binary_sign operator ∷ operand_pieces right
 
 abbrev pub bundle_pieces : List Assignment → List Sign
-bundle_pieces assignments = One kinds.Bundled ∷ One kinds.OpenBrace ∷ (flat_map bundled_pieces assignments ++ One kinds.CloseBrace ∷ [])
+bundle_pieces assignments = One (kinds.Keyword keywords.Bundled) ∷ One kinds.OpenBrace ∷ (flat_map bundled_pieces assignments ++ One kinds.CloseBrace ∷ [])
 
 abbrev pub return_pieces : Option Expression → List Sign
-return_pieces value = One kinds.Return ∷ (optional_expression_pieces value ++ One kinds.Semicolon ∷ [])
+return_pieces value = One (kinds.Keyword keywords.Return) ∷ (optional_expression_pieces value ++ One kinds.Semicolon ∷ [])
 
 abbrev pub block_pieces : Option Mark → Statements → List Sign
 block_pieces mark statements = mark_pieces mark ++ One kinds.OpenBrace ∷ (statements_pieces statements ++ One kinds.CloseBrace ∷ [])

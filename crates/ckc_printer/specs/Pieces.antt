@@ -4,6 +4,8 @@ use Rattle.std.specs.List.{flat_map}
 use Rattle.ckc_lexer_tokens.specs.declared.token.CheckedScope.{CheckedScope}
 use Rattle.ckc_lexer_tokens.specs.declared.token.CheckedScope.TheVariants.{On, Off}
 use Rattle.ckc_lexer_tokens.specs.declared.token.TokenKind.{TokenKind}
+use Rattle.ckc_lexer_tokens.specs.declared.keyword.Keyword.{Keyword}
+use Rattle.ckc_lexer_tokens.specs.declared.keyword.Keyword.TheVariants as keywords
 use Rattle.ckc_lexer_tokens.specs.declared.token.TokenKind.TheVariants as kinds
 
 -- what stands in a line: a token, or the two marks `>` of a right shift, which touch
@@ -40,38 +42,41 @@ abbrev pub scope_text : CheckedScope → List ℕ
 scope_text On = codes "#pragma CHECKED_SCOPE on"
 scope_text Off = codes "#pragma CHECKED_SCOPE off"
 
--- a token, a pointer word in its short spelling
+-- a keyword, a pointer word in its short spelling
+abbrev pub keyword_text : Keyword → List ℕ
+keyword_text keywords.Int = codes "int"
+keyword_text keywords.Char = codes "char"
+keyword_text keywords.Void = codes "void"
+keyword_text keywords.Struct = codes "struct"
+keyword_text keywords.If = codes "if"
+keyword_text keywords.Else = codes "else"
+keyword_text keywords.While = codes "while"
+keyword_text keywords.For = codes "for"
+keyword_text keywords.Return = codes "return"
+keyword_text keywords.Break = codes "break"
+keyword_text keywords.Continue = codes "continue"
+keyword_text keywords.Sizeof = codes "sizeof"
+keyword_text keywords.Malloc = codes "malloc"
+keyword_text keywords.Calloc = codes "calloc"
+keyword_text keywords.NtCalloc = codes "nt_calloc"
+keyword_text keywords.TMalloc = codes "t_malloc"
+keyword_text keywords.Ptr = codes "ptr"
+keyword_text keywords.ArrayPtr = codes "array_ptr"
+keyword_text keywords.NtArrayPtr = codes "nt_array_ptr"
+keyword_text keywords.TPtr = codes "_TPtr"
+keyword_text keywords.TArrayPtr = codes "_TArray_ptr"
+keyword_text keywords.TNtArrayPtr = codes "_TNt_array_ptr"
+keyword_text keywords.Checked = codes "_Checked"
+keyword_text keywords.NtChecked = codes "_Nt_checked"
+keyword_text keywords.Unchecked = codes "_Unchecked"
+keyword_text keywords.Bundled = codes "_Bundled"
+keyword_text keywords.Tainted = codes "_Tainted"
+keyword_text keywords.Callback = codes "_Callback"
+keyword_text keywords.DynamicBoundsCast = codes "_Dynamic_bounds_cast"
+keyword_text keywords.AssumeBoundsCast = codes "_Assume_bounds_cast"
+
 abbrev pub kind_text : TokenKind → List ℕ
-kind_text kinds.Int = codes "int"
-kind_text kinds.Char = codes "char"
-kind_text kinds.Void = codes "void"
-kind_text kinds.Struct = codes "struct"
-kind_text kinds.If = codes "if"
-kind_text kinds.Else = codes "else"
-kind_text kinds.While = codes "while"
-kind_text kinds.For = codes "for"
-kind_text kinds.Return = codes "return"
-kind_text kinds.Break = codes "break"
-kind_text kinds.Continue = codes "continue"
-kind_text kinds.Sizeof = codes "sizeof"
-kind_text kinds.Malloc = codes "malloc"
-kind_text kinds.Calloc = codes "calloc"
-kind_text kinds.NtCalloc = codes "nt_calloc"
-kind_text kinds.TMalloc = codes "t_malloc"
-kind_text kinds.Ptr = codes "ptr"
-kind_text kinds.ArrayPtr = codes "array_ptr"
-kind_text kinds.NtArrayPtr = codes "nt_array_ptr"
-kind_text kinds.TPtr = codes "_TPtr"
-kind_text kinds.TArrayPtr = codes "_TArray_ptr"
-kind_text kinds.TNtArrayPtr = codes "_TNt_array_ptr"
-kind_text kinds.Checked = codes "_Checked"
-kind_text kinds.NtChecked = codes "_Nt_checked"
-kind_text kinds.Unchecked = codes "_Unchecked"
-kind_text kinds.Bundled = codes "_Bundled"
-kind_text kinds.Tainted = codes "_Tainted"
-kind_text kinds.Callback = codes "_Callback"
-kind_text kinds.DynamicBoundsCast = codes "_Dynamic_bounds_cast"
-kind_text kinds.AssumeBoundsCast = codes "_Assume_bounds_cast"
+kind_text (kinds.Keyword keyword) = keyword_text keyword
 kind_text (kinds.Name name) = name
 kind_text (kinds.Number n) = decimal n
 kind_text (kinds.Character b) = character_text b

@@ -2,6 +2,7 @@
 use Rattle.std.specs.Prelude.{Bool, true, false, List, [], ◌∷◌, ◌++◌, Option, Some, None}
 use Rattle.std.specs.List.{flat_map}
 use Rattle.ckc_lexer_tokens.specs.declared.token.TokenKind.{TokenKind}
+use Rattle.ckc_lexer_tokens.specs.declared.keyword.Keyword.TheVariants as keywords
 use Rattle.ckc_lexer_tokens.specs.declared.token.TokenKind.TheVariants as kinds
 use Rattle.ckc_tree.specs.declared.stmt.Mark.{Mark}
 use Rattle.ckc_tree.specs.declared.stmt.Mark.TheVariants as marks
@@ -31,8 +32,8 @@ optional_bounds_pieces None = []
 optional_bounds_pieces (Some bounds) = One kinds.Colon ∷ bounds_pieces bounds
 
 abbrev pub array_kind : ArrayKind → TokenKind
-array_kind arrays.Checked = kinds.Checked
-array_kind arrays.NullTerminated = kinds.NtChecked
+array_kind arrays.Checked = kinds.Keyword keywords.Checked
+array_kind arrays.NullTerminated = kinds.Keyword keywords.NtChecked
 
 abbrev pub array_pieces : Option ArrayForm → List Sign
 array_pieces None = []
@@ -85,8 +86,8 @@ bundled_pieces assignment = assignment_pieces assignment ++ One kinds.Semicolon 
 -- ---- statements
 
 abbrev pub mark_kind : Mark → TokenKind
-mark_kind marks.Checked = kinds.Checked
-mark_kind marks.Unchecked = kinds.Unchecked
+mark_kind marks.Checked = kinds.Keyword keywords.Checked
+mark_kind marks.Unchecked = kinds.Keyword keywords.Unchecked
 
 abbrev pub mark_pieces : Option Mark → List Sign
 mark_pieces None = []
@@ -108,7 +109,7 @@ optional_assignment_pieces (Some assignment) = assignment_pieces assignment
 -- the head of a for, from its word to its parenthesis
 abbrev pub for_head_pieces : ForInitial → Option Expression → Option Assignment → List Sign
 for_head_pieces initial condition step =
-    One kinds.For ∷ One kinds.OpenParen ∷ (initial_pieces initial ++ One kinds.Semicolon
+    One (kinds.Keyword keywords.For) ∷ One kinds.OpenParen ∷ (initial_pieces initial ++ One kinds.Semicolon
     ∷ (optional_expression_pieces condition ++ One kinds.Semicolon ∷ (optional_assignment_pieces step ++ One kinds.CloseParen ∷ [])))
 
 -- the word of an if or a while, and the condition in parentheses
@@ -118,19 +119,20 @@ tested_pieces word condition = One word ∷ One kinds.OpenParen ∷ (expression_
 abbrev mutual
   pub statement_pieces : Statement → List Sign
   statement_pieces (Block mark statements span) = mark_pieces mark ++ One kinds.OpenBrace ∷ (statements_pieces statements ++ One kinds.CloseBrace ∷ [])
-  statement_pieces (Bundle assignments span) = One kinds.Bundled ∷ One kinds.OpenBrace ∷ (flat_map bundled_pieces assignments ++ One kinds.CloseBrace ∷ [])
+  statement_pieces (Bundle assignments span) = One (kinds.Keyword keywords.Bundled) ∷ One kinds.OpenBrace
+      ∷ (flat_map bundled_pieces assignments ++ One kinds.CloseBrace ∷ [])
   statement_pieces (Declare declaration span) = declaration_pieces declaration ++ One kinds.Semicolon ∷ []
   statement_pieces (Assign assignment span) = assignment_pieces assignment ++ One kinds.Semicolon ∷ []
   statement_pieces (CallAlone call span) = expression_pieces call ++ One kinds.Semicolon ∷ []
   statement_pieces (Empty span) = One kinds.Semicolon ∷ []
-  statement_pieces (If condition consequent span) = tested_pieces kinds.If condition ++ statement_pieces consequent
+  statement_pieces (If condition consequent span) = tested_pieces (kinds.Keyword keywords.If) condition ++ statement_pieces consequent
   statement_pieces (IfElse condition consequent alternative span) =
-      tested_pieces kinds.If condition ++ (statement_pieces consequent ++ One kinds.Else ∷ statement_pieces alternative)
-  statement_pieces (While condition body span) = tested_pieces kinds.While condition ++ statement_pieces body
+      tested_pieces (kinds.Keyword keywords.If) condition ++ (statement_pieces consequent ++ One (kinds.Keyword keywords.Else) ∷ statement_pieces alternative)
+  statement_pieces (While condition body span) = tested_pieces (kinds.Keyword keywords.While) condition ++ statement_pieces body
   statement_pieces (For initial condition step body span) = for_head_pieces initial condition step ++ statement_pieces body
-  statement_pieces (Return value span) = One kinds.Return ∷ (optional_expression_pieces value ++ One kinds.Semicolon ∷ [])
-  statement_pieces (Break span) = One kinds.Break ∷ One kinds.Semicolon ∷ []
-  statement_pieces (Continue span) = One kinds.Continue ∷ One kinds.Semicolon ∷ []
+  statement_pieces (Return value span) = One (kinds.Keyword keywords.Return) ∷ (optional_expression_pieces value ++ One kinds.Semicolon ∷ [])
+  statement_pieces (Break span) = One (kinds.Keyword keywords.Break) ∷ One kinds.Semicolon ∷ []
+  statement_pieces (Continue span) = One (kinds.Keyword keywords.Continue) ∷ One kinds.Semicolon ∷ []
 
   pub statements_pieces : Statements → List Sign
   statements_pieces NoMore = []
