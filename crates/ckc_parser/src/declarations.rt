@@ -16,7 +16,6 @@ ghost use Rattle.ckc_parser.specs.StatementReadings.{SpellsAssigned, StuckAssign
 use ckc_lexer_tokens::token::{Token, TokenKind};
 use ckc_parser_cursor::depth::Depth;
 use ckc_parser_cursor::kinds;
-use ckc_parser_cursor::memory::push;
 use ckc_parser_cursor::spans::join;
 use ckc_parser_cursor::stuck::Stuck;
 use ckc_parser_cursor::tokens::{
@@ -29,6 +28,7 @@ use ckc_parser_expressions::bounds::bounds;
 use ckc_parser_expressions::expressions::{expression, starts_unary, unary};
 use ckc_parser_expressions::operand::Operand;
 use ckc_parser_expressions::types::{stars, type_form};
+use ckc_text::on_heap::push;
 use ckc_text::place::Span;
 use ckc_tree::expr::{BoundsText, Expr};
 use ckc_tree::stmt::{

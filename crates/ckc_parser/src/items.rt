@@ -22,7 +22,6 @@ use crate::statements::statements;
 use ckc_lexer_tokens::keyword::Keyword;
 use ckc_lexer_tokens::token::{CheckedScope, Token, TokenKind};
 use ckc_parser_cursor::depth::Depth;
-use ckc_parser_cursor::memory::push;
 use ckc_parser_cursor::spans::join;
 use ckc_parser_cursor::stuck::Stuck;
 use ckc_parser_cursor::terminal::{Terminal, expect};
@@ -32,6 +31,7 @@ use ckc_parser_cursor::tokens::{
 use ckc_parser_cursor::words::mark;
 use ckc_parser_expressions::types::{stars, type_form, type_name};
 use ckc_text::name::Name;
+use ckc_text::on_heap::push;
 use ckc_text::place::Span;
 use ckc_tree::item::{
     Block, Function, FunctionKind, Global as Variables, Item, Member, Parameter, Parameters,

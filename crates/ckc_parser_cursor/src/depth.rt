@@ -3,9 +3,9 @@
 ghost use Rattle.std.specs.Prelude.{◌≡◌, ◌<◌, ◌≤◌, ◌+◌, ◌-◌, suc, IfOk};
 ghost use Rattle.ckc_parser_cursor.specs.Depths.{MayStand};
 
-use crate::memory;
 use crate::stuck::Stuck;
 use ckc_text::fault::NoMemory;
+use ckc_text::on_heap;
 use std::alloc::Global;
 use std::marker::Model;
 
@@ -53,7 +53,7 @@ impl Depth {
     pub fn boxed<T: Drop>(self, value: T) -> Result<Box<T>, NoMemory>
         ensures { IfOk result (λ b. b.value ≡ value) }
     {
-        memory::boxed(self.alloc, value)
+        on_heap::boxed(self.alloc, value)
     }
 
     /// One node more around.

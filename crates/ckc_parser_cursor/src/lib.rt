@@ -5,7 +5,6 @@ pub mod alternative;
 pub mod depth;
 pub mod faults;
 pub mod kinds;
-pub mod memory;
 pub mod operators;
 pub mod spans;
 pub mod stuck;

@@ -14,9 +14,9 @@ use crate::expressions::Ended;
 use crate::operand::{Operand, Reach};
 use crate::primary::{ReadArguments, Typed};
 use crate::types::ReadTypeName;
-use ckc_parser_cursor::memory::boxed;
 use ckc_parser_cursor::spans::join;
 use ckc_parser_cursor::stuck::Stuck;
+use ckc_text::on_heap::boxed;
 use ckc_text::place::Span;
 use ckc_tree::expr::{
     BinaryOperator, BoundsText, CallocWord, CastWord, Expr, MallocWord, UnaryOperator,

@@ -6,4 +6,5 @@ pub mod fault;
 pub mod line_index;
 pub mod listed;
 pub mod name;
+pub mod on_heap;
 pub mod place;

@@ -4,10 +4,10 @@ ghost use Rattle.std.specs.Prelude.{◌≡◌, ◌≤◌, length, IfOk};
 ghost use Rattle.ckc_text.specs.Places.{place_at};
 ghost use Rattle.region_typing_rules.specs.Expressions.{site_at};
 
-use crate::on_heap;
 use ckc_core::program::Site;
 use ckc_text::fault::NoMemory;
 use ckc_text::line_index::LineIndex;
+use ckc_text::on_heap;
 use ckc_text::place::Span;
 use std::alloc::Global;
 use std::marker::Model;

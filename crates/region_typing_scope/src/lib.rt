@@ -8,7 +8,6 @@ mod filling;
 mod locals;
 pub mod lookups;
 pub mod number_table;
-pub mod on_heap;
 pub mod operands;
 pub mod refusals;
 pub mod scope;

@@ -46,11 +46,11 @@ plain-returns-in_err-open_brace t c = rw (err _ _ c.from_residual.ensures.1, c.i
 
 pub plain-returns-in_err-read : goal.plain-returns-in_err-read
 plain-returns-in_err-read t c =
-    rw (err _ _ c.from_residual-in_err-read.ensures.1, c.in-Ok.ensures.at, c.in_ok-open_brace.ensures) (stuck.marked_block c.requires.deep c.in-Ok.ensures.says (rw c.deeper.ensures at c.in_err-read.ensures))
+    rw (err _ _ c.from_residual-in_err-read.ensures.1, c.in-Ok.ensures.at, c.in_ok-open_brace.ensures) (stuck.marked_block c.requires.deep c.in-Ok.ensures.says (rw c.deeper-below.ensures at c.in_err-read.ensures))
 
 pub plain-returns-in-Ok : goal.plain-returns-in-Ok
 plain-returns-in-Ok t c =
-    rw (c.in-Ok.ensures.at, c.in_ok-open_brace.ensures, c.in_ok-boxed.ensures, c.block.ensures) (g.marked_block c.in-Ok.ensures.says c.in_ok-read.ensures.0, low_around _ _ _ c.requires.deep (rw c.deeper.ensures at c.in_ok-read.ensures.1))
+    rw (c.in-Ok.ensures.at, c.in_ok-open_brace.ensures, c.in_ok-boxed.ensures, c.block.ensures) (g.marked_block c.in-Ok.ensures.says c.in_ok-read.ensures.0, low_around _ _ _ c.requires.deep (rw c.deeper-below.ensures at c.in_ok-read.ensures.1))
 
 pub plain-statements-requires-in-Ok-open_brace : goal.plain-statements-requires-in-Ok-open_brace
 plain-statements-requires-in-Ok-open_brace t c =
@@ -59,11 +59,11 @@ plain-statements-requires-in-Ok-open_brace t c =
     (omega arith, omega arith)
 
 pub plain-returns-in_err-inner : goal.plain-returns-in_err-inner
-plain-returns-in_err-inner t c = rw (err _ _ c.from_residual-in_err-inner.ensures.1, ← c.in_default.ensures.left, c.in-Ok-open_brace.ensures) (stuck.block c.requires.deep (rw c.deeper.ensures at c.in_err-inner.ensures))
+plain-returns-in_err-inner t c = rw (err _ _ c.from_residual-in_err-inner.ensures.1, ← c.in_default.ensures.left, c.in-Ok-open_brace.ensures) (stuck.block c.requires.deep (rw c.deeper-below.ensures at c.in_err-inner.ensures))
 
 pub plain-returns-in-Ok-open_brace : goal.plain-returns-in-Ok-open_brace
 plain-returns-in-Ok-open_brace t c =
-    rw (← c.in_default.ensures.left, c.in-Ok-open_brace.ensures, c.in_ok-boxed-2.ensures, c.block-in-Ok-open_brace.ensures) (g.block c.in_ok-inner.ensures.0, low_around _ _ _ c.requires.deep (rw c.deeper.ensures at c.in_ok-inner.ensures.1))
+    rw (← c.in_default.ensures.left, c.in-Ok-open_brace.ensures, c.in_ok-boxed-2.ensures, c.block-in-Ok-open_brace.ensures) (g.block c.in_ok-inner.ensures.0, low_around _ _ _ c.requires.deep (rw c.deeper-below.ensures at c.in_ok-inner.ensures.1))
 
 pub plain-if_statement-requires : goal.plain-if_statement-requires
 plain-if_statement-requires t c =
@@ -151,18 +151,18 @@ if_statement-statement-requires-in-Ok t c =
     (omega arith, omega arith)
 
 pub if_statement-returns-in_err-condition : goal.if_statement-returns-in_err-condition
-if_statement-returns-in_err-condition t c = rw (err _ _ c.from_residual.ensures.1) (stuck.if_condition c.requires (rw c.deeper.ensures at c.in_err-condition.ensures))
+if_statement-returns-in_err-condition t c = rw (err _ _ c.from_residual.ensures.1) (stuck.if_condition c.requires (rw c.deeper-below.ensures at c.in_err-condition.ensures))
 
 pub if_statement-returns-in_err-consequent : goal.if_statement-returns-in_err-consequent
 if_statement-returns-in_err-consequent t c =
     rw (err _ _ c.from_residual-in_err-consequent.ensures.1)
-    (blocks.stuck_consequent c.requires c.in_ok-condition.ensures.0 (rw c.deeper.ensures at c.in_ok-condition.ensures.1) (rw c.deeper.ensures at c.in_err-consequent.ensures))
+    (blocks.stuck_consequent c.requires c.in_ok-condition.ensures.0 (rw c.deeper-below.ensures at c.in_ok-condition.ensures.1) (rw c.deeper-below.ensures at c.in_err-consequent.ensures))
 
 pub if_statement-returns-in_err-alternative : goal.if_statement-returns-in_err-alternative
 if_statement-returns-in_err-alternative t c =
     let consequent = rw c.in-Ok.ensures at c.in_ok-consequent.ensures.0 in
     rw (err _ _ c.from_residual-in_err-alternative.ensures.1)
-    (blocks.stuck_alternative c.requires c.in_ok-condition.ensures.0 (rw c.deeper.ensures at c.in_ok-condition.ensures.1) consequent (rw c.deeper.ensures at c.in_ok-consequent.ensures.1) (rw c.deeper.ensures at c.in_err-alternative.ensures))
+    (blocks.stuck_alternative c.requires c.in_ok-condition.ensures.0 (rw c.deeper-below.ensures at c.in_ok-condition.ensures.1) consequent (rw c.deeper-below.ensures at c.in_ok-consequent.ensures.1) (rw c.deeper-below.ensures at c.in_err-alternative.ensures))
 
 pub if_statement-returns-in_err-boxed : goal.if_statement-returns-in_err-boxed
 if_statement-returns-in_err-boxed t c = rw (err _ _ c.from_residual-in_err-boxed.ensures.1) stuck.statement_no_room
@@ -170,39 +170,39 @@ if_statement-returns-in_err-boxed t c = rw (err _ _ c.from_residual-in_err-boxed
 pub if_statement-returns-in-Ok : goal.if_statement-returns-in-Ok
 if_statement-returns-in-Ok t c =
     let consequent = rw c.in-Ok.ensures at c.in_ok-consequent.ensures.0 in
-    let condition_low = rw c.deeper.ensures at c.in_ok-condition.ensures.1 in
-    let consequent_low = rw c.deeper.ensures at c.in_ok-consequent.ensures.1 in
+    let condition_low = rw c.deeper-below.ensures at c.in_ok-condition.ensures.1 in
+    let consequent_low = rw c.deeper-below.ensures at c.in_ok-consequent.ensures.1 in
     rw (c.in_ok-boxed.ensures, c.if_else.ensures, c.join-span.ensures, c.span.ensures, c.deref.ensures)
-    (blocks.is_if_else c.in_ok-condition.ensures.0 consequent c.in_ok-alternative.ensures.0, low_around _ _ _ c.requires (low_beside _ _ _ (low_beside _ _ _ condition_low consequent_low) (rw c.deeper.ensures at c.in_ok-alternative.ensures.1)))
+    (blocks.is_if_else c.in_ok-condition.ensures.0 consequent c.in_ok-alternative.ensures.0, low_around _ _ _ c.requires (low_beside _ _ _ (low_beside _ _ _ condition_low consequent_low) (rw c.deeper-below.ensures at c.in_ok-alternative.ensures.1)))
 
 pub if_statement-returns-in_err-boxed-2 : goal.if_statement-returns-in_err-boxed-2
 if_statement-returns-in_err-boxed-2 t c = rw (err _ _ c.from_residual-in_err-boxed-2.ensures.1) stuck.statement_no_room
 
 pub if_statement-returns : goal.if_statement-returns
 if_statement-returns t c =
-    let condition_low = rw c.deeper.ensures at c.in_ok-condition.ensures.1 in
+    let condition_low = rw c.deeper-below.ensures at c.in_ok-condition.ensures.1 in
     rw (c.in_default.ensures.left, c.in_ok-boxed-2.ensures, c.if_alone.ensures, c.join-span-2.ensures, c.span-2.ensures, c.deref-2.ensures)
-    (blocks.is_if c.in_ok-condition.ensures.0 c.in_ok-consequent.ensures.0 c.in_default.ensures.other, low_around _ _ _ c.requires (low_beside _ _ _ condition_low (rw c.deeper.ensures at c.in_ok-consequent.ensures.1)))
+    (blocks.is_if c.in_ok-condition.ensures.0 c.in_ok-consequent.ensures.0 c.in_default.ensures.other, low_around _ _ _ c.requires (low_beside _ _ _ condition_low (rw c.deeper-below.ensures at c.in_ok-consequent.ensures.1)))
 
 pub while_statement-statement-requires : goal.while_statement-statement-requires
 while_statement-statement-requires t c = let less = condition_shorter c.in_ok-condition.ensures.0 in (omega arith, omega arith)
 
 pub while_statement-returns-in_err-condition : goal.while_statement-returns-in_err-condition
-while_statement-returns-in_err-condition t c = rw (err _ _ c.from_residual.ensures.1) (stuck.while_condition c.requires (rw c.deeper.ensures at c.in_err-condition.ensures))
+while_statement-returns-in_err-condition t c = rw (err _ _ c.from_residual.ensures.1) (stuck.while_condition c.requires (rw c.deeper-below.ensures at c.in_err-condition.ensures))
 
 pub while_statement-returns-in_err-body : goal.while_statement-returns-in_err-body
 while_statement-returns-in_err-body t c =
     rw (err _ _ c.from_residual-in_err-body.ensures.1)
-    (blocks.stuck_body c.requires c.in_ok-condition.ensures.0 (rw c.deeper.ensures at c.in_ok-condition.ensures.1) (rw c.deeper.ensures at c.in_err-body.ensures))
+    (blocks.stuck_body c.requires c.in_ok-condition.ensures.0 (rw c.deeper-below.ensures at c.in_ok-condition.ensures.1) (rw c.deeper-below.ensures at c.in_err-body.ensures))
 
 pub while_statement-returns-in_err-boxed : goal.while_statement-returns-in_err-boxed
 while_statement-returns-in_err-boxed t c = rw (err _ _ c.from_residual-in_err-boxed.ensures.1) stuck.statement_no_room
 
 pub while_statement-returns : goal.while_statement-returns
 while_statement-returns t c =
-    let condition_low = rw c.deeper.ensures at c.in_ok-condition.ensures.1 in
+    let condition_low = rw c.deeper-below.ensures at c.in_ok-condition.ensures.1 in
     rw (c.in_ok-boxed.ensures, c.while_loop.ensures, c.join-span.ensures, c.span.ensures, c.deref.ensures)
-    (blocks.is_while c.in_ok-condition.ensures.0 c.in_ok-body.ensures.0, low_around _ _ _ c.requires (low_beside _ _ _ condition_low (rw c.deeper.ensures at c.in_ok-body.ensures.1)))
+    (blocks.is_while c.in_ok-condition.ensures.0 c.in_ok-body.ensures.0, low_around _ _ _ c.requires (low_beside _ _ _ condition_low (rw c.deeper-below.ensures at c.in_ok-body.ensures.1)))
 
 pub for_statement-statement-requires : goal.for_statement-statement-requires
 for_statement-statement-requires t c = let less = head_shorter c.in_ok-head.ensures in (omega arith, omega arith)

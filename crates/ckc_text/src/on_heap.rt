@@ -1,8 +1,8 @@
-// What takes memory, with the error of the front end.
+// What takes memory, with the error that says that none is left.
 
 ghost use Rattle.std.specs.Prelude.{◌≡◌, [], ◌∷◌, ◌++◌, IfOk, OnOk};
 
-use ckc_text::fault::NoMemory;
+use crate::fault::NoMemory;
 use std::alloc::Global;
 
 /// A value on the heap.
