@@ -41,67 +41,7 @@ fn step_text(operator: StepOperator) -> &'static [u8]
 fn is_binary_expr(expr: &Expr) -> bool
     ensures { result ≡ is_binary (expression expr.now) }
 {
-    match expr {
-        Expr::Number { value: _, span: _ } => false,
-        Expr::Character { value: _, span: _ } => false,
-        Expr::Text { bytes: _, span: _ } => false,
-        Expr::Name { name: _ } => false,
-        Expr::Call {
-            callee: _,
-            arguments: _,
-            span: _,
-        } => false,
-        Expr::SizeOf {
-            type_name: _,
-            span: _,
-        } => false,
-        Expr::Cast {
-            word: _,
-            type_name: _,
-            operand: _,
-            bounds: _,
-            span: _,
-        } => false,
-        Expr::Malloc {
-            word: _,
-            type_name: _,
-            size: _,
-            span: _,
-        } => false,
-        Expr::Calloc {
-            word: _,
-            type_name: _,
-            count: _,
-            size: _,
-            span: _,
-        } => false,
-        Expr::Index {
-            base: _,
-            index: _,
-            span: _,
-        } => false,
-        Expr::Dot {
-            base: _,
-            member: _,
-            span: _,
-        } => false,
-        Expr::Arrow {
-            base: _,
-            member: _,
-            span: _,
-        } => false,
-        Expr::Unary {
-            operator: _,
-            operand: _,
-            span: _,
-        } => false,
-        Expr::Binary {
-            operator: _,
-            left: _,
-            right: _,
-            span: _,
-        } => true,
-    }
+    matches!(expr, Expr::Binary { .. })
 }
 
 /// What is stored to.

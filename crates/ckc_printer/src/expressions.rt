@@ -1,11 +1,12 @@
 // Printing of expressions and bounds.
 
 ghost use Rattle.std.specs.Prelude.{◌∷◌, [], ◌++◌};
+ghost use Rattle.std.specs.Option.{option_map};
 ghost use Rattle.ckc_tree.specs.Types.{type_name as type_name_tree};
 ghost use Rattle.ckc_tree.specs.Expressions.{expression, bounds};
 ghost use Rattle.ckc_printer.specs.ExpressionPieces.{operand_pieces, expression_pieces, arguments_pieces, bounds_pieces};
 ghost use Rattle.ckc_printer.specs.TypePieces.{angled_pieces};
-ghost use Rattle.ckc_printer.specs.Parts.{size_pieces, closed_pieces, limits_pieces, call_pieces};
+ghost use Rattle.ckc_printer.specs.Parts.{size_pieces, closed_pieces, limits_pieces, call_pieces, bounds_on_heap, cast_pieces, malloc_pieces, calloc_pieces, index_pieces, unary_pieces, binary_pieces};
 ghost use Rattle.ckc_printer.specs.Slices.{expressions_of};
 ghost use Rattle.ckc_printer.specs.Output.{Puts};
 ghost use Rattle.ckc_printer.specs.Spaced.{spaced, spaced_text};
@@ -16,7 +17,9 @@ use crate::output::Output;
 use crate::quoted::{put_character, put_string};
 use crate::signs::{put, put_if, put_name, put_number};
 use crate::types::{angled, type_with_stars};
-use ckc_tree::expr::{BoundsText, Expr};
+use ckc_tree::expr::{
+    BinaryOperator, BoundsText, CallocWord, CastWord, Expr, MallocWord, UnaryOperator,
+};
 use ckc_tree::identifier::Identifier;
 use ckc_tree::type_form::TypeName;
 
@@ -39,14 +42,6 @@ fn put_size(out: &mut Output, type_name: &TypeName)
     put(out, b")");
 }
 
-/// A member behind its mark.
-fn put_member(out: &mut Output, mark: &[u8], member: &Identifier)
-    ensures { Puts out.old out.new ((spaced mark.now ++ spaced member.now.name)) }
-{
-    put(out, mark);
-    put_name(out, member);
-}
-
 /// An expression.
 #[cycle(expressions)]
 #[tactic(auto, using(crate::proofs::Texts::spaced_append, crate::proofs::Texts::spaced_around))]
@@ -54,96 +49,136 @@ pub fn put_expr(out: &mut Output, expr: &Expr)
     ensures { Puts out.old out.new (spaced_text (expression_pieces (expression expr.now))) }
 {
     match expr {
-        Expr::Number { value, span: _ } => put_number(out, *value),
-        Expr::Character { value, span: _ } => put_character(out, *value),
-        Expr::Text { bytes, span: _ } => put_string(out, bytes.as_slice()),
+        Expr::Number { value, .. } => put_number(out, *value),
+        Expr::Character { value, .. } => put_character(out, *value),
+        Expr::Text { bytes, .. } => put_string(out, bytes.as_slice()),
         Expr::Name { name } => put_name(out, name),
         Expr::Call {
             callee,
             arguments,
-            span: _,
+            ..
         } => put_call(out, callee, arguments.as_slice()),
-        Expr::SizeOf { type_name, span: _ } => put_size(out, type_name),
+        Expr::SizeOf { type_name, .. } => put_size(out, type_name),
         Expr::Cast {
             word,
             type_name,
             operand,
             bounds,
-            span: _,
-        } => {
-            put_opened(out, cast_text(*word), type_name);
-            put_expr(out, operand);
-            match bounds {
-                Some(written) => put_limits(out, written),
-                None => put(out, b")"),
-            }
-        }
+            ..
+        } => put_cast(out, *word, type_name, operand, bounds),
         Expr::Malloc {
             word,
             type_name,
             size,
-            span: _,
-        } => {
-            put_opened(out, malloc_text(*word), type_name);
-            put_closed(out, size);
-        }
+            ..
+        } => put_malloc(out, *word, type_name, size),
         Expr::Calloc {
             word,
             type_name,
             count,
             size,
-            span: _,
-        } => {
-            put_opened(out, calloc_text(*word), type_name);
-            put_expr(out, count);
-            put(out, b",");
-            put_closed(out, size);
-        }
-        Expr::Index {
-            base,
-            index,
-            span: _,
-        } => {
-            put_operand(out, base);
-            put(out, b"[");
-            put_expr(out, index);
-            put(out, b"]");
-        }
-        Expr::Dot {
-            base,
-            member,
-            span: _,
-        } => {
-            put_operand(out, base);
-            put_member(out, b".", member);
-        }
-        Expr::Arrow {
-            base,
-            member,
-            span: _,
-        } => {
-            put_operand(out, base);
-            put_member(out, b"->", member);
-        }
+            ..
+        } => put_calloc(out, *word, type_name, count, size),
+        Expr::Index { base, index, .. } => put_index(out, base, index),
+        Expr::Dot { base, member, .. } => put_member(out, base, b".", member),
+        Expr::Arrow { base, member, .. } => put_member(out, base, b"->", member),
         Expr::Unary {
             operator,
             operand,
-            span: _,
-        } => {
-            put(out, unary_text(*operator));
-            put_operand(out, operand);
-        }
+            ..
+        } => put_unary(out, *operator, operand),
         Expr::Binary {
             operator,
             left,
             right,
-            span: _,
-        } => {
-            put_operand(out, left);
-            put(out, binary_text(*operator));
-            put_operand(out, right);
-        }
+            ..
+        } => put_binary(out, *operator, left, right),
     }
+}
+
+/// A cast, with its bounds where it has some.
+#[cycle(expressions)]
+#[tactic(auto, using(crate::proofs::Texts::spaced_append))]
+fn put_cast(
+    out: &mut Output,
+    word: CastWord,
+    type_name: &TypeName,
+    operand: &Expr,
+    written: &Option<Box<BoundsText>>,
+)
+    ensures { Puts out.old out.new (spaced_text (cast_pieces word (type_name_tree type_name.now) (expression operand.now) (option_map bounds_on_heap written.now))) }
+{
+    put_opened(out, cast_text(word), type_name);
+    put_expr(out, operand);
+    match written {
+        Some(written) => put_limits(out, written),
+        None => put(out, b")"),
+    }
+}
+
+/// An allocation of a size.
+#[cycle(expressions)]
+#[tactic(auto, using(crate::proofs::Texts::spaced_append))]
+fn put_malloc(out: &mut Output, word: MallocWord, type_name: &TypeName, size: &Expr)
+    ensures { Puts out.old out.new (spaced_text (malloc_pieces word (type_name_tree type_name.now) (expression size.now))) }
+{
+    put_opened(out, malloc_text(word), type_name);
+    put_closed(out, size);
+}
+
+/// An allocation of elements.
+#[cycle(expressions)]
+#[tactic(auto, using(crate::proofs::Texts::spaced_append))]
+fn put_calloc(out: &mut Output, word: CallocWord, type_name: &TypeName, count: &Expr, size: &Expr)
+    ensures { Puts out.old out.new (spaced_text (calloc_pieces word (type_name_tree type_name.now) (expression count.now) (expression size.now))) }
+{
+    put_opened(out, calloc_text(word), type_name);
+    put_expr(out, count);
+    put(out, b",");
+    put_closed(out, size);
+}
+
+/// An element.
+#[cycle(expressions)]
+#[tactic(auto, using(crate::proofs::Texts::spaced_append))]
+fn put_index(out: &mut Output, base: &Expr, index: &Expr)
+    ensures { Puts out.old out.new (spaced_text (index_pieces (expression base.now) (expression index.now))) }
+{
+    put_operand(out, base);
+    put(out, b"[");
+    put_expr(out, index);
+    put(out, b"]");
+}
+
+/// A member, behind this mark.
+#[cycle(expressions)]
+fn put_member(out: &mut Output, base: &Expr, mark: &[u8], member: &Identifier)
+    ensures { Puts out.old out.new (spaced_text (operand_pieces (expression base.now)) ++ (spaced mark.now ++ spaced member.now.name)) }
+{
+    put_operand(out, base);
+    put(out, mark);
+    put_name(out, member);
+}
+
+/// An operator before its operand.
+#[cycle(expressions)]
+#[tactic(auto, using(crate::proofs::Texts::spaced_append))]
+fn put_unary(out: &mut Output, operator: UnaryOperator, operand: &Expr)
+    ensures { Puts out.old out.new (spaced_text (unary_pieces operator (expression operand.now))) }
+{
+    put(out, unary_text(operator));
+    put_operand(out, operand);
+}
+
+/// An operator between its operands.
+#[cycle(expressions)]
+#[tactic(auto, using(crate::proofs::Texts::spaced_append))]
+fn put_binary(out: &mut Output, operator: BinaryOperator, left: &Expr, right: &Expr)
+    ensures { Puts out.old out.new (spaced_text (binary_pieces operator (expression left.now) (expression right.now))) }
+{
+    put_operand(out, left);
+    put(out, binary_text(operator));
+    put_operand(out, right);
 }
 
 /// An operand or a base, in parentheses where it is compound.
@@ -209,16 +244,16 @@ pub fn put_bounds(out: &mut Output, written: &BoundsText)
     ensures { Puts out.old out.new (spaced_text (bounds_pieces (bounds written.now))) }
 {
     match written {
-        BoundsText::Count { count, span: _ } => {
+        BoundsText::Count { count, .. } => {
             put(out, b"count (");
             put_closed(out, count);
         }
-        BoundsText::ByteCount { count, span: _ } => {
+        BoundsText::ByteCount { count, .. } => {
             put(out, b"byte_count (");
             put_closed(out, count);
         }
-        BoundsText::Unknown { span: _ } => put(out, b"bounds ( unknown )"),
-        BoundsText::Range { low, high, span: _ } => {
+        BoundsText::Unknown { .. } => put(out, b"bounds ( unknown )"),
+        BoundsText::Range { low, high, .. } => {
             put(out, b"bounds (");
             put_expr(out, low);
             put(out, b",");

@@ -7,7 +7,7 @@ ghost use Rattle.ckc_tree.specs.Statements.{assignment, for_initial, on_heap, st
 ghost use Rattle.ckc_tree.specs.Items.{statement_list};
 ghost use Rattle.ckc_printer.specs.ExpressionPieces.{expression_pieces};
 ghost use Rattle.ckc_printer.specs.StatementPieces.{mark_pieces, initial_pieces, optional_expression_pieces, optional_assignment_pieces, for_head_pieces, statement_pieces, statements_pieces};
-ghost use Rattle.ckc_printer.specs.Parts.{bundle_pieces, return_pieces, block_pieces};
+ghost use Rattle.ckc_printer.specs.Parts.{bundle_pieces, return_pieces, block_pieces, choice_pieces, statement_on_heap};
 ghost use Rattle.ckc_printer.specs.Output.{Puts};
 ghost use Rattle.ckc_printer.specs.Spaced.{spaced, spaced_text};
 
@@ -121,51 +121,32 @@ fn put_stmt(out: &mut Output, stmt: &Stmt)
         Stmt::Block {
             mark,
             statements,
-            span: _,
+            ..
         } => put_block(out, *mark, statements.as_slice()),
-        Stmt::Bundle {
-            assignments,
-            span: _,
-        } => put_bundle(out, assignments.as_slice()),
-        Stmt::Declare {
-            declaration,
-            span: _,
-        } => {
+        Stmt::Bundle { assignments, .. } => put_bundle(out, assignments.as_slice()),
+        Stmt::Declare { declaration, .. } => {
             put_declaration(out, declaration);
             put(out, b";")
         }
-        Stmt::Assign {
-            assignment,
-            span: _,
-        } => {
+        Stmt::Assign { assignment, .. } => {
             put_assignment(out, assignment);
             put(out, b";")
         }
-        Stmt::Call { call, span: _ } => {
+        Stmt::Call { call, .. } => {
             put_expr(out, call);
             put(out, b";")
         }
-        Stmt::Empty { span: _ } => put(out, b";"),
+        Stmt::Empty { .. } => put(out, b";"),
         Stmt::If {
             condition,
             consequent,
             alternative,
-            span: _,
-        } => {
-            put_tested(out, b"if", condition);
-            put_stmt(out, consequent);
-            match alternative {
-                Some(alternative) => {
-                    put(out, b"else");
-                    put_stmt(out, alternative);
-                }
-                None => {}
-            }
-        }
+            ..
+        } => put_choice(out, condition, consequent, alternative),
         Stmt::While {
             condition,
             body,
-            span: _,
+            ..
         } => {
             put_tested(out, b"while", condition);
             put_stmt(out, body);
@@ -175,14 +156,36 @@ fn put_stmt(out: &mut Output, stmt: &Stmt)
             condition,
             step,
             body,
-            span: _,
+            ..
         } => {
             for_head(out, initial, condition, step);
             put_stmt(out, body);
         }
-        Stmt::Return { value, span: _ } => put_return(out, value),
-        Stmt::Break { span: _ } => put(out, b"break ;"),
-        Stmt::Continue { span: _ } => put(out, b"continue ;"),
+        Stmt::Return { value, .. } => put_return(out, value),
+        Stmt::Break { .. } => put(out, b"break ;"),
+        Stmt::Continue { .. } => put(out, b"continue ;"),
+    }
+}
+
+/// An `if`, with its `else` where it has one.
+#[cycle(statements)]
+#[tactic(auto, using(crate::proofs::Texts::spaced_append))]
+fn put_choice(
+    out: &mut Output,
+    condition: &Expr,
+    consequent: &Stmt,
+    alternative: &Option<Box<Stmt>>,
+)
+    ensures { Puts out.old out.new (spaced_text (choice_pieces (expression condition.now) (statement consequent.now) (option_map statement_on_heap alternative.now))) }
+{
+    put_tested(out, b"if", condition);
+    put_stmt(out, consequent);
+    match alternative {
+        Some(alternative) => {
+            put(out, b"else");
+            put_stmt(out, alternative);
+        }
+        None => {}
     }
 }
 
