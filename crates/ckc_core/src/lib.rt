@@ -1,5 +1,6 @@
 // Programs whose names and types are resolved, and what they mean.
 #![tactic(auto)]
 
+pub mod char_cells;
 pub mod laws;
 pub mod program;

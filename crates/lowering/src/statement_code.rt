@@ -11,9 +11,10 @@ ghost use Rattle.lowering_expressions.specs.Views.{targets_of};
 
 use act_words::operator::Operator;
 use ckc_core::program::{CellPlace, Expr, Site, Stmt};
+use ckc_core::char_cells::has_one_byte;
 use ckc_text::fault::NoMemory;
 use code_words::op::Op;
-use lowering_code::code_sizes::{expression_size, has_one_byte, statement_size};
+use lowering_code::code_sizes::{expression_size, statement_size};
 use lowering_code::instructions::{load_op, operator_op, place_behind, put, put_two, store_op};
 use lowering_expressions::addresses::{emit_address, emit_behind_value};
 use lowering_expressions::expressions::{emit_call, emit_expression, emit_place, emit_with};

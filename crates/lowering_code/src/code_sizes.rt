@@ -3,22 +3,10 @@
 
 ghost use Rattle.std.specs.Prelude.{◌≡◌, ◌+◌, ◌^◌, ◌≤◌};
 ghost use Rattle.ckc_core.specs.Core.{expression, place, arguments_of, statement, statements_of};
-ghost use Rattle.pointer_modes.specs.Types.{ctype};
-ghost use Rattle.ckc_core.specs.Meaning.{is_char};
 ghost use Rattle.lowering_code.specs.Code as code;
 
+use ckc_core::char_cells::has_one_byte;
 use ckc_core::program::{CellPlace, Expr, Stmt};
-use pointer_modes::ctype::CType;
-
-/// Whether a cell of the type has one byte.
-pub fn has_one_byte(ctype_of: &CType) -> bool
-    ensures { result ≡ is_char (ctype ctype_of.now) }
-{
-    match ctype_of {
-        CType::Char => true,
-        CType::Int | CType::Struct(_) | CType::Pointer(_, _, _) => false,
-    }
-}
 
 // The size of what adds an offset to an address.
 fn offset_size(offset: u32) -> u32

@@ -6,9 +6,9 @@ ghost use Rattle.pointer_modes.specs.Types.{ctype as type_of};
 ghost use Rattle.code_words.specs.declared.op.Op.TheVariants as ops_of;
 ghost use Rattle.lowering_code.specs.Code as code;
 
-use crate::code_sizes::has_one_byte;
 use act_words::operator::Operator;
 use ckc_core::program::{Callee, Site};
+use ckc_core::char_cells::has_one_byte;
 use ckc_text::fault::NoMemory;
 use code_words::op::Op;
 use pointer_modes::ctype::CType;

@@ -6,9 +6,9 @@ ghost use Rattle.ckc_core.specs.Core.{initial};
 ghost use Rattle.lowering_code.specs.Images.{word_bytes_if, cell_bytes};
 ghost use Rattle.lowering_code.specs.Correct.{width_if};
 
+use ckc_core::char_cells::has_one_byte;
 use ckc_core::program::Initial;
 use ckc_text::fault::NoMemory;
-use lowering_code::code_sizes::has_one_byte;
 
 // So many zeros.
 fn put_zeros(bytes: &mut Vec<u8>, count: u32) -> Result<(), NoMemory>

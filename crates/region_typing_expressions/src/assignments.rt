@@ -7,7 +7,7 @@ ghost use Rattle.ckc_tree.specs.Statements.{assignment as assignment_tree};
 ghost use Rattle.pointer_modes.specs.Types.{ctype as ctype_of};
 ghost use Rattle.ckc_core.specs.Core.{expression, statement, place as place_of};
 ghost use Rattle.region_typing_rules.specs.Verdicts.{Passes};
-ghost use Rattle.region_typing_rules.specs.Statements.{is_char as is_char_of, store as store_of, update as update_with, updated_place as updated_at, set_to as set_to_of, updated as updated_of, stored as stored_of, step_of as step_from, one as one_of, assignment as assignment_of, condition as condition_of};
+ghost use Rattle.region_typing_rules.specs.Statements.{store as store_of, update as update_with, updated_place as updated_at, set_to as set_to_of, updated as updated_of, stored as stored_of, step_of as step_from, one as one_of, assignment as assignment_of, condition as condition_of};
 ghost use Rattle.region_typing_scope.specs.Answering.{Answers};
 ghost use Rattle.region_typing_scope.specs.Views.{scope as scope_of};
 ghost use Rattle.region_typing_scope.specs.OnHeap.{typed as typed_view, expression as expression_on_heap, statement as statement_on_heap};
@@ -16,6 +16,7 @@ ghost use Rattle.region_typing_expressions.specs.Targets.{target as target_view,
 use crate::expressions::typed;
 use crate::operand_tests::is_pointer_value;
 use act_words::operator::{ArithmeticOperator, Operator};
+use ckc_core::char_cells::has_one_byte;
 use ckc_core::program;
 use ckc_core::program::{CellPlace, Site, Stmt};
 use ckc_text::code::Code;
@@ -90,16 +91,6 @@ fn set_to(
     Ok(context.boxed(store(Box::into_inner(target), value))?)
 }
 
-// Whether a type is `char`.
-fn is_char(t: &CType) -> bool
-    ensures { result ≡ is_char_of (ctype_of t.now) }
-{
-    match t {
-        CType::Char => true,
-        CType::Int | CType::Struct(_) | CType::Pointer(..) => false,
-    }
-}
-
 // A place whose checks name another expression.
 fn updated_place(place: CellPlace, site: Site) -> CellPlace
     ensures { place_of result ≡ updated_at (place_of place) site }
@@ -135,7 +126,7 @@ fn update(target: Target, operator: Operator, value: program::Expr, site: Site) 
     let Target { ctype, place } = target;
     match place {
         Lvalue::Local(local) => Stmt::UpdateLocal {
-            is_char: is_char(&ctype),
+            is_char: has_one_byte(&ctype),
             local,
             operator,
             value,

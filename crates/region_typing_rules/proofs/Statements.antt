@@ -16,24 +16,17 @@ use Rattle.act_words.specs.declared.operator.Operator.{Operator}
 use Rattle.act_words.specs.declared.operator.ArithmeticOperator.TheVariants as arithmetics
 use Rattle.act_words.specs.declared.operator.Operator.TheVariants as operators
 use Rattle.ckc_core.specs.Core as core
-use Rattle.ckc_core.specs.Meaning as meaning
 use Rattle.region_typing_rules.specs.Verdicts.{Verdict, Passes, Stops}
 use Rattle.region_typing_rules.specs.Scopes.{Scope}
 use Rattle.region_typing_rules.specs.Types.{is_number, is_pointer, is_scalar, without_stars, base_type}
 use Rattle.region_typing_rules.specs.Expressions.{Places, Typed, Value, AStruct, Called, Gives, GivesNothing, Lvalue, OfLocal, OfCell, site_at, typed, call_typed, is_pointer_value}
-use Rattle.region_typing_rules.specs.Statements.{Walked, both, is_char, store, updated_place, update, assigned, set_to, updated, stored, step_of, one, assignment, zero_value, with_local, initialised, declarator, declarators, declaration, behind_block, in_loop, is_unchecked, condition, optional_condition, optional_step, first_part, alone, returned, returned_nothing, return, statement, statements}
+use Rattle.region_typing_rules.specs.Statements.{Walked, both, store, updated_place, update, assigned, set_to, updated, stored, step_of, one, assignment, zero_value, with_local, initialised, declarator, declarators, declaration, behind_block, in_loop, is_unchecked, condition, optional_condition, optional_step, first_part, alone, returned, returned_nothing, return, statement, statements}
 use Rattle.region_typing_rules.specs.Typed as rules
 use Rattle.region_typing_rules.specs.Typed.{Frame, HasType, HasPlace, IsStatement, AreStatements, IsScalar}
 use Rattle.region_typing_rules.proofs.Verdicts.{Promises, passing_promises, needs_promises, anything_promised, both_promise, later_promises, Extends, extends_last}
 use Rattle.region_typing_rules.proofs.Knowledge.{KnowsFile, Knows}
 use Rattle.region_typing_rules.proofs.Expressions.{FitsPlace, Fits, FitsCall, scalar_of_promises, two_numbers_promise, converted_promises, typed_promises, call_promises}
 use Rattle.region_typing_rules.proofs.Growth.{Grows, file_known, block_grows, loop_grows, declarator_grows, declarators_grow, first_grows, statement_grows, statements_grow, GrowsTo}
-
-char_same : (t : CType) → meaning.is_char t ≡ is_char t
-char_same Int = refl
-char_same Char = refl
-char_same (Struct n) = refl
-char_same (Pointer m k t) = refl
 
 -- a scalar that is no pointer is a number
 number_left : (t : CType) (other : Bool) → IsScalar t → not (is_pointer t || other) ≡ true → is_number t ≡ true
@@ -64,7 +57,7 @@ module _ (g : Frame) (types : List CType) (all_scalar : AllByRecursion IsScalar 
   updated_typed (rules.member h found scalar) site = rules.member h found scalar
 
   update_typed : (place : Lvalue) (type : CType) (operator : Operator) (value : core.Expression) (site : Site) → FitsPlace g types type (Some place) → is_number type ≡ true → HasType g types value Int → IsAny (update place type operator value site)
-  update_typed (OfLocal k) type operator value site h number typed = λ result loop. rules.update_local h number (char_same type) typed
+  update_typed (OfLocal k) type operator value site h number typed = λ result loop. rules.update_local h number refl typed
   update_typed (OfCell p) type operator value site h number typed = λ result loop. rules.update number (updated_typed h site) typed
 
   set_promises : (target right : Typed) (span : Span) → Fits g types target → Fits g types right → Promises IsAny (set_to target right span)

@@ -18,6 +18,7 @@ use Rattle.act_words.specs.declared.operator.Operator.{Operator}
 use Rattle.act_words.specs.declared.operator.ArithmeticOperator.TheVariants as arithmetics
 use Rattle.act_words.specs.declared.operator.Operator.TheVariants as operators
 use Rattle.ckc_core.specs.Core as core
+use Rattle.ckc_core.specs.Meaning.{is_char}
 use Rattle.region_typing_rules.specs.Verdicts.{Verdict, Passes, passing, needs, breaks}
 use Rattle.region_typing_rules.specs.Scopes.{Scope}
 use Rattle.region_typing_rules.specs.Types.{is_scalar, without_stars, base_type}
@@ -33,12 +34,6 @@ abbrev pub both : core.Statement → core.Statement → core.Statement
 both first second = core.Block (core.Then first (core.Then second core.NoMore))
 
 -- ---- assignments
-
-abbrev pub is_char : CType → Bool
-is_char Int = false
-is_char Char = true
-is_char (Struct number) = false
-is_char (Pointer mode kind target) = false
 
 abbrev pub store : Lvalue → CType → core.Expression → core.Statement
 store (OfLocal local) type value = core.SetLocal local value
