@@ -10,8 +10,8 @@ ghost use Rattle.lowering_code.specs.Code.{Places};
 ghost use Rattle.lowering_expressions.specs.Views.{targets_of};
 
 use act_words::operator::Operator;
-use ckc_core::program::{CellPlace, Expr, Site, Stmt};
 use ckc_core::char_cells::has_one_byte;
+use ckc_core::program::{CellPlace, Expr, Site, Stmt};
 use ckc_text::fault::NoMemory;
 use code_words::op::Op;
 use lowering_code::code_sizes::{expression_size, statement_size};

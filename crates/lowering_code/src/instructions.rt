@@ -7,8 +7,8 @@ ghost use Rattle.code_words.specs.declared.op.Op.TheVariants as ops_of;
 ghost use Rattle.lowering_code.specs.Code as code;
 
 use act_words::operator::Operator;
-use ckc_core::program::{Callee, Site};
 use ckc_core::char_cells::has_one_byte;
+use ckc_core::program::{Callee, Site};
 use ckc_text::fault::NoMemory;
 use code_words::op::Op;
 use pointer_modes::ctype::CType;
