@@ -116,8 +116,8 @@ members =
     (Core.SetLocal 0 (Core.AddressOf (Core.Direct 0 0 0))
     ∷ (Core.Store Int (Core.Through (Core.Local 0) 1 4 (site 3 40)) (number 7)
     ∷ (Core.Store Char (Core.Direct 0 0 0) (Core.LowByte (number 300))
-    ∷ (Core.Return (Core.Arithmetic (operators.Arithmetic arithmetics.Add) (Core.Load Int (Core.Through (Core.Local 0) 1 4 (site 3 65))) (Core.Load Char (Core.Direct 0 0 0))
-    (site 3 65)) ∷ [])))))
+    ∷ (Core.Return (Core.Arithmetic (operators.Arithmetic arithmetics.Add) (Core.Load Int (Core.Through (Core.Local 0) 1 4 (site 3 65)))
+    (Core.Load Char (Core.Direct 0 0 0)) (site 3 65)) ∷ [])))))
 
 abbrev pub struct_ends : Type 0
 struct_ends = ends_as (runs members 100) (Exit (pos 51))

@@ -67,8 +67,10 @@ at_place_of (Some p) next none = next p.place
 abbrev pub tested : Image → ℕ → Callback → Option MarshalFault → List ℕ → State → Step
 tested image k callback None words s = run_callback k callback (slice_get image.trusted.funs callback.fun) words s
 tested image k callback (Some faults.Count) words s = wild s
-tested image k callback (Some (faults.Char param)) words s = at_place_of (slice_get callback.signature param) (λ place. Over (endings.Check C9 place) s) (wild s)
-tested image k callback (Some (faults.Range param)) words s = at_place_of (slice_get callback.signature param) (λ place. Over (endings.Check C4 place) s) (wild s)
+tested image k callback (Some (faults.Char param)) words s =
+    at_place_of (slice_get callback.signature param) (λ place. Over (endings.Check C9 place) s) (wild s)
+tested image k callback (Some (faults.Range param)) words s =
+    at_place_of (slice_get callback.signature param) (λ place. Over (endings.Check C4 place) s) (wild s)
 
 abbrev pub call_back_if : Bool → Image → Settings → ℕ → Callback → List ℕ → State → Step
 call_back_if false image settings k callback words s = Over (stopped_by_act S5 s.world) s

@@ -146,7 +146,8 @@ abbrev mutual
       expression_code at left ++ (expression_code (at + expression_size left) right ++ operator_code operator site ∷ [])
   expression_code at (core.Compare comparison left right) =
       expression_code at left ++ (expression_code (at + expression_size left) right ++ ops.Compare comparison ∷ [])
-  expression_code at (core.Same left right) = expression_code at left ++ (expression_code (at + expression_size left) right ++ ops.Compare comparisons.Equal ∷ [])
+  expression_code at (core.Same left right) =
+      expression_code at left ++ (expression_code (at + expression_size left) right ++ ops.Compare comparisons.Equal ∷ [])
   -- where the left one is 0 or null the right one is passed over, and the result is 0
   expression_code at (core.AndAlso left right) =
       expression_code at left
