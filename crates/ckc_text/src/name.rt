@@ -36,7 +36,8 @@ impl Name {
 
     /// A copy of the name.
     pub fn copy(&self, alloc: Global) -> Result<Name, NoMemory>
-        ensures { IfOk result (λ name. name ≡ self.now) }
+        ensures same { IfOk result (λ name. name ≡ self.now) }
+        ensures word { IfOk result (λ name. IsName name) }
     {
         let bytes = Vec::from_slice(alloc, self.bytes.as_slice())?;
         Ok(Name { bytes })

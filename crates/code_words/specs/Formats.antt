@@ -1,6 +1,7 @@
 -- What every image keeps: the orders and limits of a listing, and the pace.
 use Rattle.std.specs.Prelude.{◌≡◌, ℕ, suc, ◌+◌, ◌<◌, ◌≤◌, Bool, true, nat_le, IsTrue, List, [], ◌∷◌, length, map, Option, Some, None, All}
 use Rattle.std.specs.List.{list_all}
+use Rattle.ckc_text.specs.Names.{IsName}
 use Rattle.marshalling.specs.Signatures.{IsSignature}
 use Rattle.code_words.specs.declared.op.Op.{Op}
 use Rattle.code_words.specs.declared.op.Op.TheVariants as ops
@@ -55,6 +56,13 @@ abbrev pub is_sized_function : Func → Bool
 is_sized_function f = list_all is_sized f.ops
 
 -- ---- images
+
+-- each function and each tainted function has a name
+pub record HasNames (image : Image) : Type 0 where
+  pub functions : All (λ (f : Func). IsName f.name) image.trusted.funs
+  pub bodies : All (λ (f : Func). IsName f.name) image.sandbox.funs
+  pub imports : All (λ (i : Import). IsName i.name) image.layout.imports
+
 
 -- functions, tainted functions and callbacks are numbered from 0; the sandbox's functions have the numbers of tainted ones, in
 -- their order; frames, arguments, parameters and sizes are as they may be; between two ticks control moves forward only, or

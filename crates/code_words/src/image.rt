@@ -1,7 +1,7 @@
 // What a compiled program consists of.
 
 ghost use Rattle.std.specs.Prelude.{◌≡◌};
-ghost use Rattle.code_words.specs.Formats.{KeepsFormat};
+ghost use Rattle.code_words.specs.Formats.{KeepsFormat, HasNames};
 
 use crate::op::Op;
 use ckc_text::listed::Listed;
@@ -97,6 +97,7 @@ impl Image {
     pub fn functions(&self) -> &[Func]
         ensures functions { result.now ≡ self.now.trusted.funs }
         ensures format { KeepsFormat self.now }
+        ensures names { HasNames self.now }
     {
         self.trusted.funs.as_slice()
     }

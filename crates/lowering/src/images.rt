@@ -2,6 +2,9 @@
 
 ghost use Rattle.std.specs.Prelude.{◌≡◌, ◌≤◌, ◌++◌, length, map, option_map, IfOk, OnOk, All};
 ghost use Rattle.pointer_modes.specs.Types.{ctype as type_of};
+ghost use Rattle.ckc_text.specs.Names.{IsName};
+ghost use Rattle.code_words.specs.declared.image.Func.{Func as FuncData};
+ghost use Rattle.code_words.specs.declared.image.Import.{Import as ImportData};
 ghost use Rattle.ckc_core.specs.Core.{core, function, import_of, object};
 ghost use Rattle.lowering_code.specs.Code as code;
 ghost use Rattle.lowering_code.specs.Images.{object_bytes, function_code, functions_from, import_code, imports_from, image_of};
@@ -101,7 +104,8 @@ fn function_ops(alloc: Global, f: &Function) -> Result<Ops, NoMemory>
 // A function with its number.
 fn emit_function(alloc: Global, number: u32, f: &Function) -> Result<Func, NoMemory>
     requires { IsFunction (function f.now) }
-    ensures { IfOk result (λ func. func ≡ function_code number (function f.now)) }
+    ensures code { IfOk result (λ func. func ≡ function_code number (function f.now)) }
+    ensures named { IfOk result (λ func. IsName func.name) }
 {
     let name = f.name.copy(alloc)?;
     let ops = function_ops(alloc, f)?;
@@ -120,7 +124,8 @@ fn emit_function(alloc: Global, number: u32, f: &Function) -> Result<Func, NoMem
 fn emit_functions(alloc: Global, functions: &[Function]) -> Result<Funs, NoMemory>
     requires small { All IsFunction (map function functions.now) }
     requires few { length functions.now ≤ 4096 }
-    ensures { IfOk result (λ funs. funs ≡ functions_from 0 (map function functions.now)) }
+    ensures code { IfOk result (λ funs. funs ≡ functions_from 0 (map function functions.now)) }
+    ensures named { IfOk result (λ funs. All (λ (f : FuncData). IsName f.name) funs) }
 {
     let mut funs = Vec::new(alloc);
     for (index, f) in functions.iter().enumerate() {
@@ -131,7 +136,8 @@ fn emit_functions(alloc: Global, functions: &[Function]) -> Result<Funs, NoMemor
 
 // A tainted function with its number.
 fn tainted_import(alloc: Global, number: u32, f: &program::Import) -> Result<Import, NoMemory>
-    ensures { IfOk result (λ import. import ≡ import_code number (import_of f.now)) }
+    ensures code { IfOk result (λ import. import ≡ import_code number (import_of f.now)) }
+    ensures named { IfOk result (λ import. IsName import.name) }
 {
     Ok(Import {
         number,
@@ -144,7 +150,8 @@ fn tainted_import(alloc: Global, number: u32, f: &program::Import) -> Result<Imp
 // The tainted functions, which are numbered from 0.
 fn tainted_imports(alloc: Global, functions: &[program::Import]) -> Result<Imports, NoMemory>
     requires { length functions.now ≤ 4096 }
-    ensures { IfOk result (λ imports. imports ≡ imports_from 0 (map import_of functions.now)) }
+    ensures code { IfOk result (λ imports. imports ≡ imports_from 0 (map import_of functions.now)) }
+    ensures named { IfOk result (λ imports. All (λ (i : ImportData). IsName i.name) imports) }
 {
     let mut imports = Vec::new(alloc);
     for (index, f) in functions.iter().enumerate() {
