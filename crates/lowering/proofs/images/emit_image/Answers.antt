@@ -1,4 +1,5 @@
-use Rattle.std.proofs.Common.{map, All, tt, ap, subst, ◌∙◌}
+use Rattle.std.proofs.Common.{map, tt, ap, subst, ◌∙◌}
+use Rattle.std.specs.Prelude.{All}
 use Rattle.ckc_text.specs.Names.{IsName}
 use Rattle.code_words.specs.declared.image.Func.{Func}
 use Rattle.code_words.specs.declared.image.Import.{Import}

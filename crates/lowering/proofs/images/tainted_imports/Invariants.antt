@@ -1,4 +1,5 @@
-use Rattle.std.proofs.Common.{◌≡◌, ◌++◌, map, drop, All}
+use Rattle.std.proofs.Common.{◌≡◌, ◌++◌, map, drop}
+use Rattle.std.specs.Prelude.{All}
 use Rattle.ckc_text.specs.Names.{IsName}
 use Rattle.code_words.specs.declared.image.Import.{Import}
 use Rattle.ckc_core.specs.Core.{import_of}
