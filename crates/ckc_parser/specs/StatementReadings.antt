@@ -21,7 +21,8 @@ use Rattle.ckc_parser_grammar.specs.StuckStatements.{assign_word, is_call, is_ca
 -- ---- what stands behind the target of an assignment
 
 pub data SpellsAssigned : Expression → Span → List Token → Assignment → List Token → Type 0 where
-  store : {k : TokenKind} {s o w : Span} {us rest : List Token} {e target : Expression} {store_operator : StoreOperator} → store_operator_of k ≡ Some store_operator
+  store : {k : TokenKind} {s o w : Span} {us rest : List Token} {e target : Expression} {store_operator : StoreOperator}
+      → store_operator_of k ≡ Some store_operator
       → SpellsExpression us e w rest → SpellsAssigned target o (token k s ∷ us) (Store store_operator target e (join o w)) rest
   after : {k : TokenKind} {s o : Span} {rest : List Token} {target : Expression} {step_operator : StepOperator} → step_operator_of k ≡ Some step_operator
       → SpellsAssigned target o (token k s ∷ rest) (Step step_operator After target (join o s)) rest

@@ -60,7 +60,8 @@ shift_tree = Binary ShiftRight (name_tree 0 (codes "a")) (name_tree 5 (codes "b"
 
 -- ptr<ptr<int>> p: the two marks that touch end two types
 abbrev pub nested_tokens : List Token
-nested_tokens = at 0 3 (kinds.Keyword keywords.Ptr) ∷ at 3 4 kinds.Less ∷ at 4 7 (kinds.Keyword keywords.Ptr) ∷ at 7 8 kinds.Less ∷ at 8 11 (kinds.Keyword keywords.Int) ∷ at 11 12 kinds.Greater
+nested_tokens = at 0 3 (kinds.Keyword keywords.Ptr) ∷ at 3 4 kinds.Less ∷ at 4 7 (kinds.Keyword keywords.Ptr) ∷ at 7 8 kinds.Less
+    ∷ at 8 11 (kinds.Keyword keywords.Int) ∷ at 11 12 kinds.Greater
     ∷ at 12 13 kinds.Greater ∷ name_token 14 (codes "p") ∷ []
 
 abbrev checked_pointer : PointerWord
@@ -71,7 +72,8 @@ nested_type = record { base = PointerType checked_pointer (PointerType checked_p
 
 -- if (a) if (b) ; else ; of which the else belongs to the second if
 abbrev pub else_tokens : List Token
-else_tokens = at 0 2 (kinds.Keyword keywords.If) ∷ at 3 4 kinds.OpenParen ∷ name_token 4 (codes "a") ∷ at 5 6 kinds.CloseParen ∷ at 7 9 (kinds.Keyword keywords.If) ∷ at 10 11 kinds.OpenParen
+else_tokens = at 0 2 (kinds.Keyword keywords.If) ∷ at 3 4 kinds.OpenParen ∷ name_token 4 (codes "a") ∷ at 5 6 kinds.CloseParen
+    ∷ at 7 9 (kinds.Keyword keywords.If) ∷ at 10 11 kinds.OpenParen
     ∷ name_token 11 (codes "b") ∷ at 12 13 kinds.CloseParen ∷ at 14 15 kinds.Semicolon ∷ at 16 20 (kinds.Keyword keywords.Else) ∷ at 21 22 kinds.Semicolon ∷ []
 
 abbrev pub else_tree : Statement
@@ -79,7 +81,8 @@ else_tree = If (name_tree 4 (codes "a")) (IfElse (name_tree 11 (codes "b")) (Emp
 
 -- int main(void) { return 0; with and without the brace that ends it; without it 26 bytes, and a refusal at the end
 abbrev pub early_tokens : List Token → List Token
-early_tokens more = at 0 3 (kinds.Keyword keywords.Int) ∷ at 4 8 (kinds.Name (codes "main")) ∷ at 8 9 kinds.OpenParen ∷ at 9 13 (kinds.Keyword keywords.Void) ∷ at 13 14 kinds.CloseParen
+early_tokens more = at 0 3 (kinds.Keyword keywords.Int) ∷ at 4 8 (kinds.Name (codes "main")) ∷ at 8 9 kinds.OpenParen ∷ at 9 13 (kinds.Keyword keywords.Void)
+    ∷ at 13 14 kinds.CloseParen
     ∷ at 15 16 kinds.OpenBrace ∷ at 17 23 (kinds.Keyword keywords.Return) ∷ at 24 25 (kinds.Number 0) ∷ at 25 26 kinds.Semicolon ∷ more
 
 abbrev pub whole_tokens : List Token

@@ -92,14 +92,16 @@ mutual
         ∷ ts) rest (around s.from (type_reach type.base beside expression_reach e beside bounds_reach bounds))
     malloc_type : {k : TokenKind} {s : Span} {ts rest : List Token} {malloc_word : MallocWord} {r : Reach} → malloc_word_of k ≡ Some malloc_word
         → BeginsAngled ts rest r → BeginsPrimary (token k s ∷ ts) rest (around s.from r)
-    malloc_size : {k : TokenKind} {s : Span} {ts us rest : List Token} {type : TypeName} {malloc_word : MallocWord} {r : Reach} → malloc_word_of k ≡ Some malloc_word
+    malloc_size : {k : TokenKind} {s : Span} {ts us rest : List Token} {type : TypeName} {malloc_word : MallocWord} {r : Reach}
+        → malloc_word_of k ≡ Some malloc_word
         → SpellsAngled ts type us → BeginsBinary 10 us rest r → BeginsPrimary (token k s ∷ ts) rest (around s.from (type_reach type.base beside r))
     malloc : {k : TokenKind} {s t o : Span} {ts us rest : List Token} {size : Expression} {type : TypeName} {malloc_word : MallocWord}
         → malloc_word_of k ≡ Some malloc_word → SpellsAngled ts type us → SpellsBinary 10 us size o (token kinds.CloseParen t ∷ rest)
         → BeginsPrimary (token k s ∷ ts) rest (around s.from (type_reach type.base beside expression_reach size))
     calloc_type : {k : TokenKind} {s : Span} {ts rest : List Token} {calloc_word : CallocWord} {r : Reach} → calloc_word_of k ≡ Some calloc_word
         → BeginsAngled ts rest r → BeginsPrimary (token k s ∷ ts) rest (around s.from r)
-    calloc_count : {k : TokenKind} {s : Span} {ts us rest : List Token} {type : TypeName} {calloc_word : CallocWord} {r : Reach} → calloc_word_of k ≡ Some calloc_word
+    calloc_count : {k : TokenKind} {s : Span} {ts us rest : List Token} {type : TypeName} {calloc_word : CallocWord} {r : Reach}
+        → calloc_word_of k ≡ Some calloc_word
         → SpellsAngled ts type us → BeginsBinary 10 us rest r → BeginsPrimary (token k s ∷ ts) rest (around s.from (type_reach type.base beside r))
     calloc_size : {k : TokenKind} {s p o : Span} {ts us vs rest : List Token} {count : Expression} {type : TypeName} {calloc_word : CallocWord} {r : Reach}
         → calloc_word_of k ≡ Some calloc_word → SpellsAngled ts type us → SpellsBinary 10 us count o (token kinds.Comma p ∷ vs) → BeginsBinary 10 vs rest r

@@ -136,7 +136,8 @@ mutual
         → SpellsExpression ts condition o (token kinds.CloseParen q ∷ us) → BeginsStatement us rest r
         → BeginsStatement (token (kinds.Keyword keywords.If) s ∷ token kinds.OpenParen p ∷ ts) rest (around s.from (expression_reach condition beside r))
     if_alternative : {s p q o w : Span} {ts us vs rest : List Token} {condition : Expression} {consequent : Statement} {r : Reach}
-        → SpellsExpression ts condition o (token kinds.CloseParen q ∷ us) → SpellsStatement us consequent (token (kinds.Keyword keywords.Else) w ∷ vs) → BeginsStatement vs rest r
+        → SpellsExpression ts condition o (token kinds.CloseParen q ∷ us) → SpellsStatement us consequent (token (kinds.Keyword keywords.Else) w ∷ vs)
+        → BeginsStatement vs rest r
         → BeginsStatement (token (kinds.Keyword keywords.If) s ∷ token kinds.OpenParen p
         ∷ ts) rest (around s.from (expression_reach condition beside statement_reach consequent beside r))
     while_word : {s : Span} {rest : List Token} → BeginsStatement (token (kinds.Keyword keywords.While) s ∷ rest) rest (node s.from)
@@ -159,13 +160,15 @@ mutual
         ∷ ts) rest (around s.from (for_initial_reach initial beside optional_expression_reach optional beside optional_assignment_reach step beside r))
     return_value : {s : Span} {ts rest : List Token} {r : Reach} → BeginsExpression ts rest r
         → BeginsStatement (token (kinds.Keyword keywords.Return) s ∷ ts) rest (around s.from r)
-    return_nothing : {s t : Span} {rest : List Token} → BeginsStatement (token (kinds.Keyword keywords.Return) s ∷ token kinds.Semicolon t ∷ rest) rest (node s.from)
+    return_nothing : {s t : Span} {rest : List Token}
+        → BeginsStatement (token (kinds.Keyword keywords.Return) s ∷ token kinds.Semicolon t ∷ rest) rest (node s.from)
     return : {s t o : Span} {ts rest : List Token} {e : Expression} → SpellsExpression ts e o (token kinds.Semicolon t ∷ rest)
         → BeginsStatement (token (kinds.Keyword keywords.Return) s ∷ ts) rest (around s.from (expression_reach e))
     break_word : {s : Span} {rest : List Token} → BeginsStatement (token (kinds.Keyword keywords.Break) s ∷ rest) rest (node s.from)
     break : {s t : Span} {rest : List Token} → BeginsStatement (token (kinds.Keyword keywords.Break) s ∷ token kinds.Semicolon t ∷ rest) rest (node s.from)
     continue_word : {s : Span} {rest : List Token} → BeginsStatement (token (kinds.Keyword keywords.Continue) s ∷ rest) rest (node s.from)
-    continue : {s t : Span} {rest : List Token} → BeginsStatement (token (kinds.Keyword keywords.Continue) s ∷ token kinds.Semicolon t ∷ rest) rest (node s.from)
+    continue : {s t : Span} {rest : List Token}
+        → BeginsStatement (token (kinds.Keyword keywords.Continue) s ∷ token kinds.Semicolon t ∷ rest) rest (node s.from)
 
   pub data BeginsStatements : List Token → List Token → Reach → Type 0 where
     none : {t : Span} {rest : List Token} → BeginsStatements (token kinds.CloseBrace t ∷ rest) rest nowhere

@@ -32,7 +32,8 @@ use Rattle.ckc_tree.specs.Expressions.{Expression, Bounds}
 use Rattle.ckc_tree.specs.Statements.{Initializer, Value, Constants, Declarator, Declaration, Assignment, assignment_span, Store, Step, ForInitial}
 use Rattle.ckc_tree.specs.Statements.{Nothing, Declares, Assigns, Statement, statement_span, Block, Bundle, Declare, Assign, CallAlone, Empty, If}
 use Rattle.ckc_tree.specs.Statements.{IfElse, While, For, Return, Break, Continue, Statements, NoMore, Then}
-use Rattle.ckc_parser_grammar.specs.Tokens.{token, join, identifier, from_first, mark_of, array_kind_of, constant_of, store_operator_of, step_operator_of, next_is}
+use Rattle.ckc_parser_grammar.specs.Tokens.{token, join, identifier, from_first, mark_of, array_kind_of, constant_of, store_operator_of}
+use Rattle.ckc_parser_grammar.specs.Tokens.{step_operator_of, next_is}
 use Rattle.ckc_parser_grammar.specs.Tokens.{colon, equal, comma, array_word, else_word}
 use Rattle.ckc_parser_grammar.specs.TypeGrammar.{SpellsStars, SpellsType}
 use Rattle.ckc_parser_grammar.specs.ExpressionGrammar.{SpellsUnary, SpellsCall, SpellsBounds, SpellsExpression}
@@ -145,23 +146,27 @@ mutual
     empty : {t : Span} {rest : List Token} → SpellsStatement (token kinds.Semicolon t ∷ rest) (Empty t) rest
     if : {s p q o : Span} {ts us rest : List Token} {condition : Expression} {consequent : Statement}
         → SpellsExpression ts condition o (token kinds.CloseParen q ∷ us) → SpellsStatement us consequent rest → next_is else_word rest ≡ false
-        → SpellsStatement (token (kinds.Keyword keywords.If) s ∷ token kinds.OpenParen p ∷ ts) (If condition consequent (join s (statement_span consequent))) rest
+        → SpellsStatement (token (kinds.Keyword keywords.If) s ∷ token kinds.OpenParen p
+        ∷ ts) (If condition consequent (join s (statement_span consequent))) rest
     if_else : {s p q o w : Span} {ts us vs rest : List Token} {condition : Expression} {consequent alternative : Statement}
         → SpellsExpression ts condition o (token kinds.CloseParen q ∷ us) → SpellsStatement us consequent (token (kinds.Keyword keywords.Else) w ∷ vs)
         → SpellsStatement vs alternative rest → SpellsStatement (token (kinds.Keyword keywords.If) s ∷ token kinds.OpenParen p
         ∷ ts) (IfElse condition consequent alternative (join s (statement_span alternative))) rest
     while : {s p q o : Span} {ts us rest : List Token} {condition : Expression} {body_statement : Statement}
         → SpellsExpression ts condition o (token kinds.CloseParen q ∷ us) → SpellsStatement us body_statement rest
-        → SpellsStatement (token (kinds.Keyword keywords.While) s ∷ token kinds.OpenParen p ∷ ts) (While condition body_statement (join s (statement_span body_statement))) rest
+        → SpellsStatement (token (kinds.Keyword keywords.While) s ∷ token kinds.OpenParen p
+        ∷ ts) (While condition body_statement (join s (statement_span body_statement))) rest
     for : {s p : Span} {ts us vs ws rest : List Token} {initial : ForInitial} {optional : Option Expression} {step : Option Assignment}
         {body_statement : Statement} → SpellsForInitial ts initial us → SpellsForCondition us optional vs → SpellsForStep vs step ws
         → SpellsStatement ws body_statement rest → SpellsStatement (token (kinds.Keyword keywords.For) s ∷ token kinds.OpenParen p
         ∷ ts) (For initial optional step body_statement (join s (statement_span body_statement))) rest
-    return_nothing : {s t : Span} {rest : List Token} → SpellsStatement (token (kinds.Keyword keywords.Return) s ∷ token kinds.Semicolon t ∷ rest) (Return None (join s t)) rest
+    return_nothing : {s t : Span} {rest : List Token}
+        → SpellsStatement (token (kinds.Keyword keywords.Return) s ∷ token kinds.Semicolon t ∷ rest) (Return None (join s t)) rest
     return : {s t o : Span} {ts rest : List Token} {e : Expression} → SpellsExpression ts e o (token kinds.Semicolon t ∷ rest)
         → SpellsStatement (token (kinds.Keyword keywords.Return) s ∷ ts) (Return (Some e) (join s t)) rest
     break : {s t : Span} {rest : List Token} → SpellsStatement (token (kinds.Keyword keywords.Break) s ∷ token kinds.Semicolon t ∷ rest) (Break (join s t)) rest
-    continue : {s t : Span} {rest : List Token} → SpellsStatement (token (kinds.Keyword keywords.Continue) s ∷ token kinds.Semicolon t ∷ rest) (Continue (join s t)) rest
+    continue : {s t : Span} {rest : List Token}
+        → SpellsStatement (token (kinds.Keyword keywords.Continue) s ∷ token kinds.Semicolon t ∷ rest) (Continue (join s t)) rest
 
   -- statements, and the brace behind them
   pub data SpellsStatements : List Token → Statements → Span → List Token → Type 0 where

@@ -108,9 +108,11 @@ mutual
   pub data StuckUnary : ℕ → List Token → Failure → Type 0 where
     unary_no_room : {d : ℕ} {ts : List Token} → StuckUnary d ts no_memory
     no_expression : {d : ℕ} {ts : List Token} → next_is unary_word ts ≡ false → StuckUnary d ts (unexpected ts)
-    deep_operator : {d : ℕ} {k : TokenKind} {s : Span} {rest : List Token} {unary_operator : UnaryOperator} → unary_operator_of k ≡ Some unary_operator → 200 ≤ d
+    deep_operator : {d : ℕ} {k : TokenKind} {s : Span} {rest : List Token} {unary_operator : UnaryOperator} → unary_operator_of k ≡ Some unary_operator
+        → 200 ≤ d
         → StuckUnary d (token k s ∷ rest) (too_deep s.from)
-    operator : {d : ℕ} {k : TokenKind} {s : Span} {ts : List Token} {unary_operator : UnaryOperator} {f : Failure} → unary_operator_of k ≡ Some unary_operator → d < 200
+    operator : {d : ℕ} {k : TokenKind} {s : Span} {ts : List Token} {unary_operator : UnaryOperator} {f : Failure} → unary_operator_of k ≡ Some unary_operator
+        → d < 200
         → StuckUnary (suc d) ts f → StuckUnary d (token k s ∷ ts) f
     primary : {d : ℕ} {ts : List Token} {f : Failure} → StuckPrimary d ts f → StuckUnary d ts f
     selectors : {d : ℕ} {o : Span} {ts mid : List Token} {e : Expression} {f : Failure} → SpellsPrimary ts e o mid → IsLow d (expression_reach e)
@@ -155,16 +157,19 @@ mutual
         → StuckPrimary d (token (kinds.Keyword keywords.Sizeof) s ∷ token kinds.OpenParen p ∷ ts) f
     size_of_close : {d : ℕ} {s p : Span} {ts rest : List Token} {type : TypeName} → SpellsTypeName ts type rest → IsLow (suc d) (type_reach type.base)
         → next_is close_paren rest ≡ false → StuckPrimary d (token (kinds.Keyword keywords.Sizeof) s ∷ token kinds.OpenParen p ∷ ts) (unexpected rest)
-    cast_type : {d : ℕ} {k : TokenKind} {s : Span} {ts : List Token} {cast : CastWord} {f : Failure} → cast_word_of k ≡ Some cast → d < 200 → StuckAngled (suc d) ts f
+    cast_type : {d : ℕ} {k : TokenKind} {s : Span} {ts : List Token} {cast : CastWord} {f : Failure} → cast_word_of k ≡ Some cast → d < 200
+        → StuckAngled (suc d) ts f
         → StuckPrimary d (token k s ∷ ts) f
-    cast_operand : {d : ℕ} {k : TokenKind} {s : Span} {ts us : List Token} {type : TypeName} {cast : CastWord} {f : Failure} → cast_word_of k ≡ Some cast → d < 200
+    cast_operand : {d : ℕ} {k : TokenKind} {s : Span} {ts us : List Token} {type : TypeName} {cast : CastWord} {f : Failure} → cast_word_of k ≡ Some cast
+        → d < 200
         → SpellsAngled ts type us → IsLow (suc d) (type_reach type.base) → StuckBinary 10 (suc d) us f → StuckPrimary d (token k s ∷ ts) f
     cast_end : {d : ℕ} {k : TokenKind} {s o : Span} {ts us rest : List Token} {e : Expression} {type : TypeName} {cast : CastWord} → cast_word_of k ≡ Some cast
         → SpellsAngled ts type us → IsLow (suc d) (type_reach type.base) → SpellsBinary 10 us e o rest → IsLow (suc d) (expression_reach e)
         → next_is comma_or_paren rest ≡ false
         → StuckPrimary d (token k s ∷ ts) (unexpected rest)
     cast_bounds : {d : ℕ} {k : TokenKind} {s p o : Span} {ts us vs : List Token} {e : Expression} {type : TypeName} {cast : CastWord} {f : Failure}
-        → cast_word_of k ≡ Some cast → d < 200 → SpellsAngled ts type us → IsLow (suc d) (type_reach type.base) → SpellsBinary 10 us e o (token kinds.Comma p ∷ vs)
+        → cast_word_of k ≡ Some cast → d < 200 → SpellsAngled ts type us → IsLow (suc d) (type_reach type.base)
+        → SpellsBinary 10 us e o (token kinds.Comma p ∷ vs)
         → IsLow (suc d) (expression_reach e) → StuckBounds (suc d) vs f
         → StuckPrimary d (token k s ∷ ts) f
     cast_close : {d : ℕ} {k : TokenKind} {s p o w : Span} {ts us vs rest : List Token} {e : Expression} {bounds : Bounds} {type : TypeName} {cast : CastWord}
@@ -195,7 +200,8 @@ mutual
         → SpellsBinary 10 us count o (token kinds.Comma p ∷ vs) → IsLow (suc d) (expression_reach count)
         → StuckBinary 10 (suc d) vs f → StuckPrimary d (token k s ∷ ts) f
     calloc_close : {d : ℕ} {k : TokenKind} {s p o w : Span} {ts us vs rest : List Token} {size count : Expression} {type : TypeName} {calloc_word : CallocWord}
-        → calloc_word_of k ≡ Some calloc_word → SpellsAngled ts type us → IsLow (suc d) (type_reach type.base) → SpellsBinary 10 us count o (token kinds.Comma p ∷ vs)
+        → calloc_word_of k ≡ Some calloc_word → SpellsAngled ts type us → IsLow (suc d) (type_reach type.base)
+        → SpellsBinary 10 us count o (token kinds.Comma p ∷ vs)
         → IsLow (suc d) (expression_reach count)
         → SpellsBinary 10 vs size w rest → IsLow (suc d) (expression_reach size) → next_is close_paren rest ≡ false
         → StuckPrimary d (token k s ∷ ts) (unexpected rest)

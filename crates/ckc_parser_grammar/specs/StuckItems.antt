@@ -116,9 +116,11 @@ pub data StuckItem : List Token → Failure → Type 0 where
   result : {ts us tokens : List Token} {optional_mark : Option Mark} {function_kind : FunctionKind} {f : Failure} → next_is scope_word tokens ≡ false
       → SpellsKind tokens function_kind ts → SpellsOptionalMark ts optional_mark us → next_is void_word us ≡ false → StuckType 0 us f → StuckItem tokens f
   members : {x : List ℕ} {s t p : Span} {ts tokens : List Token} {tainted : Bool} {f : Failure}
-      → SpellsTainted tokens tainted (token (kinds.Keyword keywords.Struct) s ∷ token (kinds.Name x) t ∷ token kinds.OpenBrace p ∷ ts) → StuckMembers ts f → StuckItem tokens f
+      → SpellsTainted tokens tainted (token (kinds.Keyword keywords.Struct) s ∷ token (kinds.Name x) t ∷ token kinds.OpenBrace p ∷ ts) → StuckMembers ts f
+      → StuckItem tokens f
   structure_end : {x : List ℕ} {s t p : Span} {ts rest tokens : List Token} {tainted : Bool} {members : List Member}
-      → SpellsTainted tokens tainted (token (kinds.Keyword keywords.Struct) s ∷ token (kinds.Name x) t ∷ token kinds.OpenBrace p ∷ ts) → SpellsMembers ts members rest
+      → SpellsTainted tokens tainted (token (kinds.Keyword keywords.Struct) s ∷ token (kinds.Name x) t ∷ token kinds.OpenBrace p ∷ ts)
+      → SpellsMembers ts members rest
       → IsLow 0 (members_reach members) → next_is semicolon rest ≡ false → StuckItem tokens (unexpected rest)
   -- what a type begins is a function where a name and a parenthesis follow, and else a list of variables
   variables : {ts us tokens : List Token} {base : TypeTree} {tainted : Bool} {f : Failure} → SpellsTainted tokens tainted ts → is_structure ts ≡ false

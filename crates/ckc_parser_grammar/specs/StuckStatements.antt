@@ -18,7 +18,8 @@ use Rattle.ckc_tree.specs.Expressions.{Expression, Call, Bounds}
 use Rattle.ckc_tree.specs.Statements.{Declarator, Declaration, Assignment, ForInitial, Statement}
 use Rattle.ckc_tree.specs.Heights.{around, type_reach, expression_reach, optional_bounds_reach, declarator_reach, declared_reach, assignment_reach}
 use Rattle.ckc_tree.specs.Heights.{for_initial_reach, optional_expression_reach, optional_assignment_reach, statement_reach}
-use Rattle.ckc_parser_grammar.specs.Tokens.{token, from_first, mark_of, array_kind_of, number_of, constant_of, store_operator_of, step_operator_of, mark_word, next_is, open_paren}
+use Rattle.ckc_parser_grammar.specs.Tokens.{token, from_first, mark_of, array_kind_of, number_of, constant_of, store_operator_of, step_operator_of}
+use Rattle.ckc_parser_grammar.specs.Tokens.{mark_word, next_is, open_paren}
 use Rattle.ckc_parser_grammar.specs.TypeGrammar.{SpellsStars, SpellsType}
 use Rattle.ckc_parser_grammar.specs.ExpressionGrammar.{SpellsUnary, SpellsExpression}
 use Rattle.ckc_parser_grammar.specs.StatementGrammar.{SpellsOptionalBounds, SpellsOptionalArray, SpellsSigned, SpellsDeclarator, SpellsDeclaration}
@@ -176,7 +177,8 @@ pub data StuckAssignment : ℕ → List Token → Failure → Type 0 where
   operator : {d : ℕ} {o : Span} {ts rest : List Token} {target : Expression} → SpellsUnary ts target o rest → IsLow (suc d) (expression_reach target)
       → next_is assign_word rest ≡ false → StuckAssignment d ts (unexpected rest)
   value : {d : ℕ} {k : TokenKind} {s o : Span} {ts us : List Token} {target : Expression} {store_operator : StoreOperator} {f : Failure} → d < 200
-      → SpellsUnary ts target o (token k s ∷ us) → IsLow (suc d) (expression_reach target) → store_operator_of k ≡ Some store_operator → StuckExpression (suc d) us f
+      → SpellsUnary ts target o (token k s ∷ us) → IsLow (suc d) (expression_reach target) → store_operator_of k ≡ Some store_operator
+      → StuckExpression (suc d) us f
       → StuckAssignment d ts f
 
 -- the assignments of a bundle, and the brace behind them
@@ -232,7 +234,8 @@ mutual
     block : {d : ℕ} {s : Span} {ts : List Token} {f : Failure} → d < 200 → StuckStatements (suc d) ts f → StuckStatement d (token kinds.OpenBrace s ∷ ts) f
     mark : {d : ℕ} {k : TokenKind} {s : Span} {rest : List Token} {mark : Mark} → d < 200 → mark_of k ≡ Some mark → next_is open_brace rest ≡ false
         → StuckStatement d (token k s ∷ rest) (unexpected rest)
-    marked_block : {d : ℕ} {k : TokenKind} {s p : Span} {ts : List Token} {mark : Mark} {f : Failure} → d < 200 → mark_of k ≡ Some mark → StuckStatements (suc d) ts f
+    marked_block : {d : ℕ} {k : TokenKind} {s p : Span} {ts : List Token} {mark : Mark} {f : Failure} → d < 200 → mark_of k ≡ Some mark
+        → StuckStatements (suc d) ts f
         → StuckStatement d (token k s ∷ token kinds.OpenBrace p ∷ ts) f
     bundle_open : {d : ℕ} {s : Span} {rest : List Token} → d < 200 → next_is open_brace rest ≡ false
         → StuckStatement d (token (kinds.Keyword keywords.Bundled) s ∷ rest) (unexpected rest)
@@ -250,10 +253,12 @@ mutual
     named_end : {d : ℕ} {o : Span} {ts rest : List Token} {target : Expression} → next_is name_token ts ≡ true → SpellsUnary ts target o rest
         → IsLow (suc d) (expression_reach target) → next_is assign_word rest ≡ false → is_call_alone target rest ≡ false → StuckStatement d ts (unexpected rest)
     named_value : {d : ℕ} {k : TokenKind} {s o : Span} {ts us : List Token} {target : Expression} {store_operator : StoreOperator} {f : Failure} → d < 200
-        → next_is name_token ts ≡ true → SpellsUnary ts target o (token k s ∷ us) → IsLow (suc d) (expression_reach target) → store_operator_of k ≡ Some store_operator
+        → next_is name_token ts ≡ true → SpellsUnary ts target o (token k s ∷ us) → IsLow (suc d) (expression_reach target)
+        → store_operator_of k ≡ Some store_operator
         → StuckExpression (suc d) us f
         → StuckStatement d ts f
-    if_condition : {d : ℕ} {s : Span} {ts : List Token} {f : Failure} → d < 200 → StuckCondition (suc d) ts f → StuckStatement d (token (kinds.Keyword keywords.If) s ∷ ts) f
+    if_condition : {d : ℕ} {s : Span} {ts : List Token} {f : Failure} → d < 200 → StuckCondition (suc d) ts f
+        → StuckStatement d (token (kinds.Keyword keywords.If) s ∷ ts) f
     if_consequent : {d : ℕ} {s p q o : Span} {ts us : List Token} {condition : Expression} {f : Failure} → d < 200
         → SpellsExpression ts condition o (token kinds.CloseParen q ∷ us) → IsLow (suc d) (expression_reach condition) → StuckStatement (suc d) us f
         → StuckStatement d (token (kinds.Keyword keywords.If) s ∷ token kinds.OpenParen p ∷ ts) f
@@ -261,7 +266,8 @@ mutual
         → SpellsExpression ts condition o (token kinds.CloseParen q ∷ us) → IsLow (suc d) (expression_reach condition)
         → SpellsStatement us consequent (token (kinds.Keyword keywords.Else) w ∷ vs) → IsLow (suc d) (statement_reach consequent)
         → StuckStatement (suc d) vs f → StuckStatement d (token (kinds.Keyword keywords.If) s ∷ token kinds.OpenParen p ∷ ts) f
-    while_condition : {d : ℕ} {s : Span} {ts : List Token} {f : Failure} → d < 200 → StuckCondition (suc d) ts f → StuckStatement d (token (kinds.Keyword keywords.While) s ∷ ts) f
+    while_condition : {d : ℕ} {s : Span} {ts : List Token} {f : Failure} → d < 200 → StuckCondition (suc d) ts f
+        → StuckStatement d (token (kinds.Keyword keywords.While) s ∷ ts) f
     while_body : {d : ℕ} {s p q o : Span} {ts us : List Token} {condition : Expression} {f : Failure} → d < 200
         → SpellsExpression ts condition o (token kinds.CloseParen q ∷ us) → IsLow (suc d) (expression_reach condition) → StuckStatement (suc d) us f
         → StuckStatement d (token (kinds.Keyword keywords.While) s ∷ token kinds.OpenParen p ∷ ts) f
@@ -270,7 +276,8 @@ mutual
     for_initial : {d : ℕ} {s p : Span} {ts : List Token} {f : Failure} → d < 200 → StuckForInitial (suc d) ts f
         → StuckStatement d (token (kinds.Keyword keywords.For) s ∷ token kinds.OpenParen p ∷ ts) f
     for_condition : {d : ℕ} {s p : Span} {ts us : List Token} {initial : ForInitial} {f : Failure} → d < 200 → SpellsForInitial ts initial us
-        → IsLow (suc d) (for_initial_reach initial) → StuckForCondition (suc d) us f → StuckStatement d (token (kinds.Keyword keywords.For) s ∷ token kinds.OpenParen p ∷ ts) f
+        → IsLow (suc d) (for_initial_reach initial) → StuckForCondition (suc d) us f
+        → StuckStatement d (token (kinds.Keyword keywords.For) s ∷ token kinds.OpenParen p ∷ ts) f
     for_step : {d : ℕ} {s p : Span} {ts us vs : List Token} {initial : ForInitial} {optional : Option Expression} {f : Failure} → d < 200
         → SpellsForInitial ts initial us → IsLow (suc d) (for_initial_reach initial) → SpellsForCondition us optional vs
         → IsLow (suc d) (optional_expression_reach optional) → StuckForStep (suc d) vs f
@@ -280,8 +287,10 @@ mutual
         → IsLow (suc d) (optional_expression_reach optional)
         → SpellsForStep vs step ws → IsLow (suc d) (optional_assignment_reach step) → StuckStatement (suc d) ws f
         → StuckStatement d (token (kinds.Keyword keywords.For) s ∷ token kinds.OpenParen p ∷ ts) f
-    return : {d : ℕ} {s : Span} {ts : List Token} {f : Failure} → d < 200 → StuckForCondition (suc d) ts f → StuckStatement d (token (kinds.Keyword keywords.Return) s ∷ ts) f
-    break : {d : ℕ} {s : Span} {rest : List Token} → d < 200 → next_is semicolon rest ≡ false → StuckStatement d (token (kinds.Keyword keywords.Break) s ∷ rest) (unexpected rest)
+    return : {d : ℕ} {s : Span} {ts : List Token} {f : Failure} → d < 200 → StuckForCondition (suc d) ts f
+        → StuckStatement d (token (kinds.Keyword keywords.Return) s ∷ ts) f
+    break : {d : ℕ} {s : Span} {rest : List Token} → d < 200 → next_is semicolon rest ≡ false
+        → StuckStatement d (token (kinds.Keyword keywords.Break) s ∷ rest) (unexpected rest)
     continue : {d : ℕ} {s : Span} {rest : List Token} → d < 200 → next_is semicolon rest ≡ false
         → StuckStatement d (token (kinds.Keyword keywords.Continue) s ∷ rest) (unexpected rest)
 

@@ -37,10 +37,12 @@ pub data StuckType : ℕ → List Token → Failure → Type 0 where
   no_room : {d : ℕ} {ts : List Token} → StuckType d ts no_memory
   no_type : {d : ℕ} {ts : List Token} → next_is type_word ts ≡ false → StuckType d ts (unexpected ts)
   deep : {d : ℕ} {k : TokenKind} {s : Span} {rest : List Token} → type_word k ≡ true → 200 ≤ d → StuckType d (token k s ∷ rest) (too_deep s.from)
-  tag : {d : ℕ} {s : Span} {rest : List Token} → d < 200 → next_is name_token rest ≡ false → StuckType d (token (kinds.Keyword keywords.Struct) s ∷ rest) (unexpected rest)
+  tag : {d : ℕ} {s : Span} {rest : List Token} → d < 200 → next_is name_token rest ≡ false
+      → StuckType d (token (kinds.Keyword keywords.Struct) s ∷ rest) (unexpected rest)
   opens : {d : ℕ} {k : TokenKind} {s : Span} {rest : List Token} {word : PointerWord} → d < 200 → pointer_word_of k ≡ Some word → next_is less rest ≡ false
       → StuckType d (token k s ∷ rest) (unexpected rest)
-  element : {d : ℕ} {k : TokenKind} {s p : Span} {ts : List Token} {word : PointerWord} {f : Failure} → d < 200 → pointer_word_of k ≡ Some word → StuckType (suc d) ts f
+  element : {d : ℕ} {k : TokenKind} {s p : Span} {ts : List Token} {word : PointerWord} {f : Failure} → d < 200 → pointer_word_of k ≡ Some word
+      → StuckType (suc d) ts f
       → StuckType d (token k s ∷ token kinds.Less p ∷ ts) f
   close : {d n : ℕ} {k : TokenKind} {s p : Span} {ts mid rest : List Token} {element : TypeTree} {word : PointerWord} → pointer_word_of k ≡ Some word
       → SpellsType ts element mid → IsLow (suc d) (type_reach element) → SpellsStars mid n rest → next_is greater rest ≡ false

@@ -30,11 +30,14 @@ pub data BeginsType : List Token → List Token → Reach → Type 0 where
   int : {s : Span} {rest : List Token} → BeginsType (token (kinds.Keyword keywords.Int) s ∷ rest) rest (node s.from)
   char : {s : Span} {rest : List Token} → BeginsType (token (kinds.Keyword keywords.Char) s ∷ rest) rest (node s.from)
   struct_word : {s : Span} {rest : List Token} → BeginsType (token (kinds.Keyword keywords.Struct) s ∷ rest) rest (node s.from)
-  struct : {x : List ℕ} {s t : Span} {rest : List Token} → BeginsType (token (kinds.Keyword keywords.Struct) s ∷ token (kinds.Name x) t ∷ rest) rest (node s.from)
-  pointer_word : {k : TokenKind} {s : Span} {rest : List Token} {word : PointerWord} → pointer_word_of k ≡ Some word → BeginsType (token k s ∷ rest) rest (node s.from)
+  struct : {x : List ℕ} {s t : Span} {rest : List Token}
+      → BeginsType (token (kinds.Keyword keywords.Struct) s ∷ token (kinds.Name x) t ∷ rest) rest (node s.from)
+  pointer_word : {k : TokenKind} {s : Span} {rest : List Token} {word : PointerWord} → pointer_word_of k ≡ Some word
+      → BeginsType (token k s ∷ rest) rest (node s.from)
   element : {k : TokenKind} {s p : Span} {ts rest : List Token} {word : PointerWord} {r : Reach} → pointer_word_of k ≡ Some word → BeginsType ts rest r
       → BeginsType (token k s ∷ token kinds.Less p ∷ ts) rest (around s.from r)
-  stars : {k : TokenKind} {s p : Span} {ts mid rest : List Token} {element : TypeTree} {word : PointerWord} → pointer_word_of k ≡ Some word → SpellsType ts element mid
+  stars : {k : TokenKind} {s p : Span} {ts mid rest : List Token} {element : TypeTree} {word : PointerWord} → pointer_word_of k ≡ Some word
+      → SpellsType ts element mid
       → BeginsStars mid rest → BeginsType (token k s ∷ token kinds.Less p ∷ ts) rest (around s.from (type_reach element))
   pointer : {n : ℕ} {k : TokenKind} {s t p : Span} {ts mid rest : List Token} {element : TypeTree} {word : PointerWord} → pointer_word_of k ≡ Some word
       → SpellsType ts element mid → SpellsStars mid n (token kinds.Greater t ∷ rest)
