@@ -14,11 +14,13 @@ pub record IsRow {A : Type 0} (n : ℕ) (blank : A) (cells : List A) (len : ℕ)
 pub length_back : {A : Type 0} (n : ℕ) (blank : A) (cells : List A) (len : ℕ) → IsRow n blank cells len → length (take len cells) ≡ len
 length_back n blank cells len h = length-take-le len cells (omega (arith, h.fits, h.size))
 
-pub cells_back : {A : Type 0} (n : ℕ) (blank : A) (cells : List A) (len : ℕ) → IsRow n blank cells len → take len cells ++ replicate (n - length (take len cells)) blank ≡ cells
+pub cells_back : {A : Type 0} (n : ℕ) (blank : A) (cells : List A) (len : ℕ) → IsRow n blank cells len
+    → take len cells ++ replicate (n - length (take len cells)) blank ≡ cells
 cells_back n blank cells len h = rw (length_back n blank cells len h, ← h.padded) (take-append-drop len cells)
 
 -- a list put over the first of n blanks
-pub row_of : {A : Type 0} (n : ℕ) (blank : A) (items : List A) → length items ≤ n → IsRow n blank (items ++ drop (length items) (replicate n blank)) (length items)
+pub row_of : {A : Type 0} (n : ℕ) (blank : A) (items : List A) → length items ≤ n
+    → IsRow n blank (items ++ drop (length items) (replicate n blank)) (length items)
 row_of n blank items h =
     record {
       fits = h;

@@ -8,7 +8,10 @@ use Rattle.ckc_text.specs.declared.code.Code.TheVariants.{E02, E04}
 use Rattle.ckc_text.specs.Names.{is_digit, begins_with}
 use Rattle.ckc_lexer_tokens.specs.Bytes.{is_hexadecimal_digit}
 use Rattle.ckc_lexer_tokens.specs.declared.keyword.Keyword.{Keyword}
-use Rattle.ckc_lexer_tokens.specs.declared.keyword.Keyword.TheVariants.{Int, Char, Void, Struct, If, Else, While, For, Return, Break, Continue, Sizeof, Malloc, Calloc, NtCalloc, TMalloc, Ptr, ArrayPtr, NtArrayPtr, TPtr, TArrayPtr, TNtArrayPtr, Checked, NtChecked, Unchecked, Bundled, Tainted, Callback, DynamicBoundsCast, AssumeBoundsCast}
+use Rattle.ckc_lexer_tokens.specs.declared.keyword.Keyword.TheVariants.{Int, Char, Void, Struct, If, Else, While, For, Return}
+use Rattle.ckc_lexer_tokens.specs.declared.keyword.Keyword.TheVariants.{Break, Continue, Sizeof, Malloc, Calloc, NtCalloc, TMalloc, Ptr, ArrayPtr}
+use Rattle.ckc_lexer_tokens.specs.declared.keyword.Keyword.TheVariants.{NtArrayPtr, TPtr, TArrayPtr, TNtArrayPtr, Checked, NtChecked, Unchecked, Bundled, Tainted}
+use Rattle.ckc_lexer_tokens.specs.declared.keyword.Keyword.TheVariants.{Callback, DynamicBoundsCast, AssumeBoundsCast}
 use Rattle.ckc_lexer_tokens.specs.declared.token.TokenKind.TheVariants as kinds
 use Rattle.ckc_lexer_tokens.specs.declared.piece.Piece.{Piece}
 use Rattle.ckc_lexer_tokens.specs.declared.piece.Piece.TheVariants.{Lexeme, Named, Fault}

@@ -18,7 +18,8 @@ use Rattle.ckc_tree.specs.Expressions.{Expression, Expressions, Bounds, bounds}
 use Rattle.ckc_tree.specs.Statements.{Assignment, Statement, Statements, statement}
 use Rattle.ckc_printer.specs.Pieces.{Sign, One}
 use Rattle.ckc_printer.specs.TypePieces.{name_sign, type_name_pieces, angled_pieces}
-use Rattle.ckc_printer.specs.ExpressionPieces.{cast_kind, malloc_kind, calloc_kind, unary_kind, binary_sign, operand_pieces, expression_pieces, arguments_pieces, bounds_pieces}
+use Rattle.ckc_printer.specs.ExpressionPieces.{cast_kind, malloc_kind, calloc_kind, unary_kind, binary_sign}
+use Rattle.ckc_printer.specs.ExpressionPieces.{operand_pieces, expression_pieces, arguments_pieces, bounds_pieces}
 use Rattle.ckc_printer.specs.StatementPieces.{mark_pieces, optional_expression_pieces, bundled_pieces, tested_pieces, statement_pieces, statements_pieces}
 
 -- an expression and the parenthesis behind it
