@@ -171,6 +171,7 @@ impl<'a> CallWords<'a> {
     }
 
     /// The instruction that stands next, unless none does.
+    #[inline]
     pub fn op(&self) -> Option<&'a Op>
         ensures op { option_copied result ≡ slice_get self.now.fun.ops self.now.frame.next }
         ensures within { IfSome result (λ op. self.now.frame.next + 1 < 2 ^ 64) }
@@ -179,6 +180,7 @@ impl<'a> CallWords<'a> {
     }
 
     /// The topmost word, if there is one.
+    #[inline]
     pub fn word(&self) -> Option<u32>
         ensures word { result ≡ slice_get self.now.frame.stack 0 }
         ensures room { length self.now.frame.stack ≤ self.now.fun.stack }
@@ -191,6 +193,7 @@ impl<'a> CallWords<'a> {
     }
 
     /// The words of the stack, the topmost first.
+    #[inline]
     pub fn stack(&self) -> &[u32]
         ensures { result.now ≡ self.now.frame.stack }
     {
@@ -198,6 +201,7 @@ impl<'a> CallWords<'a> {
     }
 
     /// The word of a slot, if it is there.
+    #[inline]
     pub fn slot(&self, k: u32) -> Option<u32>
         ensures { result ≡ slice_get self.now.frame.slots k }
     {
@@ -206,6 +210,7 @@ impl<'a> CallWords<'a> {
     }
 
     /// Stores a word in a slot, if it is there, and tells whether it is. If not, all stays.
+    #[inline]
     pub fn set(&mut self, k: u32, word: u32) -> bool
         ensures there { result ≡ nat_lt k (length self.old.frame.slots) }
         ensures after { self.new ≡ slot_set_if result k word self.old }
@@ -219,6 +224,7 @@ impl<'a> CallWords<'a> {
     }
 
     /// Pops words, and pushes a word if there is room for it then, and tells whether there is. If not, all stays.
+    #[inline]
     pub fn push(&mut self, popped: usize, word: u32) -> bool
         requires { popped ≤ length self.old.frame.stack }
         ensures room { result ≡ nat_lt (length (drop popped self.old.frame.stack)) self.old.fun.stack }
@@ -234,6 +240,7 @@ impl<'a> CallWords<'a> {
     }
 
     /// Pops words.
+    #[inline]
     pub fn pop(&mut self, popped: usize)
         requires { popped ≤ length self.old.frame.stack }
         ensures { self.new ≡ with_stack (drop popped self.old.frame.stack) self.old }
@@ -242,6 +249,7 @@ impl<'a> CallWords<'a> {
     }
 
     /// Goes on to the next instruction.
+    #[inline]
     pub fn advance(&mut self)
         requires { self.old.frame.next + 1 < 2 ^ 64 }
         ensures { self.new ≡ at_next (self.old.frame.next + 1) self.old }
@@ -250,6 +258,7 @@ impl<'a> CallWords<'a> {
     }
 
     /// Goes on at an instruction, if it is there, and tells whether it is. If not, all stays.
+    #[inline]
     pub fn jump(&mut self, target: u32) -> bool
         ensures there { result ≡ nat_lt target (length self.old.fun.ops) }
         ensures after { self.new ≡ at_next (if result then target else self.old.frame.next) self.old }

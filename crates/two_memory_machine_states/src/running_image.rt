@@ -134,6 +134,7 @@ impl<'a> RunningImage<'a> {
     }
 
     /// What the machine waits for.
+    #[inline]
     pub fn waiting(&self) -> Waiting
         ensures { result ≡ waiting_of self.now }
     {
@@ -152,6 +153,7 @@ impl<'a> RunningImage<'a> {
     }
 
     /// Who has the turn.
+    #[inline]
     pub fn turn(&self) -> Turn
         ensures { result ≡ turn_of self.now.doing }
     {
@@ -176,6 +178,7 @@ impl<'a> RunningImage<'a> {
     }
 
     /// How many ticks were spent.
+    #[inline]
     pub fn ticks(&self) -> u32
         ensures { result ≡ self.now.ticks }
     {
@@ -183,6 +186,7 @@ impl<'a> RunningImage<'a> {
     }
 
     /// How many ticks may be spent.
+    #[inline]
     pub fn budget(&self) -> u32
         ensures { result ≡ self.now.settings.budget }
     {
@@ -190,6 +194,7 @@ impl<'a> RunningImage<'a> {
     }
 
     /// Sets how many ticks were spent.
+    #[inline]
     pub fn set_ticks(&mut self, ticks: u32)
         requires { ticks ≤ self.old.settings.budget }
         ensures { self.new ≡ record self.old { ticks = ticks } }
@@ -249,6 +254,7 @@ impl<'a> RunningImage<'a> {
     }
 
     /// The instruction that stands next, unless none does. Each loop of the image spends a tick.
+    #[inline]
     pub fn op(&self) -> Option<&'a Op>
         ensures op { option_copied result ≡ next_op_of self.now }
         ensures within { IfSome result (λ _. self.now.frame.next + 1 < 2 ^ 64) }
@@ -259,6 +265,7 @@ impl<'a> RunningImage<'a> {
     }
 
     /// What an instruction tells.
+    #[inline]
     pub fn event(&self, outcome: Outcome) -> Event
         ensures { result ≡ event_of outcome self.now.over }
     {
@@ -271,6 +278,7 @@ impl<'a> RunningImage<'a> {
 
     /// Pops a word into a slot.
     #[tactic(auto, using(std::proofs::lemmas::Bool::Decides::nat_tests))]
+    #[inline]
     pub fn set(&mut self, slot: u32) -> Outcome
         requires { IsReady self.old }
         ensures { Acts (Op.Set slot) self.old result self.new }
@@ -287,6 +295,7 @@ impl<'a> RunningImage<'a> {
     }
 
     /// Pushes the word of a slot.
+    #[inline]
     pub fn local(&mut self, slot: u32) -> Outcome
         requires { IsReady self.old }
         ensures { Acts (Op.Local slot) self.old result self.new }
@@ -296,6 +305,7 @@ impl<'a> RunningImage<'a> {
     }
 
     /// Pushes the address of a static block of trusted memory.
+    #[inline]
     pub fn block_address(&mut self, k: u32) -> Outcome
         requires { IsReady self.old }
         ensures { Acts (Op.BlockAddress k) self.old result self.new }
@@ -314,6 +324,7 @@ impl<'a> RunningImage<'a> {
     }
 
     /// Pops an address, and pushes the byte or the word there.
+    #[inline]
     pub fn load(&mut self, len: u32) -> Outcome
         requires ready { IsReady self.old }
         requires width { (len ≡ 1) ⊎ (len ≡ 4) }
@@ -332,6 +343,7 @@ impl<'a> RunningImage<'a> {
 
     /// Pops a value and an address, and stores the lowest byte or all of the value there.
     #[tactic(auto, using(std::proofs::lemmas::Bool::Decides::nat_tests))]
+    #[inline]
     pub fn store(&mut self, len: u32) -> Outcome
         requires ready { IsReady self.old }
         requires width { (len ≡ 1) ⊎ (len ≡ 4) }
@@ -352,6 +364,7 @@ impl<'a> RunningImage<'a> {
     }
 
     // Pushes what is there.
+    #[inline]
     pub(crate) fn push_some(&mut self, word: Option<u32>) -> Outcome
         requires { IsReady self.old }
         ensures { (f : FuncData) → IsIn self.old f
@@ -365,6 +378,7 @@ impl<'a> RunningImage<'a> {
 
     /// Pops words, and goes on at an instruction of the same function.
     #[tactic(auto, using(std::proofs::lemmas::Bool::Decides::nat_tests))]
+    #[inline]
     pub fn jump(&mut self, popped: usize, target: u32) -> Outcome
         requires ready { IsReady self.old }
         requires there { popped ≤ length self.old.frame.stack }
@@ -379,6 +393,7 @@ impl<'a> RunningImage<'a> {
     }
 
     /// Pops words, pushes a word if there is room for it then, and goes on to the next instruction.
+    #[inline]
     pub fn push(&mut self, popped: usize, word: u32) -> Outcome
         requires ready { IsReady self.old }
         requires there { popped ≤ length self.old.frame.stack }
@@ -393,6 +408,7 @@ impl<'a> RunningImage<'a> {
     }
 
     /// Pops words, and goes on to the next instruction.
+    #[inline]
     pub fn go_on(&mut self, popped: usize) -> Outcome
         requires ready { IsReady self.old }
         requires there { popped ≤ length self.old.frame.stack }
@@ -426,6 +442,7 @@ impl<'a> RunningImage<'a> {
     }
 
     /// The topmost word, if there is one.
+    #[inline]
     pub fn word(&self) -> Option<u32>
         ensures { result ≡ slice_get self.now.frame.stack 0 }
     {
@@ -433,6 +450,7 @@ impl<'a> RunningImage<'a> {
     }
 
     /// The two topmost words, the lower one first, if there are two.
+    #[inline]
     pub fn two_words(&self) -> Option<(u32, u32)>
         ensures { result ≡ two_topmost self.now.frame.stack }
     {
