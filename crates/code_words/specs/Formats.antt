@@ -63,7 +63,6 @@ pub record HasNames (image : Image) : Type 0 where
   pub bodies : All (λ (f : Func). IsName f.name) image.sandbox.funs
   pub imports : All (λ (i : Import). IsName i.name) image.layout.imports
 
-
 -- functions, tainted functions and callbacks are numbered from 0; the sandbox's functions have the numbers of tainted ones, in
 -- their order; frames, arguments, parameters and sizes are as they may be; between two ticks control moves forward only, or
 -- returns

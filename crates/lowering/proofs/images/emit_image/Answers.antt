@@ -14,9 +14,9 @@ invariant_of-result c =
     (record {
       format = keeps_format (core c.args.program.now) c.requires;
       names =
-        record {
-          functions = subst (All (λ (f : Func). IsName f.name)) (c.in_ok-funs.ensures.code ∙ ap (λ fs. functions_from 0 (map function fs)) c.as_slice-2.ensures.value) c.in_ok-funs.ensures.named;
-          bodies = tt;
-          imports = subst (All (λ (i : Import). IsName i.name)) (c.in_ok-imports.ensures.code ∙ ap (λ fs. imports_from 0 (map import_of fs)) c.as_slice-3.ensures.value) c.in_ok-imports.ensures.named;
-        };
+          record {
+            functions = subst (All (λ (f : Func). IsName f.name)) (c.in_ok-funs.ensures.code ∙ ap (λ fs. functions_from 0 (map function fs)) c.as_slice-2.ensures.value) c.in_ok-funs.ensures.named;
+            bodies = tt;
+            imports = subst (All (λ (i : Import). IsName i.name)) (c.in_ok-imports.ensures.code ∙ ap (λ fs. imports_from 0 (map import_of fs)) c.as_slice-3.ensures.value) c.in_ok-imports.ensures.named;
+          };
     })
