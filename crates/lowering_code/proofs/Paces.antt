@@ -36,8 +36,8 @@ calm_operator : (operator : Operator) (site : Site) → IsCalm (operator_code op
 calm_operator (operators.Arithmetic operator) site = record { no_jump = refl; no_call = refl }
 calm_operator (operators.Bitwise operator) site = record { no_jump = refl; no_call = refl }
 
--- a call leads to no other instruction of its function
-callee_no_jump : (callee : Callee) → target_of (callee_code callee) ≡ None
+-- a call leads to no other instruction of its function, and counts no elements
+callee_no_jump : (callee : Callee) → named (callee_code callee) ≡ (None, None)
 callee_no_jump (callees.Trusted function) = refl
 callee_no_jump (callees.Tainted import site) = refl
 
