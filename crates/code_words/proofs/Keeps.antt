@@ -15,8 +15,7 @@ use Rattle.act_words.specs.Touches.{Asked, Got, Ended, released, spend_tick, spe
 use Rattle.code_words.specs.declared.op.Op.{Op}
 use Rattle.code_words.specs.declared.op.Op.TheVariants as ops
 use Rattle.marshalling.specs.declared.kind.WordKind.{WordKind}
-use Rattle.code_words.specs.declared.image.Func.{Func}
-use Rattle.code_words.specs.declared.image.Import.{Import}
+use Rattle.code_words.specs.Functions.{Func, Import}
 use Rattle.code_words.specs.declared.image.Callback.{Callback}
 use Rattle.marshalling.specs.declared.signature.Param.{Param}
 use Rattle.code_words.specs.Images.{Image}

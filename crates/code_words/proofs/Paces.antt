@@ -6,7 +6,7 @@ use Rattle.std.proofs.lemmas.Bool.{and_parts}
 use Rattle.std.proofs.lemmas.Bool.Decides.{nat_tests}
 use Rattle.std.proofs.lemmas.Option.{slice_get_within}
 use Rattle.code_words.specs.declared.op.Op.{Op}
-use Rattle.code_words.specs.declared.image.Func.{Func}
+use Rattle.code_words.specs.Functions.{Func}
 use Rattle.code_words.specs.Images.{Image}
 use Rattle.code_words.specs.Paced.{is_tick, is_call, tested, target_of, follows_tick, goes_well, keeps_pace, all_keep_pace, is_paced_function, is_paced}
 use Rattle.code_words.specs.Left.{longest, rest_by, rest_in}

@@ -12,7 +12,7 @@ use Rattle.marshalling.specs.declared.kind.WordKind.{WordKind}
 use Rattle.marshalling.specs.declared.kind.WordKind.TheVariants as kinds
 use Rattle.marshalling.specs.declared.signature.Region.{Region}
 use Rattle.marshalling.specs.declared.signature.Param.{Param}
-use Rattle.code_words.specs.declared.image.Func.{Func}
+use Rattle.code_words.specs.Functions.{Func}
 use Rattle.code_words.specs.Images.{Image}
 use Rattle.code_words.specs.Runs.{Run, Unfinished, Finished, exec, started, events_of}
 use Rattle.code_words.specs.SandboxCode.{State, answered}

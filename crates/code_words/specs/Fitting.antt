@@ -4,7 +4,7 @@ use Rattle.flat_bytes.specs.Blocks.{first_offset}
 use Rattle.act_words.specs.declared.settings.Settings.{Settings}
 use Rattle.act_words.specs.Limits.{AreAllowed}
 use Rattle.code_words.specs.Runs.{counter_behind}
-use Rattle.code_words.specs.declared.image.Func.{Func}
+use Rattle.code_words.specs.Functions.{Func}
 use Rattle.code_words.specs.Images.{Image}
 
 -- no static block is empty, and they lie in a memory of a size, where the first stands at an offset

@@ -5,11 +5,10 @@ use Rattle.ckc_text.specs.Names.{IsName}
 use Rattle.marshalling.specs.Signatures.{IsSignature}
 use Rattle.code_words.specs.declared.op.Op.{Op}
 use Rattle.code_words.specs.declared.op.Op.TheVariants as ops
-use Rattle.code_words.specs.declared.image.Func.{Func}
-use Rattle.code_words.specs.declared.image.Import.{Import}
+use Rattle.code_words.specs.Functions.{Func, Import}
 use Rattle.code_words.specs.declared.image.Callback.{Callback}
 use Rattle.code_words.specs.Images.{Image}
-use Rattle.code_words.specs.Paced.{is_paced}
+use Rattle.code_words.specs.Paced.{is_paced_function, is_paced}
 
 -- ---- numbers in order
 
@@ -54,6 +53,19 @@ is_sized op = by (element_size op)
 -- elements that are counted have a size of 1 or more
 abbrev pub is_sized_function : Func → Bool
 is_sized_function f = list_all is_sized f.ops
+
+-- what holds of each function of an image, as a fact of its type: it has a name, its frame is small enough, the elements that
+-- it counts have a size, and between two ticks of its code control moves forward only, or returns
+pub record IsFunc (f : Func) : Type 0 where
+  pub named : IsName f.name
+  pub frame : HasSmallFrame f
+  pub sized : IsTrue (is_sized_function f)
+  pub paced : IsTrue (is_paced_function f)
+
+-- what holds of each tainted function: it has a name, and few arguments
+pub record IsImport (i : Import) : Type 0 where
+  pub named : IsName i.name
+  pub few_arguments : i.args ≤ 16
 
 -- ---- images
 

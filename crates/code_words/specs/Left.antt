@@ -7,7 +7,7 @@ use Rattle.act_words.specs.Acts.{Act, Go, Read, Write, Call, Return, Stop}
 use Rattle.code_words.specs.Paced.{is_tick, is_call, tested}
 use Rattle.code_words.specs.Table.{Frame, Caller, Calls, Waits, CalledBack, Control, Runs, Touches, Away, State, behind}
 use Rattle.code_words.specs.declared.op.Op.{Op}
-use Rattle.code_words.specs.declared.image.Func.{Func}
+use Rattle.code_words.specs.Functions.{Func}
 use Rattle.code_words.specs.Images.{Image}
 
 -- the number of instructions of the longest function

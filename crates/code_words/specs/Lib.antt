@@ -1,3 +1,4 @@
+pub mod Functions
 pub mod Images
 pub mod Table
 pub mod Moves

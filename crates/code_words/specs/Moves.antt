@@ -18,8 +18,7 @@ use Rattle.code_words.specs.Table.{State, Step, Goes, Over, depth, wild, asked, 
 use Rattle.marshalling.specs.declared.signature.Param.{Param}
 use Rattle.marshalling.specs.declared.kind.WordKind.{WordKind}
 use Rattle.marshalling.specs.declared.kind.WordKind.TheVariants as kinds
-use Rattle.code_words.specs.declared.image.Func.{Func}
-use Rattle.code_words.specs.declared.image.Import.{Import}
+use Rattle.code_words.specs.Functions.{Func, Import}
 use Rattle.code_words.specs.declared.image.Callback.{Callback}
 use Rattle.code_words.specs.Images.{Image}
 

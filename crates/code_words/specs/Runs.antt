@@ -8,7 +8,7 @@ use Rattle.flat_bytes.specs.Blocks.{first_offset, rounded_up, grown, blocks_of}
 use Rattle.act_words.specs.World.{Event, new_world}
 use Rattle.code_words.specs.Table.{Frame, Runs, State, Step, Goes, Over, frame_for}
 use Rattle.code_words.specs.Moves.{move}
-use Rattle.code_words.specs.declared.image.Func.{Func}
+use Rattle.code_words.specs.Functions.{Func}
 use Rattle.code_words.specs.Images.{Image}
 
 -- ---- static blocks

@@ -26,8 +26,7 @@ use Rattle.code_words.specs.declared.op.Op.{Op}
 use Rattle.code_words.specs.declared.op.Op.TheVariants as ops
 use Rattle.marshalling.specs.declared.kind.WordKind.{WordKind}
 use Rattle.marshalling.specs.declared.kind.WordKind.TheVariants as kinds
-use Rattle.code_words.specs.declared.image.Func.{Func}
-use Rattle.code_words.specs.declared.image.Import.{Import}
+use Rattle.code_words.specs.Functions.{Func, Import}
 use Rattle.code_words.specs.declared.image.Callback.{Callback}
 use Rattle.code_words.specs.Images.{Image}
 

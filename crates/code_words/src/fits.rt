@@ -32,7 +32,7 @@ impl Image {
             return false;
         };
         match self.trusted.funs.as_slice().get(number as usize) {
-            Some(f) => f.args == 0,
+            Some(f) => f.args() == 0,
             None => false,
         }
     }

@@ -1,7 +1,8 @@
 // What a compiled program consists of.
 
-ghost use Rattle.std.specs.Prelude.{◌≡◌};
-ghost use Rattle.code_words.specs.Formats.{KeepsFormat, HasNames};
+ghost use Rattle.std.specs.Prelude.{◌≡◌, ◌≤◌};
+ghost use Rattle.ckc_text.specs.Names.{IsName};
+ghost use Rattle.code_words.specs.Formats.{HasSmallFrame, IsFunc, KeepsFormat, HasNames};
 
 use crate::op::Op;
 use ckc_text::listed::Listed;
@@ -19,16 +20,116 @@ pub type Blocks = Listed<Listed<u8>>;
 /// Functions, in order of number.
 pub type Funs = Listed<Func>;
 
-/// A function: its number and name, the number of its arguments, the words of its frame, and what it returns.
+/// A function: its number and name, the number of its arguments, the words of its frame, what it returns, and its
+/// instructions. Each has a small frame with a slot for each argument, the elements that it counts have a size, and between two
+/// ticks of its code control moves forward only, or returns.
 #[derive(Drop)]
 pub struct Func {
-    pub number: u32,
-    pub name: Name,
-    pub args: u32,
-    pub slots: u32,
-    pub stack: u32,
-    pub result: WordKind,
-    pub ops: Ops,
+    number: u32,
+    name: Name,
+    args: u32,
+    slots: u32,
+    stack: u32,
+    result: WordKind,
+    ops: Ops,
+}
+
+impl Model for Func {
+    ghost use Rattle.code_words.specs.Functions.{Func};
+
+    ghost Value = { Func };
+
+    ghost use Rattle.code_words.specs.Formats.{IsFunc};
+    ghost use Rattle.code_words.specs.Parts.{func};
+
+    ghost view = { func };
+
+    ghost invariant = { λ f. IsFunc (func f) };
+}
+
+impl Func {
+    /// The function of these parts.
+    pub fn new(
+        number: u32,
+        name: Name,
+        args: u32,
+        slots: u32,
+        stack: u32,
+        returned: WordKind,
+        ops: Ops,
+    ) -> Func
+        requires { IsFunc (record { number = number; name = name; args = args; slots = slots; stack = stack; result = returned; ops = ops }) }
+        ensures { result ≡ record { number = number; name = name; args = args; slots = slots; stack = stack; result = returned; ops = ops } }
+    {
+        Func {
+            number,
+            name,
+            args,
+            slots,
+            stack,
+            result: returned,
+            ops,
+        }
+    }
+
+    /// The number of the function.
+    pub fn number(&self) -> u32
+        ensures { result ≡ self.now.number }
+    {
+        self.number
+    }
+
+    /// The name of the function.
+    pub fn name(&self) -> &Name
+        ensures name { result.now ≡ self.now.name }
+        ensures word { IsName self.now.name }
+    {
+        &self.name
+    }
+
+    /// The number of its arguments.
+    #[inline]
+    pub fn args(&self) -> u32
+        ensures args { result ≡ self.now.args }
+        ensures frame { HasSmallFrame self.now }
+    {
+        self.args
+    }
+
+    /// The words of its frame that are slots.
+    #[inline]
+    pub fn slots(&self) -> u32
+        ensures slots { result ≡ self.now.slots }
+        ensures frame { HasSmallFrame self.now }
+    {
+        self.slots
+    }
+
+    /// The words of its frame that its stack has room for.
+    #[inline]
+    pub fn stack(&self) -> u32
+        ensures stack { result ≡ self.now.stack }
+        ensures frame { HasSmallFrame self.now }
+    {
+        self.stack
+    }
+
+    /// What it returns.
+    #[inline]
+    pub fn result(&self) -> WordKind
+        ensures { result ≡ self.now.result }
+    {
+        self.result
+    }
+
+    /// Its instructions.
+    #[inline]
+    pub fn ops(&self) -> &[Op]
+        ensures ops { result.now ≡ self.now.ops }
+        ensures function { IsFunc self.now }
+    {
+        self.ops.as_slice()
+    }
 }
 
 /// The static blocks and the functions of one side.
@@ -41,13 +142,74 @@ pub struct SideCode {
 /// Tainted functions, in order of number.
 pub type Imports = Listed<Import>;
 
-/// A tainted function: its number and name, the number of its arguments, and what it returns.
+/// A tainted function: its number and name, the number of its arguments, which is 16 at most, and what it returns.
 #[derive(Drop)]
 pub struct Import {
-    pub number: u32,
-    pub name: Name,
-    pub args: u32,
-    pub result: WordKind,
+    number: u32,
+    name: Name,
+    args: u32,
+    result: WordKind,
+}
+
+impl Model for Import {
+    ghost use Rattle.code_words.specs.Functions.{Import};
+
+    ghost Value = { Import };
+
+    ghost use Rattle.code_words.specs.Formats.{IsImport};
+    ghost use Rattle.code_words.specs.Parts.{import};
+
+    ghost view = { import };
+
+    ghost invariant = { λ i. IsImport (import i) };
+}
+
+impl Import {
+    /// The tainted function of these parts.
+    pub fn new(number: u32, name: Name, args: u32, returned: WordKind) -> Import
+        requires named { IsName name }
+        requires few { args ≤ 16 }
+        ensures { result ≡ record { number = number; name = name; args = args; result = returned } }
+    {
+        Import {
+            number,
+            name,
+            args,
+            result: returned,
+        }
+    }
+
+    /// The number of the tainted function.
+    pub fn number(&self) -> u32
+        ensures { result ≡ self.now.number }
+    {
+        self.number
+    }
+
+    /// The name of the tainted function.
+    pub fn name(&self) -> &Name
+        ensures name { result.now ≡ self.now.name }
+        ensures word { IsName self.now.name }
+    {
+        &self.name
+    }
+
+    /// The number of its arguments.
+    #[inline]
+    pub fn args(&self) -> u32
+        ensures args { result ≡ self.now.args }
+        ensures few { self.now.args ≤ 16 }
+    {
+        self.args
+    }
+
+    /// What it returns.
+    #[inline]
+    pub fn result(&self) -> WordKind
+        ensures { result ≡ self.now.result }
+    {
+        self.result
+    }
 }
 
 /// Callbacks, in order of number.

@@ -2,9 +2,7 @@
 
 ghost use Rattle.std.specs.Prelude.{◌≡◌, ◌≤◌, ◌++◌, length, map, option_map, IfOk, OnOk, All};
 ghost use Rattle.pointer_modes.specs.Types.{ctype as type_of};
-ghost use Rattle.ckc_text.specs.Names.{IsName};
-ghost use Rattle.code_words.specs.declared.image.Func.{Func as FuncData};
-ghost use Rattle.code_words.specs.declared.image.Import.{Import as ImportData};
+ghost use Rattle.code_words.specs.Formats.{IsFunc, IsImport};
 ghost use Rattle.ckc_core.specs.Core.{core, function, import_of, object};
 ghost use Rattle.lowering_code.specs.Code as code;
 ghost use Rattle.lowering_code.specs.Images.{object_bytes, function_code, functions_from, import_code, imports_from, image_of};
@@ -105,19 +103,14 @@ fn function_ops(alloc: Global, f: &Function) -> Result<Ops, NoMemory>
 fn emit_function(alloc: Global, number: u32, f: &Function) -> Result<Func, NoMemory>
     requires { IsFunction (function f.now) }
     ensures code { IfOk result (λ func. func ≡ function_code number (function f.now)) }
-    ensures named { IfOk result (λ func. IsName func.name) }
+    ensures function { IfOk result IsFunc }
 {
     let name = f.name.copy(alloc)?;
     let ops = function_ops(alloc, f)?;
-    Ok(Func {
-        number,
-        name,
-        args: f.parameters,
-        slots: f.locals.len() as u32 + 1,
-        stack: statements_stack(f.body.as_slice()).max(1),
-        result: result_kind(&f.result),
-        ops,
-    })
+    let slots = f.locals.len() as u32 + 1;
+    let stack = statements_stack(f.body.as_slice()).max(1);
+    let returned = result_kind(&f.result);
+    Ok(Func::new(number, name, f.parameters, slots, stack, returned, ops))
 }
 
 // The functions, which are numbered from 0.
@@ -125,7 +118,7 @@ fn emit_functions(alloc: Global, functions: &[Function]) -> Result<Funs, NoMemor
     requires small { All IsFunction (map function functions.now) }
     requires few { length functions.now ≤ 4096 }
     ensures code { IfOk result (λ funs. funs ≡ functions_from 0 (map function functions.now)) }
-    ensures named { IfOk result (λ funs. All (λ (f : FuncData). IsName f.name) funs) }
+    ensures functions { IfOk result (All IsFunc) }
 {
     let mut funs = Vec::new(alloc);
     for (index, f) in functions.iter().enumerate() {
@@ -136,22 +129,21 @@ fn emit_functions(alloc: Global, functions: &[Function]) -> Result<Funs, NoMemor
 
 // A tainted function with its number.
 fn tainted_import(alloc: Global, number: u32, f: &program::Import) -> Result<Import, NoMemory>
+    requires { f.now.parameters ≤ 16 }
     ensures code { IfOk result (λ import. import ≡ import_code number (import_of f.now)) }
-    ensures named { IfOk result (λ import. IsName import.name) }
+    ensures tainted { IfOk result IsImport }
 {
-    Ok(Import {
-        number,
-        name: f.name.copy(alloc)?,
-        args: f.parameters,
-        result: result_kind(&f.result),
-    })
+    let name = f.name.copy(alloc)?;
+    let returned = result_kind(&f.result);
+    Ok(Import::new(number, name, f.parameters, returned))
 }
 
 // The tainted functions, which are numbered from 0.
 fn tainted_imports(alloc: Global, functions: &[program::Import]) -> Result<Imports, NoMemory>
-    requires { length functions.now ≤ 4096 }
+    requires small { All (λ i. i.parameters ≤ 16) (map import_of functions.now) }
+    requires few { length functions.now ≤ 4096 }
     ensures code { IfOk result (λ imports. imports ≡ imports_from 0 (map import_of functions.now)) }
-    ensures named { IfOk result (λ imports. All (λ (i : ImportData). IsName i.name) imports) }
+    ensures tainted { IfOk result (All IsImport) }
 {
     let mut imports = Vec::new(alloc);
     for (index, f) in functions.iter().enumerate() {

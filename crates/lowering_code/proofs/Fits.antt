@@ -6,20 +6,21 @@ use Rattle.std.proofs.lemmas.List.Elements.{recursion_from_All, All-from_recursi
 use Rattle.act_words.specs.declared.settings.Settings.{Settings}
 use Rattle.act_words.specs.Limits.{AreAllowed}
 use Rattle.flat_bytes.specs.Blocks.{first_offset, grown}
+use Rattle.ckc_text.specs.Names.{IsName}
 use Rattle.ckc_core.specs.Core.{Core, Initial, Function, Import}
 use Rattle.ckc_core.specs.States.{object_block}
 use Rattle.code_words.specs.Runs.{counter_behind}
 use Rattle.code_words.specs.Fitting.{Fits}
-use Rattle.code_words.specs.Formats.{HasSmallFrame, Follow, KeepsFormat}
-use Rattle.code_words.specs.declared.image.Func.{Func}
-use Rattle.code_words.specs.declared.image.Import as code
+use Rattle.code_words.specs.Formats.{HasSmallFrame, IsFunc, Follow, KeepsFormat}
+use Rattle.code_words.specs.Functions.{Func}
+use Rattle.code_words.specs.Functions as code
 use Rattle.lowering_code.specs.Images.{object_bytes, function_code, functions_from, imports_from, image_of}
 use Rattle.lowering_code.specs.Correct.{counted_from, IsFunction, IsLowerable, IsCell, KeepsMeaning}
 use Rattle.lowering_code.proofs.Shapes.{strides}
 use Rattle.lowering_code.proofs.Executions.{IsObject, size_of, strides_of, row_sum}
 use Rattle.lowering_code.proofs.Steps.{function_there}
 use Rattle.lowering_code.proofs.Programs.{keeps_meaning}
-use Rattle.lowering_code.proofs.Paces.{paced_functions, sized_functions}
+use Rattle.lowering_code.proofs.Paces.{function_paced, function_sized, paced_functions, sized_functions}
 
 -- the bytes of a variable are those of its cells
 object_size : (cells : List Initial) → IsObject cells → length (object_bytes cells) ≡ sum (strides (object_block cells))
@@ -35,10 +36,16 @@ counted offset (cells ∷ objects) all =
     let size = object_size cells all.0 ∙ ap sum (strides_of cells) in
     ap (λ n. counter_behind (grown offset n) (map object_bytes objects)) size ∙ counted (grown offset (sum (map (λ (i : Initial). i.stride) cells))) objects all.1
 
+frame : (number : ℕ) (f : Function) → IsFunction f → HasSmallFrame (function_code number f)
+frame number f is = record { words = is.frame; arguments = is.parameters; held = omega (arith, is.held) }
+
+-- the code of a function keeps what each function of an image does
+pub is_func : (number : ℕ) (f : Function) → IsName f.name → IsFunction f → IsFunc (function_code number f)
+is_func number f named is = record { named = named; frame = frame number f is; sized = rw (function_sized f) refl; paced = rw (function_paced f) refl }
+
 frames : (number : ℕ) (functions : List Function) → AllByRecursion IsFunction functions → AllByRecursion HasSmallFrame (functions_from number functions)
 frames number [] all = tt
-frames number (f ∷ functions) all =
-    (record { words = all.0.frame; arguments = all.0.parameters; held = omega (arith, all.0.held) }, frames (suc number) functions all.1)
+frames number (f ∷ functions) all = (frame number f all.0, frames (suc number) functions all.1)
 
 imported : (number : ℕ) (imports : List Import) → AllByRecursion (λ (i : Import). i.parameters ≤ 16) imports → AllByRecursion (λ (i : code.Import). i.args ≤ 16) (imports_from number imports)
 imported number [] all = tt

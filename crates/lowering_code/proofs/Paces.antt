@@ -36,8 +36,8 @@ calm_operator : (operator : Operator) (site : Site) → IsCalm (operator_code op
 calm_operator (operators.Arithmetic operator) site = record { no_jump = refl; no_call = refl }
 calm_operator (operators.Bitwise operator) site = record { no_jump = refl; no_call = refl }
 
--- a call leads to no other instruction of its function
-callee_no_jump : (callee : Callee) → target_of (callee_code callee) ≡ None
+-- a call leads to no other instruction of its function, and counts no elements
+callee_no_jump : (callee : Callee) → named (callee_code callee) ≡ (None, None)
 callee_no_jump (callees.Trusted function) = refl
 callee_no_jump (callees.Tainted import site) = refl
 
@@ -503,10 +503,16 @@ function_keeps f =
     (paced_statements all p 0 f.body (has_front all 0 body last has) (target_same all n (0 + n) (sym zero) free) (subst (LeadOn all p) (sym zero) leads))
     (paced_ending all (0 + n) f.result)
 
+pub function_paced : (f : core.Function) → all_keep_pace (function_ops f) 0 (function_ops f) ≡ true
+function_paced f = keep_pace (function_ops f) 0 (function_ops f) (function_keeps f)
+
+pub function_sized : (f : core.Function) → list_all is_sized (function_ops f) ≡ true
+function_sized f = are_sized (function_ops f) 0 (function_ops f) (function_keeps f)
+
 pub paced_functions : (number : ℕ) (functions : List core.Function) → list_all is_paced_function (functions_from number functions) ≡ true
 paced_functions number [] = refl
-paced_functions number (f ∷ functions) = rw (keep_pace (function_ops f) 0 (function_ops f) (function_keeps f)) (paced_functions (suc number) functions)
+paced_functions number (f ∷ functions) = rw (function_paced f) (paced_functions (suc number) functions)
 
 pub sized_functions : (number : ℕ) (functions : List core.Function) → list_all is_sized_function (functions_from number functions) ≡ true
 sized_functions number [] = refl
-sized_functions number (f ∷ functions) = rw (are_sized (function_ops f) 0 (function_ops f) (function_keeps f)) (sized_functions (suc number) functions)
+sized_functions number (f ∷ functions) = rw (function_sized f) (sized_functions (suc number) functions)

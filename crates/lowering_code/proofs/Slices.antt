@@ -6,8 +6,7 @@ use Rattle.std.proofs.lemmas.List.Elements.{recursion_from_All}
 use Rattle.std.proofs.Math.Seq.{drop-cons}
 use Rattle.ckc_core.specs.declared.program.Expr.{Expr}
 use Rattle.ckc_core.specs.declared.program.Stmt.{Stmt}
-use Rattle.ckc_core.specs.declared.program as code
-use Rattle.ckc_core.specs.Core.{Function, function, More, Then, expression, arguments_of, statement, statements_of}
+use Rattle.ckc_core.specs.Core.{More, Then, expression, arguments_of, statement, statements_of}
 
 -- an argument, and those behind it
 pub arguments_drop : (args : List Expr) (i : ℕ) (x : Expr) → i < length args → x ≡ get_or args i x → arguments_of (drop i args) ≡ More (expression x) (arguments_of (drop (i + 1) args))
@@ -21,11 +20,11 @@ statements_drop stmts i x low is =
     let next : suc i ≡ i + 1 = omega arith in
     ap statements_of (drop-cons stmts i x low ∙ ap (λ y. y ∷ drop (suc i) stmts) (sym is) ∙ ap (λ j. x ∷ drop j stmts) next)
 
--- what is so of each function is so of one
-pub function_at : (P : Function → Type 0) (functions : List code.Function.Function) (i : ℕ) (x : code.Function.Function) → i < length functions → x ≡ get_or functions i x → All P (map function functions) → P (function x)
-function_at P functions i x low is all = at functions i low is (recursion_from_All P (map function functions) all)
+-- what is so of what each element stands for is so of one
+pub meant_at : {A B : Type 0} (meant : A → B) (P : B → Type 0) (xs : List A) (i : ℕ) (x : A) → i < length xs → x ≡ get_or xs i x → All P (map meant xs) → P (meant x)
+meant_at {A} meant P xs i x low is all = at xs i low is (recursion_from_All P (map meant xs) all)
   where
-    at : (functions : List code.Function.Function) (i : ℕ) → i < length functions → x ≡ get_or functions i x → AllByRecursion P (map function functions) → P (function x)
+    at : (xs : List A) (i : ℕ) → i < length xs → x ≡ get_or xs i x → AllByRecursion P (map meant xs) → P (meant x)
     at [] i low is each = absurd (omega arith)
-    at (f ∷ functions) zero low is each = subst (λ y. P (function y)) (sym is) each.0
-    at (f ∷ functions) (suc i) low is each = at functions i (omega arith) is each.1
+    at (y ∷ ys) zero low is each = subst (λ z. P (meant z)) (sym is) each.0
+    at (y ∷ ys) (suc i) low is each = at ys i (omega arith) is each.1

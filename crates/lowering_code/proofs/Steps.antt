@@ -18,7 +18,7 @@ use Rattle.code_words.specs.Table.{Frame, Caller, Runs, State, Goes, Over, act, 
 use Rattle.code_words.specs.Moves.{move}
 use Rattle.code_words.specs.Runs.{Finished, exec, go_on}
 use Rattle.code_words.specs.declared.op.Op.{Op}
-use Rattle.code_words.specs.declared.image.Func.{Func}
+use Rattle.code_words.specs.Functions.{Func}
 use Rattle.lowering_code.specs.Images.{function_code, functions_from}
 use Rattle.lowering_code.specs.Correct.{SameEnd}
 use Rattle.lowering_code.proofs.Worlds.{KeptWorld}

@@ -4,8 +4,7 @@ use Rattle.std.specs.Int.{to_le_bytes, w8, w32}
 use Rattle.act_words.specs.Numbers.{word}
 use Rattle.ckc_core.specs.Core as core
 use Rattle.ckc_core.specs.Meaning.{is_char}
-use Rattle.code_words.specs.declared.image.Func.{Func}
-use Rattle.code_words.specs.declared.image.Import.{Import}
+use Rattle.code_words.specs.Functions.{Func, Import}
 use Rattle.code_words.specs.declared.image.Image.{Image}
 use Rattle.lowering_code.specs.Code.{function_ops, result_kind}
 use Rattle.ckc_core.specs.Stacks.{body_stack}

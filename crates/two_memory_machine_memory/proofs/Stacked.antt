@@ -4,7 +4,7 @@ use Rattle.std.specs.Prelude.{slice_get, slice_set}
 use Rattle.std.proofs.lemmas.List.{take-set-le, take-take}
 use Rattle.std.proofs.lemmas.Option.{get_or_from_slice_get, slice_get_within}
 use Rattle.std.proofs.Math.Nat.{mul-le-mul_left}
-use Rattle.code_words.specs.declared.image.Func.{Func}
+use Rattle.code_words.specs.Functions.{Func}
 use Rattle.two_memory_machine_memory.specs.declared.calls.Row.{Row}
 use Rattle.two_memory_machine_memory.specs.declared.calls.Link.{Link}
 use Rattle.two_memory_machine_memory.specs.declared.calls.CallWords.TheInside.{Inside}

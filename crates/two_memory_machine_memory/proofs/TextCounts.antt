@@ -6,7 +6,7 @@ use Rattle.std.proofs.lemmas.Option.{slice_get_past, slice_get_within, slice_get
 use Rattle.ckc_text.specs.declared.code.Code.TheVariants.{S1}
 use Rattle.act_words.specs.declared.ending.Ending.TheVariants.{Stop}
 use Rattle.trusted_memory.specs.Memories.{Memory, byte_of}
-use Rattle.code_words.specs.declared.image.Func.{Func}
+use Rattle.code_words.specs.Functions.{Func}
 use Rattle.code_words.specs.Table.{Frame, State, Over, wild, push, byte_at, count_from}
 use Rattle.two_memory_machine_memory.specs.Texts.{with_ticks}
 

@@ -1,7 +1,7 @@
 -- The fields of the open calls: what callers see of them, and what is always true of them.
 use Rattle.std.specs.Prelude.{◌≡◌, ℕ, zero, suc, ◌+◌, ◌*◌, ◌^◌, ◌<◌, ◌≤◌, List, [], ◌∷◌, All, length, take, drop, Option, Some, None, slice_get}
 use Rattle.code_words.specs.Table.{Frame}
-use Rattle.code_words.specs.declared.image.Func.{Func}
+use Rattle.code_words.specs.Functions.{Func}
 use Rattle.two_memory_machine_memory.specs.declared.calls.Extent.{Extent}
 use Rattle.two_memory_machine_memory.specs.declared.calls.Row.{Row}
 use Rattle.two_memory_machine_memory.specs.declared.calls.CallWords.TheInside.{Inside}

@@ -1,7 +1,7 @@
 -- The open calls of the trusted side, as the rest of the machine sees them.
 use Rattle.std.specs.Prelude.{ℕ, Bool, true, false, List, [], ◌∷◌, Option, Some, None, slice_get, slice_set, ◌≡◌}
 use Rattle.code_words.specs.Table.{Frame, Caller, Calls, Waits, CalledBack, frame_for}
-use Rattle.code_words.specs.declared.image.Func.{Func}
+use Rattle.code_words.specs.Functions.{Func}
 use Rattle.two_memory_machine_memory.specs.declared.calls.Link.{Link}
 use Rattle.two_memory_machine_memory.specs.declared.calls.Link.TheVariants.{Called, CallsBack}
 

@@ -3,7 +3,7 @@ use Rattle.std.specs.Prelude.{◌≡◌, ℕ, ◌+◌, List, length, None}
 use Rattle.ckc_text.specs.declared.code.Code.TheVariants.{S1}
 use Rattle.trusted_memory.specs.Memories.{Memory}
 use Rattle.act_words.specs.declared.ending.Ending.TheVariants.{Stop}
-use Rattle.code_words.specs.declared.image.Func.{Func}
+use Rattle.code_words.specs.Functions.{Func}
 use Rattle.code_words.specs.Table.{Frame, State, Step, Over, wild, push, count_from}
 use Rattle.two_memory_machine_memory.specs.declared.texts.TextEnd.{TextEnd}
 use Rattle.two_memory_machine_memory.specs.declared.texts.TextEnd.TheVariants as ends

@@ -2,8 +2,7 @@
 
 ghost use Rattle.std.specs.Prelude.{◌≡◌, ◌+◌, ◌-◌, ◌^◌, ◌<◌, ◌≤◌, ◌++◌, ◌∷◌, List, length, take, drop, replicate, nat_lt, if◌then◌else◌, IfOk, IfSome, Some, [], slice_get, slice_set, All};
 ghost use Rattle.std.specs.Option.{option_copied};
-ghost use Rattle.code_words.specs.Formats.{HasSmallFrame};
-ghost use Rattle.code_words.specs.declared.image.Func.{Func as FuncData};
+ghost use Rattle.code_words.specs.Functions.{Func as FuncData};
 ghost use Rattle.two_memory_machine_memory.specs.CallInsides.{window};
 ghost use Rattle.two_memory_machine_memory.specs.CallStacks.{Behind, CallStack, framed, with_stack, pushed_if, slot_set_if, at_next, link_of, entered, IsFirstCall};
 
@@ -78,14 +77,13 @@ impl<'a> Model for CallWords<'a> {
 impl<'a> CallWords<'a> {
     /// The call of a function of a side, which takes no argument. It takes the memory of 1,000 frames.
     pub fn start(alloc: Global, funs: &'a [Func], function: u32) -> Result<CallWords<'a>, NoMemory>
-        requires there { function < length funs.now }
-        requires frames { All HasSmallFrame funs.now }
+        requires { function < length funs.now }
         ensures { IfOk result (λ c. IsFirstCall funs.now function c) }
     {
         let stride = widest(funs) as usize;
         let fun = &funs[function as usize];
-        let room = fun.slots as usize;
-        let end = room + fun.stack as usize;
+        let room = fun.slots() as usize;
+        let end = room + fun.stack() as usize;
         let extent = Extent {
             base: 0,
             room,
@@ -129,8 +127,8 @@ impl<'a> CallWords<'a> {
     {
         let fun = &self.funs[function as usize];
         let base = self.extent.end;
-        let room = base + fun.slots as usize;
-        let end = room + fun.stack as usize;
+        let room = base + fun.slots() as usize;
+        let end = room + fun.stack() as usize;
         self.rows[self.count] = Row {
             link,
             function: self.function,
@@ -176,7 +174,7 @@ impl<'a> CallWords<'a> {
         ensures op { option_copied result ≡ slice_get self.now.fun.ops self.now.frame.next }
         ensures within { IfSome result (λ op. self.now.frame.next + 1 < 2 ^ 64) }
     {
-        self.fun.ops.as_slice().get(self.next)
+        self.fun.ops().get(self.next)
     }
 
     /// The topmost word, if there is one.
@@ -264,7 +262,7 @@ impl<'a> CallWords<'a> {
         ensures after { self.new ≡ at_next (if result then target else self.old.frame.next) self.old }
     {
         let target = target as usize;
-        let there = target < self.fun.ops.as_slice().len();
+        let there = target < self.fun.ops().len();
         if there {
             self.next = target;
         }
@@ -274,13 +272,12 @@ impl<'a> CallWords<'a> {
 
 /// The most words of a frame.
 fn widest(funs: &[Func]) -> u32
-    requires { All HasSmallFrame funs.now }
     ensures each { All (λ f. f.slots + f.stack ≤ result) funs.now }
     ensures few { result ≤ 4096 }
 {
     let mut most = 0;
     for fun in funs {
-        let words = fun.slots + fun.stack;
+        let words = fun.slots() + fun.stack();
         if most < words {
             most = words;
         }

@@ -1,8 +1,7 @@
-use Rattle.std.proofs.Common.{map, tt, ap, subst, ◌∙◌}
+use Rattle.std.proofs.Common.{map, ap, subst, ◌∙◌}
+use Rattle.std.proofs.lemmas.List.Elements.{All-nil}
 use Rattle.std.specs.Prelude.{All}
-use Rattle.ckc_text.specs.Names.{IsName}
-use Rattle.code_words.specs.declared.image.Func.{Func}
-use Rattle.code_words.specs.declared.image.Import.{Import}
+use Rattle.code_words.specs.Formats.{IsFunc, IsImport}
 use Rattle.ckc_core.specs.Core.{core, function, import_of}
 use Rattle.lowering_code.specs.Images.{functions_from, imports_from}
 use Rattle.lowering_code.proofs.Fits.{keeps_format}
@@ -10,13 +9,12 @@ use Rattle.lowering.proofs.images.emit_image.Goals as goal
 
 pub invariant_of-result : goal.invariant_of-result
 invariant_of-result c =
+    let funs : All IsFunc (functions_from 0 (map function c.args.program.now.functions.items)) =
+    subst (All IsFunc) (c.in_ok-funs.ensures.code ∙ ap (λ fs. functions_from 0 (map function fs)) c.as_slice-2.ensures.value) c.in_ok-funs.ensures.functions in
+    let imports : All IsImport (imports_from 0 (map import_of c.args.program.now.imports.items)) =
+    subst (All IsImport) (c.in_ok-imports.ensures.code ∙ ap (λ fs. imports_from 0 (map import_of fs)) c.as_slice-3.ensures.value) c.in_ok-imports.ensures.tainted in
     rw (c.in_ok-blocks.ensures, c.as_slice.ensures.value, c.in_ok-funs.ensures.code, c.as_slice-2.ensures.value, c.in_ok-imports.ensures.code, c.as_slice-3.ensures.value, c.from_vec.ensures, c.new.ensures.items, c.from_vec-2.ensures, c.new-2.ensures.items, c.from_vec-3.ensures, c.new-3.ensures.items)
     (record {
       format = keeps_format (core c.args.program.now) c.requires;
-      names =
-          record {
-            functions = subst (All (λ (f : Func). IsName f.name)) (c.in_ok-funs.ensures.code ∙ ap (λ fs. functions_from 0 (map function fs)) c.as_slice-2.ensures.value) c.in_ok-funs.ensures.named;
-            bodies = tt;
-            imports = subst (All (λ (i : Import). IsName i.name)) (c.in_ok-imports.ensures.code ∙ ap (λ fs. imports_from 0 (map import_of fs)) c.as_slice-3.ensures.value) c.in_ok-imports.ensures.named;
-          };
+      names = record { functions = λ k d low. (funs k d low).named; bodies = All-nil _; imports = λ k d low. (imports k d low).named };
     })

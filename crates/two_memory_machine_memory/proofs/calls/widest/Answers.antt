@@ -8,8 +8,6 @@ loop-fun-preserved c =
     let funs = c.args.funs.now in
     let i = c.loop-fun.fun-index in
     let f = c.fun-item.result in
-    let frame = c.requires i f c.loop-fun-test.true in
-    let words : f.slots + f.stack ≤ 4096 = rw (← c.fun-item.is) at frame.words in
     let most = c.if-most-words.most in
     let less : (c.loop-fun.most ≤ most) × (f.slots + f.stack ≤ most) × (most ≤ 4096) =
     elim c.if-most-words.branch [

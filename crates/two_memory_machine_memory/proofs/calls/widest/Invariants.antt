@@ -1,5 +1,5 @@
 use Rattle.std.proofs.Common.{ℕ, ◌+◌, ◌<◌, ◌≤◌, get_or}
-use Rattle.code_words.specs.declared.image.Func.{Func}
+use Rattle.code_words.specs.Functions.{Func}
 use Rattle.two_memory_machine_memory.proofs.calls.widest.Given as goal
 
 -- no frame so far has more words

@@ -1,5 +1,5 @@
 use Rattle.std.proofs.Common.{◌≡◌, ◌+◌, ◌-◌, ◌≤◌, List, ℕ, length}
-use Rattle.code_words.specs.declared.image.Func.{Func}
+use Rattle.code_words.specs.Functions.{Func}
 use Rattle.code_words.specs.Table.{Frame, State, count_from}
 use Rattle.two_memory_machine_memory.specs.Texts.{with_ticks}
 use Rattle.two_memory_machine_memory.proofs.texts.walk_text.Given as goal

@@ -25,7 +25,8 @@ invariant_of-self c =
     let few : length (call_stack i).behind < 999 = rw (← c.self.view_is) at c.requires.few in
     let row = row_of i c.args.link in
     let len : length c.fill_slots.new.words ≡ length i.words.items = c.fill_slots.ensures.len ∙ ap length c.as_mut_slice.ensures.value in
-    record {
+    rw (c.slots.ensures.slots, c.stack.ensures.stack)
+    (record {
       there = there;
       room = refl;
       order = record { slots = omega arith; room = omega arith; stack = omega arith; within = omega (arith, next_reaches i h c.args.function f there) };
@@ -35,7 +36,7 @@ invariant_of-self c =
       words = ap length (with_items_is i.words c.fill_slots.new.words (omega (arith, len, i.words.ok.0))) ∙ len ∙ h.words;
       frames = h.frames;
       stride = h.stride;
-    }
+    })
 
 pub returns : goal.returns
 returns c = λ f found.
@@ -53,7 +54,7 @@ returns c = λ f found.
     let len : length all ≡ length words = c.fill_slots.ensures.len ∙ ap length c.as_mut_slice.ensures.value in
     let items = with_items_is i.words all (omega (arith, len, i.words.ok.0)) in
     let size : base + g.slots - base ≡ g.slots = omega arith in
-    let slots : window base (base + g.slots) all ≡ c.args.words.now ++ replicate (g.slots - length c.args.words.now) 0 = c.fill_slots.ensures.slots ∙ ap (λ n. c.args.words.now ++ replicate (n - length c.args.words.now) 0) size in
+    let slots : window base (base + g.slots) all ≡ c.args.words.now ++ replicate (g.slots - length c.args.words.now) 0 = (rw c.slots.ensures.slots at c.fill_slots.ensures.slots) ∙ ap (λ n. c.args.words.now ++ replicate (n - length c.args.words.now) 0) size in
     let end = base + g.slots + g.stack in
     let stack : window end end all ≡ [] = drop_all end (take end all) (omega (arith, length-take-le end all (omega (arith, within, len)))) in
     let front = same_front base all words (c.fill_slots.ensures.front ∙ ap (take base) c.as_mut_slice.ensures.value) in
@@ -62,4 +63,4 @@ returns c = λ f found.
     rows_same i.funs.now i.stride i.rows.items i.count i.extent.base all words h.behind (record { front = λ high k. front.front high (omega (arith, k, h.order.slots, h.order.room, h.order.stack)) }) in
     let behind : behind_rows all (slice_set i.rows.items i.count row) (i.count + 1) ≡ behind_row words row ∷ behind_rows words i.rows.items i.count =
     behind_more all i.rows.items i.count row (omega (arith, h.few, h.rows)) ∙ rw (first, later) refl in
-    rw (← c.self.view_is, items, slots, stack, behind, f_is) refl
+    rw (← c.self.view_is, c.slots.ensures.slots, c.stack.ensures.stack, items, slots, stack, behind, f_is) refl

@@ -1,6 +1,6 @@
 use Rattle.std.proofs.Common.{◌≡◌, ◌<◌, ◌+◌, ◌-◌, ◌∷◌, get_or, subst, sym, ap, refl, ◌∙◌, arith, length}
 use Rattle.std.proofs.lemmas.Option.{slice_get_read, slice_get_within, get_or_from_slice_get}
-use Rattle.code_words.specs.declared.image.Func.{Func}
+use Rattle.code_words.specs.Functions.{Func}
 use Rattle.two_memory_machine_memory.specs.declared.calls.Row.{Row}
 use Rattle.two_memory_machine_memory.specs.declared.calls.CallWords.TheInside.{Inside}
 use Rattle.two_memory_machine_memory.specs.CallInsides.{AreStacked, IsConsistent, call_stack, behind_rows, behind_row}

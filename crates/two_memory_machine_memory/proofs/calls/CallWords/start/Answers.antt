@@ -12,10 +12,10 @@ returns c = λ f found.
     let f_is : g ≡ f = c.index-funs-function.is ∙ get_or_from_slice_get c.args.funs.now k f g found in
     let words = c.in_ok-vec.field-0.items in
     let widest = c.widest-stride.result in
-    let fits : g.slots + g.stack ≤ widest = rw (← c.index-funs-function.is) at (c.widest-stride.ensures.each k g c.requires.there) in
+    let fits : g.slots + g.stack ≤ widest = rw (← c.index-funs-function.is) at (c.widest-stride.ensures.each k g c.requires) in
     let zeros : words ≡ replicate (widest * 1000) 0 = search rules in
     let slots : window 0 g.slots words ≡ replicate (g.slots - 0) 0 =
     ap (take g.slots) zeros ∙ take-replicate g.slots (widest * 1000) 0 (omega (arith, fits)) ∙ ap (λ n. replicate n 0) (sym (sub-zero g.slots)) in
     let len : length words ≡ widest * 1000 = ap length zeros ∙ length-replicate (widest * 1000) 0 in
     let stack : window (g.slots + g.stack) (g.slots + g.stack) words ≡ [] = drop_all (g.slots + g.stack) (take (g.slots + g.stack) words) (omega (arith, length-take-le (g.slots + g.stack) words (omega (arith, fits, len)))) in
-    rw (slots, stack, f_is) refl
+    rw (c.slots-room.ensures.slots, c.stack.ensures.stack, slots, stack, f_is) refl
