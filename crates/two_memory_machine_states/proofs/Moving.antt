@@ -12,7 +12,7 @@ use Rattle.act_words.specs.Acting.{BeforeTouch, InSandbox, act_before_touch, act
 use Rattle.act_words.specs.Numbers.{word}
 use Rattle.code_words.specs.declared.op.Op.{Op}
 use Rattle.code_words.specs.declared.op.Op.TheVariants as ops
-use Rattle.code_words.specs.declared.image.Func.{Func}
+use Rattle.code_words.specs.Functions.{Func}
 use Rattle.code_words.specs.declared.image.Image.{Image}
 use Rattle.code_words.specs.Table.{Frame, Touch, State, Step, Goes, Over, wild, push, act}
 use Rattle.code_words.specs.Moves.{move, make_touch, before_touch_by, in_sandbox_by, in_world}

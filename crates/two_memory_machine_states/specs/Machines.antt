@@ -13,7 +13,7 @@ use Rattle.flat_bytes.specs.Blocks.{Block}
 use Rattle.trusted_memory.specs.Memories.{Memory}
 use Rattle.code_words.specs.declared.op.Op.{Op}
 use Rattle.code_words.specs.declared.op.Op.TheVariants as ops
-use Rattle.code_words.specs.declared.image.Func.{Func}
+use Rattle.code_words.specs.Functions.{Func}
 use Rattle.code_words.specs.declared.image.Image.{Image}
 use Rattle.code_words.specs.Table.{Frame, Caller, Waits, Touch, Control, Runs, Touches, Away, State, Step, Goes, Over}
 use Rattle.code_words.specs.Moves.{move}

@@ -9,7 +9,7 @@ use Rattle.ckc_text.specs.declared.code.Code.TheVariants.{S4}
 use Rattle.act_words.specs.Acting.{bytes_at, stopped_by_act}
 use Rattle.code_words.specs.declared.op.Op.{Op}
 use Rattle.code_words.specs.declared.op.Op.TheVariants as ops
-use Rattle.code_words.specs.declared.image.Func.{Func}
+use Rattle.code_words.specs.Functions.{Func}
 use Rattle.code_words.specs.Table.{Touch, State, Step, Goes, Over, act}
 use Rattle.code_words.specs.Moves.{in_world}
 use Rattle.two_memory_machine_states.specs.declared.event.Event.{Event}

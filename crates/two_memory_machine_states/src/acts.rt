@@ -8,7 +8,7 @@ ghost use Rattle.act_words.specs.declared.act.Turn.TheVariants as turns;
 ghost use Rattle.code_words.specs.Table.{Touch, Away, Loads, Stores, Passes, Replies, Over};
 ghost use Rattle.marshalling.specs.Crossing.{fits_kind};
 ghost use Rattle.code_words.specs.Moves.{make_touch, answer, in_world, reply_if};
-ghost use Rattle.code_words.specs.declared.image.Func.{Func as FuncData};
+ghost use Rattle.code_words.specs.Functions.{Func as FuncData};
 ghost use Rattle.two_memory_machine_states.specs.Machines.{Running, Touching};
 ghost use Rattle.two_memory_machine_states.specs.Pushes.{HasPushed};
 ghost use Rattle.two_memory_machine_states.specs.Steps.{MovesBy, IsIn, IsSuspended, moved_if, bytes_if, EndsBy, EventBy};
@@ -212,7 +212,7 @@ impl<'a> RunningImage<'a> {
         let tainted = self.image.imports().get(import as usize);
         self.phase = Phase::Running;
         match tainted {
-            Some(tainted) => self.take_reply(tainted.result, place, value),
+            Some(tainted) => self.take_reply(tainted.result(), place, value),
             None => self.end_move(WILD),
         }
     }

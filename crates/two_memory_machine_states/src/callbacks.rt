@@ -62,7 +62,8 @@ impl<'a> RunningImage<'a> {
         let Some(fun) = self.image.functions().get(callback.fun as usize) else {
             return self.end_move(WILD);
         };
-        if fun.args as usize != words.len() {
+        let args = fun.args() as usize;
+        if args != words.len() {
             return self.end_move(WILD);
         }
         let link = Link::CallsBack {

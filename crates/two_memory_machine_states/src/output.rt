@@ -6,7 +6,7 @@ ghost use Rattle.flat_bytes.specs.Blocks.{is_refused, counter_after};
 ghost use Rattle.trusted_memory.specs.Memories.{made, address_made};
 ghost use Rattle.act_words.specs.Touches.{offset_unless};
 ghost use Rattle.code_words.specs.Table.{pop, allocate, blocks_made};
-ghost use Rattle.code_words.specs.declared.image.Func.{Func as FuncData};
+ghost use Rattle.code_words.specs.Functions.{Func as FuncData};
 ghost use Rattle.two_memory_machine_states.specs.Machines.{HasNumber, Running, Steps, waiting_of, next_op_of, ending_given, TellsSomething};
 ghost use Rattle.two_memory_machine_states.specs.Steps.{Acts, Tells, IsReady, IsIn, GoesBy};
 

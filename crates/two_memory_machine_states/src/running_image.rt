@@ -6,7 +6,7 @@ ghost use Rattle.std.proofs.Common.{ℤ};
 ghost use Rattle.trusted_memory.specs.Memories.{byte_of};
 ghost use Rattle.code_words.specs.Fitting.{Fits};
 ghost use Rattle.code_words.specs.Paced.{is_paced};
-ghost use Rattle.code_words.specs.declared.image.Func.{Func as FuncData};
+ghost use Rattle.code_words.specs.Functions.{Func as FuncData};
 ghost use Rattle.code_words.specs.Table.{Over, wild, pop, pop_2, on_with, push, push_some, jump, load, store};
 ghost use Rattle.two_memory_machine_states.specs.Machines.{IsStart, waiting_of, turn_of, next_op_of, with_one, HasNumber, TakesEnd, ending_given, moves_left, block_of};
 ghost use Rattle.two_memory_machine_states.specs.Steps.{GoesBy, IsIn, Acts, IsGivenTo, IsReady, StopsBy, event_of, two_topmost, four_topmost, five_topmost, seven_topmost, top_words_of};

@@ -24,7 +24,7 @@ impl<'a> RunningImage<'a> {
         let Some(fun) = self.image.functions().get(k as usize) else {
             return self.end_wild();
         };
-        let args = fun.args as usize;
+        let args = fun.args() as usize;
         let Some(words) = self.top_words(args) else {
             return self.end_wild();
         };
@@ -50,7 +50,7 @@ impl<'a> RunningImage<'a> {
         let Some(tainted) = self.image.imports().get(import as usize) else {
             return self.end_wild();
         };
-        let args = tainted.args as usize;
+        let args = tainted.args() as usize;
         let Some(words) = self.top_words(args) else {
             return self.end_wild();
         };

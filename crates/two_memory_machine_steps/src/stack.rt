@@ -2,7 +2,7 @@
 
 ghost use Rattle.std.specs.Prelude.{◌≡◌, ◌≤◌, drop, length};
 ghost use Rattle.code_words.specs.Table.{push_checked, check as check_line};
-ghost use Rattle.code_words.specs.declared.image.Func.{Func as FuncData};
+ghost use Rattle.code_words.specs.Functions.{Func as FuncData};
 ghost use Rattle.two_memory_machine_memory.specs.CheckedNumbers.{checked_of};
 ghost use Rattle.two_memory_machine_states.specs.Steps.{Acts, GoesBy, IsIn, IsReady};
 

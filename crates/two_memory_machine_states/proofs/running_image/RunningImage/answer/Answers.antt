@@ -13,7 +13,7 @@ returns-in-Some c = rw (← c.self.view_is)
     let i = c.self.inside in
     let found : slice_get i.image.now.layout.imports c.in-Suspended.import ≡ Some c.in-Some.tainted.now = rw c.imports.ensures at (sym (item_found c.imports.result.now c.in-Suspended.import (Some c.in-Some.tainted) c.in-Some.ensures.lookup)) in
     let here : IsIn (machine i) i.calls.fun = ap (λ funs. slice_get funs i.calls.frame.function) (sym c.self.invariant.funs) ∙ c.self.invariant.there in
-    rw (c.in-Suspended.is, found) (gives_at TellsAct acts inputs events _ _ _ c.take_reply.new.self c.take_reply.result refl refl (c.take_reply.ensures i.calls.fun here acts inputs events)))
+    rw (c.in-Suspended.is, found) (gives_at TellsAct acts inputs events _ _ _ c.take_reply.new.self c.take_reply.result refl refl (rw c.result.ensures at (c.take_reply.ensures i.calls.fun here acts inputs events))))
 
 pub returns-in-None : goal.returns-in-None
 returns-in-None c = rw (← c.self.view_is)

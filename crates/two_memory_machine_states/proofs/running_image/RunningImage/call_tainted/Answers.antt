@@ -21,7 +21,7 @@ returns-in_default-top_words c = rw (← c.self.view_is)
     (λ f here acts inputs events.
     let i = c.self.inside in
     let there : slice_get i.image.now.layout.imports c.args.import ≡ Some c.in-Some.tainted.now = rw c.imports.ensures at (sym (item_found c.imports.result.now c.args.import (Some c.in-Some.tainted) c.in-Some.ensures.lookup)) in
-    let few : nat_le c.in-Some.tainted.now.args (length i.calls.frame.stack) ≡ false = none_on_top c.in-Some.tainted.now.args i.calls.frame.stack (rw (← c.self.view_is) at c.in_default-top_words.ensures) in
+    let few : nat_le c.in-Some.tainted.now.args (length i.calls.frame.stack) ≡ false = none_on_top c.in-Some.tainted.now.args i.calls.frame.stack (rw (← c.self.view_is, c.args-args.ensures.args) at c.in_default-top_words.ensures) in
     rw (there, few) ((rw (← c.self.view_is) at c.end_wild-in_default-top_words.ensures.line) acts inputs events))
 
 -- the function is there
@@ -29,7 +29,7 @@ there : (c : In-Some-top_words) → slice_get c.self.inside.image.now.layout.imp
 there c = rw c.imports.ensures at (sym (item_found c.imports.result.now c.args.import (Some c.in-Some.tainted) c.in-Some.ensures.lookup))
 
 top : (c : In-Some-top_words) → AreTop c.in-Some.tainted.now.args c.self.inside.calls.frame.stack c.in-Some-top_words.words
-top c = are_top c.in-Some.tainted.now.args c.self.inside.calls.frame.stack c.in-Some-top_words.words (rw (← c.self.view_is) at c.in-Some-top_words.ensures)
+top c = are_top c.in-Some.tainted.now.args c.self.inside.calls.frame.stack c.in-Some-top_words.words (rw (← c.self.view_is, c.args-args.ensures.args) at c.in-Some-top_words.ensures)
 
 pub returns-then-not-may_call : goal.returns-then-not-may_call
 returns-then-not-may_call c = rw (← c.self.view_is)
@@ -47,4 +47,4 @@ returns c = λ f here acts inputs events.
     let p : i.phase ≡ phases.Running = running i.phase (ap (λ (m : Machine). m.doing) c.self.view_is ∙ c.requires.runs) in
     let going : i.over ≡ None = ap (λ (m : Machine). m.over) c.self.view_is ∙ c.requires.going in
     let deep : nat_lt (suc (length (callers_of i.calls.behind))) 1000 ≡ true = grind (arith, nat_tests, c.self.invariant.depth, sym c.may_call.ensures ∙ c.if-not-may_call.false) in
-    rw (← c.self.view_is, there b, p, (top b).enough, ← (top b).same, deep, c.pop.ensures) (refl, (Passes c.args.import c.in-Some-top_words.words c.args.place, refl), going, (refl, refl))
+    rw (← c.self.view_is, there b, p, (top b).enough, ← (top b).same, deep, c.pop.ensures, c.args-args.ensures.args) (refl, (Passes c.args.import c.in-Some-top_words.words c.args.place, refl), going, (refl, refl))

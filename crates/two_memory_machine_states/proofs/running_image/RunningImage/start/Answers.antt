@@ -36,9 +36,6 @@ rows_with-requires-clause-not_empty c = rw c.trusted_blocks-blocks.ensures c.req
 pub offsets_with-requires-2 : goal.offsets_with-requires-2
 offsets_with-requires-2 c = rw c.sandbox_blocks-statics.ensures (omega (arith, c.requires.sandbox.low, c.requires.allowed.most_sandbox))
 
-pub start-requires-clause-frames : goal.start-requires-clause-frames
-start-requires-clause-frames c = rw c.functions.ensures.functions c.functions.ensures.format.frames
-
 pub memory_with-requires-2 : goal.memory_with-requires-2
 memory_with-requires-2 c = rw c.sandbox_blocks-statics.ensures c.requires.sandbox.low
 
@@ -49,8 +46,8 @@ pub offsets_with-requires : goal.offsets_with-requires
 offsets_with-requires c =
     rw c.trusted_blocks-blocks.ensures (omega (arith, counter_at_base c.args.settings.now.base 16 c.args.image.now.trusted.blocks, c.requires.trusted.low, c.requires.allowed.most_base, c.requires.allowed.most_trusted))
 
-pub start-requires-clause-there : goal.start-requires-clause-there
-start-requires-clause-there c =
+pub start-requires : goal.start-requires
+start-requires c =
     let there = main_there c.args.image.now c.args.settings.now c.requires c.unwrap-function.result (sym c.main.ensures ∙ c.unwrap-function.ensures) in
     rw c.functions.ensures.functions (slice_get_within c.args.image.now.trusted.funs c.unwrap-function.result c.requires.main.1 there)
 
