@@ -7,7 +7,7 @@ use Rattle.act_words.specs.declared.settings.Settings.{Settings}
 use Rattle.act_words.specs.Acts.{Act, Seen, Looked, Wrote, Passed, Replied, SeenCall, SeenReply}
 use Rattle.act_words.specs.World.{World, Event, Released, Showed, NoAct}
 use Rattle.sandbox_actor.specs.Answers.{Moment}
-use Rattle.code_words.specs.declared.image.Func.{Func}
+use Rattle.code_words.specs.Functions.{Func}
 use Rattle.code_words.specs.declared.image.Image.{Image}
 use Rattle.code_words.specs.Table.{Frame, Loads, Stores, Passes, Replies, State, push_result}
 use Rattle.code_words.specs.Moves.{move}
