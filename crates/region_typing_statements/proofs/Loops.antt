@@ -19,7 +19,7 @@ use Rattle.region_typing_scope.specs.OnHeap as on_heap
 use Rattle.region_typing_statements.specs.Walks.{Walks}
 use Rattle.region_typing_statements.proofs.Walking.{left, left_walk, grown, other_loop}
 use Rattle.region_typing_statements.proofs.Verdicts.{same_behind, in_parts}
-use Rattle.region_typing_statements.specs.Parts.{Branch, nested, then_branch, if_alone, otherwise, if_else, turns, while_loop, for_loop, call_statement, needs_loop}
+use Rattle.region_typing_statements.specs.Parts.{Branch, nested, then_branch, if_alone, otherwise, turns, while_loop, for_loop, call_statement, needs_loop}
 
 -- behind a statement whose locals are gone
 nested_on : {B : Type 0} (at : Places) (g h : Scope) (s : Statement) (next : core.Statement × Scope → Verdict B) → passing (passing (statement at h s) (λ x. Passes (x.0, behind_block g x.1))) next ≡ passing (statement at h s) (λ x. next (x.0, behind_block g x.1))
@@ -35,7 +35,7 @@ pub if_parts : (at : Places) (g : Scope) (test : Expression) (consequent : State
 if_parts at g test consequent span = sym (branch_on at g test consequent (λ b. Passes (core.If b.0.0 b.0.1 core.Nothing, b.1)))
 
 pub if_else_parts : (at : Places) (g : Scope) (test : Expression) (consequent alternative : Statement) (span : Span)
-    → statement at g (s.IfElse test consequent alternative span) ≡ if_else at g test consequent alternative
+    → statement at g (s.IfElse test consequent alternative span) ≡ passing {B = core.Statement × Scope} (then_branch at g test consequent) (λ b. otherwise at b alternative)
 if_else_parts at g test consequent alternative span =
     sym (branch_on at g test consequent (λ b. otherwise at b alternative)
     ∙ same_behind (condition at g test) _ _ (λ c. same_behind (statement at g consequent) _ _ (λ x. nested_on at (behind_block g x.1) (behind_block g x.1) alternative (λ y. Passes (core.If c x.0 y.0, y.1)))))
@@ -62,7 +62,7 @@ pub if_walk : {old new : code.Scope.Scope} {r : Result (Box Stmt Global) CheckEr
 if_walk {old = old} at x test consequent span is walk = rw (is, if_parts at (scope old) test consequent span) walk
 
 pub if_else_walk : {old new : code.Scope.Scope} {r : Result (Box Stmt Global) CheckError} (at : Places) (x : Statement) (test : Expression) (consequent alternative : Statement) (span : Span) → x ≡ s.IfElse test consequent alternative span
-    → Walks on_heap.statement (if_else at (scope old) test consequent alternative) old r new → Walks on_heap.statement (statement at (scope old) x) old r new
+    → Walks on_heap.statement (passing {B = core.Statement × Scope} (then_branch at (scope old) test consequent) (λ b. otherwise at b alternative)) old r new → Walks on_heap.statement (statement at (scope old) x) old r new
 if_else_walk {old = old} at x test consequent alternative span is walk = rw (is, if_else_parts at (scope old) test consequent alternative span) walk
 
 pub while_walk : {old new : code.Scope.Scope} {r : Result (Box Stmt Global) CheckError} (at : Places) (x : Statement) (test : Expression) (body : Statement) (span : Span) → x ≡ s.While test body span → Walks on_heap.statement (while_loop at (scope old) test body) old r new → Walks on_heap.statement (statement at (scope old) x) old r new

@@ -35,9 +35,6 @@ if_alone at g test consequent = passing (then_branch at g test consequent) (λ x
 abbrev pub otherwise : Places → Branch × Scope → Statement → Verdict (core.Statement × Scope)
 otherwise at b alternative = passing (nested at b.1 b.1.in_loop alternative) (λ y. Passes (core.If b.0.0 b.0.1 y.0, y.1))
 
-abbrev pub if_else : Places → Scope → Expression → Statement → Statement → Verdict (core.Statement × Scope)
-if_else at g test consequent alternative = passing (then_branch at g test consequent) (λ b. otherwise at b alternative)
-
 -- the turns of a loop
 abbrev pub turns : Places → Scope → Statement → Option Expression → Option Assignment → Verdict (core.Statement × Scope)
 turns at g body test step =

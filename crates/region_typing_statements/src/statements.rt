@@ -10,20 +10,20 @@ ghost use Rattle.region_typing_rules.specs.Statements.{statement as statement_in
 ghost use Rattle.region_typing_scope.specs.Views.{scope as scope_of};
 ghost use Rattle.region_typing_scope.specs.OnHeap.{statement as statement_of};
 ghost use Rattle.region_typing_statements.specs.Walks.{Walks};
-ghost use Rattle.region_typing_statements.specs.Parts.{nested as nested_in, branched, then_branch as branch_in, if_alone as if_in, if_else as if_else_in, otherwise as otherwise_in, turns as turns_in, while_loop as while_in, for_loop as for_in};
+ghost use Rattle.region_typing_statements.specs.Parts.{nested as nested_in, branched, then_branch as branch_in, if_alone as if_in, otherwise as otherwise_in, turns as turns_in, while_loop as while_in, for_loop as for_in};
 
+use crate::core_forms;
 use crate::core_forms::{Branch, both, choice, repeated};
+use crate::declarations::declaration;
 use crate::heads::{first_part, optional_condition, optional_step};
 use crate::marks::is_checked;
 use crate::simple_statements::{break_from, call_alone, continue_with, return_from};
-use crate::{core_forms, declarations};
 use ckc_core::program::Stmt;
 use ckc_text::code::Code;
 use ckc_text::place::Span;
 use ckc_tree::stmt::{Assignment, ForInitial, Mark};
 use ckc_tree::{expr, stmt};
-use region_typing_expressions::assignments;
-use region_typing_expressions::assignments::condition;
+use region_typing_expressions::assignments::{assignment, condition};
 use region_typing_scope::context::Context;
 use region_typing_scope::refusals::{CheckError, needs, refusal};
 use region_typing_scope::scope::Scope;
@@ -44,12 +44,14 @@ pub fn statement(
             span,
         } => block(context, scope, inner.as_slice(), *mark, *span),
         stmt::Stmt::Bundle { span, .. } => Err(refusal(Code::E13, *span)),
-        stmt::Stmt::Declare { declaration, .. } => {
-            declarations::declaration(context, scope, declaration)
-        }
-        stmt::Stmt::Assign { assignment, .. } => {
-            assignments::assignment(context, scope, assignment)
-        }
+        stmt::Stmt::Declare {
+            declaration: written,
+            ..
+        } => declaration(context, scope, written),
+        stmt::Stmt::Assign {
+            assignment: written,
+            ..
+        } => assignment(context, scope, written),
         stmt::Stmt::Call { call, .. } => call_alone(context, scope, call),
         stmt::Stmt::Empty { .. } => Ok(context.boxed(Stmt::Nothing)?),
         stmt::Stmt::If {
@@ -59,7 +61,10 @@ pub fn statement(
             ..
         } => match alternative {
             None => if_alone(context, scope, consequent, test),
-            Some(alternative) => if_else(context, scope, consequent, alternative, test),
+            Some(alternative) => {
+                let first = then_branch(context, scope, consequent, test)?;
+                otherwise(context, scope, alternative, first)
+            }
         },
         stmt::Stmt::While {
             condition: test,
@@ -130,21 +135,6 @@ fn if_alone(
     let first = then_branch(context, scope, consequent, test)?;
     let nothing = context.boxed(Stmt::Nothing)?;
     Ok(choice(context, first, nothing)?)
-}
-
-// A branch and its alternative.
-#[cycle(statements)]
-fn if_else(
-    context: &Context,
-    scope: &mut Scope,
-    consequent: &stmt::Stmt,
-    alternative: &stmt::Stmt,
-    test: &expr::Expr,
-) -> Result<Box<Stmt>, CheckError>
-    ensures { Walks statement_of (if_else_in (place_at context.now) (scope_of scope.old) (expression_tree test.now) (statement_tree consequent.now) (statement_tree alternative.now)) scope.old result scope.new }
-{
-    let first = then_branch(context, scope, consequent, test)?;
-    otherwise(context, scope, alternative, first)
 }
 
 // The alternative of a branch.

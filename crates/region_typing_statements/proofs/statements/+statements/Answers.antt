@@ -40,12 +40,6 @@ if_alone-returns t c =
     let built = rw c.in_ok-nothing.ensures at c.in_ok-choice.ensures in
     walks_on _ c.in_ok-first.ensures (done statement c.in_ok-choice.field-0 _ c.then_branch.new.scope built)
 
-pub if_else-returns-in_err-first : goal.if_else-returns-in_err-first
-if_else-returns-in_err-first t c = refused_walk _ c.from_residual.result c.from_residual.ensures.1 c.in_err-first.ensures
-
-pub if_else-returns : goal.if_else-returns
-if_else-returns t c = walks_on _ c.in_ok-first.ensures c.otherwise.ensures
-
 pub otherwise-returns-in_err-second : goal.otherwise-returns-in_err-second
 otherwise-returns-in_err-second t c = refused_walk _ c.from_residual.result c.from_residual.ensures.1 c.in_err-second.ensures
 
@@ -168,10 +162,18 @@ statement-returns-in-None t c =
     let walk = rw (c.deref-in-None.ensures, c.deref-in-None-2.ensures) at c.if_alone.ensures in
     if_walk (place_at c.args.context.now) (s.statement c.args.written.now) (trees.expression c.in-If.test.value) (s.statement c.in-If.consequent.value) c.in-If.span (rw (c.in-If.is, c.in-None.is) refl) walk
 
-pub statement-returns-in-Some : goal.statement-returns-in-Some
-statement-returns-in-Some t c =
-    let walk = rw (c.deref-in-Some.ensures, c.deref-in-Some-2.ensures, c.deref-in-Some-3.ensures) at c.if_else.ensures in
-    if_else_walk (place_at c.args.context.now) (s.statement c.args.written.now) (trees.expression c.in-If.test.value) (s.statement c.in-If.consequent.value) (s.statement c.in-Some.alternative.value) c.in-If.span (rw (c.in-If.is, c.in-Some.is) refl) walk
+pub statement-returns-in_err-first-in-Some : goal.statement-returns-in_err-first-in-Some
+statement-returns-in_err-first-in-Some t c =
+    let broken = rw (c.deref-in-Some.ensures, c.deref-in-Some-2.ensures) at c.in_err-first-in-Some.ensures in
+    if_else_walk (place_at c.args.context.now) (s.statement c.args.written.now) (trees.expression c.in-If.test.value) (s.statement c.in-If.consequent.value) (s.statement c.in-Some.alternative.value) c.in-If.span (rw (c.in-If.is, c.in-Some.is) refl)
+    (refused_walk _ c.from_residual-in_err-first-in-Some.result c.from_residual-in_err-first-in-Some.ensures.1 broken)
+
+pub statement-returns-in_ok-first-in-Some : goal.statement-returns-in_ok-first-in-Some
+statement-returns-in_ok-first-in-Some t c =
+    let first = rw (c.deref-in-Some.ensures, c.deref-in-Some-2.ensures) at c.in_ok-first-in-Some.ensures in
+    let second = rw c.deref-in-Some-3.ensures at c.otherwise.ensures in
+    if_else_walk (place_at c.args.context.now) (s.statement c.args.written.now) (trees.expression c.in-If.test.value) (s.statement c.in-If.consequent.value) (s.statement c.in-Some.alternative.value) c.in-If.span (rw (c.in-If.is, c.in-Some.is) refl)
+    (walks_on _ first second)
 
 pub statements-loop-listed-init : goal.statements-loop-listed-init
 statements-loop-listed-init t c = record { so_far = behind_empty c.new-built.result.items _ c.new-built.ensures.items; more = none_more c.args.scope.now }
