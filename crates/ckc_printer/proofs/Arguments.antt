@@ -1,14 +1,7 @@
--- The arguments of a call, in a row and in a slice, and the bounds of a cast, inside it and alone.
-use Rattle.std.proofs.Common.{◌≡◌, Vec, Box, Global, Option, Some, None, refl, ap, ◌∙◌}
-use Rattle.std.specs.Option.{option_map}
+-- The arguments of a call, in a row and in a slice.
+use Rattle.std.proofs.Common.{◌≡◌, Vec, Global, refl, ap, ◌∙◌}
 use mathlib.Core.Former.{Count}
 use Rattle.ckc_text.specs.declared.place.Span.{Span}
-use Rattle.ckc_tree.specs.declared.expr.BoundsText.{BoundsText}
-use Rattle.ckc_tree.specs.declared.expr.CastWord.{CastWord}
-use Rattle.ckc_tree.specs.declared.type_form.TypeName as form
-use Rattle.ckc_tree.specs.Types.{type_name}
-use Rattle.ckc_printer.specs.Parts.{bounds_on_heap, cast_pieces}
-use Rattle.ckc_printer.specs.ExpressionPieces.{expression_pieces}
 use Rattle.ckc_tree.specs.declared.identifier.Identifier.{Identifier}
 use Rattle.ckc_tree.specs.declared.expr.Expr.{Expr, Row_of-Expr, end_of-Expr, more_of-Expr, items-the_row-Expr, items_hidden-the_row-Expr-0}
 use Rattle.ckc_tree.specs.declared.expr.Expr.TheVariants as exprs
@@ -29,13 +22,3 @@ pub call_of : (e : Expr) (callee : Identifier) (args : Vec Expr Global) (span : 
 call_of e callee args span is =
     let row = row_of (exprs.Call callee args span) in
     ap expression is ∙ ap (λ (all : Expressions). Call callee all span) (expressions_of_row row.0 row.1 ∙ ap expressions_of (items_hidden-the_row-Expr-0 args))
-
-cast_signs : (word : CastWord) (type : form.TypeName) (operand : Box Expr Global) (written : Option (Box BoundsText Global)) (span : Span)
-    → expression_pieces (expression (exprs.Cast word type operand written span)) ≡ cast_pieces word (type_name type) (expression operand.value) (option_map bounds_on_heap written)
-cast_signs word type operand None span = refl
-cast_signs word type operand (Some written) span = refl
-
--- a cast, with its bounds where it has some
-pub cast_of : (e : Expr) (word : CastWord) (type : form.TypeName) (operand : Box Expr Global) (written : Option (Box BoundsText Global)) (span : Span) → e ≡ exprs.Cast word type operand written span
-    → expression_pieces (expression e) ≡ cast_pieces word (type_name type) (expression operand.value) (option_map bounds_on_heap written)
-cast_of e word type operand written span is = ap (λ x. expression_pieces (expression x)) is ∙ cast_signs word type operand written span

@@ -1,26 +1,22 @@
 -- For private clauses: the signs of parts of expressions and statements.
-use Rattle.std.specs.Prelude.{List, [], ◌∷◌, ◌++◌, Option, Some, None, Box}
-use Rattle.std.proofs.Common.{Global}
+use Rattle.std.specs.Prelude.{List, [], ◌∷◌, ◌++◌, Option}
 use Rattle.std.specs.List.{flat_map}
 use Rattle.ckc_lexer_tokens.specs.declared.keyword.Keyword.TheVariants as keywords
 use Rattle.ckc_lexer_tokens.specs.declared.token.TokenKind.TheVariants as kinds
-use Rattle.ckc_tree.specs.declared.expr.BoundsText.{BoundsText}
 use Rattle.ckc_tree.specs.declared.expr.UnaryOperator.{UnaryOperator}
 use Rattle.ckc_tree.specs.declared.expr.BinaryOperator.{BinaryOperator}
-use Rattle.ckc_tree.specs.declared.expr.CastWord.{CastWord}
 use Rattle.ckc_tree.specs.declared.expr.MallocWord.{MallocWord}
 use Rattle.ckc_tree.specs.declared.expr.CallocWord.{CallocWord}
 use Rattle.ckc_tree.specs.declared.identifier.Identifier.{Identifier}
 use Rattle.ckc_tree.specs.declared.stmt.Mark.{Mark}
-use Rattle.ckc_tree.specs.declared.stmt.Stmt.{Stmt}
 use Rattle.ckc_tree.specs.Types.{TypeName}
-use Rattle.ckc_tree.specs.Expressions.{Expression, Expressions, Bounds, bounds}
-use Rattle.ckc_tree.specs.Statements.{Assignment, Statement, Statements, statement}
+use Rattle.ckc_tree.specs.Expressions.{Expression, Expressions, Bounds}
+use Rattle.ckc_tree.specs.Statements.{Assignment, Statement, Statements}
 use Rattle.ckc_printer.specs.Pieces.{Sign, One}
 use Rattle.ckc_printer.specs.TypePieces.{name_sign, type_name_pieces, angled_pieces}
-use Rattle.ckc_printer.specs.ExpressionPieces.{cast_kind, malloc_kind, calloc_kind, unary_kind, binary_sign}
+use Rattle.ckc_printer.specs.ExpressionPieces.{malloc_kind, calloc_kind, unary_kind, binary_sign}
 use Rattle.ckc_printer.specs.ExpressionPieces.{operand_pieces, expression_pieces, arguments_pieces, bounds_pieces}
-use Rattle.ckc_printer.specs.StatementPieces.{mark_pieces, optional_expression_pieces, bundled_pieces, tested_pieces, statement_pieces, statements_pieces}
+use Rattle.ckc_printer.specs.StatementPieces.{mark_pieces, optional_expression_pieces, bundled_pieces, statement_pieces, statements_pieces}
 
 -- an expression and the parenthesis behind it
 abbrev pub closed_pieces : Expression → List Sign
@@ -35,16 +31,6 @@ size_pieces type = One (kinds.Keyword keywords.Sizeof) ∷ One kinds.OpenParen �
 
 abbrev pub call_pieces : Identifier → Expressions → List Sign
 call_pieces callee arguments = name_sign callee ∷ One kinds.OpenParen ∷ (arguments_pieces arguments ++ One kinds.CloseParen ∷ [])
-
--- a cast, with its bounds where it has some
-abbrev pub cast_pieces : CastWord → TypeName → Expression → Option Bounds → List Sign
-cast_pieces word type operand None = One (cast_kind word) ∷ (angled_pieces type ++ One kinds.OpenParen ∷ closed_pieces operand)
-cast_pieces word type operand (Some bounds) =
-    One (cast_kind word) ∷ (angled_pieces type ++ One kinds.OpenParen ∷ (expression_pieces operand ++ limits_pieces bounds))
-
--- the bounds in a cast
-abbrev pub bounds_on_heap : Box BoundsText Global → Bounds
-bounds_on_heap written = bounds written.value
 
 abbrev pub malloc_pieces : MallocWord → TypeName → Expression → List Sign
 malloc_pieces word type size = One (malloc_kind word) ∷ (angled_pieces type ++ One kinds.OpenParen ∷ closed_pieces size)
@@ -72,12 +58,6 @@ return_pieces value = One (kinds.Keyword keywords.Return) ∷ (optional_expressi
 abbrev pub block_pieces : Option Mark → Statements → List Sign
 block_pieces mark statements = mark_pieces mark ++ One kinds.OpenBrace ∷ (statements_pieces statements ++ One kinds.CloseBrace ∷ [])
 
--- an if, with its else where it has one
-abbrev pub choice_pieces : Expression → Statement → Option Statement → List Sign
-choice_pieces condition consequent None = tested_pieces kinds.If condition ++ statement_pieces consequent
-choice_pieces condition consequent (Some alternative) =
-    tested_pieces kinds.If condition ++ (statement_pieces consequent ++ One kinds.Else ∷ statement_pieces alternative)
-
--- the statement in an if
-abbrev pub statement_on_heap : Box Stmt Global → Statement
-statement_on_heap alternative = statement alternative.value
+-- an else and the statement behind it
+abbrev pub alternative_pieces : Statement → List Sign
+alternative_pieces alternative = One (kinds.Keyword keywords.Else) ∷ statement_pieces alternative

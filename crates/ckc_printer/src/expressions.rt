@@ -1,12 +1,11 @@
 // Printing of expressions and bounds.
 
 ghost use Rattle.std.specs.Prelude.{◌∷◌, [], ◌++◌};
-ghost use Rattle.std.specs.Option.{option_map};
 ghost use Rattle.ckc_tree.specs.Types.{type_name as type_name_tree};
 ghost use Rattle.ckc_tree.specs.Expressions.{expression, bounds};
 ghost use Rattle.ckc_printer.specs.ExpressionPieces.{operand_pieces, expression_pieces, arguments_pieces, bounds_pieces};
 ghost use Rattle.ckc_printer.specs.TypePieces.{angled_pieces};
-ghost use Rattle.ckc_printer.specs.Parts.{size_pieces, closed_pieces, limits_pieces, call_pieces, bounds_on_heap, cast_pieces, malloc_pieces, calloc_pieces, index_pieces, unary_pieces, binary_pieces};
+ghost use Rattle.ckc_printer.specs.Parts.{size_pieces, closed_pieces, limits_pieces, call_pieces, malloc_pieces, calloc_pieces, index_pieces, unary_pieces, binary_pieces};
 ghost use Rattle.ckc_printer.specs.Slices.{expressions_of};
 ghost use Rattle.ckc_printer.specs.Output.{Puts};
 ghost use Rattle.ckc_printer.specs.Spaced.{spaced, spaced_text};
@@ -17,9 +16,7 @@ use crate::output::Output;
 use crate::quoted::{put_character, put_string};
 use crate::signs::{put, put_if, put_name, put_number};
 use crate::types::{angled, type_with_stars};
-use ckc_tree::expr::{
-    BinaryOperator, BoundsText, CallocWord, CastWord, Expr, MallocWord, UnaryOperator,
-};
+use ckc_tree::expr::{BinaryOperator, BoundsText, CallocWord, Expr, MallocWord, UnaryOperator};
 use ckc_tree::identifier::Identifier;
 use ckc_tree::type_form::TypeName;
 
@@ -65,7 +62,14 @@ pub fn put_expr(out: &mut Output, expr: &Expr)
             operand,
             bounds,
             ..
-        } => put_cast(out, *word, type_name, operand, bounds),
+        } => {
+            put_opened(out, cast_text(*word), type_name);
+            put_expr(out, operand);
+            match bounds {
+                Some(written) => put_limits(out, written),
+                None => put(out, b")"),
+            }
+        }
         Expr::Malloc {
             word,
             type_name,
@@ -93,26 +97,6 @@ pub fn put_expr(out: &mut Output, expr: &Expr)
             right,
             ..
         } => put_binary(out, *operator, left, right),
-    }
-}
-
-/// A cast, with its bounds where it has some.
-#[cycle(expressions)]
-#[tactic(auto, using(crate::proofs::Texts::spaced_append))]
-fn put_cast(
-    out: &mut Output,
-    word: CastWord,
-    type_name: &TypeName,
-    operand: &Expr,
-    written: &Option<Box<BoundsText>>,
-)
-    ensures { Puts out.old out.new (spaced_text (cast_pieces word (type_name_tree type_name.now) (expression operand.now) (option_map bounds_on_heap written.now))) }
-{
-    put_opened(out, cast_text(word), type_name);
-    put_expr(out, operand);
-    match written {
-        Some(written) => put_limits(out, written),
-        None => put(out, b")"),
     }
 }
 

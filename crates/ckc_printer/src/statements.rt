@@ -7,7 +7,7 @@ ghost use Rattle.ckc_tree.specs.Statements.{assignment, for_initial, on_heap, st
 ghost use Rattle.ckc_tree.specs.Items.{statement_list};
 ghost use Rattle.ckc_printer.specs.ExpressionPieces.{expression_pieces};
 ghost use Rattle.ckc_printer.specs.StatementPieces.{mark_pieces, initial_pieces, optional_expression_pieces, optional_assignment_pieces, for_head_pieces, statement_pieces, statements_pieces};
-ghost use Rattle.ckc_printer.specs.Parts.{bundle_pieces, return_pieces, block_pieces, choice_pieces, statement_on_heap};
+ghost use Rattle.ckc_printer.specs.Parts.{bundle_pieces, return_pieces, block_pieces, alternative_pieces};
 ghost use Rattle.ckc_printer.specs.Output.{Puts};
 ghost use Rattle.ckc_printer.specs.Spaced.{spaced, spaced_text};
 
@@ -142,15 +142,18 @@ fn put_stmt(out: &mut Output, stmt: &Stmt)
             consequent,
             alternative,
             ..
-        } => put_choice(out, condition, consequent, alternative),
+        } => {
+            put_guarded(out, b"if", condition, consequent);
+            match alternative {
+                Some(alternative) => put_alternative(out, alternative),
+                None => {}
+            }
+        }
         Stmt::While {
             condition,
             body,
             ..
-        } => {
-            put_tested(out, b"while", condition);
-            put_stmt(out, body);
-        }
+        } => put_guarded(out, b"while", condition, body),
         Stmt::For {
             initial,
             condition,
@@ -167,26 +170,22 @@ fn put_stmt(out: &mut Output, stmt: &Stmt)
     }
 }
 
-/// An `if`, with its `else` where it has one.
+/// A word, a condition in parentheses, and the statement behind them.
 #[cycle(statements)]
-#[tactic(auto, using(crate::proofs::Texts::spaced_append))]
-fn put_choice(
-    out: &mut Output,
-    condition: &Expr,
-    consequent: &Stmt,
-    alternative: &Option<Box<Stmt>>,
-)
-    ensures { Puts out.old out.new (spaced_text (choice_pieces (expression condition.now) (statement consequent.now) (option_map statement_on_heap alternative.now))) }
+fn put_guarded(out: &mut Output, word: &[u8], condition: &Expr, body: &Stmt)
+    ensures { Puts out.old out.new (spaced word.now ++ (spaced (40 ∷ []) ++ (spaced_text (expression_pieces (expression condition.now)) ++ spaced (41 ∷ []))) ++ spaced_text (statement_pieces (statement body.now))) }
 {
-    put_tested(out, b"if", condition);
-    put_stmt(out, consequent);
-    match alternative {
-        Some(alternative) => {
-            put(out, b"else");
-            put_stmt(out, alternative);
-        }
-        None => {}
-    }
+    put_tested(out, word, condition);
+    put_stmt(out, body);
+}
+
+/// An `else` and the statement behind it.
+#[cycle(statements)]
+fn put_alternative(out: &mut Output, alternative: &Stmt)
+    ensures { Puts out.old out.new (spaced_text (alternative_pieces (statement alternative.now))) }
+{
+    put(out, b"else");
+    put_stmt(out, alternative);
 }
 
 /// The statements of a block.

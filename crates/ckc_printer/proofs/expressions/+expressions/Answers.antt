@@ -1,17 +1,11 @@
 use Rattle.ckc_printer.proofs.Texts.{behind}
-use Rattle.ckc_printer.proofs.Arguments.{call_of, cast_of}
+use Rattle.ckc_printer.proofs.Arguments.{call_of}
 use Rattle.ckc_printer.proofs.expressions.+expressions.Goals as goal
 
 pub put_expr-returns-in-Call : goal.put_expr-returns-in-Call
 put_expr-returns-in-Call t c =
     let call = c.in-Call in
     rw (call_of c.args.expr.now call.callee call.arguments call.span call.is, ← c.as_slice-in-Call.ensures.value) c.put_call.ensures
-
-pub put_expr-returns-in-Cast : goal.put_expr-returns-in-Cast
-put_expr-returns-in-Cast t c =
-    let cast = c.in-Cast in
-    let put = rw c.deref-in-Cast.ensures at c.put_cast.ensures in
-    rw (cast_of c.args.expr.now cast.word cast.type_name cast.operand cast.bounds cast.span cast.is) put
 
 pub put_bounds-returns-in-ByteCount : goal.put_bounds-returns-in-ByteCount
 put_bounds-returns-in-ByteCount t c =
