@@ -1,5 +1,8 @@
 // Structs that are declared and given members, and where their cells lie.
 
+ghost use Rattle.std.specs.Prelude.{◌≡◌};
+ghost use Rattle.ckc_text.specs.Names.{is_word_byte};
+
 use ckc_text::code::Code;
 use ckc_text::fault::{NoMemory, Refused, SourceFault};
 use ckc_text::name::Name;
@@ -27,9 +30,28 @@ fn type_of(alloc: Global, letter: u8) -> Result<CType, NoMemory> {
     }
 }
 
-// A member with this name and type, of one letter each, whose span is its position.
+// Whether a word goes on with a byte.
+fn is_word_byte(b: u8) -> bool
+    ensures { result ≡ is_word_byte b }
+{
+    b.is_ascii_alphanumeric() || b == b'_'
+}
+
+// A name of two letters, of which this is the second, and the first tells whether it is one of the first sixty.
+fn name_of(alloc: Global, letter: u8, at: u32) -> Result<Name, NoMemory> {
+    if !is_word_byte(letter) {
+        return Err(NoMemory);
+    }
+    if at < 60 {
+        Name::from_slice(alloc, &[b'm', letter])
+    } else {
+        Name::from_slice(alloc, &[b'n', letter])
+    }
+}
+
+// A member with a name by this letter and the type of the other one, whose span is its position.
 fn member(alloc: Global, name: u8, letter: u8, at: u32) -> Result<Member, NoMemory> {
-    let name = Name::from_slice(alloc, &[name])?;
+    let name = name_of(alloc, name, at)?;
     let ctype = type_of(alloc, letter)?;
     let span = Span { from: at, to: at };
     Ok(Member { name, ctype, span })
@@ -160,7 +182,7 @@ fn is_refused<T>(answer: &Result<T, Refused>, code: Code, span: Span) -> bool {
     }
 }
 
-const LETTERS: &[u8; 65] = b"abcdefghijklmnopqrstuvwxyzABCDEFGHIJKLMNOPQRSTUVWXYZ0123456789_+-";
+const LETTERS: &[u8; 65] = b"abcdefghijklmnopqrstuvwxyzABCDEFGHIJKLMNOPQRSTUVWXYZ0123456789_ab";
 
 // The names and types of members that are refused, with the code, at the member of this number.
 struct Refusal(&'static [u8], &'static [u8], Code, u32);
