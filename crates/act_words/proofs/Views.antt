@@ -5,13 +5,14 @@ use Rattle.std.proofs.lemmas.List.{append_assoc, append-nil, append_cancel_right
 use Rattle.act_words.specs.declared.act.Turn.{Turn}
 use Rattle.act_words.specs.declared.act.Turn.TheVariants as turns
 use Rattle.act_words.specs.Acts.{Act, Go, Read, Write, Call, Return, Stop, Seen, SeenBytes, SeenCall, SeenReply, Release, Looked, Wrote, Passed, Replied}
-use Rattle.act_words.specs.World.{World, Event, Output, Released, Showed, NoAct, new_world, telling, taken_one, in_turn}
+use Rattle.act_words.specs.World.{World, Event, Took, Output, Released, Showed, NoAct, new_world, telling, taken_one, in_turn}
 use Rattle.act_words.specs.Acting.{BeforeTouch, InSandbox, lies_in, bytes_at, with_bytes, shown_if, written_if, waits_or_ends, keeps_or_ends, act_before_touch, act_in_sandbox}
 use Rattle.act_words.specs.Touches.{released, write}
 use Rattle.act_words.specs.View.{ViewIsFold, IsFront, view_fold, view_from, and_then_if, releases_of, view_of}
 
 releases_of-append : (xs ys : List Event) → releases_of (xs ++ ys) ≡ releases_of xs ++ releases_of ys
 releases_of-append [] ys = refl
+releases_of-append (Took turn act ∷ xs) ys = releases_of-append xs ys
 releases_of-append (Output bytes ∷ xs) ys = releases_of-append xs ys
 releases_of-append (Released release ∷ xs) ys = ap (λ releases. release ∷ releases) (releases_of-append xs ys)
 releases_of-append (Showed seen ∷ xs) ys = releases_of-append xs ys
@@ -19,6 +20,7 @@ releases_of-append (NoAct turn ∷ xs) ys = releases_of-append xs ys
 
 view_of-append : (xs ys : List Event) → view_of (xs ++ ys) ≡ view_of xs ++ view_of ys
 view_of-append [] ys = refl
+view_of-append (Took turn act ∷ xs) ys = view_of-append xs ys
 view_of-append (Output bytes ∷ xs) ys = view_of-append xs ys
 view_of-append (Released release ∷ xs) ys = view_of-append xs ys
 view_of-append (Showed seen ∷ xs) ys = ap (λ all. seen ∷ all) (view_of-append xs ys)
@@ -98,17 +100,17 @@ shown start all w t =
     }
 
 -- an act is taken, with these events
-took : (start : List ℕ) (all : List Act) (w v : World) (act : Act) (acts : List Act) (events : List Event) → Told start all w → w.acts ≡ act ∷ acts → v.acts ≡ acts → v.events ≡ w.events ++ events →
+took : (start : List ℕ) (all : List Act) (w v : World) (act : Act) (acts : List Act) (events : List Event) → Told start all w → w.acts ≡ act ∷ acts → v.acts ≡ acts → v.events ≡ (w.events ++ Took w.turn act ∷ []) ++ events →
     ((more : List Act) (releases : List Release) → view_from (act ∷ more) w.turn w.sandbox (releases_of events ++ releases) ≡ view_of events ++ view_from more v.turn v.sandbox releases) → Told start all v
 took start all w v act acts events t next left e step =
     record {
       taken = t.taken ++ act ∷ [];
       are = t.are ∙ ap (λ rest. t.taken ++ rest) next ∙ sym (append_assoc t.taken (act ∷ []) acts) ∙ ap (λ rest. (t.taken ++ act ∷ []) ++ rest) (sym left);
-      view = part start t.taken (act ∷ []) w v events t.view e (λ more releases may. (subst (λ rest. MayFollow rest (act ∷ more)) (sym next) _, step more releases));
+      view = part start t.taken (act ∷ []) w v (Took w.turn act ∷ events) t.view (e ∙ append_assoc w.events (Took w.turn act ∷ []) events) (λ more releases may. (subst (λ rest. MayFollow rest (act ∷ more)) (sym next) _, step more releases));
     }
 
 -- an act is taken that ends the run
-took_last : (start : List ℕ) (all : List Act) (w v : World) (act : Act) (acts : List Act) → Told start all w → w.acts ≡ act ∷ acts → v.acts ≡ acts → v.events ≡ w.events →
+took_last : (start : List ℕ) (all : List Act) (w v : World) (act : Act) (acts : List Act) → Told start all w → w.acts ≡ act ∷ acts → v.acts ≡ acts → v.events ≡ w.events ++ Took w.turn act ∷ [] →
     ((more : List Act) → view_from (act ∷ more) w.turn w.sandbox [] ≡ []) → HasFolded start all v
 took_last start all w v act acts t next left e ends =
     record {
@@ -122,10 +124,10 @@ took_last start all w v act acts t next left e ends =
   where
     ends_with : (more : List Act) → view_of v.events ≡ view_fold start ((t.taken ++ act ∷ []) ++ more) (releases_of v.events)
     ends_with more =
-        ap view_of e
+        ap view_of e ∙ view_of-append w.events (Took w.turn act ∷ []) ∙ append-nil (view_of w.events)
         ∙ ended_by start t.taken (act ∷ more) w t.view (subst (λ rest. MayFollow rest (act ∷ more)) (sym next) _) (ends more)
         ∙ ap (λ rest. view_fold start rest (releases_of w.events)) (sym (append_assoc t.taken (act ∷ []) more))
-        ∙ ap (λ es. view_fold start ((t.taken ++ act ∷ []) ++ more) (releases_of es)) (sym e)
+        ∙ ap (view_fold start ((t.taken ++ act ∷ []) ++ more)) (sym (ap releases_of e ∙ releases_of-append w.events (Took w.turn act ∷ []) ∙ append-nil (releases_of w.events)))
 
 seen_if : (b : Bool) (seen : List Seen) → b ≡ true → and_then_if b seen ≡ seen
 seen_if b seen h = ap (λ c. and_then_if c seen) h
@@ -135,7 +137,7 @@ unseen_if b seen h = ap (λ c. and_then_if c seen) h
 
 -- a touch may be made: it was let through, or no act is left
 pub data Ready (start : List ℕ) (all : List Act) : World → Type 0 where
-  let_through : (acts : List Act) (w : World) → Told start all w → w.turn ≡ turns.Trusted → w.acts ≡ Go ∷ acts → Ready start all (taken_one acts w)
+  let_through : (acts : List Act) (w : World) → Told start all w → w.turn ≡ turns.Trusted → w.acts ≡ Go ∷ acts → Ready start all (taken_one Go acts w)
   at_the_end : (w : World) → Told start all w → w.turn ≡ turns.Trusted → w.acts ≡ [] → Ready start all w
 
 -- at the end of the list, these events follow
@@ -185,17 +187,17 @@ BeforeTold start all (BeforeTouch.Waits w) = Told start all w × (w.turn ≡ tur
 BeforeTold start all (BeforeTouch.Touches w) = Ready start all w
 BeforeTold start all (BeforeTouch.Ends ending w) = HasFolded start all w
 
-pub act_before_told : (start : List ℕ) (all : List Act) (act : Act) (acts : List Act) (w : World) → Told start all w → w.turn ≡ turns.Trusted → w.acts ≡ act ∷ acts → BeforeTold start all (act_before_touch act (taken_one acts w))
+pub act_before_told : (start : List ℕ) (all : List Act) (act : Act) (acts : List Act) (w : World) → Told start all w → w.turn ≡ turns.Trusted → w.acts ≡ act ∷ acts → BeforeTold start all (act_before_touch act (taken_one act acts w))
 act_before_told start all Go acts w t turn e = let_through acts w t turn e
 act_before_told start all (Read at len) acts w t turn e = by (lies_in at len w.sandbox) refl
   where
-    by : (b : Bool) → lies_in at len w.sandbox ≡ b → BeforeTold start all (waits_or_ends (shown_if b at len (taken_one acts w)) (taken_one acts w))
+    by : (b : Bool) → lies_in at len w.sandbox ≡ b → BeforeTold start all (waits_or_ends (shown_if b at len (taken_one (Read at len) acts w)) (taken_one (Read at len) acts w))
     by true h = (took start all w _ (Read at len) acts (Showed (SeenBytes at (bytes_at at len w.sandbox)) ∷ []) t e refl refl (λ more releases. seen_if (lies_in at len w.sandbox) (SeenBytes at (bytes_at at len w.sandbox) ∷ view_from more w.turn w.sandbox releases) h), turn)
     by false h = took_last start all w _ (Read at len) acts t e refl refl (λ more. unseen_if (lies_in at len w.sandbox) (SeenBytes at (bytes_at at len w.sandbox) ∷ view_from more w.turn w.sandbox []) h)
 act_before_told start all (Write at bytes) acts w t turn e = by (lies_in at (length bytes) w.sandbox) refl
   where
-    by : (b : Bool) → lies_in at (length bytes) w.sandbox ≡ b → BeforeTold start all (waits_or_ends (written_if b at bytes (taken_one acts w)) (taken_one acts w))
-    by true h = (took start all w _ (Write at bytes) acts [] t e refl (sym (append-nil w.events)) (λ more releases. seen_if (lies_in at (length bytes) w.sandbox) (view_from more w.turn (with_bytes at bytes w.sandbox) releases) h), turn)
+    by : (b : Bool) → lies_in at (length bytes) w.sandbox ≡ b → BeforeTold start all (waits_or_ends (written_if b at bytes (taken_one (Write at bytes) acts w)) (taken_one (Write at bytes) acts w))
+    by true h = (took start all w _ (Write at bytes) acts [] t e refl (sym (append-nil _)) (λ more releases. seen_if (lies_in at (length bytes) w.sandbox) (view_from more w.turn (with_bytes at bytes w.sandbox) releases) h), turn)
     by false h = took_last start all w _ (Write at bytes) acts t e refl refl (λ more. unseen_if (lies_in at (length bytes) w.sandbox) (view_from more w.turn (with_bytes at bytes w.sandbox) []) h)
 act_before_told start all (Call fun args) acts w t turn e = took_last start all w _ (Call fun args) acts t e refl refl (λ more. ap (λ side. view_from (Call fun args ∷ more) side w.sandbox []) turn)
 act_before_told start all (Return value) acts w t turn e = took_last start all w _ (Return value) acts t e refl refl (λ more. ap (λ side. view_from (Return value ∷ more) side w.sandbox []) turn)
@@ -208,23 +210,23 @@ InTold start all (InSandbox.Answers word w) = Told start all w × (w.turn ≡ tu
 InTold start all (InSandbox.Calls fun words w) = Told start all (in_turn turns.Trusted w)
 InTold start all (InSandbox.Ends ending w) = HasFolded start all w
 
-pub act_in_told : (start : List ℕ) (all : List Act) (act : Act) (acts : List Act) (w : World) → Told start all w → w.turn ≡ turns.Sandbox → w.acts ≡ act ∷ acts → InTold start all (act_in_sandbox act (taken_one acts w))
+pub act_in_told : (start : List ℕ) (all : List Act) (act : Act) (acts : List Act) (w : World) → Told start all w → w.turn ≡ turns.Sandbox → w.acts ≡ act ∷ acts → InTold start all (act_in_sandbox act (taken_one act acts w))
 act_in_told start all Go acts w t turn e =
-    (took start all w (taken_one acts w) Go acts [] t e refl (sym (append-nil w.events)) (λ more releases. ap (λ side. view_from (Go ∷ more) side w.sandbox releases) turn ∙ ap (λ side. view_from more side w.sandbox releases) (sym turn)), turn)
+    (took start all w (taken_one Go acts w) Go acts [] t e refl (sym (append-nil _)) (λ more releases. ap (λ side. view_from (Go ∷ more) side w.sandbox releases) turn ∙ ap (λ side. view_from more side w.sandbox releases) (sym turn)), turn)
 act_in_told start all (Read at len) acts w t turn e = by (lies_in at len w.sandbox) refl
   where
-    by : (b : Bool) → lies_in at len w.sandbox ≡ b → InTold start all (keeps_or_ends (shown_if b at len (taken_one acts w)) (taken_one acts w))
+    by : (b : Bool) → lies_in at len w.sandbox ≡ b → InTold start all (keeps_or_ends (shown_if b at len (taken_one (Read at len) acts w)) (taken_one (Read at len) acts w))
     by true h = (took start all w _ (Read at len) acts (Showed (SeenBytes at (bytes_at at len w.sandbox)) ∷ []) t e refl refl (λ more releases. seen_if (lies_in at len w.sandbox) (SeenBytes at (bytes_at at len w.sandbox) ∷ view_from more w.turn w.sandbox releases) h), turn)
     by false h = took_last start all w _ (Read at len) acts t e refl refl (λ more. unseen_if (lies_in at len w.sandbox) (SeenBytes at (bytes_at at len w.sandbox) ∷ view_from more w.turn w.sandbox []) h)
 act_in_told start all (Write at bytes) acts w t turn e = by (lies_in at (length bytes) w.sandbox) refl
   where
-    by : (b : Bool) → lies_in at (length bytes) w.sandbox ≡ b → InTold start all (keeps_or_ends (written_if b at bytes (taken_one acts w)) (taken_one acts w))
-    by true h = (took start all w _ (Write at bytes) acts [] t e refl (sym (append-nil w.events)) (λ more releases. seen_if (lies_in at (length bytes) w.sandbox) (view_from more w.turn (with_bytes at bytes w.sandbox) releases) h), turn)
+    by : (b : Bool) → lies_in at (length bytes) w.sandbox ≡ b → InTold start all (keeps_or_ends (written_if b at bytes (taken_one (Write at bytes) acts w)) (taken_one (Write at bytes) acts w))
+    by true h = (took start all w _ (Write at bytes) acts [] t e refl (sym (append-nil _)) (λ more releases. seen_if (lies_in at (length bytes) w.sandbox) (view_from more w.turn (with_bytes at bytes w.sandbox) releases) h), turn)
     by false h = took_last start all w _ (Write at bytes) acts t e refl refl (λ more. unseen_if (lies_in at (length bytes) w.sandbox) (view_from more w.turn (with_bytes at bytes w.sandbox) []) h)
 act_in_told start all (Call fun args) acts w t turn e =
-    took start all w (in_turn turns.Trusted (taken_one acts w)) (Call fun args) acts [] t e refl (sym (append-nil w.events)) (λ more releases. ap (λ side. view_from (Call fun args ∷ more) side w.sandbox releases) turn)
+    took start all w (in_turn turns.Trusted (taken_one (Call fun args) acts w)) (Call fun args) acts [] t e refl (sym (append-nil _)) (λ more releases. ap (λ side. view_from (Call fun args ∷ more) side w.sandbox releases) turn)
 act_in_told start all (Return value) acts w t turn e =
-    (took start all w (in_turn turns.Trusted (taken_one acts w)) (Return value) acts [] t e refl (sym (append-nil w.events)) (λ more releases. ap (λ side. view_from (Return value ∷ more) side w.sandbox releases) turn), refl)
+    (took start all w (in_turn turns.Trusted (taken_one (Return value) acts w)) (Return value) acts [] t e refl (sym (append-nil _)) (λ more releases. ap (λ side. view_from (Return value ∷ more) side w.sandbox releases) turn), refl)
 act_in_told start all Stop acts w t turn e = took_last start all w _ Stop acts t e refl refl (λ more. refl)
 
 -- ---- what the trusted side does beside its touches

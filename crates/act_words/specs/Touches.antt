@@ -30,7 +30,7 @@ on_from (BeforeTouch.Ends ending w) next = Ended ending w
 -- acts are taken up to and including the next `go`, or up to the end of the list
 abbrev pub before_touch : List Act → World → Asked (Unit {0})
 before_touch [] w = Got _ (telling (NoAct turns.Trusted ∷ []) w)
-before_touch (act ∷ acts) w = on_from (act_before_touch act (taken_one acts w)) (before_touch acts)
+before_touch (act ∷ acts) w = on_from (act_before_touch act (taken_one act acts w)) (before_touch acts)
 
 -- what a touch releases is told. A call and a reply are shown to the sandbox, and give it the turn
 abbrev pub released : Release → World → World
@@ -55,7 +55,7 @@ on_with_reply (InSandbox.Ends ending w) next = Ended ending w
 -- acts are taken until the `return` of the innermost tainted call. The sandbox ends with the list
 abbrev pub until_return : List Act → World → Asked ℕ
 until_return [] w = Ended sandbox_ended (telling (NoAct turns.Sandbox ∷ []) w)
-until_return (act ∷ acts) w = on_with_reply (act_in_sandbox act (taken_one acts w)) (until_return acts)
+until_return (act ∷ acts) w = on_with_reply (act_in_sandbox act (taken_one act acts w)) (until_return acts)
 
 -- ---- what calls ask for
 

@@ -3,7 +3,7 @@ use Rattle.std.specs.Prelude.{◌≡◌, ℕ, Bool, true, false, List, [], ◌�
 use Rattle.act_words.specs.declared.act.Turn.{Turn}
 use Rattle.act_words.specs.declared.act.Turn.TheVariants as turns
 use Rattle.act_words.specs.Acts.{Act, Go, Read, Write, Call, Return, Stop, Seen, SeenBytes, SeenCall, SeenReply, Release, Looked, Wrote, Passed, Replied}
-use Rattle.act_words.specs.World.{World, Event, Output, Released, Showed, NoAct}
+use Rattle.act_words.specs.World.{World, Event, Took, Output, Released, Showed, NoAct}
 use Rattle.act_words.specs.Acting.{lies_in, bytes_at, with_bytes}
 
 -- no act is left, and the trusted side has the turn: it makes touches until the sandbox has the turn
@@ -47,6 +47,7 @@ view_fold memory acts releases = view_from acts turns.Trusted memory releases
 -- what the program wrote
 abbrev pub output_of : List Event → List ℕ
 output_of [] = []
+output_of (Took turn act ∷ events) = output_of events
 output_of (Output bytes ∷ events) = bytes ++ output_of events
 output_of (Released release ∷ events) = output_of events
 output_of (Showed seen ∷ events) = output_of events
@@ -54,6 +55,7 @@ output_of (NoAct turn ∷ events) = output_of events
 
 abbrev pub releases_of : List Event → List Release
 releases_of [] = []
+releases_of (Took turn act ∷ events) = releases_of events
 releases_of (Output bytes ∷ events) = releases_of events
 releases_of (Released release ∷ events) = release ∷ releases_of events
 releases_of (Showed seen ∷ events) = releases_of events
@@ -62,6 +64,7 @@ releases_of (NoAct turn ∷ events) = releases_of events
 -- what the sandbox was shown
 abbrev pub view_of : List Event → List Seen
 view_of [] = []
+view_of (Took turn act ∷ events) = view_of events
 view_of (Output bytes ∷ events) = view_of events
 view_of (Released release ∷ events) = view_of events
 view_of (Showed seen ∷ events) = seen ∷ view_of events
@@ -70,6 +73,7 @@ view_of (NoAct turn ∷ events) = view_of events
 -- the events before the first moment at which an act was due and none was left, if there was one
 abbrev pub due_front : List Event → Option (List Event)
 due_front [] = None
+due_front (Took turn act ∷ events) = option_map (λ front. Took turn act ∷ front) (due_front events)
 due_front (Output bytes ∷ events) = option_map (λ front. Output bytes ∷ front) (due_front events)
 due_front (Released release ∷ events) = option_map (λ front. Released release ∷ front) (due_front events)
 due_front (Showed seen ∷ events) = option_map (λ front. Showed seen ∷ front) (due_front events)

@@ -1,6 +1,6 @@
 -- What both meanings of a program share: the sandbox's memory and its room, whose turn it is, its acts, the inputs that are
 -- left, and what can be seen of a run.
-use Rattle.std.specs.Prelude.{ℕ, ◌+◌, ◌-◌, ◌^◌, min, List, [], ◌++◌}
+use Rattle.std.specs.Prelude.{ℕ, ◌+◌, ◌-◌, ◌^◌, min, List, [], ◌∷◌, ◌++◌}
 use Rattle.std.proofs.Common.{ℤ}
 use Rattle.act_words.specs.declared.act.Turn.{Turn}
 use Rattle.act_words.specs.declared.act.Turn.TheVariants as turns
@@ -8,6 +8,8 @@ use Rattle.act_words.specs.Acts.{Act, Seen, Release}
 
 -- what happens, in order
 pub data Event : Type 0 where
+  -- an act was taken while this side had the turn
+  Took : (turn : Turn) (act : Act) → Event
   -- the program wrote these bytes
   Output : (bytes : List ℕ) → Event
   -- the trusted side made a touch
@@ -54,8 +56,8 @@ abbrev pub counted : ℕ → ℕ
 counted taken = min (taken + 1) (2 ^ 64 - 1)
 
 -- one more act was taken, and these are left
-abbrev pub taken_one : List Act → World → World
-taken_one left w = record w { acts = left; taken = counted w.taken }
+abbrev pub taken_one : Act → List Act → World → World
+taken_one act left w = record w { acts = left; taken = counted w.taken; events = w.events ++ Took w.turn act ∷ [] }
 
 -- one more tick was spent
 abbrev pub spent_one : World → World

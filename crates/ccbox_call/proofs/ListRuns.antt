@@ -9,7 +9,7 @@ use Rattle.act_words.specs.Acts.{Act, Seen, IsAct}
 use Rattle.act_words.specs.Checks.{is_word_number}
 use Rattle.act_words.specs.Limits.{AreAllowed}
 use Rattle.act_words.specs.Shown.{Shown}
-use Rattle.act_words.specs.World.{Event, Output, Released, Showed, NoAct}
+use Rattle.act_words.specs.World.{Event, Took, Output, Released, Showed, NoAct}
 use Rattle.ckc_core.specs.Core.{Core}
 use Rattle.ckc_core.specs.States as meaning
 use Rattle.sandbox_actor.specs.Answers.{Moment, Answer}
@@ -46,6 +46,7 @@ given (more chain due step) = lists.more (given chain) step
 
 due-append : (last : Option Seen) (xs ys : List Event) (moment : Moment) → due_from last xs ≡ Some moment → due_from last (xs ++ ys) ≡ Some moment
 due-append last [] ys moment h = absurd (cc)
+due-append last (Took turn act ∷ xs) ys moment h = due-append last xs ys moment h
 due-append last (Output bytes ∷ xs) ys moment h = due-append last xs ys moment h
 due-append last (Released release ∷ xs) ys moment h = due-append last xs ys moment h
 due-append last (Showed seen ∷ xs) ys moment h = due-append (Some seen) xs ys moment h
@@ -53,6 +54,7 @@ due-append last (NoAct turn ∷ xs) ys moment h = h
 
 before-append : (last : Option Seen) (xs ys : List Event) (moment : Moment) → due_from last xs ≡ Some moment → before_due (xs ++ ys) ≡ before_due xs
 before-append last [] ys moment h = absurd (cc)
+before-append last (Took turn act ∷ xs) ys moment h = ap (λ es. Took turn act ∷ es) (before-append last xs ys moment h)
 before-append last (Output bytes ∷ xs) ys moment h = ap (λ es. Output bytes ∷ es) (before-append last xs ys moment h)
 before-append last (Released release ∷ xs) ys moment h = ap (λ es. Released release ∷ es) (before-append last xs ys moment h)
 before-append last (Showed seen ∷ xs) ys moment h = ap (λ es. Showed seen ∷ es) (before-append (Some seen) xs ys moment h)

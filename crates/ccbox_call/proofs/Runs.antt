@@ -9,7 +9,7 @@ use Rattle.ckc_lexer.proofs.Next.{few_tokens}
 use Rattle.ckc_parser_grammar.proofs.FewNodes.{few_nodes}
 use Rattle.act_words.specs.declared.ending.Ending.{Ending}
 use Rattle.act_words.specs.Acts.{IsAct, Seen}
-use Rattle.act_words.specs.World.{World, Event, Output, Released, Showed, NoAct}
+use Rattle.act_words.specs.World.{World, Event, Took, Output, Released, Showed, NoAct}
 use Rattle.act_words.specs.View.{ViewIsFold, due_front}
 use Rattle.ckc_core.specs.Core.{Core}
 use Rattle.ckc_core.specs.States.{State}
@@ -73,6 +73,7 @@ no_blocks size le =
 -- the events before the first moment at which no act was left are the front that is told
 due_front_of : (last : Option Seen) (events : List Event) (moment : Moment) → due_from last events ≡ Some moment → due_front events ≡ Some (before_due events)
 due_front_of last [] moment h = absurd (cc)
+due_front_of last (Took turn act ∷ events) moment h = ap (option_map (λ front. Took turn act ∷ front)) (due_front_of last events moment h)
 due_front_of last (Output bytes ∷ events) moment h = ap (option_map (λ front. Output bytes ∷ front)) (due_front_of last events moment h)
 due_front_of last (Released release ∷ events) moment h = ap (option_map (λ front. Released release ∷ front)) (due_front_of last events moment h)
 due_front_of last (Showed seen ∷ events) moment h = ap (option_map (λ front. Showed seen ∷ front)) (due_front_of (Some seen) events moment h)

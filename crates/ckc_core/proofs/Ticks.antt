@@ -81,12 +81,12 @@ module _ (budget : ℕ) where
     before_goes_on (BeforeTouch.Touches w) next h more = h
     before_goes_on (BeforeTouch.Ends ending w) next h more = tt
 
-    taken : (acts : List Act) (w : World) → HasSpent low w → HasSpent low (taken_one acts w)
-    taken acts w h = record { least = h.least; most = h.most }
+    taken : (act : Act) (acts : List Act) (w : World) → HasSpent low w → HasSpent low (taken_one act acts w)
+    taken act acts w h = record { least = h.least; most = h.most }
 
     before_answers : (acts : List Act) (w : World) → HasSpent low w → Answers low (before_touch acts w)
     before_answers [] w h = record { least = h.least; most = h.most }
-    before_answers (act ∷ acts) w h = before_goes_on (act_before_touch act (taken_one acts w)) (before_touch acts) (act_before act (taken_one acts w) (taken acts w h)) (before_answers acts)
+    before_answers (act ∷ acts) w h = before_goes_on (act_before_touch act (taken_one act acts w)) (before_touch acts) (act_before act (taken_one act acts w) (taken act acts w h)) (before_answers acts)
 
     released_spent : (release : Release) (w : World) → HasSpent low w → HasSpent low (released release w)
     released_spent Looked w h = record { least = h.least; most = h.most }
@@ -107,7 +107,7 @@ module _ (budget : ℕ) where
 
     until_answers : (acts : List Act) (w : World) → HasSpent low w → Answers low (until_return acts w)
     until_answers [] w h = tt
-    until_answers (act ∷ acts) w h = reply_goes_on (act_in_sandbox act (taken_one acts w)) (until_return acts) (act_inside act (taken_one acts w) (taken acts w h)) (until_answers acts)
+    until_answers (act ∷ acts) w h = reply_goes_on (act_in_sandbox act (taken_one act acts w)) (until_return acts) (act_inside act (taken_one act acts w) (taken act acts w h)) (until_answers acts)
 
     -- ---- what a run asks for
 

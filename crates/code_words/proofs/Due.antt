@@ -6,7 +6,7 @@ use Rattle.act_words.specs.declared.act.Turn.TheVariants as turns
 use Rattle.act_words.specs.declared.ending.Ending.{Ending}
 use Rattle.act_words.specs.declared.settings.Settings.{Settings}
 use Rattle.act_words.specs.Acts.{Act, Go, Read, Write, Call, Return, Stop, Release, Looked, Wrote, Passed, Replied, SeenBytes, SeenCall, SeenReply}
-use Rattle.act_words.specs.World.{World, Event, Output, Released, Showed, NoAct, telling, taken_one}
+use Rattle.act_words.specs.World.{World, Event, Took, Output, Released, Showed, NoAct, telling, taken_one}
 use Rattle.act_words.specs.Acting.{BeforeTouch, InSandbox, lies_in, bytes_at, shown_if, written_if, waits_or_ends, keeps_or_ends, act_before_touch, act_in_sandbox}
 use Rattle.act_words.specs.Touches.{released}
 use Rattle.act_words.specs.View.{due_front, view_fold, view_of, releases_of}
@@ -27,6 +27,9 @@ front_behind e (Some rest) front h = (rest, refl, cc)
 -- events behind it change nothing, where none of them is such a moment
 kept_front : (xs ys front : List Event) → due_front ys ≡ None → due_front (xs ++ ys) ≡ Some front → due_front xs ≡ Some front
 kept_front [] ys front none h = absurd (cc)
+kept_front (Took turn act ∷ xs) ys front none h =
+    let f = front_behind (Took turn act) (due_front (xs ++ ys)) front h in
+    ap (option_map (λ rest. Took turn act ∷ rest)) (kept_front xs ys f.0 none f.1) ∙ ap Some (sym f.2)
 kept_front (Output bytes ∷ xs) ys front none h =
     let f = front_behind (Output bytes) (due_front (xs ++ ys)) front h in
     ap (option_map (λ rest. Output bytes ∷ rest)) (kept_front xs ys f.0 none f.1) ∙ ap Some (sym f.2)
@@ -41,6 +44,9 @@ kept_front (NoAct turn ∷ xs) ys front none h = h
 -- the moment is the last event, or it was before
 front_at_end : (xs front : List Event) (turn : Turn) → due_front (xs ++ NoAct turn ∷ []) ≡ Some front → (due_front xs ≡ Some front) ⊎ (front ≡ xs)
 front_at_end [] front turn h = inr (cc)
+front_at_end (Took before act ∷ xs) front turn h =
+    let f = front_behind (Took before act) (due_front (xs ++ NoAct turn ∷ [])) front h in
+    elim (front_at_end xs f.0 turn f.1) [ inl e ↦ inl (ap (option_map (λ rest. Took before act ∷ rest)) e ∙ ap Some (sym f.2)) | inr e ↦ inr (f.2 ∙ ap (λ rest. Took before act ∷ rest) e) ]
 front_at_end (Output bytes ∷ xs) front turn h =
     let f = front_behind (Output bytes) (due_front (xs ++ NoAct turn ∷ [])) front h in
     elim (front_at_end xs f.0 turn f.1) [ inl e ↦ inl (ap (option_map (λ rest. Output bytes ∷ rest)) e ∙ ap Some (sym f.2)) | inr e ↦ inr (f.2 ∙ ap (λ rest. Output bytes ∷ rest) e) ]
@@ -70,37 +76,40 @@ module _ (start : List ℕ) (all : List Act) where
       let here : view_of w.events ≡ view_fold start all (releases_of w.events) = v.fold.view ∙ ap (λ acts. view_fold start acts (releases_of w.events)) taken in
       elim (front_at_end w.events front turn h) [ inl e ↦ is front e | inr e ↦ subst (λ (es : List Event). view_of es ≡ view_fold start all (releases_of es)) (sym e) here ]
 
-  act_shown : (act : Act) (acts : List Act) (w : World) → IsShown w → BeforeKeeps IsShown IsShown IsShown IsShown IsShown (act_before_touch act (taken_one acts w))
-  act_shown Go acts w is = is
-  act_shown (Read at len) acts w is = by (lies_in at len w.sandbox)
-    where
-      by : (inside : Bool) → BeforeKeeps IsShown IsShown IsShown IsShown IsShown (waits_or_ends (shown_if inside at len (taken_one acts w)) (taken_one acts w))
-      by true = told_more w.events (Showed (SeenBytes at (bytes_at at len w.sandbox)) ∷ []) refl is
-      by false = is
-  act_shown (Write at bytes) acts w is = by (lies_in at (length bytes) w.sandbox)
-    where
-      by : (inside : Bool) → BeforeKeeps IsShown IsShown IsShown IsShown IsShown (waits_or_ends (written_if inside at bytes (taken_one acts w)) (taken_one acts w))
-      by true = is
-      by false = is
-  act_shown (Call fun args) acts w is = is
-  act_shown (Return value) acts w is = is
-  act_shown Stop acts w is = is
+  took_shown : (act : Act) (acts : List Act) (w : World) → IsShown w → IsShown (taken_one act acts w)
+  took_shown act acts w is = told_more w.events (Took w.turn act ∷ []) refl is
 
-  sandbox_act_shown : (act : Act) (acts : List Act) (w : World) → IsShown w → InKeeps IsShown IsShown IsShown IsShown IsShown (act_in_sandbox act (taken_one acts w))
-  sandbox_act_shown Go acts w is = is
-  sandbox_act_shown (Read at len) acts w is = by (lies_in at len w.sandbox)
+  act_shown : (act : Act) (w : World) → IsShown w → BeforeKeeps IsShown IsShown IsShown IsShown IsShown (act_before_touch act w)
+  act_shown Go w is = is
+  act_shown (Read at len) w is = by (lies_in at len w.sandbox)
     where
-      by : (inside : Bool) → InKeeps IsShown IsShown IsShown IsShown IsShown (keeps_or_ends (shown_if inside at len (taken_one acts w)) (taken_one acts w))
+      by : (inside : Bool) → BeforeKeeps IsShown IsShown IsShown IsShown IsShown (waits_or_ends (shown_if inside at len w) w)
       by true = told_more w.events (Showed (SeenBytes at (bytes_at at len w.sandbox)) ∷ []) refl is
       by false = is
-  sandbox_act_shown (Write at bytes) acts w is = by (lies_in at (length bytes) w.sandbox)
+  act_shown (Write at bytes) w is = by (lies_in at (length bytes) w.sandbox)
     where
-      by : (inside : Bool) → InKeeps IsShown IsShown IsShown IsShown IsShown (keeps_or_ends (written_if inside at bytes (taken_one acts w)) (taken_one acts w))
+      by : (inside : Bool) → BeforeKeeps IsShown IsShown IsShown IsShown IsShown (waits_or_ends (written_if inside at bytes w) w)
       by true = is
       by false = is
-  sandbox_act_shown (Call fun args) acts w is = is
-  sandbox_act_shown (Return value) acts w is = is
-  sandbox_act_shown Stop acts w is = is
+  act_shown (Call fun args) w is = is
+  act_shown (Return value) w is = is
+  act_shown Stop w is = is
+
+  sandbox_act_shown : (act : Act) (w : World) → IsShown w → InKeeps IsShown IsShown IsShown IsShown IsShown (act_in_sandbox act w)
+  sandbox_act_shown Go w is = is
+  sandbox_act_shown (Read at len) w is = by (lies_in at len w.sandbox)
+    where
+      by : (inside : Bool) → InKeeps IsShown IsShown IsShown IsShown IsShown (keeps_or_ends (shown_if inside at len w) w)
+      by true = told_more w.events (Showed (SeenBytes at (bytes_at at len w.sandbox)) ∷ []) refl is
+      by false = is
+  sandbox_act_shown (Write at bytes) w is = by (lies_in at (length bytes) w.sandbox)
+    where
+      by : (inside : Bool) → InKeeps IsShown IsShown IsShown IsShown IsShown (keeps_or_ends (written_if inside at bytes w) w)
+      by true = is
+      by false = is
+  sandbox_act_shown (Call fun args) w is = is
+  sandbox_act_shown (Return value) w is = is
+  sandbox_act_shown Stop w is = is
 
   -- with all that the fold needs to go on
   abbrev OwnShown : World → Type 0
@@ -142,10 +151,10 @@ module _ (start : List ℕ) (all : List Act) where
         inputs = λ w left d. (kept.inputs w left d.0, d.1);
         writes = λ w bytes d. (kept.writes w bytes d.0, told_more w.events (Output bytes ∷ []) refl d.1);
         rooms = λ w room d. (kept.rooms w room d.0, d.1);
-        acts = λ w act acts e d. both_before (act_before_touch act (taken_one acts w)) (kept.acts w act acts e d.0) (act_shown act acts w d.1);
+        acts = λ w act acts e d. both_before (act_before_touch act (taken_one act acts w)) (kept.acts w act acts e d.0) (act_shown act (taken_one act acts w) (took_shown act acts w d.1));
         no_act = λ w none d. (kept.no_act w none d.0, told_none w turns.Trusted (shown start all w d.0.0) none d.1);
         touches = λ w release r. touch_shown release w r;
-        sandbox_acts = λ w act acts e d. both_in (act_in_sandbox act (taken_one acts w)) (kept.sandbox_acts w act acts e d.0) (sandbox_act_shown act acts w d.1);
+        sandbox_acts = λ w act acts e d. both_in (act_in_sandbox act (taken_one act acts w)) (kept.sandbox_acts w act acts e d.0) (sandbox_act_shown act (taken_one act acts w) (took_shown act acts w d.1));
         no_sandbox_act = λ w none d. told_none w turns.Sandbox (shown start all w d.0.0) none d.1;
         called_ticks = λ w n d. (kept.called_ticks w n d.0, d.1);
         called_back = λ w d. (kept.called_back w d.0, d.1);

@@ -445,15 +445,15 @@ module _ (image : Image) (settings : Settings) (paced : IsTrue (is_paced image))
   sooner Leaves s (Over ending t) falls = tt
 
   before-sooner : (f : Frame) (touch : Touch) (act : Act) (acts : List Act) (s : State) → s.control ≡ Touches f touch → Sooner (LeavesTurn act turns.Trusted) s (take_before_touch image f touch act acts s)
-  before-sooner f touch Go acts s waits = sooner _ s _ (touch-falls f touch s (taken_one acts s.world) waits refl)
+  before-sooner f touch Go acts s waits = sooner _ s _ (touch-falls f touch s (taken_one Go acts s.world) waits refl)
   before-sooner f touch (Read at len) acts s waits = by (lies_in at len s.world.sandbox)
     where
-      by : (inside : Bool) → Sooner (Unit {0}) s (before_touch_by image f touch (waits_or_ends (shown_if inside at len (taken_one acts s.world)) (taken_one acts s.world)) s)
+      by : (inside : Bool) → Sooner (Unit {0}) s (before_touch_by image f touch (waits_or_ends (shown_if inside at len (taken_one (Read at len) acts s.world)) (taken_one (Read at len) acts s.world)) s)
       by true = inr (as_many s _ refl refl refl, refl, tt)
       by false = tt
   before-sooner f touch (Write at bytes) acts s waits = by (lies_in at (length bytes) s.world.sandbox)
     where
-      by : (inside : Bool) → Sooner (Unit {0}) s (before_touch_by image f touch (waits_or_ends (written_if inside at bytes (taken_one acts s.world)) (taken_one acts s.world)) s)
+      by : (inside : Bool) → Sooner (Unit {0}) s (before_touch_by image f touch (waits_or_ends (written_if inside at bytes (taken_one (Write at bytes) acts s.world)) (taken_one (Write at bytes) acts s.world)) s)
       by true = inr (as_many s _ refl refl refl, refl, tt)
       by false = tt
   before-sooner f touch (Call fun args) acts s waits = tt
@@ -517,16 +517,16 @@ module _ (image : Image) (settings : Settings) (paced : IsTrue (is_paced image))
   in_sandbox-sooner Go acts s away = inr (as_many s _ refl refl refl, refl, tt)
   in_sandbox-sooner (Read at len) acts s away = by (lies_in at len s.world.sandbox)
     where
-      by : (inside : Bool) → Sooner (Unit {0}) s (in_sandbox_by image settings (keeps_or_ends (shown_if inside at len (taken_one acts s.world)) (taken_one acts s.world)) s)
+      by : (inside : Bool) → Sooner (Unit {0}) s (in_sandbox_by image settings (keeps_or_ends (shown_if inside at len (taken_one (Read at len) acts s.world)) (taken_one (Read at len) acts s.world)) s)
       by true = inr (as_many s _ refl refl refl, refl, tt)
       by false = tt
   in_sandbox-sooner (Write at bytes) acts s away = by (lies_in at (length bytes) s.world.sandbox)
     where
-      by : (inside : Bool) → Sooner (Unit {0}) s (in_sandbox_by image settings (keeps_or_ends (written_if inside at bytes (taken_one acts s.world)) (taken_one acts s.world)) s)
+      by : (inside : Bool) → Sooner (Unit {0}) s (in_sandbox_by image settings (keeps_or_ends (written_if inside at bytes (taken_one (Write at bytes) acts s.world)) (taken_one (Write at bytes) acts s.world)) s)
       by true = inr (as_many s _ refl refl refl, refl, tt)
       by false = tt
-  in_sandbox-sooner (Call fun args) acts s away = sooner _ s _ (call_back-falls fun (slice_get image.layout.callbacks fun) args s (taken_one acts s.world) away refl)
-  in_sandbox-sooner (Return value) acts s away = sooner _ s _ (answer-falls s.callers value s (in_turn turns.Trusted (taken_one acts s.world)) refl away refl)
+  in_sandbox-sooner (Call fun args) acts s away = sooner _ s _ (call_back-falls fun (slice_get image.layout.callbacks fun) args s (taken_one (Call fun args) acts s.world) away refl)
+  in_sandbox-sooner (Return value) acts s away = sooner _ s _ (answer-falls s.callers value s (in_turn turns.Trusted (taken_one (Return value) acts s.world)) refl away refl)
   in_sandbox-sooner Stop acts s away = tt
 
   -- ---- moves

@@ -6,7 +6,7 @@ use Rattle.act_words.specs.declared.act.Turn.TheVariants as turns
 use Rattle.act_words.specs.declared.ending.Ending.{Ending}
 use Rattle.act_words.specs.declared.settings.Settings.{Settings}
 use Rattle.act_words.specs.Acts.{Act, Go, Read, Write, Call, Return, Stop, Release, Looked, Wrote, Passed, Replied, SeenBytes, SeenCall, SeenReply}
-use Rattle.act_words.specs.World.{World, Event, Output, Released, Showed, NoAct, taken_one, in_turn, with_inputs}
+use Rattle.act_words.specs.World.{World, Event, Took, Output, Released, Showed, NoAct, taken_one, in_turn, with_inputs}
 use Rattle.act_words.specs.Acting.{BeforeTouch, InSandbox, lies_in, bytes_at, shown_if, written_if, waits_or_ends, keeps_or_ends, act_before_touch, act_in_sandbox}
 use Rattle.act_words.specs.Touches.{released}
 use Rattle.act_words.specs.View.{ViewIsFold}
@@ -56,10 +56,10 @@ module _ (start : List ℕ) (all : List Act) where
         inputs = λ w left d. (told_in start all w (with_inputs left w) d.0 refl refl refl refl, d.1);
         writes = λ w bytes d. (write_told start all bytes w d.0, d.1);
         rooms = λ w room d. (told_in start all w (record w { room = room }) d.0 refl refl refl refl, d.1);
-        acts = λ w act acts e d. before_told (act_before_touch act (taken_one acts w)) (act_before_told start all act acts w d.0 d.1 e);
+        acts = λ w act acts e d. before_told (act_before_touch act (taken_one act acts w)) (act_before_told start all act acts w d.0 d.1 e);
         no_act = λ w none d. at_the_end _ (none_left start all turns.Trusted w d.0 none) d.1 none;
         touches = λ w release ready. release_told release w ready;
-        sandbox_acts = λ w act acts e d. in_told (act_in_sandbox act (taken_one acts w)) (act_in_told start all act acts w d.0 d.1 e);
+        sandbox_acts = λ w act acts e d. in_told (act_in_sandbox act (taken_one act acts w)) (act_in_told start all act acts w d.0 d.1 e);
         no_sandbox_act = λ w none d. shown start all _ (none_left start all turns.Sandbox w d.0 none);
         called_ticks = λ w n d. told_in start all (in_turn turns.Trusted w) (in_turn turns.Trusted (record w { ticks = n })) d refl refl refl refl;
         called_back = λ w d. (d, refl);
@@ -95,37 +95,40 @@ module _ (events : List Event) where
   abbrev Behind : World → Type 0
   Behind w = IsFront events w.events
 
-  act_behind : (act : Act) (acts : List Act) (w : World) → Behind w → BeforeKeeps Behind Behind Behind Behind Behind (act_before_touch act (taken_one acts w))
-  act_behind Go acts w b = b
-  act_behind (Read at len) acts w b = by (lies_in at len w.sandbox)
-    where
-      by : (inside : Bool) → BeforeKeeps Behind Behind Behind Behind Behind (waits_or_ends (shown_if inside at len (taken_one acts w)) (taken_one acts w))
-      by true = longer events w.events (Showed (SeenBytes at (bytes_at at len w.sandbox)) ∷ []) b
-      by false = b
-  act_behind (Write at bytes) acts w b = by (lies_in at (length bytes) w.sandbox)
-    where
-      by : (inside : Bool) → BeforeKeeps Behind Behind Behind Behind Behind (waits_or_ends (written_if inside at bytes (taken_one acts w)) (taken_one acts w))
-      by true = b
-      by false = b
-  act_behind (Call fun args) acts w b = b
-  act_behind (Return value) acts w b = b
-  act_behind Stop acts w b = b
+  took_behind : (act : Act) (acts : List Act) (w : World) → Behind w → Behind (taken_one act acts w)
+  took_behind act acts w b = longer events w.events (Took w.turn act ∷ []) b
 
-  sandbox_act_behind : (act : Act) (acts : List Act) (w : World) → Behind w → InKeeps Behind Behind Behind Behind Behind (act_in_sandbox act (taken_one acts w))
-  sandbox_act_behind Go acts w b = b
-  sandbox_act_behind (Read at len) acts w b = by (lies_in at len w.sandbox)
+  act_behind : (act : Act) (w : World) → Behind w → BeforeKeeps Behind Behind Behind Behind Behind (act_before_touch act w)
+  act_behind Go w b = b
+  act_behind (Read at len) w b = by (lies_in at len w.sandbox)
     where
-      by : (inside : Bool) → InKeeps Behind Behind Behind Behind Behind (keeps_or_ends (shown_if inside at len (taken_one acts w)) (taken_one acts w))
+      by : (inside : Bool) → BeforeKeeps Behind Behind Behind Behind Behind (waits_or_ends (shown_if inside at len w) w)
       by true = longer events w.events (Showed (SeenBytes at (bytes_at at len w.sandbox)) ∷ []) b
       by false = b
-  sandbox_act_behind (Write at bytes) acts w b = by (lies_in at (length bytes) w.sandbox)
+  act_behind (Write at bytes) w b = by (lies_in at (length bytes) w.sandbox)
     where
-      by : (inside : Bool) → InKeeps Behind Behind Behind Behind Behind (keeps_or_ends (written_if inside at bytes (taken_one acts w)) (taken_one acts w))
+      by : (inside : Bool) → BeforeKeeps Behind Behind Behind Behind Behind (waits_or_ends (written_if inside at bytes w) w)
       by true = b
       by false = b
-  sandbox_act_behind (Call fun args) acts w b = b
-  sandbox_act_behind (Return value) acts w b = b
-  sandbox_act_behind Stop acts w b = b
+  act_behind (Call fun args) w b = b
+  act_behind (Return value) w b = b
+  act_behind Stop w b = b
+
+  sandbox_act_behind : (act : Act) (w : World) → Behind w → InKeeps Behind Behind Behind Behind Behind (act_in_sandbox act w)
+  sandbox_act_behind Go w b = b
+  sandbox_act_behind (Read at len) w b = by (lies_in at len w.sandbox)
+    where
+      by : (inside : Bool) → InKeeps Behind Behind Behind Behind Behind (keeps_or_ends (shown_if inside at len w) w)
+      by true = longer events w.events (Showed (SeenBytes at (bytes_at at len w.sandbox)) ∷ []) b
+      by false = b
+  sandbox_act_behind (Write at bytes) w b = by (lies_in at (length bytes) w.sandbox)
+    where
+      by : (inside : Bool) → InKeeps Behind Behind Behind Behind Behind (keeps_or_ends (written_if inside at bytes w) w)
+      by true = b
+      by false = b
+  sandbox_act_behind (Call fun args) w b = b
+  sandbox_act_behind (Return value) w b = b
+  sandbox_act_behind Stop w b = b
 
   touch_behind : (release : Release) (w : World) → Behind w → ReleaseKeeps Behind Behind Behind Behind Behind release (released release w)
   touch_behind Looked w b = longer events w.events (Released Looked ∷ []) b
@@ -140,10 +143,10 @@ module _ (events : List Event) where
         inputs = λ w left b. b;
         writes = λ w bytes b. longer events w.events (Output bytes ∷ []) b;
         rooms = λ w room b. b;
-        acts = λ w act acts e b. act_behind act acts w b;
+        acts = λ w act acts e b. act_behind act (taken_one act acts w) (took_behind act acts w b);
         no_act = λ w none b. longer events w.events (NoAct turns.Trusted ∷ []) b;
         touches = λ w release b. touch_behind release w b;
-        sandbox_acts = λ w act acts e b. sandbox_act_behind act acts w b;
+        sandbox_acts = λ w act acts e b. sandbox_act_behind act (taken_one act acts w) (took_behind act acts w b);
         no_sandbox_act = λ w none b. longer events w.events (NoAct turns.Sandbox ∷ []) b;
         called_ticks = λ w n b. b;
         called_back = λ w b. b;

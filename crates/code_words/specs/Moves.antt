@@ -118,11 +118,11 @@ in_sandbox_by image settings (InSandbox.Ends ending w) s = Over ending (in_world
 
 -- an act before a touch, where these acts follow it
 abbrev pub take_before_touch : Image → Frame → Touch → Act → List Act → State → Step
-take_before_touch image f touch act acts s = before_touch_by image f touch (act_before_touch act (taken_one acts s.world)) s
+take_before_touch image f touch act acts s = before_touch_by image f touch (act_before_touch act (taken_one act acts s.world)) s
 
 -- an act in the sandbox's turn, where these acts follow it
 abbrev pub take_in_sandbox : Image → Settings → Act → List Act → State → Step
-take_in_sandbox image settings act acts s = in_sandbox_by image settings (act_in_sandbox act (taken_one acts s.world)) s
+take_in_sandbox image settings act acts s = in_sandbox_by image settings (act_in_sandbox act (taken_one act acts s.world)) s
 
 -- no act is left: the touch is made as if it were let through, and the sandbox ends with its acts
 abbrev pub touch_at_end : Image → Frame → Touch → State → Step

@@ -75,7 +75,7 @@ module _ (g : Execution) (s : meaning.State) (blocks : KeptBlocks g s.blocks) (c
       let v = telling (NoAct turns.Trusted ∷ []) w in
       record { kept = kept_world [] v tt (record { left = left.left; inputs = left.inputs }); reached = one_move g (touching w) (away (released (Passed k words) v)) reached (ap (λ acts. moves.before_touch (image g) f (Passes k words place) acts (touching w)) left.left) }
   passes (a ∷ acts) w all left reached =
-      act_passes acts (act_before_touch a (taken_one acts w)) w (before_touch acts) all.1 (act_waits acts a (taken_one acts w) (record { left = refl; inputs = left.inputs })) reached
+      act_passes acts (act_before_touch a (taken_one a acts w)) w (before_touch acts) all.1 (act_waits acts a (taken_one a acts w) (record { left = refl; inputs = left.inputs })) reached
       (ap (λ acts. moves.before_touch (image g) f (Passes k words place) acts (touching w)) left.left)
       (λ v h r. passes acts v all.1 h r)
 
@@ -100,7 +100,7 @@ module _ (g : Execution) (s : meaning.State) (blocks : KeptBlocks g s.blocks) (c
       let v = telling (NoAct turns.Sandbox ∷ []) w in
       last_move g (away w) (away v) sandbox_ended (meaning.in_world v s) reached (ap (λ acts. moves.in_sandbox (image g) g.settings acts (away w)) left.left) (same_end g Away (Waits (behind f f.stack) k place ∷ callers) (meaning.in_world v s) blocks)
   answered (a ∷ acts) w all left reached =
-      act_answers acts (act_in_sandbox a (taken_one acts w)) w (until_return acts) all.1 (act_keeps acts a (taken_one acts w) all.0 (record { left = refl; inputs = left.inputs })) reached
+      act_answers acts (act_in_sandbox a (taken_one a acts w)) w (until_return acts) all.1 (act_keeps acts a (taken_one a acts w) all.0 (record { left = refl; inputs = left.inputs })) reached
       (ap (λ acts. moves.in_sandbox (image g) g.settings acts (away w)) left.left)
       (λ v h r. answered acts v all.1 h r)
 

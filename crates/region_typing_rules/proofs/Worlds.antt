@@ -93,7 +93,7 @@ module _ (budget : ℕ) where
   before_answers : (low : ℕ) (acts : List Act) → AllByRecursion IsAct acts → (w : World) → IsWorld low w → Answers low Anything (before_touch acts w)
   before_answers low [] all w left = (tt, left)
   before_answers low (act ∷ acts) all w left =
-      before_goes_on low (act_before_touch act (taken_one acts w)) (before_touch acts) (act_before low act (taken_one acts w) (all.1, left.1, left.2, left.3)) (before_answers low acts all.1)
+      before_goes_on low (act_before_touch act (taken_one act acts w)) (before_touch acts) (act_before low act (taken_one act acts w) (all.1, left.1, left.2, left.3)) (before_answers low acts all.1)
 
   released_left : (low : ℕ) (release : Release) (w : World) → IsWorld low w → IsWorld low (released release w)
   released_left low Looked w left = left
@@ -115,7 +115,7 @@ module _ (budget : ℕ) where
   until_answers : (low : ℕ) (acts : List Act) → AllByRecursion IsAct acts → (w : World) → IsWorld low w → Answers low IsWord (until_return acts w)
   until_answers low [] all w left = tt
   until_answers low (act ∷ acts) all w left =
-      reply_goes_on low (act_in_sandbox act (taken_one acts w)) (until_return acts) (act_inside low act (taken_one acts w) all.0 (all.1, left.1, left.2, left.3)) (until_answers low acts all.1)
+      reply_goes_on low (act_in_sandbox act (taken_one act acts w)) (until_return acts) (act_inside low act (taken_one act acts w) all.0 (all.1, left.1, left.2, left.3)) (until_answers low acts all.1)
 
   -- ---- what a run asks for
 

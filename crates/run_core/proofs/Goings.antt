@@ -5,7 +5,7 @@ use Rattle.act_words.specs.declared.act.Turn.TheVariants as turns
 use Rattle.act_words.specs.declared.ending.Ending.{Ending}
 use Rattle.act_words.specs.declared.settings.Settings.{Settings}
 use Rattle.act_words.specs.Acts.{Act, Seen, Looked, Wrote, Passed, Replied, SeenCall, SeenReply}
-use Rattle.act_words.specs.World.{World, Event, Released, Showed, NoAct}
+use Rattle.act_words.specs.World.{World, Event, Took, Released, Showed, NoAct}
 use Rattle.sandbox_actor.specs.Answers.{Moment}
 use Rattle.code_words.specs.Functions.{Func}
 use Rattle.code_words.specs.declared.image.Image.{Image}
@@ -77,25 +77,30 @@ module _ (image : Image) (settings : Settings) (inputs : List ℤ) (acts : List 
     reaches = led before after (started image settings inputs acts) [] out.image_is out.settings_is leads out.reaches;
   }
 
+  -- the events behind an act
+  abbrev behind_act : Act → List Event
+  behind_act act = events ++ Took (turn_of old.doing) act ∷ []
+
   -- a run that comes to a machine which takes an act
-  taken : (act : Act) (left : List ℤ) (s : State) (rest : List Act) → old.image ≡ image → old.settings ≡ settings → old.over ≡ None → TakesAct old act event new → Reaches image settings s old (act ∷ rest) left events → Reaches image settings s new rest left (events ++ told event)
+  taken : (act : Act) (left : List ℤ) (s : State) (rest : List Act) → old.image ≡ image → old.settings ≡ settings → old.over ≡ None → TakesAct old act event new → Reaches image settings s old (act ∷ rest) left events → Reaches image settings s new rest left (behind_act act ++ told event)
   taken act left s rest image_is settings_is running takes r =
-      subst (λ es. Reaches image settings s new rest left es) (told_is event events)
-      (subst (λ k. Reaches k settings s new rest left (told_behind event events)) image_is
-      (subst (λ k. Reaches old.image k s new rest left (told_behind event events)) settings_is
-      (reached TellsAct s old new event (act ∷ rest) rest left left events events running (takes rest left events)
+      subst (λ es. Reaches image settings s new rest left es) (told_is event (behind_act act))
+      (subst (λ k. Reaches k settings s new rest left (told_behind event (behind_act act))) image_is
+      (subst (λ k. Reaches old.image k s new rest left (told_behind event (behind_act act))) settings_is
+      (reached TellsAct s old new event (act ∷ rest) rest left left events (behind_act act) running (takes rest left events)
       (subst (λ k. Reaches k old.settings s old (act ∷ rest) left events) (sym image_is) (subst (λ k. Reaches image k s old (act ∷ rest) left events) (sym settings_is) r)))))
 
-  pub going_act : (last later : Option Seen) (act : Act) (left : List ℤ) → old.over ≡ None → TakesAct old act event new → later ≡ last_of last (told event) → Going image settings inputs acts events last left old → Going image settings inputs (acts ++ act ∷ []) (events ++ told event) later left new
+  pub going_act : (last later : Option Seen) (act : Act) (left : List ℤ) → old.over ≡ None → TakesAct old act event new → later ≡ last_of last (told event) → Going image settings inputs acts events last left old → Going image settings inputs (acts ++ act ∷ []) (behind_act act ++ told event) later left new
   going_act last later act left running takes shown going =
-      let same = gives_same TellsAct [] [] [] _ old new event (takes [] [] []) in
+      let same = gives_same TellsAct [] [] _ _ old new event (takes [] [] []) in
+      let took : List Event = Took (turn_of old.doing) act ∷ [] in
       record {
         image_is = same.0 ∙ going.image_is;
         settings_is = same.1 ∙ going.settings_is;
-        reaches = λ rest. subst (λ all. Reaches image settings (started image settings inputs all) new rest left (events ++ told event)) (sym (append_assoc acts (act ∷ []) rest))
+        reaches = λ rest. subst (λ all. Reaches image settings (started image settings inputs all) new rest left (behind_act act ++ told event)) (sym (append_assoc acts (act ∷ []) rest))
             (taken act left (started image settings inputs (acts ++ act ∷ rest)) rest going.image_is going.settings_is running takes (going.reaches (act ∷ rest)));
-        undue = undue_behind going.undue;
-        last_is = last_behind last later going.last_is shown;
+        undue = due_from-append None (behind_act act) (told event) (due_from-append None events took going.undue) ∙ told_undue (last_of None (behind_act act)) event;
+        last_is = shown ∙ ap (λ seen. last_of seen (told event)) (going.last_is ∙ sym (last_of-append None events took)) ∙ sym (last_of-append None (behind_act act) (told event));
       }
 
   pub out_end : (left : List ℤ) → old.over ≡ None → TakesEnd old event new → RunsOut image settings inputs acts events left old → RunsOut image settings inputs acts ((events ++ NoAct (turn_of old.doing) ∷ []) ++ told event) left new

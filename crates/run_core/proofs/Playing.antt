@@ -5,7 +5,7 @@ use Rattle.ckc_io.specs.Files.{Files}
 use Rattle.act_words.specs.declared.ending.Ending.{Ending}
 use Rattle.act_words.specs.declared.settings.Settings.{Settings}
 use Rattle.act_words.specs.Acts.{Act, Seen, seen_view}
-use Rattle.act_words.specs.World.{Event, NoAct}
+use Rattle.act_words.specs.World.{Event, Took, NoAct}
 use Rattle.sandbox_actor.specs.Answers.{Gives}
 use Rattle.code_words.specs.declared.image.Image.{Image}
 use Rattle.two_memory_machine.specs.declared.event.Event.{Event as MachineEvent}
@@ -71,10 +71,10 @@ module _ {S : Type 0} (answers : Answering S) (files : Option Files) (image : Im
       where
         by : (ended : Bool) → ended ≡ false → Progress answers files image settings inputs first before old.machine old.inputs.now old.text.items seen ended → Progress answers files image settings inputs first now new.machine old.inputs.now new.text.items (option_map seen_view new.last) false
         by ended e (Progress.going acts events chain far text_is) =
-            Progress.going (acts ++ act ∷ []) (events ++ told takes.event)
+            Progress.going (acts ++ act ∷ []) ((events ++ Took (turn_of old.machine.doing) act ∷ []) ++ told takes.event)
             (Chain.more chain (is_due image settings inputs acts events seen old.inputs.now old.machine far asked.waits) answered)
             (going_act image settings inputs acts events old.machine takes.event new.machine seen _ act old.inputs.now (unended old.machine asked.waits) takes.takes takes.tells.last far)
-            (text_more settings old.text.items new.text.items events takes.event text_is (told_text old new takes.event takes.tells played.0))
+            (text_more settings old.text.items new.text.items (events ++ Took (turn_of old.machine.doing) act ∷ []) takes.event (text_is ∙ sym (flat_map-append (event_text settings) events (Took (turn_of old.machine.doing) act ∷ []) ∙ append-nil (events_text settings events))) (told_text old new takes.event takes.tells played.0))
         by ended e (Progress.out_of_acts acts events chain due ended_so out text_is) = absurd (cc)
 
     pub played_none : TakesNone old new → HasEnded answers files (moment_in old) before now old.ended → Played answers files image settings inputs first before old → Played answers files image settings inputs first now new

@@ -2,7 +2,7 @@
 use Rattle.std.specs.Prelude.{ℕ, ◌||◌, if◌then◌else◌, List, [], ◌∷◌, ◌++◌, flat_map, ◌==◌}
 use Rattle.act_words.specs.declared.ending.Ending.{Ending}
 use Rattle.act_words.specs.declared.settings.Settings.{Settings}
-use Rattle.act_words.specs.World.{Event, Output, Released, Showed, NoAct}
+use Rattle.act_words.specs.World.{Event, Took, Output, Released, Showed, NoAct}
 use Rattle.act_words.specs.Shown.{Shown}
 use Rattle.act_recorder.specs.Lines.{seen_text, release_text, output_line, block_text}
 use Rattle.act_recorder.specs.Endings.{ending_text}
@@ -11,6 +11,7 @@ use Rattle.act_recorder.specs.Endings.{ending_text}
 
 -- Output is written as it is, or as a line where other lines are asked for
 abbrev pub event_text : Settings → Event → List ℕ
+event_text settings (Took turn act) = []
 event_text settings (Output bytes) = if settings.view || settings.releases then output_line bytes else bytes
 event_text settings (Released release) = if settings.releases then release_text release else []
 event_text settings (Showed seen) = if settings.view then seen_text seen else []

@@ -2,11 +2,12 @@
 use Rattle.std.specs.Prelude.{List, [], ◌∷◌, Option, Some, None}
 use Rattle.act_words.specs.declared.act as code
 use Rattle.act_words.specs.Acts.{Seen, seen_view, release_view}
-use Rattle.act_words.specs.World.{Event, Output, Released, Showed, NoAct}
+use Rattle.act_words.specs.World.{Event, Took, Output, Released, Showed, NoAct}
 
 -- what was shown last, where this was shown last before the events
 abbrev pub last_of : Option Seen → List Event → Option Seen
 last_of last [] = last
+last_of last (Took turn act ∷ events) = last_of last events
 last_of last (Output bytes ∷ events) = last_of last events
 last_of last (Released release ∷ events) = last_of last events
 last_of last (Showed seen ∷ events) = last_of (Some seen) events

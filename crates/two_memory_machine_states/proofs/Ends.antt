@@ -199,7 +199,7 @@ act_sooner old new act event paced waits takes = by old.doing refl
         let some : 0 < number old = subst (λ n. 0 < n) same (some_touch old.image old.settings paced old.frame touch first at) in
         let soon : StepSooner old.image old.settings paced (LeavesTurn act (turn_of old.doing)) first (move old.image old.settings first) =
         subst (λ t. StepSooner old.image old.settings paced (LeavesTurn act t) first (move old.image old.settings first)) (sym turn) (touches-sooner old.image old.settings paced old.frame touch act [] first at refl) in
-        sooner TellsAct [] [] [] old new event paced act first _ (unended old waits) (subst (λ c. IsRun c → ⊥) (sym at) (λ h. h)) refl same some soon (takes [] [] [])
+        sooner TellsAct [] [] _ old new event paced act first _ (unended old waits) (subst (λ c. IsRun c → ⊥) (sym at) (λ h. h)) refl same some soon (takes [] [] [])
     by (Suspended import place) e =
         let at : control_of old.doing old.frame ≡ Away = rw e refl in
         let turn : turn_of old.doing ≡ turns.Sandbox = rw e refl in
@@ -207,7 +207,7 @@ act_sooner old new act event paced waits takes = by old.doing refl
         let some : 0 < number old = subst (λ n. 0 < n) same (some_wait old.image old.settings paced old.frame import place old.callers first calls) in
         let soon : StepSooner old.image old.settings paced (LeavesTurn act (turn_of old.doing)) first (move old.image old.settings first) =
         subst (λ t. StepSooner old.image old.settings paced (LeavesTurn act t) first (move old.image old.settings first)) (sym turn) (away-sooner old.image old.settings paced act [] first at refl) in
-        sooner TellsAct [] [] [] old new event paced act first _ (unended old waits) (subst (λ c. IsRun c → ⊥) (sym at) (λ h. h)) refl same some soon (takes [] [] [])
+        sooner TellsAct [] [] _ old new event paced act first _ (unended old waits) (subst (λ c. IsRun c → ⊥) (sym at) (λ h. h)) refl same some soon (takes [] [] [])
 
 pub end_sooner : (old new : Machine) (event : Event) → IsTrue (is_paced old.image) → waiting_of old ≡ waiting.Act → TakesEnd old event new → moves_left new < moves_left old
 end_sooner old new event paced waits takes = by old.doing refl

@@ -7,7 +7,7 @@ use Rattle.act_words.specs.declared.ending.Ending.{Ending}
 use Rattle.act_words.specs.declared.settings.Settings.{Settings}
 use Rattle.act_words.specs.Acts.{Act}
 use Rattle.act_words.specs.World
-use Rattle.act_words.specs.World.{World, NoAct}
+use Rattle.act_words.specs.World.{World, Took, NoAct}
 use Rattle.act_words.specs.Acting.{BeforeTouch, InSandbox, act_before_touch, act_in_sandbox, sandbox_ended}
 use Rattle.act_words.specs.Numbers.{word}
 use Rattle.code_words.specs.declared.op.Op.{Op}
@@ -149,19 +149,23 @@ pub takes_before : (old new : Machine) (event : Event) (touch : Touch) (a : Act)
     MovesBy (λ s. before_touch_by old.image old.frame touch (act_before_touch a s.world) s) (with_one old) event new → TakesAct old a event new
 takes_before old new event touch a e moves = λ acts inputs events.
     let s = state_of old (a ∷ acts) inputs events in
-    let w = world_of (with_one old) acts inputs events in
+    let es = events ++ Took turns.Trusted a ∷ [] in
+    let w = world_of (with_one old) acts inputs es in
     let line : move old.image old.settings s ≡ before_touch_by old.image old.frame touch (act_before_touch a w) s = rw e refl in
-    subst (λ step. Gives TellsAct acts inputs events step old event new) (sym (line ∙ sym (before_in old.image old.frame touch (act_before_touch a w) w s)))
-    (gives_at TellsAct acts inputs events _ old (with_one old) new event refl refl (moves acts inputs events))
+    subst (λ turn. Gives TellsAct acts inputs (events ++ Took turn a ∷ []) (move old.image old.settings s) old event new) (sym (ap turn_of e))
+    (subst (λ step. Gives TellsAct acts inputs es step old event new) (sym (line ∙ sym (before_in old.image old.frame touch (act_before_touch a w) w s)))
+    (gives_at TellsAct acts inputs es _ old (with_one old) new event refl refl (moves acts inputs es)))
 
 pub takes_in_sandbox : (old new : Machine) (event : Event) (import : ℕ) (place : Place) (a : Act) → old.doing ≡ Suspended import place →
     MovesBy (λ s. in_sandbox_by old.image old.settings (act_in_sandbox a s.world) s) (with_one old) event new → TakesAct old a event new
 takes_in_sandbox old new event import place a e moves = λ acts inputs events.
     let s = state_of old (a ∷ acts) inputs events in
-    let w = world_of (with_one old) acts inputs events in
+    let es = events ++ Took turns.Sandbox a ∷ [] in
+    let w = world_of (with_one old) acts inputs es in
     let line : move old.image old.settings s ≡ in_sandbox_by old.image old.settings (act_in_sandbox a w) s = rw e refl in
-    subst (λ step. Gives TellsAct acts inputs events step old event new) (sym (line ∙ sym (sandbox_in old.image old.settings (act_in_sandbox a w) w s)))
-    (gives_at TellsAct acts inputs events _ old (with_one old) new event refl refl (moves acts inputs events))
+    subst (λ turn. Gives TellsAct acts inputs (events ++ Took turn a ∷ []) (move old.image old.settings s) old event new) (sym (ap turn_of e))
+    (subst (λ step. Gives TellsAct acts inputs es step old event new) (sym (line ∙ sym (sandbox_in old.image old.settings (act_in_sandbox a w) w s)))
+    (gives_at TellsAct acts inputs es _ old (with_one old) new event refl refl (moves acts inputs es)))
 
 pub takes_end : (old new : Machine) (event : Event) (touch : Touch) → old.doing ≡ Touching touch → MovesBy (make_touch old.image old.frame touch) old event new → TakesEnd old event new
 takes_end old new event touch e moves = λ inputs events.

@@ -8,7 +8,7 @@ use Rattle.act_words.specs.declared.ending.Ending.{Ending}
 use Rattle.act_words.specs.declared.settings.Settings.{Settings}
 use Rattle.act_words.specs.Acts.{Act, seen_view, release_view}
 use Rattle.act_words.specs.World
-use Rattle.act_words.specs.World.{World, NoAct, counted}
+use Rattle.act_words.specs.World.{World, Took, NoAct, counted}
 use Rattle.flat_bytes.specs.Blocks.{Block}
 use Rattle.trusted_memory.specs.Memories.{Memory}
 use Rattle.code_words.specs.declared.op.Op.{Op}
@@ -238,11 +238,12 @@ pub record Steps (old : Machine) (event : Event) (new : Machine) : Type 0 where
 abbrev pub with_one : Machine → Machine
 with_one m = record m { taken = counted m.taken }
 
--- with an act, the machine makes the move that takes it
+-- with an act, the machine makes the move that takes it; that it was taken, it doesn't tell
 abbrev pub TakesAct : Machine → Act → Event → Machine → Type 0
 TakesAct old act event new =
     (acts : List Act) (inputs : List ℤ) (events : List World.Event) →
-    Gives TellsAct acts inputs events (move old.image old.settings (state_of old (act ∷ acts) inputs events)) old event new
+    Gives TellsAct acts inputs (events ++ Took (turn_of old.doing) act ∷ [])
+    (move old.image old.settings (state_of old (act ∷ acts) inputs events)) old event new
 
 -- where no act is left, it makes the move that is left; that none was there, it doesn't tell
 abbrev pub TakesEnd : Machine → Event → Machine → Type 0

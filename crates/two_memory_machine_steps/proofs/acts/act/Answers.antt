@@ -39,7 +39,7 @@ pub returns-in-Trusted : goal.returns-in-Trusted
 returns-in-Trusted c =
     record {
       takes = touched c;
-      over = act_over [] [] [] _ c.args.machine.now c.act_before_touch.new.machine c.act_before_touch.result (touched c [] [] []);
+      over = act_over [] [] _ _ c.args.machine.now c.act_before_touch.new.machine c.act_before_touch.result (touched c [] [] []);
       sooner = act_sooner c.args.machine.now c.act_before_touch.new.machine (act_view c.args.act.now) c.act_before_touch.result c.count_act.ensures.paced c.requires (touched c);
     }
 
@@ -47,6 +47,6 @@ pub returns-in-Sandbox : goal.returns-in-Sandbox
 returns-in-Sandbox c =
     record {
       takes = passed c;
-      over = act_over [] [] [] _ c.args.machine.now c.act_in_sandbox.new.machine c.act_in_sandbox.result (passed c [] [] []);
+      over = act_over [] [] _ _ c.args.machine.now c.act_in_sandbox.new.machine c.act_in_sandbox.result (passed c [] [] []);
       sooner = act_sooner c.args.machine.now c.act_in_sandbox.new.machine (act_view c.args.act.now) c.act_in_sandbox.result c.count_act.ensures.paced c.requires (passed c);
     }
