@@ -1,14 +1,15 @@
--- Touches: the acts before them, what they release, and a call of a tainted function; and what else a run asks the world for.
+-- Touches: the acts before them and what they release; what the sandbox's turn comes to; and what else a run asks the world
+-- for.
 use Rattle.std.specs.Prelude.{ℕ, Bool, true, false, nat_lt, List, [], ◌∷◌, length, None, pos}
 use Rattle.std.proofs.Common.{ℤ}
-use Rattle.ckc_text.specs.declared.code.Code.TheVariants.{S1, S2, S5}
+use Rattle.ckc_text.specs.declared.code.Code.TheVariants.{S1, S2}
 use Rattle.flat_bytes.specs.Blocks.{is_refused, counter_after}
 use Rattle.act_words.specs.declared.act.Turn.TheVariants as turns
 use Rattle.act_words.specs.declared.ending.Ending.{Ending}
 use Rattle.act_words.specs.declared.ending.Ending.TheVariants as endings
 use Rattle.act_words.specs.Acts.{Act, Release, Looked, Wrote, Passed, Replied, SeenCall, SeenReply}
 use Rattle.act_words.specs.World.{World, Output, Released, Showed, NoAct, telling, holding, in_turn, taken_one, spent_one, with_inputs}
-use Rattle.act_words.specs.Acting.{BeforeTouch, InSandbox, act_before_touch, act_in_sandbox, with_bytes, sandbox_ended, stopped_by_act}
+use Rattle.act_words.specs.Acting.{BeforeTouch, InSandbox, act_before_touch, act_in_sandbox, with_bytes, sandbox_ended}
 
 -- what the world answers where a meaning asks it for something: a value, or the run's end
 pub data Asked (A : Type 0) : Type 0 where
@@ -45,17 +46,26 @@ touch release w = asking (before_touch w.acts w) (λ _ v. Got _ (released releas
 
 -- ---- the sandbox's turn
 
--- where there is no callback, a call of one breaks the protocol (S5)
-abbrev pub on_with_reply : InSandbox → (World → Asked ℕ) → Asked ℕ
-on_with_reply (InSandbox.Keeps w) next = next w
-on_with_reply (InSandbox.Answers word w) next = Got word w
-on_with_reply (InSandbox.Calls fun words w) next = Ended (stopped_by_act S5 w) w
-on_with_reply (InSandbox.Ends ending w) next = Ended ending w
+-- what the sandbox's turn comes to
+pub data Crossed : Type 0 where
+  -- the innermost tainted call ends with this word
+  Returned : (word : ℕ) (world : World) → Crossed
+  -- a callback is called with these words
+  Called : (fun : ℕ) (words : List ℕ) (world : World) → Crossed
+  -- the run ends
+  Over : (ending : Ending) (world : World) → Crossed
 
--- acts are taken until the `return` of the innermost tainted call. The sandbox ends with the list
-abbrev pub until_return : List Act → World → Asked ℕ
-until_return [] w = Ended sandbox_ended (telling (NoAct turns.Sandbox ∷ []) w)
-until_return (act ∷ acts) w = on_with_reply (act_in_sandbox act (taken_one act acts w)) (until_return acts)
+-- goes on where the sandbox keeps the turn
+abbrev pub on_keeps : InSandbox → (World → Crossed) → Crossed
+on_keeps (InSandbox.Keeps w) next = next w
+on_keeps (InSandbox.Answers word w) next = Returned word w
+on_keeps (InSandbox.Calls fun words w) next = Called fun words w
+on_keeps (InSandbox.Ends ending w) next = Over ending w
+
+-- acts are taken until the next `return` or `call`. The sandbox ends with the list
+abbrev pub until_return : List Act → World → Crossed
+until_return [] w = Over sandbox_ended (telling (NoAct turns.Sandbox ∷ []) w)
+until_return (act ∷ acts) w = on_keeps (act_in_sandbox act (taken_one act acts w)) (until_return acts)
 
 -- ---- what calls ask for
 
@@ -74,11 +84,6 @@ entered_if false w = Ended (endings.Stop S2 None) w
 -- S2: a call would make 1,001 open calls
 abbrev pub enter_call : ℕ → World → Asked (Unit {0})
 enter_call depth w = entered_if (nat_lt depth 1000) w
-
--- a call of a tainted function while these many calls are open: it counts as one more until its reply
-abbrev pub tainted_call : ℕ → ℕ → List ℕ → World → Asked ℕ
-tainted_call depth fun words w =
-    asking (enter_call depth w) (λ _ u. asking (touch (Passed fun words) u) (λ _ v. until_return v.acts v))
 
 -- ---- input, output, and room
 

@@ -3,12 +3,12 @@ use Rattle.std.proofs.Common.{◌≡◌, ℕ, zero, suc, ◌+◌, ◌≤◌, Boo
 use Rattle.std.specs.Prelude.{◌==◌, ◌&&◌, nat_lt, slice_get}
 use Rattle.flat_bytes.specs.Blocks.{first_offset}
 use Rattle.act_words.specs.declared.settings.Settings.{Settings}
-use Rattle.act_words.specs.Acts.{Act}
+use Rattle.act_words.specs.Acts.{Act, Passed}
 use Rattle.act_words.specs.Outcome.{Gives, Ends, Stuck, Short, and_then}
 use Rattle.act_words.specs.Checks.{Checked, Holds, Fails, is_word_number}
 use Rattle.act_words.specs.Arithmetic as arithmetic
 use Rattle.act_words.specs.World.{new_world}
-use Rattle.act_words.specs.Touches.{Asked, Got, Ended, spend_tick, enter_call, next_input, tainted_call}
+use Rattle.act_words.specs.Touches.{Asked, Got, Ended, Crossed, spend_tick, enter_call, next_input, touch, until_return}
 use Rattle.pointer_modes.specs.Types.{CType, Int, Char, Struct, Pointer}
 use Rattle.ckc_core.specs.declared.program.Site.{Site}
 use Rattle.act_words.specs.declared.operator.Operator.{Operator}
@@ -17,8 +17,8 @@ use Rattle.ckc_core.specs.declared.program.Callee.{Callee}
 use Rattle.ckc_core.specs.declared.program.Callee.TheVariants as callees
 use Rattle.ckc_core.specs.Core as core
 use Rattle.ckc_core.specs.States.{Value, Number, Null, At, Cell, State, in_world, cell_at, stands_at, stands_behind, same_type, has_type}
-use Rattle.ckc_core.specs.Meaning.{Result, Flow, Next, Broke, Continued, Returned, Knot, Setting, given, checked, value_if, value_in, place_where, place_in, place_through, load_at, place_if, pointer_to, truth, same_place, test_given, result_of, arithmetic_of, compared, negated, complemented, low_byte_of, asked, words_of, reply_as, cross, cross_if, call_tainted, takes, enter_if, call_trusted, called, result_given, choose, value, values, place, store_if, store_over, store_at, set_local_if, set_local, pointer_of, place_from, kept_if, is_char, printed, put, on_next, behind_turn, no_result, effect, effects, answer, locals_for, back, body_if, body_of, knot, exit, initial, meaning}
-use Rattle.ckc_core.proofs.Ticks.{HasSpent, Answers, tick_answers, enter_answers, call_answers, next_answers}
+use Rattle.ckc_core.specs.Meaning.{Result, Flow, Next, Broke, Continued, Returned, Knot, Setting, given, checked, value_if, value_in, place_where, place_in, place_through, load_at, place_if, pointer_to, truth, same_place, test_given, result_of, arithmetic_of, compared, negated, complemented, low_byte_of, asked, words_of, reply_as, passed, cross, cross_if, call_tainted, crossed, takes, enter_if, call_trusted, called, result_given, choose, value, values, place, store_if, store_over, store_at, set_local_if, set_local, pointer_of, place_from, kept_if, is_char, printed, put, on_next, behind_turn, no_result, effect, effects, answer, locals_for, back, body_if, body_of, knot, exit, initial, meaning}
+use Rattle.ckc_core.proofs.Ticks.{HasSpent, Answers, Crosses, tick_answers, enter_answers, touch_answers, until_crosses, next_answers}
 
 -- from a state in which so many ticks were spent at least: no fewer were in the state behind a value, and it isn't short
 abbrev pub Goes : ℕ → {A : Type 0} → ℕ → Result A → Type 0
@@ -192,6 +192,7 @@ module _ (budget : ℕ) where
     pub record IsKnot (k : Knot) : Type 0 where
       pub call : (low function : ℕ) (vs : List Value) (s : State) → suc budget ≤ low + n → HasSpent budget low s.world → Goes budget low (k.call function vs s)
       pub turn : (low : ℕ) (e : core.Expression) (x y : core.Statement) (s : State) → suc budget ≤ low + n → HasSpent budget low s.world → Goes budget low (k.turn e x y s)
+      pub sandbox : (low : ℕ) (s : State) → suc budget ≤ low + n → HasSpent budget low s.world → Goes budget low (k.sandbox s)
 
     module _ (k : Knot) (is : IsKnot k) where
       enter_goes : (low : ℕ) (enough : budget ≤ low + n) (test : Bool) (function : ℕ) (vs : List Value) (s : State) → HasSpent budget low s.world → Goes budget low (enter_if test g k function vs s)
@@ -204,24 +205,32 @@ module _ (budget : ℕ) where
       trusted_goes : (low : ℕ) (enough : budget ≤ low + n) (function : ℕ) (vs : List Value) (s : State) → HasSpent budget low s.world → Goes budget low (call_trusted g k function vs s)
       trusted_goes low enough function vs s spent = enter_goes low enough (takes (slice_get program.functions function) (length vs)) function vs s spent
 
-      cross_goes : (low import : ℕ) (i : core.Import) (site : Site) (o : Option (List ℕ)) (s : State) → HasSpent budget low s.world → Goes budget low (cross g import i site o s)
-      cross_goes low import i site None s spent = tt
-      cross_goes low import i site (Some words) s spent =
+      passed_goes : (low : ℕ) (enough : suc budget ≤ low + n) (i : core.Import) (site : Site) (s : State) → HasSpent budget low s.world → Goes budget low (passed k i site s)
+      passed_goes low enough i site s spent =
+          let inside : State = record s { depth = s.depth + 1 } in
+          goes_on low (and_then (k.sandbox inside) (back s)) (reply_as i.result site)
+          (goes_on low (k.sandbox inside) (back s) (is.sandbox low inside enough spent) (λ reply t t_spent. t_spent))
+          (λ reply t t_spent. reply_goes low t t_spent i.result site reply)
+
+      cross_goes : (low : ℕ) (enough : budget ≤ low + n) (import : ℕ) (i : core.Import) (site : Site) (o : Option (List ℕ)) (s : State) → HasSpent budget low s.world → Goes budget low (cross g k import i site o s)
+      cross_goes low enough import i site None s spent = tt
+      cross_goes low enough import i site (Some words) s spent =
           lowered low _ (asked_goes (suc low) (spend_tick budget s.world) s _ (tick_answers budget low s.world spent)
-          (λ _ t t_spent. asked_goes (suc low) (tainted_call t.depth import words t.world) t _ (call_answers budget (suc low) t.depth import words t.world t_spent)
-          (λ reply u u_spent. reply_goes (suc low) u u_spent i.result site reply)))
+          (λ _ t t_spent. asked_goes (suc low) (enter_call t.depth t.world) t _ (enter_answers budget (suc low) t.depth t.world t_spent)
+          (λ _ u u_spent. asked_goes (suc low) (touch (Passed import words) u.world) u _ (touch_answers budget (suc low) (Passed import words) u.world u_spent)
+          (λ _ v v_spent. passed_goes (suc low) (omega (arith, enough)) i site v v_spent))))
 
-      crossed_goes : (low : ℕ) (test : Bool) (import : ℕ) (i : core.Import) (site : Site) (vs : List Value) (s : State) → HasSpent budget low s.world → Goes budget low (cross_if test g import i site vs s)
-      crossed_goes low true import i site vs s spent = cross_goes low import i site (words_of vs) s spent
-      crossed_goes low false import i site vs s spent = tt
+      crossed_goes : (low : ℕ) (enough : budget ≤ low + n) (test : Bool) (import : ℕ) (i : core.Import) (site : Site) (vs : List Value) (s : State) → HasSpent budget low s.world → Goes budget low (cross_if test g k import i site vs s)
+      crossed_goes low enough true import i site vs s spent = cross_goes low enough import i site (words_of vs) s spent
+      crossed_goes low enough false import i site vs s spent = tt
 
-      tainted_goes : (low import : ℕ) (o : Option core.Import) (site : Site) (vs : List Value) (s : State) → HasSpent budget low s.world → Goes budget low (call_tainted g import o site vs s)
-      tainted_goes low import None site vs s spent = tt
-      tainted_goes low import (Some i) site vs s spent = crossed_goes low (i.parameters == length vs) import i site vs s spent
+      tainted_goes : (low : ℕ) (enough : budget ≤ low + n) (import : ℕ) (o : Option core.Import) (site : Site) (vs : List Value) (s : State) → HasSpent budget low s.world → Goes budget low (call_tainted g k import o site vs s)
+      tainted_goes low enough import None site vs s spent = tt
+      tainted_goes low enough import (Some i) site vs s spent = crossed_goes low enough (i.parameters == length vs) import i site vs s spent
 
       called_goes : (low : ℕ) (enough : budget ≤ low + n) (callee : Callee) (vs : List Value) (s : State) → HasSpent budget low s.world → Goes budget low (called g k callee vs s)
       called_goes low enough (callees.Trusted function) vs s spent = trusted_goes low enough function vs s spent
-      called_goes low enough (callees.Tainted import site) vs s spent = tainted_goes low import (slice_get program.imports import) site vs s spent
+      called_goes low enough (callees.Tainted import site) vs s spent = tainted_goes low enough import (slice_get program.imports import) site vs s spent
 
       -- ---- expressions
 
@@ -348,14 +357,22 @@ module _ (budget : ℕ) where
       body_goes low enough None vs s spent = tt
       body_goes low enough (Some f) vs s spent = body_goes_if low enough (f.parameters == length vs) f vs s spent
 
+  -- the sandbox's turn
+  sandbox_goes : (low : ℕ) (c : Crossed) (s : State) → Crosses budget low c → Goes budget low (crossed c s)
+  sandbox_goes low (Crossed.Returned word w) s h = h
+  sandbox_goes low (Crossed.Called fun words w) s h = tt
+  sandbox_goes low (Crossed.Over ending w) s h = tt
+
   knots : (program : core.Core) (n : ℕ) → IsKnot program n (knot (record { program = program; budget = budget }) n)
   knots program zero = record {
     call = λ low function vs s enough spent. absurd (omega (arith, spent.least, spent.most));
     turn = λ low e x y s enough spent. absurd (omega (arith, spent.least, spent.most));
+    sandbox = λ low s enough spent. absurd (omega (arith, spent.least, spent.most));
   }
   knots program (suc n) = record {
     call = λ low function vs s enough spent. body_goes program n _ (knots program n) low (omega (arith, enough)) (slice_get program.functions function) vs s spent;
     turn = λ low e x y s enough spent. effect_goes program n _ (knots program n) (core.Loop e x y) low (omega (arith, enough)) s spent;
+    sandbox = λ low s enough spent. sandbox_goes low (until_return s.world.acts s.world) s (until_crosses budget low s.world.acts s.world spent);
   }
 
   exit_goes : (low : ℕ) (v : Option Value) (s : State) → Goes budget low (exit v s)

@@ -5,7 +5,7 @@ use Rattle.std.proofs.lemmas.Bool.Decides.{nat_tests}
 use Rattle.act_words.specs.Acts.{Act, Go, Read, Write, Call, Return, Stop, Release, Looked, Wrote, Passed, Replied}
 use Rattle.act_words.specs.World.{World, taken_one}
 use Rattle.act_words.specs.Acting.{BeforeTouch, InSandbox, act_before_touch, act_in_sandbox, waits_or_ends, keeps_or_ends, shown_if, written_if, lies_in}
-use Rattle.act_words.specs.Touches.{Asked, Got, Ended, asking, on_from, before_touch, touch, released, on_with_reply, until_return, spent_if, spend_tick, entered_if, enter_call, tainted_call, input_from, next_input}
+use Rattle.act_words.specs.Touches.{Asked, Got, Ended, asking, on_from, before_touch, touch, released, Crossed, on_keeps, until_return, spent_if, spend_tick, entered_if, enter_call, input_from, next_input}
 
 module _ (budget : ℕ) where
   -- so many ticks were spent at least, and no more than there may be
@@ -94,20 +94,25 @@ module _ (budget : ℕ) where
     released_spent (Passed fun args) w h = record { least = h.least; most = h.most }
     released_spent (Replied value) w h = record { least = h.least; most = h.most }
 
-    touch_answers : (release : Release) (w : World) → HasSpent low w → Answers low (touch release w)
+    pub touch_answers : (release : Release) (w : World) → HasSpent low w → Answers low (touch release w)
     touch_answers release w h = asking_answers low (before_touch w.acts w) _ (before_answers w.acts w h) (λ _ v v_spent. released_spent release v v_spent)
 
     -- ---- the sandbox's turn
 
-    reply_goes_on : (b : InSandbox) (next : World → Asked ℕ) → SpentInside b → ((w : World) → HasSpent low w → Answers low (next w)) → Answers low (on_with_reply b next)
-    reply_goes_on (InSandbox.Keeps w) next h more = more w h
-    reply_goes_on (InSandbox.Answers word w) next h more = h
-    reply_goes_on (InSandbox.Calls fun words w) next h more = tt
-    reply_goes_on (InSandbox.Ends ending w) next h more = tt
+    abbrev pub Crosses : Crossed → Type 0
+    Crosses (Crossed.Returned word w) = HasSpent low w
+    Crosses (Crossed.Called fun words w) = Unit {0}
+    Crosses (Crossed.Over ending w) = Unit {0}
 
-    until_answers : (acts : List Act) (w : World) → HasSpent low w → Answers low (until_return acts w)
-    until_answers [] w h = tt
-    until_answers (act ∷ acts) w h = reply_goes_on (act_in_sandbox act (taken_one act acts w)) (until_return acts) (act_inside act (taken_one act acts w) (taken act acts w h)) (until_answers acts)
+    crosses_on : (b : InSandbox) (next : World → Crossed) → SpentInside b → ((w : World) → HasSpent low w → Crosses (next w)) → Crosses (on_keeps b next)
+    crosses_on (InSandbox.Keeps w) next h more = more w h
+    crosses_on (InSandbox.Answers word w) next h more = h
+    crosses_on (InSandbox.Calls fun words w) next h more = tt
+    crosses_on (InSandbox.Ends ending w) next h more = tt
+
+    pub until_crosses : (acts : List Act) (w : World) → HasSpent low w → Crosses (until_return acts w)
+    until_crosses [] w h = tt
+    until_crosses (act ∷ acts) w h = crosses_on (act_in_sandbox act (taken_one act acts w)) (until_return acts) (act_inside act (taken_one act acts w) (taken act acts w h)) (until_crosses acts)
 
     -- ---- what a run asks for
 
@@ -125,11 +130,6 @@ module _ (budget : ℕ) where
 
     pub enter_answers : (depth : ℕ) (w : World) → HasSpent low w → Answers low (enter_call depth w)
     enter_answers depth w h = entered_answers (nat_lt depth 1000) w h
-
-    pub call_answers : (depth fun : ℕ) (words : List ℕ) (w : World) → HasSpent low w → Answers low (tainted_call depth fun words w)
-    call_answers depth fun words w h =
-        asking_answers low (enter_call depth w) _ (enter_answers depth w h)
-        (λ _ u u_spent. asking_answers low (touch (Passed fun words) u) _ (touch_answers (Passed fun words) u u_spent) (λ _ v v_spent. until_answers v.acts v v_spent))
 
     input_answers : (inputs : List ℤ) (w : World) → HasSpent low w → Answers low (input_from inputs w)
     input_answers [] w h = h

@@ -2,10 +2,11 @@
 use Rattle.std.specs.Prelude.{ℕ, zero, suc, ◌+◌, ◌%◌, Bool, true, false, not, ◌&&◌, ◌==◌, List, [], ◌∷◌, ◌++◌, Option, Some, None, option_map}
 use Rattle.std.specs.Prelude.{slice_get, slice_set, nat_lt, length, map, drop, replicate, pos}
 use Rattle.std.proofs.Common.{ℤ}
-use Rattle.ckc_text.specs.declared.code.Code.TheVariants.{C1, C9}
+use Rattle.ckc_text.specs.declared.code.Code.TheVariants.{C1, C9, S5}
 use Rattle.act_words.specs.declared.ending.Ending.TheVariants.{Check, Exit}
 use Rattle.act_words.specs.declared.settings.Settings.{Settings}
-use Rattle.act_words.specs.Acts.{Act}
+use Rattle.act_words.specs.Acts.{Act, Passed}
+use Rattle.act_words.specs.Acting.{stopped_by_act}
 use Rattle.act_words.specs.Outcome.{Outcome, Gives, Ends, Stuck, Short, and_then}
 use Rattle.act_words.specs.Numbers.{signed, word, number_line}
 use Rattle.act_words.specs.Checks.{Checked, Holds, Fails, is_word_number}
@@ -13,7 +14,7 @@ use Rattle.flat_bytes.specs.Blocks.{first_offset}
 use Rattle.pointer_modes.specs.Types.{CType, Int, Char, Struct, Pointer}
 use Rattle.act_words.specs.Arithmetic as arithmetic
 use Rattle.act_words.specs.World.{World, new_world}
-use Rattle.act_words.specs.Touches.{Asked, Got, Ended, spend_tick, enter_call, next_input, write, tainted_call}
+use Rattle.act_words.specs.Touches.{Asked, Got, Ended, Crossed, spend_tick, enter_call, next_input, write, touch, until_return}
 use Rattle.ckc_core.specs.declared.program.Site.{Site}
 use Rattle.act_words.specs.declared.operator.Operator.{Operator}
 use Rattle.act_words.specs.declared.operator.Operator.TheVariants as operators
@@ -36,11 +37,13 @@ pub data Flow : Type 0 where
   Continued : Flow
   Returned : (value : Option Value) → Flow
 
--- What is no recursion on the tree: a call of a function, whose result may be nothing, and a further turn of a loop. Both
--- come behind a tick.
+-- What is no recursion on the tree, each behind a tick: a call of a function, whose result may be nothing, and a further turn
+-- of a loop. Behind the tick of a tainted call the sandbox has the turn.
 pub record Knot : Type 0 where
   pub call : ℕ → List Value → State → Result (Option Value)
   pub turn : core.Expression → core.Statement → core.Statement → State → Result Flow
+  -- the sandbox goes on from here until the innermost tainted call ends
+  pub sandbox : State → Result ℕ
 
 -- what all of a run knows: the program, and its budget
 pub record Setting : Type 0 where
@@ -170,19 +173,35 @@ reply_as (Some Char) site reply s = char_if (nat_lt reply 256)
 reply_as (Some (Struct number)) site reply s = Stuck
 reply_as (Some (Pointer mode kind target)) site reply s = Stuck
 
-abbrev pub cross : Setting → ℕ → core.Import → Site → Option (List ℕ) → State → Result (Option Value)
-cross g import i site None s = Stuck
-cross g import i site (Some passed) s =
-    asked (spend_tick g.budget s.world) s (λ _ t. asked (tainted_call t.depth import passed t.world) t (reply_as i.result site))
+-- back in the function that called, with its own locals
+abbrev pub back : {A : Type 0} → State → A → State → Result A
+back before v after = Gives v (record after { locals = before.locals; depth = before.depth })
 
-abbrev pub cross_if : Bool → Setting → ℕ → core.Import → Site → List Value → State → Result (Option Value)
-cross_if true g import i site values s = cross g import i site (words_of values) s
-cross_if false g import i site values s = Stuck
+-- the sandbox has the turn until the call ends: it counts among the open ones
+abbrev pub passed : Knot → core.Import → Site → State → Result (Option Value)
+passed k i site s = and_then (and_then (k.sandbox (record s { depth = s.depth + 1 })) (back s)) (reply_as i.result site)
+
+-- behind the tick and the test of the depth, the words are passed by a touch
+abbrev pub cross : Setting → Knot → ℕ → core.Import → Site → Option (List ℕ) → State → Result (Option Value)
+cross g k import i site None s = Stuck
+cross g k import i site (Some words) s =
+    asked (spend_tick g.budget s.world) s (λ _ t. asked (enter_call t.depth t.world) t
+    (λ _ u. asked (touch (Passed import words) u.world) u (λ _ v. passed k i site v)))
+
+abbrev pub cross_if : Bool → Setting → Knot → ℕ → core.Import → Site → List Value → State → Result (Option Value)
+cross_if true g k import i site values s = cross g k import i site (words_of values) s
+cross_if false g k import i site values s = Stuck
 
 -- a call of a tainted function that is there and takes as many arguments
-abbrev pub call_tainted : Setting → ℕ → Option core.Import → Site → List Value → State → Result (Option Value)
-call_tainted g import None site values s = Stuck
-call_tainted g import (Some i) site values s = cross_if (i.parameters == length values) g import i site values s
+abbrev pub call_tainted : Setting → Knot → ℕ → Option core.Import → Site → List Value → State → Result (Option Value)
+call_tainted g k import None site values s = Stuck
+call_tainted g k import (Some i) site values s = cross_if (i.parameters == length values) g k import i site values s
+
+-- what acts in the sandbox's turn came to; there are no callbacks
+abbrev pub crossed : Crossed → State → Result ℕ
+crossed (Crossed.Returned word w) s = Gives word (in_world w s)
+crossed (Crossed.Called fun words w) s = Ends (stopped_by_act S5 w) (in_world w s)
+crossed (Crossed.Over ending w) s = Ends ending (in_world w s)
 
 -- a function that is there takes as many arguments
 abbrev pub takes : Option core.Function → ℕ → Bool
@@ -200,7 +219,7 @@ call_trusted g k function values s = enter_if (takes (slice_get g.program.functi
 -- what a call comes to
 abbrev pub called : Setting → Knot → Callee → List Value → State → Result (Option Value)
 called g k (callees.Trusted function) values s = call_trusted g k function values s
-called g k (callees.Tainted import site) values s = call_tainted g import (slice_get g.program.imports import) site values s
+called g k (callees.Tainted import site) values s = call_tainted g k import (slice_get g.program.imports import) site values s
 
 -- the result of a call that has one
 abbrev pub result_given : Option Value → State → Result Value
@@ -370,10 +389,6 @@ answer result Continued s = Stuck
 abbrev pub locals_for : core.Function → List Value → List Value
 locals_for f values = values ++ map zero_of (drop f.parameters f.locals)
 
--- back in the function that called, with its own locals
-abbrev pub back : State → Option Value → State → Result (Option Value)
-back before v after = Gives v (record after { locals = before.locals; depth = before.depth })
-
 abbrev pub body_if : Bool → Setting → Knot → core.Function → List Value → State → Result (Option Value)
 body_if true g k f values s =
     and_then (and_then (effects g k f.body (record s { locals = locals_for f values; depth = s.depth + 1 })) (answer f.result)) (back s)
@@ -385,11 +400,12 @@ body_of g k (Some f) values s = body_if (f.parameters == length values) g k f va
 
 -- calls and turns that may go on for a number of ticks
 abbrev pub knot : Setting → ℕ → Knot
-knot g zero = record { call = λ function values s. Short; turn = λ condition body step s. Short }
+knot g zero = record { call = λ function values s. Short; turn = λ condition body step s. Short; sandbox = λ s. Short }
 knot g (suc ticks) =
     record {
       call = λ function values s. body_of g (knot g ticks) (slice_get g.program.functions function) values s;
       turn = λ condition body step s. effect g (knot g ticks) (core.Loop condition body step) s;
+      sandbox = λ s. crossed (until_return s.world.acts s.world) s;
     }
 
 -- the run ends with the number that `main` returned

@@ -6,6 +6,7 @@ use Rattle.std.proofs.Math.Seq.{take-append_seam, drop-append_seam}
 use Rattle.std.proofs.lemmas.List.{reverse-append, reverse-reverse, length-reverse, length-map}
 use Rattle.std.proofs.lemmas.Bool.Decides.{nat_tests}
 use Rattle.ckc_text.specs.declared.code.Code.TheVariants.{S2}
+use Rattle.act_words.specs.Acts.{IsWord}
 use Rattle.act_words.specs.declared.ending.Ending.TheVariants.{Stop}
 use Rattle.act_words.specs.Touches.{entered_if, enter_call, spend_tick}
 use Rattle.ckc_core.specs.Core.{Function}
@@ -14,9 +15,9 @@ use Rattle.ckc_core.specs.States.{Value, Number, Null, At}
 use Rattle.ckc_core.specs.States as meaning
 use Rattle.ckc_core.specs.Meaning.{Result, Knot, Flow, Next, Broke, Continued, Returned, Setting, enter_if, takes, call_trusted}
 use Rattle.ckc_core.specs.Meaning as meanings
-use Rattle.code_words.specs.Table.{Frame, Caller, Calls, Runs, State, Step, Goes, Over, act, pop_words, pop_if, call_function, enter, behind, frame_for, push_result, return_to, depth}
+use Rattle.code_words.specs.Table.{Frame, Caller, Calls, Runs, Away, State, Step, Goes, Over, act, pop_words, pop_if, call_function, enter, behind, frame_for, push_result, return_to, depth}
 use Rattle.code_words.specs.Table as table
-use Rattle.code_words.specs.Moves.{move}
+use Rattle.code_words.specs.Moves.{move, answer as answer_by}
 use Rattle.code_words.specs.declared.op.Op.TheVariants as ops
 use Rattle.lowering_code.specs.Code.{Places, statement_size, statement_code}
 use Rattle.ckc_core.specs.Stacks.{statement_stack}
@@ -99,10 +100,20 @@ pub record ArePlaces (g : Execution) (l : Layout g) (p : Places) : Type 0 where
 abbrev pub test_of : ℕ → core.Statement → core.Statement → ℕ
 test_of at body step = at + 2 + statement_size body + statement_size step
 
--- the code does what calls and further turns mean
+-- the innermost tainted call ends with a word
+pub record Answered (g : Execution) (callers : List Caller) (reply : ℕ) (t : meaning.State) : Type 0 where
+  pub is_word : IsWord reply
+  pub blocks : KeptBlocks g t.blocks
+  pub world : KeptWorld t.world
+  pub before : meaning.State
+  pub reached : Reached g (state g Away callers before)
+  pub answers : move (image g) g.settings (state g Away callers before) ≡ answer_by (image g) callers reply (state g Away callers t)
+
+-- the code does what calls, further turns and the sandbox's turn mean
 pub record KnotRuns (g : Execution) (k : Knot) : Type 0 where
   pub call : (number : ℕ) (f : Function) (callers : List Caller) (values : List Value) (s : meaning.State) → slice_get g.program.functions number ≡ Some f → f.parameters ≡ length values → AllByRecursion (IsKept g) values → KeptBlocks g s.blocks → KeptWorld s.world → s.depth ≡ length callers → Reached g (entered g number f callers values s) → Leads (Returns g callers s) (Finishes g) (k.call number values s)
   pub turn : (l : Layout g) (p : Places) (at : ℕ) (condition : core.Expression) (body step : core.Statement) (s : meaning.State) → ArePlaces g l p → HasAt (code g l).ops at (statement_code p at (core.Loop condition body step)) → statement_stack (core.Loop condition body step) ≤ (code g l).stack → at + statement_size (core.Loop condition body step) < length (code g l).ops → Here g l (test_of at body step) [] s → Affects g l p (at + statement_size (core.Loop condition body step)) (k.turn condition body step s)
+  pub sandbox : (callers : List Caller) (s : meaning.State) → KeptBlocks g s.blocks → KeptWorld s.world → s.depth ≡ suc (length callers) → Reached g (state g Away callers s) → Leads (Answered g callers) (Finishes g) (k.sandbox s)
 
 -- ---- back in the caller
 

@@ -34,6 +34,7 @@ use Rattle.lowering_code.proofs.Steps.{HasAt, has_front, has_back, has_all, Lead
 use Rattle.lowering_code.proofs.Sizes.{length_statements}
 use Rattle.lowering_code.proofs.Calls.{entered, Leaves, Returns, FlowsTo, ArePlaces, KnotRuns}
 use Rattle.lowering_code.proofs.Values.{setting}
+use Rattle.lowering_code.proofs.Tainted.{sandbox_runs}
 use Rattle.lowering_code.proofs.Statements.{return_runs, nothing_runs, loop_runs, effect_runs, effects_run}
 
 -- ---- the locals of a function that is called
@@ -142,6 +143,7 @@ knot_runs : (g : Execution) (ticks : ℕ) → KnotRuns g (knot (setting g) ticks
 knot_runs g zero = record {
   call = λ number f callers values s there count all blocks world depth reached. tt;
   turn = λ l p at condition body step s places has room low here. tt;
+  sandbox = λ callers s blocks world depth reached. tt;
 }
 knot_runs g (suc ticks) =
     let runs = knot_runs g ticks in
@@ -149,6 +151,7 @@ knot_runs g (suc ticks) =
       call = called_runs g ticks runs;
       turn = λ l p at condition body step s places has room low here.
           loop_runs g l (knot (setting g) ticks) runs condition body step (effect_runs g l (knot (setting g) ticks) runs body) (effect_runs g l (knot (setting g) ticks) runs step) p at s places has room low here;
+      sandbox = λ callers s blocks world depth reached. sandbox_runs g callers s blocks s.world.acts s.world world.acts (record { left = refl; inputs = world.inputs }) reached;
     }
 
 -- ---- the whole run

@@ -10,20 +10,21 @@ use Rattle.act_words.specs.declared.ending.Ending.{Ending}
 use Rattle.act_words.specs.declared.ending.Ending.TheVariants.{Check, Stop}
 use Rattle.act_words.specs.declared.act.Turn.TheVariants as turns
 use Rattle.act_words.specs.Acts.{Act, IsAct, IsWord, Passed}
+use Rattle.act_words.specs.Outcome.{and_then}
 use Rattle.act_words.specs.Numbers.{word, signed}
 use Rattle.act_words.specs.World.{World, NoAct, telling, taken_one}
 use Rattle.act_words.specs.Acting.{BeforeTouch, InSandbox, act_before_touch, act_in_sandbox, sandbox_ended}
-use Rattle.act_words.specs.Touches.{Asked, Got, Ended, asking, on_from, on_with_reply, before_touch, released, until_return, entered_if, enter_call, spend_tick, tainted_call, touch}
+use Rattle.act_words.specs.Touches.{Asked, Got, Ended, Crossed, asking, on_from, on_keeps, before_touch, released, until_return, entered_if, enter_call, spend_tick, touch}
 use Rattle.pointer_modes.specs.Types.{CType, Int, Char, Struct, Pointer}
 use Rattle.ckc_core.specs.declared.program.Site.{Site}
 use Rattle.ckc_core.specs.Core as core
 use Rattle.ckc_core.specs.States.{Value, Number, Null, At}
 use Rattle.ckc_core.specs.States as meaning
-use Rattle.ckc_core.specs.Meaning.{Result, words_of, reply_as, cross, cross_if, call_tainted}
+use Rattle.ckc_core.specs.Meaning.{Result, Knot, words_of, reply_as, passed, crossed, back, cross, cross_if, call_tainted}
 use Rattle.ckc_core.specs.Meaning as meanings
 use Rattle.code_words.specs.Table.{Frame, Caller, Waits, Passes, Touches, Away, State, Step, Goes, Over, act, pop_words, behind, push_result}
 use Rattle.code_words.specs.Table as table
-use Rattle.code_words.specs.Moves.{move, before_touch_by, in_sandbox_by, answer, reply_to}
+use Rattle.code_words.specs.Moves.{move, before_touch_by, in_sandbox_by, reply_to}
 use Rattle.code_words.specs.Moves as moves
 use Rattle.marshalling.specs.Crossing.{fits_kind}
 use Rattle.lowering_code.specs.Code.{result_kind}
@@ -31,10 +32,10 @@ use Rattle.code_words.specs.declared.op.Op.TheVariants as ops
 use Rattle.lowering_code.specs.Images.{import_code, imports_from}
 use Rattle.ckc_core.proofs.Numbers.{word-signed, signed_fits}
 use Rattle.lowering_code.proofs.Worlds.{KeptWorld, HasLeft, BeforeKeeps, SandboxKeeps, act_waits, act_keeps}
-use Rattle.lowering_code.proofs.Executions.{Execution, image, word_of, state, KeptBlocks, same_end}
-use Rattle.lowering_code.proofs.Steps.{HasAt, Leads, Asks, asks_on, Reached, Finishes, one_move, last_move, Layout, Holds, code, frame, standing, Kept, Here, kept_in, fetched}
+use Rattle.lowering_code.proofs.Executions.{Execution, image, word_of, state, IsKept, KeptBlocks, same_end}
+use Rattle.lowering_code.proofs.Steps.{HasAt, Leads, leads_on, Asks, asks_on, Reached, Finishes, one_move, last_move, Layout, Holds, code, frame, standing, Kept, Here, kept_in, fetched}
 use Rattle.lowering_code.proofs.Expressions.{tick_runs}
-use Rattle.lowering_code.proofs.Calls.{piled, piled_words, popped, Resumes, resumed}
+use Rattle.lowering_code.proofs.Calls.{Answered, KnotRuns, piled, piled_words, popped, Resumes, resumed}
 
 -- the worlds that are left
 kept_world : (acts : List Act) (w : World) → AllByRecursion IsAct acts → HasLeft acts w → KeptWorld w
@@ -79,39 +80,26 @@ module _ (g : Execution) (s : meaning.State) (blocks : KeptBlocks g s.blocks) (c
       (ap (λ acts. moves.before_touch (image g) f (Passes k words place) acts (touching w)) left.left)
       (λ v h r. passes acts v all.1 h r)
 
-  -- the innermost tainted call ends with a word
-  record Answered (reply : ℕ) (w : World) : Type 0 where
-    is_word : IsWord reply
-    kept : KeptWorld w
-    before : World
-    reached : Reached g (away before)
-    answers : move (image g) g.settings (away before) ≡ answer (image g) (Waits (behind f f.stack) k place ∷ callers) reply (away w)
+-- the sandbox's turn
+module _ (g : Execution) (callers : List Caller) (s : meaning.State) (blocks : KeptBlocks g s.blocks) where
+  abbrev resting : World → State
+  resting w = state g Away callers (meaning.in_world w s)
 
-  act_answers : (acts : List Act) (x : InSandbox) (w : World) (next : World → Asked ℕ) → AllByRecursion IsAct acts → SandboxKeeps acts x → Reached g (away w) → move (image g) g.settings (away w) ≡ in_sandbox_by (image g) g.settings x (away w) → ((v : World) → HasLeft acts v → Reached g (away v) → Asks Answered EndsIn (next v)) → Asks Answered EndsIn (on_with_reply x next)
-  act_answers acts (InSandbox.Keeps v) w next all left reached goes more = more v left (one_move g (away w) (away v) reached goes)
-  act_answers acts (InSandbox.Answers reply v) w next all left reached goes more = record { is_word = left.0; kept = kept_world acts v all left.1; before = w; reached = reached; answers = goes }
-  act_answers acts (InSandbox.Calls fun args v) w next all left reached goes more =
-      last_move g (away w) (away v) _ (meaning.in_world v s) reached goes (same_end g Away (Waits (behind f f.stack) k place ∷ callers) (meaning.in_world v s) blocks)
-  act_answers acts (InSandbox.Ends ending v) w next all left reached goes more =
-      last_move g (away w) (away v) ending (meaning.in_world v s) reached goes (same_end g Away (Waits (behind f f.stack) k place ∷ callers) (meaning.in_world v s) blocks)
+  act_answers : (acts : List Act) (x : InSandbox) (w : World) (next : World → Crossed) → AllByRecursion IsAct acts → SandboxKeeps acts x → Reached g (resting w) → move (image g) g.settings (resting w) ≡ in_sandbox_by (image g) g.settings x (resting w) → ((v : World) → HasLeft acts v → Reached g (resting v) → Leads (Answered g callers) (Finishes g) (crossed (next v) s)) → Leads (Answered g callers) (Finishes g) (crossed (on_keeps x next) s)
+  act_answers acts (InSandbox.Keeps v) w next all left reached goes more = more v left (one_move g (resting w) (resting v) reached goes)
+  act_answers acts (InSandbox.Answers reply v) w next all left reached goes more =
+      record { is_word = left.0; blocks = blocks; world = kept_world acts v all left.1; before = meaning.in_world w s; reached = reached; answers = goes }
+  act_answers acts (InSandbox.Calls fun args v) w next all left reached goes more = last_move g (resting w) (resting v) _ (meaning.in_world v s) reached goes (same_end g Away callers (meaning.in_world v s) blocks)
+  act_answers acts (InSandbox.Ends ending v) w next all left reached goes more = last_move g (resting w) (resting v) ending (meaning.in_world v s) reached goes (same_end g Away callers (meaning.in_world v s) blocks)
 
-  answered : (acts : List Act) (w : World) → AllByRecursion IsAct acts → HasLeft acts w → Reached g (away w) → Asks Answered EndsIn (until_return acts w)
-  answered [] w all left reached =
+  pub sandbox_runs : (acts : List Act) (w : World) → AllByRecursion IsAct acts → HasLeft acts w → Reached g (resting w) → Leads (Answered g callers) (Finishes g) (crossed (until_return acts w) s)
+  sandbox_runs [] w all left reached =
       let v = telling (NoAct turns.Sandbox ∷ []) w in
-      last_move g (away w) (away v) sandbox_ended (meaning.in_world v s) reached (ap (λ acts. moves.in_sandbox (image g) g.settings acts (away w)) left.left) (same_end g Away (Waits (behind f f.stack) k place ∷ callers) (meaning.in_world v s) blocks)
-  answered (a ∷ acts) w all left reached =
+      last_move g (resting w) (resting v) sandbox_ended (meaning.in_world v s) reached (ap (λ acts. moves.in_sandbox (image g) g.settings acts (resting w)) left.left) (same_end g Away callers (meaning.in_world v s) blocks)
+  sandbox_runs (a ∷ acts) w all left reached =
       act_answers acts (act_in_sandbox a (taken_one a acts w)) w (until_return acts) all.1 (act_keeps acts a (taken_one a acts w) all.0 (record { left = refl; inputs = left.inputs })) reached
-      (ap (λ acts. moves.in_sandbox (image g) g.settings acts (away w)) left.left)
-      (λ v h r. answered acts v all.1 h r)
-
-  -- a call that is passed, from the touch to the reply
-  crossed : (w : World) → KeptWorld w → Reached g (touching w) → Asks Answered EndsIn (asking (touch (Passed k words) w) (λ _ v. until_return v.acts v))
-  crossed w kept reached =
-      asking_on (λ u v. KeptWorld v × Reached g (away v)) Answered EndsIn (touch (Passed k words) w) (λ _ v. until_return v.acts v)
-      (asking_on IsPassed (λ u v. KeptWorld v × Reached g (away v)) EndsIn (before_touch w.acts w) (λ _ v. Got _ (released (Passed k words) v))
-      (passes w.acts w kept.acts (record { left = refl; inputs = kept.inputs }) reached)
-      (λ u v h. (record { acts = h.kept.acts; inputs = h.kept.inputs }, h.reached)))
-      (λ u v h. answered v.acts v h.0.acts (record { left = refl; inputs = h.0.inputs }) h.1)
+      (ap (λ acts. moves.in_sandbox (image g) g.settings acts (resting w)) left.left)
+      (λ v h r. sandbox_runs acts v all.1 h r)
 
 -- a tainted function of the program is one of the image, with as many arguments
 import_there : (n k : ℕ) (imports : List core.Import) (i : core.Import) → slice_get imports k ≡ Some i → (m : ℕ) × (slice_get (imports_from n imports) k ≡ Some (import_code m i))
@@ -169,47 +157,57 @@ module _ (g : Execution) (l : Layout g) where
       ∙ popped words stack i.parameters touches t count
       ∙ ap (λ yes. table.asked (entered_if yes s.world) t (λ _ u. table.touch_if true (Passes k words place) stack fr u)) (ap (λ n. nat_lt n 1000) (sym kept.depth) ∙ test)
 
-  asks_runs : (next scratch : ℕ) (stack words : List ℕ) (s : meaning.State) (k : ℕ) (place : Place) (i : core.Import) (few : Bool) → nat_lt s.depth 1000 ≡ few → slice_get g.program.imports k ≡ Some i → i.parameters ≡ length words → (kept : Kept g l s) → slice_get (code g l).ops next ≡ Some (ops.TaintedCall k place) → Reached g (standing g l next scratch (reverse words ++ stack) s) → Asks (Answered g s kept.blocks l.callers (frame g l next scratch stack s.locals) k words place) (λ ending w. Finishes g ending (meaning.in_world w s)) (asking (entered_if few s.world) (λ _ u. asking (touch (Passed k words) u) (λ _ v. until_return v.acts v)))
-  asks_runs next scratch stack words s k place i false test there count kept at reached =
-      let t = standing g l next scratch (reverse words ++ stack) s in
-      last_move g t t (Stop S2 None) s reached (call_moves next scratch stack words s k place i false test there count kept at) (same_end g t.control l.callers s kept.blocks)
-  asks_runs next scratch stack words s k place i true test there count kept at reached =
-      let f = frame g l next scratch stack s.locals in
-      crossed g s kept.blocks l.callers f k words place s.world kept.world
-      (one_move g (standing g l next scratch (reverse words ++ stack) s) (touching g s kept.blocks l.callers f k words place s.world) reached (call_moves next scratch stack words s k place i true test there count kept at))
+  module _ (m : Knot) (runs : KnotRuns g m) where
+    passed_runs : (next scratch : ℕ) (stack : List ℕ) (s : meaning.State) (k : ℕ) (site : Site) (i : core.Import) → slice_get g.program.imports k ≡ Some i → Holds l.held scratch → Kept g l s → length stack < (code g l).stack → Reached g (state g Away (Waits (frame g l next scratch stack s.locals) k site.place ∷ l.callers) s) → Leads (Resumes g l next stack) (Finishes g) (passed m i site s)
+    passed_runs next scratch stack s k site i there holds kept room reached =
+        let inside : meaning.State = record s { depth = s.depth + 1 } in
+        let waits : List Value → List Caller = λ locals. Waits (frame g l next scratch stack locals) k site.place ∷ l.callers in
+        let Back : ℕ → meaning.State → Type 0 = λ reply t. Answered g (waits s.locals) reply t × (t.locals ≡ s.locals) × (t.depth ≡ s.depth) in
+        leads_on Back (Resumes g l next stack) (Finishes g) (and_then (m.sandbox inside) (back s)) (reply_as i.result site)
+        (leads_on (Answered g (waits s.locals)) Back (Finishes g) (m.sandbox inside) (back s) (runs.sandbox (waits s.locals) inside kept.blocks kept.world (omega (arith, kept.depth)) reached)
+        (λ reply t a. (record { is_word = a.is_word; blocks = a.blocks; world = a.world; before = a.before; reached = a.reached; answers = a.answers }, refl, refl)))
+        (λ reply t a.
+        let found = import_there 0 k g.program.imports i there in
+        let back_kept : Kept g l t = record { count = ap length a.1 ∙ kept.count; depth = a.2 ∙ kept.depth; locals = subst (AllByRecursion (IsKept g)) (sym a.1) kept.locals; blocks = a.0.blocks; world = a.0.world } in
+        reply_runs i.result next scratch stack t site reply (state g Away (waits s.locals) a.0.before) a.0.is_word holds back_kept room a.0.reached
+        (a.0.answers
+        ∙ ap (λ o. reply_to (image g) (frame g l next scratch stack s.locals) site.place o reply (state g Away l.callers t)) found.1
+        ∙ ap (λ locals. moves.reply_if (fits_kind (result_kind i.result) reply) (image g) (frame g l next scratch stack locals) site.place (result_kind i.result) reply (state g Away l.callers t)) (sym a.1)))
 
-  -- behind the tick
-  ticked_runs : (next : ℕ) (stack words : List ℕ) (s : meaning.State) (k : ℕ) (site : Site) (i : core.Import) → slice_get g.program.imports k ≡ Some i → i.parameters ≡ length words → Here g l next (reverse words ++ stack) s → slice_get (code g l).ops next ≡ Some (ops.TaintedCall k site.place) → length stack < (code g l).stack → Leads (Resumes g l (next + 1) stack) (Finishes g) (meanings.asked (tainted_call s.depth k words s.world) s (reply_as i.result site))
-  ticked_runs next stack words s k site i there count here at room =
-      let f = frame g l next here.scratch stack s.locals in
-      asks_on (Answered g s here.kept.blocks l.callers f k words site.place) (Resumes g l (next + 1) stack) (Finishes g) (tainted_call s.depth k words s.world) s (reply_as i.result site)
-      (asks_runs next here.scratch stack words s k site.place i (nat_lt s.depth 1000) refl there count here.kept at here.reached)
-      (λ reply w a.
-      let found = import_there 0 k g.program.imports i there in
-      let t = state g Away l.callers (meaning.in_world w s) in
-      reply_runs i.result (next + 1) here.scratch stack (meaning.in_world w s) site reply (away g s here.kept.blocks l.callers f k words site.place a.before) a.is_word here.holds (kept_in g l s w here.kept a.kept) room a.reached
-      (a.answers ∙ ap (λ o. reply_to (image g) (behind f stack) site.place o reply t) found.1))
+    asks_runs : (next : ℕ) (stack words : List ℕ) (s : meaning.State) (k : ℕ) (site : Site) (i : core.Import) (few : Bool) → nat_lt s.depth 1000 ≡ few → slice_get g.program.imports k ≡ Some i → i.parameters ≡ length words → Here g l next (reverse words ++ stack) s → slice_get (code g l).ops next ≡ Some (ops.TaintedCall k site.place) → length stack < (code g l).stack → Leads (Resumes g l (next + 1) stack) (Finishes g) (meanings.asked (entered_if few s.world) s (λ _ u. meanings.asked (touch (Passed k words) u.world) u (λ _ v. passed m i site v)))
+    asks_runs next stack words s k site i false test there count here at room =
+        let t = standing g l next here.scratch (reverse words ++ stack) s in
+        last_move g t t (Stop S2 None) s here.reached (call_moves next here.scratch stack words s k site.place i false test there count here.kept at) (same_end g t.control l.callers s here.kept.blocks)
+    asks_runs next stack words s k site i true test there count here at room =
+        let f = frame g l next here.scratch stack s.locals in
+        let w = s.world in
+        let reached = one_move g (standing g l next here.scratch (reverse words ++ stack) s) (touching g s here.kept.blocks l.callers f k words site.place w) here.reached (call_moves next here.scratch stack words s k site.place i true test there count here.kept at) in
+        asks_on (λ _ v. KeptWorld v × Reached g (away g s here.kept.blocks l.callers f k words site.place v)) (Resumes g l (next + 1) stack) (Finishes g) (touch (Passed k words) w) s (λ _ v. passed m i site v)
+        (asking_on (IsPassed g s here.kept.blocks l.callers f k words site.place) (λ u v. KeptWorld v × Reached g (away g s here.kept.blocks l.callers f k words site.place v)) (λ ending v. Finishes g ending (meaning.in_world v s)) (before_touch w.acts w) (λ _ v. Got _ (released (Passed k words) v))
+        (passes g s here.kept.blocks l.callers f k words site.place w.acts w here.kept.world.acts (record { left = refl; inputs = here.kept.world.inputs }) reached)
+        (λ u v h. (record { acts = h.kept.acts; inputs = h.kept.inputs }, h.reached)))
+        (λ u v h. passed_runs (next + 1) here.scratch stack (meaning.in_world v s) k site i there here.holds (kept_in g l s v here.kept h.0) room h.1)
 
-  cross_runs : (next : ℕ) (stack : List ℕ) (s : meaning.State) (k : ℕ) (site : Site) (i : core.Import) (vs : List Value) (ws : Option (List ℕ)) → slice_get g.program.imports k ≡ Some i → i.parameters ≡ length vs → words_of vs ≡ ws → Here g l next (piled g vs stack) s → HasAt (code g l).ops next (ops.Tick ∷ (ops.TaintedCall k site.place ∷ [])) → length stack < (code g l).stack → Leads (Resumes g l (next + 1 + 1) stack) (Finishes g) (cross (record { program = g.program; budget = g.settings.budget }) k i site ws s)
-  cross_runs next stack s k site i vs None there count are here at room = tt
-  cross_runs next stack s k site i vs (Some words) there count are here at room =
-      let same = passed_words g vs words are in
-      let pile : piled g vs stack ≡ reverse words ++ stack = piled_words g vs stack ∙ ap (λ l. reverse l ++ stack) same in
-      let many : i.parameters ≡ length words = count ∙ sym (length-map vs (word_of g)) ∙ ap length same in
-      asks_on (λ _ w. Here g l (next + 1) (reverse words ++ stack) (meaning.in_world w s)) (Resumes g l (next + 1 + 1) stack) (Finishes g) (spend_tick g.settings.budget s.world) s _
-      (tick_runs g l next (reverse words ++ stack) s (subst (λ p. Here g l next p s) pile here) at.0)
-      (λ _ w ticked. ticked_runs (next + 1) stack words (meaning.in_world w s) k site i there many ticked at.1.0 room)
+    cross_runs : (next : ℕ) (stack : List ℕ) (s : meaning.State) (k : ℕ) (site : Site) (i : core.Import) (vs : List Value) (ws : Option (List ℕ)) → slice_get g.program.imports k ≡ Some i → i.parameters ≡ length vs → words_of vs ≡ ws → Here g l next (piled g vs stack) s → HasAt (code g l).ops next (ops.Tick ∷ (ops.TaintedCall k site.place ∷ [])) → length stack < (code g l).stack → Leads (Resumes g l (next + 1 + 1) stack) (Finishes g) (cross (record { program = g.program; budget = g.settings.budget }) m k i site ws s)
+    cross_runs next stack s k site i vs None there count are here at room = tt
+    cross_runs next stack s k site i vs (Some words) there count are here at room =
+        let same = passed_words g vs words are in
+        let pile : piled g vs stack ≡ reverse words ++ stack = piled_words g vs stack ∙ ap (λ l. reverse l ++ stack) same in
+        let many : i.parameters ≡ length words = count ∙ sym (length-map vs (word_of g)) ∙ ap length same in
+        asks_on (λ _ w. Here g l (next + 1) (reverse words ++ stack) (meaning.in_world w s)) (Resumes g l (next + 1 + 1) stack) (Finishes g) (spend_tick g.settings.budget s.world) s _
+        (tick_runs g l next (reverse words ++ stack) s (subst (λ p. Here g l next p s) pile here) at.0)
+        (λ _ w ticked. asks_runs (next + 1) stack words (meaning.in_world w s) k site i (nat_lt s.depth 1000) refl there many ticked at.1.0 room)
 
-  cross_if_runs : (next : ℕ) (stack : List ℕ) (s : meaning.State) (k : ℕ) (site : Site) (i : core.Import) (vs : List Value) (yes : Bool) → (i.parameters == length vs) ≡ yes → slice_get g.program.imports k ≡ Some i → Here g l next (piled g vs stack) s → HasAt (code g l).ops next (ops.Tick ∷ (ops.TaintedCall k site.place ∷ [])) → length stack < (code g l).stack → Leads (Resumes g l (next + 1 + 1) stack) (Finishes g) (cross_if yes (record { program = g.program; budget = g.settings.budget }) k i site vs s)
-  cross_if_runs next stack s k site i vs false test there here at room = tt
-  cross_if_runs next stack s k site i vs true test there here at room =
-      let count : i.parameters ≡ length vs = grind (arith, nat_tests) in
-      cross_runs next stack s k site i vs (words_of vs) there count refl here at room
+    cross_if_runs : (next : ℕ) (stack : List ℕ) (s : meaning.State) (k : ℕ) (site : Site) (i : core.Import) (vs : List Value) (yes : Bool) → (i.parameters == length vs) ≡ yes → slice_get g.program.imports k ≡ Some i → Here g l next (piled g vs stack) s → HasAt (code g l).ops next (ops.Tick ∷ (ops.TaintedCall k site.place ∷ [])) → length stack < (code g l).stack → Leads (Resumes g l (next + 1 + 1) stack) (Finishes g) (cross_if yes (record { program = g.program; budget = g.settings.budget }) m k i site vs s)
+    cross_if_runs next stack s k site i vs false test there here at room = tt
+    cross_if_runs next stack s k site i vs true test there here at room =
+        let count : i.parameters ≡ length vs = grind (arith, nat_tests) in
+        cross_runs next stack s k site i vs (words_of vs) there count refl here at room
 
-  taken_runs : (next : ℕ) (stack : List ℕ) (s : meaning.State) (k : ℕ) (site : Site) (vs : List Value) (o : Option core.Import) → slice_get g.program.imports k ≡ o → Here g l next (piled g vs stack) s → HasAt (code g l).ops next (ops.Tick ∷ (ops.TaintedCall k site.place ∷ [])) → length stack < (code g l).stack → Leads (Resumes g l (next + 1 + 1) stack) (Finishes g) (call_tainted (record { program = g.program; budget = g.settings.budget }) k o site vs s)
-  taken_runs next stack s k site vs None there here at room = tt
-  taken_runs next stack s k site vs (Some i) there here at room = cross_if_runs next stack s k site i vs (i.parameters == length vs) refl there here at room
+    taken_runs : (next : ℕ) (stack : List ℕ) (s : meaning.State) (k : ℕ) (site : Site) (vs : List Value) (o : Option core.Import) → slice_get g.program.imports k ≡ o → Here g l next (piled g vs stack) s → HasAt (code g l).ops next (ops.Tick ∷ (ops.TaintedCall k site.place ∷ [])) → length stack < (code g l).stack → Leads (Resumes g l (next + 1 + 1) stack) (Finishes g) (call_tainted (record { program = g.program; budget = g.settings.budget }) m k o site vs s)
+    taken_runs next stack s k site vs None there here at room = tt
+    taken_runs next stack s k site vs (Some i) there here at room = cross_if_runs next stack s k site i vs (i.parameters == length vs) refl there here at room
 
-  -- a call of values, whose words lie on the stack
-  pub tainted_runs : (next : ℕ) (stack : List ℕ) (s : meaning.State) (k : ℕ) (site : Site) (vs : List Value) → Here g l next (piled g vs stack) s → HasAt (code g l).ops next (ops.Tick ∷ (ops.TaintedCall k site.place ∷ [])) → length stack < (code g l).stack → Leads (Resumes g l (next + 1 + 1) stack) (Finishes g) (call_tainted (record { program = g.program; budget = g.settings.budget }) k (slice_get g.program.imports k) site vs s)
-  tainted_runs next stack s k site vs here at room = taken_runs next stack s k site vs (slice_get g.program.imports k) refl here at room
+    -- a call of values, whose words lie on the stack
+    pub tainted_runs : (next : ℕ) (stack : List ℕ) (s : meaning.State) (k : ℕ) (site : Site) (vs : List Value) → Here g l next (piled g vs stack) s → HasAt (code g l).ops next (ops.Tick ∷ (ops.TaintedCall k site.place ∷ [])) → length stack < (code g l).stack → Leads (Resumes g l (next + 1 + 1) stack) (Finishes g) (call_tainted (record { program = g.program; budget = g.settings.budget }) m k (slice_get g.program.imports k) site vs s)
+    tainted_runs next stack s k site vs here at room = taken_runs next stack s k site vs (slice_get g.program.imports k) refl here at room

@@ -77,7 +77,7 @@ module _ (g : Execution) (l : Layout g) where
     -- a call of values, whose words lie on the stack
     callee_runs : (callee : Callee) (m : ℕ) (stack : List ℕ) (vs : List Value) (t : meaning.State) → Piles m stack vs t → HasAt (code g l).ops m (ops.Tick ∷ (callee_code callee ∷ [])) → length stack < (code g l).stack → Leads (Resumes g l (m + 1 + 1) stack) (Finishes g) (called (setting g) k callee vs t)
     callee_runs (callees.Trusted function) m stack vs t x at room = call_runs g l k runs m stack t function vs x.kept x.here at room
-    callee_runs (callees.Tainted import site) m stack vs t x at room = tainted_runs g l m stack t import site vs x.here at room
+    callee_runs (callees.Tainted import site) m stack vs t x at room = tainted_runs g l k runs m stack t import site vs x.here at room
 
     -- the arguments of a call, its instructions, and what follows the call
     pub called_runs : {A : Type 0} (H : A → meaning.State → Type 0) (args : core.Arguments) (callee : Callee) (more : Option Value → meaning.State → Result A) → ArgumentsRun args → (next : ℕ) (stack : List ℕ) (s : meaning.State) → ((v : Option Value) (t : meaning.State) → Resumes g l (next + (arguments_size args + 2)) stack v t → Leads H (Finishes g) (more v t)) → Here g l next stack s → HasAt (code g l).ops next (arguments_code next args ++ ops.Tick ∷ (callee_code callee ∷ [])) → length stack < (code g l).stack → length stack + arguments_stack args ≤ (code g l).stack → next + (arguments_size args + 2) < length (code g l).ops → Leads H (Finishes g) (and_then (values (setting g) k args s) (λ vs t. and_then (called (setting g) k callee vs t) more))

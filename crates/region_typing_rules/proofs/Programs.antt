@@ -11,16 +11,18 @@ use Rattle.act_words.specs.declared.ending.Ending.TheVariants.{Exit}
 use Rattle.act_words.specs.Acts.{IsAct}
 use Rattle.act_words.specs.Outcome.{Gives, Ends, Stuck, Short, and_then}
 use Rattle.act_words.specs.World.{new_world}
+use Rattle.act_words.specs.Touches.{Crossed, until_return}
 use Rattle.pointer_modes.specs.Types.{CType, Int}
 use Rattle.ckc_core.specs.Core as core
 use Rattle.ckc_core.specs.States.{Value, Number, Null, At, State, object_block}
-use Rattle.ckc_core.specs.Meaning.{Result, Flow, Next, Broke, Continued, Returned, Setting, knot, answer, default_result, locals_for, back, body_if, body_of, exit, initial, effects, effect}
+use Rattle.ckc_core.specs.Meaning.{Result, crossed, Flow, Next, Broke, Continued, Returned, Setting, knot, answer, default_result, locals_for, back, body_if, body_of, exit, initial, effects, effect}
 use Rattle.region_typing_rules.specs.Typed as typed
 use Rattle.region_typing_rules.specs.Typed.{Frame, HasValue, HasType, IsStatement, IsScalarResult, IsFunction, IsInitial, IsTyped}
 use Rattle.region_typing_rules.specs.NeverStuck.{NeverStuck}
 use Rattle.ckc_core.proofs.Numbers.{IsNumber}
 use Rattle.ckc_core.proofs.Elements.{of_element}
 use Rattle.region_typing_rules.proofs.Values.{zero_typed, HaveValues, values_count, locals_typed, AreCells, AreBlocks}
+use Rattle.region_typing_rules.proofs.Worlds.{IsWord, Crosses, until_crosses}
 use Rattle.region_typing_rules.proofs.Soundness.{IsAnswer, IsFlow, IsKept, Goes, goes_on, IsKnot, statement_goes, statements_go}
 
 module _ (g : Frame) (budget : ℕ) where
@@ -41,6 +43,12 @@ module _ (g : Frame) (budget : ℕ) where
   back_goes n m low types inner P s (Ends ending t) enough locals h = tt
   back_goes n m low types inner P s Stuck enough locals h = h
   back_goes n m low types inner P s Short enough locals h = h
+
+  -- what the sandbox's turn comes to
+  crossed_goes : (n low : ℕ) (types : List CType) (s : State) (x : Crossed) → Crosses budget low x → IsKept g budget n low types s → Goes g budget n low types IsWord (crossed x s)
+  crossed_goes n low types s (Crossed.Returned word w) h kept = (h.0, record { blocks = kept.blocks; locals = kept.locals; world = h.1; enough = kept.enough })
+  crossed_goes n low types s (Crossed.Called fun words w) h kept = tt
+  crossed_goes n low types s (Crossed.Over ending w) h kept = tt
 
   -- the same in a knot of more ticks
   raised : {A : Type 0} (n m low : ℕ) (types : List CType) (P : A → Type 0) (o : Result A) → budget ≤ low + n → Goes g budget m low types P o → Goes g budget n low types P o
@@ -72,12 +80,14 @@ module _ (g : Frame) (budget : ℕ) where
     knots zero = record {
       call = λ low types function f vs s found h few kept. let w = kept.world in absurd (omega (arith, w.2, w.3));
       turn = λ low types result loop e t x y s h hx hy few kept. let w = kept.world in absurd (omega (arith, w.2, w.3));
+      sandbox = λ low types s few kept. let w = kept.world in absurd (omega (arith, w.2, w.3));
     }
     knots (suc n) = record {
       call = λ low types function f vs s found h few kept. body_goes (suc n) n (knots n) low types function f vs s found h (omega arith) kept;
       turn = λ low types result loop e t x y s h hx hy few kept.
           raised (suc n) n low types (IsFlow g result loop) (effect setting (knot setting n) (core.Loop e x y) s) kept.enough
           (statement_goes g budget n (knot setting n) (knots n) functions types result (typed.repeat h hx hy) low s (record { blocks = kept.blocks; locals = kept.locals; world = kept.world; enough = omega arith }));
+      sandbox = λ low types s few kept. crossed_goes (suc n) low types s (until_return s.world.acts s.world) (until_crosses budget low s.world.acts kept.world.0 s.world kept.world) kept;
     }
 
   -- the variables before the run

@@ -13,7 +13,8 @@ use Rattle.act_words.specs.Checks.{Checked, Holds, Fails, is_word_number}
 use Rattle.act_words.specs.Numbers.{word}
 use Rattle.act_words.specs.Arithmetic as arithmetic
 use Rattle.act_words.specs.Operators.{holds}
-use Rattle.act_words.specs.Touches.{Asked, Got, Ended, spend_tick, enter_call, next_input, tainted_call}
+use Rattle.act_words.specs.Acts.{Passed}
+use Rattle.act_words.specs.Touches.{Asked, Got, Ended, spend_tick, enter_call, next_input, touch}
 use Rattle.ckc_core.specs.declared.program.Site.{Site}
 use Rattle.act_words.specs.declared.operator.Operator.{Operator}
 use Rattle.act_words.specs.declared.operator.Comparison.{Comparison}
@@ -23,13 +24,13 @@ use Rattle.pointer_modes.specs.declared.ctype.Kind.{Kind}
 use Rattle.pointer_modes.specs.Types.{CType, Int, Char, Struct, Pointer}
 use Rattle.ckc_core.specs.Core as core
 use Rattle.ckc_core.specs.States.{Value, Number, Null, At, Cell, State, in_world, with_cell, stands_at, stands_behind, same_type, has_type, byte_place, object_block}
-use Rattle.ckc_core.specs.Meaning.{Result, Flow, Next, Broke, Continued, Returned, Knot, Setting, given, checked, value_if, value_in, place_where, place_in, place_through, load_at, place_if, pointer_to, truth, number_of_test, same_place, test_given, result_of, arithmetic_of, compared, negated, complemented, low_byte_of, asked, words_of, reply_as, cross, cross_if, call_tainted, takes, enter_if, call_trusted, result_given, choose, value, values, place, store_if, store_over, store_at, set_local_if, set_local, pointer_of, kept_if, is_char, printed, put, on_next, behind_turn, no_result, effect, effects, called}
+use Rattle.ckc_core.specs.Meaning.{Result, Flow, Next, Broke, Continued, Returned, Knot, Setting, given, checked, value_if, value_in, place_where, place_in, place_through, load_at, place_if, pointer_to, truth, number_of_test, same_place, test_given, result_of, arithmetic_of, compared, negated, complemented, low_byte_of, asked, words_of, reply_as, back, passed, cross, cross_if, call_tainted, takes, enter_if, call_trusted, result_given, choose, value, values, place, store_if, store_over, store_at, set_local_if, set_local, pointer_of, kept_if, is_char, printed, put, on_next, behind_turn, no_result, effect, effects, called}
 use Rattle.region_typing_rules.specs.Types.{is_number}
 use Rattle.region_typing_rules.specs.Typed as typed
 use Rattle.region_typing_rules.specs.Typed.{Frame, IsPlace, HasValue, IsNumberResult, IsCallee, HasType, HaveTypes, HasPlace, IsStatement, AreStatements, IsScalar, IsFunction}
 use Rattle.ckc_core.proofs.Numbers.{IsNumber, IfHolds, result_fits, overflow_fits, signed_fits, complement_fits, low_byte_small}
 use Rattle.ckc_core.proofs.Elements.{of_element}
-use Rattle.region_typing_rules.proofs.Worlds.{IsWorld, Answers, Anything, IsWord, tick_answers, enter_answers, call_answers, next_answers}
+use Rattle.region_typing_rules.proofs.Worlds.{IsWorld, Answers, Anything, IsWord, tick_answers, enter_answers, touch_answers, next_answers}
 use Rattle.region_typing_rules.proofs.Values.{same_refl, value_typed, value_widened, value_number, HaveValues, values_count, value_there, values_set, AreBlocks, cells_set, blocks_set, HasCell, at_cell, scalar_cell, some_cell, member_place, stands_there, stands_further}
 
 -- a result as it was declared
@@ -86,6 +87,7 @@ module _ (g : Frame) (budget n : ℕ) where
   pub record IsKnot (k : Knot) : Type 0 where
     pub call : (low : ℕ) (types : List CType) (function : ℕ) (f : core.Function) (vs : List Value) (s : State) → slice_get g.program.functions function ≡ Some f → HaveValues g (take f.parameters f.locals) vs → suc budget ≤ low + n → IsKept low types s → Goes low types (IsAnswer g f.result) (k.call function vs s)
     pub turn : (low : ℕ) (types : List CType) (result : Option CType) (loop : Bool) (e : core.Expression) (t : CType) (x y : core.Statement) (s : State) → HasType g types e t → IsStatement g types result true x → IsStatement g types result false y → suc budget ≤ low + n → IsKept low types s → Goes low types (IsFlow g result loop) (k.turn e x y s)
+    pub sandbox : (low : ℕ) (types : List CType) (s : State) → suc budget ≤ low + n → IsKept low types s → Goes low types IsWord (k.sandbox s)
 
   -- ---- values
 
@@ -222,21 +224,31 @@ module _ (g : Frame) (budget n : ℕ) where
     reply_goes low s (Some (Struct number)) site reply crosses small kept = absurd (cc)
     reply_goes low s (Some (Pointer mode kind target)) site reply crosses small kept = absurd (cc)
 
-    cross_goes : (low : ℕ) (s : State) (import : ℕ) (i : core.Import) (site : Site) (o : Option (List ℕ)) (words : List ℕ) → o ≡ Some words → IsNumberResult i.result → IsKept low types s → Goes low types (IsAnswer g i.result) (cross (record { program = g.program; budget = budget }) import i site o s)
-    cross_goes low s import i site None words e crosses kept = absurd (cc)
-    cross_goes low s import i site (Some passed) words e crosses kept =
-        lowered low types (IsAnswer g i.result) (cross (record { program = g.program; budget = budget }) import i site (Some passed) s) kept.enough
-        (asked_goes low (suc low) types Anything (IsAnswer g i.result) (spend_tick budget s.world) s _ (tick_answers budget low s.world kept.world) (let few = kept.enough in omega arith) kept
-        (λ _ t _ t_kept. asked_goes (suc low) (suc low) types IsWord (IsAnswer g i.result) (tainted_call t.depth import passed t.world) t _ (call_answers budget (suc low) t.depth import passed t.world t_kept.world) t_kept.enough t_kept (λ reply u small u_kept. reply_goes (suc low) u i.result site reply crosses small u_kept)))
+    passed_goes : (k : Knot) → IsKnot k → (low : ℕ) (s : State) (i : core.Import) (site : Site) → IsNumberResult i.result → suc budget ≤ low + n → IsKept low types s → Goes low types (IsAnswer g i.result) (passed k i site s)
+    passed_goes k is low s i site crosses enough kept =
+        let inside : State = record s { depth = s.depth + 1 } in
+        goes_on low types IsWord (IsAnswer g i.result) (and_then (k.sandbox inside) (back s)) (reply_as i.result site)
+        (goes_on low types IsWord IsWord (k.sandbox inside) (back s) (is.sandbox low types inside enough (record { blocks = kept.blocks; locals = kept.locals; world = kept.world; enough = kept.enough }))
+        (λ reply t small t_kept. (small, record { blocks = t_kept.blocks; locals = kept.locals; world = t_kept.world; enough = t_kept.enough })))
+        (λ reply t small t_kept. reply_goes low t i.result site reply crosses small t_kept)
 
-    pub tainted_goes : (low : ℕ) (s : State) (import : ℕ) (i : core.Import) (site : Site) (vs : List Value) → slice_get g.program.imports import ≡ Some i → IsNumberResult i.result → HaveValues g (replicate i.parameters Int) vs → IsKept low types s → Goes low types (IsAnswer g i.result) (call_tainted (record { program = g.program; budget = budget }) import (slice_get g.program.imports import) site vs s)
-    tainted_goes low s import i site vs found crosses h kept =
+    cross_goes : (k : Knot) → IsKnot k → (low : ℕ) (s : State) (import : ℕ) (i : core.Import) (site : Site) (o : Option (List ℕ)) (words : List ℕ) → o ≡ Some words → IsNumberResult i.result → IsKept low types s → Goes low types (IsAnswer g i.result) (cross (record { program = g.program; budget = budget }) k import i site o s)
+    cross_goes k is low s import i site None words e crosses kept = absurd (cc)
+    cross_goes k is low s import i site (Some sent) words e crosses kept =
+        lowered low types (IsAnswer g i.result) (cross (record { program = g.program; budget = budget }) k import i site (Some sent) s) kept.enough
+        (asked_goes low (suc low) types Anything (IsAnswer g i.result) (spend_tick budget s.world) s _ (tick_answers budget low s.world kept.world) (let few = kept.enough in omega arith) kept
+        (λ _ t _ t_kept. asked_goes (suc low) (suc low) types Anything (IsAnswer g i.result) (enter_call t.depth t.world) t _ (enter_answers budget (suc low) t.depth t.world t_kept.world) t_kept.enough t_kept
+        (λ _ u _ u_kept. asked_goes (suc low) (suc low) types Anything (IsAnswer g i.result) (touch (Passed import sent) u.world) u _ (touch_answers budget (suc low) (Passed import sent) u.world u_kept.world) u_kept.enough u_kept
+        (λ _ v _ v_kept. passed_goes k is (suc low) v i site crosses (let few = kept.enough in omega arith) v_kept))))
+
+    pub tainted_goes : (k : Knot) → IsKnot k → (low : ℕ) (s : State) (import : ℕ) (i : core.Import) (site : Site) (vs : List Value) → slice_get g.program.imports import ≡ Some i → IsNumberResult i.result → HaveValues g (replicate i.parameters Int) vs → IsKept low types s → Goes low types (IsAnswer g i.result) (call_tainted (record { program = g.program; budget = budget }) k import (slice_get g.program.imports import) site vs s)
+    tainted_goes k is low s import i site vs found crosses h kept =
         let words = words_there i.parameters vs h in
         let many : length vs ≡ i.parameters = values_count g (replicate i.parameters Int) vs h ∙ length-replicate i.parameters Int in
         let test : (i.parameters == length vs) ≡ true = grind (arith, nat_tests) in
         let setting : Setting = record { program = g.program; budget = budget } in
-        subst (λ o. Goes low types (IsAnswer g i.result) (call_tainted setting import o site vs s)) (sym found)
-        (subst (λ yes. Goes low types (IsAnswer g i.result) (cross_if yes setting import i site vs s)) (sym test) (cross_goes low s import i site (words_of vs) words.0 words.1 crosses kept))
+        subst (λ o. Goes low types (IsAnswer g i.result) (call_tainted setting k import o site vs s)) (sym found)
+        (subst (λ yes. Goes low types (IsAnswer g i.result) (cross_if yes setting k import i site vs s)) (sym test) (cross_goes k is low s import i site (words_of vs) words.0 words.1 crosses kept))
 
     given_back : (low : ℕ) (s : State) (t : CType) (v : Option Value) → IsAnswer g (Some t) v → IsKept low types s → Goes low types (HasValue g t) (result_given v s)
     given_back low s t None h kept = absurd h
@@ -272,7 +284,7 @@ module _ (g : Frame) (budget n : ℕ) where
 
     called_goes : (low : ℕ) (types : List CType) (s : State) {callee : Callee} {ts : List CType} {result : Option CType} → IsCallee g callee ts result → (vs : List Value) → HaveValues g ts vs → IsKept low types s → Goes low types (IsAnswer g result) (called setting k callee vs s)
     called_goes low types s (typed.trusted {n = function} {f = f} found) vs h kept = trusted_goes low types s function f vs found h kept
-    called_goes low types s (typed.tainted {n = import} {i = i} {site = site} found crosses) vs h kept = tainted_goes types low s import i site vs found crosses h kept
+    called_goes low types s (typed.tainted {n = import} {i = i} {site = site} found crosses) vs h kept = tainted_goes types k is low s import i site vs found crosses h kept
 
     -- ---- expressions
 

@@ -8,7 +8,7 @@ use Rattle.std.proofs.lemmas.Bool.Decides.{nat_tests}
 use Rattle.act_words.specs.Acts.{Act, Go, Read, Write, Call, Return, Stop, IsAct, Release, Looked, Wrote, Passed, Replied}
 use Rattle.act_words.specs.World.{World, taken_one}
 use Rattle.act_words.specs.Acting.{BeforeTouch, InSandbox, act_before_touch, act_in_sandbox, waits_or_ends, keeps_or_ends, shown_if, written_if, lies_in}
-use Rattle.act_words.specs.Touches.{Asked, Got, Ended, asking, on_from, before_touch, touch, released, on_with_reply, until_return, spent_if, spend_tick, entered_if, enter_call, tainted_call, input_from, next_input}
+use Rattle.act_words.specs.Touches.{Asked, Got, Ended, asking, on_from, before_touch, touch, released, Crossed, on_keeps, until_return, spent_if, spend_tick, entered_if, enter_call, input_from, next_input}
 use Rattle.ckc_core.proofs.Numbers.{IsNumber}
 
 -- there is nothing to say of an answer that says nothing
@@ -101,21 +101,26 @@ module _ (budget : ℕ) where
   released_left low (Passed fun args) w left = left
   released_left low (Replied value) w left = left
 
-  touch_answers : (low : ℕ) (release : Release) (w : World) → IsWorld low w → Answers low Anything (touch release w)
+  pub touch_answers : (low : ℕ) (release : Release) (w : World) → IsWorld low w → Answers low Anything (touch release w)
   touch_answers low release w left = asking_answers low Anything Anything (before_touch w.acts w) _ (before_answers low w.acts left.0 w left) (λ _ v _ v_left. (tt, released_left low release v v_left))
 
   -- ---- the sandbox's turn
 
-  reply_goes_on : (low : ℕ) (b : InSandbox) (next : World → Asked ℕ) → LeavesInside low b → ((w : World) → IsWorld low w → Answers low IsWord (next w)) → Answers low IsWord (on_with_reply b next)
-  reply_goes_on low (InSandbox.Keeps w) next left more = more w left
-  reply_goes_on low (InSandbox.Answers word w) next left more = left
-  reply_goes_on low (InSandbox.Calls fun words w) next left more = tt
-  reply_goes_on low (InSandbox.Ends ending w) next left more = tt
+  abbrev pub Crosses : ℕ → Crossed → Type 0
+  Crosses low (Crossed.Returned word w) = IsWord word × IsWorld low w
+  Crosses low (Crossed.Called fun words w) = Unit {0}
+  Crosses low (Crossed.Over ending w) = Unit {0}
 
-  until_answers : (low : ℕ) (acts : List Act) → AllByRecursion IsAct acts → (w : World) → IsWorld low w → Answers low IsWord (until_return acts w)
-  until_answers low [] all w left = tt
-  until_answers low (act ∷ acts) all w left =
-      reply_goes_on low (act_in_sandbox act (taken_one act acts w)) (until_return acts) (act_inside low act (taken_one act acts w) all.0 (all.1, left.1, left.2, left.3)) (until_answers low acts all.1)
+  crosses_on : (low : ℕ) (b : InSandbox) (next : World → Crossed) → LeavesInside low b → ((w : World) → IsWorld low w → Crosses low (next w)) → Crosses low (on_keeps b next)
+  crosses_on low (InSandbox.Keeps w) next left more = more w left
+  crosses_on low (InSandbox.Answers word w) next left more = left
+  crosses_on low (InSandbox.Calls fun words w) next left more = tt
+  crosses_on low (InSandbox.Ends ending w) next left more = tt
+
+  pub until_crosses : (low : ℕ) (acts : List Act) → AllByRecursion IsAct acts → (w : World) → IsWorld low w → Crosses low (until_return acts w)
+  until_crosses low [] all w left = tt
+  until_crosses low (act ∷ acts) all w left =
+      crosses_on low (act_in_sandbox act (taken_one act acts w)) (until_return acts) (act_inside low act (taken_one act acts w) all.0 (all.1, left.1, left.2, left.3)) (until_crosses low acts all.1)
 
   -- ---- what a run asks for
 
@@ -133,11 +138,6 @@ module _ (budget : ℕ) where
 
   pub enter_answers : (low depth : ℕ) (w : World) → IsWorld low w → Answers low Anything (enter_call depth w)
   enter_answers low depth w left = entered_answers low (nat_lt depth 1000) w left
-
-  pub call_answers : (low depth fun : ℕ) (words : List ℕ) (w : World) → IsWorld low w → Answers low IsWord (tainted_call depth fun words w)
-  call_answers low depth fun words w left =
-      asking_answers low Anything IsWord (enter_call depth w) _ (enter_answers low depth w left)
-      (λ _ u _ u_left. asking_answers low Anything IsWord (touch (Passed fun words) u) _ (touch_answers low (Passed fun words) u u_left) (λ _ v _ v_left. until_answers low v.acts v_left.0 v v_left))
 
   input_answers : (low : ℕ) (inputs : List ℤ) (w : World) → AllByRecursion IsNumber inputs → IsWorld low w → Answers low IsNumber (input_from inputs w)
   input_answers low [] w all left = (refl, left)
