@@ -8,7 +8,7 @@ use Rattle.act_words.specs.Acts.{Act, Go, Read, Write, Call, Return, Stop, Seen,
 use Rattle.act_words.specs.World.{World, Event, Took, Output, Released, Showed, NoAct, new_world, telling, taken_one, in_turn}
 use Rattle.act_words.specs.Acting.{BeforeTouch, InSandbox, lies_in, bytes_at, with_bytes, shown_if, written_if, waits_or_ends, keeps_or_ends, act_before_touch, act_in_sandbox}
 use Rattle.act_words.specs.Touches.{released, write}
-use Rattle.act_words.specs.View.{ViewIsFold, IsFront, view_fold, view_from, and_then_if, releases_of, view_of}
+use Rattle.act_words.specs.View.{ViewIsFold, IsFront, view_fold, view_from, and_then_if, releases_of, view_of, acts_of}
 
 releases_of-append : (xs ys : List Event) → releases_of (xs ++ ys) ≡ releases_of xs ++ releases_of ys
 releases_of-append [] ys = refl
@@ -25,6 +25,14 @@ view_of-append (Output bytes ∷ xs) ys = view_of-append xs ys
 view_of-append (Released release ∷ xs) ys = view_of-append xs ys
 view_of-append (Showed seen ∷ xs) ys = ap (λ all. seen ∷ all) (view_of-append xs ys)
 view_of-append (NoAct turn ∷ xs) ys = view_of-append xs ys
+
+pub acts_of-append : (xs ys : List Event) → acts_of (xs ++ ys) ≡ acts_of xs ++ acts_of ys
+acts_of-append [] ys = refl
+acts_of-append (Took turn act ∷ xs) ys = ap (λ acts. act ∷ acts) (acts_of-append xs ys)
+acts_of-append (Output bytes ∷ xs) ys = acts_of-append xs ys
+acts_of-append (Released release ∷ xs) ys = acts_of-append xs ys
+acts_of-append (Showed seen ∷ xs) ys = acts_of-append xs ys
+acts_of-append (NoAct turn ∷ xs) ys = acts_of-append xs ys
 
 abbrev pub IsCons : List Act → Type 0
 IsCons [] = ⊥

@@ -61,6 +61,15 @@ releases_of (Released release ∷ events) = release ∷ releases_of events
 releases_of (Showed seen ∷ events) = releases_of events
 releases_of (NoAct turn ∷ events) = releases_of events
 
+-- the acts that were taken, in either side's turn
+abbrev pub acts_of : List Event → List Act
+acts_of [] = []
+acts_of (Took turn act ∷ events) = act ∷ acts_of events
+acts_of (Output bytes ∷ events) = acts_of events
+acts_of (Released release ∷ events) = acts_of events
+acts_of (Showed seen ∷ events) = acts_of events
+acts_of (NoAct turn ∷ events) = acts_of events
+
 -- what the sandbox was shown
 abbrev pub view_of : List Event → List Seen
 view_of [] = []

@@ -1,7 +1,8 @@
--- What the worlds of a run keep: the view is a fold, and events stay.
+-- What the worlds of a run keep: the view is a fold, events stay, and each act that is taken is told.
 use Rattle.std.proofs.Common.{◌≡◌, ℕ, ℤ, zero, suc, ◌≤◌, Bool, true, false, length, List, [], ◌∷◌, ◌++◌, refl, sym, ap, ◌∙◌, subst, ⊎_elim, arith}
 use Rattle.std.proofs.lemmas.Bool.{cases_lt}
 use Rattle.std.proofs.lemmas.List.{append_assoc, append-nil}
+use Rattle.act_words.specs.declared.act.Turn.{Turn}
 use Rattle.act_words.specs.declared.act.Turn.TheVariants as turns
 use Rattle.act_words.specs.declared.ending.Ending.{Ending}
 use Rattle.act_words.specs.declared.settings.Settings.{Settings}
@@ -9,8 +10,8 @@ use Rattle.act_words.specs.Acts.{Act, Go, Read, Write, Call, Return, Stop, Relea
 use Rattle.act_words.specs.World.{World, Event, Took, Output, Released, Showed, NoAct, taken_one, in_turn, with_inputs}
 use Rattle.act_words.specs.Acting.{BeforeTouch, InSandbox, lies_in, bytes_at, shown_if, written_if, waits_or_ends, keeps_or_ends, act_before_touch, act_in_sandbox}
 use Rattle.act_words.specs.Touches.{released}
-use Rattle.act_words.specs.View.{ViewIsFold}
-use Rattle.act_words.proofs.Views.{Told, Ready, HasFolded, BeforeTold, InTold, told_at_start, shown, none_left, at_the_end, released_told, act_before_told, act_in_told, told_in, write_told, ready_turn, view_in_turn}
+use Rattle.act_words.specs.View.{ViewIsFold, acts_of}
+use Rattle.act_words.proofs.Views.{acts_of-append, Told, Ready, HasFolded, BeforeTold, InTold, told_at_start, shown, none_left, at_the_end, released_told, act_before_told, act_in_told, told_in, write_told, ready_turn, view_in_turn}
 use Rattle.code_words.specs.Images.{Image}
 use Rattle.code_words.specs.Table.{State, Step, Goes, Over, Control, Runs, Touches, Away}
 use Rattle.code_words.specs.Moves.{move}
@@ -77,7 +78,82 @@ folded image settings inputs acts ending t run =
 pub view : (image : Image) (settings : Settings) (inputs : List ℤ) (acts : List Act) (ending : Ending) (t : State) → CodeRun image settings inputs acts ending t → ViewIsFold (started image settings inputs acts).world.sandbox acts t.world
 view image settings inputs acts ending t run = (folded image settings inputs acts ending t run).fold
 
--- ---- events
+-- ---- what happened, and the acts that are left
+
+module _ (P : List Event → List Act → Type 0) where
+  -- a property of both stays where more is told, and where an act is taken
+  pub record Stays : Type 0 where
+    pub tells : (events more : List Event) (acts : List Act) → acts_of more ≡ [] → P events acts → P (events ++ more) acts
+    pub takes : (events : List Event) (turn : Turn) (act : Act) (acts : List Act) → P events (act ∷ acts) → P (events ++ Took turn act ∷ []) acts
+
+  abbrev pub In : World → Type 0
+  In w = P w.events w.acts
+
+  module _ (stays : Stays) where
+    act_stays : (act : Act) (w : World) → In w → BeforeKeeps In In In In In (act_before_touch act w)
+    act_stays Go w h = h
+    act_stays (Read at len) w h = by (lies_in at len w.sandbox)
+      where
+        by : (inside : Bool) → BeforeKeeps In In In In In (waits_or_ends (shown_if inside at len w) w)
+        by true = stays.tells w.events (Showed (SeenBytes at (bytes_at at len w.sandbox)) ∷ []) w.acts refl h
+        by false = h
+    act_stays (Write at bytes) w h = by (lies_in at (length bytes) w.sandbox)
+      where
+        by : (inside : Bool) → BeforeKeeps In In In In In (waits_or_ends (written_if inside at bytes w) w)
+        by true = h
+        by false = h
+    act_stays (Call fun args) w h = h
+    act_stays (Return value) w h = h
+    act_stays Stop w h = h
+
+    sandbox_act_stays : (act : Act) (w : World) → In w → InKeeps In In In In In (act_in_sandbox act w)
+    sandbox_act_stays Go w h = h
+    sandbox_act_stays (Read at len) w h = by (lies_in at len w.sandbox)
+      where
+        by : (inside : Bool) → InKeeps In In In In In (keeps_or_ends (shown_if inside at len w) w)
+        by true = stays.tells w.events (Showed (SeenBytes at (bytes_at at len w.sandbox)) ∷ []) w.acts refl h
+        by false = h
+    sandbox_act_stays (Write at bytes) w h = by (lies_in at (length bytes) w.sandbox)
+      where
+        by : (inside : Bool) → InKeeps In In In In In (keeps_or_ends (written_if inside at bytes w) w)
+        by true = h
+        by false = h
+    sandbox_act_stays (Call fun args) w h = h
+    sandbox_act_stays (Return value) w h = h
+    sandbox_act_stays Stop w h = h
+
+    touch_stays : (release : Release) (w : World) → In w → ReleaseKeeps In In In In In release (released release w)
+    touch_stays Looked w h = stays.tells w.events (Released Looked ∷ []) w.acts refl h
+    touch_stays (Wrote at bytes) w h = stays.tells w.events (Released (Wrote at bytes) ∷ []) w.acts refl h
+    touch_stays (Passed fun args) w h = stays.tells w.events (Released (Passed fun args) ∷ Showed (SeenCall fun args) ∷ []) w.acts refl h
+    touch_stays (Replied value) w h = stays.tells w.events (Released (Replied value) ∷ Showed (SeenReply value) ∷ []) w.acts refl h
+
+    taken_stays : (act : Act) (acts : List Act) (w : World) → w.acts ≡ act ∷ acts → In w → In (taken_one act acts w)
+    taken_stays act acts w e h = stays.takes w.events w.turn act acts (subst (λ left. P w.events left) e h)
+
+    stays_kept : AreKept In In In In In
+    stays_kept =
+        record {
+          ticks = λ w n h. h;
+          inputs = λ w left h. h;
+          writes = λ w bytes h. stays.tells w.events (Output bytes ∷ []) w.acts refl h;
+          rooms = λ w room h. h;
+          acts = λ w act acts e h. act_stays act (taken_one act acts w) (taken_stays act acts w e h);
+          no_act = λ w none h. stays.tells w.events (NoAct turns.Trusted ∷ []) w.acts refl h;
+          touches = λ w release h. touch_stays release w h;
+          sandbox_acts = λ w act acts e h. sandbox_act_stays act (taken_one act acts w) (taken_stays act acts w e h);
+          no_sandbox_act = λ w none h. stays.tells w.events (NoAct turns.Sandbox ∷ []) w.acts refl h;
+          called_ticks = λ w n h. h;
+          called_back = λ w h. h;
+          called_ends = λ w h. h;
+          ends = λ w h. h;
+        }
+
+    -- a run keeps it
+    run_stays : (image : Image) (settings : Settings) (n : ℕ) (s : State) → In s.world → RunKeeps In In In In In (exec image settings n s)
+    run_stays image settings n s h = run-keeps In In In In In stays_kept image settings n s (elim s.control as (λ control. HoldsIn In In In In In control s.world) [ Runs f ↦ h | Touches f touch ↦ h | Away ↦ h ])
+
+-- ---- events stay
 
 -- the second list begins with the first
 abbrev IsFront : List Event → List Event → Type 0
@@ -91,71 +167,19 @@ longer : (first second : List Event) (more : List Event) → IsFront first secon
 longer first second more front = (front.0 ++ more, ap (λ events. events ++ more) front.1 ∙ append_assoc first front.0 more)
 
 module _ (events : List Event) where
-  -- a world whose events begin so
+  -- what happened begins so
+  abbrev Begins : List Event → List Act → Type 0
+  Begins later acts = IsFront events later
+
   abbrev Behind : World → Type 0
-  Behind w = IsFront events w.events
+  Behind w = In Begins w
 
-  took_behind : (act : Act) (acts : List Act) (w : World) → Behind w → Behind (taken_one act acts w)
-  took_behind act acts w b = longer events w.events (Took w.turn act ∷ []) b
-
-  act_behind : (act : Act) (w : World) → Behind w → BeforeKeeps Behind Behind Behind Behind Behind (act_before_touch act w)
-  act_behind Go w b = b
-  act_behind (Read at len) w b = by (lies_in at len w.sandbox)
-    where
-      by : (inside : Bool) → BeforeKeeps Behind Behind Behind Behind Behind (waits_or_ends (shown_if inside at len w) w)
-      by true = longer events w.events (Showed (SeenBytes at (bytes_at at len w.sandbox)) ∷ []) b
-      by false = b
-  act_behind (Write at bytes) w b = by (lies_in at (length bytes) w.sandbox)
-    where
-      by : (inside : Bool) → BeforeKeeps Behind Behind Behind Behind Behind (waits_or_ends (written_if inside at bytes w) w)
-      by true = b
-      by false = b
-  act_behind (Call fun args) w b = b
-  act_behind (Return value) w b = b
-  act_behind Stop w b = b
-
-  sandbox_act_behind : (act : Act) (w : World) → Behind w → InKeeps Behind Behind Behind Behind Behind (act_in_sandbox act w)
-  sandbox_act_behind Go w b = b
-  sandbox_act_behind (Read at len) w b = by (lies_in at len w.sandbox)
-    where
-      by : (inside : Bool) → InKeeps Behind Behind Behind Behind Behind (keeps_or_ends (shown_if inside at len w) w)
-      by true = longer events w.events (Showed (SeenBytes at (bytes_at at len w.sandbox)) ∷ []) b
-      by false = b
-  sandbox_act_behind (Write at bytes) w b = by (lies_in at (length bytes) w.sandbox)
-    where
-      by : (inside : Bool) → InKeeps Behind Behind Behind Behind Behind (keeps_or_ends (written_if inside at bytes w) w)
-      by true = b
-      by false = b
-  sandbox_act_behind (Call fun args) w b = b
-  sandbox_act_behind (Return value) w b = b
-  sandbox_act_behind Stop w b = b
-
-  touch_behind : (release : Release) (w : World) → Behind w → ReleaseKeeps Behind Behind Behind Behind Behind release (released release w)
-  touch_behind Looked w b = longer events w.events (Released Looked ∷ []) b
-  touch_behind (Wrote at bytes) w b = longer events w.events (Released (Wrote at bytes) ∷ []) b
-  touch_behind (Passed fun args) w b = longer events w.events (Released (Passed fun args) ∷ Showed (SeenCall fun args) ∷ []) b
-  touch_behind (Replied value) w b = longer events w.events (Released (Replied value) ∷ Showed (SeenReply value) ∷ []) b
-
-  behind_kept : AreKept Behind Behind Behind Behind Behind
-  behind_kept =
+  begins : Stays Begins
+  begins =
       record {
-        ticks = λ w n b. b;
-        inputs = λ w left b. b;
-        writes = λ w bytes b. longer events w.events (Output bytes ∷ []) b;
-        rooms = λ w room b. b;
-        acts = λ w act acts e b. act_behind act (taken_one act acts w) (took_behind act acts w b);
-        no_act = λ w none b. longer events w.events (NoAct turns.Trusted ∷ []) b;
-        touches = λ w release b. touch_behind release w b;
-        sandbox_acts = λ w act acts e b. sandbox_act_behind act (taken_one act acts w) (took_behind act acts w b);
-        no_sandbox_act = λ w none b. longer events w.events (NoAct turns.Sandbox ∷ []) b;
-        called_ticks = λ w n b. b;
-        called_back = λ w b. b;
-        called_ends = λ w b. b;
-        ends = λ w b. b;
+        tells = λ later more acts none front. longer events later more front;
+        takes = λ later turn act acts front. longer events later (Took turn act ∷ []) front;
       }
-
-  behind_state : (s : State) → Behind s.world → HoldsIn Behind Behind Behind Behind Behind s.control s.world
-  behind_state s b = elim s.control as (λ control. HoldsIn Behind Behind Behind Behind Behind control s.world) [ Runs f ↦ b | Touches f touch ↦ b | Away ↦ b ]
 
   behind_run : (r : Run) → RunKeeps Behind Behind Behind Behind Behind r → IsFront events (events_of r)
   behind_run (Unfinished s) b = by s.control b
@@ -171,7 +195,7 @@ module _ (image : Image) (settings : Settings) where
   later : (n m : ℕ) (s : State) → n ≤ m → IsFront (events_of (exec image settings n s)) (events_of (exec image settings m s))
   later zero m s le =
       let events = s.world.events in
-      behind_run events (exec image settings m s) (run-keeps (Behind events) (Behind events) (Behind events) (Behind events) (Behind events) (behind_kept events) image settings m s (behind_state events s (same_front events)))
+      behind_run events (exec image settings m s) (run_stays (Begins events) (begins events) image settings m s (same_front events))
   later (suc n) zero s le = absurd (omega arith)
   later (suc n) (suc m) s le = by (move image settings s) (λ t. later n m t (omega arith))
     where
@@ -186,3 +210,22 @@ module _ (image : Image) (settings : Settings) where
       (λ lt. subst (λ r. IsFront (events_of (exec image settings n s)) (events_of r)) run.1 (later n run.0 s (omega arith)))
       (λ le. subst (λ r. IsFront (events_of r) t.world.events) (sym (finished_stays image settings run.0 n s ending t le run.1)) (same_front t.world.events))
       (cases_lt n run.0)
+
+-- ---- each act that is taken is told
+
+module _ (all : List Act) where
+  -- the list has the acts that happened, and those that are left
+  abbrev Tells : List Event → List Act → Type 0
+  Tells events acts = all ≡ acts_of events ++ acts
+
+  acts_told : Stays Tells
+  acts_told =
+      record {
+        tells = λ events more acts none h. h ∙ ap (λ front. front ++ acts) (sym (acts_of-append events more ∙ ap (λ rest. acts_of events ++ rest) none ∙ append-nil (acts_of events)));
+        takes = λ events turn act acts h. h ∙ sym (append_assoc (acts_of events) (act ∷ []) acts) ∙ ap (λ front. front ++ acts) (sym (acts_of-append events (Took turn act ∷ [])));
+      }
+
+pub told : (image : Image) (settings : Settings) (inputs : List ℤ) (acts : List Act) (ending : Ending) (t : State) → CodeRun image settings inputs acts ending t → acts ≡ acts_of t.world.events ++ t.world.acts
+told image settings inputs acts ending t run =
+    subst (RunKeeps (In (Tells acts)) (In (Tells acts)) (In (Tells acts)) (In (Tells acts)) (In (Tells acts))) run.1
+    (run_stays (Tells acts) (acts_told acts) image settings run.0 (started image settings inputs acts) refl)

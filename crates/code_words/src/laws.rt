@@ -7,7 +7,7 @@ ghost use Rattle.act_words.specs.declared.ending.Ending.{Ending};
 ghost use Rattle.act_words.specs.declared.settings.Settings.{Settings};
 ghost use Rattle.act_words.specs.Acts.{Act};
 ghost use Rattle.act_words.specs.World.{Event};
-ghost use Rattle.act_words.specs.View.{ViewIsFold, IsFront, releases_of, view_of, due_front, view_fold};
+ghost use Rattle.act_words.specs.View.{ViewIsFold, IsFront, releases_of, view_of, acts_of, due_front, view_fold};
 ghost use Rattle.code_words.specs.Images.{Image};
 ghost use Rattle.code_words.specs.Table.{Frame, Touch, State, Runs, Touches, Away, Goes};
 ghost use Rattle.code_words.specs.Moves.{move};
@@ -45,6 +45,12 @@ pub fn view_is_fold_before()
     ensures { (image : Image) (settings : Settings) (inputs : List ℤ) (acts : List Act) (ending : Ending) (t : State) (front : List Event)
         → CodeRun image settings inputs acts ending t → due_front t.world.events ≡ Some front
         → view_of front ≡ view_fold (started image settings inputs acts).world.sandbox acts (releases_of front) }
+{}
+
+/// What happened names the acts that the run took, one by one; behind them stand those that are left.
+pub fn taken_are_told()
+    ensures { (image : Image) (settings : Settings) (inputs : List ℤ) (acts : List Act) (ending : Ending) (t : State)
+        → CodeRun image settings inputs acts ending t → acts ≡ acts_of t.world.events ++ t.world.acts }
 {}
 
 /// What happened after some moves has happened when the run ends, and more may have happened behind it.
