@@ -1,5 +1,4 @@
 pub mod World
-pub mod Outcome
 pub mod Checks
 pub mod Numbers
 pub mod Arithmetic

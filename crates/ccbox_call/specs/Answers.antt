@@ -11,7 +11,7 @@ use Rattle.ckc_text.specs.declared.place.Place.{Place}
 use Rattle.act_words.specs.declared.ending.Ending.{Ending}
 use Rattle.act_words.specs.declared.ending.Ending.TheVariants.{Exit, Check, Stop}
 use Rattle.act_words.specs.declared.settings.Settings.{Settings}
-use Rattle.act_words.specs.Outcome.{Ends}
+use Rattle.ckc_core.specs.Outcome.{Ends}
 use Rattle.act_words.specs.World.{Event}
 use Rattle.act_words.specs.Shown.{Shown}
 use Rattle.act_words.specs.Acts.{Act}

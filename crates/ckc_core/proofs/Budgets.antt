@@ -4,7 +4,7 @@ use Rattle.std.specs.Prelude.{◌==◌, ◌&&◌, nat_lt, slice_get}
 use Rattle.flat_bytes.specs.Blocks.{first_offset}
 use Rattle.act_words.specs.declared.settings.Settings.{Settings}
 use Rattle.act_words.specs.Acts.{Act, Passed}
-use Rattle.act_words.specs.Outcome.{Gives, Ends, Stuck, Short, and_then}
+use Rattle.ckc_core.specs.Outcome.{Gives, Ends, Stuck, Short, and_then}
 use Rattle.act_words.specs.Checks.{Checked, Holds, Fails, is_word_number}
 use Rattle.act_words.specs.Arithmetic as arithmetic
 use Rattle.act_words.specs.World.{new_world}
@@ -16,22 +16,22 @@ use Rattle.act_words.specs.declared.operator.Comparison.{Comparison}
 use Rattle.ckc_core.specs.declared.program.Callee.{Callee}
 use Rattle.ckc_core.specs.declared.program.Callee.TheVariants as callees
 use Rattle.ckc_core.specs.Core as core
-use Rattle.ckc_core.specs.States.{Value, Number, Null, At, Cell, State, in_world, cell_at, stands_at, stands_behind, same_type, has_type}
-use Rattle.ckc_core.specs.Meaning.{Result, Flow, Next, Broke, Continued, Returned, Knot, Setting, given, checked, value_if, value_in, place_where, place_in, place_through, load_at, place_if, pointer_to, truth, same_place, test_given, result_of, arithmetic_of, compared, negated, complemented, low_byte_of, asked, words_of, reply_as, passed, cross, cross_if, call_tainted, crossed, takes, enter_if, call_trusted, called, result_given, choose, value, values, place, store_if, store_over, store_at, set_local_if, set_local, pointer_of, place_from, kept_if, is_char, printed, put, on_next, behind_turn, no_result, effect, effects, answer, locals_for, back, body_if, body_of, knot, exit, initial, meaning}
+use Rattle.ckc_core.specs.States.{Value, Number, Null, At, Cell, Local, State, in_world, cell_at, same_type, has_type}
+use Rattle.ckc_core.specs.Meaning.{Result, Flow, Next, Broke, Continued, Returned, Knot, Setting, given, checked, value_if, value_in, place_through, load_at, place_if, pointer_to, truth, same_place, test_given, result_of, arithmetic_of, compared, negated, complemented, low_byte_of, asked, words_of, reply_as, passed, cross, cross_if, call_tainted, crossed, takes, enter_if, call_trusted, called, result_given, choose, value, values, place, store_if, store_over, store_at, set_local, pointer_of, place_from, kept_if, is_char, printed, put, on_next, behind_turn, no_result, effect, effects, answer, locals_for, back, body_if, body_of, knot, exit, initial, meaning, place_at, site_of, set_if, set_over, leaves_zero, fit, parameters_of, fits_result, answer_if}
 use Rattle.ckc_core.proofs.Ticks.{HasSpent, Answers, Crosses, tick_answers, enter_answers, touch_answers, until_crosses, next_answers}
 
 -- from a state in which so many ticks were spent at least: no fewer were in the state behind a value, and it isn't short
 abbrev pub Goes : ℕ → {A : Type 0} → ℕ → Result A → Type 0
 Goes budget low (Gives v s) = HasSpent budget low s.world
 Goes budget low (Ends ending s) = Unit {0}
-Goes budget low Stuck = Unit {0}
+Goes budget low (Stuck site s) = Unit {0}
 Goes budget low Short = ⊥
 
 module _ (budget : ℕ) where
   goes_on : {A B : Type 0} (low : ℕ) (o : Result A) (next : A → State → Result B) → Goes budget low o → ((v : A) (s : State) → HasSpent budget low s.world → Goes budget low (next v s)) → Goes budget low (and_then o next)
   goes_on low (Gives v s) next h more = more v s h
   goes_on low (Ends ending s) next h more = tt
-  goes_on low Stuck next h more = tt
+  goes_on low (Stuck site s) next h more = tt
   goes_on low Short next h more = h
 
   asked_goes : {A B : Type 0} (low : ℕ) (o : Asked A) (s : State) (next : A → State → Result B) → Answers budget low o → ((v : A) (t : State) → HasSpent budget low t.world → Goes budget low (next v t)) → Goes budget low (asked o s next)
@@ -42,7 +42,7 @@ module _ (budget : ℕ) where
   lowered : {A : Type 0} (low : ℕ) (o : Result A) → Goes budget (suc low) o → Goes budget low o
   lowered low (Gives v s) h = record { least = omega (arith, h.least); most = h.most }
   lowered low (Ends ending s) h = tt
-  lowered low Stuck h = tt
+  lowered low (Stuck site s) h = tt
   lowered low Short h = h
 
   chosen_goes : {A : Type 0} (low : ℕ) (test : Bool) (first second : Result A) → Goes budget low first → Goes budget low second → Goes budget low (choose test first second)
@@ -52,7 +52,7 @@ module _ (budget : ℕ) where
   -- ---- what is no recursion on the tree
 
   module _ (low : ℕ) (s : State) (spent : HasSpent budget low s.world) where
-    given_goes : (o : Option Value) → Goes budget low (given o s)
+    given_goes : (o : Option Local) → Goes budget low (given o s)
     given_goes None = tt
     given_goes (Some v) = spent
 
@@ -60,29 +60,25 @@ module _ (budget : ℕ) where
     checked_goes (Holds z) = spent
     checked_goes (Fails ending) = tt
 
-    value_goes_if : (test : Bool) (v : Value) → Goes budget low (value_if test v s)
-    value_goes_if true v = spent
-    value_goes_if false v = tt
+    value_goes_if : (test : Bool) (site : Option Site) (v : Value) → Goes budget low (value_if test site v s)
+    value_goes_if true site v = spent
+    value_goes_if false site v = tt
 
-    cell_goes : (type : CType) (o : Option Cell) → Goes budget low (value_in type o s)
-    cell_goes type None = tt
-    cell_goes type (Some cell) = value_goes_if (same_type type cell.type) cell.value
+    cell_goes : (type : CType) (site : Option Site) (o : Option Cell) → Goes budget low (value_in type site o s)
+    cell_goes type site None = tt
+    cell_goes type site (Some cell) = value_goes_if (same_type type cell.type) site cell.value
 
-    where_goes : (test : Bool) (block cell : ℕ) → Goes budget low (place_where test block cell s)
-    where_goes true block cell = spent
-    where_goes false block cell = tt
+    placed_goes : (o : Option Cell) (site : Option Site) (block byte : ℕ) → Goes budget low (place_if o site block byte s)
+    placed_goes None site block byte = tt
+    placed_goes (Some cell) site block byte = spent
 
-    through_goes : (cell offset : ℕ) (site : Site) (v : Value) → Goes budget low (place_through cell offset site v s)
-    through_goes cell offset site (Number z) = tt
-    through_goes cell offset site Null = tt
-    through_goes cell offset site (At block first) = where_goes (stands_behind (slice_get s.blocks block) first cell offset) block (first + cell)
+    direct_goes : (site : Option Site) (block byte : ℕ) → Goes budget low (place_at site block byte s)
+    direct_goes site block byte = placed_goes (cell_at s.blocks block byte) site block byte
 
-    direct_goes : (object cell offset : ℕ) → Goes budget low (place_in object cell offset s)
-    direct_goes object cell offset = where_goes (stands_at (slice_get s.blocks object) cell offset) object cell
-
-    there_goes : (o : Option Cell) (block cell : ℕ) → Goes budget low (place_if o block cell s)
-    there_goes None block cell = tt
-    there_goes (Some there) block cell = spent
+    through_goes : (offset : ℕ) (site : Site) (v : Value) → Goes budget low (place_through offset site v s)
+    through_goes offset site (Number z) = tt
+    through_goes offset site Null = tt
+    through_goes offset site (At block byte) = direct_goes (Some site) block (byte + offset)
 
     test_goes : (o : Option Bool) → Goes budget low (test_given o s)
     test_goes None = tt
@@ -91,31 +87,31 @@ module _ (budget : ℕ) where
     arithmetic_goes : (operator : Operator) (site : Site) (v w : Value) → Goes budget low (arithmetic_of operator site v w s)
     arithmetic_goes operator site (Number a) (Number b) = checked_goes (result_of operator site a b)
     arithmetic_goes operator site (Number a) Null = tt
-    arithmetic_goes operator site (Number a) (At block cell) = tt
+    arithmetic_goes operator site (Number a) (At block byte) = tt
     arithmetic_goes operator site Null w = tt
-    arithmetic_goes operator site (At block cell) w = tt
+    arithmetic_goes operator site (At block byte) w = tt
 
     compared_goes : (comparison : Comparison) (v w : Value) → Goes budget low (compared comparison v w s)
     compared_goes comparison (Number a) (Number b) = spent
     compared_goes comparison (Number a) Null = tt
-    compared_goes comparison (Number a) (At block cell) = tt
+    compared_goes comparison (Number a) (At block byte) = tt
     compared_goes comparison Null w = tt
-    compared_goes comparison (At block cell) w = tt
+    compared_goes comparison (At block byte) w = tt
 
     negated_goes : (site : Site) (v : Value) → Goes budget low (negated site v s)
     negated_goes site (Number a) = checked_goes (arithmetic.negation site.place a)
     negated_goes site Null = tt
-    negated_goes site (At block cell) = tt
+    negated_goes site (At block byte) = tt
 
     complemented_goes : (v : Value) → Goes budget low (complemented v s)
     complemented_goes (Number a) = spent
     complemented_goes Null = tt
-    complemented_goes (At block cell) = tt
+    complemented_goes (At block byte) = tt
 
     byte_goes : (v : Value) → Goes budget low (low_byte_of v s)
     byte_goes (Number a) = spent
     byte_goes Null = tt
-    byte_goes (At block cell) = tt
+    byte_goes (At block byte) = tt
 
     result_goes : (o : Option Value) → Goes budget low (result_given o s)
     result_goes None = tt
@@ -132,17 +128,22 @@ module _ (budget : ℕ) where
     reply_goes (Some (Struct number)) site reply = tt
     reply_goes (Some (Pointer mode kind target)) site reply = tt
 
-    stored_goes : (test : Bool) (new : Cell) (block cell : ℕ) → Goes budget low (store_if test new block cell s)
-    stored_goes true new block cell = spent
-    stored_goes false new block cell = tt
+    stored_goes : (test : Bool) (site : Option Site) (block byte : ℕ) (v : Value) → Goes budget low (store_if test site block byte v s)
+    stored_goes true site block byte v = spent
+    stored_goes false site block byte v = tt
 
-    over_goes : (o : Option Cell) (type : CType) (v : Value) (block cell : ℕ) → Goes budget low (store_over o type v block cell s)
-    over_goes None type v block cell = tt
-    over_goes (Some old) type v block cell = stored_goes (same_type type old.type && has_type type v) (record old { value = v }) block cell
+    over_goes : (o : Option Cell) (type : CType) (site : Option Site) (v : Value) (block byte : ℕ) → Goes budget low (store_over o type site v block byte s)
+    over_goes None type site v block byte = tt
+    over_goes (Some old) type site v block byte =
+        stored_goes (same_type type old.type && (has_type type v && leaves_zero (slice_get s.blocks block) byte v)) site block byte v
 
-    set_goes_if : (test : Bool) (local : ℕ) (v : Value) → Goes budget low (set_local_if test local v s)
-    set_goes_if true local v = spent
-    set_goes_if false local v = tt
+    set_goes_if : (test : Bool) (old : Local) (local : ℕ) (v : Value) → Goes budget low (set_if test old local v s)
+    set_goes_if true old local v = spent
+    set_goes_if false old local v = tt
+
+    set_goes_over : (o : Option Local) (local : ℕ) (v : Value) → Goes budget low (set_over o local v s)
+    set_goes_over None local v = tt
+    set_goes_over (Some old) local v = set_goes_if (has_type old.type v) old local v
 
     kept_goes : (char : Bool) (v : Value) → Goes budget low (kept_if char v s)
     kept_goes true v = byte_goes v
@@ -151,12 +152,12 @@ module _ (budget : ℕ) where
     printed_goes : (v : Value) → Goes budget low (printed v s)
     printed_goes (Number z) = record { least = spent.least; most = spent.most }
     printed_goes Null = tt
-    printed_goes (At block cell) = tt
+    printed_goes (At block byte) = tt
 
     put_goes : (v : Value) → Goes budget low (put v s)
     put_goes (Number z) = record { least = spent.least; most = spent.most }
     put_goes Null = tt
-    put_goes (At block cell) = tt
+    put_goes (At block byte) = tt
 
     nothing_goes : (o : Option Value) → Goes budget low (no_result o s)
     nothing_goes None = spent
@@ -174,19 +175,23 @@ module _ (budget : ℕ) where
     turned_goes further Broke h = spent
     turned_goes further (Returned v) h = spent
 
+    answer_goes_if : (test : Bool) (v : Option Value) → Goes budget low (answer_if test v s)
+    answer_goes_if true v = spent
+    answer_goes_if false v = tt
+
     answer_goes : (result : Option CType) (flow : Flow) → Goes budget low (answer result flow s)
     answer_goes result Next = spent
-    answer_goes result (Returned v) = spent
+    answer_goes result (Returned v) = answer_goes_if (fits_result result v) v
     answer_goes result Broke = tt
     answer_goes result Continued = tt
 
     place_from_goes : (p : core.Place) (v : Value) → Goes budget low (place_from p v s)
-    place_from_goes (core.Direct object cell offset) v = direct_goes object cell offset
-    place_from_goes (core.Through pointer cell offset site) v = through_goes cell offset site v
+    place_from_goes (core.Direct object offset) v = direct_goes None object offset
+    place_from_goes (core.Through pointer offset site) v = through_goes offset site v
 
-  module _ (program : core.Core) (n : ℕ) where
+  module _ (program : core.Core) (sandbox_size trusted_size n : ℕ) where
     abbrev g : Setting
-    g = record { program = program; budget = budget }
+    g = record { program = program; budget = budget; sandbox = sandbox_size; trusted = trusted_size }
 
     -- calls and turns that aren't short behind a tick, where so many are left at most
     pub record IsKnot (k : Knot) : Type 0 where
@@ -203,7 +208,7 @@ module _ (budget : ℕ) where
           (λ _ u u_spent. is.call (suc low) function vs u (omega (arith, enough)) u_spent)))
 
       trusted_goes : (low : ℕ) (enough : budget ≤ low + n) (function : ℕ) (vs : List Value) (s : State) → HasSpent budget low s.world → Goes budget low (call_trusted g k function vs s)
-      trusted_goes low enough function vs s spent = enter_goes low enough (takes (slice_get program.functions function) (length vs)) function vs s spent
+      trusted_goes low enough function vs s spent = enter_goes low enough (takes (slice_get program.functions function) vs) function vs s spent
 
       passed_goes : (low : ℕ) (enough : suc budget ≤ low + n) (i : core.Import) (site : Site) (s : State) → HasSpent budget low s.world → Goes budget low (passed k i site s)
       passed_goes low enough i site s spent =
@@ -236,13 +241,13 @@ module _ (budget : ℕ) where
 
       mutual
         value_goes : (e : core.Expression) (low : ℕ) (enough : budget ≤ low + n) (s : State) → HasSpent budget low s.world → Goes budget low (value g k e s)
-        value_goes (core.Number z) low enough s spent = value_goes_if low s spent (is_word_number z) (Number z)
+        value_goes (core.Number z) low enough s spent = value_goes_if low s spent (is_word_number z) None (Number z)
         value_goes core.Null low enough s spent = spent
         value_goes (core.Local i) low enough s spent = given_goes low s spent (slice_get s.locals i)
         value_goes (core.Load type p) low enough s spent =
-            goes_on low (place g k p s) (load_at type) (place_goes p low enough s spent) (λ at t t_spent. cell_goes low t t_spent type (cell_at t.blocks at.0 at.1))
+            goes_on low (place g k p s) (load_at type (site_of p)) (place_goes p low enough s spent) (λ at t t_spent. cell_goes low t t_spent type (site_of p) (cell_at t.blocks at.0 at.1))
         value_goes (core.AddressOf p) low enough s spent =
-            goes_on low (place g k p s) pointer_to (place_goes p low enough s spent) (λ at t t_spent. there_goes low t t_spent (cell_at t.blocks at.0 at.1) at.0 at.1)
+            goes_on low (place g k p s) pointer_to (place_goes p low enough s spent) (λ at t t_spent. t_spent)
         value_goes (core.Negate operand site) low enough s spent =
             goes_on low (value g k operand s) (negated site) (value_goes operand low enough s spent) (λ v t t_spent. negated_goes low t t_spent site v)
         value_goes (core.Complement operand) low enough s spent =
@@ -277,21 +282,21 @@ module _ (budget : ℕ) where
             (λ v t t_spent. goes_on low (values g k rest t) _ (values_go rest low enough t t_spent) (λ vs u u_spent. u_spent))
 
         place_goes : (p : core.Place) (low : ℕ) (enough : budget ≤ low + n) (s : State) → HasSpent budget low s.world → Goes budget low (place g k p s)
-        place_goes (core.Direct object cell offset) low enough s spent = direct_goes low s spent object cell offset
-        place_goes (core.Through pointer cell offset site) low enough s spent =
-            goes_on low (value g k pointer s) (place_through cell offset site) (value_goes pointer low enough s spent) (λ v t t_spent. through_goes low t t_spent cell offset site v)
+        place_goes (core.Direct object offset) low enough s spent = direct_goes low s spent None object offset
+        place_goes (core.Through pointer offset site) low enough s spent =
+            goes_on low (value g k pointer s) (place_through offset site) (value_goes pointer low enough s spent) (λ v t t_spent. through_goes low t t_spent offset site v)
 
       pointer_goes : (p : core.Place) (low : ℕ) (enough : budget ≤ low + n) (s : State) → HasSpent budget low s.world → Goes budget low (pointer_of g k p s)
-      pointer_goes (core.Direct object cell offset) low enough s spent = goes_on low (place_in object cell offset s) _ (direct_goes low s spent object cell offset) (λ at t t_spent. t_spent)
-      pointer_goes (core.Through pointer cell offset site) low enough s spent = value_goes pointer low enough s spent
+      pointer_goes (core.Direct object offset) low enough s spent = goes_on low (place_at None object offset s) pointer_to (direct_goes low s spent None object offset) (λ at t t_spent. t_spent)
+      pointer_goes (core.Through pointer offset site) low enough s spent = value_goes pointer low enough s spent
 
       -- ---- statements
 
       set_goes : (low local : ℕ) (v : Value) (s : State) → HasSpent budget low s.world → Goes budget low (set_local local v s)
-      set_goes low local v s spent = set_goes_if low s spent (nat_lt local (length s.locals)) local v
+      set_goes low local v s spent = set_goes_over low s spent (slice_get s.locals local) local v
 
-      store_goes : (low : ℕ) (type : CType) (at : ℕ × ℕ) (v : Value) (s : State) → HasSpent budget low s.world → Goes budget low (store_at type at v s)
-      store_goes low type at v s spent = over_goes low s spent (cell_at s.blocks at.0 at.1) type v at.0 at.1
+      store_goes : (low : ℕ) (type : CType) (site : Option Site) (at : ℕ × ℕ) (v : Value) (s : State) → HasSpent budget low s.world → Goes budget low (store_at type site at v s)
+      store_goes low type site at v s spent = over_goes low s spent (cell_at s.blocks at.0 at.1) type site v at.0 at.1
 
       mutual
         effect_goes : (x : core.Statement) (low : ℕ) (enough : budget ≤ low + n) (s : State) → HasSpent budget low s.world → Goes budget low (effect g k x s)
@@ -301,7 +306,7 @@ module _ (budget : ℕ) where
         effect_goes (core.Store type p e) low enough s spent =
             goes_on low (pointer_of g k p s) _ (pointer_goes p low enough s spent)
             (λ q t t_spent. goes_on low (value g k e t) _ (value_goes e low enough t t_spent)
-            (λ v u u_spent. goes_on low (place_from p q u) _ (place_from_goes low u u_spent p q) (λ at w w_spent. store_goes low type at v w w_spent)))
+            (λ v u u_spent. goes_on low (place_from p q u) _ (place_from_goes low u u_spent p q) (λ at w w_spent. store_goes low type (site_of p) at v w w_spent)))
         effect_goes (core.UpdateLocal char local operator e site) low enough s spent =
             goes_on low (given (slice_get s.locals local) s) _ (given_goes low s spent (slice_get s.locals local))
             (λ old t t_spent. goes_on low (value g k e t) _ (value_goes e low enough t t_spent)
@@ -309,10 +314,10 @@ module _ (budget : ℕ) where
             (λ new w w_spent. goes_on low (kept_if char new w) (set_local local) (kept_goes low w w_spent char new) (λ last x x_spent. set_goes low local last x x_spent))))
         effect_goes (core.Update type p operator e site) low enough s spent =
             goes_on low (place g k p s) _ (place_goes p low enough s spent)
-            (λ at t t_spent. goes_on low (load_at type at t) _ (cell_goes low t t_spent type (cell_at t.blocks at.0 at.1))
+            (λ at t t_spent. goes_on low (load_at type (Some site) at t) _ (cell_goes low t t_spent type (Some site) (cell_at t.blocks at.0 at.1))
             (λ old u u_spent. goes_on low (value g k e u) _ (value_goes e low enough u u_spent)
             (λ v w w_spent. goes_on low (arithmetic_of operator site old v w) _ (arithmetic_goes low w w_spent operator site old v)
-            (λ new x x_spent. goes_on low (kept_if (is_char type) new x) (store_at type at) (kept_goes low x x_spent (is_char type) new) (λ last y y_spent. store_goes low type at last y y_spent)))))
+            (λ new x x_spent. goes_on low (kept_if (is_char type) new x) (store_at type (Some site) at) (kept_goes low x x_spent (is_char type) new) (λ last y y_spent. store_goes low type (Some site) at last y y_spent)))))
         effect_goes (core.Evaluate e) low enough s spent = goes_on low (value g k e s) _ (value_goes e low enough s spent) (λ v t t_spent. t_spent)
         effect_goes (core.CallAlone callee arguments) low enough s spent =
             goes_on low (values g k arguments s) _ (values_go arguments low enough s spent)
@@ -348,14 +353,14 @@ module _ (budget : ℕ) where
       body_goes_if : (low : ℕ) (enough : budget ≤ low + n) (test : Bool) (f : core.Function) (vs : List Value) (s : State) → HasSpent budget low s.world → Goes budget low (body_if test g k f vs s)
       body_goes_if low enough false f vs s spent = tt
       body_goes_if low enough true f vs s spent =
-          let inside : State = record s { locals = locals_for f vs; depth = s.depth + 1 } in
+          let inside : State = record s { locals = locals_for f.locals vs; depth = s.depth + 1 } in
           goes_on low (and_then (effects g k f.body inside) (answer f.result)) (back s)
           (goes_on low (effects g k f.body inside) (answer f.result) (effects_go f.body low enough inside spent) (λ flow t t_spent. answer_goes low t t_spent f.result flow))
           (λ v t t_spent. t_spent)
 
       body_goes : (low : ℕ) (enough : budget ≤ low + n) (o : Option core.Function) (vs : List Value) (s : State) → HasSpent budget low s.world → Goes budget low (body_of g k o vs s)
       body_goes low enough None vs s spent = tt
-      body_goes low enough (Some f) vs s spent = body_goes_if low enough (f.parameters == length vs) f vs s spent
+      body_goes low enough (Some f) vs s spent = body_goes_if low enough (fit (parameters_of f) vs) f vs s spent
 
   -- the sandbox's turn
   sandbox_goes : (low : ℕ) (c : Crossed) (s : State) → Crosses budget low c → Goes budget low (crossed c s)
@@ -363,28 +368,28 @@ module _ (budget : ℕ) where
   sandbox_goes low (Crossed.Called fun words w) s h = tt
   sandbox_goes low (Crossed.Over ending w) s h = tt
 
-  knots : (program : core.Core) (n : ℕ) → IsKnot program n (knot (record { program = program; budget = budget }) n)
-  knots program zero = record {
+  knots : (program : core.Core) (sandbox trusted n : ℕ) → IsKnot program sandbox trusted n (knot (record { program = program; budget = budget; sandbox = sandbox; trusted = trusted }) n)
+  knots program sandbox trusted zero = record {
     call = λ low function vs s enough spent. absurd (omega (arith, spent.least, spent.most));
     turn = λ low e x y s enough spent. absurd (omega (arith, spent.least, spent.most));
     sandbox = λ low s enough spent. absurd (omega (arith, spent.least, spent.most));
   }
-  knots program (suc n) = record {
-    call = λ low function vs s enough spent. body_goes program n _ (knots program n) low (omega (arith, enough)) (slice_get program.functions function) vs s spent;
-    turn = λ low e x y s enough spent. effect_goes program n _ (knots program n) (core.Loop e x y) low (omega (arith, enough)) s spent;
+  knots program sandbox trusted (suc n) = record {
+    call = λ low function vs s enough spent. body_goes program sandbox trusted n _ (knots program sandbox trusted n) low (omega (arith, enough)) (slice_get program.functions function) vs s spent;
+    turn = λ low e x y s enough spent. effect_goes program sandbox trusted n _ (knots program sandbox trusted n) (core.Loop e x y) low (omega (arith, enough)) s spent;
     sandbox = λ low s enough spent. sandbox_goes low (until_return s.world.acts s.world) s (until_crosses budget low s.world.acts s.world spent);
   }
 
   exit_goes : (low : ℕ) (v : Option Value) (s : State) → Goes budget low (exit v s)
   exit_goes low (Some (Number z)) s = tt
   exit_goes low (Some Null) s = tt
-  exit_goes low (Some (At block cell)) s = tt
+  exit_goes low (Some (At block byte)) s = tt
   exit_goes low None s = tt
 
 not_short : (budget low : ℕ) {A : Type 0} (o : Result A) → Goes budget low o → o ≡ Short → ⊥
 not_short budget low (Gives v s) h e = absurd (cc)
 not_short budget low (Ends ending s) h e = absurd (cc)
-not_short budget low Stuck h e = absurd (cc)
+not_short budget low (Stuck site s) h e = absurd (cc)
 not_short budget low Short h e = h
 
 pub never_short : (program : core.Core) (settings : Settings) (inputs : List ℤ) (acts : List Act) → meaning program settings inputs acts ≡ Short → ⊥
@@ -393,4 +398,4 @@ never_short program settings inputs acts =
     let start : State = initial program (new_world (replicate settings.sandbox 0) first_offset inputs acts) in
     let spent : HasSpent n 0 start.world = record { least = omega arith; most = omega arith } in
     not_short n 0 _ (goes_on n 0 (body_of _ _ (slice_get program.functions program.main) [] start) exit
-    (body_goes n program n _ (knots n program n) 0 (omega arith) (slice_get program.functions program.main) [] start spent) (λ v s s_spent. exit_goes n 0 v s))
+    (body_goes n program settings.sandbox settings.trusted n _ (knots n program settings.sandbox settings.trusted n) 0 (omega arith) (slice_get program.functions program.main) [] start spent) (λ v s s_spent. exit_goes n 0 v s))

@@ -44,11 +44,11 @@ mutual
     Done : Arguments
     More : (first : Expression) (rest : Arguments) → Arguments
 
-  -- where a cell stands: in a file-level variable, or behind a pointer, which isn't null (C1), and so many bytes behind the first
-  -- cell, or behind the one that is pointed to
+  -- where a cell stands: so many bytes behind the first one of a file-level variable, or behind the place that a pointer leads to,
+  -- which isn't null (C1)
   pub data Place : Type 0 where
-    Direct : (object cell offset : ℕ) → Place
-    Through : (pointer : Expression) (cell offset : ℕ) (site : Site) → Place
+    Direct : (object offset : ℕ) → Place
+    Through : (pointer : Expression) (offset : ℕ) (site : Site) → Place
 
 mutual
   -- a statement
@@ -138,8 +138,8 @@ abbrev mutual
   arguments (more_of-Expr first rest) = More (expression first) (arguments rest)
 
   pub place : code.CellPlace.CellPlace → Place
-  place (places.Direct object cell offset) = Direct object cell offset
-  place (places.Through' p pointer cell offset site) = Through (expression pointer) cell offset site
+  place (places.Direct object offset) = Direct object offset
+  place (places.Through' p pointer offset site) = Through (expression pointer) offset site
 
 -- the arguments in a slice
 abbrev pub arguments_of : List code.Expr.Expr → Arguments

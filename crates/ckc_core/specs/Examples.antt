@@ -3,7 +3,7 @@ use Rattle.std.specs.Prelude.{◌≡◌, ℕ, List, [], ◌∷◌, Some, None, c
 use Rattle.act_words.specs.declared.ending.Ending.{Ending}
 use Rattle.act_words.specs.declared.ending.Ending.TheVariants.{Exit, Check, Stop}
 use Rattle.ckc_text.specs.declared.code.Code.TheVariants.{C6, S1, S2}
-use Rattle.act_words.specs.Outcome.{Outcome, Gives, Ends, Stuck, Short}
+use Rattle.ckc_core.specs.Outcome.{Outcome, Gives, Ends, Stuck, Short}
 use Rattle.pointer_modes.specs.declared.ctype.Mode.TheVariants as modes
 use Rattle.pointer_modes.specs.declared.ctype.Kind.TheVariants as kinds
 use Rattle.pointer_modes.specs.Types.{CType, Int, Char, Struct, Pointer}
@@ -26,12 +26,12 @@ world = new_world (replicate 64 0) 16 [] []
 
 -- the run of a program with a budget, in which the sandbox ends at once
 abbrev pub runs : Core → ℕ → Outcome State (Unit {0})
-runs program budget = run_from (record { program = program; budget = budget }) (initial program world)
+runs program budget = run_from (record { program = program; budget = budget; sandbox = 64; trusted = 64 }) (initial program world)
 
 abbrev pub ends_as : Outcome State (Unit {0}) → Ending → Type 0
 ends_as (Gives value s) ending = ⊥
 ends_as (Ends how s) ending = how ≡ ending
-ends_as Stuck ending = ⊥
+ends_as (Stuck site s) ending = ⊥
 ends_as Short ending = ⊥
 
 abbrev pub body : List Statement → Statements
@@ -54,9 +54,9 @@ int_cell n = record { type = Int; stride = 4; number = pos n }
 abbrev pub first_run : Core
 first_run =
     one (Pointer modes.Checked kinds.One Int ∷ []) ((int_cell 1 ∷ []) ∷ [])
-    (Core.SetLocal 0 (Core.AddressOf (Core.Direct 0 0 0))
-    ∷ (Core.Store Int (Core.Through (Core.Local 0) 0 0 (site 1 46)) (number 41)
-    ∷ (Core.Return (Core.Arithmetic (operators.Arithmetic arithmetics.Add) (Core.Load Int (Core.Direct 0 0 0)) (number 1) (site 1 62)) ∷ [])))
+    (Core.SetLocal 0 (Core.AddressOf (Core.Direct 0 0))
+    ∷ (Core.Store Int (Core.Through (Core.Local 0) 0 (site 1 46)) (number 41)
+    ∷ (Core.Return (Core.Arithmetic (operators.Arithmetic arithmetics.Add) (Core.Load Int (Core.Direct 0 0)) (number 1) (site 1 62)) ∷ [])))
 
 abbrev pub first_run_ends : Type 0
 first_run_ends = ends_as (runs first_run 100) (Exit (pos 42))
@@ -113,11 +113,11 @@ depth_and_budget = ends_as (runs falling 1000) (Stop S2 None) × ends_as (runs f
 abbrev pub members : Core
 members =
     (one (Pointer modes.Checked kinds.One (Struct 0) ∷ []) (((record { type = Char; stride = 4; number = pos 0 }) ∷ (int_cell 0 ∷ [])) ∷ [])
-    (Core.SetLocal 0 (Core.AddressOf (Core.Direct 0 0 0))
-    ∷ (Core.Store Int (Core.Through (Core.Local 0) 1 4 (site 3 40)) (number 7)
-    ∷ (Core.Store Char (Core.Direct 0 0 0) (Core.LowByte (number 300))
-    ∷ (Core.Return (Core.Arithmetic (operators.Arithmetic arithmetics.Add) (Core.Load Int (Core.Through (Core.Local 0) 1 4 (site 3 65)))
-    (Core.Load Char (Core.Direct 0 0 0)) (site 3 65)) ∷ [])))))
+    (Core.SetLocal 0 (Core.AddressOf (Core.Direct 0 0))
+    ∷ (Core.Store Int (Core.Through (Core.Local 0) 4 (site 3 40)) (number 7)
+    ∷ (Core.Store Char (Core.Direct 0 0) (Core.LowByte (number 300))
+    ∷ (Core.Return (Core.Arithmetic (operators.Arithmetic arithmetics.Add) (Core.Load Int (Core.Through (Core.Local 0) 4 (site 3 65)))
+    (Core.Load Char (Core.Direct 0 0)) (site 3 65)) ∷ [])))))
 
 abbrev pub struct_ends : Type 0
 struct_ends = ends_as (runs members 100) (Exit (pos 51))

@@ -1,13 +1,13 @@
 -- What a program means: values with places, each check at its place, and stuck where nothing is meant.
-use Rattle.std.specs.Prelude.{ℕ, zero, suc, ◌+◌, ◌%◌, Bool, true, false, not, ◌&&◌, ◌==◌, List, [], ◌∷◌, ◌++◌, Option, Some, None, option_map}
-use Rattle.std.specs.Prelude.{slice_get, slice_set, nat_lt, length, map, drop, replicate, pos}
+use Rattle.std.specs.Prelude.{ℕ, zero, ◌+◌, ◌%◌, Bool, true, false, not, ◌&&◌, ◌==◌, List, [], ◌∷◌, Option, Some, None, option_map}
+use Rattle.std.specs.Prelude.{suc, ◌||◌, slice_get, slice_set, nat_lt, length, map, take, replicate, pos}
 use Rattle.std.proofs.Common.{ℤ}
 use Rattle.ckc_text.specs.declared.code.Code.TheVariants.{C1, C9, S5}
 use Rattle.act_words.specs.declared.ending.Ending.TheVariants.{Check, Exit}
 use Rattle.act_words.specs.declared.settings.Settings.{Settings}
 use Rattle.act_words.specs.Acts.{Act, Passed}
 use Rattle.act_words.specs.Acting.{stopped_by_act}
-use Rattle.act_words.specs.Outcome.{Outcome, Gives, Ends, Stuck, Short, and_then}
+use Rattle.ckc_core.specs.Outcome.{Outcome, Gives, Ends, Stuck, Short, and_then}
 use Rattle.act_words.specs.Numbers.{signed, word, number_line}
 use Rattle.act_words.specs.Checks.{Checked, Holds, Fails, is_word_number}
 use Rattle.flat_bytes.specs.Blocks.{first_offset}
@@ -23,7 +23,7 @@ use Rattle.act_words.specs.Operators.{arithmetic_result, bitwise_result, holds}
 use Rattle.ckc_core.specs.declared.program.Callee.{Callee}
 use Rattle.ckc_core.specs.declared.program.Callee.TheVariants as callees
 use Rattle.ckc_core.specs.Core as core
-use Rattle.ckc_core.specs.States.{Value, Number, Null, At, Cell, State, in_world, cell_at, with_cell, stands_at, stands_behind, same_type, has_type}
+use Rattle.ckc_core.specs.States.{Value, Number, Null, At, Cell, Block, Local, State, in_world, cell_at, stored, strides, number_at, same_type, has_type}
 use Rattle.ckc_core.specs.States.{zero_of, object_block}
 
 -- the outcome of a step of the meaning
@@ -45,62 +45,66 @@ pub record Knot : Type 0 where
   -- the sandbox goes on from here until the innermost tainted call ends
   pub sandbox : State → Result ℕ
 
--- what all of a run knows: the program, and its budget
+-- what all of a run knows: the program, its budget, and the sizes of both memories
 pub record Setting : Type 0 where
   pub program : core.Core
   pub budget : ℕ
+  pub sandbox : ℕ
+  pub trusted : ℕ
+
+abbrev pub setting_of : core.Core → Settings → Setting
+setting_of program settings = record { program = program; budget = settings.budget; sandbox = settings.sandbox; trusted = settings.trusted }
 
 -- ---- values
 
-abbrev pub given : Option Value → State → Result Value
-given None s = Stuck
-given (Some value) s = Gives value s
+abbrev pub given : Option Local → State → Result Value
+given None s = Stuck None s
+given (Some local) s = Gives local.value s
 
 -- a check's number, or its ending
 abbrev pub checked : Checked ℤ → State → Result Value
 checked (Holds number) s = Gives (Number number) s
 checked (Fails ending) s = Ends ending s
 
-abbrev pub value_if : Bool → Value → State → Result Value
-value_if true value s = Gives value s
-value_if false value s = Stuck
+abbrev pub value_if : Bool → Option Site → Value → State → Result Value
+value_if true site value s = Gives value s
+value_if false site value s = Stuck site s
 
 -- the value of a cell of the type that is asked for
-abbrev pub value_in : CType → Option Cell → State → Result Value
-value_in type None s = Stuck
-value_in type (Some cell) s = value_if (same_type type cell.type) cell.value s
+abbrev pub value_in : CType → Option Site → Option Cell → State → Result Value
+value_in type site None s = Stuck site s
+value_in type site (Some cell) s = value_if (same_type type cell.type) site cell.value s
 
-abbrev pub place_where : Bool → ℕ → ℕ → State → Result (ℕ × ℕ)
-place_where true block cell s = Gives (block, cell) s
-place_where false block cell s = Stuck
+-- a place where a cell begins
+abbrev pub place_if : Option Cell → Option Site → ℕ → ℕ → State → Result (ℕ × ℕ)
+place_if None site block byte s = Stuck site s
+place_if (Some cell) site block byte s = Gives (block, byte) s
 
--- a cell of a file-level variable
-abbrev pub place_in : ℕ → ℕ → ℕ → State → Result (ℕ × ℕ)
-place_in object cell offset s = place_where (stands_at (slice_get s.blocks object) cell offset) object cell s
+abbrev pub place_at : Option Site → ℕ → ℕ → State → Result (ℕ × ℕ)
+place_at site block byte s = place_if (cell_at s.blocks block byte) site block byte s
 
--- what a place is, behind the check of its pointer (C1): so many cells and bytes behind the one that is pointed to
-abbrev pub place_through : ℕ → ℕ → Site → Value → State → Result (ℕ × ℕ)
-place_through cell offset site (Number number) s = Stuck
-place_through cell offset site Null s = Ends (Check C1 site.place) s
-place_through cell offset site (At block first) s = place_where (stands_behind (slice_get s.blocks block) first cell offset) block (first + cell) s
+-- what a place is, behind the check of its pointer (C1): so many bytes behind the one that the pointer leads to
+abbrev pub place_through : ℕ → Site → Value → State → Result (ℕ × ℕ)
+place_through offset site (Number number) s = Stuck (Some site) s
+place_through offset site Null s = Ends (Check C1 site.place) s
+place_through offset site (At block byte) s = place_at (Some site) block (byte + offset) s
 
-abbrev pub load_at : CType → ℕ × ℕ → State → Result Value
-load_at type place s = value_in type (cell_at s.blocks place.0 place.1) s
+-- where an access through a pointer stands
+abbrev pub site_of : core.Place → Option Site
+site_of (core.Direct object offset) = None
+site_of (core.Through pointer offset site) = Some site
 
--- a place that is there
-abbrev pub place_if : Option Cell → ℕ → ℕ → State → Result Value
-place_if None block cell s = Stuck
-place_if (Some there) block cell s = Gives (At block cell) s
+abbrev pub load_at : CType → Option Site → ℕ × ℕ → State → Result Value
+load_at type site place s = value_in type site (cell_at s.blocks place.0 place.1) s
 
--- a pointer to a cell that is there
 abbrev pub pointer_to : ℕ × ℕ → State → Result Value
-pointer_to place s = place_if (cell_at s.blocks place.0 place.1) place.0 place.1 s
+pointer_to place s = Gives (At place.0 place.1) s
 
 -- a scalar as a condition: a number that isn't 0, or a pointer that isn't null
 abbrev pub truth : Value → Bool
 truth (Number number) = not (arithmetic.is_zero number)
 truth Null = false
-truth (At block cell) = true
+truth (At block byte) = true
 
 abbrev pub number_of_test : Bool → Value
 number_of_test true = Number (pos 1)
@@ -110,12 +114,12 @@ abbrev pub same_place : Value → Value → Option Bool
 same_place (Number a) b = None
 same_place a (Number b) = None
 same_place Null Null = Some true
-same_place Null (At block cell) = Some false
-same_place (At block cell) Null = Some false
-same_place (At block cell) (At block' cell') = Some (block == block' && cell == cell')
+same_place Null (At block byte) = Some false
+same_place (At block byte) Null = Some false
+same_place (At block byte) (At block' byte') = Some (block == block' && byte == byte')
 
 abbrev pub test_given : Option Bool → State → Result Value
-test_given None s = Stuck
+test_given None s = Stuck None s
 test_given (Some test) s = Gives (number_of_test test) s
 
 -- an operator on two numbers, with its checks
@@ -125,19 +129,19 @@ result_of (operators.Bitwise operator) site a b = Holds (signed (bitwise_result 
 
 abbrev pub arithmetic_of : Operator → Site → Value → Value → State → Result Value
 arithmetic_of operator site (Number a) (Number b) s = checked (result_of operator site a b) s
-arithmetic_of operator site _ _ s = Stuck
+arithmetic_of operator site _ _ s = Stuck (Some site) s
 
 abbrev pub compared : Comparison → Value → Value → State → Result Value
 compared comparison (Number a) (Number b) s = Gives (number_of_test (holds comparison a b)) s
-compared comparison _ _ s = Stuck
+compared comparison _ _ s = Stuck None s
 
 abbrev pub negated : Site → Value → State → Result Value
 negated site (Number b) s = checked (arithmetic.negation site.place b) s
-negated site _ s = Stuck
+negated site _ s = Stuck (Some site) s
 
 abbrev pub complemented : Value → State → Result Value
 complemented (Number b) s = Gives (Number (signed (arithmetic.complement (word b)))) s
-complemented _ s = Stuck
+complemented _ s = Stuck None s
 
 -- a number modulo 256
 abbrev pub low_byte : ℤ → ℤ
@@ -145,7 +149,7 @@ low_byte number = pos (word number % 256)
 
 abbrev pub low_byte_of : Value → State → Result Value
 low_byte_of (Number b) s = Gives (Number (low_byte b)) s
-low_byte_of _ s = Stuck
+low_byte_of _ s = Stuck None s
 
 -- goes on from what the world gave, or ends with it
 abbrev pub asked : {A B : Type 0} → Asked A → State → (A → State → Result B) → Result B
@@ -159,7 +163,7 @@ abbrev pub words_of : List Value → Option (List ℕ)
 words_of [] = Some []
 words_of (Number number ∷ values) = option_map (λ more. word number ∷ more) (words_of values)
 words_of (Null ∷ values) = None
-words_of (At block cell ∷ values) = None
+words_of (At block byte ∷ values) = None
 
 -- a word that came back stands for a number, and nothing is there where no result is (C9)
 abbrev pub reply_as : Option CType → Site → ℕ → State → Result (Option Value)
@@ -170,8 +174,8 @@ reply_as (Some Char) site reply s = char_if (nat_lt reply 256)
     char_if : Bool → Result (Option Value)
     char_if true = Gives (Some (Number (signed reply))) s
     char_if false = Ends (Check C9 site.place) s
-reply_as (Some (Struct number)) site reply s = Stuck
-reply_as (Some (Pointer mode kind target)) site reply s = Stuck
+reply_as (Some (Struct number)) site reply s = Stuck (Some site) s
+reply_as (Some (Pointer mode kind target)) site reply s = Stuck (Some site) s
 
 -- back in the function that called, with its own locals
 abbrev pub back : {A : Type 0} → State → A → State → Result A
@@ -183,18 +187,18 @@ passed k i site s = and_then (and_then (k.sandbox (record s { depth = s.depth + 
 
 -- behind the tick and the test of the depth, the words are passed by a touch
 abbrev pub cross : Setting → Knot → ℕ → core.Import → Site → Option (List ℕ) → State → Result (Option Value)
-cross g k import i site None s = Stuck
+cross g k import i site None s = Stuck (Some site) s
 cross g k import i site (Some words) s =
     asked (spend_tick g.budget s.world) s (λ _ t. asked (enter_call t.depth t.world) t
     (λ _ u. asked (touch (Passed import words) u.world) u (λ _ v. passed k i site v)))
 
 abbrev pub cross_if : Bool → Setting → Knot → ℕ → core.Import → Site → List Value → State → Result (Option Value)
 cross_if true g k import i site values s = cross g k import i site (words_of values) s
-cross_if false g k import i site values s = Stuck
+cross_if false g k import i site values s = Stuck (Some site) s
 
 -- a call of a tainted function that is there and takes as many arguments
 abbrev pub call_tainted : Setting → Knot → ℕ → Option core.Import → Site → List Value → State → Result (Option Value)
-call_tainted g k import None site values s = Stuck
+call_tainted g k import None site values s = Stuck (Some site) s
 call_tainted g k import (Some i) site values s = cross_if (i.parameters == length values) g k import i site values s
 
 -- what acts in the sandbox's turn came to; there are no callbacks
@@ -203,18 +207,29 @@ crossed (Crossed.Returned word w) s = Gives word (in_world w s)
 crossed (Crossed.Called fun words w) s = Ends (stopped_by_act S5 w) (in_world w s)
 crossed (Crossed.Over ending w) s = Ends ending (in_world w s)
 
--- a function that is there takes as many arguments
-abbrev pub takes : Option core.Function → ℕ → Bool
-takes None count = false
-takes (Some f) count = f.parameters == count
+-- there are as many values as types, each of its type
+abbrev pub fit : List CType → List Value → Bool
+fit [] [] = true
+fit [] (value ∷ values) = false
+fit (type ∷ types) [] = false
+fit (type ∷ types) (value ∷ values) = has_type type value && fit types values
+
+-- the types of a function's parameters
+abbrev pub parameters_of : core.Function → List CType
+parameters_of f = take f.parameters f.locals
+
+-- a function that is there takes these arguments
+abbrev pub takes : Option core.Function → List Value → Bool
+takes None values = false
+takes (Some f) values = fit (parameters_of f) values
 
 abbrev pub enter_if : Bool → Setting → Knot → ℕ → List Value → State → Result (Option Value)
 enter_if true g k function values s = asked (spend_tick g.budget s.world) s (λ _ t. asked (enter_call t.depth t.world) t (λ _ u. k.call function values u))
-enter_if false g k function values s = Stuck
+enter_if false g k function values s = Stuck None s
 
--- a call of a trusted function that is there and takes as many arguments: its tick, its depth, and then the function
+-- a call of a trusted function that is there and takes the arguments: its tick, its depth, and then the function
 abbrev pub call_trusted : Setting → Knot → ℕ → List Value → State → Result (Option Value)
-call_trusted g k function values s = enter_if (takes (slice_get g.program.functions function) (length values)) g k function values s
+call_trusted g k function values s = enter_if (takes (slice_get g.program.functions function) values) g k function values s
 
 -- what a call comes to
 abbrev pub called : Setting → Knot → Callee → List Value → State → Result (Option Value)
@@ -223,7 +238,7 @@ called g k (callees.Tainted import site) values s = call_tainted g k import (sli
 
 -- the result of a call that has one
 abbrev pub result_given : Option Value → State → Result Value
-result_given None s = Stuck
+result_given None s = Stuck None s
 result_given (Some value) s = Gives value s
 
 abbrev pub choose : {A : Type 0} → Bool → Result A → Result A → Result A
@@ -233,10 +248,10 @@ choose false first second = second
 abbrev mutual
   -- the value of an expression, from left to right
   pub value : Setting → Knot → core.Expression → State → Result Value
-  value g k (core.Number number) s = value_if (is_word_number number) (Number number) s
+  value g k (core.Number number) s = value_if (is_word_number number) None (Number number) s
   value g k core.Null s = Gives Null s
   value g k (core.Local local) s = given (slice_get s.locals local) s
-  value g k (core.Load type p) s = and_then (place g k p s) (load_at type)
+  value g k (core.Load type p) s = and_then (place g k p s) (load_at type (site_of p))
   value g k (core.AddressOf p) s = and_then (place g k p s) pointer_to
   value g k (core.Negate operand site) s = and_then (value g k operand s) (negated site)
   value g k (core.Complement operand) s = and_then (value g k operand s) complemented
@@ -261,39 +276,63 @@ abbrev mutual
 
   -- where a cell stands
   pub place : Setting → Knot → core.Place → State → Result (ℕ × ℕ)
-  place g k (core.Direct object cell offset) s = place_in object cell offset s
-  place g k (core.Through pointer cell offset site) s = and_then (value g k pointer s) (place_through cell offset site)
+  place g k (core.Direct object offset) s = place_at None object offset s
+  place g k (core.Through pointer offset site) s = and_then (value g k pointer s) (place_through offset site)
 
 -- ---- stores
 
+-- the value is 0
+abbrev pub is_zero : Value → Bool
+is_zero (Number number) = arithmetic.is_zero number
+is_zero Null = true
+is_zero (At block byte) = false
+
+abbrev is_number : Option ℕ → ℕ → Bool
+is_number None number = false
+is_number (Some n) number = n == number
+
+-- the cell that begins at a byte is the block's last one
+abbrev pub is_last : Block → ℕ → Bool
+is_last b byte = is_number (option_map (λ number. suc number) (number_at (strides b.cells) byte)) (length b.cells)
+
+-- a zero that ends a block stays there
+abbrev pub leaves_zero : Option Block → ℕ → Value → Bool
+leaves_zero None byte value = false
+leaves_zero (Some b) byte value = not b.zero_ended || (is_zero value || not (is_last b byte))
+
 -- puts a value into a cell, where both are of the type that is asked for
-abbrev pub store_if : Bool → Cell → ℕ → ℕ → State → Result Flow
-store_if true new block cell s = Gives Next (record s { blocks = with_cell s.blocks block cell new })
-store_if false new block cell s = Stuck
+abbrev pub store_if : Bool → Option Site → ℕ → ℕ → Value → State → Result Flow
+store_if true site block byte value s = Gives Next (record s { blocks = stored s.blocks block byte value })
+store_if false site block byte value s = Stuck site s
 
-abbrev pub store_over : Option Cell → CType → Value → ℕ → ℕ → State → Result Flow
-store_over None type value block cell s = Stuck
-store_over (Some old) type value block cell s = store_if (same_type type old.type && has_type type value) (record old { value = value }) block cell s
+abbrev pub store_over : Option Cell → CType → Option Site → Value → ℕ → ℕ → State → Result Flow
+store_over None type site value block byte s = Stuck site s
+store_over (Some old) type site value block byte s =
+    store_if (same_type type old.type && (has_type type value && leaves_zero (slice_get s.blocks block) byte value)) site block byte value s
 
-abbrev pub store_at : CType → ℕ × ℕ → Value → State → Result Flow
-store_at type place value s = store_over (cell_at s.blocks place.0 place.1) type value place.0 place.1 s
+abbrev pub store_at : CType → Option Site → ℕ × ℕ → Value → State → Result Flow
+store_at type site place value s = store_over (cell_at s.blocks place.0 place.1) type site value place.0 place.1 s
 
-abbrev pub set_local_if : Bool → ℕ → Value → State → Result Flow
-set_local_if true local value s = Gives Next (record s { locals = slice_set s.locals local value })
-set_local_if false local value s = Stuck
+abbrev pub set_if : Bool → Local → ℕ → Value → State → Result Flow
+set_if true old local value s = Gives Next (record s { locals = slice_set s.locals local (record old { value = value }) })
+set_if false old local value s = Stuck None s
 
--- puts a value into a local variable that is there
+abbrev pub set_over : Option Local → ℕ → Value → State → Result Flow
+set_over None local value s = Stuck None s
+set_over (Some old) local value s = set_if (has_type old.type value) old local value s
+
+-- puts a value into a local variable that is there, and whose type it has
 abbrev pub set_local : ℕ → Value → State → Result Flow
-set_local local value s = set_local_if (nat_lt local (length s.locals)) local value s
+set_local local value s = set_over (slice_get s.locals local) local value s
 
 -- A store evaluates its pointer, then its value, and makes its checks behind both. A file-level variable is there before.
 abbrev pub pointer_of : Setting → Knot → core.Place → State → Result Value
-pointer_of g k (core.Direct object cell offset) s = and_then (place_in object cell offset s) (λ place t. Gives (At place.0 place.1) t)
-pointer_of g k (core.Through pointer cell offset site) s = value g k pointer s
+pointer_of g k (core.Direct object offset) s = and_then (place_at None object offset s) pointer_to
+pointer_of g k (core.Through pointer offset site) s = value g k pointer s
 
 abbrev pub place_from : core.Place → Value → State → Result (ℕ × ℕ)
-place_from (core.Direct object cell offset) p s = place_in object cell offset s
-place_from (core.Through pointer cell offset site) p s = place_through cell offset site p s
+place_from (core.Direct object offset) p s = place_at None object offset s
+place_from (core.Through pointer offset site) p s = place_through offset site p s
 
 -- the value that a cell or a local of type `char` keeps
 abbrev pub kept_if : Bool → Value → State → Result Value
@@ -310,11 +349,11 @@ is_char (Pointer mode kind target) = false
 
 abbrev pub printed : Value → State → Result Flow
 printed (Number number) s = Gives Next (in_world (write (number_line number) s.world) s)
-printed _ s = Stuck
+printed _ s = Stuck None s
 
 abbrev pub put : Value → State → Result Flow
 put (Number number) s = Gives Next (in_world (write (word number % 256 ∷ []) s.world) s)
-put _ s = Stuck
+put _ s = Stuck None s
 
 -- ---- flow
 
@@ -335,7 +374,7 @@ behind_turn further (Returned v) s = Gives (Returned v) s
 -- a call without a result
 abbrev pub no_result : Option Value → State → Result Flow
 no_result None s = Gives Next s
-no_result (Some value) s = Stuck
+no_result (Some value) s = Stuck None s
 
 abbrev mutual
   -- the effect of a statement
@@ -343,13 +382,13 @@ abbrev mutual
   effect g k core.Nothing s = Gives Next s
   effect g k (core.SetLocal local e) s = and_then (value g k e s) (set_local local)
   effect g k (core.Store type p e) s =
-      and_then (pointer_of g k p s) (λ q t. and_then (value g k e t) (λ v u. and_then (place_from p q u) (λ place w. store_at type place v w)))
+      and_then (pointer_of g k p s) (λ q t. and_then (value g k e t) (λ v u. and_then (place_from p q u) (λ place w. store_at type (site_of p) place v w)))
   effect g k (core.UpdateLocal char local operator e site) s =
       and_then (given (slice_get s.locals local) s) (λ old t. and_then (value g k e t)
       (λ v u. and_then (arithmetic_of operator site old v u) (λ new w. and_then (kept_if char new w) (set_local local))))
   effect g k (core.Update type p operator e site) s =
-      and_then (place g k p s) (λ at t. and_then (load_at type at t) (λ old u. and_then (value g k e u)
-      (λ v w. and_then (arithmetic_of operator site old v w) (λ new x. and_then (kept_if (is_char type) new x) (store_at type at)))))
+      and_then (place g k p s) (λ at t. and_then (load_at type (Some site) at t) (λ old u. and_then (value g k e u)
+      (λ v w. and_then (arithmetic_of operator site old v w) (λ new x. and_then (kept_if (is_char type) new x) (store_at type (Some site) at)))))
   effect g k (core.Evaluate e) s = and_then (value g k e s) (λ _ t. Gives Next t)
   effect g k (core.CallAlone callee arguments) s = and_then (values g k arguments s) (λ vs t. and_then (called g k callee vs t) no_result)
   effect g k (core.Print e) s = and_then (value g k e s) printed
@@ -379,24 +418,38 @@ abbrev pub default_result : Option CType → Option Value
 default_result None = None
 default_result (Some type) = Some (zero_of type)
 
+-- what comes back is as the function was declared
+abbrev pub fits_result : Option CType → Option Value → Bool
+fits_result None None = true
+fits_result None (Some value) = false
+fits_result (Some type) None = false
+fits_result (Some type) (Some value) = has_type type value
+
+abbrev pub answer_if : Bool → Option Value → State → Result (Option Value)
+answer_if true value s = Gives value s
+answer_if false value s = Stuck None s
+
 abbrev pub answer : Option CType → Flow → State → Result (Option Value)
 answer result Next s = Gives (default_result result) s
-answer result (Returned v) s = Gives v s
-answer result Broke s = Stuck
-answer result Continued s = Stuck
+answer result (Returned v) s = answer_if (fits_result result v) v s
+answer result Broke s = Stuck None s
+answer result Continued s = Stuck None s
 
 -- the locals of a function that is called: the arguments, and zeros
-abbrev pub locals_for : core.Function → List Value → List Value
-locals_for f values = values ++ map zero_of (drop f.parameters f.locals)
+abbrev pub locals_for : List CType → List Value → List Local
+locals_for [] values = []
+locals_for (type ∷ types) [] = record { type = type; value = zero_of type } ∷ locals_for types []
+locals_for (type ∷ types) (value ∷ values) = record { type = type; value = value } ∷ locals_for types values
 
 abbrev pub body_if : Bool → Setting → Knot → core.Function → List Value → State → Result (Option Value)
 body_if true g k f values s =
-    and_then (and_then (effects g k f.body (record s { locals = locals_for f values; depth = s.depth + 1 })) (answer f.result)) (back s)
-body_if false g k f values s = Stuck
+    and_then (and_then (effects g k f.body (record s { locals = locals_for f.locals values; depth = s.depth + 1 })) (answer f.result)) (back s)
+body_if false g k f values s = Stuck None s
 
+-- a function that is there, with arguments that it takes
 abbrev pub body_of : Setting → Knot → Option core.Function → List Value → State → Result (Option Value)
-body_of g k None values s = Stuck
-body_of g k (Some f) values s = body_if (f.parameters == length values) g k f values s
+body_of g k None values s = Stuck None s
+body_of g k (Some f) values s = body_if (fit (parameters_of f) values) g k f values s
 
 -- calls and turns that may go on for a number of ticks
 abbrev pub knot : Setting → ℕ → Knot
@@ -411,9 +464,9 @@ knot g (suc ticks) =
 -- the run ends with the number that `main` returned
 abbrev pub exit : Option Value → State → Result (Unit {0})
 exit (Some (Number number)) s = Ends (Exit number) s
-exit (Some Null) s = Stuck
-exit (Some (At block cell)) s = Stuck
-exit None s = Stuck
+exit (Some Null) s = Stuck None s
+exit (Some (At block byte)) s = Stuck None s
+exit None s = Stuck None s
 
 -- `main` is the first open call, and costs no tick
 abbrev pub run_from : Setting → State → Result (Unit {0})
@@ -426,4 +479,4 @@ initial program w = record { blocks = map object_block program.objects; locals =
 -- what a program means under settings, with these input numbers and acts: how it ends, and the last state
 abbrev pub meaning : core.Core → Settings → List ℤ → List Act → Result (Unit {0})
 meaning program settings inputs acts =
-    run_from (record { program = program; budget = settings.budget }) (initial program (new_world (replicate settings.sandbox 0) first_offset inputs acts))
+    run_from (setting_of program settings) (initial program (new_world (replicate settings.sandbox 0) first_offset inputs acts))

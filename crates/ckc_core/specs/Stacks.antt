@@ -31,13 +31,13 @@ abbrev mutual
   arguments_stack (core.More first rest) = max (expression_stack first) (1 + arguments_stack rest)
 
   pub place_stack : core.Place → ℕ
-  place_stack (core.Direct object cell offset) = offset_stack offset
-  place_stack (core.Through pointer cell offset site) = max (expression_stack pointer) (offset_stack offset)
+  place_stack (core.Direct object offset) = offset_stack offset
+  place_stack (core.Through pointer offset site) = max (expression_stack pointer) (offset_stack offset)
 
 -- a store has its address or its pointer on the stack while its value is computed, and two words, or three, when it is checked
 abbrev pub store_stack : core.Place → core.Expression → ℕ
-store_stack (core.Direct object cell offset) value = max (offset_stack offset) (1 + expression_stack value)
-store_stack (core.Through pointer cell offset site) value = max (expression_stack pointer) (max (1 + expression_stack value) 2)
+store_stack (core.Direct object offset) value = max (offset_stack offset) (1 + expression_stack value)
+store_stack (core.Through pointer offset site) value = max (expression_stack pointer) (max (1 + expression_stack value) 2)
 
 abbrev mutual
   pub statement_stack : core.Statement → ℕ

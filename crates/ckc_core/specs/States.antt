@@ -1,6 +1,6 @@
 -- The states of the meaning: blocks of typed cells, local variables, and the world. No address stands in a state.
-use Rattle.std.specs.Prelude.{ℕ, zero, suc, ◌+◌, ◌==◌, ◌&&◌, Bool, true, false, List, [], ◌∷◌, Option, Some, None, map, slice_get, slice_set}
-use Rattle.std.specs.Prelude.{nat_lt, pos, negsuc}
+use Rattle.std.specs.Prelude.{◌≡◌, ℕ, suc, ◌-◌, ◌==◌, ◌&&◌, Bool, true, false, cond, List, [], ◌∷◌, ◌++◌, Option, Some, None, option_map, map}
+use Rattle.std.specs.Prelude.{slice_get, slice_set, nat_lt, pos, negsuc}
 use Rattle.std.specs.Option.{option_and_then}
 use Rattle.std.proofs.Common.{ℤ}
 use Rattle.act_words.specs.Checks.{is_word_number}
@@ -12,11 +12,11 @@ use Rattle.pointer_modes.specs.Types.{CType, Int, Char, Struct, Pointer}
 use Rattle.act_words.specs.World.{World}
 use Rattle.ckc_core.specs.Core.{Initial}
 
--- a number, null, or a place: a cell of a block
+-- a number, null, or a place: a byte of a block
 pub data Value : Type 0 where
   Number : (number : ℤ) → Value
   Null : Value
-  At : (block cell : ℕ) → Value
+  At : (block byte : ℕ) → Value
 
 abbrev pub same_mode : Mode → Mode → Bool
 same_mode modes.Checked modes.Checked = true
@@ -46,7 +46,7 @@ abbrev pub has_type : CType → Value → Bool
 has_type Int (Number number) = is_word_number number
 has_type Char (Number number) = is_byte number
 has_type (Pointer mode kind target) Null = true
-has_type (Pointer mode kind target) (At block cell) = true
+has_type (Pointer mode kind target) (At block byte) = true
 has_type _ _ = false
 
 -- what a variable of the type holds before it is given a value
@@ -56,54 +56,92 @@ zero_of Char = Number (pos 0)
 zero_of (Struct number) = Null
 zero_of (Pointer mode kind target) = Null
 
+-- ---- blocks
+
 -- a cell: its type, the bytes from its first one to that of the next cell, or to the block's end, and what it holds
 pub record Cell : Type 0 where
   pub type : CType
   pub stride : ℕ
   pub value : Value
 
--- a block never changes its length
-abbrev pub Block : Type 0
-Block = List Cell
+-- a block: its cells, in order, and whether a zero ends it
+pub record Block : Type 0 where
+  pub cells : List Cell
+  pub zero_ended : Bool
+
+-- the bytes from each cell to the next one
+abbrev pub strides : List Cell → List ℕ
+strides cells = map (λ (c : Cell). c.stride) cells
+
+-- the number of the cell that begins at a byte
+abbrev pub number_at : List ℕ → ℕ → Option ℕ
+number_at [] byte = None
+number_at (stride ∷ strides) byte =
+    cond (byte == 0) (Some 0) (cond (nat_lt byte stride) None (option_map (λ number. suc number) (number_at strides (byte - stride))))
+
+-- the cell of a block that begins at a byte
+abbrev pub cell_in : Block → ℕ → Option Cell
+cell_in b byte = option_and_then (λ number. slice_get b.cells number) (number_at (strides b.cells) byte)
+
+-- the cell at a place
+abbrev pub cell_at : List Block → ℕ → ℕ → Option Cell
+cell_at blocks block byte = option_and_then (λ b. cell_in b byte) (slice_get blocks block)
+
+-- the cells where the one of a number, if it is there, holds another value
+abbrev pub with_value : List Cell → Option ℕ → Value → List Cell
+with_value cells None value = cells
+with_value cells (Some number) value = put (slice_get cells number)
+  where
+    put : Option Cell → List Cell
+    put None = cells
+    put (Some old) = slice_set cells number (record old { value = value })
+
+-- the blocks with another value at a place
+abbrev pub stored : List Block → ℕ → ℕ → Value → List Block
+stored blocks block byte value = with_block (slice_get blocks block)
+  where
+    with_block : Option Block → List Block
+    with_block None = blocks
+    with_block (Some b) = slice_set blocks block (record b { cells = with_value b.cells (number_at (strides b.cells) byte) value })
+
+-- ---- what a block never changes: the types of its cells, where they stand, and whether a zero ends it
+
+pub record Shape : Type 0 where
+  pub types : List CType
+  pub strides : List ℕ
+  pub zero_ended : Bool
+
+abbrev pub shape : Block → Shape
+shape b = record { types = map (λ (c : Cell). c.type) b.cells; strides = strides b.cells; zero_ended = b.zero_ended }
+
+abbrev pub shapes : List Block → List Shape
+shapes blocks = map shape blocks
+
+-- the type of the cell that begins at a byte
+abbrev pub type_at : Shape → ℕ → Option CType
+type_at s byte = option_and_then (λ number. slice_get s.types number) (number_at s.strides byte)
+
+-- blocks are only ever added
+abbrev pub Grows : List Shape → List Shape → Type 0
+Grows before after = (more : List Shape) × (after ≡ before ++ more)
+
+-- ---- states
+
+-- a local variable: its type, and what it holds
+pub record Local : Type 0 where
+  pub type : CType
+  pub value : Value
 
 -- the blocks, the local variables of the innermost open call, how many calls are open, and the world
 pub record State : Type 0 where
   pub blocks : List Block
-  pub locals : List Value
+  pub locals : List Local
   pub depth : ℕ
   pub world : World
 
 -- in another world
 abbrev pub in_world : World → State → State
 in_world w s = record s { world = w }
-
--- the cell at a place
-abbrev pub cell_at : List Block → ℕ → ℕ → Option Cell
-cell_at blocks block cell = option_and_then (λ cells. slice_get cells cell) (slice_get blocks block)
-
--- the blocks with another cell at a place
-abbrev pub with_cell : List Block → ℕ → ℕ → Cell → List Block
-with_cell blocks block cell new = with_block (slice_get blocks block)
-  where
-    with_block : Option Block → List Block
-    with_block None = blocks
-    with_block (Some cells) = slice_set blocks block (slice_set cells cell new)
-
--- the byte place of a cell: how many bytes stand before it
-abbrev pub byte_place : Block → ℕ → ℕ
-byte_place cells zero = 0
-byte_place [] (suc cell) = 0
-byte_place (first ∷ cells) (suc cell) = first.stride + byte_place cells cell
-
--- a cell of a block has this byte place
-abbrev pub stands_at : Option Block → ℕ → ℕ → Bool
-stands_at None cell place = false
-stands_at (Some cells) cell place = byte_place cells cell == place
-
--- a cell of a block stands so many bytes behind another one
-abbrev pub stands_behind : Option Block → ℕ → ℕ → ℕ → Bool
-stands_behind None first cell offset = false
-stands_behind (Some cells) first cell offset = byte_place cells (first + cell) == byte_place cells first + offset
 
 abbrev pub initial_value : CType → ℤ → Value
 initial_value Int number = Number number
@@ -113,4 +151,7 @@ initial_value (Pointer mode kind target) number = Null
 
 -- a file-level variable before the run
 abbrev pub object_block : List Initial → Block
-object_block cells = map (λ (i : Initial). record { type = i.type; stride = i.stride; value = initial_value i.type i.number }) cells
+object_block cells = record {
+  cells = map (λ (i : Initial). record { type = i.type; stride = i.stride; value = initial_value i.type i.number }) cells;
+  zero_ended = false;
+}

@@ -27,8 +27,8 @@ abbrev mutual
   arguments_weight (core.More first rest) = expression_weight first + arguments_weight rest
 
   pub place_weight : core.Place → ℕ
-  place_weight (core.Direct object cell offset) = 1
-  place_weight (core.Through pointer cell offset site) = 1 + expression_weight pointer
+  place_weight (core.Direct object offset) = 1
+  place_weight (core.Through pointer offset site) = 1 + expression_weight pointer
 
 abbrev mutual
   pub statement_weight : core.Statement → ℕ

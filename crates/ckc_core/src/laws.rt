@@ -3,7 +3,7 @@
 ghost use Rattle.std.specs.Prelude.{◌≡◌, ℤ, List};
 ghost use Rattle.act_words.specs.declared.settings.Settings.{Settings};
 ghost use Rattle.act_words.specs.Acts.{Act};
-ghost use Rattle.act_words.specs.Outcome.{Short};
+ghost use Rattle.ckc_core.specs.Outcome.{Short};
 ghost use Rattle.ckc_core.specs.Core.{Core};
 ghost use Rattle.ckc_core.specs.Meaning.{meaning};
 ghost use Rattle.ckc_core.specs.Examples as examples;

@@ -79,18 +79,17 @@ pub struct Call {
     pub arguments: Vec<Expr>,
 }
 
-/// Where a cell stands: in a file-level variable, or behind a pointer, by a number of cells and of bytes.
+/// Where a cell stands: so many bytes behind the first one of a file-level variable, or behind the place that a pointer
+/// leads to.
 #[cycle(core)]
 #[derive(Drop)]
 pub enum CellPlace {
     Direct {
         object: u32,
-        cell: u32,
         offset: u32,
     },
     Through {
         pointer: Box<Expr>,
-        cell: u32,
         offset: u32,
         site: Site,
     },

@@ -6,7 +6,7 @@ use Rattle.act_words.specs.declared.settings.Settings.{Settings}
 use Rattle.act_words.specs.Acts.{Act, IsAct}
 use Rattle.act_words.specs.Checks.{is_word_number}
 use Rattle.act_words.specs.Limits.{AreAllowed}
-use Rattle.act_words.specs.Outcome.{Ends}
+use Rattle.ckc_core.specs.Outcome.{Ends}
 use Rattle.act_words.specs.View.{output_of, releases_of, view_of}
 use Rattle.act_words.specs.World.{World}
 use Rattle.ckc_core.specs.Core.{Core}

@@ -1,7 +1,7 @@
 -- Conditions: tests of words, and expressions that pass over their right operand.
 use Rattle.std.proofs.Common.{◌≡◌, ℕ, ◌+◌, ◌<◌, Bool, true, false, pos, List, [], ◌∷◌, length, Option, Some, None, refl, ap, ◌∙◌, subst, arith}
 use Rattle.std.specs.Prelude.{slice_get, not, ◌==◌}
-use Rattle.act_words.specs.Outcome.{Gives, and_then}
+use Rattle.ckc_core.specs.Outcome.{Gives, and_then}
 use Rattle.act_words.specs.declared.operator.Comparison.TheVariants as comparisons
 use Rattle.ckc_core.specs.States.{Value, Number, Null, At}
 use Rattle.ckc_core.specs.States as meaning

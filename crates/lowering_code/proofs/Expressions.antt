@@ -7,7 +7,7 @@ use Rattle.std.proofs.lemmas.Nat.{or_lt, xor_lt}
 use Rattle.std.proofs.lemmas.Bool.Decides.{nat_tests}
 use Rattle.ckc_text.specs.declared.code.Code.TheVariants.{S1}
 use Rattle.act_words.specs.declared.ending.Ending.TheVariants.{Stop}
-use Rattle.act_words.specs.Outcome.{Gives}
+use Rattle.ckc_core.specs.Outcome.{Gives}
 use Rattle.act_words.specs.Checks.{Checked, Holds, Fails, is_word_number}
 use Rattle.act_words.specs.Numbers.{word}
 use Rattle.act_words.specs.Arithmetic as arithmetic

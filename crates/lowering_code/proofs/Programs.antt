@@ -9,7 +9,7 @@ use Rattle.act_words.specs.declared.ending.Ending.{Ending}
 use Rattle.act_words.specs.declared.ending.Ending.TheVariants.{Exit}
 use Rattle.act_words.specs.declared.settings.Settings.{Settings}
 use Rattle.act_words.specs.Acts.{Act, IsAct}
-use Rattle.act_words.specs.Outcome.{Ends, and_then}
+use Rattle.ckc_core.specs.Outcome.{Ends, and_then}
 use Rattle.act_words.specs.Checks.{is_word_number}
 use Rattle.act_words.specs.Limits.{AreAllowed}
 use Rattle.act_words.specs.World.{new_world}

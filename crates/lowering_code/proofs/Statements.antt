@@ -1,7 +1,7 @@
 -- The code of a statement has the statement's effect.
 use Rattle.std.proofs.Common.{◌≡◌, ℕ, zero, suc, ◌+◌, ◌%◌, ◌<◌, ◌≤◌, Bool, true, false, List, [], ◌∷◌, ◌++◌, length, Option, Some, None, refl, sym, ap, ◌∙◌, subst, arith}
 use Rattle.std.specs.Prelude.{slice_get, not}
-use Rattle.act_words.specs.Outcome.{Gives, and_then}
+use Rattle.ckc_core.specs.Outcome.{Gives, and_then}
 use Rattle.act_words.specs.Numbers.{word, number_line}
 use Rattle.act_words.specs.Touches.{spend_tick, write}
 use Rattle.pointer_modes.specs.Types.{CType}

@@ -6,7 +6,7 @@ use Rattle.std.proofs.Math.Seq.{get_or-append_seam}
 use Rattle.std.proofs.lemmas.Option.{slice_get-get_or}
 use Rattle.std.proofs.lemmas.Bool.Decides.{nat_tests}
 use Rattle.act_words.specs.declared.ending.Ending.{Ending}
-use Rattle.act_words.specs.Outcome.{Gives, Ends, Stuck, Short, and_then}
+use Rattle.ckc_core.specs.Outcome.{Gives, Ends, Stuck, Short, and_then}
 use Rattle.act_words.specs.World.{World}
 use Rattle.act_words.specs.Touches.{Asked, Got, Ended}
 use Rattle.ckc_core.specs.Core.{Function}

@@ -10,7 +10,7 @@ use Rattle.ckc_core.specs.declared.program.Site.{Site}
 use Rattle.ckc_core.specs.States.{Value, Number, Null, At, Cell, Block, cell_at, with_cell, same_type, has_type}
 use Rattle.ckc_core.specs.States as meaning
 use Rattle.ckc_core.specs.Meaning.{store_if, store_over, store_at, set_local_if, set_local, is_char, place_through, kept_if}
-use Rattle.act_words.specs.Outcome.{and_then}
+use Rattle.ckc_core.specs.Outcome.{and_then}
 use Rattle.code_words.specs.Table.{State, Step, Goes, Over, act, store, stored, push_some, set_if}
 use Rattle.code_words.specs.Table as table
 use Rattle.code_words.specs.declared.op.Op.TheVariants as ops

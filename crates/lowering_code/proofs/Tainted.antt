@@ -10,7 +10,7 @@ use Rattle.act_words.specs.declared.ending.Ending.{Ending}
 use Rattle.act_words.specs.declared.ending.Ending.TheVariants.{Check, Stop}
 use Rattle.act_words.specs.declared.act.Turn.TheVariants as turns
 use Rattle.act_words.specs.Acts.{Act, IsAct, IsWord, Passed}
-use Rattle.act_words.specs.Outcome.{and_then}
+use Rattle.ckc_core.specs.Outcome.{and_then}
 use Rattle.act_words.specs.Numbers.{word, signed}
 use Rattle.act_words.specs.World.{World, NoAct, telling, taken_one}
 use Rattle.act_words.specs.Acting.{BeforeTouch, InSandbox, act_before_touch, act_in_sandbox, sandbox_ended}

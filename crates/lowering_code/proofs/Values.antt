@@ -2,7 +2,7 @@
 use Rattle.std.proofs.Common.{◌≡◌, ℕ, ◌+◌, ◌<◌, ◌≤◌, pos, List, [], ◌∷◌, ◌++◌, length, Option, Some, None, refl, subst, arith}
 use Rattle.std.specs.Prelude.{max, slice_get, not}
 use Rattle.std.specs.List.{AllByRecursion}
-use Rattle.act_words.specs.Outcome.{Gives, and_then}
+use Rattle.ckc_core.specs.Outcome.{Gives, and_then}
 use Rattle.act_words.specs.Checks.{is_word_number}
 use Rattle.act_words.specs.declared.operator.Comparison.TheVariants as comparisons
 use Rattle.ckc_core.specs.declared.program.Callee.{Callee}

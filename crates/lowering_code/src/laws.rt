@@ -7,7 +7,7 @@ ghost use Rattle.act_words.specs.declared.settings.Settings.{Settings};
 ghost use Rattle.act_words.specs.Acts.{Act, IsAct};
 ghost use Rattle.act_words.specs.Checks.{is_word_number};
 ghost use Rattle.act_words.specs.Limits.{AreAllowed};
-ghost use Rattle.act_words.specs.Outcome.{Ends};
+ghost use Rattle.ckc_core.specs.Outcome.{Ends};
 ghost use Rattle.ckc_core.specs.Meaning.{meaning};
 ghost use Rattle.ckc_core.specs.States.{State};
 ghost use Rattle.act_words.specs.declared.ending.Ending.TheVariants.{Exit, Stop};

@@ -9,7 +9,7 @@ use Rattle.flat_bytes.specs.Blocks.{first_offset}
 use Rattle.act_words.specs.declared.ending.Ending.{Ending}
 use Rattle.act_words.specs.declared.ending.Ending.TheVariants.{Exit}
 use Rattle.act_words.specs.Acts.{IsAct}
-use Rattle.act_words.specs.Outcome.{Gives, Ends, Stuck, Short, and_then}
+use Rattle.ckc_core.specs.Outcome.{Gives, Ends, Stuck, Short, and_then}
 use Rattle.act_words.specs.World.{new_world}
 use Rattle.act_words.specs.Touches.{Crossed, until_return}
 use Rattle.pointer_modes.specs.Types.{CType, Int}

@@ -5,7 +5,7 @@ use Rattle.act_words.specs.declared.ending.Ending.{Ending}
 use Rattle.act_words.specs.declared.settings.Settings.{Settings}
 use Rattle.act_words.specs.Acts.{Act, IsAct}
 use Rattle.act_words.specs.Checks.{is_word_number}
-use Rattle.act_words.specs.Outcome.{Ends}
+use Rattle.ckc_core.specs.Outcome.{Ends}
 use Rattle.ckc_tree.specs.Items.{Tree}
 use Rattle.built_forms.specs.Built.{is_built}
 use Rattle.ckc_names_rules.specs.Naming.{naming_fault, named_of}
