@@ -94,17 +94,17 @@ abbrev mutual
   arguments_size (core.More first rest) = expression_size first + arguments_size rest
 
   pub place_size : core.Place → ℕ
-  place_size (core.Direct object cell offset) = 1 + offset_size offset
-  place_size (core.Through pointer cell offset site) = expression_size pointer + (1 + offset_size offset)
+  place_size (core.Direct object offset) = 1 + offset_size offset
+  place_size (core.Through pointer offset site) = expression_size pointer + (1 + offset_size offset)
 
 -- what a store has before its value, and behind it
 abbrev pub before_value_size : core.Place → ℕ
-before_value_size (core.Direct object cell offset) = 1 + offset_size offset
-before_value_size (core.Through pointer cell offset site) = expression_size pointer
+before_value_size (core.Direct object offset) = 1 + offset_size offset
+before_value_size (core.Through pointer offset site) = expression_size pointer
 
 abbrev pub behind_value_size : core.Place → ℕ
-behind_value_size (core.Direct object cell offset) = 1
-behind_value_size (core.Through pointer cell offset site) = 4 + offset_size offset
+behind_value_size (core.Direct object offset) = 1
+behind_value_size (core.Through pointer offset site) = 4 + offset_size offset
 
 abbrev mutual
   pub statement_size : core.Statement → ℕ
@@ -172,8 +172,8 @@ abbrev mutual
 
   -- leaves the address of the cell there
   pub place_code : ℕ → core.Place → List Op
-  place_code at (core.Direct object cell offset) = address_code object offset
-  place_code at (core.Through pointer cell offset site) = expression_code at pointer ++ through_code offset site
+  place_code at (core.Direct object offset) = address_code object offset
+  place_code at (core.Through pointer offset site) = expression_code at pointer ++ through_code offset site
 
 -- ---- statements
 
@@ -189,13 +189,13 @@ loop_places scratch at body step condition = record { scratch = scratch; on_brea
 
 -- the address that a store needs before its value, or its pointer
 abbrev pub before_value : ℕ → core.Place → List Op
-before_value at (core.Direct object cell offset) = address_code object offset
-before_value at (core.Through pointer cell offset site) = expression_code at pointer
+before_value at (core.Direct object offset) = address_code object offset
+before_value at (core.Through pointer offset site) = expression_code at pointer
 
 -- what follows the value
 abbrev pub behind_value : ℕ → CType → core.Place → List Op
-behind_value scratch type (core.Direct object cell offset) = store_code type ∷ []
-behind_value scratch type (core.Through pointer cell offset site) =
+behind_value scratch type (core.Direct object offset) = store_code type ∷ []
+behind_value scratch type (core.Through pointer offset site) =
     ops.Set scratch ∷ (through_code offset site ++ ops.Local scratch ∷ store_code type ∷ [])
 
 abbrev mutual

@@ -1,6 +1,6 @@
 -- What it means that code does what a program means.
 use Rattle.std.specs.Prelude.{◌≡◌, ℕ, zero, suc, ◌+◌, ◌^◌, ◌<◌, ◌≤◌, Bool, true, false, IsTrue, List, [], ◌∷◌, length, flat_map, map, sum, All}
-use Rattle.std.specs.Prelude.{Some, slice_get, unwrap_or, pos}
+use Rattle.std.specs.Prelude.{Some, slice_get, pos}
 use Rattle.std.proofs.Common.{ℤ}
 use Rattle.act_words.specs.declared.ending.Ending.{Ending}
 use Rattle.act_words.specs.declared.settings.Settings.{Settings}
@@ -13,7 +13,7 @@ use Rattle.act_words.specs.Shown.{Shown}
 use Rattle.act_words.specs.View.{output_of, releases_of, view_of}
 use Rattle.flat_bytes.specs.Blocks.{first_offset, grown}
 use Rattle.ckc_core.specs.Core.{Core, Initial, Function, Import}
-use Rattle.ckc_core.specs.States.{Value, Number, Null, At, Cell, Block, has_type, initial_value, byte_place}
+use Rattle.ckc_core.specs.States.{Value, Number, Null, At, Cell, Block, Shape, shape, shapes, has_type, initial_value}
 use Rattle.ckc_core.specs.States as meaning_states
 use Rattle.ckc_core.specs.Meaning.{meaning, is_char}
 use Rattle.code_words.specs.Table.{State}
@@ -28,44 +28,42 @@ use Rattle.ckc_core.specs.Weights.{statements_weight}
 
 -- ---- where blocks stand, and their bytes
 
-abbrev pub block_size : Block → ℕ
-block_size cells = sum (map (λ c. c.stride) cells)
+-- the bytes of a block
+abbrev pub size_of : Shape → ℕ
+size_of s = sum s.strides
 
 -- the offset of a block in the memory, where the first stands at an offset; it is determined by the blocks before it
-abbrev pub offset_from : ℕ → List Block → ℕ → ℕ
+abbrev pub offset_from : ℕ → List Shape → ℕ → ℕ
 offset_from offset [] number = offset
-offset_from offset (block ∷ blocks) zero = offset
-offset_from offset (block ∷ blocks) (suc number) = offset_from (grown offset (block_size block)) blocks number
+offset_from offset (s ∷ blocks) zero = offset
+offset_from offset (s ∷ blocks) (suc number) = offset_from (grown offset (size_of s)) blocks number
 
-abbrev pub cells_in : List Block → ℕ → Block
-cells_in blocks number = unwrap_or (slice_get blocks number) []
-
--- the address of a cell
-abbrev pub address_in : ℕ → List Block → ℕ → ℕ → ℕ
-address_in base blocks block cell = base + (offset_from first_offset blocks block + byte_place (cells_in blocks block) cell)
+-- the address of a place is that of its block, and its byte
+abbrev pub address_in : ℕ → List Shape → ℕ → ℕ → ℕ
+address_in base blocks block byte = base + (offset_from first_offset blocks block + byte)
 
 -- the word of a value: a number modulo 2 ^ 32, null as 0, a place as its address
-abbrev pub word_of : ℕ → List Block → Value → ℕ
+abbrev pub word_of : ℕ → List Shape → Value → ℕ
 word_of base blocks (Number number) = word number
 word_of base blocks Null = 0
-word_of base blocks (At block cell) = address_in base blocks block cell
+word_of base blocks (At block byte) = address_in base blocks block byte
 
 -- the bytes of a cell up to the next one
-abbrev pub bytes_of : ℕ → List Block → Cell → List ℕ
+abbrev pub bytes_of : ℕ → List Shape → Cell → List ℕ
 bytes_of base blocks c = padded c.stride (word_bytes_if (is_char c.type) (word_of base blocks c.value))
 
--- the bytes of a block
-abbrev pub block_bytes : ℕ → List Block → Block → List ℕ
-block_bytes base blocks block = flat_map (bytes_of base blocks) block
+-- the bytes that a block holds
+abbrev pub block_bytes : ℕ → List Shape → Block → List ℕ
+block_bytes base blocks b = flat_map (bytes_of base blocks) b.cells
 
 -- the last blocks of the meaning, in the order of their making, where the first stands at an offset
-abbrev pub shown_from : ℕ → List Block → ℕ → List Block → List Shown
+abbrev pub shown_from : ℕ → List Shape → ℕ → List Block → List Shown
 shown_from base all offset [] = []
-shown_from base all offset (block ∷ blocks) =
-    (record { address = base + offset; bytes = block_bytes base all block }) ∷ shown_from base all (grown offset (block_size block)) blocks
+shown_from base all offset (b ∷ blocks) =
+    (record { address = base + offset; bytes = block_bytes base all b }) ∷ shown_from base all (grown offset (size_of (shape b))) blocks
 
 abbrev pub blocks_meant : ℕ → meaning_states.State → List Shown
-blocks_meant base s = shown_from base s.blocks first_offset s.blocks
+blocks_meant base s = shown_from base (shapes s.blocks) first_offset s.blocks
 
 -- the last states agree in what can be seen, and in the blocks
 pub record SameEnd (base : ℕ) (s : meaning_states.State) (t : State) : Type 0 where

@@ -112,10 +112,10 @@ first_run =
         result = Some Int;
         body =
             core.Then (core.Block (core.Then (core.Block (core.Then (core.SetLocal 0 core.Null)
-            (core.Then (core.SetLocal 0 (core.AddressOf (core.Direct 0 0 0))) core.NoMore))) (core.Then core.Nothing core.NoMore)))
-            (core.Then (core.Store Int (core.Through (core.Local 0) 0 0 place) (core.Number (pos 41)))
+            (core.Then (core.SetLocal 0 (core.AddressOf (core.Direct 0 0))) core.NoMore))) (core.Then core.Nothing core.NoMore)))
+            (core.Then (core.Store Int (core.Through (core.Local 0) 0 place) (core.Number (pos 41)))
             (core.Then (core.Return (core.Arithmetic (operators.Arithmetic arithmetics.Add)
-            (core.Load Int (core.Direct 0 0 0)) (core.Number (pos 1)) place)) core.NoMore));
+            (core.Load Int (core.Direct 0 0)) (core.Number (pos 1)) place)) core.NoMore));
       } ∷ [];
       main = 0;
     })

@@ -77,18 +77,18 @@ local_typed local (Struct number) = AStruct number (OfLocal local)
 
 abbrev pub name_typed : Named → Typed
 name_typed (Local local type) = local_typed local type
-name_typed (Object object type) = at_place type (core.Direct object 0 0)
+name_typed (Object object type) = at_place type (core.Direct object 0)
 name_typed Nothing = Value Int true (core.Number (pos 0)) None
 
--- a cell behind the first one of a place, whose checks name another expression
-abbrev pub member_place : core.Place → (cell offset : ℕ) → Site → core.Place
-member_place (core.Direct object first place) cell offset site = core.Direct object (first + cell) (place + offset)
-member_place (core.Through pointer first place before) cell offset site = core.Through pointer (first + cell) (place + offset) site
+-- so many bytes behind a place, where checks name another expression
+abbrev pub member_place : core.Place → ℕ → Site → core.Place
+member_place (core.Direct object first) offset site = core.Direct object (first + offset)
+member_place (core.Through pointer first before) offset site = core.Through pointer (first + offset) site
 
 -- the place of a struct. A parameter that is one stands in no memory, and its function is refused behind its body (E13): until
 -- then it stands behind a pointer that is none, which no core that has types holds
 abbrev pub struct_place : Lvalue → Site → core.Place
-struct_place (OfLocal local) site = core.Through (core.Local local) 0 0 site
+struct_place (OfLocal local) site = core.Through (core.Local local) 0 site
 struct_place (OfCell place) site = place
 
 -- a member of a struct, where these are the names of its members: its number, and its type
@@ -109,7 +109,7 @@ member_at s struct place name site span = found (member_from 0 (members_named s 
   where
     found : Option (ℕ × CType) → Verdict Typed
     found None = breaks E10 span
-    found (Some m) = Passes (at_place m.1 (member_place place m.0 (offset_among (cells_of s.structs (Struct struct)) m.0) site))
+    found (Some m) = Passes (at_place m.1 (member_place place (offset_among (cells_of s.structs (Struct struct)) m.0) site))
 
 -- member-of-struct: the left side of a dot is a struct (E13)
 abbrev pub dotted : Scope → Typed → ℕ → Site → Span → Verdict Typed
@@ -117,7 +117,7 @@ dotted s (Value type zero value place) name site span = breaks E13 span
 dotted s (AStruct number place) name site span = member_at s number (struct_place place site) name site span
 
 abbrev pub pointed_by : Scope → CType → core.Expression → ℕ → Site → Span → Verdict Typed
-pointed_by s (Pointer mode kind (Struct number)) value name site span = member_at s number (core.Through value 0 0 site) name site span
+pointed_by s (Pointer mode kind (Struct number)) value name site span = member_at s number (core.Through value 0 site) name site span
 pointed_by s _ value name site span = breaks E13 span
 
 -- member-of-struct: the left side of an arrow is a pointer to a struct (E13)
@@ -126,7 +126,7 @@ arrowed s (Value type zero value place) name site span = pointed_by s type value
 arrowed s (AStruct number place) name site span = breaks E13 span
 
 abbrev pub pointed_at : CType → core.Expression → Site → Span → Verdict Typed
-pointed_at (Pointer mode kind target) value site span = Passes (at_place target (core.Through value 0 0 site))
+pointed_at (Pointer mode kind target) value site span = Passes (at_place target (core.Through value 0 site))
 pointed_at _ value site span = breaks E13 span
 
 -- operand-is-pointer: E13
@@ -136,8 +136,8 @@ dereferenced (AStruct number place) site span = breaks E13 span
 
 -- the same place, whose check names another expression
 abbrev pub checked_at : core.Place → Site → core.Place
-checked_at (core.Direct object cell offset) site = core.Direct object cell offset
-checked_at (core.Through pointer cell offset before) site = core.Through pointer cell offset site
+checked_at (core.Direct object offset) site = core.Direct object offset
+checked_at (core.Through pointer offset before) site = core.Through pointer offset site
 
 -- a pointer to a place, whose check names the address
 abbrev pub pointer_to : CType → core.Place → Site → Typed

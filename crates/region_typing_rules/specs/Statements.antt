@@ -41,8 +41,8 @@ store (OfCell place) type value = core.Store type place value
 
 -- the checks of an update name the whole assignment
 abbrev pub updated_place : core.Place → Site → core.Place
-updated_place (core.Direct object cell offset) site = core.Direct object cell offset
-updated_place (core.Through pointer cell offset before) site = core.Through pointer cell offset site
+updated_place (core.Direct object offset) site = core.Direct object offset
+updated_place (core.Through pointer offset before) site = core.Through pointer offset site
 
 abbrev pub update : Lvalue → CType → Operator → core.Expression → Site → core.Statement
 update (OfLocal local) type operator value site = core.UpdateLocal (is_char type) local operator value site

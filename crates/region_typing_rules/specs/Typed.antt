@@ -14,7 +14,7 @@ use Rattle.ckc_core.specs.declared.program.Callee.{Callee}
 use Rattle.ckc_core.specs.declared.program.Callee.TheVariants as callees
 use Rattle.ckc_core.specs.Core as core
 use Rattle.ckc_core.specs.Core.{Core, Initial, Function, Import, Expression, Arguments, Place, Statement, Statements}
-use Rattle.ckc_core.specs.States.{Value, Number, Null, At, has_type, initial_value, object_block, byte_place}
+use Rattle.ckc_core.specs.States.{Value, Number, Null, At, Shape, shape, type_at, has_type, initial_value, object_block}
 use Rattle.ckc_core.specs.Meaning.{is_char}
 use Rattle.region_typing_rules.specs.Types.{is_number, is_scalar}
 
@@ -45,30 +45,30 @@ slots structs Char = single Char
 slots structs (Pointer mode kind target) = single (Pointer mode kind target)
 slots structs (Struct number) = slots_from (members_of structs number) (cells_of structs (Struct number))
 
--- in a variable with these cells such scalars stand, from a cell on, and there is one
-pub record Stands (cells : List Initial) (first : ℕ) (row : List Slot) : Type 0 where
+-- at a byte of a block of this shape such scalars stand, and there is one; no zero ends the block
+pub record Stands (s : Shape) (byte : ℕ) (row : List Slot) : Type 0 where
   pub there : 0 < length row
-  pub each : (k : ℕ) (slot : Slot) → slice_get row k ≡ Some slot → (i : Initial) × (slice_get cells (first + k) ≡ Some i) × (i.type ≡ slot.type)
-      × (byte_place (object_block cells) (first + k) ≡ byte_place (object_block cells) first + slot.offset)
+  pub each : (k : ℕ) (slot : Slot) → slice_get row k ≡ Some slot → type_at s (byte + slot.offset) ≡ Some slot.type
+  pub open_ended : s.zero_ended ≡ false
 
--- a place at which a value of the type stands
-pub record IsPlace (g : Frame) (type : CType) (block cell : ℕ) : Type 0 where
-  pub cells : List Initial
-  pub found : slice_get g.program.objects block ≡ Some cells
-  pub stands : Stands cells cell (slots g.structs type)
+-- a place at which a value of the type stands, in blocks of these shapes
+pub record IsPlace (structs : List Structure) (blocks : List Shape) (type : CType) (block byte : ℕ) : Type 0 where
+  pub shape : Shape
+  pub found : slice_get blocks block ≡ Some shape
+  pub stands : Stands shape byte (slots structs type)
 
 -- a value of a type: a number in its range, null, or a place of what is pointed to
-abbrev pub HasValue : Frame → CType → Value → Type 0
-HasValue g Int (Number z) = has_type Int (Number z) ≡ true
-HasValue g Int Null = ⊥
-HasValue g Int (At block cell) = ⊥
-HasValue g Char (Number z) = has_type Char (Number z) ≡ true
-HasValue g Char Null = ⊥
-HasValue g Char (At block cell) = ⊥
-HasValue g (Struct number) v = ⊥
-HasValue g (Pointer mode kind target) (Number z) = ⊥
-HasValue g (Pointer mode kind target) Null = Unit {0}
-HasValue g (Pointer mode kind target) (At block cell) = IsPlace g target block cell
+abbrev pub HasValue : List Structure → List Shape → CType → Value → Type 0
+HasValue structs blocks Int (Number z) = has_type Int (Number z) ≡ true
+HasValue structs blocks Int Null = ⊥
+HasValue structs blocks Int (At block byte) = ⊥
+HasValue structs blocks Char (Number z) = has_type Char (Number z) ≡ true
+HasValue structs blocks Char Null = ⊥
+HasValue structs blocks Char (At block byte) = ⊥
+HasValue structs blocks (Struct number) v = ⊥
+HasValue structs blocks (Pointer mode kind target) (Number z) = ⊥
+HasValue structs blocks (Pointer mode kind target) Null = Unit {0}
+HasValue structs blocks (Pointer mode kind target) (At block byte) = IsPlace structs blocks target block byte
 
 -- ---- calls
 
@@ -120,13 +120,13 @@ mutual
 
   -- a place, and the type of what stands there: in a variable, behind a pointer, or at a member of the struct behind it
   pub data HasPlace (g : Frame) (locals : List CType) : Place → CType → Type 0 where
-    direct : {object cell offset : ℕ} {t : CType} {cells : List Initial} → slice_get g.program.objects object ≡ Some cells
-        → Stands cells cell (slots g.structs t) → byte_place (object_block cells) cell ≡ offset → HasPlace g locals (core.Direct object cell offset) t
+    direct : {object offset : ℕ} {t : CType} {cells : List Initial} → slice_get g.program.objects object ≡ Some cells
+        → Stands (shape (object_block cells)) offset (slots g.structs t) → HasPlace g locals (core.Direct object offset) t
     pointed : {mode : Mode} {kind : Kind} {e : Expression} {t : CType} {site : Site} → HasType g locals e (Pointer mode kind t)
-        → HasPlace g locals (core.Through e 0 0 site) t
-    member : {mode : Mode} {kind : Kind} {e : Expression} {n cell offset : ℕ} {t : CType} {site : Site} → HasType g locals e (Pointer mode kind (Struct n))
-        → slice_get (slots g.structs (Struct n)) cell ≡ Some (record { type = t; offset = offset }) → is_scalar t ≡ true
-        → HasPlace g locals (core.Through e cell offset site) t
+        → HasPlace g locals (core.Through e 0 site) t
+    member : {mode : Mode} {kind : Kind} {e : Expression} {n k offset : ℕ} {t : CType} {site : Site} → HasType g locals e (Pointer mode kind (Struct n))
+        → slice_get (slots g.structs (Struct n)) k ≡ Some (record { type = t; offset = offset }) → is_scalar t ≡ true
+        → HasPlace g locals (core.Through e offset site) t
 
 -- ---- statements
 
@@ -177,13 +177,13 @@ pub record IsFunction (g : Frame) (f : Function) : Type 0 where
   pub result : IsScalarResult f.result
   pub body : AreStatements g f.locals f.result false f.body
 
--- a cell before the run
-abbrev pub IsInitial : Frame → Initial → Type 0
-IsInitial g i = HasValue g i.type (initial_value i.type i.number)
+-- a cell before the run, which leads nowhere
+abbrev pub IsInitial : List Structure → Initial → Type 0
+IsInitial structs i = HasValue structs [] i.type (initial_value i.type i.number)
 
 -- a program with its structs has types, and a `main` without parameters that gives a number
 pub record IsTyped (program : Core) : Type 0 where
   pub structs : List Structure
-  pub objects : AllByRecursion (AllByRecursion (IsInitial (record { program = program; structs = structs }))) program.objects
+  pub objects : AllByRecursion (AllByRecursion (IsInitial structs)) program.objects
   pub functions : AllByRecursion (IsFunction (record { program = program; structs = structs })) program.functions
   pub main : (f : Function) × (slice_get program.functions program.main ≡ Some f) × (f.parameters ≡ 0) × (f.result ≡ Some Int)
