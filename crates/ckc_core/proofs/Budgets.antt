@@ -1,10 +1,10 @@
 -- A meaning with as many ticks as its budget is never short of them: an induction over the meaning, with the ticks spent.
 use Rattle.std.proofs.Common.{◌≡◌, ℕ, zero, suc, ◌+◌, ◌≤◌, Bool, true, false, ℤ, List, [], length, replicate, Option, Some, None, refl, arith}
-use Rattle.std.specs.Prelude.{◌==◌, ◌&&◌, nat_lt, slice_get}
+use Rattle.std.specs.Prelude.{◌==◌, ◌&&◌, ◌||◌, not, nat_lt, slice_get}
 use Rattle.flat_bytes.specs.Blocks.{first_offset}
 use Rattle.act_words.specs.declared.settings.Settings.{Settings}
 use Rattle.act_words.specs.Acts.{Act, Passed}
-use Rattle.ckc_core.specs.Outcome.{Gives, Ends, Stuck, Short, and_then}
+use Rattle.ckc_core.specs.Outcome.{Gives, Ends, Stuck, Unsound, Short, and_then}
 use Rattle.act_words.specs.Checks.{Checked, Holds, Fails, is_word_number}
 use Rattle.act_words.specs.Arithmetic as arithmetic
 use Rattle.act_words.specs.World.{new_world}
@@ -15,9 +15,15 @@ use Rattle.act_words.specs.declared.operator.Operator.{Operator}
 use Rattle.act_words.specs.declared.operator.Comparison.{Comparison}
 use Rattle.ckc_core.specs.declared.program.Callee.{Callee}
 use Rattle.ckc_core.specs.declared.program.Callee.TheVariants as callees
+use Rattle.ckc_core.specs.Programs.{Import}
+use Rattle.ckc_core.specs.declared.program.Index.{Index}
+use Rattle.ckc_core.specs.declared.program.Index.TheVariants as indexes
+use Rattle.ckc_core.specs.declared.program.PointerBounds.{PointerBounds}
+use Rattle.ckc_core.specs.Bounds.{Pointed, with_ends, is_valid}
 use Rattle.ckc_core.specs.Core as core
 use Rattle.ckc_core.specs.States.{Value, Number, Null, At, Cell, Local, State, in_world, cell_at, same_type, has_type}
-use Rattle.ckc_core.specs.Meaning.{Result, Flow, Next, Broke, Continued, Returned, Knot, Setting, given, checked, value_if, value_in, place_through, load_at, place_if, pointer_to, truth, same_place, test_given, result_of, arithmetic_of, compared, negated, complemented, low_byte_of, asked, words_of, reply_as, passed, cross, cross_if, call_tainted, crossed, takes, enter_if, call_trusted, called, result_given, choose, value, values, place, store_if, store_over, store_at, set_local, pointer_of, place_from, kept_if, is_char, printed, put, on_next, behind_turn, no_result, effect, effects, answer, locals_for, back, body_if, body_of, knot, exit, initial, meaning, place_at, site_of, set_if, set_over, leaves_zero, fit, parameters_of, fits_result, answer_if}
+use Rattle.ckc_core.specs.Steps.{Result, Flow, Next, Broke, Continued, Returned, given, checked, value_if, value_in, load_at, place_if, pointer_to, truth, same_place, test_given, result_of, arithmetic_of, compared, negated, complemented, low_byte_of, asked, words_of, reply_as, passed, cross, cross_if, call_tainted, crossed, takes, enter_if, call_trusted, called, result_given, choose, store_if, store_over, store_at, set_local, kept_if, is_char, printed, put, on_next, behind_turn, no_result, answer, locals_for, back, exit, initial, place_at, set_if, set_over, leaves_zero, fit, parameters_of, fits_result, answer_if}
+use Rattle.ckc_core.specs.Meaning.{Knot, bounds_of, Setting, audit, body_if, body_of, effect, effects, element, knot, meaning, place, place_from, pointed, pointer_of, reached, site_of, sound_if, value, values}
 use Rattle.ckc_core.proofs.Ticks.{HasSpent, Answers, Crosses, tick_answers, enter_answers, touch_answers, until_crosses, next_answers}
 
 -- from a state in which so many ticks were spent at least: no fewer were in the state behind a value, and it isn't short
@@ -25,6 +31,7 @@ abbrev pub Goes : ℕ → {A : Type 0} → ℕ → Result A → Type 0
 Goes budget low (Gives v s) = HasSpent budget low s.world
 Goes budget low (Ends ending s) = Unit {0}
 Goes budget low (Stuck site s) = Unit {0}
+Goes budget low (Unsound site s) = Unit {0}
 Goes budget low Short = ⊥
 
 module _ (budget : ℕ) where
@@ -32,6 +39,7 @@ module _ (budget : ℕ) where
   goes_on low (Gives v s) next h more = more v s h
   goes_on low (Ends ending s) next h more = tt
   goes_on low (Stuck site s) next h more = tt
+  goes_on low (Unsound site s) next h more = tt
   goes_on low Short next h more = h
 
   asked_goes : {A B : Type 0} (low : ℕ) (o : Asked A) (s : State) (next : A → State → Result B) → Answers budget low o → ((v : A) (t : State) → HasSpent budget low t.world → Goes budget low (next v t)) → Goes budget low (asked o s next)
@@ -43,6 +51,7 @@ module _ (budget : ℕ) where
   lowered low (Gives v s) h = record { least = omega (arith, h.least); most = h.most }
   lowered low (Ends ending s) h = tt
   lowered low (Stuck site s) h = tt
+  lowered low (Unsound site s) h = tt
   lowered low Short h = h
 
   chosen_goes : {A : Type 0} (low : ℕ) (test : Bool) (first second : Result A) → Goes budget low first → Goes budget low second → Goes budget low (choose test first second)
@@ -75,10 +84,21 @@ module _ (budget : ℕ) where
     direct_goes : (site : Option Site) (block byte : ℕ) → Goes budget low (place_at site block byte s)
     direct_goes site block byte = placed_goes (cell_at s.blocks block byte) site block byte
 
-    through_goes : (offset : ℕ) (site : Site) (v : Value) → Goes budget low (place_through offset site v s)
-    through_goes offset site (Number z) = tt
-    through_goes offset site Null = tt
-    through_goes offset site (At block byte) = direct_goes (Some site) block (byte + offset)
+    element_goes : (offset : ℕ) (site : Site) (v : Value) → Goes budget low (element offset site v s)
+    element_goes offset site (Number z) = tt
+    element_goes offset site Null = tt
+    element_goes offset site (At block byte) = direct_goes (Some site) block (byte + offset)
+
+    reached_goes : (index : Index) (offset : ℕ) (site : Site) (p : Pointed) → Goes budget low (reached index offset site p s)
+    reached_goes indexes.First offset site p = element_goes offset site p.value
+
+    sound_goes_if : (test : Bool) (site : Site) (v : Value) → Goes budget low (sound_if test site v s)
+    sound_goes_if true site v = spent
+    sound_goes_if false site v = tt
+
+    audit_goes : (audited : Bool) (bounds : Option PointerBounds) (v : Value) → Goes budget low (audit audited bounds v s)
+    audit_goes audited None v = spent
+    audit_goes audited (Some p) v = sound_goes_if (not audited || is_valid p v s) p.site v
 
     test_goes : (o : Option Bool) → Goes budget low (test_given o s)
     test_goes None = tt
@@ -185,11 +205,11 @@ module _ (budget : ℕ) where
     answer_goes result Broke = tt
     answer_goes result Continued = tt
 
-    place_from_goes : (p : core.Place) (v : Value) → Goes budget low (place_from p v s)
+    place_from_goes : (p : core.Place) (v : Pointed) → Goes budget low (place_from p v s)
     place_from_goes (core.Direct object offset) v = direct_goes None object offset
-    place_from_goes (core.Through pointer offset site) v = through_goes offset site v
+    place_from_goes (core.Through pointer index offset site) v = reached_goes index offset site v
 
-  module _ (program : core.Core) (sandbox_size trusted_size n : ℕ) where
+  module _ (audited : Bool) (program : core.Core) (sandbox_size trusted_size n : ℕ) where
     abbrev g : Setting
     g = record { program = program; budget = budget; sandbox = sandbox_size; trusted = trusted_size }
 
@@ -210,14 +230,14 @@ module _ (budget : ℕ) where
       trusted_goes : (low : ℕ) (enough : budget ≤ low + n) (function : ℕ) (vs : List Value) (s : State) → HasSpent budget low s.world → Goes budget low (call_trusted g k function vs s)
       trusted_goes low enough function vs s spent = enter_goes low enough (takes (slice_get program.functions function) vs) function vs s spent
 
-      passed_goes : (low : ℕ) (enough : suc budget ≤ low + n) (i : core.Import) (site : Site) (s : State) → HasSpent budget low s.world → Goes budget low (passed k i site s)
+      passed_goes : (low : ℕ) (enough : suc budget ≤ low + n) (i : Import) (site : Site) (s : State) → HasSpent budget low s.world → Goes budget low (passed k i site s)
       passed_goes low enough i site s spent =
           let inside : State = record s { depth = s.depth + 1 } in
           goes_on low (and_then (k.sandbox inside) (back s)) (reply_as i.result site)
           (goes_on low (k.sandbox inside) (back s) (is.sandbox low inside enough spent) (λ reply t t_spent. t_spent))
           (λ reply t t_spent. reply_goes low t t_spent i.result site reply)
 
-      cross_goes : (low : ℕ) (enough : budget ≤ low + n) (import : ℕ) (i : core.Import) (site : Site) (o : Option (List ℕ)) (s : State) → HasSpent budget low s.world → Goes budget low (cross g k import i site o s)
+      cross_goes : (low : ℕ) (enough : budget ≤ low + n) (import : ℕ) (i : Import) (site : Site) (o : Option (List ℕ)) (s : State) → HasSpent budget low s.world → Goes budget low (cross g k import i site o s)
       cross_goes low enough import i site None s spent = tt
       cross_goes low enough import i site (Some words) s spent =
           lowered low _ (asked_goes (suc low) (spend_tick budget s.world) s _ (tick_answers budget low s.world spent)
@@ -225,11 +245,11 @@ module _ (budget : ℕ) where
           (λ _ u u_spent. asked_goes (suc low) (touch (Passed import words) u.world) u _ (touch_answers budget (suc low) (Passed import words) u.world u_spent)
           (λ _ v v_spent. passed_goes (suc low) (omega (arith, enough)) i site v v_spent))))
 
-      crossed_goes : (low : ℕ) (enough : budget ≤ low + n) (test : Bool) (import : ℕ) (i : core.Import) (site : Site) (vs : List Value) (s : State) → HasSpent budget low s.world → Goes budget low (cross_if test g k import i site vs s)
+      crossed_goes : (low : ℕ) (enough : budget ≤ low + n) (test : Bool) (import : ℕ) (i : Import) (site : Site) (vs : List Value) (s : State) → HasSpent budget low s.world → Goes budget low (cross_if test g k import i site vs s)
       crossed_goes low enough true import i site vs s spent = cross_goes low enough import i site (words_of vs) s spent
       crossed_goes low enough false import i site vs s spent = tt
 
-      tainted_goes : (low : ℕ) (enough : budget ≤ low + n) (import : ℕ) (o : Option core.Import) (site : Site) (vs : List Value) (s : State) → HasSpent budget low s.world → Goes budget low (call_tainted g k import o site vs s)
+      tainted_goes : (low : ℕ) (enough : budget ≤ low + n) (import : ℕ) (o : Option Import) (site : Site) (vs : List Value) (s : State) → HasSpent budget low s.world → Goes budget low (call_tainted g k import o site vs s)
       tainted_goes low enough import None site vs s spent = tt
       tainted_goes low enough import (Some i) site vs s spent = crossed_goes low enough (i.parameters == length vs) import i site vs s spent
 
@@ -240,55 +260,66 @@ module _ (budget : ℕ) where
       -- ---- expressions
 
       mutual
-        value_goes : (e : core.Expression) (low : ℕ) (enough : budget ≤ low + n) (s : State) → HasSpent budget low s.world → Goes budget low (value g k e s)
+        value_goes : (e : core.Expression) (low : ℕ) (enough : budget ≤ low + n) (s : State) → HasSpent budget low s.world → Goes budget low (value audited g k e s)
         value_goes (core.Number z) low enough s spent = value_goes_if low s spent (is_word_number z) None (Number z)
         value_goes core.Null low enough s spent = spent
-        value_goes (core.Local i) low enough s spent = given_goes low s spent (slice_get s.locals i)
-        value_goes (core.Load type p) low enough s spent =
-            goes_on low (place g k p s) (load_at type (site_of p)) (place_goes p low enough s spent) (λ at t t_spent. cell_goes low t t_spent type (site_of p) (cell_at t.blocks at.0 at.1))
-        value_goes (core.AddressOf p) low enough s spent =
-            goes_on low (place g k p s) pointer_to (place_goes p low enough s spent) (λ at t t_spent. t_spent)
+        value_goes (core.Local i bounds) low enough s spent =
+            goes_on low (given (slice_get s.locals i) s) (audit audited bounds) (given_goes low s spent (slice_get s.locals i)) (λ v t t_spent. audit_goes low t t_spent audited bounds v)
+        value_goes (core.Load type p bounds) low enough s spent =
+            goes_on low (and_then (place audited g k p s) (load_at type (site_of p))) (audit audited bounds)
+            (goes_on low (place audited g k p s) (load_at type (site_of p)) (place_goes p low enough s spent) (λ at t t_spent. cell_goes low t t_spent type (site_of p) (cell_at t.blocks at.0 at.1)))
+            (λ v t t_spent. audit_goes low t t_spent audited bounds v)
+        value_goes (core.AddressOf p bounds) low enough s spent =
+            goes_on low (and_then (place audited g k p s) pointer_to) (audit audited bounds)
+            (goes_on low (place audited g k p s) pointer_to (place_goes p low enough s spent) (λ at t t_spent. t_spent))
+            (λ v t t_spent. audit_goes low t t_spent audited bounds v)
         value_goes (core.Negate operand site) low enough s spent =
-            goes_on low (value g k operand s) (negated site) (value_goes operand low enough s spent) (λ v t t_spent. negated_goes low t t_spent site v)
+            goes_on low (value audited g k operand s) (negated site) (value_goes operand low enough s spent) (λ v t t_spent. negated_goes low t t_spent site v)
         value_goes (core.Complement operand) low enough s spent =
-            goes_on low (value g k operand s) complemented (value_goes operand low enough s spent) (λ v t t_spent. complemented_goes low t t_spent v)
-        value_goes (core.Not operand) low enough s spent = goes_on low (value g k operand s) _ (value_goes operand low enough s spent) (λ v t t_spent. t_spent)
+            goes_on low (value audited g k operand s) complemented (value_goes operand low enough s spent) (λ v t t_spent. complemented_goes low t t_spent v)
+        value_goes (core.Not operand) low enough s spent = goes_on low (value audited g k operand s) _ (value_goes operand low enough s spent) (λ v t t_spent. t_spent)
         value_goes (core.Arithmetic operator left right site) low enough s spent =
-            goes_on low (value g k left s) _ (value_goes left low enough s spent)
-            (λ a t t_spent. goes_on low (value g k right t) _ (value_goes right low enough t t_spent) (λ b u u_spent. arithmetic_goes low u u_spent operator site a b))
+            goes_on low (value audited g k left s) _ (value_goes left low enough s spent)
+            (λ a t t_spent. goes_on low (value audited g k right t) _ (value_goes right low enough t t_spent) (λ b u u_spent. arithmetic_goes low u u_spent operator site a b))
         value_goes (core.Compare comparison left right) low enough s spent =
-            goes_on low (value g k left s) _ (value_goes left low enough s spent)
-            (λ a t t_spent. goes_on low (value g k right t) _ (value_goes right low enough t t_spent) (λ b u u_spent. compared_goes low u u_spent comparison a b))
+            goes_on low (value audited g k left s) _ (value_goes left low enough s spent)
+            (λ a t t_spent. goes_on low (value audited g k right t) _ (value_goes right low enough t t_spent) (λ b u u_spent. compared_goes low u u_spent comparison a b))
         value_goes (core.Same left right) low enough s spent =
-            goes_on low (value g k left s) _ (value_goes left low enough s spent)
-            (λ a t t_spent. goes_on low (value g k right t) _ (value_goes right low enough t t_spent) (λ b u u_spent. test_goes low u u_spent (same_place a b)))
+            goes_on low (value audited g k left s) _ (value_goes left low enough s spent)
+            (λ a t t_spent. goes_on low (value audited g k right t) _ (value_goes right low enough t t_spent) (λ b u u_spent. test_goes low u u_spent (same_place a b)))
         value_goes (core.AndAlso left right) low enough s spent =
-            goes_on low (value g k left s) _ (value_goes left low enough s spent)
-            (λ a t t_spent. chosen_goes low (truth a) _ _ (goes_on low (value g k right t) _ (value_goes right low enough t t_spent) (λ b u u_spent. u_spent)) t_spent)
+            goes_on low (value audited g k left s) _ (value_goes left low enough s spent)
+            (λ a t t_spent. chosen_goes low (truth a) _ _ (goes_on low (value audited g k right t) _ (value_goes right low enough t t_spent) (λ b u u_spent. u_spent)) t_spent)
         value_goes (core.OrElse left right) low enough s spent =
-            goes_on low (value g k left s) _ (value_goes left low enough s spent)
-            (λ a t t_spent. chosen_goes low (truth a) _ _ t_spent (goes_on low (value g k right t) _ (value_goes right low enough t t_spent) (λ b u u_spent. u_spent)))
+            goes_on low (value audited g k left s) _ (value_goes left low enough s spent)
+            (λ a t t_spent. chosen_goes low (truth a) _ _ t_spent (goes_on low (value audited g k right t) _ (value_goes right low enough t t_spent) (λ b u u_spent. u_spent)))
         value_goes (core.LowByte operand) low enough s spent =
-            goes_on low (value g k operand s) low_byte_of (value_goes operand low enough s spent) (λ v t t_spent. byte_goes low t t_spent v)
-        value_goes (core.Call callee arguments) low enough s spent =
-            goes_on low (values g k arguments s) _ (values_go arguments low enough s spent)
-            (λ vs t t_spent. goes_on low (called g k callee vs t) result_given (called_goes low enough callee vs t t_spent) (λ v u u_spent. result_goes low u u_spent v))
+            goes_on low (value audited g k operand s) low_byte_of (value_goes operand low enough s spent) (λ v t t_spent. byte_goes low t t_spent v)
+        value_goes (core.Call callee arguments bounds) low enough s spent =
+            goes_on low (values audited g k arguments s) _ (values_go arguments low enough s spent)
+            (λ vs t t_spent. goes_on low (and_then (called g k callee vs t) result_given) (audit audited bounds)
+            (goes_on low (called g k callee vs t) result_given (called_goes low enough callee vs t t_spent) (λ v u u_spent. result_goes low u u_spent v))
+            (λ v u u_spent. audit_goes low u u_spent audited bounds v))
         value_goes core.NextInput low enough s spent = asked_goes low (next_input s.world) s _ (next_answers budget low s.world spent) (λ z t t_spent. t_spent)
 
-        values_go : (es : core.Arguments) (low : ℕ) (enough : budget ≤ low + n) (s : State) → HasSpent budget low s.world → Goes budget low (values g k es s)
+        values_go : (es : core.Arguments) (low : ℕ) (enough : budget ≤ low + n) (s : State) → HasSpent budget low s.world → Goes budget low (values audited g k es s)
         values_go core.Done low enough s spent = spent
         values_go (core.More first rest) low enough s spent =
-            goes_on low (value g k first s) _ (value_goes first low enough s spent)
-            (λ v t t_spent. goes_on low (values g k rest t) _ (values_go rest low enough t t_spent) (λ vs u u_spent. u_spent))
+            goes_on low (value audited g k first s) _ (value_goes first low enough s spent)
+            (λ v t t_spent. goes_on low (values audited g k rest t) _ (values_go rest low enough t t_spent) (λ vs u u_spent. u_spent))
 
-        place_goes : (p : core.Place) (low : ℕ) (enough : budget ≤ low + n) (s : State) → HasSpent budget low s.world → Goes budget low (place g k p s)
+        place_goes : (p : core.Place) (low : ℕ) (enough : budget ≤ low + n) (s : State) → HasSpent budget low s.world → Goes budget low (place audited g k p s)
         place_goes (core.Direct object offset) low enough s spent = direct_goes low s spent None object offset
-        place_goes (core.Through pointer offset site) low enough s spent =
-            goes_on low (value g k pointer s) (place_through offset site) (value_goes pointer low enough s spent) (λ v t t_spent. through_goes low t t_spent offset site v)
+        place_goes (core.Through pointer index offset site) low enough s spent =
+            goes_on low (value audited g k pointer s) _ (value_goes pointer low enough s spent)
+            (λ v t t_spent. reached_goes low t t_spent index offset site (with_ends (bounds_of pointer) v t.locals))
 
-      pointer_goes : (p : core.Place) (low : ℕ) (enough : budget ≤ low + n) (s : State) → HasSpent budget low s.world → Goes budget low (pointer_of g k p s)
-      pointer_goes (core.Direct object offset) low enough s spent = goes_on low (place_at None object offset s) pointer_to (direct_goes low s spent None object offset) (λ at t t_spent. t_spent)
-      pointer_goes (core.Through pointer offset site) low enough s spent = value_goes pointer low enough s spent
+      pointed_goes : (e : core.Expression) (low : ℕ) (enough : budget ≤ low + n) (s : State) → HasSpent budget low s.world → Goes budget low (pointed audited g k e s)
+      pointed_goes e low enough s spent = goes_on low (value audited g k e s) _ (value_goes e low enough s spent) (λ v t t_spent. t_spent)
+
+      pointer_goes : (p : core.Place) (low : ℕ) (enough : budget ≤ low + n) (s : State) → HasSpent budget low s.world → Goes budget low (pointer_of audited g k p s)
+      pointer_goes (core.Direct object offset) low enough s spent = goes_on low (place_at None object offset s) _ (direct_goes low s spent None object offset) (λ at t t_spent. t_spent)
+      pointer_goes (core.Through pointer index offset site) low enough s spent = pointed_goes pointer low enough s spent
 
       -- ---- statements
 
@@ -299,66 +330,66 @@ module _ (budget : ℕ) where
       store_goes low type site at v s spent = over_goes low s spent (cell_at s.blocks at.0 at.1) type site v at.0 at.1
 
       mutual
-        effect_goes : (x : core.Statement) (low : ℕ) (enough : budget ≤ low + n) (s : State) → HasSpent budget low s.world → Goes budget low (effect g k x s)
+        effect_goes : (x : core.Statement) (low : ℕ) (enough : budget ≤ low + n) (s : State) → HasSpent budget low s.world → Goes budget low (effect audited g k x s)
         effect_goes core.Nothing low enough s spent = spent
         effect_goes (core.SetLocal local e) low enough s spent =
-            goes_on low (value g k e s) (set_local local) (value_goes e low enough s spent) (λ v t t_spent. set_goes low local v t t_spent)
+            goes_on low (value audited g k e s) (set_local local) (value_goes e low enough s spent) (λ v t t_spent. set_goes low local v t t_spent)
         effect_goes (core.Store type p e) low enough s spent =
-            goes_on low (pointer_of g k p s) _ (pointer_goes p low enough s spent)
-            (λ q t t_spent. goes_on low (value g k e t) _ (value_goes e low enough t t_spent)
+            goes_on low (pointer_of audited g k p s) _ (pointer_goes p low enough s spent)
+            (λ q t t_spent. goes_on low (value audited g k e t) _ (value_goes e low enough t t_spent)
             (λ v u u_spent. goes_on low (place_from p q u) _ (place_from_goes low u u_spent p q) (λ at w w_spent. store_goes low type (site_of p) at v w w_spent)))
         effect_goes (core.UpdateLocal char local operator e site) low enough s spent =
             goes_on low (given (slice_get s.locals local) s) _ (given_goes low s spent (slice_get s.locals local))
-            (λ old t t_spent. goes_on low (value g k e t) _ (value_goes e low enough t t_spent)
+            (λ old t t_spent. goes_on low (value audited g k e t) _ (value_goes e low enough t t_spent)
             (λ v u u_spent. goes_on low (arithmetic_of operator site old v u) _ (arithmetic_goes low u u_spent operator site old v)
             (λ new w w_spent. goes_on low (kept_if char new w) (set_local local) (kept_goes low w w_spent char new) (λ last x x_spent. set_goes low local last x x_spent))))
         effect_goes (core.Update type p operator e site) low enough s spent =
-            goes_on low (place g k p s) _ (place_goes p low enough s spent)
+            goes_on low (place audited g k p s) _ (place_goes p low enough s spent)
             (λ at t t_spent. goes_on low (load_at type (Some site) at t) _ (cell_goes low t t_spent type (Some site) (cell_at t.blocks at.0 at.1))
-            (λ old u u_spent. goes_on low (value g k e u) _ (value_goes e low enough u u_spent)
+            (λ old u u_spent. goes_on low (value audited g k e u) _ (value_goes e low enough u u_spent)
             (λ v w w_spent. goes_on low (arithmetic_of operator site old v w) _ (arithmetic_goes low w w_spent operator site old v)
             (λ new x x_spent. goes_on low (kept_if (is_char type) new x) (store_at type (Some site) at) (kept_goes low x x_spent (is_char type) new) (λ last y y_spent. store_goes low type (Some site) at last y y_spent)))))
-        effect_goes (core.Evaluate e) low enough s spent = goes_on low (value g k e s) _ (value_goes e low enough s spent) (λ v t t_spent. t_spent)
+        effect_goes (core.Evaluate e) low enough s spent = goes_on low (value audited g k e s) _ (value_goes e low enough s spent) (λ v t t_spent. t_spent)
         effect_goes (core.CallAlone callee arguments) low enough s spent =
-            goes_on low (values g k arguments s) _ (values_go arguments low enough s spent)
+            goes_on low (values audited g k arguments s) _ (values_go arguments low enough s spent)
             (λ vs t t_spent. goes_on low (called g k callee vs t) no_result (called_goes low enough callee vs t t_spent) (λ v u u_spent. nothing_goes low u u_spent v))
-        effect_goes (core.Print e) low enough s spent = goes_on low (value g k e s) printed (value_goes e low enough s spent) (λ v t t_spent. printed_goes low t t_spent v)
-        effect_goes (core.PutByte e) low enough s spent = goes_on low (value g k e s) put (value_goes e low enough s spent) (λ v t t_spent. put_goes low t t_spent v)
+        effect_goes (core.Print e) low enough s spent = goes_on low (value audited g k e s) printed (value_goes e low enough s spent) (λ v t t_spent. printed_goes low t t_spent v)
+        effect_goes (core.PutByte e) low enough s spent = goes_on low (value audited g k e s) put (value_goes e low enough s spent) (λ v t t_spent. put_goes low t t_spent v)
         effect_goes (core.Block xs) low enough s spent = effects_go xs low enough s spent
         effect_goes (core.If condition consequent alternative) low enough s spent =
-            goes_on low (value g k condition s) _ (value_goes condition low enough s spent)
+            goes_on low (value audited g k condition s) _ (value_goes condition low enough s spent)
             (λ v t t_spent. chosen_goes low (truth v) _ _ (effect_goes consequent low enough t t_spent) (effect_goes alternative low enough t t_spent))
         effect_goes (core.Loop condition body step) low enough s spent =
-            goes_on low (value g k condition s) _ (value_goes condition low enough s spent)
+            goes_on low (value audited g k condition s) _ (value_goes condition low enough s spent)
             (λ v t t_spent. chosen_goes low (truth v) _ _
             (lowered low _ (asked_goes (suc low) (spend_tick budget t.world) t _ (tick_answers budget low t.world t_spent)
-            (λ _ u u_spent. goes_on (suc low) (effect g k body u) _ (effect_goes body (suc low) (omega (arith, enough)) u u_spent)
+            (λ _ u u_spent. goes_on (suc low) (effect audited g k body u) _ (effect_goes body (suc low) (omega (arith, enough)) u u_spent)
             (λ flow w w_spent. turned_goes (suc low) w w_spent _ flow
-            (goes_on (suc low) (effect g k step w) _ (effect_goes step (suc low) (omega (arith, enough)) w w_spent)
+            (goes_on (suc low) (effect audited g k step w) _ (effect_goes step (suc low) (omega (arith, enough)) w w_spent)
             (λ flow' x x_spent. next_goes (suc low) x x_spent (k.turn condition body step) flow' (is.turn (suc low) condition body step x (omega (arith, enough)) x_spent)))))))
             t_spent)
-        effect_goes (core.Return e) low enough s spent = goes_on low (value g k e s) _ (value_goes e low enough s spent) (λ v t t_spent. t_spent)
+        effect_goes (core.Return e) low enough s spent = goes_on low (value audited g k e s) _ (value_goes e low enough s spent) (λ v t t_spent. t_spent)
         effect_goes core.ReturnNothing low enough s spent = spent
         effect_goes core.Break low enough s spent = spent
         effect_goes core.Continue low enough s spent = spent
 
-        effects_go : (xs : core.Statements) (low : ℕ) (enough : budget ≤ low + n) (s : State) → HasSpent budget low s.world → Goes budget low (effects g k xs s)
+        effects_go : (xs : core.Statements) (low : ℕ) (enough : budget ≤ low + n) (s : State) → HasSpent budget low s.world → Goes budget low (effects audited g k xs s)
         effects_go core.NoMore low enough s spent = spent
         effects_go (core.Then first others) low enough s spent =
-            goes_on low (effect g k first s) _ (effect_goes first low enough s spent)
-            (λ flow t t_spent. next_goes low t t_spent (effects g k others) flow (effects_go others low enough t t_spent))
+            goes_on low (effect audited g k first s) _ (effect_goes first low enough s spent)
+            (λ flow t t_spent. next_goes low t t_spent (effects audited g k others) flow (effects_go others low enough t t_spent))
 
       -- ---- functions
 
-      body_goes_if : (low : ℕ) (enough : budget ≤ low + n) (test : Bool) (f : core.Function) (vs : List Value) (s : State) → HasSpent budget low s.world → Goes budget low (body_if test g k f vs s)
+      body_goes_if : (low : ℕ) (enough : budget ≤ low + n) (test : Bool) (f : core.Function) (vs : List Value) (s : State) → HasSpent budget low s.world → Goes budget low (body_if audited test g k f vs s)
       body_goes_if low enough false f vs s spent = tt
       body_goes_if low enough true f vs s spent =
           let inside : State = record s { locals = locals_for f.locals vs; depth = s.depth + 1 } in
-          goes_on low (and_then (effects g k f.body inside) (answer f.result)) (back s)
-          (goes_on low (effects g k f.body inside) (answer f.result) (effects_go f.body low enough inside spent) (λ flow t t_spent. answer_goes low t t_spent f.result flow))
+          goes_on low (and_then (effects audited g k f.body inside) (answer f.result)) (back s)
+          (goes_on low (effects audited g k f.body inside) (answer f.result) (effects_go f.body low enough inside spent) (λ flow t t_spent. answer_goes low t t_spent f.result flow))
           (λ v t t_spent. t_spent)
 
-      body_goes : (low : ℕ) (enough : budget ≤ low + n) (o : Option core.Function) (vs : List Value) (s : State) → HasSpent budget low s.world → Goes budget low (body_of g k o vs s)
+      body_goes : (low : ℕ) (enough : budget ≤ low + n) (o : Option core.Function) (vs : List Value) (s : State) → HasSpent budget low s.world → Goes budget low (body_of audited g k o vs s)
       body_goes low enough None vs s spent = tt
       body_goes low enough (Some f) vs s spent = body_goes_if low enough (fit (parameters_of f) vs) f vs s spent
 
@@ -368,15 +399,15 @@ module _ (budget : ℕ) where
   sandbox_goes low (Crossed.Called fun words w) s h = tt
   sandbox_goes low (Crossed.Over ending w) s h = tt
 
-  knots : (program : core.Core) (sandbox trusted n : ℕ) → IsKnot program sandbox trusted n (knot (record { program = program; budget = budget; sandbox = sandbox; trusted = trusted }) n)
-  knots program sandbox trusted zero = record {
+  knots : (audited : Bool) (program : core.Core) (sandbox trusted n : ℕ) → IsKnot audited program sandbox trusted n (knot audited (record { program = program; budget = budget; sandbox = sandbox; trusted = trusted }) n)
+  knots audited program sandbox trusted zero = record {
     call = λ low function vs s enough spent. absurd (omega (arith, spent.least, spent.most));
     turn = λ low e x y s enough spent. absurd (omega (arith, spent.least, spent.most));
     sandbox = λ low s enough spent. absurd (omega (arith, spent.least, spent.most));
   }
-  knots program sandbox trusted (suc n) = record {
-    call = λ low function vs s enough spent. body_goes program sandbox trusted n _ (knots program sandbox trusted n) low (omega (arith, enough)) (slice_get program.functions function) vs s spent;
-    turn = λ low e x y s enough spent. effect_goes program sandbox trusted n _ (knots program sandbox trusted n) (core.Loop e x y) low (omega (arith, enough)) s spent;
+  knots audited program sandbox trusted (suc n) = record {
+    call = λ low function vs s enough spent. body_goes audited program sandbox trusted n _ (knots audited program sandbox trusted n) low (omega (arith, enough)) (slice_get program.functions function) vs s spent;
+    turn = λ low e x y s enough spent. effect_goes audited program sandbox trusted n _ (knots audited program sandbox trusted n) (core.Loop e x y) low (omega (arith, enough)) s spent;
     sandbox = λ low s enough spent. sandbox_goes low (until_return s.world.acts s.world) s (until_crosses budget low s.world.acts s.world spent);
   }
 
@@ -390,12 +421,13 @@ not_short : (budget low : ℕ) {A : Type 0} (o : Result A) → Goes budget low o
 not_short budget low (Gives v s) h e = absurd (cc)
 not_short budget low (Ends ending s) h e = absurd (cc)
 not_short budget low (Stuck site s) h e = absurd (cc)
+not_short budget low (Unsound site s) h e = absurd (cc)
 not_short budget low Short h e = h
 
-pub never_short : (program : core.Core) (settings : Settings) (inputs : List ℤ) (acts : List Act) → meaning program settings inputs acts ≡ Short → ⊥
-never_short program settings inputs acts =
+pub never_short : (audited : Bool) (program : core.Core) (settings : Settings) (inputs : List ℤ) (acts : List Act) → meaning audited program settings inputs acts ≡ Short → ⊥
+never_short audited program settings inputs acts =
     let n = settings.budget in
     let start : State = initial program (new_world (replicate settings.sandbox 0) first_offset inputs acts) in
     let spent : HasSpent n 0 start.world = record { least = omega arith; most = omega arith } in
-    not_short n 0 _ (goes_on n 0 (body_of _ _ (slice_get program.functions program.main) [] start) exit
-    (body_goes n program settings.sandbox settings.trusted n _ (knots n program settings.sandbox settings.trusted n) 0 (omega arith) (slice_get program.functions program.main) [] start spent) (λ v s s_spent. exit_goes n 0 v s))
+    not_short n 0 _ (goes_on n 0 (body_of audited _ _ (slice_get program.functions program.main) [] start) exit
+    (body_goes n audited program settings.sandbox settings.trusted n _ (knots n audited program settings.sandbox settings.trusted n) 0 (omega arith) (slice_get program.functions program.main) [] start spent) (λ v s s_spent. exit_goes n 0 v s))

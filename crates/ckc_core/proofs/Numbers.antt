@@ -22,7 +22,7 @@ use Rattle.act_words.specs.declared.operator.ArithmeticOperator.TheVariants as a
 use Rattle.act_words.specs.declared.operator.BitwiseOperator.{BitwiseOperator}
 use Rattle.act_words.specs.declared.operator.BitwiseOperator.TheVariants as bits
 use Rattle.act_words.specs.declared.operator.Operator.TheVariants as operators
-use Rattle.ckc_core.specs.Meaning.{result_of}
+use Rattle.ckc_core.specs.Steps.{result_of}
 
 abbrev pub IsNumber : ℤ → Type 0
 IsNumber z = is_word_number z ≡ true

@@ -1,4 +1,4 @@
--- Programs as plain data: names are numbers, each check has its place, and each access its type.
+-- Programs as plain data: names are numbers, each pointer has its bounds, and each access its type, its index and its site.
 use Rattle.std.specs.Prelude.{ℕ, suc, Bool, List, [], ◌∷◌, Option, map, option_map}
 use Rattle.std.proofs.Common.{ℤ}
 use Rattle.pointer_modes.specs.Types.{CType, ctype}
@@ -12,17 +12,21 @@ use Rattle.ckc_core.specs.declared.program.Site.{Site}
 use Rattle.act_words.specs.declared.operator.Operator.{Operator}
 use Rattle.act_words.specs.declared.operator.Comparison.{Comparison}
 use Rattle.ckc_core.specs.declared.program.Callee.{Callee}
+use Rattle.ckc_core.specs.declared.program.Index.{Index}
+use Rattle.ckc_core.specs.declared.program.PointerBounds.{PointerBounds}
+use Rattle.ckc_core.specs.Programs.{FunctionOf, Import, Initial, ProgramOf}
 
 mutual
   -- an expression
   pub data Expression : Type 0 where
     Number : (number : ℤ) → Expression
     Null : Expression
-    Local : (local : ℕ) → Expression
+    -- what a local variable holds; a checked pointer has bounds here, at the next two forms, and as the result of a call
+    Local : (local : ℕ) (bounds : Option PointerBounds) → Expression
     -- what a cell of this type holds
-    Load : (type : CType) (place : Place) → Expression
+    Load : (type : CType) (place : Place) (bounds : Option PointerBounds) → Expression
     -- a pointer to a cell
-    AddressOf : (place : Place) → Expression
+    AddressOf : (place : Place) (bounds : Option PointerBounds) → Expression
     Negate : (operand : Expression) (site : Site) → Expression
     Complement : (operand : Expression) → Expression
     -- 1 where a scalar is 0 or null, and else 0
@@ -36,7 +40,7 @@ mutual
     -- a number modulo 256
     LowByte : (operand : Expression) → Expression
     -- a call with a result
-    Call : (callee : Callee) (arguments : Arguments) → Expression
+    Call : (callee : Callee) (arguments : Arguments) (bounds : Option PointerBounds) → Expression
     NextInput : Expression
 
   -- the arguments of a call, from left to right
@@ -44,11 +48,10 @@ mutual
     Done : Arguments
     More : (first : Expression) (rest : Arguments) → Arguments
 
-  -- where a cell stands: so many bytes behind the first one of a file-level variable, or behind the place that a pointer leads to,
-  -- which isn't null (C1)
+  -- where a cell stands: so many bytes behind the first one of a file-level variable, or of an element that a pointer leads to
   pub data Place : Type 0 where
     Direct : (object offset : ℕ) → Place
-    Through : (pointer : Expression) (offset : ℕ) (site : Site) → Place
+    Through : (pointer : Expression) (index : Index) (offset : ℕ) (site : Site) → Place
 
 mutual
   -- a statement
@@ -83,33 +86,12 @@ abbrev pub count : Arguments → ℕ
 count Done = 0
 count (More first rest) = suc (count rest)
 
--- a trusted function: how many of its locals are parameters, the types of all of them, what it returns, and its body
-pub record Function : Type 0 where
-  pub name : List ℕ
-  pub parameters : ℕ
-  pub locals : List CType
-  pub result : Option CType
-  pub body : Statements
+abbrev pub Function : Type 0
+Function = FunctionOf Statements
 
--- a tainted function: its name, how many parameters it has, and what it returns
-pub record Import : Type 0 where
-  pub name : List ℕ
-  pub parameters : ℕ
-  pub result : Option CType
-
--- a cell of a file-level variable before the run: its type, the bytes from its first one to that of the next cell, or to the
--- variable's end, and its number; a pointer is null
-pub record Initial : Type 0 where
-  pub type : CType
-  pub stride : ℕ
-  pub number : ℤ
-
--- a whole program: its file-level variables, each with its cells, its functions, and the number of `main`
-pub record Core : Type 0 where
-  pub objects : List (List Initial)
-  pub imports : List Import
-  pub functions : List Function
-  pub main : ℕ
+-- a whole program
+abbrev pub Core : Type 0
+Core = ProgramOf Statements
 
 -- ---- the views from the types of the code
 
@@ -118,9 +100,9 @@ abbrev mutual
   pub expression : code.Expr.Expr → Expression
   expression (exprs.Number number) = Number number
   expression exprs.Null = Null
-  expression (exprs.Local local) = Local local
-  expression (exprs.Load type cell) = Load (ctype type) (place cell)
-  expression (exprs.AddressOf cell) = AddressOf (place cell)
+  expression (exprs.Local local bounds) = Local local bounds
+  expression (exprs.Load type cell bounds) = Load (ctype type) (place cell) bounds
+  expression (exprs.AddressOf cell bounds) = AddressOf (place cell) bounds
   expression (exprs.Negate' p operand site) = Negate (expression operand) site
   expression (exprs.Complement' p operand) = Complement (expression operand)
   expression (exprs.Not' p operand) = Not (expression operand)
@@ -130,7 +112,7 @@ abbrev mutual
   expression (exprs.AndAlso' p left q right) = AndAlso (expression left) (expression right)
   expression (exprs.OrElse' p left q right) = OrElse (expression left) (expression right)
   expression (exprs.LowByte' p operand) = LowByte (expression operand)
-  expression (exprs.Call' callee shape row) = Call callee (arguments row)
+  expression (exprs.Call' callee shape row bounds) = Call callee (arguments row) bounds
   expression exprs.NextInput = NextInput
 
   pub arguments : {m : _} → Row_of-Expr m → Arguments
@@ -139,7 +121,7 @@ abbrev mutual
 
   pub place : code.CellPlace.CellPlace → Place
   place (places.Direct object offset) = Direct object offset
-  place (places.Through' p pointer offset site) = Through (expression pointer) offset site
+  place (places.Through' p pointer index offset site) = Through (expression pointer) index offset site
 
 -- the arguments in a slice
 abbrev pub arguments_of : List code.Expr.Expr → Arguments

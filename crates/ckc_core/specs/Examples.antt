@@ -1,9 +1,9 @@
 -- Small programs, written down as plain data.
-use Rattle.std.specs.Prelude.{◌≡◌, ℕ, List, [], ◌∷◌, Some, None, codes, pos, replicate}
+use Rattle.std.specs.Prelude.{◌≡◌, ℕ, true, List, [], ◌∷◌, Option, Some, None, codes, pos, replicate}
 use Rattle.act_words.specs.declared.ending.Ending.{Ending}
 use Rattle.act_words.specs.declared.ending.Ending.TheVariants.{Exit, Check, Stop}
 use Rattle.ckc_text.specs.declared.code.Code.TheVariants.{C6, S1, S2}
-use Rattle.ckc_core.specs.Outcome.{Outcome, Gives, Ends, Stuck, Short}
+use Rattle.ckc_core.specs.Outcome.{Outcome, Gives, Ends, Stuck, Unsound, Short}
 use Rattle.pointer_modes.specs.declared.ctype.Mode.TheVariants as modes
 use Rattle.pointer_modes.specs.declared.ctype.Kind.TheVariants as kinds
 use Rattle.pointer_modes.specs.Types.{CType, Int, Char, Struct, Pointer}
@@ -14,24 +14,40 @@ use Rattle.act_words.specs.declared.operator.Operator.TheVariants as operators
 use Rattle.act_words.specs.declared.operator.Comparison.TheVariants as comparisons
 use Rattle.ckc_core.specs.declared.program.Callee.TheVariants as callees
 use Rattle.ckc_core.specs.Core
+use Rattle.ckc_core.specs.declared.program.Index.TheVariants as indexes
+use Rattle.ckc_core.specs.declared.program.PointerBounds.{PointerBounds}
+use Rattle.bounds_exprs.specs.Normal.{constant}
+use Rattle.ckc_core.specs.Programs.{Initial}
 use Rattle.ckc_core.specs.Core.{Core, Expression, Statement, Statements, Function}
 use Rattle.ckc_core.specs.States.{State}
-use Rattle.ckc_core.specs.Meaning.{run_from, initial}
+use Rattle.ckc_core.specs.Steps.{initial}
+use Rattle.ckc_core.specs.Meaning.{run_from}
 
 abbrev pub site : ℕ → ℕ → Site
 site line col = record { place = record { line = line; col = col } }
+
+-- the bounds of a `ptr` whose element has so many bytes
+abbrev pub one_of : ℕ → Option PointerBounds
+one_of size = Some (record { bounds = record { base = None; lo = constant (pos 0); hi = constant (pos 1) }; size = size; site = site 1 1 })
+
+abbrev pub int_local : ℕ → Expression
+int_local local = Core.Local local None
+
+abbrev pub int_in : ℕ → Expression
+int_in object = Core.Load Int (Core.Direct object 0) None
 
 abbrev pub world : World
 world = new_world (replicate 64 0) 16 [] []
 
 -- the run of a program with a budget, in which the sandbox ends at once
 abbrev pub runs : Core → ℕ → Outcome State (Unit {0})
-runs program budget = run_from (record { program = program; budget = budget; sandbox = 64; trusted = 64 }) (initial program world)
+runs program budget = run_from true (record { program = program; budget = budget; sandbox = 64; trusted = 64 }) (initial program world)
 
 abbrev pub ends_as : Outcome State (Unit {0}) → Ending → Type 0
 ends_as (Gives value s) ending = ⊥
 ends_as (Ends how s) ending = how ≡ ending
 ends_as (Stuck site s) ending = ⊥
+ends_as (Unsound site s) ending = ⊥
 ends_as Short ending = ⊥
 
 abbrev pub body : List Statement → Statements
@@ -41,22 +57,22 @@ body (s ∷ others) = Core.Then s (body others)
 abbrev pub main_with : List CType → List Statement → Function
 main_with locals statements = record { name = codes "main"; parameters = 0; locals = locals; result = Some Int; body = body statements }
 
-abbrev pub one : List CType → List (List Core.Initial) → List Statement → Core
+abbrev pub one : List CType → List (List Initial) → List Statement → Core
 one locals objects statements = record { objects = objects; imports = []; functions = main_with locals statements ∷ []; main = 0 }
 
 abbrev pub number : ℕ → Expression
 number n = Core.Number (pos n)
 
-abbrev pub int_cell : ℕ → Core.Initial
+abbrev pub int_cell : ℕ → Initial
 int_cell n = record { type = Int; stride = 4; number = pos n }
 
 -- int g = 1; int main(void) { ptr<int> p = &g; *p = 41; return g + 1; }
 abbrev pub first_run : Core
 first_run =
     one (Pointer modes.Checked kinds.One Int ∷ []) ((int_cell 1 ∷ []) ∷ [])
-    (Core.SetLocal 0 (Core.AddressOf (Core.Direct 0 0))
-    ∷ (Core.Store Int (Core.Through (Core.Local 0) 0 (site 1 46)) (number 41)
-    ∷ (Core.Return (Core.Arithmetic (operators.Arithmetic arithmetics.Add) (Core.Load Int (Core.Direct 0 0)) (number 1) (site 1 62)) ∷ [])))
+    (Core.SetLocal 0 (Core.AddressOf (Core.Direct 0 0) (one_of 4))
+    ∷ (Core.Store Int (Core.Through (Core.Local 0 (one_of 4)) indexes.First 0 (site 1 46)) (number 41)
+    ∷ (Core.Return (Core.Arithmetic (operators.Arithmetic arithmetics.Add) (int_in 0) (number 1) (site 1 62)) ∷ [])))
 
 abbrev pub first_run_ends : Type 0
 first_run_ends = ends_as (runs first_run 100) (Exit (pos 42))
@@ -68,7 +84,7 @@ overflow_ends =
     (runs
     (one (Int ∷ []) []
     (Core.SetLocal 0 (number 2147483647)
-    ∷ (Core.SetLocal 0 (Core.Arithmetic (operators.Arithmetic arithmetics.Add) (Core.Local 0) (number 1) (site 1 42)) ∷ (Core.Return (number 0) ∷ []))))
+    ∷ (Core.SetLocal 0 (Core.Arithmetic (operators.Arithmetic arithmetics.Add) (int_local 0) (number 1) (site 1 42)) ∷ (Core.Return (number 0) ∷ []))))
     100)
     (Check C6 (record { line = 1; col = 42 }))
 
@@ -77,9 +93,9 @@ abbrev pub counting : Core
 counting =
     one (Int ∷ []) []
     (Core.SetLocal 0 (number 0)
-    ∷ (Core.Loop (Core.Compare comparisons.Less (Core.Local 0) (number 3))
-    (Core.SetLocal 0 (Core.Arithmetic (operators.Arithmetic arithmetics.Add) (Core.Local 0) (number 1) (site 1 46))) Core.Nothing
-    ∷ (Core.Return (Core.Local 0) ∷ [])))
+    ∷ (Core.Loop (Core.Compare comparisons.Less (int_local 0) (number 3))
+    (Core.SetLocal 0 (Core.Arithmetic (operators.Arithmetic arithmetics.Add) (int_local 0) (number 1) (site 1 46))) Core.Nothing
+    ∷ (Core.Return (int_local 0) ∷ [])))
 
 abbrev pub loop_ends : Type 0
 loop_ends = ends_as (runs counting 3) (Exit (pos 3))
@@ -100,9 +116,9 @@ falling =
             locals = Int
                 ∷ [];
             result = Some Int;
-            body = body (Core.Return (Core.Call (callees.Trusted 0) (Core.More (Core.Local 0) Core.Done)) ∷ []);
+            body = body (Core.Return (Core.Call (callees.Trusted 0) (Core.More (int_local 0) Core.Done) None) ∷ []);
           })
-          ∷ (main_with [] (Core.Return (Core.Call (callees.Trusted 0) (Core.More (number 0) Core.Done)) ∷ []) ∷ []);
+          ∷ (main_with [] (Core.Return (Core.Call (callees.Trusted 0) (Core.More (number 0) Core.Done) None) ∷ []) ∷ []);
       main = 1;
     }
 
@@ -113,11 +129,11 @@ depth_and_budget = ends_as (runs falling 1000) (Stop S2 None) × ends_as (runs f
 abbrev pub members : Core
 members =
     (one (Pointer modes.Checked kinds.One (Struct 0) ∷ []) (((record { type = Char; stride = 4; number = pos 0 }) ∷ (int_cell 0 ∷ [])) ∷ [])
-    (Core.SetLocal 0 (Core.AddressOf (Core.Direct 0 0))
-    ∷ (Core.Store Int (Core.Through (Core.Local 0) 4 (site 3 40)) (number 7)
+    (Core.SetLocal 0 (Core.AddressOf (Core.Direct 0 0) (one_of 8))
+    ∷ (Core.Store Int (Core.Through (Core.Local 0 (one_of 8)) indexes.First 4 (site 3 40)) (number 7)
     ∷ (Core.Store Char (Core.Direct 0 0) (Core.LowByte (number 300))
-    ∷ (Core.Return (Core.Arithmetic (operators.Arithmetic arithmetics.Add) (Core.Load Int (Core.Through (Core.Local 0) 4 (site 3 65)))
-    (Core.Load Char (Core.Direct 0 0)) (site 3 65)) ∷ [])))))
+    ∷ (Core.Return (Core.Arithmetic (operators.Arithmetic arithmetics.Add) (Core.Load Int (Core.Through (Core.Local 0 (one_of 8)) indexes.First 4 (site 3 65)) None)
+    (Core.Load Char (Core.Direct 0 0) None) (site 3 65)) ∷ [])))))
 
 abbrev pub struct_ends : Type 0
 struct_ends = ends_as (runs members 100) (Exit (pos 51))

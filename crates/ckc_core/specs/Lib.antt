@@ -1,7 +1,10 @@
+pub mod Programs
 pub mod Core
 pub mod States
-pub mod Meaning
+pub mod Bounds
 pub mod Outcome
+pub mod Steps
+pub mod Meaning
 pub mod Stacks
 pub mod Weights
 pub mod Examples

@@ -1,482 +1,192 @@
--- What a program means: values with places, each check at its place, and stuck where nothing is meant.
-use Rattle.std.specs.Prelude.{ℕ, zero, ◌+◌, ◌%◌, Bool, true, false, not, ◌&&◌, ◌==◌, List, [], ◌∷◌, Option, Some, None, option_map}
-use Rattle.std.specs.Prelude.{suc, ◌||◌, slice_get, slice_set, nat_lt, length, map, take, replicate, pos}
+-- What a program means: pointers with their ends, each check at its site, and stuck where nothing is meant. Where the meaning is
+-- audited, a pointer that isn't valid with its bounds ends the run as unsound.
+use Rattle.std.specs.Prelude.{ℕ, zero, suc, ◌+◌, Bool, true, false, not, ◌||◌, List, [], ◌∷◌, Option, Some, None, slice_get, replicate, pos}
 use Rattle.std.proofs.Common.{ℤ}
-use Rattle.ckc_text.specs.declared.code.Code.TheVariants.{C1, C9, S5}
-use Rattle.act_words.specs.declared.ending.Ending.TheVariants.{Check, Exit}
+use Rattle.ckc_text.specs.declared.code.Code.TheVariants.{C1}
+use Rattle.act_words.specs.declared.ending.Ending.TheVariants.{Check}
 use Rattle.act_words.specs.declared.settings.Settings.{Settings}
-use Rattle.act_words.specs.Acts.{Act, Passed}
-use Rattle.act_words.specs.Acting.{stopped_by_act}
-use Rattle.ckc_core.specs.Outcome.{Outcome, Gives, Ends, Stuck, Short, and_then}
-use Rattle.act_words.specs.Numbers.{signed, word, number_line}
-use Rattle.act_words.specs.Checks.{Checked, Holds, Fails, is_word_number}
+use Rattle.act_words.specs.Acts.{Act}
+use Rattle.act_words.specs.Checks.{is_word_number}
+use Rattle.act_words.specs.World.{new_world}
+use Rattle.act_words.specs.Touches.{spend_tick, next_input, until_return}
 use Rattle.flat_bytes.specs.Blocks.{first_offset}
-use Rattle.pointer_modes.specs.Types.{CType, Int, Char, Struct, Pointer}
-use Rattle.act_words.specs.Arithmetic as arithmetic
-use Rattle.act_words.specs.World.{World, new_world}
-use Rattle.act_words.specs.Touches.{Asked, Got, Ended, Crossed, spend_tick, enter_call, next_input, write, touch, until_return}
 use Rattle.ckc_core.specs.declared.program.Site.{Site}
-use Rattle.act_words.specs.declared.operator.Operator.{Operator}
-use Rattle.act_words.specs.declared.operator.Operator.TheVariants as operators
-use Rattle.act_words.specs.declared.operator.Comparison.{Comparison}
-use Rattle.act_words.specs.Operators.{arithmetic_result, bitwise_result, holds}
-use Rattle.ckc_core.specs.declared.program.Callee.{Callee}
-use Rattle.ckc_core.specs.declared.program.Callee.TheVariants as callees
+use Rattle.ckc_core.specs.declared.program.Index.{Index}
+use Rattle.ckc_core.specs.declared.program.Index.TheVariants as indexes
+use Rattle.ckc_core.specs.declared.program.PointerBounds.{PointerBounds}
+use Rattle.ckc_core.specs.Outcome.{Gives, Ends, Stuck, Unsound, Short, and_then}
 use Rattle.ckc_core.specs.Core as core
-use Rattle.ckc_core.specs.States.{Value, Number, Null, At, Cell, Block, Local, State, in_world, cell_at, stored, strides, number_at, same_type, has_type}
-use Rattle.ckc_core.specs.States.{zero_of, object_block}
+use Rattle.ckc_core.specs.States.{Value, Number, Null, At, State}
+use Rattle.ckc_core.specs.Bounds.{Pointed, with_ends, is_valid}
+use Rattle.ckc_core.specs.Steps.{Result, Flow, Next, Broke, Continued, Returned, KnotOf, SettingOf, setting_of, given, value_if, place_at, load_at, pointer_to}
+use Rattle.ckc_core.specs.Steps.{truth, number_of_test, same_place, test_given, arithmetic_of, compared, negated, complemented, low_byte_of, asked, crossed}
+use Rattle.ckc_core.specs.Steps.{back, called, result_given, choose, store_at, set_local, kept_if, is_char, printed, put, on_next, behind_turn, no_result}
+use Rattle.ckc_core.specs.Steps.{fit, parameters_of, answer, locals_for, exit, initial}
 
--- the outcome of a step of the meaning
-abbrev pub Result : Type 0 → Type 0
-Result A = Outcome State A
+abbrev pub Knot : Type 0
+Knot = KnotOf core.Expression core.Statement
 
--- how a statement ends
-pub data Flow : Type 0 where
-  Next : Flow
-  Broke : Flow
-  Continued : Flow
-  Returned : (value : Option Value) → Flow
+abbrev pub Setting : Type 0
+Setting = SettingOf core.Statements
 
--- What is no recursion on the tree, each behind a tick: a call of a function, whose result may be nothing, and a further turn
--- of a loop. Behind the tick of a tainted call the sandbox has the turn.
-pub record Knot : Type 0 where
-  pub call : ℕ → List Value → State → Result (Option Value)
-  pub turn : core.Expression → core.Statement → core.Statement → State → Result Flow
-  -- the sandbox goes on from here until the innermost tainted call ends
-  pub sandbox : State → Result ℕ
+-- ---- pointers
 
--- what all of a run knows: the program, its budget, and the sizes of both memories
-pub record Setting : Type 0 where
-  pub program : core.Core
-  pub budget : ℕ
-  pub sandbox : ℕ
-  pub trusted : ℕ
+-- the bounds at the node of a pointer
+abbrev pub bounds_of : core.Expression → Option PointerBounds
+bounds_of (core.Number number) = None
+bounds_of core.Null = None
+bounds_of (core.Local local bounds) = bounds
+bounds_of (core.Load type place bounds) = bounds
+bounds_of (core.AddressOf place bounds) = bounds
+bounds_of (core.Negate operand site) = None
+bounds_of (core.Complement operand) = None
+bounds_of (core.Not operand) = None
+bounds_of (core.Arithmetic operator left right site) = None
+bounds_of (core.Compare comparison left right) = None
+bounds_of (core.Same left right) = None
+bounds_of (core.AndAlso left right) = None
+bounds_of (core.OrElse left right) = None
+bounds_of (core.LowByte operand) = None
+bounds_of (core.Call callee arguments bounds) = bounds
+bounds_of core.NextInput = None
 
-abbrev pub setting_of : core.Core → Settings → Setting
-setting_of program settings = record { program = program; budget = settings.budget; sandbox = settings.sandbox; trusted = settings.trusted }
+abbrev pub sound_if : Bool → Site → Value → State → Result Value
+sound_if true site value s = Gives value s
+sound_if false site value s = Unsound site s
 
--- ---- values
-
-abbrev pub given : Option Local → State → Result Value
-given None s = Stuck None s
-given (Some local) s = Gives local.value s
-
--- a check's number, or its ending
-abbrev pub checked : Checked ℤ → State → Result Value
-checked (Holds number) s = Gives (Number number) s
-checked (Fails ending) s = Ends ending s
-
-abbrev pub value_if : Bool → Option Site → Value → State → Result Value
-value_if true site value s = Gives value s
-value_if false site value s = Stuck site s
-
--- the value of a cell of the type that is asked for
-abbrev pub value_in : CType → Option Site → Option Cell → State → Result Value
-value_in type site None s = Stuck site s
-value_in type site (Some cell) s = value_if (same_type type cell.type) site cell.value s
-
--- a place where a cell begins
-abbrev pub place_if : Option Cell → Option Site → ℕ → ℕ → State → Result (ℕ × ℕ)
-place_if None site block byte s = Stuck site s
-place_if (Some cell) site block byte s = Gives (block, byte) s
-
-abbrev pub place_at : Option Site → ℕ → ℕ → State → Result (ℕ × ℕ)
-place_at site block byte s = place_if (cell_at s.blocks block byte) site block byte s
-
--- what a place is, behind the check of its pointer (C1): so many bytes behind the one that the pointer leads to
-abbrev pub place_through : ℕ → Site → Value → State → Result (ℕ × ℕ)
-place_through offset site (Number number) s = Stuck (Some site) s
-place_through offset site Null s = Ends (Check C1 site.place) s
-place_through offset site (At block byte) s = place_at (Some site) block (byte + offset) s
+-- audited, a pointer is valid with its bounds, or ends the run at its site
+abbrev pub audit : Bool → Option PointerBounds → Value → State → Result Value
+audit audited None value s = Gives value s
+audit audited (Some p) value s = sound_if (not audited || is_valid p value s) p.site value s
 
 -- where an access through a pointer stands
 abbrev pub site_of : core.Place → Option Site
 site_of (core.Direct object offset) = None
-site_of (core.Through pointer offset site) = Some site
+site_of (core.Through pointer index offset site) = Some site
 
-abbrev pub load_at : CType → Option Site → ℕ × ℕ → State → Result Value
-load_at type site place s = value_in type site (cell_at s.blocks place.0 place.1) s
+-- the place of an element, behind the check of the pointer (C1): so many bytes behind the one that the pointer leads to
+abbrev pub element : ℕ → Site → Value → State → Result (ℕ × ℕ)
+element offset site (Number number) s = Stuck (Some site) s
+element offset site Null s = Ends (Check C1 site.place) s
+element offset site (At block byte) s = place_at (Some site) block (byte + offset) s
 
-abbrev pub pointer_to : ℕ × ℕ → State → Result Value
-pointer_to place s = Gives (At place.0 place.1) s
+abbrev pub reached : Index → ℕ → Site → Pointed → State → Result (ℕ × ℕ)
+reached indexes.First offset site p s = element offset site p.value s
 
--- a scalar as a condition: a number that isn't 0, or a pointer that isn't null
-abbrev pub truth : Value → Bool
-truth (Number number) = not (arithmetic.is_zero number)
-truth Null = false
-truth (At block byte) = true
+abbrev pub without_ends : ℕ × ℕ → Pointed
+without_ends place = record { value = At place.0 place.1; ends = None }
 
-abbrev pub number_of_test : Bool → Value
-number_of_test true = Number (pos 1)
-number_of_test false = Number (pos 0)
-
-abbrev pub same_place : Value → Value → Option Bool
-same_place (Number a) b = None
-same_place a (Number b) = None
-same_place Null Null = Some true
-same_place Null (At block byte) = Some false
-same_place (At block byte) Null = Some false
-same_place (At block byte) (At block' byte') = Some (block == block' && byte == byte')
-
-abbrev pub test_given : Option Bool → State → Result Value
-test_given None s = Stuck None s
-test_given (Some test) s = Gives (number_of_test test) s
-
--- an operator on two numbers, with its checks
-abbrev pub result_of : Operator → Site → ℤ → ℤ → Checked ℤ
-result_of (operators.Arithmetic operator) site a b = arithmetic_result operator site.place a b
-result_of (operators.Bitwise operator) site a b = Holds (signed (bitwise_result operator (word a) (word b)))
-
-abbrev pub arithmetic_of : Operator → Site → Value → Value → State → Result Value
-arithmetic_of operator site (Number a) (Number b) s = checked (result_of operator site a b) s
-arithmetic_of operator site _ _ s = Stuck (Some site) s
-
-abbrev pub compared : Comparison → Value → Value → State → Result Value
-compared comparison (Number a) (Number b) s = Gives (number_of_test (holds comparison a b)) s
-compared comparison _ _ s = Stuck None s
-
-abbrev pub negated : Site → Value → State → Result Value
-negated site (Number b) s = checked (arithmetic.negation site.place b) s
-negated site _ s = Stuck (Some site) s
-
-abbrev pub complemented : Value → State → Result Value
-complemented (Number b) s = Gives (Number (signed (arithmetic.complement (word b)))) s
-complemented _ s = Stuck None s
-
--- a number modulo 256
-abbrev pub low_byte : ℤ → ℤ
-low_byte number = pos (word number % 256)
-
-abbrev pub low_byte_of : Value → State → Result Value
-low_byte_of (Number b) s = Gives (Number (low_byte b)) s
-low_byte_of _ s = Stuck None s
-
--- goes on from what the world gave, or ends with it
-abbrev pub asked : {A B : Type 0} → Asked A → State → (A → State → Result B) → Result B
-asked (Got answer w) s next = next answer (in_world w s)
-asked (Ended ending w) s next = Ends ending (in_world w s)
-
--- ---- calls
-
--- the words of numbers
-abbrev pub words_of : List Value → Option (List ℕ)
-words_of [] = Some []
-words_of (Number number ∷ values) = option_map (λ more. word number ∷ more) (words_of values)
-words_of (Null ∷ values) = None
-words_of (At block byte ∷ values) = None
-
--- a word that came back stands for a number, and nothing is there where no result is (C9)
-abbrev pub reply_as : Option CType → Site → ℕ → State → Result (Option Value)
-reply_as None site reply s = Gives None s
-reply_as (Some Int) site reply s = Gives (Some (Number (signed reply))) s
-reply_as (Some Char) site reply s = char_if (nat_lt reply 256)
-  where
-    char_if : Bool → Result (Option Value)
-    char_if true = Gives (Some (Number (signed reply))) s
-    char_if false = Ends (Check C9 site.place) s
-reply_as (Some (Struct number)) site reply s = Stuck (Some site) s
-reply_as (Some (Pointer mode kind target)) site reply s = Stuck (Some site) s
-
--- back in the function that called, with its own locals
-abbrev pub back : {A : Type 0} → State → A → State → Result A
-back before v after = Gives v (record after { locals = before.locals; depth = before.depth })
-
--- the sandbox has the turn until the call ends: it counts among the open ones
-abbrev pub passed : Knot → core.Import → Site → State → Result (Option Value)
-passed k i site s = and_then (and_then (k.sandbox (record s { depth = s.depth + 1 })) (back s)) (reply_as i.result site)
-
--- behind the tick and the test of the depth, the words are passed by a touch
-abbrev pub cross : Setting → Knot → ℕ → core.Import → Site → Option (List ℕ) → State → Result (Option Value)
-cross g k import i site None s = Stuck (Some site) s
-cross g k import i site (Some words) s =
-    asked (spend_tick g.budget s.world) s (λ _ t. asked (enter_call t.depth t.world) t
-    (λ _ u. asked (touch (Passed import words) u.world) u (λ _ v. passed k i site v)))
-
-abbrev pub cross_if : Bool → Setting → Knot → ℕ → core.Import → Site → List Value → State → Result (Option Value)
-cross_if true g k import i site values s = cross g k import i site (words_of values) s
-cross_if false g k import i site values s = Stuck (Some site) s
-
--- a call of a tainted function that is there and takes as many arguments
-abbrev pub call_tainted : Setting → Knot → ℕ → Option core.Import → Site → List Value → State → Result (Option Value)
-call_tainted g k import None site values s = Stuck (Some site) s
-call_tainted g k import (Some i) site values s = cross_if (i.parameters == length values) g k import i site values s
-
--- what acts in the sandbox's turn came to; there are no callbacks
-abbrev pub crossed : Crossed → State → Result ℕ
-crossed (Crossed.Returned word w) s = Gives word (in_world w s)
-crossed (Crossed.Called fun words w) s = Ends (stopped_by_act S5 w) (in_world w s)
-crossed (Crossed.Over ending w) s = Ends ending (in_world w s)
-
--- there are as many values as types, each of its type
-abbrev pub fit : List CType → List Value → Bool
-fit [] [] = true
-fit [] (value ∷ values) = false
-fit (type ∷ types) [] = false
-fit (type ∷ types) (value ∷ values) = has_type type value && fit types values
-
--- the types of a function's parameters
-abbrev pub parameters_of : core.Function → List CType
-parameters_of f = take f.parameters f.locals
-
--- a function that is there takes these arguments
-abbrev pub takes : Option core.Function → List Value → Bool
-takes None values = false
-takes (Some f) values = fit (parameters_of f) values
-
-abbrev pub enter_if : Bool → Setting → Knot → ℕ → List Value → State → Result (Option Value)
-enter_if true g k function values s = asked (spend_tick g.budget s.world) s (λ _ t. asked (enter_call t.depth t.world) t (λ _ u. k.call function values u))
-enter_if false g k function values s = Stuck None s
-
--- a call of a trusted function that is there and takes the arguments: its tick, its depth, and then the function
-abbrev pub call_trusted : Setting → Knot → ℕ → List Value → State → Result (Option Value)
-call_trusted g k function values s = enter_if (takes (slice_get g.program.functions function) values) g k function values s
-
--- what a call comes to
-abbrev pub called : Setting → Knot → Callee → List Value → State → Result (Option Value)
-called g k (callees.Trusted function) values s = call_trusted g k function values s
-called g k (callees.Tainted import site) values s = call_tainted g k import (slice_get g.program.imports import) site values s
-
--- the result of a call that has one
-abbrev pub result_given : Option Value → State → Result Value
-result_given None s = Stuck None s
-result_given (Some value) s = Gives value s
-
-abbrev pub choose : {A : Type 0} → Bool → Result A → Result A → Result A
-choose true first second = first
-choose false first second = second
+-- ---- expressions
 
 abbrev mutual
   -- the value of an expression, from left to right
-  pub value : Setting → Knot → core.Expression → State → Result Value
-  value g k (core.Number number) s = value_if (is_word_number number) None (Number number) s
-  value g k core.Null s = Gives Null s
-  value g k (core.Local local) s = given (slice_get s.locals local) s
-  value g k (core.Load type p) s = and_then (place g k p s) (load_at type (site_of p))
-  value g k (core.AddressOf p) s = and_then (place g k p s) pointer_to
-  value g k (core.Negate operand site) s = and_then (value g k operand s) (negated site)
-  value g k (core.Complement operand) s = and_then (value g k operand s) complemented
-  value g k (core.Not operand) s = and_then (value g k operand s) (λ v t. Gives (number_of_test (not (truth v))) t)
-  value g k (core.Arithmetic operator left right site) s = and_then (value g k left s) (λ a t. and_then (value g k right t) (arithmetic_of operator site a))
-  value g k (core.Compare comparison left right) s = and_then (value g k left s) (λ a t. and_then (value g k right t) (compared comparison a))
-  value g k (core.Same left right) s = and_then (value g k left s) (λ a t. and_then (value g k right t) (λ b u. test_given (same_place a b) u))
-  value g k (core.AndAlso left right) s =
-      and_then (value g k left s) (λ a t. choose (truth a) (and_then (value g k right t) (λ b u. Gives (number_of_test (truth b)) u))
+  pub value : Bool → Setting → Knot → core.Expression → State → Result Value
+  value audited g k (core.Number number) s = value_if (is_word_number number) None (Number number) s
+  value audited g k core.Null s = Gives Null s
+  value audited g k (core.Local local bounds) s = and_then (given (slice_get s.locals local) s) (audit audited bounds)
+  value audited g k (core.Load type p bounds) s = and_then (and_then (place audited g k p s) (load_at type (site_of p))) (audit audited bounds)
+  value audited g k (core.AddressOf p bounds) s = and_then (and_then (place audited g k p s) pointer_to) (audit audited bounds)
+  value audited g k (core.Negate operand site) s = and_then (value audited g k operand s) (negated site)
+  value audited g k (core.Complement operand) s = and_then (value audited g k operand s) complemented
+  value audited g k (core.Not operand) s = and_then (value audited g k operand s) (λ v t. Gives (number_of_test (not (truth v))) t)
+  value audited g k (core.Arithmetic operator left right site) s = and_then (value audited g k left s) (λ a t. and_then (value audited g k right t) (arithmetic_of operator site a))
+  value audited g k (core.Compare comparison left right) s = and_then (value audited g k left s) (λ a t. and_then (value audited g k right t) (compared comparison a))
+  value audited g k (core.Same left right) s = and_then (value audited g k left s) (λ a t. and_then (value audited g k right t) (λ b u. test_given (same_place a b) u))
+  value audited g k (core.AndAlso left right) s =
+      and_then (value audited g k left s) (λ a t. choose (truth a) (and_then (value audited g k right t) (λ b u. Gives (number_of_test (truth b)) u))
       (Gives (number_of_test false) t))
-  value g k (core.OrElse left right) s =
-      and_then (value g k left s) (λ a t. choose (truth a) (Gives (number_of_test true) t)
-      (and_then (value g k right t) (λ b u. Gives (number_of_test (truth b)) u)))
-  value g k (core.LowByte operand) s = and_then (value g k operand s) low_byte_of
-  value g k (core.Call callee arguments) s = and_then (values g k arguments s) (λ vs t. and_then (called g k callee vs t) result_given)
-  value g k core.NextInput s = asked (next_input s.world) s (λ number t. Gives (Number number) t)
+  value audited g k (core.OrElse left right) s =
+      and_then (value audited g k left s) (λ a t. choose (truth a) (Gives (number_of_test true) t)
+      (and_then (value audited g k right t) (λ b u. Gives (number_of_test (truth b)) u)))
+  value audited g k (core.LowByte operand) s = and_then (value audited g k operand s) low_byte_of
+  value audited g k (core.Call callee arguments bounds) s =
+      and_then (values audited g k arguments s) (λ vs t. and_then (and_then (called g k callee vs t) result_given) (audit audited bounds))
+  value audited g k core.NextInput s = asked (next_input s.world) s (λ number t. Gives (Number number) t)
 
   -- the values of arguments, from left to right
-  pub values : Setting → Knot → core.Arguments → State → Result (List Value)
-  values g k core.Done s = Gives [] s
-  values g k (core.More first rest) s = and_then (value g k first s) (λ v t. and_then (values g k rest t) (λ vs u. Gives (v ∷ vs) u))
+  pub values : Bool → Setting → Knot → core.Arguments → State → Result (List Value)
+  values audited g k core.Done s = Gives [] s
+  values audited g k (core.More first rest) s = and_then (value audited g k first s) (λ v t. and_then (values audited g k rest t) (λ vs u. Gives (v ∷ vs) u))
 
   -- where a cell stands
-  pub place : Setting → Knot → core.Place → State → Result (ℕ × ℕ)
-  place g k (core.Direct object offset) s = place_at None object offset s
-  place g k (core.Through pointer offset site) s = and_then (value g k pointer s) (place_through offset site)
+  pub place : Bool → Setting → Knot → core.Place → State → Result (ℕ × ℕ)
+  place audited g k (core.Direct object offset) s = place_at None object offset s
+  place audited g k (core.Through pointer index offset site) s =
+      and_then (value audited g k pointer s) (λ v t. reached index offset site (with_ends (bounds_of pointer) v t.locals) t)
 
--- ---- stores
-
--- the value is 0
-abbrev pub is_zero : Value → Bool
-is_zero (Number number) = arithmetic.is_zero number
-is_zero Null = true
-is_zero (At block byte) = false
-
-abbrev is_number : Option ℕ → ℕ → Bool
-is_number None number = false
-is_number (Some n) number = n == number
-
--- the cell that begins at a byte is the block's last one
-abbrev pub is_last : Block → ℕ → Bool
-is_last b byte = is_number (option_map (λ number. suc number) (number_at (strides b.cells) byte)) (length b.cells)
-
--- a zero that ends a block stays there
-abbrev pub leaves_zero : Option Block → ℕ → Value → Bool
-leaves_zero None byte value = false
-leaves_zero (Some b) byte value = not b.zero_ended || (is_zero value || not (is_last b byte))
-
--- puts a value into a cell, where both are of the type that is asked for
-abbrev pub store_if : Bool → Option Site → ℕ → ℕ → Value → State → Result Flow
-store_if true site block byte value s = Gives Next (record s { blocks = stored s.blocks block byte value })
-store_if false site block byte value s = Stuck site s
-
-abbrev pub store_over : Option Cell → CType → Option Site → Value → ℕ → ℕ → State → Result Flow
-store_over None type site value block byte s = Stuck site s
-store_over (Some old) type site value block byte s =
-    store_if (same_type type old.type && (has_type type value && leaves_zero (slice_get s.blocks block) byte value)) site block byte value s
-
-abbrev pub store_at : CType → Option Site → ℕ × ℕ → Value → State → Result Flow
-store_at type site place value s = store_over (cell_at s.blocks place.0 place.1) type site value place.0 place.1 s
-
-abbrev pub set_if : Bool → Local → ℕ → Value → State → Result Flow
-set_if true old local value s = Gives Next (record s { locals = slice_set s.locals local (record old { value = value }) })
-set_if false old local value s = Stuck None s
-
-abbrev pub set_over : Option Local → ℕ → Value → State → Result Flow
-set_over None local value s = Stuck None s
-set_over (Some old) local value s = set_if (has_type old.type value) old local value s
-
--- puts a value into a local variable that is there, and whose type it has
-abbrev pub set_local : ℕ → Value → State → Result Flow
-set_local local value s = set_over (slice_get s.locals local) local value s
+-- a pointer with its ends at that moment
+abbrev pub pointed : Bool → Setting → Knot → core.Expression → State → Result Pointed
+pointed audited g k e s = and_then (value audited g k e s) (λ v t. Gives (with_ends (bounds_of e) v t.locals) t)
 
 -- A store evaluates its pointer, then its value, and makes its checks behind both. A file-level variable is there before.
-abbrev pub pointer_of : Setting → Knot → core.Place → State → Result Value
-pointer_of g k (core.Direct object offset) s = and_then (place_at None object offset s) pointer_to
-pointer_of g k (core.Through pointer offset site) s = value g k pointer s
+abbrev pub pointer_of : Bool → Setting → Knot → core.Place → State → Result Pointed
+pointer_of audited g k (core.Direct object offset) s = and_then (place_at None object offset s) (λ place t. Gives (without_ends place) t)
+pointer_of audited g k (core.Through pointer index offset site) s = pointed audited g k pointer s
 
-abbrev pub place_from : core.Place → Value → State → Result (ℕ × ℕ)
+abbrev pub place_from : core.Place → Pointed → State → Result (ℕ × ℕ)
 place_from (core.Direct object offset) p s = place_at None object offset s
-place_from (core.Through pointer offset site) p s = place_through offset site p s
-
--- the value that a cell or a local of type `char` keeps
-abbrev pub kept_if : Bool → Value → State → Result Value
-kept_if true v s = low_byte_of v s
-kept_if false v s = Gives v s
-
-abbrev pub is_char : CType → Bool
-is_char Int = false
-is_char Char = true
-is_char (Struct number) = false
-is_char (Pointer mode kind target) = false
-
--- ---- output
-
-abbrev pub printed : Value → State → Result Flow
-printed (Number number) s = Gives Next (in_world (write (number_line number) s.world) s)
-printed _ s = Stuck None s
-
-abbrev pub put : Value → State → Result Flow
-put (Number number) s = Gives Next (in_world (write (word number % 256 ∷ []) s.world) s)
-put _ s = Stuck None s
-
--- ---- flow
-
--- goes on where a statement leads to the next one
-abbrev pub on_next : (State → Result Flow) → Flow → State → Result Flow
-on_next rest Next s = rest s
-on_next rest Broke s = Gives Broke s
-on_next rest Continued s = Gives Continued s
-on_next rest (Returned v) s = Gives (Returned v) s
-
--- behind the body of a turn: the step and a further turn, or the end of the loop
-abbrev pub behind_turn : (State → Result Flow) → Flow → State → Result Flow
-behind_turn further Next s = further s
-behind_turn further Continued s = further s
-behind_turn further Broke s = Gives Next s
-behind_turn further (Returned v) s = Gives (Returned v) s
-
--- a call without a result
-abbrev pub no_result : Option Value → State → Result Flow
-no_result None s = Gives Next s
-no_result (Some value) s = Stuck None s
+place_from (core.Through pointer index offset site) p s = reached index offset site p s
 
 abbrev mutual
   -- the effect of a statement
-  pub effect : Setting → Knot → core.Statement → State → Result Flow
-  effect g k core.Nothing s = Gives Next s
-  effect g k (core.SetLocal local e) s = and_then (value g k e s) (set_local local)
-  effect g k (core.Store type p e) s =
-      and_then (pointer_of g k p s) (λ q t. and_then (value g k e t) (λ v u. and_then (place_from p q u) (λ place w. store_at type (site_of p) place v w)))
-  effect g k (core.UpdateLocal char local operator e site) s =
-      and_then (given (slice_get s.locals local) s) (λ old t. and_then (value g k e t)
+  pub effect : Bool → Setting → Knot → core.Statement → State → Result Flow
+  effect audited g k core.Nothing s = Gives Next s
+  effect audited g k (core.SetLocal local e) s = and_then (value audited g k e s) (set_local local)
+  effect audited g k (core.Store type p e) s =
+      and_then (pointer_of audited g k p s) (λ q t. and_then (value audited g k e t) (λ v u. and_then (place_from p q u) (λ place w. store_at type (site_of p) place v w)))
+  effect audited g k (core.UpdateLocal char local operator e site) s =
+      and_then (given (slice_get s.locals local) s) (λ old t. and_then (value audited g k e t)
       (λ v u. and_then (arithmetic_of operator site old v u) (λ new w. and_then (kept_if char new w) (set_local local))))
-  effect g k (core.Update type p operator e site) s =
-      and_then (place g k p s) (λ at t. and_then (load_at type (Some site) at t) (λ old u. and_then (value g k e u)
+  effect audited g k (core.Update type p operator e site) s =
+      and_then (place audited g k p s) (λ at t. and_then (load_at type (Some site) at t) (λ old u. and_then (value audited g k e u)
       (λ v w. and_then (arithmetic_of operator site old v w) (λ new x. and_then (kept_if (is_char type) new x) (store_at type (Some site) at)))))
-  effect g k (core.Evaluate e) s = and_then (value g k e s) (λ _ t. Gives Next t)
-  effect g k (core.CallAlone callee arguments) s = and_then (values g k arguments s) (λ vs t. and_then (called g k callee vs t) no_result)
-  effect g k (core.Print e) s = and_then (value g k e s) printed
-  effect g k (core.PutByte e) s = and_then (value g k e s) put
-  effect g k (core.Block statements) s = effects g k statements s
-  effect g k (core.If condition consequent alternative) s =
-      and_then (value g k condition s) (λ v t. choose (truth v) (effect g k consequent t) (effect g k alternative t))
-  effect g k (core.Loop condition body step) s =
-      and_then (value g k condition s) (λ v t. choose (truth v)
-      (asked (spend_tick g.budget t.world) t (λ _ u. and_then (effect g k body u)
-      (behind_turn (λ w. and_then (effect g k step w) (on_next (k.turn condition body step))))))
+  effect audited g k (core.Evaluate e) s = and_then (value audited g k e s) (λ _ t. Gives Next t)
+  effect audited g k (core.CallAlone callee arguments) s = and_then (values audited g k arguments s) (λ vs t. and_then (called g k callee vs t) no_result)
+  effect audited g k (core.Print e) s = and_then (value audited g k e s) printed
+  effect audited g k (core.PutByte e) s = and_then (value audited g k e s) put
+  effect audited g k (core.Block statements) s = effects audited g k statements s
+  effect audited g k (core.If condition consequent alternative) s =
+      and_then (value audited g k condition s) (λ v t. choose (truth v) (effect audited g k consequent t) (effect audited g k alternative t))
+  effect audited g k (core.Loop condition body step) s =
+      and_then (value audited g k condition s) (λ v t. choose (truth v)
+      (asked (spend_tick g.budget t.world) t (λ _ u. and_then (effect audited g k body u)
+      (behind_turn (λ w. and_then (effect audited g k step w) (on_next (k.turn condition body step))))))
       (Gives Next t))
-  effect g k (core.Return e) s = and_then (value g k e s) (λ v t. Gives (Returned (Some v)) t)
-  effect g k core.ReturnNothing s = Gives (Returned None) s
-  effect g k core.Break s = Gives Broke s
-  effect g k core.Continue s = Gives Continued s
+  effect audited g k (core.Return e) s = and_then (value audited g k e s) (λ v t. Gives (Returned (Some v)) t)
+  effect audited g k core.ReturnNothing s = Gives (Returned None) s
+  effect audited g k core.Break s = Gives Broke s
+  effect audited g k core.Continue s = Gives Continued s
 
   -- the effect of statements in their order
-  pub effects : Setting → Knot → core.Statements → State → Result Flow
-  effects g k core.NoMore s = Gives Next s
-  effects g k (core.Then first others) s = and_then (effect g k first s) (on_next (effects g k others))
+  pub effects : Bool → Setting → Knot → core.Statements → State → Result Flow
+  effects audited g k core.NoMore s = Gives Next s
+  effects audited g k (core.Then first others) s = and_then (effect audited g k first s) (on_next (effects audited g k others))
 
--- ---- functions
-
--- what a body gives back: 0 or null where it ends without a return
-abbrev pub default_result : Option CType → Option Value
-default_result None = None
-default_result (Some type) = Some (zero_of type)
-
--- what comes back is as the function was declared
-abbrev pub fits_result : Option CType → Option Value → Bool
-fits_result None None = true
-fits_result None (Some value) = false
-fits_result (Some type) None = false
-fits_result (Some type) (Some value) = has_type type value
-
-abbrev pub answer_if : Bool → Option Value → State → Result (Option Value)
-answer_if true value s = Gives value s
-answer_if false value s = Stuck None s
-
-abbrev pub answer : Option CType → Flow → State → Result (Option Value)
-answer result Next s = Gives (default_result result) s
-answer result (Returned v) s = answer_if (fits_result result v) v s
-answer result Broke s = Stuck None s
-answer result Continued s = Stuck None s
-
--- the locals of a function that is called: the arguments, and zeros
-abbrev pub locals_for : List CType → List Value → List Local
-locals_for [] values = []
-locals_for (type ∷ types) [] = record { type = type; value = zero_of type } ∷ locals_for types []
-locals_for (type ∷ types) (value ∷ values) = record { type = type; value = value } ∷ locals_for types values
-
-abbrev pub body_if : Bool → Setting → Knot → core.Function → List Value → State → Result (Option Value)
-body_if true g k f values s =
-    and_then (and_then (effects g k f.body (record s { locals = locals_for f.locals values; depth = s.depth + 1 })) (answer f.result)) (back s)
-body_if false g k f values s = Stuck None s
+abbrev pub body_if : Bool → Bool → Setting → Knot → core.Function → List Value → State → Result (Option Value)
+body_if audited true g k f values s =
+    and_then (and_then (effects audited g k f.body (record s { locals = locals_for f.locals values; depth = s.depth + 1 })) (answer f.result)) (back s)
+body_if audited false g k f values s = Stuck None s
 
 -- a function that is there, with arguments that it takes
-abbrev pub body_of : Setting → Knot → Option core.Function → List Value → State → Result (Option Value)
-body_of g k None values s = Stuck None s
-body_of g k (Some f) values s = body_if (fit (parameters_of f) values) g k f values s
+abbrev pub body_of : Bool → Setting → Knot → Option core.Function → List Value → State → Result (Option Value)
+body_of audited g k None values s = Stuck None s
+body_of audited g k (Some f) values s = body_if audited (fit (parameters_of f) values) g k f values s
 
 -- calls and turns that may go on for a number of ticks
-abbrev pub knot : Setting → ℕ → Knot
-knot g zero = record { call = λ function values s. Short; turn = λ condition body step s. Short; sandbox = λ s. Short }
-knot g (suc ticks) =
+abbrev pub knot : Bool → Setting → ℕ → Knot
+knot audited g zero = record { call = λ function values s. Short; turn = λ condition body step s. Short; sandbox = λ s. Short }
+knot audited g (suc ticks) =
     record {
-      call = λ function values s. body_of g (knot g ticks) (slice_get g.program.functions function) values s;
-      turn = λ condition body step s. effect g (knot g ticks) (core.Loop condition body step) s;
+      call = λ function values s. body_of audited g (knot audited g ticks) (slice_get g.program.functions function) values s;
+      turn = λ condition body step s. effect audited g (knot audited g ticks) (core.Loop condition body step) s;
       sandbox = λ s. crossed (until_return s.world.acts s.world) s;
     }
 
--- the run ends with the number that `main` returned
-abbrev pub exit : Option Value → State → Result (Unit {0})
-exit (Some (Number number)) s = Ends (Exit number) s
-exit (Some Null) s = Stuck None s
-exit (Some (At block byte)) s = Stuck None s
-exit None s = Stuck None s
-
 -- `main` is the first open call, and costs no tick
-abbrev pub run_from : Setting → State → Result (Unit {0})
-run_from g s = and_then (body_of g (knot g g.budget) (slice_get g.program.functions g.program.main) [] s) exit
-
--- before `main` runs
-abbrev pub initial : core.Core → World → State
-initial program w = record { blocks = map object_block program.objects; locals = []; depth = 0; world = w }
+abbrev pub run_from : Bool → Setting → State → Result (Unit {0})
+run_from audited g s = and_then (body_of audited g (knot audited g g.budget) (slice_get g.program.functions g.program.main) [] s) exit
 
 -- what a program means under settings, with these input numbers and acts: how it ends, and the last state
-abbrev pub meaning : core.Core → Settings → List ℤ → List Act → Result (Unit {0})
-meaning program settings inputs acts =
-    run_from (setting_of program settings) (initial program (new_world (replicate settings.sandbox 0) first_offset inputs acts))
+abbrev pub meaning : Bool → core.Core → Settings → List ℤ → List Act → Result (Unit {0})
+meaning audited program settings inputs acts =
+    run_from audited (setting_of program settings) (initial program (new_world (replicate settings.sandbox 0) first_offset inputs acts))

@@ -4,11 +4,12 @@ use Rattle.act_words.specs.declared.ending.Ending.{Ending}
 use Rattle.ckc_core.specs.declared.program.Site.{Site}
 
 -- A value and the state behind it, an ending and the last state, a step that has no meaning in this state, with its site where
--- it has one, or too few ticks to tell
+-- it has one, a pointer that isn't valid with its bounds, or too few ticks to tell
 pub data Outcome (S A : Type 0) : Type 0 where
   Gives : (value : A) (state : S) → Outcome S A
   Ends : (ending : Ending) (state : S) → Outcome S A
   Stuck : (site : Option Site) (state : S) → Outcome S A
+  Unsound : (site : Site) (state : S) → Outcome S A
   Short : Outcome S A
 
 -- goes on from a value, and stays with anything else
@@ -16,6 +17,7 @@ abbrev pub and_then : {S A B : Type 0} → Outcome S A → (A → S → Outcome 
 and_then (Gives value state) next = next value state
 and_then (Ends ending state) next = Ends ending state
 and_then (Stuck site state) next = Stuck site state
+and_then (Unsound site state) next = Unsound site state
 and_then Short next = Short
 
 -- to go on with the value alone changes nothing
@@ -23,6 +25,7 @@ pub and_then-gives : {S A : Type 0} (o : Outcome S A) → and_then o Gives ≡ o
 and_then-gives (Gives value state) = refl
 and_then-gives (Ends ending state) = refl
 and_then-gives (Stuck site state) = refl
+and_then-gives (Unsound site state) = refl
 and_then-gives Short = refl
 
 -- it doesn't matter how steps are grouped
@@ -31,4 +34,5 @@ pub and_then-and_then : {S A B C : Type 0} (o : Outcome S A) (f : A → S → Ou
 and_then-and_then (Gives value state) f g = refl
 and_then-and_then (Ends ending state) f g = refl
 and_then-and_then (Stuck site state) f g = refl
+and_then-and_then (Unsound site state) f g = refl
 and_then-and_then Short f g = refl

@@ -11,9 +11,9 @@ abbrev mutual
   pub expression_stack : core.Expression → ℕ
   expression_stack (core.Number number) = 1
   expression_stack core.Null = 1
-  expression_stack (core.Local local) = 1
-  expression_stack (core.Load type p) = place_stack p
-  expression_stack (core.AddressOf p) = place_stack p
+  expression_stack (core.Local local bounds) = 1
+  expression_stack (core.Load type p bounds) = place_stack p
+  expression_stack (core.AddressOf p bounds) = place_stack p
   expression_stack (core.Negate operand site) = expression_stack operand
   expression_stack (core.Complement operand) = expression_stack operand
   expression_stack (core.Not operand) = expression_stack operand
@@ -23,7 +23,7 @@ abbrev mutual
   expression_stack (core.AndAlso left right) = max (expression_stack left) (expression_stack right)
   expression_stack (core.OrElse left right) = max (expression_stack left) (expression_stack right)
   expression_stack (core.LowByte operand) = expression_stack operand
-  expression_stack (core.Call callee arguments) = max 1 (arguments_stack arguments)
+  expression_stack (core.Call callee arguments bounds) = max 1 (arguments_stack arguments)
   expression_stack core.NextInput = 1
 
   pub arguments_stack : core.Arguments → ℕ
@@ -32,12 +32,12 @@ abbrev mutual
 
   pub place_stack : core.Place → ℕ
   place_stack (core.Direct object offset) = offset_stack offset
-  place_stack (core.Through pointer offset site) = max (expression_stack pointer) (offset_stack offset)
+  place_stack (core.Through pointer index offset site) = max (expression_stack pointer) (offset_stack offset)
 
 -- a store has its address or its pointer on the stack while its value is computed, and two words, or three, when it is checked
 abbrev pub store_stack : core.Place → core.Expression → ℕ
 store_stack (core.Direct object offset) value = max (offset_stack offset) (1 + expression_stack value)
-store_stack (core.Through pointer offset site) value = max (expression_stack pointer) (max (1 + expression_stack value) 2)
+store_stack (core.Through pointer index offset site) value = max (expression_stack pointer) (max (1 + expression_stack value) 2)
 
 abbrev mutual
   pub statement_stack : core.Statement → ℕ

@@ -10,7 +10,7 @@ use Rattle.pointer_modes.specs.declared.ctype.Kind.{Kind}
 use Rattle.pointer_modes.specs.declared.ctype.Kind.TheVariants as kinds
 use Rattle.pointer_modes.specs.Types.{CType, Int, Char, Struct, Pointer}
 use Rattle.act_words.specs.World.{World}
-use Rattle.ckc_core.specs.Core.{Initial}
+use Rattle.ckc_core.specs.Programs.{Initial}
 
 -- a number, null, or a place: a byte of a block
 pub data Value : Type 0 where

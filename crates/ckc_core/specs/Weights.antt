@@ -7,9 +7,9 @@ abbrev mutual
   pub expression_weight : core.Expression → ℕ
   expression_weight (core.Number number) = 1
   expression_weight core.Null = 1
-  expression_weight (core.Local local) = 1
-  expression_weight (core.Load type p) = 1 + place_weight p
-  expression_weight (core.AddressOf p) = place_weight p
+  expression_weight (core.Local local bounds) = 1
+  expression_weight (core.Load type p bounds) = 1 + place_weight p
+  expression_weight (core.AddressOf p bounds) = place_weight p
   expression_weight (core.Negate operand site) = 1 + expression_weight operand
   expression_weight (core.Complement operand) = 1 + expression_weight operand
   expression_weight (core.Not operand) = 1 + expression_weight operand
@@ -19,7 +19,7 @@ abbrev mutual
   expression_weight (core.AndAlso left right) = 1 + expression_weight left + expression_weight right
   expression_weight (core.OrElse left right) = 1 + expression_weight left + expression_weight right
   expression_weight (core.LowByte operand) = 1 + expression_weight operand
-  expression_weight (core.Call callee arguments) = 1 + arguments_weight arguments
+  expression_weight (core.Call callee arguments bounds) = 1 + arguments_weight arguments
   expression_weight core.NextInput = 1
 
   pub arguments_weight : core.Arguments → ℕ
@@ -28,7 +28,7 @@ abbrev mutual
 
   pub place_weight : core.Place → ℕ
   place_weight (core.Direct object offset) = 1
-  place_weight (core.Through pointer offset site) = 1 + expression_weight pointer
+  place_weight (core.Through pointer index offset site) = 1 + expression_weight pointer
 
 abbrev mutual
   pub statement_weight : core.Statement → ℕ

@@ -2,7 +2,7 @@
 
 ghost use Rattle.std.specs.Prelude.{◌≡◌};
 ghost use Rattle.pointer_modes.specs.Types.{ctype as ctype_of};
-ghost use Rattle.ckc_core.specs.Meaning.{is_char};
+ghost use Rattle.ckc_core.specs.Steps.{is_char};
 
 use pointer_modes::ctype::CType;
 

@@ -1,6 +1,6 @@
 // What the meaning says of small programs, by computation, and that it says something of every one.
 
-ghost use Rattle.std.specs.Prelude.{◌≡◌, ℤ, List};
+ghost use Rattle.std.specs.Prelude.{◌≡◌, ℤ, Bool, List};
 ghost use Rattle.act_words.specs.declared.settings.Settings.{Settings};
 ghost use Rattle.act_words.specs.Acts.{Act};
 ghost use Rattle.ckc_core.specs.Outcome.{Short};
@@ -20,5 +20,5 @@ pub fn examples()
 
 /// What a program means is told: it has as many ticks as its budget, and is never short of them.
 pub fn never_short()
-    ensures { (program : Core) (settings : Settings) (inputs : List ℤ) (acts : List Act) → meaning program settings inputs acts ≡ Short → ⊥ }
+    ensures { (audited : Bool) (program : Core) (settings : Settings) (inputs : List ℤ) (acts : List Act) → meaning audited program settings inputs acts ≡ Short → ⊥ }
 {}

@@ -1,6 +1,7 @@
 // The core: what is left of a source once each name is a number, each check has its place and each access its type.
 
 use act_words::operator::{Comparison, Operator};
+use bounds_exprs::term::Bounds;
 use ckc_text::name::Name;
 use ckc_text::place::Place;
 use pointer_modes::ctype::CType;
@@ -18,21 +19,44 @@ pub enum Callee {
     Tainted { import: u32, site: Site },
 }
 
-/// An expression. Locals, file-level variables and functions are numbered from 0 in the order of their declarations.
+/// The bounds of a pointer at a node of the tree: their normal form over the locals, the bytes of an element, and where the
+/// node stands.
+#[derive(Clone, Copy)]
+pub struct PointerBounds {
+    pub bounds: Bounds,
+    pub size: u32,
+    pub site: Site,
+}
+
+/// Which element an access takes, from the one that its pointer leads to.
+#[derive(Clone, Copy)]
+pub enum Index {
+    /// That one.
+    First,
+}
+
+/// An expression, in which checked pointers have their bounds. Locals, file-level variables and functions are numbered from 0 in the order of their declarations.
 #[cycle(core)]
 #[derive(Drop)]
 pub enum Expr {
     Number(i32),
     Null,
     /// What a local variable holds.
-    Local(u32),
+    Local {
+        local: u32,
+        bounds: Option<PointerBounds>,
+    },
     /// What a cell of this type holds.
     Load {
         ctype: CType,
         cell: CellPlace,
+        bounds: Option<PointerBounds>,
     },
     /// A pointer to a cell.
-    AddressOf(CellPlace),
+    AddressOf {
+        cell: CellPlace,
+        bounds: Option<PointerBounds>,
+    },
     Negate {
         operand: Box<Expr>,
         site: Site,
@@ -67,7 +91,10 @@ pub enum Expr {
     /// A number modulo 256.
     LowByte(Box<Expr>),
     /// What a call returns.
-    Call(Call),
+    Call {
+        call: Call,
+        bounds: Option<PointerBounds>,
+    },
     NextInput,
 }
 
@@ -79,8 +106,8 @@ pub struct Call {
     pub arguments: Vec<Expr>,
 }
 
-/// Where a cell stands: so many bytes behind the first one of a file-level variable, or behind the place that a pointer
-/// leads to.
+/// Where a cell stands: so many bytes behind the first one of a file-level variable, or of an element that a pointer leads
+/// to.
 #[cycle(core)]
 #[derive(Drop)]
 pub enum CellPlace {
@@ -90,6 +117,7 @@ pub enum CellPlace {
     },
     Through {
         pointer: Box<Expr>,
+        index: Index,
         offset: u32,
         site: Site,
     },
