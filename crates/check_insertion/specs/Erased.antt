@@ -1,0 +1,172 @@
+-- Programs whose accesses have their checks, and whose pointers have no bounds.
+use Rattle.std.specs.Prelude.{ℕ, suc, Bool, List, [], ◌∷◌, Option, map, option_map}
+use Rattle.std.proofs.Common.{ℤ}
+use Rattle.act_words.specs.declared.operator.Operator.{Operator}
+use Rattle.act_words.specs.declared.operator.Comparison.{Comparison}
+use Rattle.pointer_modes.specs.Types.{CType, ctype}
+use Rattle.ckc_core.specs.declared.program.Site.{Site}
+use Rattle.ckc_core.specs.declared.program.Callee.{Callee}
+use Rattle.ckc_core.specs.declared.program.Index.{Index}
+use Rattle.ckc_core.specs.Programs.{FunctionOf, ProgramOf}
+use Rattle.ckc_core.specs.Core.{import_of, object}
+use Rattle.check_insertion.specs.declared.erased as code
+use Rattle.check_insertion.specs.declared.erased.Check.{Check}
+use Rattle.check_insertion.specs.declared.erased.Expr.{Row_of-Expr, end_of-Expr, more_of-Expr}
+use Rattle.check_insertion.specs.declared.erased.Stmt.{Row_of-Stmt, end_of-Stmt, more_of-Stmt}
+use Rattle.check_insertion.specs.declared.erased.Expr.TheVariants as exprs
+use Rattle.check_insertion.specs.declared.erased.CellPlace.TheVariants as places
+use Rattle.check_insertion.specs.declared.erased.Stmt.TheVariants as stmts
+
+mutual
+  -- an expression
+  pub data Expression : Type 0 where
+    Number : (number : ℤ) → Expression
+    Null : Expression
+    Local : (local : ℕ) → Expression
+    -- what a cell of this type holds
+    Load : (type : CType) (place : Place) → Expression
+    -- a pointer to a cell
+    AddressOf : (place : Place) → Expression
+    Negate : (operand : Expression) (site : Site) → Expression
+    Complement : (operand : Expression) → Expression
+    -- 1 where a scalar is 0 or null, and else 0
+    Not : (operand : Expression) → Expression
+    Arithmetic : (operator : Operator) (left right : Expression) (site : Site) → Expression
+    Compare : (comparison : Comparison) (left right : Expression) → Expression
+    -- whether two pointers are the same
+    Same : (left right : Expression) → Expression
+    AndAlso : (left right : Expression) → Expression
+    OrElse : (left right : Expression) → Expression
+    -- a number modulo 256
+    LowByte : (operand : Expression) → Expression
+    -- a call with a result
+    Call : (callee : Callee) (arguments : Arguments) → Expression
+    NextInput : Expression
+
+  -- the arguments of a call, from left to right
+  pub data Arguments : Type 0 where
+    Done : Arguments
+    More : (first : Expression) (rest : Arguments) → Arguments
+
+  -- where a cell stands: so many bytes behind the first one of a file-level variable, or of an element that a pointer leads to,
+  -- behind its checks
+  pub data Place : Type 0 where
+    Direct : (object offset : ℕ) → Place
+    Through : (pointer : Expression) (index : Index) (offset : ℕ) (checks : List Check) → Place
+
+mutual
+  -- a statement
+  pub data Statement : Type 0 where
+    Nothing : Statement
+    SetLocal : (local : ℕ) (value : Expression) → Statement
+    Store : (type : CType) (place : Place) (value : Expression) → Statement
+    -- the old value and an operator with another one; a local of type `char` keeps the result modulo 256
+    UpdateLocal : (is_char : Bool) (local : ℕ) (operator : Operator) (value : Expression) (site : Site) → Statement
+    Update : (type : CType) (place : Place) (operator : Operator) (value : Expression) (site : Site) → Statement
+    -- a value that is left
+    Evaluate : (value : Expression) → Statement
+    -- a call without a result
+    CallAlone : (callee : Callee) (arguments : Arguments) → Statement
+    Print : (number : Expression) → Statement
+    PutByte : (number : Expression) → Statement
+    Block : (statements : Statements) → Statement
+    If : (condition : Expression) (consequent alternative : Statement) → Statement
+    -- a loop with what follows each turn
+    Loop : (condition : Expression) (body step : Statement) → Statement
+    Return : (value : Expression) → Statement
+    ReturnNothing : Statement
+    Break : Statement
+    Continue : Statement
+
+  pub data Statements : Type 0 where
+    NoMore : Statements
+    Then : (first : Statement) (others : Statements) → Statements
+
+-- how many arguments there are
+abbrev pub count : Arguments → ℕ
+count Done = 0
+count (More first rest) = suc (count rest)
+
+abbrev pub Function : Type 0
+Function = FunctionOf Statements
+
+-- a whole program
+abbrev pub Erased : Type 0
+Erased = ProgramOf Statements
+
+-- ---- the views from the types of the code
+
+abbrev mutual
+  -- the expression that a value of the code's type stands for
+  pub expression : code.Expr.Expr → Expression
+  expression (exprs.Number number) = Number number
+  expression exprs.Null = Null
+  expression (exprs.Local local) = Local local
+  expression (exprs.Load type cell) = Load (ctype type) (place cell)
+  expression (exprs.AddressOf cell) = AddressOf (place cell)
+  expression (exprs.Negate' p operand site) = Negate (expression operand) site
+  expression (exprs.Complement' p operand) = Complement (expression operand)
+  expression (exprs.Not' p operand) = Not (expression operand)
+  expression (exprs.Arithmetic' operator p left q right site) = Arithmetic operator (expression left) (expression right) site
+  expression (exprs.Compare' comparison p left q right) = Compare comparison (expression left) (expression right)
+  expression (exprs.Same' p left q right) = Same (expression left) (expression right)
+  expression (exprs.AndAlso' p left q right) = AndAlso (expression left) (expression right)
+  expression (exprs.OrElse' p left q right) = OrElse (expression left) (expression right)
+  expression (exprs.LowByte' p operand) = LowByte (expression operand)
+  expression (exprs.Call' callee shape row) = Call callee (arguments row)
+  expression exprs.NextInput = NextInput
+
+  pub arguments : {m : _} → Row_of-Expr m → Arguments
+  arguments end_of-Expr = Done
+  arguments (more_of-Expr first rest) = More (expression first) (arguments rest)
+
+  pub place : code.CellPlace.CellPlace → Place
+  place (places.Direct object offset) = Direct object offset
+  place (places.Through' p pointer index offset checks) = Through (expression pointer) index offset checks.items
+
+-- the arguments in a slice
+abbrev pub arguments_of : List code.Expr.Expr → Arguments
+arguments_of [] = Done
+arguments_of (first ∷ rest) = More (expression first) (arguments_of rest)
+
+abbrev mutual
+  -- the statement
+  pub statement : code.Stmt.Stmt → Statement
+  statement stmts.Nothing = Nothing
+  statement (stmts.SetLocal local value) = SetLocal local (expression value)
+  statement (stmts.Store type cell value) = Store (ctype type) (place cell) (expression value)
+  statement (stmts.UpdateLocal is_char local operator value site) = UpdateLocal is_char local operator (expression value) site
+  statement (stmts.Update type cell operator value site) = Update (ctype type) (place cell) operator (expression value) site
+  statement (stmts.Evaluate value) = Evaluate (expression value)
+  statement (stmts.CallAlone call) = CallAlone call.callee (arguments_of call.arguments.items)
+  statement (stmts.Print number) = Print (expression number)
+  statement (stmts.PutByte number) = PutByte (expression number)
+  statement (stmts.Block' shape row) = Block (statements row)
+  statement (stmts.If' condition p consequent q alternative) = If (expression condition) (statement consequent) (statement alternative)
+  statement (stmts.Loop' condition p body q step) = Loop (expression condition) (statement body) (statement step)
+  statement (stmts.Return value) = Return (expression value)
+  statement stmts.ReturnNothing = ReturnNothing
+  statement stmts.Break = Break
+  statement stmts.Continue = Continue
+
+  pub statements : {m : _} → Row_of-Stmt m → Statements
+  statements end_of-Stmt = NoMore
+  statements (more_of-Stmt first rest) = Then (statement first) (statements rest)
+
+-- the statements in a slice
+abbrev pub statements_of : List code.Stmt.Stmt → Statements
+statements_of [] = NoMore
+statements_of (first ∷ rest) = Then (statement first) (statements_of rest)
+
+abbrev pub function : code.Function.Function → Function
+function f = record {
+  name = f.name;
+  parameters = f.parameters;
+  locals = map ctype f.locals.items;
+  result = option_map ctype f.result;
+  body = statements_of f.body.items;
+}
+
+-- the whole program
+abbrev pub erased : code.Erased.Erased → Erased
+erased c = record { objects = map object c.objects.items; imports = map import_of c.imports.items; functions = map function c.functions.items; main = c.main }

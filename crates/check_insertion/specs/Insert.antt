@@ -1,0 +1,71 @@
+-- The checks of a core, inserted: each access gets those that its pointer needs, at the site of the access.
+use Rattle.std.specs.Prelude.{List, [], ◌∷◌, map}
+use Rattle.ckc_core.specs.declared.program.Index.{Index}
+use Rattle.ckc_core.specs.declared.program.Index.TheVariants as indexes
+use Rattle.ckc_core.specs.declared.program.Site.{Site}
+use Rattle.ckc_core.specs.Core as core
+use Rattle.check_insertion.specs.declared.erased.Check.{Check}
+use Rattle.check_insertion.specs.declared.erased.Check.TheVariants.{NotNull}
+use Rattle.check_insertion.specs.Erased as erased
+use Rattle.check_insertion.specs.Erased.{Erased}
+
+-- what has to hold of a pointer before an access (C1)
+abbrev pub access_checks : Index → Site → List Check
+access_checks indexes.First site = NotNull site ∷ []
+
+abbrev mutual
+  pub expression : core.Expression → erased.Expression
+  expression (core.Number number) = erased.Number number
+  expression core.Null = erased.Null
+  expression (core.Local local bounds) = erased.Local local
+  expression (core.Load type p bounds) = erased.Load type (place p)
+  expression (core.AddressOf p bounds) = erased.AddressOf (place p)
+  expression (core.Negate operand site) = erased.Negate (expression operand) site
+  expression (core.Complement operand) = erased.Complement (expression operand)
+  expression (core.Not operand) = erased.Not (expression operand)
+  expression (core.Arithmetic operator left right site) = erased.Arithmetic operator (expression left) (expression right) site
+  expression (core.Compare comparison left right) = erased.Compare comparison (expression left) (expression right)
+  expression (core.Same left right) = erased.Same (expression left) (expression right)
+  expression (core.AndAlso left right) = erased.AndAlso (expression left) (expression right)
+  expression (core.OrElse left right) = erased.OrElse (expression left) (expression right)
+  expression (core.LowByte operand) = erased.LowByte (expression operand)
+  expression (core.Call callee arguments bounds) = erased.Call callee (arguments_of arguments)
+  expression core.NextInput = erased.NextInput
+
+  pub arguments_of : core.Arguments → erased.Arguments
+  arguments_of core.Done = erased.Done
+  arguments_of (core.More first rest) = erased.More (expression first) (arguments_of rest)
+
+  pub place : core.Place → erased.Place
+  place (core.Direct object offset) = erased.Direct object offset
+  place (core.Through pointer index offset site) = erased.Through (expression pointer) index offset (access_checks index site)
+
+abbrev mutual
+  pub statement : core.Statement → erased.Statement
+  statement core.Nothing = erased.Nothing
+  statement (core.SetLocal local value) = erased.SetLocal local (expression value)
+  statement (core.Store type p value) = erased.Store type (place p) (expression value)
+  statement (core.UpdateLocal is_char local operator value site) = erased.UpdateLocal is_char local operator (expression value) site
+  statement (core.Update type p operator value site) = erased.Update type (place p) operator (expression value) site
+  statement (core.Evaluate value) = erased.Evaluate (expression value)
+  statement (core.CallAlone callee arguments) = erased.CallAlone callee (arguments_of arguments)
+  statement (core.Print number) = erased.Print (expression number)
+  statement (core.PutByte number) = erased.PutByte (expression number)
+  statement (core.Block inner) = erased.Block (statements inner)
+  statement (core.If condition consequent alternative) = erased.If (expression condition) (statement consequent) (statement alternative)
+  statement (core.Loop condition body step) = erased.Loop (expression condition) (statement body) (statement step)
+  statement (core.Return value) = erased.Return (expression value)
+  statement core.ReturnNothing = erased.ReturnNothing
+  statement core.Break = erased.Break
+  statement core.Continue = erased.Continue
+
+  pub statements : core.Statements → erased.Statements
+  statements core.NoMore = erased.NoMore
+  statements (core.Then first others) = erased.Then (statement first) (statements others)
+
+abbrev pub function : core.Function → erased.Function
+function f = record { name = f.name; parameters = f.parameters; locals = f.locals; result = f.result; body = statements f.body }
+
+-- the whole program
+abbrev pub inserted : core.Core → Erased
+inserted c = record { objects = c.objects; imports = c.imports; functions = map function c.functions; main = c.main }

@@ -1,0 +1,6 @@
+pub mod Erased
+pub mod ErasedMeaning
+pub mod Stacks
+pub mod Weights
+pub mod Insert
+pub mod Keeps

@@ -1,0 +1,67 @@
+-- How many words the parts of a program have on the stack at most.
+use Rattle.std.specs.Prelude.{ℕ, zero, suc, ◌+◌, max}
+use Rattle.check_insertion.specs.Erased as erased
+
+-- an offset is added to an address on the stack
+abbrev pub offset_stack : ℕ → ℕ
+offset_stack zero = 1
+offset_stack (suc n) = 2
+
+abbrev mutual
+  pub expression_stack : erased.Expression → ℕ
+  expression_stack (erased.Number number) = 1
+  expression_stack erased.Null = 1
+  expression_stack (erased.Local local) = 1
+  expression_stack (erased.Load type p) = place_stack p
+  expression_stack (erased.AddressOf p) = place_stack p
+  expression_stack (erased.Negate operand site) = expression_stack operand
+  expression_stack (erased.Complement operand) = expression_stack operand
+  expression_stack (erased.Not operand) = expression_stack operand
+  expression_stack (erased.Arithmetic operator left right site) = max (expression_stack left) (1 + expression_stack right)
+  expression_stack (erased.Compare comparison left right) = max (expression_stack left) (1 + expression_stack right)
+  expression_stack (erased.Same left right) = max (expression_stack left) (1 + expression_stack right)
+  expression_stack (erased.AndAlso left right) = max (expression_stack left) (expression_stack right)
+  expression_stack (erased.OrElse left right) = max (expression_stack left) (expression_stack right)
+  expression_stack (erased.LowByte operand) = expression_stack operand
+  expression_stack (erased.Call callee arguments) = max 1 (arguments_stack arguments)
+  expression_stack erased.NextInput = 1
+
+  pub arguments_stack : erased.Arguments → ℕ
+  arguments_stack erased.Done = 0
+  arguments_stack (erased.More first rest) = max (expression_stack first) (1 + arguments_stack rest)
+
+  pub place_stack : erased.Place → ℕ
+  place_stack (erased.Direct object offset) = offset_stack offset
+  place_stack (erased.Through pointer index offset checks) = max (expression_stack pointer) (offset_stack offset)
+
+-- a store has its address or its pointer on the stack while its value is computed, and two words, or three, when it is checked
+abbrev pub store_stack : erased.Place → erased.Expression → ℕ
+store_stack (erased.Direct object offset) value = max (offset_stack offset) (1 + expression_stack value)
+store_stack (erased.Through pointer index offset checks) value = max (expression_stack pointer) (max (1 + expression_stack value) 2)
+
+abbrev mutual
+  pub statement_stack : erased.Statement → ℕ
+  statement_stack erased.Nothing = 0
+  statement_stack (erased.SetLocal local value) = expression_stack value
+  statement_stack (erased.Store type p value) = store_stack p value
+  statement_stack (erased.UpdateLocal char local operator value site) = 1 + expression_stack value
+  statement_stack (erased.Update type p operator value site) = max (place_stack p) (2 + expression_stack value)
+  statement_stack (erased.Evaluate value) = expression_stack value
+  statement_stack (erased.CallAlone callee arguments) = arguments_stack arguments
+  statement_stack (erased.Print number) = expression_stack number
+  statement_stack (erased.PutByte number) = expression_stack number
+  statement_stack (erased.Block inner) = statements_stack inner
+  statement_stack (erased.If condition consequent alternative) = max (expression_stack condition) (max (statement_stack consequent) (statement_stack alternative))
+  statement_stack (erased.Loop condition body step) = max (expression_stack condition) (max (statement_stack body) (statement_stack step))
+  statement_stack (erased.Return value) = expression_stack value
+  statement_stack erased.ReturnNothing = 0
+  statement_stack erased.Break = 0
+  statement_stack erased.Continue = 0
+
+  pub statements_stack : erased.Statements → ℕ
+  statements_stack erased.NoMore = 0
+  statements_stack (erased.Then first others) = max (statement_stack first) (statements_stack others)
+
+-- a body that runs to its end pushes one word
+abbrev pub body_stack : erased.Function → ℕ
+body_stack f = max 1 (statements_stack f.body)

@@ -1,0 +1,163 @@
+// The core with its checks, and without bounds.
+
+use act_words::operator::{Comparison, Operator};
+use ckc_core::program::{Callee, Import, Index, Object, Site};
+use ckc_text::name::Name;
+use pointer_modes::ctype::CType;
+
+/// What has to hold of a pointer before an access. A check has its site, and the variables of the bounds that it reads.
+#[derive(Clone, Copy)]
+pub enum Check {
+    /// It isn't null (C1); no bounds are read.
+    NotNull { site: Site },
+}
+
+/// An expression. Locals, file-level variables and functions are numbered from 0 in the order of their declarations.
+#[cycle(erased)]
+#[derive(Drop)]
+pub enum Expr {
+    Number(i32),
+    Null,
+    /// What a local variable holds.
+    Local(u32),
+    /// What a cell of this type holds.
+    Load {
+        ctype: CType,
+        cell: CellPlace,
+    },
+    /// A pointer to a cell.
+    AddressOf(CellPlace),
+    Negate {
+        operand: Box<Expr>,
+        site: Site,
+    },
+    Complement(Box<Expr>),
+    /// 1 where a scalar is 0 or null, and else 0.
+    Not(Box<Expr>),
+    Arithmetic {
+        operator: Operator,
+        left: Box<Expr>,
+        right: Box<Expr>,
+        site: Site,
+    },
+    Compare {
+        comparison: Comparison,
+        left: Box<Expr>,
+        right: Box<Expr>,
+    },
+    /// Whether two pointers are the same.
+    Same {
+        left: Box<Expr>,
+        right: Box<Expr>,
+    },
+    AndAlso {
+        left: Box<Expr>,
+        right: Box<Expr>,
+    },
+    OrElse {
+        left: Box<Expr>,
+        right: Box<Expr>,
+    },
+    /// A number modulo 256.
+    LowByte(Box<Expr>),
+    /// What a call returns.
+    Call(Call),
+    NextInput,
+}
+
+/// A call, with its arguments from left to right. Those of a tainted function are numbers.
+#[cycle(erased)]
+#[derive(Drop)]
+pub struct Call {
+    pub callee: Callee,
+    pub arguments: Vec<Expr>,
+}
+
+/// Where a cell stands: so many bytes behind the first one of a file-level variable, or of an element that a pointer leads
+/// to, behind its checks.
+#[cycle(erased)]
+#[derive(Drop)]
+pub enum CellPlace {
+    Direct {
+        object: u32,
+        offset: u32,
+    },
+    Through {
+        pointer: Box<Expr>,
+        index: Index,
+        offset: u32,
+        checks: Vec<Check>,
+    },
+}
+
+/// A statement.
+#[derive(Drop)]
+pub enum Stmt {
+    Nothing,
+    SetLocal {
+        local: u32,
+        value: Expr,
+    },
+    Store {
+        ctype: CType,
+        cell: CellPlace,
+        value: Expr,
+    },
+    /// The old value and an operator with another one. A local of type `char` keeps the result modulo 256.
+    UpdateLocal {
+        is_char: bool,
+        local: u32,
+        operator: Operator,
+        value: Expr,
+        site: Site,
+    },
+    Update {
+        ctype: CType,
+        cell: CellPlace,
+        operator: Operator,
+        value: Expr,
+        site: Site,
+    },
+    /// A value that is left.
+    Evaluate(Expr),
+    /// A call without a result.
+    CallAlone(Call),
+    Print(Expr),
+    PutByte(Expr),
+    Block(Vec<Stmt>),
+    If {
+        condition: Expr,
+        consequent: Box<Stmt>,
+        alternative: Box<Stmt>,
+    },
+    /// A loop with what follows each turn.
+    Loop {
+        condition: Expr,
+        body: Box<Stmt>,
+        step: Box<Stmt>,
+    },
+    Return(Expr),
+    ReturnNothing,
+    Break,
+    Continue,
+}
+
+/// A trusted function: its name, how many of its locals are parameters, the types of all of them, what it returns, and
+/// its body.
+#[derive(Drop)]
+pub struct Function {
+    pub name: Name,
+    pub parameters: u32,
+    pub locals: Vec<CType>,
+    pub result: Option<CType>,
+    pub body: Vec<Stmt>,
+}
+
+/// A whole program: its file-level variables, the tainted functions, the trusted ones, and the number of `main`.
+#[derive(Drop)]
+pub struct Erased {
+    pub objects: Vec<Object>,
+    pub imports: Vec<Import>,
+    pub functions: Vec<Function>,
+    pub main: u32,
+}

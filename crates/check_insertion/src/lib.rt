@@ -1,0 +1,5 @@
+// A core with its checks: each access has those that it needs, as parts of the tree, and no pointer has bounds any more.
+#![tactic(auto)]
+
+pub mod erased;
+pub mod laws;
