@@ -3,3 +3,4 @@ pub mod Numbers
 pub mod Rows
 pub mod Ticks
 pub mod Budgets
+pub mod Audits

@@ -5,6 +5,7 @@ pub mod Bounds
 pub mod Outcome
 pub mod Steps
 pub mod Meaning
+pub mod Audits
 pub mod Stacks
 pub mod Weights
 pub mod Examples
