@@ -70,7 +70,7 @@ no_member s struct base name site span names ms named are none =
 -- the cell of a member that is there
 pub member_cell : (s : Scope) (struct k offset : ℕ) (base place : core.Place) (name : ℕ) (site : Site) (span : Span) (names : List ℕ) (ms : List code.Member) (m : code.Member) (t : CType) → names ≡ members_named s struct → map member ms ≡ members_of s.structs struct
     → member_found_at 0 ms (Some k) ≡ member_from 0 names (map member ms) name → slice_get ms k ≡ Some m
-    → list_all (λ d. list_all (λ w. is_scalar w.ctype) d.members) s.structs ≡ true → t ≡ ctype m.ctype → offset ≡ slice_index (map (λ c. c.offset) (cells_of s.structs (Struct struct))) k → place ≡ member_place base k offset site
+    → list_all (λ d. list_all (λ w. is_scalar w.ctype) d.members) s.structs ≡ true → t ≡ ctype m.ctype → offset ≡ slice_index (map (λ c. c.offset) (cells_of s.structs (Struct struct))) k → place ≡ member_place base offset site
     → member_at s struct base name site span ≡ Passes (Value t false (core.Load t place) (Some (OfCell place)))
 member_cell s struct k offset base place name site span names ms m t named are there at all same offset_is place_is =
     let first : 0 + k ≡ k = omega arith in
@@ -78,5 +78,5 @@ member_cell s struct k offset base place name site span names ms m t named are t
     ap (λ ns. member_from 0 ns (members_of s.structs struct) name) (sym named) ∙ ap (λ ws. member_from 0 names ws name) (sym are) ∙ sym there
     ∙ ap (option_map (λ w. (0 + k, ctype w.ctype))) at ∙ ap (λ j. Some (j, ctype m.ctype)) first in
     let scalar : is_scalar t ≡ true = ap is_scalar same ∙ scalar_at ms k m (ap (list_all (λ w. is_scalar w.ctype)) are ∙ all_scalar_members s.structs struct all) at in
-    let here : member_place base k (offset_among (cells_of s.structs (Struct struct)) k) site ≡ place = ap (λ o. member_place base k o site) (offset_at (cells_of s.structs (Struct struct)) k ∙ sym offset_is) ∙ sym place_is in
+    let here : member_place base (offset_among (cells_of s.structs (Struct struct)) k) site ≡ place = ap (λ o. member_place base o site) (offset_at (cells_of s.structs (Struct struct)) k ∙ sym offset_is) ∙ sym place_is in
     rw (e, ← same, here) (ap Passes (scalar_cell t place scalar))

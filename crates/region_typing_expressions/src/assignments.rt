@@ -96,23 +96,13 @@ fn updated_place(place: CellPlace, site: Site) -> CellPlace
     ensures { place_of result ≡ updated_at (place_of place) site }
 {
     match place {
-        CellPlace::Direct {
-            object,
-            cell,
-            offset,
-        } => CellPlace::Direct {
-            object,
-            cell,
-            offset,
-        },
+        CellPlace::Direct { object, offset } => CellPlace::Direct { object, offset },
         CellPlace::Through {
             pointer,
-            cell,
             offset,
             ..
         } => CellPlace::Through {
             pointer,
-            cell,
             offset,
             site,
         },

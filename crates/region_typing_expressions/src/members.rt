@@ -42,19 +42,14 @@ fn member_place(names: &[usize], members: &[Member], name: usize) -> Option<usiz
     }
 }
 
-// A cell of a struct.
-fn cell_of(base: Base, cell: u32, offset: u32, site: Site) -> CellPlace
-    ensures { place_of result ≡ place_in (base_place base) cell offset site }
+// So many bytes behind the first cell of a struct.
+fn cell_of(base: Base, offset: u32, site: Site) -> CellPlace
+    ensures { place_of result ≡ place_in (base_place base) offset site }
 {
     match base {
-        Base::Object(object) => CellPlace::Direct {
-            object,
-            cell,
-            offset,
-        },
+        Base::Object(object) => CellPlace::Direct { object, offset },
         Base::Behind { pointer, .. } => CellPlace::Through {
             pointer,
-            cell,
             offset,
             site,
         },
@@ -82,7 +77,7 @@ pub fn member_at(
                 .structs
                 .offset_of_cell(&CType::Struct(number), cell as u32);
             let ctype = copied(context, &members[cell].ctype)?;
-            let place = cell_of(base, cell as u32, offset, site);
+            let place = cell_of(base, offset, site);
             Ok(context.boxed(Typed::Cell { ctype, place })?)
         }
     }

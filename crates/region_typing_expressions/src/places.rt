@@ -59,23 +59,13 @@ fn checked_at(place: CellPlace, site: Site) -> CellPlace
     ensures { place_of result ≡ checked_at_of (place_of place) site }
 {
     match place {
-        CellPlace::Direct {
-            object,
-            cell,
-            offset,
-        } => CellPlace::Direct {
-            object,
-            cell,
-            offset,
-        },
+        CellPlace::Direct { object, offset } => CellPlace::Direct { object, offset },
         CellPlace::Through {
             pointer,
-            cell,
             offset,
             ..
         } => CellPlace::Through {
             pointer,
-            cell,
             offset,
             site,
         },

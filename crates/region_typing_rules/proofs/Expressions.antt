@@ -1,5 +1,5 @@
 -- Expressions that break no rule have types.
-use Rattle.std.proofs.Common.{◌≡◌, ℕ, ◌+◌, ◌^◌, Bool, true, false, List, [], ◌∷◌, replicate, length, Option, Some, None, pos, refl, sym, ap, ◌∙◌, subst, arith}
+use Rattle.std.proofs.Common.{◌≡◌, ℕ, ◌+◌, ◌^◌, Bool, true, false, List, [], ◌∷◌, replicate, length, Option, Some, None, pos, refl, sym, subst, arith}
 use Rattle.std.specs.Prelude.{◌==◌, slice_get, nat_lt, not, ◌&&◌, ◌||◌}
 use Rattle.std.specs.List.{AllByRecursion}
 use Rattle.std.proofs.lemmas.Bool.{and_parts, eqb-true}
@@ -10,7 +10,7 @@ use Rattle.ckc_tree.specs.declared.expr.UnaryOperator.TheVariants as unary
 use Rattle.ckc_tree.specs.declared.expr.BinaryOperator.{BinaryOperator}
 use Rattle.ckc_tree.specs.declared.expr.BinaryOperator.TheVariants as binary
 use Rattle.ckc_tree.specs.Expressions as e
-use Rattle.ckc_tree.specs.Expressions.{Expression, Expressions, expression_span}
+use Rattle.ckc_tree.specs.Expressions.{Expression, Expressions}
 use Rattle.pointer_modes.specs.declared.ctype.Mode.{Mode}
 use Rattle.pointer_modes.specs.declared.ctype.Kind.{Kind}
 use Rattle.pointer_modes.specs.Types.{CType, Int, Char, Struct, Pointer, members_of}
@@ -25,7 +25,7 @@ use Rattle.act_words.specs.declared.operator.Comparison.TheVariants as compariso
 use Rattle.ckc_core.specs.declared.program.Callee.{Callee}
 use Rattle.ckc_core.specs.declared.program.Callee.TheVariants as callees
 use Rattle.ckc_core.specs.Core as core
-use Rattle.ckc_core.specs.States.{same_type}
+use Rattle.ckc_core.specs.States.{shape, object_block, same_type}
 use Rattle.ckc_core.proofs.Elements.{of_element}
 use Rattle.ckc_names_rules.specs.declared.given.Given.{Given}
 use Rattle.region_typing_rules.specs.Verdicts.{Verdict, Passes, breaks}
@@ -33,11 +33,11 @@ use Rattle.region_typing_rules.specs.Scopes.{Scope, Signature, Named, Local, Obj
 use Rattle.region_typing_rules.specs.Types.{type_named, is_number, is_pointer, are_comparable, converts}
 use Rattle.region_typing_rules.specs.Expressions.{Places, Lvalue, OfLocal, OfCell, Typed, Value, AStruct, Called, Gives, GivesNothing, site_at, number, at_place, local_typed, name_typed, member_place, member_from, offset_among, member_at, dotted, pointed_by, arrowed, pointed_at, dereferenced, pointer_to, address, number_of, scalar_of, unary_typed, is_pointer_value, two_numbers, two_scalars, summands, as_pointer, equated_values, equated, ordered_values, ordered, arithmetic, binary_typed, indexed, in_type, converted, arguments_as, is_import, side_number, callee_of, call_of, first_of, writes, predefined_call, called, with_result, constant, typed, all_typed, call_typed}
 use Rattle.region_typing_rules.specs.Typed as rules
-use Rattle.region_typing_rules.specs.Typed.{Frame, Stands, slots, IsPlace, IsCallee, HasType, HaveTypes, HasPlace, IsStatement, IsScalar, IsScalarResult, IsNumberResult}
-use Rattle.region_typing_rules.proofs.Values.{scalar_stands}
+use Rattle.region_typing_rules.specs.Typed.{Frame, slots, IsCallee, HasType, HaveTypes, HasPlace, IsStatement, IsScalar, IsScalarResult, IsNumberResult}
 use Rattle.region_typing_rules.proofs.Verdicts.{Promises, passing_promises, needs_promises, anything_promised}
 use Rattle.region_typing_rules.proofs.Knowledge.{IsNumberType, IsTrusted, IsTainted, Knows, same_equal, StandsFor, name_stands, crossing_promises, HasMember, IfMember, member_there, member_slot}
 use Rattle.region_typing_rules.proofs.Sizes.{size_fits}
+use Rattle.region_typing_rules.proofs.Slots.{scalar_at}
 
 pub number_scalar : (t : CType) → is_number t ≡ true → IsScalar t
 number_scalar Int h = refl
@@ -98,25 +98,23 @@ module _ (g : Frame) (types : List CType) where
 
   name_fits : AllByRecursion IsScalar types → (n : Named) → StandsFor g types n → Fits (name_typed n)
   name_fits all (Local k t) h = local_fits k t (of_element IsScalar types k t all h) h
-  name_fits all (Object k t) h = at_place_fits t (core.Direct k 0 0) (rules.direct h.found h.stands refl)
+  name_fits all (Object k t) h = at_place_fits t (core.Direct k 0) (rules.direct h.found h.stands)
   name_fits all Nothing h = record { has_type = rules.word refl; is_number = λ x. refl; stands = tt; scalar = refl }
 
-  member_of : {p : core.Place} {n : ℕ} → HasPlace g types p (Struct n) → (k offset : ℕ) (t : CType) (site : Site) → slice_get (slots g.structs (Struct n)) k ≡ Some (record { type = t; offset = offset }) → IsScalar t → HasPlace g types (member_place p k offset site) t
-  member_of (rules.direct {cell = cell} {offset = first} {cells = is} found stands at) k offset t site slot scalar =
-      let one = stands.each k (record { type = t; offset = offset }) slot in
-      rules.direct found (scalar_stands g is (cell + k) one.0 t scalar one.1 one.2) (one.3 ∙ ap (λ x. x + offset) at)
+  member_of : {p : core.Place} {n : ℕ} → HasPlace g types p (Struct n) → (k offset : ℕ) (t : CType) (site : Site) → slice_get (slots g.structs (Struct n)) k ≡ Some (record { type = t; offset = offset }) → IsScalar t → HasPlace g types (member_place p offset site) t
+  member_of (rules.direct {offset = first} {cells = is} found stands) k offset t site slot scalar =
+      rules.direct found (scalar_at g.structs (shape (object_block is)) (first + offset) t scalar (stands.each k (record { type = t; offset = offset }) slot) stands.open_ended)
   member_of (rules.pointed {e = e} h) k offset t site slot scalar =
-      let cell : k ≡ 0 + k = omega arith in
       let place : offset ≡ 0 + offset = omega arith in
-      let here : HasPlace g types (core.Through e k offset site) t = rules.member h slot scalar in
-      subst (λ o. HasPlace g types (core.Through e (0 + k) o site) t) place (subst (λ c. HasPlace g types (core.Through e c offset site) t) cell here)
-  member_of (rules.member h found scalar') k offset t site slot scalar = absurd (cc)
+      let here : HasPlace g types (core.Through e offset site) t = rules.member k h slot scalar in
+      subst (λ o. HasPlace g types (core.Through e o site) t) place here
+  member_of (rules.member i h found scalar') k offset t site slot scalar = absurd (cc)
 
   -- a pointer to a place
   pointer_fits : {p : core.Place} {t : CType} → HasPlace g types p t → (site : Site) → Fits (pointer_to t p site)
-  pointer_fits (rules.direct found stands at) site = plain_fits _ _ refl (rules.address_of (rules.direct found stands at))
+  pointer_fits (rules.direct found stands) site = plain_fits _ _ refl (rules.address_of (rules.direct found stands))
   pointer_fits (rules.pointed h) site = plain_fits _ _ refl (rules.address_of (rules.pointed h))
-  pointer_fits (rules.member h found scalar) site = plain_fits _ _ refl (rules.address_of (rules.member h found scalar))
+  pointer_fits (rules.member k h found scalar) site = plain_fits _ _ refl (rules.address_of (rules.member k h found scalar))
 
   address_promises : (a : Typed) (site : Site) (span : Span) → Fits a → Promises Fits (address a site span)
   address_promises (Value type zero value None) site span h = tt
@@ -129,7 +127,7 @@ module _ (g : Frame) (types : List CType) where
   pointed_promises Int value site span h = tt
   pointed_promises Char value site span h = tt
   pointed_promises (Struct number) value site span h = tt
-  pointed_promises (Pointer m k t) value site span h = at_place_fits t (core.Through value 0 0 site) (rules.pointed h)
+  pointed_promises (Pointer m k t) value site span h = at_place_fits t (core.Through value 0 site) (rules.pointed h)
 
   dereferenced_promises : (a : Typed) (site : Site) (span : Span) → Fits a → Promises Fits (dereferenced a site span)
   dereferenced_promises (Value type zero value place) site span h = pointed_promises type value site span h.has_type
@@ -331,14 +329,14 @@ module _ (g : Frame) (types : List CType) where
   module _ (s : Scope) (knows : Knows g types s) where
     -- ---- members
 
-    member_fits : (n : ℕ) (p : core.Place) (found : ℕ × CType) (site : Site) → HasPlace g types p (Struct n) → HasMember (members_of s.structs n) 0 found → Fits (at_place found.1 (member_place p found.0 (offset_among (cells_of s.structs (Struct n)) found.0) site))
+    member_fits : (n : ℕ) (p : core.Place) (found : ℕ × CType) (site : Site) → HasPlace g types p (Struct n) → HasMember (members_of s.structs n) 0 found → Fits (at_place found.1 (member_place p (offset_among (cells_of s.structs (Struct n)) found.0) site))
     member_fits n p found site h m =
         let k : m.index ≡ found.0 = let e = m.counted in omega arith in
         let slot = member_slot g s knows.file n m.index m.member m.listed in
         let scalar = of_element (λ x. IsScalar x.ctype) (members_of s.structs n) m.index m.member (knows.file.scalar_members n) m.listed in
         let there = member_of h m.index (offset_among (cells_of s.structs (Struct n)) m.index) m.member.ctype site slot scalar in
-        let typed = subst (λ t. HasPlace g types (member_place p m.index (offset_among (cells_of s.structs (Struct n)) m.index) site) t) m.typed there in
-        at_place_fits found.1 _ (subst (λ i. HasPlace g types (member_place p i (offset_among (cells_of s.structs (Struct n)) i) site) found.1) k typed)
+        let typed = subst (λ t. HasPlace g types (member_place p (offset_among (cells_of s.structs (Struct n)) m.index) site) t) m.typed there in
+        at_place_fits found.1 _ (subst (λ i. HasPlace g types (member_place p (offset_among (cells_of s.structs (Struct n)) i) site) found.1) k typed)
 
     member_at_promises : (n : ℕ) (p : core.Place) (name : ℕ) (site : Site) (span : Span) → HasPlace g types p (Struct n) → Promises Fits (member_at s n p name site span)
     member_at_promises n p name site span h = by (member_from 0 (members_named s n) (members_of s.structs n) name) refl
@@ -359,7 +357,7 @@ module _ (g : Frame) (types : List CType) where
     pointed_by_promises (Pointer m k Int) value name site span h = tt
     pointed_by_promises (Pointer m k Char) value name site span h = tt
     pointed_by_promises (Pointer m k (Pointer m' k' t)) value name site span h = tt
-    pointed_by_promises (Pointer m k (Struct n)) value name site span h = member_at_promises n (core.Through value 0 0 site) name site span (rules.pointed h)
+    pointed_by_promises (Pointer m k (Struct n)) value name site span h = member_at_promises n (core.Through value 0 site) name site span (rules.pointed h)
 
     arrowed_promises : (a : Typed) (name : ℕ) (site : Site) (span : Span) → Fits a → Promises Fits (arrowed s a name site span)
     arrowed_promises (Value type zero value place) name site span h = pointed_by_promises type value name site span h.has_type

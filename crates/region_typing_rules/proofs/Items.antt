@@ -18,12 +18,13 @@ use Rattle.ckc_names_rules.specs.Given as names
 use Rattle.ckc_names_rules.specs.Naming as naming
 use Rattle.ckc_names_rules.specs.Naming.{is_int_type, is_int, takes_nothing, is_main_function, is_main}
 use Rattle.built_forms.specs.Built.{is_number_type, is_number_result, is_number_parameter, built_parameters, built_of_kind, built_function, built_item}
-use Rattle.ckc_tree.specs.Items.{Item, Tree}
+use Rattle.ckc_tree.specs.Items.{Item}
 use Rattle.ckc_tree.specs.Heights.{◌beside◌, statements_reach, optional_bounds_reach, result_reach, parameters_reach, optional_body_reach, item_reach, items_reach}
 use Rattle.flat_bytes.specs.Blocks.{rounded_up}
 use Rattle.pointer_modes.specs.Layout.{size_of}
 use Rattle.pointer_modes.specs.Types.{CType, Int, Char, Struct, Pointer, Member, Structure}
 use Rattle.ckc_core.specs.Core as core
+use Rattle.ckc_core.specs.States.{shape, object_block}
 use Rattle.ckc_core.specs.Stacks.{statements_stack}
 use Rattle.region_typing_rules.specs.Verdicts.{Verdict, Passes, Stops, passing, meant, picked}
 use Rattle.region_typing_rules.specs.Scopes.{Scope, Signature, Variable, struct_named, function_named}
@@ -31,7 +32,7 @@ use Rattle.region_typing_rules.specs.Types.{base_type, without_stars, type_named
 use Rattle.region_typing_rules.specs.Expressions.{Places, Typed, typed, is_import, is_tainted}
 use Rattle.region_typing_rules.specs.Statements.{statements, with_local, is_unchecked}
 use Rattle.region_typing_rules.specs.Items as items
-use Rattle.region_typing_rules.specs.Items.{Walk, in_checked_region, is_struct, member_types, scalar_members, with_struct, member_names, signed_constant, structure, Walked, Missing, Written, Constants, initializer, object_cells, with_variable, WalkedVariable, written_size, few_bytes, room_for, room_for_first, variables, with_objects, global, listed, parameter_types, result_type, with_function, with_parameters, inside, core_function, function_body, is_defined, agrees, all_scalar, scalar_result, function_rules, signature_of, function, item}
+use Rattle.region_typing_rules.specs.Items.{Walk, in_checked_region, is_struct, member_types, scalar_members, with_struct, member_names, signed_constant, structure, Walked, initializer, object_cells, with_variable, WalkedVariable, written_size, few_bytes, room_for, room_for_first, variables, with_objects, global, listed, parameter_types, result_type, with_function, with_parameters, inside, core_function, function_body, is_defined, agrees, all_scalar, scalar_result, function_rules, signature_of, function, item}
 use Rattle.region_typing_rules.specs.Typed.{Frame, slots, Stands, IsScalar, IsScalarResult, AreStatements, IsNumberResult}
 use Rattle.region_typing_rules.specs.Lowerable.{cells_size, objects_size, IsRoomy}
 use Rattle.region_typing_rules.proofs.Verdicts.{Promises, passing_promises, needs_promises, anything_promised, promised_so, both_promise, later_promises, all_promised, Extends, extends_append}
@@ -246,7 +247,7 @@ module _ (height entry : ℕ) where
       (λ initial is. variables_promise at a (record w { scope = with_variable d.name.number t w.scope; taken = taken }) base type span ds (walked ++ record { type = t; initial = initial } ∷ []) (sized_later w.scope d.name.number t base type sized)
       (with_variable_waits a w walked d.name.number t initial taken (taken_by w base type t d.stars taken sized room plain.0 plain.1) room.within h is))))
 
-  settled_append : (structs : List Structure) (vs : List Variable) (objects : List (List core.Initial)) (v : Variable) (cells : List core.Initial) → AreSettled structs vs objects → Stands cells 0 (slots structs v.type) → AreSettled structs (vs ++ v ∷ []) (objects ++ cells ∷ [])
+  settled_append : (structs : List Structure) (vs : List Variable) (objects : List (List core.Initial)) (v : Variable) (cells : List core.Initial) → AreSettled structs vs objects → Stands (shape (object_block cells)) 0 (slots structs v.type) → AreSettled structs (vs ++ v ∷ []) (objects ++ cells ∷ [])
   settled_append structs [] [] v cells h stands = (stands, tt)
   settled_append structs [] (o ∷ objects) v cells h stands = absurd h
   settled_append structs (u ∷ vs) [] v cells h stands = absurd h
@@ -256,8 +257,8 @@ module _ (height entry : ℕ) where
   with_cells : (a w : Walk) (x : WalkedVariable) (walked : List WalkedVariable) (cells : List core.Initial) → Waits a (w, x ∷ walked) → AreCellsOf w.scope.structs x.type cells → 0 < length cells → Waits a (record w { objects = w.objects ++ cells ∷ [] }, walked)
   with_cells a w x walked cells h is some = by h.waiting_ones h.all h.waiting h.bytes
     where
-      stands : Stands cells 0 (slots w.scope.structs x.type)
-      stands = subst (λ c. Stands c 0 (slots w.scope.structs x.type)) (sym is.same) (cells_stand w.scope.structs x.type is.number (subst (λ (c : List core.Initial). 0 < length c) is.same some))
+      stands : Stands (shape (object_block cells)) 0 (slots w.scope.structs x.type)
+      stands = subst (λ c. Stands (shape (object_block c)) 0 (slots w.scope.structs x.type)) (sym is.same) (cells_stand w.scope.structs x.type is.number (subst (λ (c : List core.Initial). 0 < length c) is.same some))
 
       size : cells_size cells ≡ size_of w.scope.structs x.type
       size = ap cells_size is.same ∙ whole_size w.scope.structs x.type is.number (subst (λ (c : List core.Initial). 0 < length c) is.same some)
@@ -272,7 +273,7 @@ module _ (height entry : ℕ) where
         waiting_ones = vs;
         all = all ∙ sym (append_assoc h.settled_ones (v ∷ []) vs);
         well = record { few = h.well.few; scalars = h.well.scalars; start = all_append (AllByRecursion IsStart) w.objects cells h.well.start is.start; declared = h.well.declared; bodies = h.well.bodies; roomy = all_append (λ (o : List core.Initial). AllByRecursion IsRoomy o × (0 < length o)) w.objects cells h.well.roomy (is.roomy, some); bytes = omega (arith, bytes, taken v waiting.0); room = h.well.room };
-        settled = settled_append w.scope.structs h.settled_ones w.objects v cells h.settled (subst (λ t. Stands cells 0 (slots w.scope.structs t)) (sym waiting.0) stands);
+        settled = settled_append w.scope.structs h.settled_ones w.objects v cells h.settled (subst (λ t. Stands (shape (object_block cells)) 0 (slots w.scope.structs t)) (sym waiting.0) stands);
         waiting = waiting.2;
         grows = h.grows;
         bytes = omega (arith, bytes, taken v waiting.0);

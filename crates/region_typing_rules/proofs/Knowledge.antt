@@ -12,12 +12,12 @@ use Rattle.pointer_modes.specs.declared.ctype.Kind.TheVariants as kinds
 use Rattle.pointer_modes.specs.Types.{CType, Int, Char, Struct, Pointer, Member, Structure, members_of}
 use Rattle.pointer_modes.specs.Layout.{placed_from, member_sizes, cells_of, aligned_up, scalar_size}
 use Rattle.ckc_core.specs.Core as core
-use Rattle.ckc_core.specs.States.{same_mode, same_kind, same_type}
+use Rattle.ckc_core.specs.States.{shape, object_block, same_mode, same_kind, same_type}
 use Rattle.region_typing_rules.specs.Verdicts.{Verdict, meant, picked}
 use Rattle.region_typing_rules.specs.Scopes.{Scope, Signature, Variable, Visible, Named, Local, Object, Nothing, local_if, found_if, local_named, object_named, or_else, null_named, named, function_named}
 use Rattle.region_typing_rules.specs.Types.{is_number}
 use Rattle.region_typing_rules.specs.Expressions.{Typed, is_checked_argument, without_checked, crossing, is_import, side_number, member_from, offset_among}
-use Rattle.region_typing_rules.specs.Typed.{Frame, slots_from, slots, IsPlace, IsNumberResult, IsScalar, IsScalarResult}
+use Rattle.region_typing_rules.specs.Typed.{Frame, slots_from, slots, Stands, IsNumberResult, IsScalar, IsScalarResult}
 use Rattle.region_typing_rules.proofs.Verdicts.{Promises, needs_promises, Extends}
 
 abbrev pub IsNumberType : CType → Type 0
@@ -40,12 +40,18 @@ pub record IsTainted (g : Frame) (number : ℕ) (f : Signature) : Type 0 where
   pub numbers : AllByRecursion IsNumberType f.parameters
   pub number_result : IsNumberResult f.result
 
+-- a variable of the program, and the type of what stands at its first byte
+pub record IsObject (g : Frame) (type : CType) (number : ℕ) : Type 0 where
+  pub cells : List core.Initial
+  pub found : slice_get g.program.objects number ≡ Some cells
+  pub stands : Stands (shape (object_block cells)) 0 (slots g.structs type)
+
 -- the structs, the variables and the functions that are known are those of the program
 pub record KnowsFile (g : Frame) (s : Scope) : Type 0 where
   pub structs : Extends s.structs g.structs
   pub few_members : (n : ℕ) → length (members_of s.structs n) ≤ 64
   pub scalar_members : (n : ℕ) → AllByRecursion (λ m. IsScalar m.ctype) (members_of s.structs n)
-  pub variables : (k : ℕ) (v : Variable) → slice_get s.variables k ≡ Some v → IsPlace g v.type k 0
+  pub variables : (k : ℕ) (v : Variable) → slice_get s.variables k ≡ Some v → IsObject g v.type k
   pub trusted : (name : ℕ) (f : Signature) → function_named s.functions name ≡ Some f → is_import f ≡ false → IsTrusted g (side_number false s.functions f.name 0) f
   pub tainted : (name : ℕ) (f : Signature) → function_named s.functions name ≡ Some f → is_import f ≡ true → IsTainted g (side_number true s.functions f.name 0) f
 
@@ -119,7 +125,7 @@ crossing_promises Q false arguments next h = h
 -- what a name stands for is there
 abbrev pub StandsFor : Frame → List CType → Named → Type 0
 StandsFor g types (Local k t) = slice_get types k ≡ Some t
-StandsFor g types (Object k t) = IsPlace g t k 0
+StandsFor g types (Object k t) = IsObject g t k
 StandsFor g types Nothing = Unit {0}
 
 abbrev IfNamed : Frame → List CType → Option Named → Type 0
@@ -140,12 +146,12 @@ module _ (g : Frame) (types : List CType) where
   locals_stand known ext (v ∷ visible) name =
       found_stands (name == v.name) (local_if (slice_get known v.local) v.local) (local_named known visible name) (local_stands (slice_get known v.local) v.local (λ t h. ext v.local t h)) (locals_stand known ext visible name)
 
-  objects_stand : (number : ℕ) (variables : List Variable) (name : ℕ) → ((k : ℕ) (v : Variable) → slice_get variables k ≡ Some v → IsPlace g v.type (number + k) 0) → IfNamed g types (object_named number variables name)
+  objects_stand : (number : ℕ) (variables : List Variable) (name : ℕ) → ((k : ℕ) (v : Variable) → slice_get variables k ≡ Some v → IsObject g v.type (number + k)) → IfNamed g types (object_named number variables name)
   objects_stand number [] name h = tt
   objects_stand number (v ∷ variables) name h =
       let first : number + 0 ≡ number = omega arith in
-      found_stands (name == v.name) (Some (Object number v.type)) (object_named (suc number) variables name) (subst (λ k. IsPlace g v.type k 0) first (h 0 v refl))
-      (objects_stand (suc number) variables name (λ k w e. let same : number + suc k ≡ suc number + k = omega arith in subst (λ j. IsPlace g w.type j 0) same (h (suc k) w e)))
+      found_stands (name == v.name) (Some (Object number v.type)) (object_named (suc number) variables name) (subst (λ k. IsObject g v.type k) first (h 0 v refl))
+      (objects_stand (suc number) variables name (λ k w e. let same : number + suc k ≡ suc number + k = omega arith in subst (λ j. IsObject g w.type j) same (h (suc k) w e)))
 
   either_stands : (this other : Option Named) → IfNamed g types this → IfNamed g types other → IfNamed g types (or_else this other)
   either_stands (Some n) other h h' = h
@@ -160,7 +166,7 @@ module _ (g : Frame) (types : List CType) where
       meant_stands (or_else (local_named s.locals s.visible name) (or_else (object_named 0 s.variables name) (null_named s.given name)))
       (either_stands (local_named s.locals s.visible name) (or_else (object_named 0 s.variables name) (null_named s.given name)) (locals_stand s.locals knows.locals s.visible name)
       (either_stands (object_named 0 s.variables name) (null_named s.given name)
-      (objects_stand 0 s.variables name (λ k v e. let same : k ≡ 0 + k = omega arith in subst (λ j. IsPlace g v.type j 0) same (knows.file.variables k v e)))
+      (objects_stand 0 s.variables name (λ k v e. let same : k ≡ 0 + k = omega arith in subst (λ j. IsObject g v.type j) same (knows.file.variables k v e)))
       (found_stands (name == s.given.null) (Some Nothing) None tt tt)))
 
 -- ---- members

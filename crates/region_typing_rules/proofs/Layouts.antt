@@ -1,5 +1,5 @@
 -- The cells of a file-level variable stand as the slots of its type.
-use Rattle.std.proofs.Common.{◌≡◌, ℕ, zero, suc, ◌+◌, ◌-◌, ◌<◌, ◌≤◌, ◌^◌, ◌%◌, Bool, true, false, ℤ, pos, List, [], ◌∷◌, ◌++◌, map, length, Option, Some, None, refl, sym, ap, subst, ◌⊎◌, inl, inr, ⊎_elim, arith}
+use Rattle.std.proofs.Common.{◌≡◌, ℕ, zero, suc, ◌+◌, ◌-◌, ◌<◌, ◌≤◌, ◌^◌, ◌%◌, Bool, true, false, ℤ, pos, List, [], ◌∷◌, ◌++◌, map, length, Option, Some, None, refl, sym, ap, ◌∙◌, subst, ◌⊎◌, inl, inr, ⊎_elim, arith}
 use Rattle.std.specs.Prelude.{◌==◌, nat_lt, slice_get}
 use Rattle.std.specs.List.{AllByRecursion}
 use Rattle.std.proofs.lemmas.Bool.Decides.{nat_tests}
@@ -13,22 +13,22 @@ use Rattle.ckc_tree.specs.Expressions.{Expression}
 use Rattle.pointer_modes.specs.Types.{CType, Int, Char, Struct, Pointer, Member, Structure, members_of}
 use Rattle.pointer_modes.specs.Layout.{placed_from, member_sizes, size_of, aligned_up, scalar_size, end_from, largest_of}
 use Rattle.ckc_core.specs.Core as core
-use Rattle.ckc_core.specs.States.{has_type, initial_value, object_block, byte_place}
+use Rattle.ckc_core.specs.States.{shape, type_at, has_type, initial_value, object_block}
 use Rattle.ckc_core.specs.States as states
 use Rattle.ckc_core.specs.Meaning.{low_byte}
 use Rattle.ckc_names_rules.specs.declared.given.Given.{Given}
 use Rattle.region_typing_rules.specs.Scopes.{Scope}
 use Rattle.region_typing_rules.specs.Expressions.{Places, Typed, typed, constant, offset_among, unary_typed, site_at}
 use Rattle.region_typing_rules.specs.Items.{negative, null_number, unsigned_constant, negated_of, positive_of, signed_constant, strides_from, strides_of, cell_types, numbered_cells, cells_with, Walked, Missing, Written, Constants, is_zero, number_or_break, written_cells, object_cells}
-use Rattle.region_typing_rules.specs.Typed.{Frame, Slot, slots_from, slots, Stands, HasValue, IsScalar}
+use Rattle.region_typing_rules.specs.Typed.{Slot, slots_from, slots, Stands, HasValue, IsScalar, IsInitial}
 use Rattle.region_typing_rules.specs.Lowerable.{cells_size, IsRoomy}
 use Rattle.ckc_core.proofs.Numbers.{low_byte_small}
-use Rattle.region_typing_rules.proofs.Values.{value_typed}
 use Rattle.region_typing_rules.proofs.Verdicts.{Promises, passing_promises, needs_promises, anything_promised, always_promised, Extends}
+use Rattle.region_typing_rules.proofs.Slots.{behind_cell, scalar_at}
 
 -- a cell before the run holds a value of its type, in every program
 abbrev pub IsStart : core.Initial → Type 0
-IsStart i = (g : Frame) → HasValue g i.type (initial_value i.type i.number)
+IsStart i = (structs : List Structure) → IsInitial structs i
 
 -- ---- members
 
@@ -72,6 +72,13 @@ first_at_zero Char = refl
 first_at_zero (Struct n) = refl
 first_at_zero (Pointer m k t) = refl
 
+-- a size or an alignment is 1 or 4
+scalar_width : (t : CType) → (scalar_size t ≡ 1) ⊎ (scalar_size t ≡ 4)
+scalar_width Int = inr refl
+scalar_width Char = inl refl
+scalar_width (Struct n) = inr refl
+scalar_width (Pointer m k t) = inr refl
+
 abbrev types_of : List Member → List CType
 types_of members = map (λ (m : Member). m.ctype) members
 
@@ -79,87 +86,71 @@ types_of members = map (λ (m : Member). m.ctype) members
 abbrev cells_from : ℤ → ℕ → List Member → ℕ → List core.Initial
 cells_from number place members end = numbered_cells number (types_of members) (strides_from (placed_from place (member_sizes members)) end)
 
--- a slot's cell, whose byte place is counted from the first cell
-record HasSlot (cells : List core.Initial) (k first : ℕ) (slot : Slot) : Type 0 where
-  initial : core.Initial
-  found : slice_get cells k ≡ Some initial
-  typed : initial.type ≡ slot.type
-  place : byte_place (object_block cells) k + first ≡ slot.offset
+-- the byte of a slot's cell, from the first cell on
+record HasSlot (cells : List core.Initial) (first : ℕ) (slot : Slot) : Type 0 where
+  byte : ℕ
+  typed : type_at (shape (object_block cells)) byte ≡ Some slot.type
+  place : byte + first ≡ slot.offset
 
-slot_stands : (number : ℤ) (members : List Member) (place end k : ℕ) (slot : Slot) → slice_get (slots_from members (placed_from place (member_sizes members))) k ≡ Some slot → HasSlot (cells_from number place members end) k (offset_among (placed_from place (member_sizes members)) 0) slot
+slot_stands : (number : ℤ) (members : List Member) (place end k : ℕ) (slot : Slot) → slice_get (slots_from members (placed_from place (member_sizes members))) k ≡ Some slot → HasSlot (cells_from number place members end) (offset_among (placed_from place (member_sizes members)) 0) slot
 slot_stands number [] place end k slot h = absurd (cc)
 slot_stands number (m ∷ []) place end zero slot h =
     let it : record { type = m.ctype; offset = aligned_up (scalar_size m.ctype) place } ≡ slot = cc in
     let offset = ap (λ (x : Slot). x.offset) it in
-    record { initial = record { type = m.ctype; stride = end - aligned_up (scalar_size m.ctype) place; number = number }; found = refl; typed = ap (λ (x : Slot). x.type) it; place = omega arith }
+    record { byte = 0; typed = ap (λ (x : Slot). Some x.type) it; place = omega arith }
 slot_stands number (m ∷ []) place end (suc k) slot h = absurd (cc)
 slot_stands number (m ∷ next ∷ members) place end zero slot h =
     let it : record { type = m.ctype; offset = aligned_up (scalar_size m.ctype) place } ≡ slot = cc in
     let offset = ap (λ (x : Slot). x.offset) it in
-    record { initial = _; found = refl; typed = ap (λ (x : Slot). x.type) it; place = omega arith }
+    record { byte = 0; typed = ap (λ (x : Slot). Some x.type) it; place = omega arith }
 slot_stands number (m ∷ next ∷ members) place end (suc k) slot h =
     let o = aligned_up (scalar_size m.ctype) place in
+    let stride = aligned_up (scalar_size next.ctype) (o + scalar_size m.ctype) - o in
     let rest = slot_stands number (next ∷ members) (o + scalar_size m.ctype) end k slot h in
     let below = aligned_least next.ctype (o + scalar_size m.ctype) in
+    let width = scalar_width m.ctype in
+    let wide : 0 < stride = omega arith in
     let there = rest.place in
-    record { initial = rest.initial; found = rest.found; typed = rest.typed; place = omega arith }
+    record { byte = stride + rest.byte; typed = behind_cell m.ctype _ stride _ false rest.byte wide ∙ rest.typed; place = omega arith }
 
-single_stands : (t : CType) (stride : ℕ) (number : ℤ) → Stands (record { type = t; stride = stride; number = number } ∷ []) 0 (record { type = t; offset = 0 } ∷ [])
-single_stands t stride number = record { there = omega arith; each = each }
-  where
-    each : (k : ℕ) (slot : Slot) → slice_get (record { type = t; offset = 0 } ∷ []) k ≡ Some slot → (i : core.Initial) × (slice_get (record { type = t; stride = stride; number = number } ∷ []) (0 + k) ≡ Some i) × (i.type ≡ slot.type) × (byte_place (object_block (record { type = t; stride = stride; number = number } ∷ [])) (0 + k) ≡ byte_place (object_block (record { type = t; stride = stride; number = number } ∷ [])) 0 + slot.offset)
-    each zero slot h =
-        let it : record { type = t; offset = 0 } ≡ slot = cc in
-        (record { type = t; stride = stride; number = number }, refl, ap (λ (x : Slot). x.type) it, ap (λ (x : Slot). 0 + x.offset) it)
-    each (suc k) slot h = absurd (cc)
-
-members_stand : (members : List Member) (number : ℤ) (end : ℕ) → 0 < length (cells_from number 0 members end) → Stands (cells_from number 0 members end) 0 (slots_from members (placed_from 0 (member_sizes members)))
+members_stand : (members : List Member) (number : ℤ) (end : ℕ) → 0 < length (cells_from number 0 members end) → Stands (shape (object_block (cells_from number 0 members end))) 0 (slots_from members (placed_from 0 (member_sizes members)))
 members_stand [] number end some = absurd (omega arith)
-members_stand (m ∷ members) number end some = record { there = omega arith; each = each }
+members_stand (m ∷ members) number end some = record { there = omega arith; each = each; open_ended = refl }
   where
-    each : (k : ℕ) (slot : Slot) → slice_get (slots_from (m ∷ members) (placed_from 0 (member_sizes (m ∷ members)))) k ≡ Some slot → (i : core.Initial) × (slice_get (cells_from number 0 (m ∷ members) end) (0 + k) ≡ Some i) × (i.type ≡ slot.type) × (byte_place (object_block (cells_from number 0 (m ∷ members) end)) (0 + k) ≡ byte_place (object_block (cells_from number 0 (m ∷ members) end)) 0 + slot.offset)
+    each : (k : ℕ) (slot : Slot) → slice_get (slots_from (m ∷ members) (placed_from 0 (member_sizes (m ∷ members)))) k ≡ Some slot → type_at (shape (object_block (cells_from number 0 (m ∷ members) end))) (0 + slot.offset) ≡ Some slot.type
     each k slot h =
         let here = slot_stands number (m ∷ members) 0 end k slot h in
-        let cells = cells_from number 0 (m ∷ members) end in
-        let same : k ≡ 0 + k = omega arith in
         let zeroth = first_at_zero m.ctype in
         let place = here.place in
-        let at : byte_place (object_block cells) k ≡ 0 + slot.offset = omega arith in
-        (here.initial, subst (λ j. slice_get cells j ≡ Some here.initial) same here.found, here.typed, subst (λ j. byte_place (object_block cells) j ≡ 0 + slot.offset) same at)
+        let at : here.byte ≡ 0 + slot.offset = omega arith in
+        subst (λ b. type_at (shape (object_block (cells_from number 0 (m ∷ members) end))) b ≡ Some slot.type) at here.typed
 
 -- the cells of a variable, where there are some
-pub cells_stand : (structs : List Structure) (t : CType) (number : ℤ) → 0 < length (cells_with structs t number) → Stands (cells_with structs t number) 0 (slots structs t)
-cells_stand structs Int number some = single_stands Int _ number
-cells_stand structs Char number some = single_stands Char _ number
-cells_stand structs (Pointer m k t) number some = single_stands (Pointer m k t) _ number
+pub cells_stand : (structs : List Structure) (t : CType) (number : ℤ) → 0 < length (cells_with structs t number) → Stands (shape (object_block (cells_with structs t number))) 0 (slots structs t)
+cells_stand structs Int number some = scalar_at structs (shape (object_block (cells_with structs Int number))) 0 Int refl refl refl
+cells_stand structs Char number some = scalar_at structs (shape (object_block (cells_with structs Char number))) 0 Char refl refl refl
+cells_stand structs (Pointer m k t) number some = scalar_at structs (shape (object_block (cells_with structs (Pointer m k t) number))) 0 (Pointer m k t) refl refl refl
 cells_stand structs (Struct n) number some = members_stand (members_of structs n) number (size_of structs (Struct n)) some
 
 -- ---- values before the run
 
 -- cells of these types with this number
-numbered_start : (number : ℤ) (ts : List CType) (strides : List ℕ) → AllByRecursion (λ (t : CType). (g : Frame) → HasValue g t (initial_value t number)) ts → AllByRecursion IsStart (numbered_cells number ts strides)
+numbered_start : (number : ℤ) (ts : List CType) (strides : List ℕ) → AllByRecursion (λ (t : CType). (structs : List Structure) → HasValue structs [] t (initial_value t number)) ts → AllByRecursion IsStart (numbered_cells number ts strides)
 numbered_start number [] strides all = tt
 numbered_start number (t ∷ ts) [] all = tt
 numbered_start number (t ∷ ts) (stride ∷ strides) all = (all.0, numbered_start number ts strides all.1)
 
-zero_start : (t : CType) → IsScalar t → (g : Frame) → HasValue g t (initial_value t (pos 0))
-zero_start Int h g = refl
-zero_start Char h g = refl
-zero_start (Struct n) h g = absurd (cc)
-zero_start (Pointer m k t) h g = tt
+zero_start : (t : CType) → IsScalar t → (structs : List Structure) → HasValue structs [] t (initial_value t (pos 0))
+zero_start Int h structs = refl
+zero_start Char h structs = refl
+zero_start (Struct n) h structs = absurd (cc)
+zero_start (Pointer m k t) h structs = tt
 
-zeros_start : (members : List Member) → AllByRecursion (λ (m : Member). IsScalar m.ctype) members → AllByRecursion (λ (t : CType). (g : Frame) → HasValue g t (initial_value t (pos 0))) (types_of members)
+zeros_start : (members : List Member) → AllByRecursion (λ (m : Member). IsScalar m.ctype) members → AllByRecursion (λ (t : CType). (structs : List Structure) → HasValue structs [] t (initial_value t (pos 0))) (types_of members)
 zeros_start [] all = tt
 zeros_start (m ∷ members) all = (zero_start m.ctype all.0, zeros_start members all.1)
 
 -- ---- room
-
--- a size or an alignment is 1 or 4
-scalar_width : (t : CType) → (scalar_size t ≡ 1) ⊎ (scalar_size t ≡ 4)
-scalar_width Int = inr refl
-scalar_width Char = inl refl
-scalar_width (Struct n) = inr refl
-scalar_width (Pointer m k t) = inr refl
 
 largest_width : (members : List Member) → (largest_of (member_sizes members) ≡ 1) ⊎ (largest_of (member_sizes members) ≡ 4)
 largest_width [] = inl refl
@@ -216,17 +207,20 @@ all_roomy structs Char number = (omega arith, tt)
 all_roomy structs (Pointer m k t) number = (omega arith, tt)
 all_roomy structs (Struct n) number = cells_roomy number (members_of structs n) 0 (size_of structs (Struct n)) (struct_wide (members_of structs n))
 
+initial_typed : (t : CType) (number : ℤ) → HasValue [] [] t (initial_value t number) → has_type t (initial_value t number) ≡ true
+initial_typed Int number h = h
+initial_typed Char number h = h
+initial_typed (Struct n) number h = absurd h
+initial_typed (Pointer m k t) number h = refl
+
 -- cells with one number, which has 32 bits, and is 0 where the cell is null
 roomy_start : (number : ℤ) (ts : List CType) (strides : List ℕ) → is_word_number number ≡ true → AllByRecursion (λ (t : CType). initial_value t number ≡ states.Null → number ≡ pos 0) ts → AllByRecursion HasRoom (numbered_cells number ts strides) → AllByRecursion IsStart (numbered_cells number ts strides) → AllByRecursion IsRoomy (numbered_cells number ts strides)
 roomy_start number [] strides word null rooms start = tt
 roomy_start number (t ∷ ts) [] word null rooms start = tt
 roomy_start number (t ∷ ts) (stride ∷ strides) word null rooms start = (
-  record { room = rooms.0; typed = value_typed nowhere t (initial_value t number) (start.0 nowhere); word = word; null = null.0 },
+  record { room = rooms.0; typed = initial_typed t number (start.0 []); word = word; null = null.0 },
   roomy_start number ts strides word null.1 rooms.1 start.1,
 )
-  where
-    nowhere : Frame
-    nowhere = record { program = record { objects = []; imports = []; functions = []; main = 0 }; structs = [] }
 
 zero_null : (ts : List CType) → AllByRecursion (λ (t : CType). initial_value t (pos 0) ≡ states.Null → pos 0 ≡ pos 0) ts
 zero_null [] = tt
@@ -240,7 +234,7 @@ pub record AreCellsOf (structs : List Structure) (t : CType) (cells : List core.
   pub roomy : AllByRecursion IsRoomy cells
 
 -- cells with a number of 32 bits that each of their types has
-cells_of_number : (structs : List Structure) (t : CType) (number : ℤ) → is_word_number number ≡ true → AllByRecursion (λ (u : CType). initial_value u number ≡ states.Null → number ≡ pos 0) (cell_types structs t) → AllByRecursion (λ (u : CType). (g : Frame) → HasValue g u (initial_value u number)) (cell_types structs t) → AreCellsOf structs t (cells_with structs t number)
+cells_of_number : (structs : List Structure) (t : CType) (number : ℤ) → is_word_number number ≡ true → AllByRecursion (λ (u : CType). initial_value u number ≡ states.Null → number ≡ pos 0) (cell_types structs t) → AllByRecursion (λ (u : CType). (structs : List Structure) → HasValue structs [] u (initial_value u number)) (cell_types structs t) → AreCellsOf structs t (cells_with structs t number)
 cells_of_number structs t number word null values =
     let start = numbered_start number (cell_types structs t) (strides_of structs t) values in
     record { number = number; same = refl; start = start; roomy = roomy_start number (cell_types structs t) (strides_of structs t) word null (all_roomy structs t number) start }
@@ -268,7 +262,7 @@ negative_fits (suc n) h = grind (arith, nat_tests)
 
 int_cells : (structs : List Structure) (o : Option ℤ) (span : Span) → ConstantFits o → Promises (AreCellsOf structs Int) (number_or_break o span (cells_with structs Int))
 int_cells structs None span h = tt
-int_cells structs (Some z) span h = cells_of_number structs Int z h ((λ null. absurd (cc)), tt) ((λ g. h), tt)
+int_cells structs (Some z) span h = cells_of_number structs Int z h ((λ null. absurd (cc)), tt) ((λ structs. h), tt)
 
 char_cells : (structs : List Structure) (o : Option ℤ) (span : Span) → Promises (AreCellsOf structs Char) (number_or_break o span (λ n. cells_with structs Char (low_byte n)))
 char_cells structs None span = tt
@@ -276,7 +270,7 @@ char_cells structs (Some z) span =
     let small = low_byte_small z in
     let test : nat_lt (word z % 256) 256 ≡ true = grind (arith, nat_tests) in
     let word : is_word_number (low_byte z) ≡ true = grind (arith, nat_tests) in
-    cells_of_number structs Char (low_byte z) word ((λ null. absurd (cc)), tt) ((λ g. test), tt)
+    cells_of_number structs Char (low_byte z) word ((λ null. absurd (cc)), tt) ((λ structs. test), tt)
 
 written_promises : (given : Given) (structs : List Structure) (t : CType) (value : Expression) (x : Typed) (span : Span) → ConstantFits (signed_constant given value) → Promises (AreCellsOf structs t) (written_cells given structs t value x span)
 written_promises given structs Int value x span h = int_cells structs (signed_constant given value) span h

@@ -14,7 +14,7 @@ use Rattle.ckc_tree.specs.Types.{TypeTree, IntType, CharType, StructType, Pointe
 use Rattle.ckc_tree.specs.Statements as s
 use Rattle.ckc_tree.specs.Statements.{Initializer, Declarator}
 use Rattle.ckc_tree.specs.Items as i
-use Rattle.ckc_tree.specs.Items.{Member, ResultForm, Parameters, Body, Item, Tree}
+use Rattle.ckc_tree.specs.Items.{ResultForm, Parameters, Body, Item, Tree}
 use Rattle.ckc_tree.specs.Numbers.{Numbers, number_type, number_expression, number_initializer, number_declarator, number_statements, number_member, number_structure, number_global, number_result, number_parameters, number_body, number_function, number_item}
 use Rattle.built_forms.specs.Built.{optional, built_type, built_initializer, built_declarator, built_result, built_parameters, built_member, is_number_result, is_number_parameter, built_body, built_of_kind, built_function, built_item, is_built}
 use Rattle.ckc_names_rules.specs.declared.given.Given.{Given}

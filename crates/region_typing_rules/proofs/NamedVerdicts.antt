@@ -75,7 +75,7 @@ pointed_by_named s Char value name site span = tt
 pointed_by_named s (Struct number) value name site span = tt
 pointed_by_named s (Pointer mode kind Int) value name site span = tt
 pointed_by_named s (Pointer mode kind Char) value name site span = tt
-pointed_by_named s (Pointer mode kind (Struct number)) value name site span = member_named s number (core.Through value 0 0 site) name site span
+pointed_by_named s (Pointer mode kind (Struct number)) value name site span = member_named s number (core.Through value 0 site) name site span
 pointed_by_named s (Pointer mode kind (Pointer mode' kind' target)) value name site span = tt
 
 pub arrowed_named : (s : Scope) (t : Typed) (name : ℕ) (site : Site) (span : Span) → AllNamed (arrowed s t name site span)

@@ -10,7 +10,7 @@ use Rattle.ckc_tree.specs.declared.expr.UnaryOperator.TheVariants as unary
 use Rattle.ckc_tree.specs.declared.expr.BinaryOperator.{BinaryOperator}
 use Rattle.ckc_tree.specs.declared.expr.BinaryOperator.TheVariants as binary
 use Rattle.ckc_tree.specs.Expressions as e
-use Rattle.ckc_tree.specs.Expressions.{Expression, Expressions, expression_span}
+use Rattle.ckc_tree.specs.Expressions.{Expression, Expressions}
 use Rattle.ckc_tree.specs.Heights.{Reach, deeper, ◌beside◌, inside, around, type_reach, expression_reach, expressions_reach}
 use Rattle.pointer_modes.specs.Types.{CType, Int, Char, Struct, Pointer, members_of}
 use Rattle.pointer_modes.specs.Layout.{cells_of}
@@ -103,16 +103,16 @@ local_low n k (Pointer m d t) h = (h, tt)
 
 name_low : (n : ℕ) (x : Named) → 2 ≤ n → Low n (name_typed x)
 name_low n (Local k t) h = local_low n k t (omega arith)
-name_low n (Object k t) h = at_place_low n t (core.Direct k 0 0) (omega arith)
+name_low n (Object k t) h = at_place_low n t (core.Direct k 0) (omega arith)
 name_low n Nothing h = (omega arith, tt)
 
-member_place_low : (n : ℕ) (p : core.Place) (cell offset : ℕ) (site : Site) → 2 ≤ n → place_stack p ≤ n → place_stack (member_place p cell offset site) ≤ n
-member_place_low n (core.Direct object first place) cell offset site two h = omega (arith, offset_low (place + offset))
-member_place_low n (core.Through pointer first place before) cell offset site two h = omega (arith, offset_low (place + offset))
+member_place_low : (n : ℕ) (p : core.Place) (offset : ℕ) (site : Site) → 2 ≤ n → place_stack p ≤ n → place_stack (member_place p offset site) ≤ n
+member_place_low n (core.Direct object first) offset site two h = omega (arith, offset_low (first + offset))
+member_place_low n (core.Through pointer first before) offset site two h = omega (arith, offset_low (first + offset))
 
 pointer_low : (n : ℕ) (t : CType) (p : core.Place) (site : Site) → place_stack p ≤ n → Low n (pointer_to t p site)
-pointer_low n t (core.Direct object cell offset) site h = (h, tt)
-pointer_low n t (core.Through pointer cell offset before) site h = (h, tt)
+pointer_low n t (core.Direct object offset) site h = (h, tt)
+pointer_low n t (core.Through pointer offset before) site h = (h, tt)
 
 address_low : (n : ℕ) (a : Typed) (site : Site) (span : Span) → Low n a → Promises (Low n) (address a site span)
 address_low n (Value type zero value None) site span h = tt
@@ -125,7 +125,7 @@ pointed_low : (n : ℕ) (t : CType) (value : core.Expression) (site : Site) (spa
 pointed_low n Int value site span two h = tt
 pointed_low n Char value site span two h = tt
 pointed_low n (Struct number) value site span two h = tt
-pointed_low n (Pointer m k t) value site span two h = at_place_low n t (core.Through value 0 0 site) (omega arith)
+pointed_low n (Pointer m k t) value site span two h = at_place_low n t (core.Through value 0 site) (omega arith)
 
 dereferenced_low : (n : ℕ) (a : Typed) (site : Site) (span : Span) → 2 ≤ n → Low n a → Promises (Low n) (dereferenced a site span)
 dereferenced_low n (Value type zero value place) site span two h = pointed_low n type value site span two h.0
@@ -136,11 +136,11 @@ member_at_low n s struct p name site span two h = by (member_from 0 (members_nam
   where
     by : (o : Option (ℕ × CType)) → member_from 0 (members_named s struct) (members_of s.structs struct) name ≡ o → Promises (Low n) (member_at s struct p name site span)
     by None found = rw found tt
-    by (Some m) found = rw found (at_place_low n m.1 _ (member_place_low n p m.0 (offset_among (cells_of s.structs (Struct struct)) m.0) site two h))
+    by (Some m) found = rw found (at_place_low n m.1 _ (member_place_low n p (offset_among (cells_of s.structs (Struct struct)) m.0) site two h))
 
 dotted_low : (n : ℕ) (s : Scope) (a : Typed) (name : ℕ) (site : Site) (span : Span) → 2 ≤ n → Low n a → Promises (Low n) (dotted s a name site span)
 dotted_low n s (Value type zero value place) name site span two h = tt
-dotted_low n s (AStruct number (OfLocal k)) name site span two h = member_at_low n s number (core.Through (core.Local k) 0 0 site) name site span two (omega arith)
+dotted_low n s (AStruct number (OfLocal k)) name site span two h = member_at_low n s number (core.Through (core.Local k) 0 site) name site span two (omega arith)
 dotted_low n s (AStruct number (OfCell p)) name site span two h = member_at_low n s number p name site span two h
 
 pointed_by_low : (n : ℕ) (s : Scope) (t : CType) (value : core.Expression) (name : ℕ) (site : Site) (span : Span) → 2 ≤ n → IsLow n value → Promises (Low n) (pointed_by s t value name site span)
@@ -150,7 +150,7 @@ pointed_by_low n s (Struct number) value name site span two h = tt
 pointed_by_low n s (Pointer m k Int) value name site span two h = tt
 pointed_by_low n s (Pointer m k Char) value name site span two h = tt
 pointed_by_low n s (Pointer m k (Pointer m' k' t)) value name site span two h = tt
-pointed_by_low n s (Pointer m k (Struct number)) value name site span two h = member_at_low n s number (core.Through value 0 0 site) name site span two (omega arith)
+pointed_by_low n s (Pointer m k (Struct number)) value name site span two h = member_at_low n s number (core.Through value 0 site) name site span two (omega arith)
 
 arrowed_low : (n : ℕ) (s : Scope) (a : Typed) (name : ℕ) (site : Site) (span : Span) → 2 ≤ n → Low n a → Promises (Low n) (arrowed s a name site span)
 arrowed_low n s (Value type zero value place) name site span two h = pointed_by_low n s type value name site span two h.0

@@ -39,13 +39,13 @@ assigned_low Q n (AStruct number place) span next h more = tt
 
 store_low : (n : ℕ) (place : Lvalue) (type : CType) (value : core.Expression) → LowPlace n (Some place) → IsLow n value → IsLowStatement (n + 2) (store place type value)
 store_low n (OfLocal k) type value h low = omega arith
-store_low n (OfCell (core.Direct object cell offset)) type value h low = omega arith
-store_low n (OfCell (core.Through pointer cell offset site)) type value h low = omega arith
+store_low n (OfCell (core.Direct object offset)) type value h low = omega arith
+store_low n (OfCell (core.Through pointer offset site)) type value h low = omega arith
 
 update_low : (n : ℕ) (place : Lvalue) (type : CType) (operator : Operator) (value : core.Expression) (site : Site) → LowPlace n (Some place) → IsLow n value → IsLowStatement (n + 2) (update place type operator value site)
 update_low n (OfLocal k) type operator value site h low = omega arith
-update_low n (OfCell (core.Direct object cell offset)) type operator value site h low = omega arith
-update_low n (OfCell (core.Through pointer cell offset before)) type operator value site h low = omega arith
+update_low n (OfCell (core.Direct object offset)) type operator value site h low = omega arith
+update_low n (OfCell (core.Through pointer offset before)) type operator value site h low = omega arith
 
 set_low : (n : ℕ) (target right : Typed) (span : Span) → 1 ≤ n → Low n target → Low n right → Promises (IsLowStatement (n + 2)) (set_to target right span)
 set_low n target right span least ht hr =

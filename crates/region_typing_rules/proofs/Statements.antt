@@ -52,9 +52,9 @@ module _ (g : Frame) (types : List CType) (all_scalar : AllByRecursion IsScalar 
   store_typed (OfCell p) type value h scalar typed = λ result loop. rules.store scalar h typed
 
   updated_typed : {p : core.Place} {t : CType} → HasPlace g types p t → (site : Site) → HasPlace g types (updated_place p site) t
-  updated_typed (rules.direct found stands at) site = rules.direct found stands at
+  updated_typed (rules.direct found stands) site = rules.direct found stands
   updated_typed (rules.pointed h) site = rules.pointed h
-  updated_typed (rules.member h found scalar) site = rules.member h found scalar
+  updated_typed (rules.member k h found scalar) site = rules.member k h found scalar
 
   update_typed : (place : Lvalue) (type : CType) (operator : Operator) (value : core.Expression) (site : Site) → FitsPlace g types type (Some place) → is_number type ≡ true → HasType g types value Int → IsAny (update place type operator value site)
   update_typed (OfLocal k) type operator value site h number typed = λ result loop. rules.update_local h number refl typed

@@ -1,18 +1,22 @@
--- Values, cells and places of their types.
-use Rattle.std.proofs.Common.{◌≡◌, ℕ, zero, suc, ◌+◌, ◌<◌, true, pos, negsuc, List, [], ◌∷◌, ◌++◌, map, take, drop, length, Option, Some, refl, sym, ap, ◌∙◌, subst, arith}
-use Rattle.std.specs.Prelude.{◌==◌, slice_get, slice_set}
+-- Values, cells and places of their types, in blocks that are only added.
+use Rattle.std.proofs.Common.{◌≡◌, ℕ, zero, suc, ◌+◌, ◌<◌, true, false, not, pos, negsuc, List, [], ◌∷◌, ◌++◌, map, take, length, Option, Some, None, refl, sym, ap, ◌∙◌, subst, arith, append_assoc, append-nil}
+use Rattle.std.specs.Prelude.{◌||◌, slice_get, slice_set, option_map}
 use Rattle.std.specs.List.{AllByRecursion}
 use Rattle.std.specs.Option.{option_and_then}
+use Rattle.std.proofs.lemmas.Bool.{and_from}
 use Rattle.std.proofs.lemmas.Bool.Decides.{nat_tests}
+use Rattle.std.proofs.lemmas.Option.{same_Some, slice_get-map}
 use Rattle.pointer_modes.specs.declared.ctype.Mode.{Mode}
 use Rattle.pointer_modes.specs.declared.ctype.Mode.TheVariants as modes
 use Rattle.pointer_modes.specs.declared.ctype.Kind.{Kind}
 use Rattle.pointer_modes.specs.declared.ctype.Kind.TheVariants as kinds
-use Rattle.pointer_modes.specs.Types.{CType, Int, Char, Struct, Pointer, Structure}
-use Rattle.ckc_core.specs.Core.{Initial}
-use Rattle.ckc_core.specs.States.{Value, Number, Null, At, Cell, Block, same_mode, same_kind, same_type, has_type, zero_of, cell_at, object_block, byte_place, stands_at, stands_behind}
+use Rattle.pointer_modes.specs.Types.{CType, Int, Char, Struct, Pointer, Member, Structure, members_of}
+use Rattle.pointer_modes.specs.Layout.{aligned_up, scalar_size, member_sizes, placed_from}
+use Rattle.ckc_core.specs.States.{Value, Number, Null, At, Cell, Block, Local, Shape, Grows, same_mode, same_kind, same_type, has_type, zero_of, strides, number_at, cell_in, cell_at, stored, shape, shapes, type_at}
+use Rattle.ckc_core.specs.Meaning.{fit, is_zero, is_last, leaves_zero, locals_for}
+use Rattle.ckc_core.proofs.Elements.{of_element}
 use Rattle.region_typing_rules.specs.Types.{is_number}
-use Rattle.region_typing_rules.specs.Typed.{Frame, Slot, slots, Stands, IsPlace, HasValue, IsScalar}
+use Rattle.region_typing_rules.specs.Typed.{Slot, slots, slots_from, Stands, IsPlace, HasValue, IsScalar}
 
 -- ---- types
 
@@ -32,214 +36,303 @@ same_refl Char = refl
 same_refl (Struct n) = grind (arith, nat_tests)
 same_refl (Pointer m k t) = rw (mode_refl m, kind_refl k) (same_refl t)
 
--- a scalar consists of itself
-pub scalar_slots : (structs : List Structure) (t : CType) → IsScalar t → slots structs t ≡ record { type = t; offset = 0 } ∷ []
-scalar_slots structs Int h = refl
-scalar_slots structs Char h = refl
-scalar_slots structs (Struct n) h = absurd (cc)
-scalar_slots structs (Pointer m k t) h = refl
+-- ---- lists
 
-module _ (g : Frame) where
-  -- ---- values
+still_there : {X : Type 0} (xs more : List X) (k : ℕ) (x : X) → slice_get xs k ≡ Some x → slice_get (xs ++ more) k ≡ Some x
+still_there [] more k x h = absurd (cc)
+still_there (y ∷ xs) more zero x h = h
+still_there (y ∷ xs) more (suc k) x h = still_there xs more k x h
 
-  pub value_typed : (t : CType) (v : Value) → HasValue g t v → has_type t v ≡ true
-  value_typed Int (Number z) h = h
-  value_typed Int Null h = absurd h
-  value_typed Int (At block cell) h = absurd h
-  value_typed Char (Number z) h = h
-  value_typed Char Null h = absurd h
-  value_typed Char (At block cell) h = absurd h
-  value_typed (Struct n) v h = absurd h
-  value_typed (Pointer m k t) (Number z) h = absurd h
-  value_typed (Pointer m k t) Null h = refl
-  value_typed (Pointer m k t) (At block cell) h = refl
+mapped_from : {X Y : Type 0} (f : X → Y) (xs : List X) (k : ℕ) (y : Y) → slice_get (map f xs) k ≡ Some y → (x : X) × (slice_get xs k ≡ Some x) × (f x ≡ y)
+mapped_from f [] k y h = absurd (cc)
+mapped_from f (x ∷ xs) zero y h = (x, refl, same_Some (f x) y h)
+mapped_from f (x ∷ xs) (suc k) y h = mapped_from f xs k y h
 
-  -- each char is an int
-  pub value_widened : (v : Value) → HasValue g Char v → HasValue g Int v
-  value_widened (Number (pos n)) h = grind (arith, nat_tests)
-  value_widened (Number (negsuc n)) h = absurd (cc)
-  value_widened Null h = absurd h
-  value_widened (At block cell) h = absurd h
+pub mapped_there : {X Y : Type 0} (f : X → Y) (xs : List X) (k : ℕ) (x : X) → slice_get xs k ≡ Some x → slice_get (map f xs) k ≡ Some (f x)
+mapped_there f xs k x h = slice_get-map f xs k ∙ ap (option_map f) h
 
-  pub value_number : (t : CType) (v : Value) → is_number t ≡ true → HasValue g t v → HasValue g Int v
-  value_number Int v h value = value
-  value_number Char v h value = value_widened v value
-  value_number (Struct n) v h value = absurd (cc)
-  value_number (Pointer m k t) v h value = absurd (cc)
+-- an element that is mapped to the same leaves what a list is mapped to
+map_set : {X Y : Type 0} (f : X → Y) (xs : List X) (k : ℕ) (old new : X) → slice_get xs k ≡ Some old → f new ≡ f old → map f (slice_set xs k new) ≡ map f xs
+map_set f [] k old new h e = refl
+map_set f (x ∷ xs) zero old new h e = ap (λ y. y ∷ map f xs) (e ∙ ap f (sym (same_Some x old h)))
+map_set f (x ∷ xs) (suc k) old new h e = ap (λ l. f x ∷ l) (map_set f xs k old new h e)
 
-  pub zero_typed : (t : CType) → IsScalar t → HasValue g t (zero_of t)
-  zero_typed Int h = refl
-  zero_typed Char h = refl
-  zero_typed (Struct n) h = absurd (cc)
-  zero_typed (Pointer m k t) h = tt
+all_set : {X : Type 0} (P : X → Type 0) (xs : List X) (k : ℕ) (x : X) → AllByRecursion P xs → P x → AllByRecursion P (slice_set xs k x)
+all_set P [] k x all h = tt
+all_set P (y ∷ xs) zero x all h = (h, all.1)
+all_set P (y ∷ xs) (suc k) x all h = (all.0, all_set P xs k x all.1 h)
 
-  -- ---- values of types in their order
+behind_some : {X Y : Type 0} (f : X → Option Y) (o : Option X) (y : Y) → option_and_then f o ≡ Some y → (x : X) × (o ≡ Some x) × (f x ≡ Some y)
+behind_some f None y h = absurd (cc)
+behind_some f (Some x) y h = (x, refl, h)
 
-  abbrev pub HaveValues : List CType → List Value → Type 0
-  HaveValues [] [] = Unit {0}
-  HaveValues [] (v ∷ vs) = ⊥
-  HaveValues (t ∷ ts) [] = ⊥
-  HaveValues (t ∷ ts) (v ∷ vs) = HasValue g t v × HaveValues ts vs
+-- ---- blocks that are added
 
-  pub values_count : (ts : List CType) (vs : List Value) → HaveValues ts vs → length vs ≡ length ts
-  values_count [] [] h = refl
-  values_count [] (v ∷ vs) h = absurd h
-  values_count (t ∷ ts) [] h = absurd h
-  values_count (t ∷ ts) (v ∷ vs) h = ap suc (values_count ts vs h.1)
+pub grows_here : (b : List Shape) → Grows b b
+grows_here b = ([], sym (append-nil b))
 
-  pub value_there : (ts : List CType) (vs : List Value) (k : ℕ) (t : CType) → HaveValues ts vs → slice_get ts k ≡ Some t → (v : Value) × (slice_get vs k ≡ Some v) × HasValue g t v
-  value_there [] vs k t h e = absurd (cc)
-  value_there (u ∷ ts) [] k t h e = absurd h
-  value_there (u ∷ ts) (v ∷ vs) zero t h e = let same : u ≡ t = cc in (v, refl, subst (λ x. HasValue g x v) same h.0)
-  value_there (u ∷ ts) (v ∷ vs) (suc k) t h e = value_there ts vs k t h.1 e
+pub grows_on : (a b c : List Shape) → Grows a b → Grows b c → Grows a c
+grows_on a b c first second = (first.0 ++ second.0, second.1 ∙ (ap (λ x. x ++ second.0) first.1 ∙ append_assoc a first.0 second.0))
 
-  pub values_set : (ts : List CType) (vs : List Value) (k : ℕ) (t : CType) (v : Value) → HaveValues ts vs → slice_get ts k ≡ Some t → HasValue g t v → HaveValues ts (slice_set vs k v)
-  values_set [] vs k t v h e new = absurd (cc)
-  values_set (u ∷ ts) [] k t v h e new = absurd h
-  values_set (u ∷ ts) (w ∷ vs) zero t v h e new = let same : t ≡ u = cc in (subst (λ x. HasValue g x v) same new, h.1)
-  values_set (u ∷ ts) (w ∷ vs) (suc k) t v h e new = (h.0, values_set ts vs k t v h.1 e new)
+-- ---- cells
 
-  -- parameters with values, and zeros behind them
-  zeros_typed : (ts : List CType) → AllByRecursion IsScalar ts → HaveValues ts (map zero_of ts)
-  zeros_typed [] all = tt
-  zeros_typed (t ∷ ts) all = (zero_typed t all.0, zeros_typed ts all.1)
+-- the cell that begins at a byte of a block that no zero ends, and its number
+pub record HasCell (blocks : List Block) (block byte : ℕ) (type : CType) : Type 0 where
+  pub held : Block
+  pub number : ℕ
+  pub cell : Cell
+  pub there : slice_get blocks block ≡ Some held
+  pub numbered : number_at (strides held.cells) byte ≡ Some number
+  pub found : slice_get held.cells number ≡ Some cell
+  pub typed : cell.type ≡ type
+  pub open_ended : held.zero_ended ≡ false
 
-  pub locals_typed : (ts : List CType) (n : ℕ) (vs : List Value) → AllByRecursion IsScalar ts → HaveValues (take n ts) vs → HaveValues ts (vs ++ map zero_of (drop n ts))
-  locals_typed [] zero [] all h = tt
-  locals_typed [] zero (v ∷ vs) all h = absurd h
-  locals_typed [] (suc n) [] all h = tt
-  locals_typed [] (suc n) (v ∷ vs) all h = absurd h
-  locals_typed (t ∷ ts) zero [] all h = zeros_typed (t ∷ ts) all
-  locals_typed (t ∷ ts) zero (v ∷ vs) all h = absurd h
-  locals_typed (t ∷ ts) (suc n) [] all h = absurd h
-  locals_typed (t ∷ ts) (suc n) (v ∷ vs) all h = (h.0, locals_typed ts n vs all.1 h.1)
+cell_there : (blocks : List Block) (block byte : ℕ) (s : Shape) (t : CType) → slice_get (shapes blocks) block ≡ Some s → type_at s byte ≡ Some t → s.zero_ended ≡ false → HasCell blocks block byte t
+cell_there blocks block byte s t found typed ended =
+    let b = mapped_from shape blocks block s found in
+    let here : type_at (shape b.0) byte ≡ Some t = subst (λ x. type_at x byte ≡ Some t) (sym b.2) typed in
+    let n = behind_some (λ number. slice_get (shape b.0).types number) (number_at (strides b.0.cells) byte) t here in
+    let c = mapped_from (λ (x : Cell). x.type) b.0.cells n.0 t n.2 in
+    record { held = b.0; number = n.0; cell = c.0; there = b.1; numbered = n.1; found = c.1; typed = c.2; open_ended = ap (λ (x : Shape). x.zero_ended) b.2 ∙ ended }
 
-  -- ---- blocks
+module _ (blocks : List Block) (block byte : ℕ) (t : CType) (c : HasCell blocks block byte t) where
+  pub at_cell : cell_at blocks block byte ≡ Some c.cell
+  at_cell =
+      ap (λ (o : Option Block). option_and_then (λ b. cell_in b byte) o) c.there
+      ∙ (ap (λ (o : Option ℕ). option_and_then (λ number. slice_get c.held.cells number) o) c.numbered ∙ c.found)
 
-  -- the cells of a variable in their shape, each with a value of its type
-  abbrev pub AreCells : List Initial → Block → Type 0
-  AreCells [] [] = Unit {0}
-  AreCells [] (c ∷ cells) = ⊥
-  AreCells (i ∷ is) [] = ⊥
-  AreCells (i ∷ is) (c ∷ cells) = (c.type ≡ i.type) × (c.stride ≡ i.stride) × HasValue g i.type c.value × AreCells is cells
+  -- no zero has to stay there
+  pub zero_left : (v : Value) → leaves_zero (slice_get blocks block) byte v ≡ true
+  zero_left v = ap (λ (o : Option Block). leaves_zero o byte v) c.there ∙ ap (λ ended. not ended || (is_zero v || not (is_last c.held byte))) c.open_ended
 
-  abbrev pub AreBlocks : List (List Initial) → List Block → Type 0
-  AreBlocks [] [] = Unit {0}
-  AreBlocks [] (b ∷ blocks) = ⊥
-  AreBlocks (o ∷ objects) [] = ⊥
-  AreBlocks (o ∷ objects) (b ∷ blocks) = AreCells o b × AreBlocks objects blocks
+  -- the block with another value in the cell
+  abbrev new_cell : Value → Cell
+  new_cell v = record c.cell { value = v }
 
-  pub block_there : (objects : List (List Initial)) (blocks : List Block) (k : ℕ) (is : List Initial) → AreBlocks objects blocks → slice_get objects k ≡ Some is → (cells : Block) × (slice_get blocks k ≡ Some cells) × AreCells is cells
-  block_there [] blocks k is h e = absurd (cc)
-  block_there (o ∷ objects) [] k is h e = absurd h
-  block_there (o ∷ objects) (b ∷ blocks) zero is h e = let same : o ≡ is = cc in (b, refl, subst (λ x. AreCells x b) same h.0)
-  block_there (o ∷ objects) (b ∷ blocks) (suc k) is h e = block_there objects blocks k is h.1 e
+  abbrev new_block : Value → Block
+  new_block v = record c.held { cells = slice_set c.held.cells c.number (new_cell v) }
 
-  pub cell_there : (is : List Initial) (cells : Block) (k : ℕ) (i : Initial) → AreCells is cells → slice_get is k ≡ Some i → (c : Cell) × (slice_get cells k ≡ Some c) × (c.type ≡ i.type) × HasValue g i.type c.value
-  cell_there [] cells k i h e = absurd (cc)
-  cell_there (j ∷ is) [] k i h e = absurd h
-  cell_there (j ∷ is) (c ∷ cells) zero i h e = let same : j ≡ i = cc in (c, refl, subst (λ x. c.type ≡ x.type) same h.0, subst (λ x. HasValue g x.type c.value) same h.2)
-  cell_there (j ∷ is) (c ∷ cells) (suc k) i h e = cell_there is cells k i h.3 e
+  stored_there : (v : Value) → stored blocks block byte v ≡ slice_set blocks block (new_block v)
+  stored_there v = rw (c.there, c.numbered, c.found) refl
 
-  pub places_same : (is : List Initial) (cells : Block) (k : ℕ) → AreCells is cells → byte_place cells k ≡ byte_place (object_block is) k
-  places_same is cells zero h = refl
-  places_same [] [] (suc k) h = refl
-  places_same [] (c ∷ cells) (suc k) h = absurd h
-  places_same (i ∷ is) [] (suc k) h = absurd h
-  places_same (i ∷ is) (c ∷ cells) (suc k) h = let rest = places_same is cells k h.3 in let first = h.1 in omega arith
+  new_shape : (v : Value) → shape (new_block v) ≡ shape c.held
+  new_shape v =
+      let made : List CType → List ℕ → Shape = λ types bytes. record { types = types; strides = bytes; zero_ended = c.held.zero_ended } in
+      ap (λ types. made types (strides (new_block v).cells)) (map_set (λ (x : Cell). x.type) c.held.cells c.number c.cell (new_cell v) c.found refl)
+      ∙ ap (made (shape c.held).types) (map_set (λ (x : Cell). x.stride) c.held.cells c.number c.cell (new_cell v) c.found refl)
 
-  pub cells_set : (is : List Initial) (cells : Block) (k : ℕ) (i : Initial) (old new : Cell) → AreCells is cells → slice_get is k ≡ Some i → slice_get cells k ≡ Some old → new.type ≡ old.type → new.stride ≡ old.stride → HasValue g i.type new.value → AreCells is (slice_set cells k new)
-  cells_set [] cells k i old new h e there type stride value = absurd (cc)
-  cells_set (j ∷ is) [] k i old new h e there type stride value = absurd h
-  cells_set (j ∷ is) (c ∷ cells) zero i old new h e there type stride value =
-      let same : i ≡ j = cc in
-      let is_old : old ≡ c = cc in
-      (type ∙ ap (λ (x : Cell). x.type) is_old ∙ h.0, stride ∙ ap (λ (x : Cell). x.stride) is_old ∙ h.1, subst (λ x. HasValue g x.type new.value) same value, h.3)
-  cells_set (j ∷ is) (c ∷ cells) (suc k) i old new h e there type stride value = (h.0, h.1, h.2, cells_set is cells k i old new h.3 e there type stride value)
+  -- a store leaves the shapes
+  pub shapes_stored : (v : Value) → shapes (stored blocks block byte v) ≡ shapes blocks
+  shapes_stored v = ap shapes (stored_there v) ∙ map_set shape blocks block c.held (new_block v) c.there (new_shape v)
 
-  pub blocks_set : (objects : List (List Initial)) (blocks : List Block) (k : ℕ) (is : List Initial) (new : Block) → AreBlocks objects blocks → slice_get objects k ≡ Some is → AreCells is new → AreBlocks objects (slice_set blocks k new)
-  blocks_set [] blocks k is new h e cells = absurd (cc)
-  blocks_set (o ∷ objects) [] k is new h e cells = absurd h
-  blocks_set (o ∷ objects) (b ∷ blocks) zero is new h e cells = let same : is ≡ o = cc in (subst (λ x. AreCells x new) same cells, h.1)
-  blocks_set (o ∷ objects) (b ∷ blocks) (suc k) is new h e cells = (h.0, blocks_set objects blocks k is new h.1 e cells)
+module _ (structs : List Structure) where
+  -- ---- slots
+
+  -- a scalar consists of itself
+  pub scalar_slots : (t : CType) → IsScalar t → slots structs t ≡ record { type = t; offset = 0 } ∷ []
+  scalar_slots Int h = refl
+  scalar_slots Char h = refl
+  scalar_slots (Struct n) h = absurd (cc)
+  scalar_slots (Pointer m k t) h = refl
+
+  aligned_at_zero : (t : CType) → aligned_up (scalar_size t) 0 ≡ 0
+  aligned_at_zero Int = refl
+  aligned_at_zero Char = refl
+  aligned_at_zero (Struct n) = refl
+  aligned_at_zero (Pointer m k t) = refl
+
+  single_first : (t : CType) (slot : Slot) → slice_get (record { type = t; offset = 0 } ∷ []) 0 ≡ Some slot → slot.offset ≡ 0
+  single_first t slot h = ap (λ (x : Slot). x.offset) (sym (same_Some (record { type = t; offset = 0 }) slot h))
+
+  -- before what stands first at a place there are no bytes
+  first_at_zero : (t : CType) (slot : Slot) → slice_get (slots structs t) 0 ≡ Some slot → slot.offset ≡ 0
+  first_at_zero Int slot h = single_first Int slot h
+  first_at_zero Char slot h = single_first Char slot h
+  first_at_zero (Pointer m k t) slot h = single_first (Pointer m k t) slot h
+  first_at_zero (Struct n) slot h = among (members_of structs n) h
+    where
+      among : (members : List Member) → slice_get (slots_from members (placed_from 0 (member_sizes members))) 0 ≡ Some slot → slot.offset ≡ 0
+      among [] e = absurd (cc)
+      among (m ∷ members) e =
+          ap (λ (x : Slot). x.offset) (sym (same_Some (record { type = m.ctype; offset = aligned_up (scalar_size m.ctype) 0 }) slot e)) ∙ aligned_at_zero m.ctype
 
   -- ---- places
 
-  -- the cell at a place
-  pub record HasCell (blocks : List Block) (block cell : ℕ) (type : CType) : Type 0 where
-    pub is : List Initial
-    pub initial : Initial
-    pub cells : Block
-    pub held : Cell
-    pub declared : slice_get g.program.objects block ≡ Some is
-    pub listed : slice_get is cell ≡ Some initial
-    pub there : slice_get blocks block ≡ Some cells
-    pub shape : AreCells is cells
-    pub found : slice_get cells cell ≡ Some held
-    pub typed : held.type ≡ initial.type
-    pub value : HasValue g initial.type held.value
-    pub first : initial.type ≡ type
+  -- a scalar that stands at a byte
+  pub scalar_stands : (s : Shape) (byte : ℕ) (t : CType) → IsScalar t → type_at s byte ≡ Some t → s.zero_ended ≡ false → Stands s byte (slots structs t)
+  scalar_stands s byte t scalar typed ended = subst (λ row. Stands s byte row) (sym (scalar_slots t scalar)) (record { there = omega arith; each = each; open_ended = ended })
+    where
+      each : (k : ℕ) (slot : Slot) → slice_get (record { type = t; offset = 0 } ∷ []) k ≡ Some slot → type_at s (byte + slot.offset) ≡ Some slot.type
+      each zero slot h =
+          let same : byte ≡ byte + 0 = omega arith in
+          subst (λ (x : Slot). type_at s (byte + x.offset) ≡ Some x.type) (same_Some (record { type = t; offset = 0 }) slot h) (subst (λ k. type_at s k ≡ Some t) same typed)
+      each (suc k) slot h = absurd (cc)
 
-  pub at_cell : (blocks : List Block) (block cell : ℕ) (type : CType) (h : HasCell blocks block cell type) → cell_at blocks block cell ≡ Some h.held
-  at_cell blocks block cell type h = ap (λ (x : Option Block). option_and_then (λ (cells : Block). slice_get cells cell) x) h.there ∙ h.found
+  -- the member of a struct that stands at a place
+  pub member_place : (b : List Shape) (n block first k offset : ℕ) (t : CType) → IsScalar t → IsPlace structs b (Struct n) block first → slice_get (slots structs (Struct n)) k ≡ Some (record { type = t; offset = offset }) → IsPlace structs b t block (first + offset)
+  member_place b n block first k offset t scalar h found =
+      let typed = h.stands.each k (record { type = t; offset = offset }) found in
+      record { shape = h.shape; found = h.found; stands = scalar_stands h.shape (first + offset) t scalar typed h.stands.open_ended }
+
+  -- a place is still there where blocks are added
+  pub place_grown : (a b : List Shape) → Grows a b → (t : CType) (block byte : ℕ) → IsPlace structs a t block byte → IsPlace structs b t block byte
+  place_grown a b more t block byte h =
+      record { shape = h.shape; found = ap (λ x. slice_get x block) more.1 ∙ still_there a more.0 block h.shape h.found; stands = h.stands }
 
   -- what stands first at a place
   first_slot : (row : List Slot) → 0 < length row → (slot : Slot) × (slice_get row 0 ≡ Some slot)
   first_slot [] h = absurd (omega arith)
   first_slot (slot ∷ row) h = (slot, refl)
 
-  pub place_has_cell : (blocks : List Block) (type : CType) (block cell : ℕ) (slot : Slot) → AreBlocks g.program.objects blocks → IsPlace g type block cell → slice_get (slots g.structs type) 0 ≡ Some slot → HasCell blocks block cell slot.type
-  place_has_cell blocks type block cell slot shape h first =
-      let same : cell + 0 ≡ cell = omega arith in
-      let one = h.stands.each 0 slot first in
-      let listed = subst (λ k. slice_get h.cells k ≡ Some one.0) same one.1 in
-      let b = block_there g.program.objects blocks block h.cells shape h.found in
-      let c = cell_there h.cells b.0 cell one.0 b.2 listed in
-      record { is = h.cells; initial = one.0; cells = b.0; held = c.0; declared = h.found; listed = listed; there = b.1; shape = b.2; found = c.1; typed = c.2; value = c.3; first = one.2 }
+  place_has_cell : (blocks : List Block) (t : CType) (block byte : ℕ) (slot : Slot) → IsPlace structs (shapes blocks) t block byte → slice_get (slots structs t) 0 ≡ Some slot → HasCell blocks block byte slot.type
+  place_has_cell blocks t block byte slot h first =
+      let start = first_at_zero t slot first in
+      let same : byte + slot.offset ≡ byte = omega (arith, start) in
+      cell_there blocks block byte h.shape slot.type h.found (subst (λ k. type_at h.shape k ≡ Some slot.type) same (h.stands.each 0 slot first)) h.stands.open_ended
 
   -- a cell of a scalar type
-  pub scalar_cell : (blocks : List Block) (type : CType) (block cell : ℕ) → AreBlocks g.program.objects blocks → IsScalar type → IsPlace g type block cell → HasCell blocks block cell type
-  scalar_cell blocks type block cell shape scalar h =
-      place_has_cell blocks type block cell (record { type = type; offset = 0 }) shape h (ap (λ (row : List Slot). slice_get row 0) (scalar_slots g.structs type scalar))
+  pub scalar_cell : (blocks : List Block) (t : CType) (block byte : ℕ) → IsScalar t → IsPlace structs (shapes blocks) t block byte → HasCell blocks block byte t
+  scalar_cell blocks t block byte scalar h =
+      place_has_cell blocks t block byte (record { type = t; offset = 0 }) h (ap (λ (row : List Slot). slice_get row 0) (scalar_slots t scalar))
 
-  -- at each place there is a cell
-  pub some_cell : (blocks : List Block) (type : CType) (block cell : ℕ) → AreBlocks g.program.objects blocks → IsPlace g type block cell → (c : Cell) × (cell_at blocks block cell ≡ Some c)
-  some_cell blocks type block cell shape h =
-      let first = first_slot (slots g.structs type) h.stands.there in
-      let c = place_has_cell blocks type block cell first.0 shape h first.1 in
-      (c.held, at_cell blocks block cell first.0.type c)
+  -- at each place a cell begins
+  pub some_cell : (blocks : List Block) (t : CType) (block byte : ℕ) → IsPlace structs (shapes blocks) t block byte → (c : Cell) × (cell_at blocks block byte ≡ Some c)
+  some_cell blocks t block byte h =
+      let first = first_slot (slots structs t) h.stands.there in
+      let c = place_has_cell blocks t block byte first.0 h first.1 in
+      (c.cell, at_cell blocks block byte first.0.type c)
 
-  -- a scalar at one cell
-  pub scalar_stands : (is : List Initial) (cell : ℕ) (i : Initial) (t : CType) → IsScalar t → slice_get is cell ≡ Some i → i.type ≡ t → Stands is cell (slots g.structs t)
-  scalar_stands is cell i t scalar e type = subst (λ row. Stands is cell row) (sym (scalar_slots g.structs t scalar)) (record { there = omega arith; each = each })
-    where
-      each : (k : ℕ) (slot : Slot) → slice_get (record { type = t; offset = 0 } ∷ []) k ≡ Some slot → (j : Initial) × (slice_get is (cell + k) ≡ Some j) × (j.type ≡ slot.type) × (byte_place (object_block is) (cell + k) ≡ byte_place (object_block is) cell + slot.offset)
-      each zero slot h =
-          let same : cell ≡ cell + 0 = omega arith in
-          let it : record { type = t; offset = 0 } ≡ slot = cc in
-          let place : byte_place (object_block is) (cell + 0) ≡ byte_place (object_block is) cell + 0 = ap (byte_place (object_block is)) (sym same) ∙ (omega arith) in
-          (i, subst (λ k. slice_get is k ≡ Some i) same e, type ∙ ap (λ (x : Slot). x.type) it, place ∙ ap (λ (x : Slot). byte_place (object_block is) cell + x.offset) it)
-      each (suc k) slot h = absurd (cc)
+  -- ---- values where blocks are added
 
-  -- the member of a struct that stands at a place
-  pub member_place : (n block first cell offset : ℕ) (t : CType) → IsScalar t → (h : IsPlace g (Struct n) block first) → slice_get (slots g.structs (Struct n)) cell ≡ Some (record { type = t; offset = offset }) → IsPlace g t block (first + cell)
-  member_place n block first cell offset t scalar h found =
-      let one = h.stands.each cell (record { type = t; offset = offset }) found in
-      record { cells = h.cells; found = h.found; stands = scalar_stands h.cells (first + cell) one.0 t scalar one.1 one.2 }
+  pub value_grown : (a b : List Shape) → Grows a b → (t : CType) (v : Value) → HasValue structs a t v → HasValue structs b t v
+  value_grown a b more Int (Number z) h = h
+  value_grown a b more Int Null h = absurd h
+  value_grown a b more Int (At block byte) h = absurd h
+  value_grown a b more Char (Number z) h = h
+  value_grown a b more Char Null h = absurd h
+  value_grown a b more Char (At block byte) h = absurd h
+  value_grown a b more (Struct n) v h = absurd h
+  value_grown a b more (Pointer m k t) (Number z) h = absurd h
+  value_grown a b more (Pointer m k t) Null h = tt
+  value_grown a b more (Pointer m k t) (At block byte) h = place_grown a b more t block byte h
 
-  -- the tests of places
-  pub stands_there : (blocks : List Block) (is : List Initial) (block cell offset : ℕ) → AreBlocks g.program.objects blocks → slice_get g.program.objects block ≡ Some is → byte_place (object_block is) cell ≡ offset → stands_at (slice_get blocks block) cell offset ≡ true
-  stands_there blocks is block cell offset shape found place =
-      let b = block_there g.program.objects blocks block is shape found in
-      let same : byte_place b.0 cell ≡ offset = places_same is b.0 cell b.2 ∙ place in
-      let test : (byte_place b.0 cell == offset) ≡ true = grind (arith, nat_tests) in
-      ap (λ (x : Option Block). stands_at x cell offset) b.1 ∙ test
+  module _ (b : List Shape) where
+    -- ---- values
 
-  pub stands_further : (blocks : List Block) (is : List Initial) (block first cell offset : ℕ) → AreBlocks g.program.objects blocks → slice_get g.program.objects block ≡ Some is → byte_place (object_block is) (first + cell) ≡ byte_place (object_block is) first + offset → stands_behind (slice_get blocks block) first cell offset ≡ true
-  stands_further blocks is block first cell offset shape found place =
-      let b = block_there g.program.objects blocks block is shape found in
-      let near = places_same is b.0 first b.2 in
-      let far = places_same is b.0 (first + cell) b.2 in
-      let same : byte_place b.0 (first + cell) ≡ byte_place b.0 first + offset = omega arith in
-      let test : (byte_place b.0 (first + cell) == byte_place b.0 first + offset) ≡ true = grind (arith, nat_tests) in
-      ap (λ (x : Option Block). stands_behind x first cell offset) b.1 ∙ test
+    pub value_typed : (t : CType) (v : Value) → HasValue structs b t v → has_type t v ≡ true
+    value_typed Int (Number z) h = h
+    value_typed Int Null h = absurd h
+    value_typed Int (At block byte) h = absurd h
+    value_typed Char (Number z) h = h
+    value_typed Char Null h = absurd h
+    value_typed Char (At block byte) h = absurd h
+    value_typed (Struct n) v h = absurd h
+    value_typed (Pointer m k t) (Number z) h = absurd h
+    value_typed (Pointer m k t) Null h = refl
+    value_typed (Pointer m k t) (At block byte) h = refl
+
+    -- each char is an int
+    pub value_widened : (v : Value) → HasValue structs b Char v → HasValue structs b Int v
+    value_widened (Number (pos n)) h = grind (arith, nat_tests)
+    value_widened (Number (negsuc n)) h = absurd (cc)
+    value_widened Null h = absurd h
+    value_widened (At block byte) h = absurd h
+
+    pub value_number : (t : CType) (v : Value) → is_number t ≡ true → HasValue structs b t v → HasValue structs b Int v
+    value_number Int v h value = value
+    value_number Char v h value = value_widened v value
+    value_number (Struct n) v h value = absurd (cc)
+    value_number (Pointer m k t) v h value = absurd (cc)
+
+    pub zero_typed : (t : CType) → IsScalar t → HasValue structs b t (zero_of t)
+    zero_typed Int h = refl
+    zero_typed Char h = refl
+    zero_typed (Struct n) h = absurd (cc)
+    zero_typed (Pointer m k t) h = tt
+
+    -- ---- values of types in their order
+
+    abbrev pub HaveValues : List CType → List Value → Type 0
+    HaveValues [] [] = Unit {0}
+    HaveValues [] (v ∷ vs) = ⊥
+    HaveValues (t ∷ ts) [] = ⊥
+    HaveValues (t ∷ ts) (v ∷ vs) = HasValue structs b t v × HaveValues ts vs
+
+    pub values_count : (ts : List CType) (vs : List Value) → HaveValues ts vs → length vs ≡ length ts
+    values_count [] [] h = refl
+    values_count [] (v ∷ vs) h = absurd h
+    values_count (t ∷ ts) [] h = absurd h
+    values_count (t ∷ ts) (v ∷ vs) h = ap suc (values_count ts vs h.1)
+
+    pub values_fit : (ts : List CType) (vs : List Value) → HaveValues ts vs → fit ts vs ≡ true
+    values_fit [] [] h = refl
+    values_fit [] (v ∷ vs) h = absurd h
+    values_fit (t ∷ ts) [] h = absurd h
+    values_fit (t ∷ ts) (v ∷ vs) h = and_from (has_type t v) (fit ts vs) (value_typed t v h.0) (values_fit ts vs h.1)
+
+    -- ---- locals
+
+    -- locals of these types, each with a value of its own
+    abbrev pub HaveLocals : List CType → List Local → Type 0
+    HaveLocals [] [] = Unit {0}
+    HaveLocals [] (l ∷ locals) = ⊥
+    HaveLocals (t ∷ ts) [] = ⊥
+    HaveLocals (t ∷ ts) (l ∷ locals) = (l.type ≡ t) × HasValue structs b t l.value × HaveLocals ts locals
+
+    pub local_there : (ts : List CType) (locals : List Local) (k : ℕ) (t : CType) → HaveLocals ts locals → slice_get ts k ≡ Some t → (l : Local) × (slice_get locals k ≡ Some l) × (l.type ≡ t) × HasValue structs b t l.value
+    local_there [] locals k t h e = absurd (cc)
+    local_there (u ∷ ts) [] k t h e = absurd h
+    local_there (u ∷ ts) (l ∷ locals) zero t h e = let same = same_Some u t e in (l, refl, h.0 ∙ same, subst (λ x. HasValue structs b x l.value) same h.1)
+    local_there (u ∷ ts) (l ∷ locals) (suc k) t h e = local_there ts locals k t h.2 e
+
+    pub locals_set : (ts : List CType) (locals : List Local) (k : ℕ) (t : CType) (new : Local) → HaveLocals ts locals → slice_get ts k ≡ Some t → new.type ≡ t → HasValue structs b t new.value → HaveLocals ts (slice_set locals k new)
+    locals_set [] locals k t new h e type value = absurd (cc)
+    locals_set (u ∷ ts) [] k t new h e type value = absurd h
+    locals_set (u ∷ ts) (l ∷ locals) zero t new h e type value = let same = sym (same_Some u t e) in (type ∙ same, subst (λ x. HasValue structs b x new.value) same value, h.2)
+    locals_set (u ∷ ts) (l ∷ locals) (suc k) t new h e type value = (h.0, h.1, locals_set ts locals k t new h.2 e type value)
+
+    -- parameters with values, and zeros behind them
+    zeros_typed : (ts : List CType) → AllByRecursion IsScalar ts → HaveLocals ts (locals_for ts [])
+    zeros_typed [] all = tt
+    zeros_typed (t ∷ ts) all = (refl, zero_typed t all.0, zeros_typed ts all.1)
+
+    pub locals_typed : (ts : List CType) (n : ℕ) (vs : List Value) → AllByRecursion IsScalar ts → HaveValues (take n ts) vs → HaveLocals ts (locals_for ts vs)
+    locals_typed [] n vs all h = tt
+    locals_typed (t ∷ ts) zero [] all h = zeros_typed (t ∷ ts) all
+    locals_typed (t ∷ ts) zero (v ∷ vs) all h = absurd h
+    locals_typed (t ∷ ts) (suc n) [] all h = absurd h
+    locals_typed (t ∷ ts) (suc n) (v ∷ vs) all h = (refl, h.0, locals_typed ts n vs all.1 h.1)
+
+    -- ---- what cells hold
+
+    abbrev IsCell : Cell → Type 0
+    IsCell c = HasValue structs b c.type c.value
+
+    -- each cell of a block holds a value of its type
+    abbrev pub HoldsValues : Block → Type 0
+    HoldsValues block = AllByRecursion IsCell block.cells
+
+    module _ (blocks : List Block) (block byte : ℕ) (t : CType) (c : HasCell blocks block byte t) (all : AllByRecursion HoldsValues blocks) where
+      cells_typed : HoldsValues c.held
+      cells_typed = of_element HoldsValues blocks block c.held all c.there
+
+      pub cell_typed : HasValue structs b t c.cell.value
+      cell_typed = subst (λ x. HasValue structs b x c.cell.value) c.typed (of_element IsCell c.held.cells c.number c.cell cells_typed c.found)
+
+      pub stored_typed : (v : Value) → HasValue structs b t v → AllByRecursion HoldsValues (stored blocks block byte v)
+      stored_typed v typed =
+          let new = subst (λ x. HasValue structs b x v) (sym c.typed) typed in
+          let cells = all_set IsCell c.held.cells c.number (new_cell blocks block byte t c v) cells_typed new in
+          subst (λ x. AllByRecursion HoldsValues x) (sym (stored_there blocks block byte t c v)) (all_set HoldsValues blocks block (new_block blocks block byte t c v) all cells)
+
+  pub values_grown : (a b : List Shape) → Grows a b → (ts : List CType) (vs : List Value) → HaveValues a ts vs → HaveValues b ts vs
+  values_grown a b more [] [] h = tt
+  values_grown a b more [] (v ∷ vs) h = absurd h
+  values_grown a b more (t ∷ ts) [] h = absurd h
+  values_grown a b more (t ∷ ts) (v ∷ vs) h = (value_grown a b more t v h.0, values_grown a b more ts vs h.1)
+
+  pub locals_grown : (a b : List Shape) → Grows a b → (ts : List CType) (locals : List Local) → HaveLocals a ts locals → HaveLocals b ts locals
+  locals_grown a b more [] [] h = tt
+  locals_grown a b more [] (l ∷ locals) h = absurd h
+  locals_grown a b more (t ∷ ts) [] h = absurd h
+  locals_grown a b more (t ∷ ts) (l ∷ locals) h = (h.0, value_grown a b more t l.value h.1, locals_grown a b more ts locals h.2)

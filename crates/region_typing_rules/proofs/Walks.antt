@@ -5,6 +5,7 @@ use Rattle.std.specs.List.{AllByRecursion}
 use Rattle.std.proofs.Math.Seq.{take-length}
 use Rattle.pointer_modes.specs.Types.{Member, Structure, members_of}
 use Rattle.ckc_core.specs.Core as core
+use Rattle.ckc_core.specs.States.{shape, object_block}
 use Rattle.ckc_core.specs.Stacks.{statements_stack}
 use Rattle.region_typing_rules.specs.Verdicts.{picked}
 use Rattle.region_typing_rules.specs.Scopes.{Scope, Signature, Variable, function_named}
@@ -12,7 +13,7 @@ use Rattle.region_typing_rules.specs.Expressions.{is_import, side_number}
 use Rattle.region_typing_rules.specs.Items.{Defined, Walk}
 use Rattle.region_typing_rules.specs.Cores.{body_of, trusted_functions, tainted_functions, core_of}
 use Rattle.region_typing_rules.specs.Typed as rules
-use Rattle.region_typing_rules.specs.Typed.{Frame, slots, Stands, IsPlace, IsScalar, IsFunction, IsInitial}
+use Rattle.region_typing_rules.specs.Typed.{Frame, slots, Stands, IsScalar, IsFunction, IsInitial}
 use Rattle.region_typing_rules.specs.Lowerable.{objects_size, IsRoomy, IsSmall}
 use Rattle.region_typing_rules.proofs.Verdicts.{Extends}
 use Rattle.region_typing_rules.proofs.Knowledge.{IsTrusted, IsTainted, KnowsFile}
@@ -59,7 +60,7 @@ abbrev pub AreSettled : List Structure → List Variable → List (List core.Ini
 AreSettled structs [] [] = Unit {0}
 AreSettled structs [] (o ∷ objects) = ⊥
 AreSettled structs (v ∷ variables) [] = ⊥
-AreSettled structs (v ∷ variables) (o ∷ objects) = Stands o 0 (slots structs v.type) × AreSettled structs variables objects
+AreSettled structs (v ∷ variables) (o ∷ objects) = Stands (shape (object_block o)) 0 (slots structs v.type) × AreSettled structs variables objects
 
 -- a body of a declared function has types, wherever what was known is known
 pub record IsBody (height : ℕ) (s : Scope) (b : Defined) : Type 0 where
@@ -87,7 +88,7 @@ pub settled_later : (a b : List Structure) (variables : List Variable) (objects 
 settled_later a b [] [] ext h = tt
 settled_later a b [] (o ∷ objects) ext h = absurd h
 settled_later a b (v ∷ variables) [] ext h = absurd h
-settled_later a b (v ∷ variables) (o ∷ objects) ext h = (subst (λ row. Stands o 0 row) (slots_kept a b v.type ext h.0.there) h.0, settled_later a b variables objects ext h.1)
+settled_later a b (v ∷ variables) (o ∷ objects) ext h = (subst (λ row. Stands (shape (object_block o)) 0 row) (slots_kept a b v.type ext h.0.there) h.0, settled_later a b variables objects ext h.1)
 
 pub bodies_later : (height : ℕ) (a b : Scope) (bodies : List Defined) → FileGrows a b → AllByRecursion (IsBody height a) bodies → AllByRecursion (IsBody height b) bodies
 bodies_later height a b [] h all = tt
@@ -102,10 +103,10 @@ all_append P (y ∷ xs) x all h = (all.0, all_append P xs x all.1 h)
 
 -- ---- the program behind the whole walk
 
-settled_there : (structs : List Structure) (variables : List Variable) (objects : List (List core.Initial)) (k : ℕ) (v : Variable) → AreSettled structs variables objects → slice_get variables k ≡ Some v → (cells : List core.Initial) × (slice_get objects k ≡ Some cells) × Stands cells 0 (slots structs v.type)
+settled_there : (structs : List Structure) (variables : List Variable) (objects : List (List core.Initial)) (k : ℕ) (v : Variable) → AreSettled structs variables objects → slice_get variables k ≡ Some v → (cells : List core.Initial) × (slice_get objects k ≡ Some cells) × Stands (shape (object_block cells)) 0 (slots structs v.type)
 settled_there structs [] objects k v h e = absurd (cc)
 settled_there structs (x ∷ variables) [] k v h e = absurd h
-settled_there structs (x ∷ variables) (o ∷ objects) zero v h e = let same : x ≡ v = cc in (o, refl, subst (λ (y : Variable). Stands o 0 (slots structs y.type)) same h.0)
+settled_there structs (x ∷ variables) (o ∷ objects) zero v h e = let same : x ≡ v = cc in (o, refl, subst (λ (y : Variable). Stands (shape (object_block o)) 0 (slots structs y.type)) same h.0)
 settled_there structs (x ∷ variables) (o ∷ objects) (suc k) v h e = settled_there structs variables objects k v h.1 e
 
 -- the body that is found is one of the function
@@ -188,11 +189,11 @@ module _ (height entry : ℕ) (w : Walk) (well : IsWell height w) (settled : Are
       chosen false h rest = (h, rest)
 
   -- and each cell a value of its type
-  start_typed : (is : List core.Initial) → AllByRecursion IsStart is → AllByRecursion (IsInitial frame) is
+  start_typed : (is : List core.Initial) → AllByRecursion IsStart is → AllByRecursion (IsInitial w.scope.structs) is
   start_typed [] all = tt
-  start_typed (i ∷ is) all = (all.0 frame, start_typed is all.1)
+  start_typed (i ∷ is) all = (all.0 w.scope.structs, start_typed is all.1)
 
-  pub objects_typed : (objects : List (List core.Initial)) → AllByRecursion (AllByRecursion IsStart) objects → AllByRecursion (AllByRecursion (IsInitial frame)) objects
+  pub objects_typed : (objects : List (List core.Initial)) → AllByRecursion (AllByRecursion IsStart) objects → AllByRecursion (AllByRecursion (IsInitial w.scope.structs)) objects
   objects_typed [] all = tt
   objects_typed (o ∷ objects) all = (start_typed o all.0, objects_typed objects all.1)
 

@@ -73,16 +73,16 @@ local_light n k (Pointer m d t) h = (h, tt)
 
 name_light : (n : ℕ) (x : Named) → 2 < n → Light n (name_typed x)
 name_light n (Local k t) h = local_light n k t (omega arith)
-name_light n (Object k t) h = at_place_light n t (core.Direct k 0 0) (omega arith)
+name_light n (Object k t) h = at_place_light n t (core.Direct k 0) (omega arith)
 name_light n Nothing h = (omega arith, tt)
 
-member_weight : (p : core.Place) (cell offset : ℕ) (site : Site) → place_weight (member_place p cell offset site) ≡ place_weight p
-member_weight (core.Direct object first place) cell offset site = refl
-member_weight (core.Through pointer first place before) cell offset site = refl
+member_weight : (p : core.Place) (offset : ℕ) (site : Site) → place_weight (member_place p offset site) ≡ place_weight p
+member_weight (core.Direct object first) offset site = refl
+member_weight (core.Through pointer first before) offset site = refl
 
 pointer_light : (n : ℕ) (t : CType) (p : core.Place) (site : Site) → place_weight p < n → Light n (pointer_to t p site)
-pointer_light n t (core.Direct object cell offset) site h = (h, tt)
-pointer_light n t (core.Through pointer cell offset before) site h = (h, tt)
+pointer_light n t (core.Direct object offset) site h = (h, tt)
+pointer_light n t (core.Through pointer offset before) site h = (h, tt)
 
 address_light : (n : ℕ) (a : Typed) (site : Site) (span : Span) → Light n a → Promises (Light n) (address a site span)
 address_light n (Value type zero value None) site span h = tt
@@ -95,7 +95,7 @@ pointed_light : (n : ℕ) (t : CType) (value : core.Expression) (site : Site) (s
 pointed_light n Int value site span h = tt
 pointed_light n Char value site span h = tt
 pointed_light n (Struct number) value site span h = tt
-pointed_light n (Pointer m k t) value site span h = at_place_light (n + 2) t (core.Through value 0 0 site) (omega arith)
+pointed_light n (Pointer m k t) value site span h = at_place_light (n + 2) t (core.Through value 0 site) (omega arith)
 
 dereferenced_light : (n : ℕ) (a : Typed) (site : Site) (span : Span) → Light n a → Promises (Light (n + 2)) (dereferenced a site span)
 dereferenced_light n (Value type zero value place) site span h = pointed_light n type value site span h.0
@@ -108,11 +108,11 @@ member_at_light n s struct p name site span h = by (member_from 0 (members_named
     by None found = rw found tt
     by (Some m) found =
         let offset = offset_among (cells_of s.structs (Struct struct)) m.0 in
-        rw found (at_place_light n m.1 (member_place p m.0 offset site) (omega (arith, member_weight p m.0 offset site)))
+        rw found (at_place_light n m.1 (member_place p offset site) (omega (arith, member_weight p offset site)))
 
 dotted_light : (n : ℕ) (s : Scope) (a : Typed) (name : ℕ) (site : Site) (span : Span) → 2 ≤ n → Light n a → Promises (Light (n + 2)) (dotted s a name site span)
 dotted_light n s (Value type zero value place) name site span two h = tt
-dotted_light n s (AStruct number (OfLocal k)) name site span two h = member_at_light (n + 2) s number (core.Through (core.Local k) 0 0 site) name site span (omega arith)
+dotted_light n s (AStruct number (OfLocal k)) name site span two h = member_at_light (n + 2) s number (core.Through (core.Local k) 0 site) name site span (omega arith)
 dotted_light n s (AStruct number (OfCell p)) name site span two h = member_at_light (n + 2) s number p name site span (omega arith)
 
 pointed_by_light : (n : ℕ) (s : Scope) (t : CType) (value : core.Expression) (name : ℕ) (site : Site) (span : Span) → IsLight n value → Promises (Light (n + 2)) (pointed_by s t value name site span)
@@ -122,7 +122,7 @@ pointed_by_light n s (Struct number) value name site span h = tt
 pointed_by_light n s (Pointer m k Int) value name site span h = tt
 pointed_by_light n s (Pointer m k Char) value name site span h = tt
 pointed_by_light n s (Pointer m k (Pointer m' k' t)) value name site span h = tt
-pointed_by_light n s (Pointer m k (Struct number)) value name site span h = member_at_light (n + 2) s number (core.Through value 0 0 site) name site span (omega arith)
+pointed_by_light n s (Pointer m k (Struct number)) value name site span h = member_at_light (n + 2) s number (core.Through value 0 site) name site span (omega arith)
 
 arrowed_light : (n : ℕ) (s : Scope) (a : Typed) (name : ℕ) (site : Site) (span : Span) → Light n a → Promises (Light (n + 2)) (arrowed s a name site span)
 arrowed_light n s (Value type zero value place) name site span h = pointed_by_light n s type value name site span h.0

@@ -124,7 +124,7 @@ mutual
         → Stands (shape (object_block cells)) offset (slots g.structs t) → HasPlace g locals (core.Direct object offset) t
     pointed : {mode : Mode} {kind : Kind} {e : Expression} {t : CType} {site : Site} → HasType g locals e (Pointer mode kind t)
         → HasPlace g locals (core.Through e 0 site) t
-    member : {mode : Mode} {kind : Kind} {e : Expression} {n k offset : ℕ} {t : CType} {site : Site} → HasType g locals e (Pointer mode kind (Struct n))
+    member : {mode : Mode} {kind : Kind} {e : Expression} {n offset : ℕ} {t : CType} {site : Site} (k : ℕ) → HasType g locals e (Pointer mode kind (Struct n))
         → slice_get (slots g.structs (Struct n)) k ≡ Some (record { type = t; offset = offset }) → is_scalar t ≡ true
         → HasPlace g locals (core.Through e offset site) t
 

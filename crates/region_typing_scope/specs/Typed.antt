@@ -19,8 +19,8 @@ use Rattle.region_typing_scope.specs.declared.typed.Typed.TheVariants as forms
 
 -- the first cell of a struct
 abbrev pub base_place : code_base.Base → core.Place
-base_place (bases.Object object) = core.Direct object 0 0
-base_place (bases.Behind pointer site) = core.Through (expression pointer.value) 0 0 site
+base_place (bases.Object object) = core.Direct object 0
+base_place (bases.Behind pointer site) = core.Through (expression pointer.value) 0 site
 
 -- where a struct stands
 abbrev pub struct_place : code_place.StructPlace → Lvalue

@@ -96,14 +96,9 @@ pub fn first_cell(base: Base) -> CellPlace
     ensures { place_of result ≡ base_place base }
 {
     match base {
-        Base::Object(object) => CellPlace::Direct {
-            object,
-            cell: 0,
-            offset: 0,
-        },
+        Base::Object(object) => CellPlace::Direct { object, offset: 0 },
         Base::Behind { pointer, site } => CellPlace::Through {
             pointer,
-            cell: 0,
             offset: 0,
             site,
         },
