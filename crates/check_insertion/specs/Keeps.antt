@@ -6,7 +6,7 @@ use Rattle.act_words.specs.Acts.{Act}
 use Rattle.ckc_core.specs.Outcome.{Gives, Ends, Stuck, Unsound, Short}
 use Rattle.ckc_core.specs.Steps.{Result}
 use Rattle.ckc_core.specs.Core.{Core}
-use Rattle.ckc_core.specs.Meaning.{meaning}
+use Rattle.ckc_core.specs.Meaning.{run_of}
 use Rattle.check_insertion.specs.ErasedMeaning as erased
 use Rattle.check_insertion.specs.Insert.{inserted}
 
@@ -23,4 +23,4 @@ Follows Short other = other ≡ Short
 abbrev pub KeepsMeaning : Core → Type 0
 KeepsMeaning program =
     (audited : Bool) (settings : Settings) (inputs : List ℤ) (acts : List Act)
-    → Follows (meaning audited program settings inputs acts) (erased.meaning (inserted program) settings inputs acts)
+    → Follows (run_of audited program settings inputs acts) (erased.meaning (inserted program) settings inputs acts)

@@ -23,7 +23,7 @@ use Rattle.ckc_core.specs.Bounds.{Pointed, with_ends, is_valid}
 use Rattle.ckc_core.specs.Core as core
 use Rattle.ckc_core.specs.States.{Value, Number, Null, At, Cell, Local, State, in_world, cell_at, same_type, has_type}
 use Rattle.ckc_core.specs.Steps.{Result, Flow, Next, Broke, Continued, Returned, given, checked, value_if, value_in, load_at, place_if, pointer_to, truth, same_place, test_given, result_of, arithmetic_of, compared, negated, complemented, low_byte_of, asked, words_of, reply_as, passed, cross, cross_if, call_tainted, crossed, takes, enter_if, call_trusted, called, result_given, choose, store_if, store_over, store_at, set_local, kept_if, is_char, printed, put, on_next, behind_turn, no_result, answer, locals_for, back, exit, initial, place_at, set_if, set_over, leaves_zero, fit, parameters_of, fits_result, answer_if}
-use Rattle.ckc_core.specs.Meaning.{Knot, bounds_of, Setting, audit, body_if, body_of, effect, effects, element, knot, meaning, place, place_from, pointed, pointer_of, reached, site_of, sound_if, value, values}
+use Rattle.ckc_core.specs.Meaning.{Knot, bounds_of, Setting, audit, body_if, body_of, effect, effects, element, knot, run_of, place, place_from, pointed, pointer_of, reached, site_of, sound_if, value, values}
 use Rattle.ckc_core.proofs.Ticks.{HasSpent, Answers, Crosses, tick_answers, enter_answers, touch_answers, until_crosses, next_answers}
 
 -- from a state in which so many ticks were spent at least: no fewer were in the state behind a value, and it isn't short
@@ -424,7 +424,7 @@ not_short budget low (Stuck site s) h e = absurd (cc)
 not_short budget low (Unsound site s) h e = absurd (cc)
 not_short budget low Short h e = h
 
-pub never_short : (audited : Bool) (program : core.Core) (settings : Settings) (inputs : List ℤ) (acts : List Act) → meaning audited program settings inputs acts ≡ Short → ⊥
+pub never_short : (audited : Bool) (program : core.Core) (settings : Settings) (inputs : List ℤ) (acts : List Act) → run_of audited program settings inputs acts ≡ Short → ⊥
 never_short audited program settings inputs acts =
     let n = settings.budget in
     let start : State = initial program (new_world (replicate settings.sandbox 0) first_offset inputs acts) in

@@ -186,7 +186,14 @@ knot audited g (suc ticks) =
 abbrev pub run_from : Bool → Setting → State → Result (Unit {0})
 run_from audited g s = and_then (body_of audited g (knot audited g g.budget) (slice_get g.program.functions g.program.main) [] s) exit
 
--- what a program means under settings, with these input numbers and acts: how it ends, and the last state
-abbrev pub meaning : Bool → core.Core → Settings → List ℤ → List Act → Result (Unit {0})
-meaning audited program settings inputs acts =
+abbrev pub run_of : Bool → core.Core → Settings → List ℤ → List Act → Result (Unit {0})
+run_of audited program settings inputs acts =
     run_from audited (setting_of program settings) (initial program (new_world (replicate settings.sandbox 0) first_offset inputs acts))
+
+-- what a program means under settings, with these input numbers and acts: how it ends, and the last state
+abbrev pub meaning : core.Core → Settings → List ℤ → List Act → Result (Unit {0})
+meaning program settings inputs acts = run_of false program settings inputs acts
+
+-- the same with an audit of each pointer
+abbrev pub audited_meaning : core.Core → Settings → List ℤ → List Act → Result (Unit {0})
+audited_meaning program settings inputs acts = run_of true program settings inputs acts

@@ -5,7 +5,7 @@ ghost use Rattle.act_words.specs.declared.settings.Settings.{Settings};
 ghost use Rattle.act_words.specs.Acts.{Act};
 ghost use Rattle.ckc_core.specs.Outcome.{Short};
 ghost use Rattle.ckc_core.specs.Core.{Core};
-ghost use Rattle.ckc_core.specs.Meaning.{meaning};
+ghost use Rattle.ckc_core.specs.Meaning.{run_of};
 ghost use Rattle.ckc_core.specs.Audits.{AuditChangesNothing};
 ghost use Rattle.ckc_core.specs.Examples as examples;
 
@@ -21,7 +21,7 @@ pub fn examples()
 
 /// What a program means is told: it has as many ticks as its budget, and is never short of them.
 pub fn never_short()
-    ensures { (audited : Bool) (program : Core) (settings : Settings) (inputs : List ℤ) (acts : List Act) → meaning audited program settings inputs acts ≡ Short → ⊥ }
+    ensures { (audited : Bool) (program : Core) (settings : Settings) (inputs : List ℤ) (acts : List Act) → run_of audited program settings inputs acts ≡ Short → ⊥ }
 {}
 
 /// Where the audit finds nothing, the meaning is the same without it.

@@ -4,6 +4,7 @@ use Rattle.ckc_text.specs.declared.fault.Refused.{Refused}
 use Rattle.ckc_text.specs.declared.fault.Refused.TheVariants.{Source, NoMemory}
 use Rattle.ckc_names_rules.specs.Given.{main, number_in}
 use Rattle.ckc_names_rules.specs.Naming.{NamedTree}
+use Rattle.ckc_core.specs.Programs.{Import}
 use Rattle.ckc_core.specs.Core as core
 use Rattle.ckc_core.specs.Core.{Core}
 use Rattle.region_typing_rules.specs.Verdicts.{Verdict, Passes, Breaks, passing, picked}
@@ -26,7 +27,7 @@ trusted_functions bodies [] = []
 trusted_functions bodies (f ∷ functions) = picked (is_import f) (trusted_functions bodies functions) (body_of bodies f ∷ trusted_functions bodies functions)
 
 -- tainted functions in that order
-abbrev pub tainted_functions : List Signature → List core.Import
+abbrev pub tainted_functions : List Signature → List Import
 tainted_functions [] = []
 tainted_functions (f ∷ functions) = picked (is_import f) (record { name = f.text; parameters = length f.parameters; result = f.result }
     ∷ tainted_functions functions) (tainted_functions functions)

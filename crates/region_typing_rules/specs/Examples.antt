@@ -1,5 +1,5 @@
 -- Small programs, and what they become.
-use Rattle.std.specs.Prelude.{◌≡◌, ℕ, false, List, [], ◌∷◌, codes, Some, None, pos}
+use Rattle.std.specs.Prelude.{◌≡◌, ℕ, false, List, [], ◌∷◌, codes, Option, Some, None, pos}
 use Rattle.ckc_text.specs.declared.place.Span.{Span}
 use Rattle.ckc_text.specs.declared.place.Place.{Place}
 use Rattle.ckc_text.specs.declared.code.Code.{Code}
@@ -26,10 +26,13 @@ use Rattle.pointer_modes.specs.Types.{Int, Pointer}
 use Rattle.ckc_core.specs.declared.program.Site.{Site}
 use Rattle.act_words.specs.declared.operator.ArithmeticOperator.TheVariants as arithmetics
 use Rattle.act_words.specs.declared.operator.Operator.TheVariants as operators
+use Rattle.ckc_core.specs.declared.program.Index.TheVariants as indexes
+use Rattle.ckc_core.specs.declared.program.PointerBounds.{PointerBounds}
 use Rattle.ckc_core.specs.Core as core
 use Rattle.region_typing_rules.specs.Verdicts.{Verdict, Passes, Stops, Broken, Nameless}
 use Rattle.ckc_core.specs.Core.{Core}
 use Rattle.ckc_names_rules.specs.Naming.{named_of}
+use Rattle.region_typing_rules.specs.Expressions.{bounds_at}
 use Rattle.region_typing_rules.specs.Cores.{checked}
 
 -- spans that no place is asked of
@@ -98,6 +101,10 @@ breaks_at (Stops Nameless) code from = ⊥
 abbrev place : Site
 place = record { place = at 0 }
 
+-- the bounds of a `ptr<int>` there
+abbrev one_int : Site → Option PointerBounds
+one_int site = bounds_at [] (Pointer modes.Checked kinds.One Int) site
+
 -- int g = 1; int main(void) { ptr<int> p = &g; *p = 41; return g + 1; }
 abbrev pub first_run : Type 0
 first_run =
@@ -112,10 +119,10 @@ first_run =
         result = Some Int;
         body =
             core.Then (core.Block (core.Then (core.Block (core.Then (core.SetLocal 0 core.Null)
-            (core.Then (core.SetLocal 0 (core.AddressOf (core.Direct 0 0))) core.NoMore))) (core.Then core.Nothing core.NoMore)))
-            (core.Then (core.Store Int (core.Through (core.Local 0) 0 place) (core.Number (pos 41)))
+            (core.Then (core.SetLocal 0 (core.AddressOf (core.Direct 0 0) (one_int place))) core.NoMore))) (core.Then core.Nothing core.NoMore)))
+            (core.Then (core.Store Int (core.Through (core.Local 0 (one_int place)) indexes.First 0 place) (core.Number (pos 41)))
             (core.Then (core.Return (core.Arithmetic (operators.Arithmetic arithmetics.Add)
-            (core.Load Int (core.Direct 0 0)) (core.Number (pos 1)) place)) core.NoMore));
+            (core.Load Int (core.Direct 0 0) None) (core.Number (pos 1)) place)) core.NoMore));
       } ∷ [];
       main = 0;
     })

@@ -11,9 +11,12 @@ use Rattle.ckc_tree.specs.declared.item.FunctionKind.{FunctionKind}
 use Rattle.ckc_tree.specs.declared.item.FunctionKind.TheVariants as function_kinds
 use Rattle.ckc_tree.specs.Expressions as e
 use Rattle.ckc_tree.specs.Expressions.{Expression, Expressions, expression_span}
+use Rattle.bounds_exprs.specs.Normal.{constant as constant_term}
+use Rattle.pointer_modes.specs.declared.ctype.Mode.{Mode}
 use Rattle.pointer_modes.specs.declared.ctype.Mode.TheVariants as modes
+use Rattle.pointer_modes.specs.declared.ctype.Kind.{Kind}
 use Rattle.pointer_modes.specs.declared.ctype.Kind.TheVariants as kinds
-use Rattle.pointer_modes.specs.Types.{CType, Int, Char, Struct, Pointer, Member, members_of}
+use Rattle.pointer_modes.specs.Types.{CType, Int, Char, Struct, Pointer, Member, Structure, members_of}
 use Rattle.pointer_modes.specs.Layout.{Cell, cells_of, size_of}
 use Rattle.ckc_core.specs.declared.program.Site.{Site}
 use Rattle.act_words.specs.declared.operator.Operator.{Operator}
@@ -24,6 +27,8 @@ use Rattle.act_words.specs.declared.operator.Comparison.{Comparison}
 use Rattle.act_words.specs.declared.operator.Comparison.TheVariants as comparisons
 use Rattle.ckc_core.specs.declared.program.Callee.{Callee}
 use Rattle.ckc_core.specs.declared.program.Callee.TheVariants as callees
+use Rattle.ckc_core.specs.declared.program.Index.TheVariants as indexes
+use Rattle.ckc_core.specs.declared.program.PointerBounds.{PointerBounds}
 use Rattle.ckc_core.specs.Core as core
 use Rattle.ckc_names_rules.specs.declared.given.Given.{Given}
 use Rattle.region_typing_rules.specs.Verdicts.{Verdict, Passes, Unnamed, passing, needs, breaks, picked}
@@ -54,6 +59,51 @@ Places = ℕ → Place
 abbrev pub site_at : Places → Span → Site
 site_at at span = record { place = at span.from }
 
+-- ---- bounds
+
+-- a checked pointer to one element has the ends 0 and 1; no other pointer is built
+abbrev bounds_by : Mode → Kind → PointerBounds → Option PointerBounds
+bounds_by modes.Checked kinds.One p = Some p
+bounds_by modes.Checked kinds.Array p = None
+bounds_by modes.Checked kinds.Nt p = None
+bounds_by modes.Tainted kind p = None
+bounds_by modes.Raw kind p = None
+
+-- the bounds of a value of a type, where it stands
+abbrev pub bounds_at : List Structure → CType → Site → Option PointerBounds
+bounds_at structs Int site = None
+bounds_at structs Char site = None
+bounds_at structs (Struct number) site = None
+bounds_at structs (Pointer mode kind target) site =
+    bounds_by mode kind (record { bounds = record { base = None; lo = constant_term (pos 0); hi = constant_term (pos 1) }; size = size_of structs target; site = site })
+
+-- a value with bounds at its node
+abbrev pub noted : Option PointerBounds → core.Expression → core.Expression
+noted b (core.Number number) = core.Number number
+noted b core.Null = core.Null
+noted b (core.Local local bounds) = core.Local local b
+noted b (core.Load type place bounds) = core.Load type place b
+noted b (core.AddressOf place bounds) = core.AddressOf place b
+noted b (core.Negate operand site) = core.Negate operand site
+noted b (core.Complement operand) = core.Complement operand
+noted b (core.Not operand) = core.Not operand
+noted b (core.Arithmetic operator left right site) = core.Arithmetic operator left right site
+noted b (core.Compare comparison left right) = core.Compare comparison left right
+noted b (core.Same left right) = core.Same left right
+noted b (core.AndAlso left right) = core.AndAlso left right
+noted b (core.OrElse left right) = core.OrElse left right
+noted b (core.LowByte operand) = core.LowByte operand
+noted b (core.Call callee arguments bounds) = core.Call callee arguments b
+noted b core.NextInput = core.NextInput
+
+abbrev pub with_bounds : List Structure → Site → Typed → Typed
+with_bounds structs site (Value type zero value place) = Value type zero (noted (bounds_at structs type site) value) place
+with_bounds structs site (AStruct number place) = AStruct number place
+
+-- an expression whose value may be a pointer, which begins at the site
+abbrev pub bounded : Scope → Site → Verdict Typed → Verdict Typed
+bounded s site verdict = passing verdict (λ t. Passes (with_bounds s.structs site t))
+
 abbrev pub plain : CType → core.Expression → Verdict Typed
 plain type value = Passes (Value type false value None)
 
@@ -64,15 +114,15 @@ number value = plain Int value
 
 -- a scalar at a place is its value there, and a struct is the place
 abbrev pub at_place : CType → core.Place → Typed
-at_place Int place = Value Int false (core.Load Int place) (Some (OfCell place))
-at_place Char place = Value Char false (core.Load Char place) (Some (OfCell place))
-at_place (Pointer mode kind target) place = Value (Pointer mode kind target) false (core.Load (Pointer mode kind target) place) (Some (OfCell place))
+at_place Int place = Value Int false (core.Load Int place None) (Some (OfCell place))
+at_place Char place = Value Char false (core.Load Char place None) (Some (OfCell place))
+at_place (Pointer mode kind target) place = Value (Pointer mode kind target) false (core.Load (Pointer mode kind target) place None) (Some (OfCell place))
 at_place (Struct number) place = AStruct number (OfCell place)
 
 abbrev pub local_typed : ℕ → CType → Typed
-local_typed local Int = Value Int false (core.Local local) (Some (OfLocal local))
-local_typed local Char = Value Char false (core.Local local) (Some (OfLocal local))
-local_typed local (Pointer mode kind target) = Value (Pointer mode kind target) false (core.Local local) (Some (OfLocal local))
+local_typed local Int = Value Int false (core.Local local None) (Some (OfLocal local))
+local_typed local Char = Value Char false (core.Local local None) (Some (OfLocal local))
+local_typed local (Pointer mode kind target) = Value (Pointer mode kind target) false (core.Local local None) (Some (OfLocal local))
 local_typed local (Struct number) = AStruct number (OfLocal local)
 
 abbrev pub name_typed : Named → Typed
@@ -83,12 +133,12 @@ name_typed Nothing = Value Int true (core.Number (pos 0)) None
 -- so many bytes behind a place, where checks name another expression
 abbrev pub member_place : core.Place → ℕ → Site → core.Place
 member_place (core.Direct object first) offset site = core.Direct object (first + offset)
-member_place (core.Through pointer first before) offset site = core.Through pointer (first + offset) site
+member_place (core.Through pointer index first before) offset site = core.Through pointer index (first + offset) site
 
 -- the place of a struct. A parameter that is one stands in no memory, and its function is refused behind its body (E13): until
 -- then it stands behind a pointer that is none, which no core that has types holds
 abbrev pub struct_place : Lvalue → Site → core.Place
-struct_place (OfLocal local) site = core.Through (core.Local local) 0 site
+struct_place (OfLocal local) site = core.Through (core.Local local None) indexes.First 0 site
 struct_place (OfCell place) site = place
 
 -- a member of a struct, where these are the names of its members: its number, and its type
@@ -117,7 +167,7 @@ dotted s (Value type zero value place) name site span = breaks E13 span
 dotted s (AStruct number place) name site span = member_at s number (struct_place place site) name site span
 
 abbrev pub pointed_by : Scope → CType → core.Expression → ℕ → Site → Span → Verdict Typed
-pointed_by s (Pointer mode kind (Struct number)) value name site span = member_at s number (core.Through value 0 site) name site span
+pointed_by s (Pointer mode kind (Struct number)) value name site span = member_at s number (core.Through value indexes.First 0 site) name site span
 pointed_by s _ value name site span = breaks E13 span
 
 -- member-of-struct: the left side of an arrow is a pointer to a struct (E13)
@@ -126,7 +176,7 @@ arrowed s (Value type zero value place) name site span = pointed_by s type value
 arrowed s (AStruct number place) name site span = breaks E13 span
 
 abbrev pub pointed_at : CType → core.Expression → Site → Span → Verdict Typed
-pointed_at (Pointer mode kind target) value site span = Passes (at_place target (core.Through value 0 site))
+pointed_at (Pointer mode kind target) value site span = Passes (at_place target (core.Through value indexes.First 0 site))
 pointed_at _ value site span = breaks E13 span
 
 -- operand-is-pointer: E13
@@ -137,11 +187,11 @@ dereferenced (AStruct number place) site span = breaks E13 span
 -- the same place, whose check names another expression
 abbrev pub checked_at : core.Place → Site → core.Place
 checked_at (core.Direct object offset) site = core.Direct object offset
-checked_at (core.Through pointer offset before) site = core.Through pointer offset site
+checked_at (core.Through pointer index offset before) site = core.Through pointer index offset site
 
 -- a pointer to a place, whose check names the address
 abbrev pub pointer_to : CType → core.Place → Site → Typed
-pointer_to type p site = Value (Pointer modes.Checked kinds.One type) false (core.AddressOf (checked_at p site)) None
+pointer_to type p site = Value (Pointer modes.Checked kinds.One type) false (core.AddressOf (checked_at p site) None) None
 
 abbrev pub address_at : CType → Option Lvalue → Site → Span → Verdict Typed
 address_at type None site span = breaks E12 span
@@ -318,7 +368,7 @@ callee_of true number site = callees.Tainted number site
 callee_of false number site = callees.Trusted number
 
 abbrev pub call_of : Option CType → Callee → core.Arguments → Called
-call_of (Some type) callee arguments = Gives type (core.Call callee arguments)
+call_of (Some type) callee arguments = Gives type (core.Call callee arguments None)
 call_of None callee arguments = GivesNothing (core.CallAlone callee arguments)
 
 -- a declared function as a callee
@@ -373,18 +423,18 @@ abbrev mutual
   typed at s (e.Number value span) = constant value (value == 0) span
   typed at s (e.Character value span) = constant value false span
   typed at s (e.Text bytes span) = breaks E13 span
-  typed at s (e.Name name) = passing (named s name.number) (λ n. Passes (name_typed n))
-  typed at s (e.Call callee arguments span) = passing (all_typed at s arguments)
-      (λ ts. passing (called s (function_named s.functions callee.number) callee.number ts (site_at at span) span) (λ c. with_result c span))
+  typed at s (e.Name name) = bounded s (site_at at name.span) (passing (named s name.number) (λ n. Passes (name_typed n)))
+  typed at s (e.Call callee arguments span) = bounded s (site_at at span) (passing (all_typed at s arguments)
+      (λ ts. passing (called s (function_named s.functions callee.number) callee.number ts (site_at at span) span) (λ c. with_result c span)))
   typed at s (e.SizeOf type span) = passing (type_named s type) (λ t. number (core.Number (pos (size_of s.structs t))))
   typed at s (e.Cast word type operand span) = breaks E13 span
   typed at s (e.BoundedCast word type operand bounds span) = breaks E13 span
   typed at s (e.Malloc word type size span) = breaks E13 span
   typed at s (e.Calloc word type count size span) = breaks E13 span
   typed at s (e.Index base index span) = passing (typed at s base) (λ a. passing (typed at s index) (λ b. indexed a b span))
-  typed at s (e.Dot base member span) = passing (typed at s base) (λ a. dotted s a member.number (site_at at span) span)
-  typed at s (e.Arrow base member span) = passing (typed at s base) (λ a. arrowed s a member.number (site_at at span) span)
-  typed at s (e.Unary operator operand span) = passing (typed at s operand) (λ a. unary_typed operator a (site_at at span) span)
+  typed at s (e.Dot base member span) = bounded s (site_at at span) (passing (typed at s base) (λ a. dotted s a member.number (site_at at span) span))
+  typed at s (e.Arrow base member span) = bounded s (site_at at span) (passing (typed at s base) (λ a. arrowed s a member.number (site_at at span) span))
+  typed at s (e.Unary operator operand span) = bounded s (site_at at span) (passing (typed at s operand) (λ a. unary_typed operator a (site_at at span) span))
   typed at s (e.Binary operator left right span) =
       passing (typed at s left) (λ a. passing (typed at s right) (λ b. binary_typed operator a b (site_at at span) span))
 

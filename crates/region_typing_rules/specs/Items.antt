@@ -23,9 +23,10 @@ use Rattle.flat_bytes.specs.Blocks.{rounded_up}
 use Rattle.pointer_modes.specs.Types as types
 use Rattle.pointer_modes.specs.Types.{CType, Int, Char, Struct, Pointer, Structure, members_of}
 use Rattle.pointer_modes.specs.Layout.{Cell, cells_of, size_of}
+use Rattle.ckc_core.specs.Programs.{Initial}
 use Rattle.ckc_core.specs.Core as core
 use Rattle.ckc_core.specs.States.{same_type}
-use Rattle.ckc_core.specs.Meaning.{low_byte}
+use Rattle.ckc_core.specs.Steps.{low_byte}
 use Rattle.region_typing_rules.specs.Verdicts.{Verdict, Passes, passing, needs, breaks, meant, picked}
 use Rattle.region_typing_rules.specs.Scopes.{Scope, Signature, Variable, struct_named, function_named}
 use Rattle.region_typing_rules.specs.Types.{base_type, without_stars, type_named, is_scalar}
@@ -41,7 +42,7 @@ pub record Defined : Type 0 where
 
 pub record Walk : Type 0 where
   pub scope : Scope
-  pub objects : List (List core.Initial)
+  pub objects : List (List Initial)
   pub taken : ℕ
   pub bodies : List Defined
 
@@ -132,13 +133,13 @@ cell_types structs Char = Char ∷ []
 cell_types structs (Pointer mode kind target) = Pointer mode kind target ∷ []
 cell_types structs (Struct number) = map (λ m. m.ctype) (members_of structs number)
 
-abbrev pub numbered_cells : ℤ → List CType → List ℕ → List core.Initial
+abbrev pub numbered_cells : ℤ → List CType → List ℕ → List Initial
 numbered_cells number [] strides = []
 numbered_cells number (t ∷ ts) [] = []
 numbered_cells number (t ∷ ts) (stride ∷ strides) = record { type = t; stride = stride; number = number } ∷ numbered_cells number ts strides
 
 -- the cells of a variable, each with this number
-abbrev pub cells_with : List Structure → CType → ℤ → List core.Initial
+abbrev pub cells_with : List Structure → CType → ℤ → List Initial
 cells_with structs t number = numbered_cells number (cell_types structs t) (strides_of structs t)
 
 -- an initialiser whose children were walked
@@ -156,11 +157,11 @@ abbrev pub is_zero : Typed → Bool
 is_zero (Value type null value place) = null
 is_zero (AStruct number place) = false
 
-abbrev pub number_or_break : Option ℤ → Span → (ℤ → List core.Initial) → Verdict (List core.Initial)
+abbrev pub number_or_break : Option ℤ → Span → (ℤ → List Initial) → Verdict (List Initial)
 number_or_break None span cells = breaks E13 span
 number_or_break (Some number) span cells = Passes (cells number)
 
-abbrev pub written_cells : Given → List Structure → CType → Expression → Typed → Span → Verdict (List core.Initial)
+abbrev pub written_cells : Given → List Structure → CType → Expression → Typed → Span → Verdict (List Initial)
 written_cells given structs Int value t span = number_or_break (signed_constant given value) span (cells_with structs Int)
 written_cells given structs Char value t span = number_or_break (signed_constant given value) span (λ n. cells_with structs Char (low_byte n))
 written_cells given structs (Struct number) value t span = breaks E13 span
@@ -169,7 +170,7 @@ written_cells given structs (Pointer mode kind target) value t span =
 
 -- constant-initialiser: a signed number for a number, 0 or `NULL` for a pointer, and nothing for a struct; a list for an array alone (E13,
 -- at the item)
-abbrev pub object_cells : Given → List Structure → CType → Walked → Span → Verdict (List core.Initial)
+abbrev pub object_cells : Given → List Structure → CType → Walked → Span → Verdict (List Initial)
 object_cells given structs type Missing span = Passes (cells_with structs type (pos 0))
 object_cells given structs type (Written value t) span = written_cells given structs type value t span
 object_cells given structs type Constants span = breaks E13 span

@@ -3,7 +3,8 @@ use Rattle.std.specs.Prelude.{◌≡◌, ℕ, ◌+◌, ◌<◌, ◌≤◌, true,
 use Rattle.flat_bytes.specs.Blocks.{rounded_up}
 use Rattle.act_words.specs.Checks.{is_word_number}
 use Rattle.pointer_modes.specs.Layout.{scalar_size}
-use Rattle.ckc_core.specs.Core.{Initial, Function, Import, Core}
+use Rattle.ckc_core.specs.Programs.{Initial, Import}
+use Rattle.ckc_core.specs.Core.{Function, Core}
 use Rattle.ckc_core.specs.States.{Null, has_type, initial_value}
 use Rattle.ckc_core.specs.Stacks.{statements_stack}
 

@@ -18,7 +18,7 @@ use Rattle.act_words.specs.declared.operator.Operator.{Operator}
 use Rattle.act_words.specs.declared.operator.ArithmeticOperator.TheVariants as arithmetics
 use Rattle.act_words.specs.declared.operator.Operator.TheVariants as operators
 use Rattle.ckc_core.specs.Core as core
-use Rattle.ckc_core.specs.Meaning.{is_char}
+use Rattle.ckc_core.specs.Steps.{is_char}
 use Rattle.region_typing_rules.specs.Verdicts.{Verdict, Passes, passing, needs, breaks}
 use Rattle.region_typing_rules.specs.Scopes.{Scope}
 use Rattle.region_typing_rules.specs.Types.{is_scalar, without_stars, base_type}
@@ -42,7 +42,7 @@ store (OfCell place) type value = core.Store type place value
 -- the checks of an update name the whole assignment
 abbrev pub updated_place : core.Place → Site → core.Place
 updated_place (core.Direct object offset) site = core.Direct object offset
-updated_place (core.Through pointer offset before) site = core.Through pointer offset site
+updated_place (core.Through pointer index offset before) site = core.Through pointer index offset site
 
 abbrev pub update : Lvalue → CType → Operator → core.Expression → Site → core.Statement
 update (OfLocal local) type operator value site = core.UpdateLocal (is_char type) local operator value site

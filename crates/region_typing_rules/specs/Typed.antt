@@ -1,22 +1,26 @@
 -- What it is that a core has types: a rule for each form, by the types of what it is made of.
-use Rattle.std.specs.Prelude.{◌≡◌, ℕ, ◌+◌, ◌<◌, ◌≤◌, Bool, true, false, List, [], ◌∷◌, length, take, replicate, Option, Some, None, slice_get}
+use Rattle.std.specs.Prelude.{◌≡◌, ℕ, ◌+◌, ◌<◌, ◌≤◌, Bool, true, false, List, [], ◌∷◌, length, take, replicate, sum, Option, Some, None, slice_get}
 use Rattle.std.specs.List.{AllByRecursion}
 use Rattle.std.proofs.Common.{ℤ}
 use Rattle.act_words.specs.Checks.{is_word_number}
 use Rattle.pointer_modes.specs.declared.ctype.Mode.{Mode}
 use Rattle.pointer_modes.specs.declared.ctype.Kind.{Kind}
 use Rattle.pointer_modes.specs.Types.{CType, Int, Char, Struct, Pointer, Member, Structure, members_of}
-use Rattle.pointer_modes.specs.Layout.{Cell, cells_of}
+use Rattle.pointer_modes.specs.Layout.{Cell, cells_of, size_of}
 use Rattle.ckc_core.specs.declared.program.Site.{Site}
 use Rattle.act_words.specs.declared.operator.Operator.{Operator}
 use Rattle.act_words.specs.declared.operator.Comparison.{Comparison}
 use Rattle.ckc_core.specs.declared.program.Callee.{Callee}
 use Rattle.ckc_core.specs.declared.program.Callee.TheVariants as callees
+use Rattle.ckc_core.specs.declared.program.Index.TheVariants as indexes
+use Rattle.ckc_core.specs.declared.program.PointerBounds.{PointerBounds}
+use Rattle.ckc_core.specs.Programs.{Initial, Import}
 use Rattle.ckc_core.specs.Core as core
-use Rattle.ckc_core.specs.Core.{Core, Initial, Function, Import, Expression, Arguments, Place, Statement, Statements}
+use Rattle.ckc_core.specs.Core.{Core, Function, Expression, Arguments, Place, Statement, Statements}
 use Rattle.ckc_core.specs.States.{Value, Number, Null, At, Shape, shape, type_at, has_type, initial_value, object_block}
-use Rattle.ckc_core.specs.Meaning.{is_char}
+use Rattle.ckc_core.specs.Steps.{is_char}
 use Rattle.region_typing_rules.specs.Types.{is_number, is_scalar}
+use Rattle.region_typing_rules.specs.Expressions.{bounds_at}
 
 -- what the parts of a program are typed in: the program, and its structs
 pub record Frame : Type 0 where
@@ -51,11 +55,20 @@ pub record Stands (s : Shape) (byte : ℕ) (row : List Slot) : Type 0 where
   pub each : (k : ℕ) (slot : Slot) → slice_get row k ≡ Some slot → type_at s (byte + slot.offset) ≡ Some slot.type
   pub open_ended : s.zero_ended ≡ false
 
+-- the bounds at the node of a value of a type
+abbrev pub HasBounds : List Structure → CType → Option PointerBounds → Type 0
+HasBounds structs t b = (site : Site) × (b ≡ bounds_at structs t site)
+
+-- a value of the type stands at a byte of a block of this shape, and so many bytes as it takes are the block's
+pub record HasRow (structs : List Structure) (s : Shape) (byte : ℕ) (type : CType) : Type 0 where
+  pub stands : Stands s byte (slots structs type)
+  pub room : byte + size_of structs type ≤ sum s.strides
+
 -- a place at which a value of the type stands, in blocks of these shapes
 pub record IsPlace (structs : List Structure) (blocks : List Shape) (type : CType) (block byte : ℕ) : Type 0 where
   pub shape : Shape
   pub found : slice_get blocks block ≡ Some shape
-  pub stands : Stands shape byte (slots structs type)
+  pub row : HasRow structs shape byte type
 
 -- a value of a type: a number in its range, null, or a place of what is pointed to
 abbrev pub HasValue : List Structure → List Shape → CType → Value → Type 0
@@ -91,11 +104,13 @@ mutual
     word : {z : ℤ} → is_word_number z ≡ true → HasType g locals (core.Number z) Int
     byte : {z : ℤ} → has_type Char (Number z) ≡ true → HasType g locals (core.Number z) Char
     null : {mode : Mode} {kind : Kind} {t : CType} → HasType g locals core.Null (Pointer mode kind t)
-    local : {k : ℕ} {t : CType} → slice_get locals k ≡ Some t → HasType g locals (core.Local k) t
+    local : {k : ℕ} {t : CType} {b : Option PointerBounds} → slice_get locals k ≡ Some t → HasBounds g.structs t b → HasType g locals (core.Local k b) t
     -- each char is an int
     widened : {e : Expression} → HasType g locals e Char → HasType g locals e Int
-    load : {t : CType} {p : Place} → is_scalar t ≡ true → HasPlace g locals p t → HasType g locals (core.Load t p) t
-    address_of : {mode : Mode} {kind : Kind} {t : CType} {p : Place} → HasPlace g locals p t → HasType g locals (core.AddressOf p) (Pointer mode kind t)
+    load : {t : CType} {p : Place} {b : Option PointerBounds} → is_scalar t ≡ true → HasPlace g locals p t → HasBounds g.structs t b
+        → HasType g locals (core.Load t p b) t
+    address_of : {mode : Mode} {kind : Kind} {t : CType} {p : Place} {b : Option PointerBounds} → HasPlace g locals p t
+        → HasBounds g.structs (Pointer mode kind t) b → HasType g locals (core.AddressOf p b) (Pointer mode kind t)
     negate : {e : Expression} {site : Site} → HasType g locals e Int → HasType g locals (core.Negate e site) Int
     complement : {e : Expression} → HasType g locals e Int → HasType g locals (core.Complement e) Int
     inverse : {e : Expression} {t : CType} → HasType g locals e t → HasType g locals (core.Not e) Int
@@ -108,8 +123,8 @@ mutual
     both : {a b : Expression} {t t' : CType} → HasType g locals a t → HasType g locals b t' → HasType g locals (core.AndAlso a b) Int
     either : {a b : Expression} {t t' : CType} → HasType g locals a t → HasType g locals b t' → HasType g locals (core.OrElse a b) Int
     low_byte : {e : Expression} → HasType g locals e Int → HasType g locals (core.LowByte e) Char
-    call : {callee : Callee} {ts : List CType} {arguments : Arguments} {t : CType} → IsCallee g callee ts (Some t) → HaveTypes g locals arguments ts
-        → HasType g locals (core.Call callee arguments) t
+    call : {callee : Callee} {ts : List CType} {arguments : Arguments} {t : CType} {b : Option PointerBounds} → IsCallee g callee ts (Some t) → HaveTypes g locals arguments ts
+        → HasBounds g.structs t b → HasType g locals (core.Call callee arguments b) t
     next_input : HasType g locals core.NextInput Int
 
   -- arguments, and the types of the parameters
@@ -121,12 +136,12 @@ mutual
   -- a place, and the type of what stands there: in a variable, behind a pointer, or at a member of the struct behind it
   pub data HasPlace (g : Frame) (locals : List CType) : Place → CType → Type 0 where
     direct : {object offset : ℕ} {t : CType} {cells : List Initial} → slice_get g.program.objects object ≡ Some cells
-        → Stands (shape (object_block cells)) offset (slots g.structs t) → HasPlace g locals (core.Direct object offset) t
+        → HasRow g.structs (shape (object_block cells)) offset t → HasPlace g locals (core.Direct object offset) t
     pointed : {mode : Mode} {kind : Kind} {e : Expression} {t : CType} {site : Site} → HasType g locals e (Pointer mode kind t)
-        → HasPlace g locals (core.Through e 0 site) t
+        → HasPlace g locals (core.Through e indexes.First 0 site) t
     member : {mode : Mode} {kind : Kind} {e : Expression} {n offset : ℕ} {t : CType} {site : Site} (k : ℕ) → HasType g locals e (Pointer mode kind (Struct n))
         → slice_get (slots g.structs (Struct n)) k ≡ Some (record { type = t; offset = offset }) → is_scalar t ≡ true
-        → HasPlace g locals (core.Through e offset site) t
+        → HasPlace g locals (core.Through e indexes.First offset site) t
 
 -- ---- statements
 

@@ -11,7 +11,7 @@ ghost use Rattle.ckc_core.specs.Weights.{statements_weight};
 ghost use Rattle.region_typing_rules.specs.Verdicts.{Unnamed};
 ghost use Rattle.region_typing_rules.specs.Expressions.{Places};
 ghost use Rattle.region_typing_rules.specs.Cores.{checked};
-ghost use Rattle.region_typing_rules.specs.NeverStuck.{HasCore, NeverStuck};
+ghost use Rattle.region_typing_rules.specs.NeverStuck.{HasCore, NeverStuck, NeverUnsound, AlwaysEnds};
 ghost use Rattle.region_typing_rules.specs.Typed.{IsTyped};
 ghost use Rattle.region_typing_rules.specs.Lowerable.{HasFewFunctions, IsSmallCore};
 ghost use Rattle.region_typing_rules.specs.Examples as examples;
@@ -24,12 +24,20 @@ pub fn examples()
     ensures without_bodies { examples.without_bodies }
 {}
 
-/// The core of a program that breaks no rule has types, the run of what has types ends and is never stuck, and so is that of a
-/// program that breaks no rule.
+/// The core of a program that breaks no rule has types, and an audited run of what has types is never stuck.
 pub fn never_stuck()
     ensures typed { (at : Places) (t : Tree) (c : Core) → HasCore at t c → IsTyped c }
-    ensures sound { (program : Core) → IsTyped program → NeverStuck program }
-    ensures ends { (at : Places) (t : Tree) (c : Core) → HasCore at t c → NeverStuck c }
+    ensures stuck { (program : Core) → IsTyped program → NeverStuck program }
+{}
+
+/// In an audited run of what has types each pointer is valid with its bounds.
+pub fn never_unsound()
+    ensures { (program : Core) → IsTyped program → NeverUnsound program }
+{}
+
+/// The run of a program that breaks no rule ends, and it is the audited one.
+pub fn always_ends()
+    ensures { (at : Places) (t : Tree) (c : Core) → HasCore at t c → AlwaysEnds c }
 {}
 
 /// The core of a program that breaks no rule and whose tree isn't too high is small enough to be lowered.
