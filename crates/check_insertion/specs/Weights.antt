@@ -1,6 +1,6 @@
--- How many nodes the parts of a program have. A node is an expression, a place or a statement; a pointer to a place is one node
--- with it.
-use Rattle.std.specs.Prelude.{ℕ, ◌+◌}
+-- How many nodes the parts of a program have. A node is an expression, a place, a check or a statement; a pointer to a place is one
+-- node with it.
+use Rattle.std.specs.Prelude.{ℕ, ◌+◌, length}
 use Rattle.check_insertion.specs.Erased as erased
 
 abbrev mutual
@@ -28,7 +28,7 @@ abbrev mutual
 
   pub place_weight : erased.Place → ℕ
   place_weight (erased.Direct object offset) = 1
-  place_weight (erased.Through pointer index offset checks) = 1 + expression_weight pointer
+  place_weight (erased.Through pointer index offset checks) = 1 + length checks + expression_weight pointer
 
 abbrev mutual
   pub statement_weight : erased.Statement → ℕ

@@ -1,6 +1,6 @@
 -- The code of a program: which instructions each of its parts becomes. An instruction's place is its number in its function,
 -- which jumps name; so the code of a part takes the place of its first instruction.
-use Rattle.std.specs.Prelude.{ℕ, zero, suc, ◌+◌, Bool, true, false, List, [], ◌∷◌, ◌++◌, length, Option, Some, None, pos}
+use Rattle.std.specs.Prelude.{ℕ, zero, suc, ◌+◌, Bool, true, false, List, [], ◌∷◌, ◌++◌, length, map, Option, Some, None, pos}
 use Rattle.act_words.specs.Numbers.{signed}
 use Rattle.pointer_modes.specs.Types.{CType, Int, Char, Struct, Pointer}
 use Rattle.act_words.specs.declared.operator.Operator.{Operator}
@@ -9,6 +9,10 @@ use Rattle.act_words.specs.declared.operator.Comparison.TheVariants as compariso
 use Rattle.ckc_core.specs.declared.program.Callee.{Callee}
 use Rattle.ckc_core.specs.declared.program.Callee.TheVariants as callees
 use Rattle.ckc_core.specs.declared.program.Site.{Site}
+use Rattle.ckc_core.specs.declared.program.Index.{Index}
+use Rattle.ckc_core.specs.declared.program.Index.TheVariants as indexes
+use Rattle.check_insertion.specs.declared.erased.Check.{Check}
+use Rattle.check_insertion.specs.declared.erased.Check.TheVariants as checks
 use Rattle.ckc_core.specs.Core as core
 use Rattle.ckc_core.specs.Meaning.{is_char}
 use Rattle.code_words.specs.declared.op.Op.{Op}
@@ -51,9 +55,16 @@ offset_code (suc n) = ops.Const (signed (suc n)) ∷ ops.WrapAdd ∷ []
 abbrev pub address_code : ℕ → ℕ → List Op
 address_code object offset = ops.BlockAddress object ∷ offset_code offset
 
--- the address of a cell behind a pointer, whose word is on the stack
-abbrev pub through_code : ℕ → Site → List Op
-through_code offset site = ops.NonNull site.place ∷ offset_code offset
+-- a check of a pointer, whose word stays on the stack
+abbrev pub check_code : Check → Op
+check_code (checks.NotNull site) = ops.NonNull site.place
+
+abbrev pub checks_code : List Check → List Op
+checks_code checks = map check_code checks
+
+-- the address of a cell of an element that a pointer leads to, whose word is on the stack, behind the checks
+abbrev pub through_code : Index → ℕ → List Check → List Op
+through_code indexes.First offset checks = checks_code checks ++ offset_code offset
 
 -- keeps a number modulo 256, where it has to be
 abbrev pub byte_code : Bool → List Op
@@ -65,6 +76,9 @@ byte_code false = []
 abbrev pub offset_size : ℕ → ℕ
 offset_size zero = 0
 offset_size (suc n) = 2
+
+abbrev pub through_size : Index → ℕ → List Check → ℕ
+through_size indexes.First offset checks = length checks + offset_size offset
 
 abbrev pub byte_size : Bool → ℕ
 byte_size true = 1
@@ -95,16 +109,16 @@ abbrev mutual
 
   pub place_size : core.Place → ℕ
   place_size (core.Direct object offset) = 1 + offset_size offset
-  place_size (core.Through pointer offset site) = expression_size pointer + (1 + offset_size offset)
+  place_size (core.Through pointer index offset checks) = expression_size pointer + through_size index offset checks
 
 -- what a store has before its value, and behind it
 abbrev pub before_value_size : core.Place → ℕ
 before_value_size (core.Direct object offset) = 1 + offset_size offset
-before_value_size (core.Through pointer offset site) = expression_size pointer
+before_value_size (core.Through pointer index offset checks) = expression_size pointer
 
 abbrev pub behind_value_size : core.Place → ℕ
 behind_value_size (core.Direct object offset) = 1
-behind_value_size (core.Through pointer offset site) = 4 + offset_size offset
+behind_value_size (core.Through pointer index offset checks) = 3 + through_size index offset checks
 
 abbrev mutual
   pub statement_size : core.Statement → ℕ
@@ -173,7 +187,7 @@ abbrev mutual
   -- leaves the address of the cell there
   pub place_code : ℕ → core.Place → List Op
   place_code at (core.Direct object offset) = address_code object offset
-  place_code at (core.Through pointer offset site) = expression_code at pointer ++ through_code offset site
+  place_code at (core.Through pointer index offset checks) = expression_code at pointer ++ through_code index offset checks
 
 -- ---- statements
 
@@ -190,13 +204,13 @@ loop_places scratch at body step condition = record { scratch = scratch; on_brea
 -- the address that a store needs before its value, or its pointer
 abbrev pub before_value : ℕ → core.Place → List Op
 before_value at (core.Direct object offset) = address_code object offset
-before_value at (core.Through pointer offset site) = expression_code at pointer
+before_value at (core.Through pointer index offset checks) = expression_code at pointer
 
 -- what follows the value
 abbrev pub behind_value : ℕ → CType → core.Place → List Op
 behind_value scratch type (core.Direct object offset) = store_code type ∷ []
-behind_value scratch type (core.Through pointer offset site) =
-    ops.Set scratch ∷ (through_code offset site ++ ops.Local scratch ∷ store_code type ∷ [])
+behind_value scratch type (core.Through pointer index offset checks) =
+    ops.Set scratch ∷ (through_code index offset checks ++ ops.Local scratch ∷ store_code type ∷ [])
 
 abbrev mutual
   pub statement_code : Places → ℕ → core.Statement → List Op
