@@ -1,5 +1,5 @@
 -- A run of a program's code: how a state of the meaning stands in the code's memory.
-use Rattle.std.proofs.Common.{◌≡◌, ℕ, zero, suc, ◌+◌, ◌-◌, ◌<◌, ◌≤◌, Bool, true, false, ℤ, pos, List, [], ◌∷◌, ◌++◌, length, map, take, drop, replicate, Some, refl, sym, ap, ◌∙◌, subst, arith, append_assoc, length-append}
+use Rattle.std.proofs.Common.{◌≡◌, ℕ, zero, suc, ◌+◌, ◌-◌, ◌<◌, ◌≤◌, Bool, true, false, ℤ, pos, List, [], ◌∷◌, ◌++◌, length, map, take, drop, replicate, Some, refl, sym, ap, ◌∙◌, arith, append_assoc, length-append}
 use Rattle.std.specs.Prelude.{slice_get, sum, All}
 use Rattle.std.specs.List.{AllByRecursion}
 use Rattle.std.proofs.Math.Seq.{take-append_seam, drop-append_seam}
@@ -9,12 +9,13 @@ use Rattle.std.proofs.lemmas.Bool.Decides.{nat_tests}
 use Rattle.act_words.specs.declared.settings.Settings.{Settings}
 use Rattle.act_words.specs.Limits.{AreAllowed}
 use Rattle.act_words.specs.Numbers.{word}
-use Rattle.flat_bytes.specs.Blocks.{first_offset, grown, rounded_up, is_refused, blocks_from, blocks_of}
+use Rattle.act_words.specs.World.{World}
+use Rattle.flat_bytes.specs.Blocks.{first_offset, grown, rounded_up, is_refused, blocks_from}
 use Rattle.flat_bytes.specs.Blocks as flat
 use Rattle.trusted_memory.specs.Memories.{Memory}
 use Rattle.pointer_modes.specs.Types.{CType, Int, Char, Struct, Pointer}
 use Rattle.ckc_core.specs.Core.{Core, Initial}
-use Rattle.ckc_core.specs.States.{Value, Number, Null, At, Cell, Block, has_type, initial_value, object_block}
+use Rattle.ckc_core.specs.States.{Value, Null, Cell, Block, Shape, Local, Grows, strides, shape, shapes, has_type, initial_value, object_block}
 use Rattle.ckc_core.specs.States as meaning
 use Rattle.ckc_core.specs.Meaning.{is_char}
 use Rattle.code_words.specs.Table.{Caller, Control, State}
@@ -22,11 +23,11 @@ use Rattle.code_words.specs.Table as table
 use Rattle.code_words.specs.Runs.{spread, counter_behind}
 use Rattle.code_words.specs.declared.image.Image.{Image}
 use Rattle.lowering_code.specs.Images.{word_bytes_if, padded, object_bytes, image_of}
-use Rattle.lowering_code.specs.Correct.{block_bytes, shown_from, counted_from, width_if, IsCell, IsLowerable, SameEnd}
+use Rattle.lowering_code.specs.Correct.{size_of, offset_from, block_bytes, shown_from, counted_from, width_if, IsCell, IsLowerable, SameEnd}
+use Rattle.lowering_code.specs.Correct as correct
 use Rattle.act_words.specs.Shown.{Shown}
-use Rattle.lowering_code.proofs.Shapes.{strides, shape, sum_cons, row_of, shape_offset, shape_end, end_least, word_in, word_by_shape, HaveBytes}
-use Rattle.lowering_code.proofs.Memory.{HasRoom, block_content, memory_bytes, length_block}
-use Rattle.ckc_core.proofs.Numbers.{IsNumber}
+use Rattle.lowering_code.proofs.Shapes.{sum_cons, end_from, end_least, IsKeptBy, word_grows, kept_grows}
+use Rattle.lowering_code.proofs.Memory.{HasRoom, HasRooms, memory_bytes, length_block}
 
 -- a run of a program's code, from a state on
 pub record Execution : Type 0 where
@@ -39,48 +40,81 @@ pub record Execution : Type 0 where
 abbrev pub image : Execution → Image
 image g = image_of g.program
 
-abbrev pub rows : Execution → List (List ℕ)
-rows g = shape (map object_block g.program.objects)
+-- the shapes of the file-level variables
+abbrev pub variables : Execution → List Shape
+variables g = shapes (map object_block g.program.objects)
 
-abbrev pub word_of : Execution → Value → ℕ
-word_of g v = word_in g.settings.base (rows g) v
+-- ---- where blocks of some shapes are there
 
-abbrev pub tail : Execution → List ℕ
-tail g = replicate (g.settings.trusted - counter_behind first_offset (map object_bytes g.program.objects)) 0
+abbrev pub word_by : Execution → List Shape → Value → ℕ
+word_by g all v = correct.word_of g.settings.base all v
+
+-- the words of local variables
+abbrev pub slots_by : Execution → List Shape → List Local → List ℕ
+slots_by g all locals = map (λ (x : Local). word_by g all x.value) locals
+
+abbrev pub tail : Execution → List Shape → List ℕ
+tail g all = replicate (g.settings.trusted - end_from first_offset all) 0
+
+abbrev pub memory_by : Execution → List Shape → List Block → Memory
+memory_by g all blocks = record { bytes = memory_bytes g.settings.base all (tail g all) blocks; base = g.settings.base; counter = end_from first_offset all }
+
+-- the machine's blocks, of which the first stands at an offset
+abbrev pub listed_from : ℕ → List Shape → List flat.Block
+listed_from offset [] = []
+listed_from offset (s ∷ all) = (record { offset = offset; bytes = size_of s }) ∷ listed_from (grown offset (size_of s)) all
+
+abbrev pub state_by : Execution → List Shape → Control → List Caller → List Block → World → State
+state_by g all control callers blocks world = record { memory = memory_by g all blocks; blocks = listed_from first_offset all; control = control; callers = callers; world = world }
+
+-- ---- the same of a state of the meaning
+
+abbrev pub word_of : Execution → meaning.State → Value → ℕ
+word_of g s v = word_by g (shapes s.blocks) v
 
 abbrev pub memory : Execution → List Block → Memory
-memory g blocks =
-    record {
-      bytes = memory_bytes g.settings.base (rows g) (tail g) blocks;
-      base = g.settings.base;
-      counter = counter_behind first_offset (map object_bytes g.program.objects);
-    }
-
--- the static blocks
-abbrev pub static : Execution → List flat.Block
-static g = blocks_of g.settings.trusted (map length (map object_bytes g.program.objects))
+memory g blocks = memory_by g (shapes blocks) blocks
 
 -- a state of the code, with the memory and the world of a state of the meaning
 abbrev pub state : Execution → Control → List Caller → meaning.State → State
-state g control callers s = record { memory = memory g s.blocks; blocks = static g; control = control; callers = callers; world = s.world }
+state g control callers s = state_by g (shapes s.blocks) control callers s.blocks s.world
 
 -- ---- what is so of each state of the meaning
 
--- a number has 32 bits, and a place is one of a cell
-abbrev pub IsKept : Execution → Value → Type 0
-IsKept g (Number number) = IsNumber number
-IsKept g Null = Unit {0}
-IsKept g (At block cell) = cell < length (row_of (rows g) block)
+-- a number has 32 bits, and a place is one in a block
+abbrev pub IsKept : meaning.State → Value → Type 0
+IsKept s v = IsKeptBy (shapes s.blocks) v
+
+abbrev pub AreKeptBy : List Shape → List Local → Type 0
+AreKeptBy all locals = AllByRecursion (λ (x : Local). IsKeptBy all x.value) locals
 
 -- a cell has room for its word, and its value is of its type
-pub record KeptCell (g : Execution) (c : Cell) : Type 0 where
+pub record KeptCell (all : List Shape) (c : Cell) : Type 0 where
   pub room : HasRoom c
   pub typed : has_type c.type c.value ≡ true
-  pub value : IsKept g c.value
+  pub value : IsKeptBy all c.value
 
+abbrev pub KeptCells : List Shape → Block → Type 0
+KeptCells all b = AllByRecursion (KeptCell all) b.cells
+
+-- the blocks fit into the memory, and the first ones are the file-level variables
 pub record KeptBlocks (g : Execution) (blocks : List Block) : Type 0 where
-  pub shape : shape blocks ≡ rows g
-  pub cells : AllByRecursion (AllByRecursion (KeptCell g)) blocks
+  pub cells : AllByRecursion (KeptCells (shapes blocks)) blocks
+  pub fits : end_from first_offset (shapes blocks) ≤ g.settings.trusted
+  pub grows : Grows (variables g) (shapes blocks)
+  pub only : length blocks ≡ length g.program.objects
+
+-- words of local variables stay where blocks are added
+pub slots_grow : (g : Execution) (before after : List Shape) (locals : List Local) → Grows before after → AreKeptBy before locals → slots_by g after locals ≡ slots_by g before locals
+slots_grow g before after [] grows kept = refl
+slots_grow g before after (x ∷ locals) grows kept =
+    let here = word_grows g.settings.base before after x.value grows kept.0 in
+    let rest = slots_grow g before after locals grows kept.1 in
+    cc
+
+pub locals_grow : (before after : List Shape) (locals : List Local) → Grows before after → AreKeptBy before locals → AreKeptBy after locals
+locals_grow before after [] grows kept = tt
+locals_grow before after (x ∷ locals) grows kept = (kept_grows before after x.value grows kept.0, locals_grow before after locals grows kept.1)
 
 -- ---- the file-level variables before the run
 
@@ -88,103 +122,98 @@ pub record KeptBlocks (g : Execution) (blocks : List Block) : Type 0 where
 abbrev pub IsObject : List Initial → Type 0
 IsObject cells = All IsCell cells × (0 < length cells)
 
-initial_word : (base : ℕ) (rows : List (List ℕ)) (type : CType) (number : ℤ) → (initial_value type number ≡ Null → number ≡ pos 0) → word_in base rows (initial_value type number) ≡ word number
-initial_word base rows Int number null = refl
-initial_word base rows Char number null = refl
-initial_word base rows (Struct n) number null = ap word (sym (null refl))
-initial_word base rows (Pointer mode kind target) number null = ap word (sym (null refl))
+-- the cells of a variable
+abbrev pub object_cells : List Initial → List Cell
+object_cells cells = (object_block cells).cells
 
-pub strides_of : (cells : List Initial) → strides (object_block cells) ≡ map (λ (i : Initial). i.stride) cells
+initial_word : (base : ℕ) (all : List Shape) (type : CType) (number : ℤ) → (initial_value type number ≡ Null → number ≡ pos 0) → correct.word_of base all (initial_value type number) ≡ word number
+initial_word base all Int number null = refl
+initial_word base all Char number null = refl
+initial_word base all (Struct n) number null = ap word (sym (null refl))
+initial_word base all (Pointer mode kind target) number null = ap word (sym (null refl))
+
+pub strides_of : (cells : List Initial) → strides (object_cells cells) ≡ map (λ (i : Initial). i.stride) cells
 strides_of [] = refl
 strides_of (i ∷ cells) = ap (λ l. i.stride ∷ l) (strides_of cells)
 
-content_of : (base : ℕ) (rows : List (List ℕ)) (cells : List Initial) → AllByRecursion IsCell cells → block_content base rows (object_block cells) ≡ object_bytes cells
-content_of base rows [] all = refl
-content_of base rows (i ∷ cells) all =
-    let here = ap (λ w. padded i.stride (word_bytes_if (is_char i.type) w)) (initial_word base rows i.type i.number all.0.null) in
-    let rest = content_of base rows cells all.1 in
+content_of : (base : ℕ) (all : List Shape) (cells : List Initial) → AllByRecursion IsCell cells → block_bytes base all (object_block cells) ≡ object_bytes cells
+content_of base all [] is = refl
+content_of base all (i ∷ cells) is =
+    let here = ap (λ w. padded i.stride (word_bytes_if (is_char i.type) w)) (initial_word base all i.type i.number is.0.null) in
+    let rest = content_of base all cells is.1 in
     cc
 
-pub contents_of : (base : ℕ) (rows : List (List ℕ)) (objects : List (List Initial)) → AllByRecursion IsObject objects → map (block_content base rows) (map object_block objects) ≡ map object_bytes objects
-contents_of base rows [] all = refl
-contents_of base rows (cells ∷ objects) all =
-    let here = content_of base rows cells (recursion_from_All IsCell cells all.0.0) in
-    let rest = contents_of base rows objects all.1 in
+pub contents_of : (base : ℕ) (all : List Shape) (objects : List (List Initial)) → AllByRecursion IsObject objects → map (block_bytes base all) (map object_block objects) ≡ map object_bytes objects
+contents_of base all [] is = refl
+contents_of base all (cells ∷ objects) is =
+    let here = content_of base all cells (recursion_from_All IsCell cells is.0.0) in
+    let rest = contents_of base all objects is.1 in
     cc
 
-rooms_of : (cells : List Initial) → AllByRecursion IsCell cells → AllByRecursion HasRoom (object_block cells)
-rooms_of [] all = tt
-rooms_of (i ∷ cells) all = (all.0.room, rooms_of cells all.1)
+rooms_of : (cells : List Initial) → AllByRecursion IsCell cells → AllByRecursion HasRoom (object_cells cells)
+rooms_of [] is = tt
+rooms_of (i ∷ cells) is = (is.0.room, rooms_of cells is.1)
 
 -- a variable's bytes are those of its cells
-pub size_of : (cells : List Initial) → AllByRecursion IsCell cells → length (object_bytes cells) ≡ sum (strides (object_block cells))
-size_of cells all = ap length (sym (content_of 0 [] cells all)) ∙ length_block 0 [] (object_block cells) (rooms_of cells all)
-
--- where the code finds a variable
-offset_of : (offset : ℕ) (objects : List (List Initial)) (k : ℕ) (row : List ℕ) → AllByRecursion IsObject objects → slice_get (shape (map object_block objects)) k ≡ Some row → table.offset_from offset (map object_bytes objects) k ≡ Some (shape_offset offset (shape (map object_block objects)) k)
-offset_of offset [] k row all h = absurd (cc)
-offset_of offset (cells ∷ objects) zero row all h = refl
-offset_of offset (cells ∷ objects) (suc k) row all h =
-    let size = size_of cells (recursion_from_All IsCell cells all.0.0) in
-    ap (λ n. table.offset_from (grown offset n) (map object_bytes objects) k) size ∙ offset_of (grown offset (sum (strides (object_block cells)))) objects k row all.1 h
-
-end_of : (offset : ℕ) (objects : List (List Initial)) → shape_end offset (shape (map object_block objects)) ≡ counted_from offset objects
-end_of offset [] = refl
-end_of offset (cells ∷ objects) =
-    end_of (grown offset (sum (strides (object_block cells)))) objects ∙ ap (λ l. counted_from (grown offset (sum l)) objects) (strides_of cells)
+pub object_size : (cells : List Initial) → IsObject cells → length (object_bytes cells) ≡ size_of (shape (object_block cells))
+object_size cells is =
+    let each = recursion_from_All IsCell cells is.0 in
+    ap length (sym (content_of 0 [] cells each)) ∙ length_block 0 [] (object_block cells) (rooms_of cells each)
 
 width_above : (char : Bool) → 1 ≤ width_if char
 width_above true = omega arith
 width_above false = omega arith
 
-bytes_in_row : (cells : List Initial) → AllByRecursion IsCell cells → HaveBytes (strides (object_block cells))
-bytes_in_row [] all = tt
-bytes_in_row (i ∷ cells) all = (omega (arith, width_above (is_char i.type), all.0.room), bytes_in_row cells all.1)
+cells_above : (cells : List Initial) → AllByRecursion IsCell cells → 0 < length cells → 1 ≤ sum (strides (object_cells cells))
+cells_above [] is some = absurd (omega arith)
+cells_above (i ∷ cells) is some = omega (arith, sum_cons i.stride (strides (object_cells cells)), width_above (is_char i.type), is.0.room)
 
--- each row has a cell, and each cell a byte
-abbrev pub IsRow : List ℕ → Type 0
-IsRow row = HaveBytes row × (1 ≤ sum row)
+-- no variable is empty
+pub object_above : (cells : List Initial) → IsObject cells → 1 ≤ size_of (shape (object_block cells))
+object_above cells is = cells_above cells (recursion_from_All IsCell cells is.0) is.1
 
-pub row_sum : (cells : List Initial) → AllByRecursion IsCell cells → 0 < length cells → 1 ≤ sum (strides (object_block cells))
-row_sum [] all some = absurd (omega arith)
-row_sum (i ∷ cells) all some = omega (arith, sum_cons i.stride (strides (object_block cells)), width_above (is_char i.type), all.0.room)
+-- where the code finds a variable
+offset_of : (offset : ℕ) (objects : List (List Initial)) (k : ℕ) (s : Shape) → AllByRecursion IsObject objects → slice_get (shapes (map object_block objects)) k ≡ Some s → table.offset_from offset (map object_bytes objects) k ≡ Some (offset_from offset (shapes (map object_block objects)) k)
+offset_of offset [] k s is h = absurd (cc)
+offset_of offset (cells ∷ objects) zero s is h = refl
+offset_of offset (cells ∷ objects) (suc k) s is h =
+    ap (λ n. table.offset_from (grown offset n) (map object_bytes objects) k) (object_size cells is.0)
+    ∙ offset_of (grown offset (size_of (shape (object_block cells)))) objects k s is.1 h
 
-rows_of : (objects : List (List Initial)) → AllByRecursion IsObject objects → AllByRecursion IsRow (shape (map object_block objects))
-rows_of [] all = tt
-rows_of (cells ∷ objects) all =
-    let each = recursion_from_All IsCell cells all.0.0 in
-    ((bytes_in_row cells each, row_sum cells each all.0.1), rows_of objects all.1)
+pub end_of : (offset : ℕ) (objects : List (List Initial)) → end_from offset (shapes (map object_block objects)) ≡ counted_from offset objects
+end_of offset [] = refl
+end_of offset (cells ∷ objects) =
+    end_of (grown offset (size_of (shape (object_block cells)))) objects ∙ ap (λ l. counted_from (grown offset (sum l)) objects) (strides_of cells)
+
+-- the machine's counter behind the variables
+pub counter_of : (offset : ℕ) (objects : List (List Initial)) → AllByRecursion IsObject objects → counter_behind offset (map object_bytes objects) ≡ end_from offset (shapes (map object_block objects))
+counter_of offset [] is = refl
+counter_of offset (cells ∷ objects) is =
+    ap (λ n. counter_behind (grown offset n) (map object_bytes objects)) (object_size cells is.0)
+    ∙ counter_of (grown offset (size_of (shape (object_block cells)))) objects is.1
+
+-- and its blocks
+pub listed_of : (size offset : ℕ) (objects : List (List Initial)) → AllByRecursion IsObject objects → end_from offset (shapes (map object_block objects)) ≤ size → blocks_from size offset (map length (map object_bytes objects)) ≡ listed_from offset (shapes (map object_block objects))
+listed_of size offset [] is within = refl
+listed_of size offset (cells ∷ objects) is within =
+    let n = size_of (shape (object_block cells)) in
+    let kept : is_refused size offset n ≡ false = let far = end_least (grown offset n) (shapes (map object_block objects)) in let some = object_above cells is.0 in grind (arith, nat_tests) in
+    let later = listed_of size (grown offset n) objects is.1 within in
+    ap (λ k. blocks_from size offset (k ∷ map length (map object_bytes objects))) (object_size cells is.0) ∙ rw kept (ap (λ l. (record { offset = offset; bytes = n }) ∷ l) later)
 
 module _ (g : Execution) where
   pub all_objects : AllByRecursion IsObject g.program.objects
   all_objects = recursion_from_All IsObject g.program.objects g.lowerable.cells
 
-  pub static_address : (k : ℕ) (row : List ℕ) → slice_get (rows g) k ≡ Some row → table.address_of (image g) g.settings.base k ≡ Some (g.settings.base + shape_offset first_offset (rows g) k)
-  static_address k row h = ap (table.at_base g.settings.base) (offset_of first_offset g.program.objects k row all_objects h)
+  pub variable_address : (k : ℕ) (s : Shape) → slice_get (variables g) k ≡ Some s → table.address_of (image g) g.settings.base k ≡ Some (g.settings.base + offset_from first_offset (variables g) k)
+  variable_address k s h = ap (table.at_base g.settings.base) (offset_of first_offset g.program.objects k s all_objects h)
 
-  pub end_small : shape_end first_offset (rows g) ≤ 65536
-  end_small = omega (arith, end_of first_offset g.program.objects, g.lowerable.objects)
-
-  pub all_rows : AllByRecursion IsRow (rows g)
-  all_rows = rows_of g.program.objects all_objects
+  pub variables_end : end_from first_offset (variables g) ≤ 65536
+  variables_end = omega (arith, end_of first_offset g.program.objects, g.lowerable.objects)
 
 -- ---- the last states agree
 
-bytes_by_shape : (base : ℕ) (all : List Block) (cells : Block) → block_bytes base all cells ≡ block_content base (shape all) cells
-bytes_by_shape base all [] = refl
-bytes_by_shape base all (c ∷ cells) =
-    let here = ap (λ w. padded c.stride (word_bytes_if (is_char c.type) w)) (word_by_shape base all c.value) in
-    let rest = bytes_by_shape base all cells in
-    cc
-
-sizes_of : (objects : List (List Initial)) → AllByRecursion IsObject objects → map length (map object_bytes objects) ≡ map sum (shape (map object_block objects))
-sizes_of [] all = refl
-sizes_of (cells ∷ objects) all =
-    let here = size_of cells (recursion_from_All IsCell cells all.0.0) in
-    let rest = sizes_of objects all.1 in
-    cc
-
-module _ (base size : ℕ) (all : List Block) (bytes tail : List ℕ) where
+module _ (base : ℕ) (all : List Shape) (bytes tail : List ℕ) where
   abbrev seen : flat.Block → Shown
   seen b = record { address = base + b.offset; bytes = take b.bytes (drop b.offset bytes) }
 
@@ -192,45 +221,38 @@ module _ (base size : ℕ) (all : List Block) (bytes tail : List ℕ) where
   taken pre word rest n long e =
       ap (λ l. take n (drop (length pre) l)) e ∙ ap (take n) (drop-append_seam pre (word ++ rest)) ∙ ap (λ m. take m (word ++ rest)) (sym long) ∙ take-append_seam word rest
 
-  held_from : (pre : List ℕ) (offset : ℕ) (blocks : List Block) → length pre ≡ offset → AllByRecursion (AllByRecursion HasRoom) blocks → AllByRecursion IsRow (shape blocks) → shape_end offset (shape blocks) ≤ size → bytes ≡ pre ++ (spread (map (block_content base (shape all)) blocks) ++ tail) → map seen (blocks_from size offset (map sum (shape blocks))) ≡ shown_from base all offset blocks
-  held_from pre offset [] long room full within e = refl
-  held_from pre offset (block ∷ blocks) long room full within e =
-      let n = sum (strides block) in
-      let content = block_content base (shape all) block in
+  held_from : (pre : List ℕ) (offset : ℕ) (blocks : List Block) → length pre ≡ offset → AllByRecursion HasRooms blocks → bytes ≡ pre ++ (spread (map (block_bytes base all) blocks) ++ tail) → map seen (listed_from offset (shapes blocks)) ≡ shown_from base all offset blocks
+  held_from pre offset [] long rooms e = refl
+  held_from pre offset (b ∷ blocks) long rooms e =
+      let n = size_of (shape b) in
+      let content = block_bytes base all b in
       let zeros : List ℕ = replicate (rounded_up (length content) - length content + 16) 0 in
-      let rest = spread (map (block_content base (shape all)) blocks) in
-      let size_is = length_block base (shape all) block room.0 in
-      let kept : is_refused size offset n ≡ false = let far = end_least (grown offset n) (shape blocks) in let some : 1 ≤ n = full.0.1 in grind (arith, nat_tests) in
+      let rest = spread (map (block_bytes base all) blocks) in
+      let size_is = length_block base all b rooms.0 in
       let split = e ∙ ap (λ l. pre ++ l) (append_assoc (content ++ zeros) rest tail ∙ append_assoc content zeros (rest ++ tail)) in
       let further = e ∙ ap (λ l. pre ++ l) (append_assoc (content ++ zeros) rest tail) ∙ sym (append_assoc pre (content ++ zeros) (rest ++ tail)) in
       let front = pre ++ (content ++ zeros) in
       let long' : length front ≡ grown offset n = omega (arith, length-append pre (content ++ zeros), length-append content zeros, length-replicate {A = ℕ} (rounded_up (length content) - length content + 16) 0, size_is, long) in
-      let here : take n (drop offset bytes) ≡ block_bytes base all block = ap (λ k. take n (drop k bytes)) (sym long) ∙ taken pre content (zeros ++ (rest ++ tail)) n size_is split ∙ sym (bytes_by_shape base all block) in
-      let later = held_from front (grown offset n) blocks long' room.1 full.1 within further in
-      rw kept (cc)
+      let here : take n (drop offset bytes) ≡ content = ap (λ k. take n (drop k bytes)) (sym long) ∙ taken pre content (zeros ++ (rest ++ tail)) n size_is split in
+      let later = held_from front (grown offset n) blocks long' rooms.1 further in
+      cc
 
-row_rooms : (g : Execution) (cells : Block) → AllByRecursion (KeptCell g) cells → AllByRecursion HasRoom cells
-row_rooms g [] all = tt
-row_rooms g (c ∷ cells) all = (all.0.room, row_rooms g cells all.1)
+cells_rooms : (all : List Shape) (cells : List Cell) → AllByRecursion (KeptCell all) cells → AllByRecursion HasRoom cells
+cells_rooms all [] kept = tt
+cells_rooms all (c ∷ cells) kept = (kept.0.room, cells_rooms all cells kept.1)
 
-pub rooms_kept : (g : Execution) (blocks : List Block) → AllByRecursion (AllByRecursion (KeptCell g)) blocks → AllByRecursion (AllByRecursion HasRoom) blocks
-rooms_kept g [] all = tt
-rooms_kept g (cells ∷ blocks) all = (row_rooms g cells all.0, rooms_kept g blocks all.1)
+pub rooms_kept : (all : List Shape) (blocks : List Block) → AllByRecursion (KeptCells all) blocks → AllByRecursion HasRooms blocks
+rooms_kept all [] kept = tt
+rooms_kept all (b ∷ blocks) kept = (cells_rooms all b.cells kept.0, rooms_kept all blocks kept.1)
 
 pub same_end : (g : Execution) (control : Control) (callers : List Caller) (s : meaning.State) → KeptBlocks g s.blocks → SameEnd g.settings.base s (state g control callers s)
 same_end g control callers s kept =
     record {
       world = refl;
       blocks =
-          let base = g.settings.base in
-          let all = s.blocks in
-          let sizes = sizes_of g.program.objects (all_objects g) ∙ ap (map sum) (sym kept.shape) in
-          let bytes = (memory g all).bytes in
-          let rooms = rooms_kept g all kept.cells in
-          let full : AllByRecursion IsRow (shape all) = subst (AllByRecursion IsRow) (sym kept.shape) (all_rows g) in
-          let within : shape_end first_offset (shape all) ≤ g.settings.trusted = omega (arith, ap (shape_end first_offset) kept.shape, end_small g, g.allowed.least_trusted) in
-          let regrouped : bytes ≡ replicate first_offset 0 ++ (spread (map (block_content base (shape all)) all) ++ tail g) =
-          append_assoc (replicate first_offset 0) (spread (map (block_content base (rows g)) all)) (tail g) ∙ ap (λ r. replicate first_offset 0 ++ (spread (map (block_content base r) all) ++ tail g)) (sym kept.shape) in
-          ap (λ sizes. map (seen base g.settings.trusted all bytes (tail g)) (blocks_from g.settings.trusted first_offset sizes)) sizes
-          ∙ held_from base g.settings.trusted all bytes (tail g) (replicate first_offset 0) first_offset all refl rooms full within regrouped;
+          let all = shapes s.blocks in
+          let rooms = rooms_kept all s.blocks kept.cells in
+          let zeros : List ℕ = replicate first_offset 0 in
+          let regrouped = append_assoc zeros (spread (map (block_bytes g.settings.base all) s.blocks)) (tail g all) in
+          held_from g.settings.base all (memory g s.blocks).bytes (tail g all) zeros first_offset s.blocks refl rooms regrouped;
     }

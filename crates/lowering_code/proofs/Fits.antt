@@ -1,40 +1,26 @@
 -- The images of programs that can be lowered keep the format, and may run under all settings that are allowed.
 use Rattle.std.proofs.Common.{◌≡◌, ℕ, suc, ◌+◌, ◌<◌, ◌≤◌, List, [], ◌∷◌, length, map, Some, refl, ap, ◌∙◌, arith}
-use Rattle.std.specs.Prelude.{sum}
 use Rattle.std.specs.List.{AllByRecursion}
 use Rattle.std.proofs.lemmas.List.Elements.{recursion_from_All, All-from_recursion, All-nil}
 use Rattle.act_words.specs.declared.settings.Settings.{Settings}
 use Rattle.act_words.specs.Limits.{AreAllowed}
-use Rattle.flat_bytes.specs.Blocks.{first_offset, grown}
+use Rattle.flat_bytes.specs.Blocks.{first_offset}
 use Rattle.ckc_text.specs.Names.{IsName}
 use Rattle.ckc_core.specs.Core.{Core, Initial, Function, Import}
-use Rattle.ckc_core.specs.States.{object_block}
-use Rattle.code_words.specs.Runs.{counter_behind}
 use Rattle.code_words.specs.Fitting.{Fits}
 use Rattle.code_words.specs.Formats.{HasSmallFrame, IsFunc, Follow, KeepsFormat}
 use Rattle.code_words.specs.Functions.{Func}
 use Rattle.code_words.specs.Functions as code
 use Rattle.lowering_code.specs.Images.{object_bytes, function_code, functions_from, imports_from, image_of}
-use Rattle.lowering_code.specs.Correct.{counted_from, IsFunction, IsLowerable, IsCell, KeepsMeaning}
-use Rattle.lowering_code.proofs.Shapes.{strides}
-use Rattle.lowering_code.proofs.Executions.{IsObject, size_of, strides_of, row_sum}
+use Rattle.lowering_code.specs.Correct.{IsFunction, IsLowerable, KeepsMeaning}
+use Rattle.lowering_code.proofs.Executions.{IsObject, object_size, object_above, counter_of, end_of}
 use Rattle.lowering_code.proofs.Steps.{function_there}
 use Rattle.lowering_code.proofs.Programs.{keeps_meaning}
 use Rattle.lowering_code.proofs.Paces.{function_paced, function_sized, paced_functions, sized_functions}
 
--- the bytes of a variable are those of its cells
-object_size : (cells : List Initial) → IsObject cells → length (object_bytes cells) ≡ sum (strides (object_block cells))
-object_size cells is = size_of cells (recursion_from_All IsCell cells is.0)
-
 not_empty : (objects : List (List Initial)) → AllByRecursion IsObject objects → AllByRecursion (λ (block : List ℕ). 0 < length block) (map object_bytes objects)
 not_empty [] all = tt
-not_empty (cells ∷ objects) all = (omega (arith, object_size cells all.0, row_sum cells (recursion_from_All IsCell cells all.0.0) all.0.1), not_empty objects all.1)
-
-counted : (offset : ℕ) (objects : List (List Initial)) → AllByRecursion IsObject objects → counter_behind offset (map object_bytes objects) ≡ counted_from offset objects
-counted offset [] all = refl
-counted offset (cells ∷ objects) all =
-    let size = object_size cells all.0 ∙ ap sum (strides_of cells) in
-    ap (λ n. counter_behind (grown offset n) (map object_bytes objects)) size ∙ counted (grown offset (sum (map (λ (i : Initial). i.stride) cells))) objects all.1
+not_empty (cells ∷ objects) all = (omega (arith, object_size cells all.0, object_above cells all.0), not_empty objects all.1)
 
 frame : (number : ℕ) (f : Function) → IsFunction f → HasSmallFrame (function_code number f)
 frame number f is = record { words = is.frame; arguments = is.parameters; held = omega (arith, is.held) }
@@ -85,7 +71,7 @@ image_fits program lowerable settings allowed =
       allowed = allowed;
       trusted = record {
         not_empty = All-from_recursion (λ (block : List ℕ). 0 < length block) blocks (not_empty program.objects objects);
-        low = omega (arith, counted first_offset program.objects objects, lowerable.objects, allowed.least_trusted);
+        low = omega (arith, counter_of first_offset program.objects objects, end_of first_offset program.objects, lowerable.objects, allowed.least_trusted);
       };
       sandbox = record { not_empty = All-nil (λ (block : List ℕ). 0 < length block); low = omega (arith, allowed.least_sandbox) };
       main = (program.main, function_code program.main main.0, record { named = refl; there = (let e : 0 + program.main ≡ program.main = omega arith in function_there 0 program.main program.functions main.0 main.1 ∙ ap (λ m. Some (function_code m main.0)) e); no_argument = main.2 });

@@ -5,75 +5,82 @@ use Rattle.std.specs.List.{AllByRecursion}
 use Rattle.std.proofs.lemmas.List.{length-replicate}
 use Rattle.flat_bytes.specs.Blocks.{first_offset, grown, rounded_up}
 use Rattle.code_words.specs.Runs.{spread}
-use Rattle.ckc_core.specs.States.{Value, Cell, Block}
+use Rattle.ckc_core.specs.States.{Value, Cell, Block, Shape, strides, shape, shapes}
 use Rattle.ckc_core.specs.Meaning.{is_char}
 use Rattle.lowering_code.specs.Images.{word_bytes_if, padded}
-use Rattle.lowering_code.specs.Correct.{width_if}
-use Rattle.lowering_code.proofs.Shapes.{strides, shape, sum_cons, shape_offset, row_place, word_in}
+use Rattle.lowering_code.specs.Correct.{size_of, offset_from, word_of, bytes_of, block_bytes, width_if}
+use Rattle.lowering_code.proofs.Shapes.{sum_cons, bytes_before}
 use Rattle.lowering_code.proofs.Bytes.{length_word}
 
 -- a cell has room for its word
 abbrev pub HasRoom : Cell → Type 0
 HasRoom c = width_if (is_char c.type) ≤ c.stride
 
-module _ (base : ℕ) (rows : List (List ℕ)) where
+abbrev pub HasRooms : Block → Type 0
+HasRooms b = AllByRecursion HasRoom b.cells
+
+-- a block where the cell of a number holds another value
+abbrev pub with_cell : Block → ℕ → Cell → Value → Block
+with_cell b number c v = record b { cells = slice_set b.cells number (record c { value = v }) }
+
+module _ (base : ℕ) (all : List Shape) where
   -- the bytes of a value in a cell of a type
   abbrev pub value_bytes : Cell → Value → List ℕ
-  value_bytes c v = word_bytes_if (is_char c.type) (word_in base rows v)
+  value_bytes c v = word_bytes_if (is_char c.type) (word_of base all v)
 
-  abbrev pub cell_content : Cell → List ℕ
-  cell_content c = padded c.stride (value_bytes c c.value)
-
-  abbrev pub block_content : Block → List ℕ
-  block_content cells = flat_map cell_content cells
+  abbrev cells_bytes : List Cell → List ℕ
+  cells_bytes cells = flat_map (bytes_of base all) cells
 
   -- the whole memory, with so many zeros behind the blocks
   abbrev pub memory_bytes : List ℕ → List Block → List ℕ
-  memory_bytes tail blocks = replicate first_offset 0 ++ spread (map block_content blocks) ++ tail
+  memory_bytes tail blocks = replicate first_offset 0 ++ spread (map (block_bytes base all) blocks) ++ tail
 
-  pub length_cell : (c : Cell) → HasRoom c → length (cell_content c) ≡ c.stride
+  length_cell : (c : Cell) → HasRoom c → length (bytes_of base all c) ≡ c.stride
   length_cell c room =
-      let w = length_word (is_char c.type) (word_in base rows c.value) in
+      let w = length_word (is_char c.type) (word_of base all c.value) in
       let pad = length-replicate {A = ℕ} (c.stride - length (value_bytes c c.value)) 0 in
       omega (arith, w, pad, length-append (value_bytes c c.value) (replicate (c.stride - length (value_bytes c c.value)) 0))
 
-  pub length_block : (cells : Block) → AllByRecursion HasRoom cells → length (block_content cells) ≡ sum (strides cells)
-  length_block [] all = refl
-  length_block (c ∷ cells) all = omega (arith, length-append (cell_content c) (block_content cells), length_cell c all.0, length_block cells all.1, sum_cons c.stride (strides cells))
+  length_cells : (cells : List Cell) → AllByRecursion HasRoom cells → length (cells_bytes cells) ≡ sum (strides cells)
+  length_cells [] rooms = refl
+  length_cells (c ∷ cells) rooms = omega (arith, length-append (bytes_of base all c) (cells_bytes cells), length_cell c rooms.0, length_cells cells rooms.1, sum_cons c.stride (strides cells))
+
+  pub length_block : (b : Block) → HasRooms b → length (block_bytes base all b) ≡ size_of (shape b)
+  length_block b rooms = length_cells b.cells rooms
 
   -- the word of a cell lies between two parts that don't depend on its value
-  pub record CellSeam (cells : Block) (cell : ℕ) (c : Cell) : Type 0 where
+  pub record CellSeam (cells : List Cell) (number : ℕ) (c : Cell) : Type 0 where
     pub pre : List ℕ
     pub post : List ℕ
-    pub at : length pre ≡ row_place (strides cells) cell
-    pub now : block_content cells ≡ pre ++ (value_bytes c c.value ++ post)
-    pub new : (v : Value) → block_content (slice_set cells cell (record c { value = v })) ≡ pre ++ (value_bytes c v ++ post)
+    pub at : length pre ≡ bytes_before (strides cells) number
+    pub now : cells_bytes cells ≡ pre ++ (value_bytes c c.value ++ post)
+    pub new : (v : Value) → cells_bytes (slice_set cells number (record c { value = v })) ≡ pre ++ (value_bytes c v ++ post)
 
   split_cell : (c : Cell) (v : Value) (rest : List ℕ) → padded c.stride (value_bytes c v) ++ rest ≡ value_bytes c v ++ (replicate (c.stride - width_if (is_char c.type)) 0 ++ rest)
   split_cell c v rest =
       append_assoc (value_bytes c v) (replicate (c.stride - length (value_bytes c v)) 0) rest
-      ∙ ap (λ n. value_bytes c v ++ (replicate (c.stride - n) 0 ++ rest)) (length_word (is_char c.type) (word_in base rows v))
+      ∙ ap (λ n. value_bytes c v ++ (replicate (c.stride - n) 0 ++ rest)) (length_word (is_char c.type) (word_of base all v))
 
-  pub cell_seam : (cells : Block) (cell : ℕ) (c : Cell) → AllByRecursion HasRoom cells → slice_get cells cell ≡ Some c → CellSeam cells cell c
-  cell_seam [] cell c all h = absurd (cc)
-  cell_seam (first ∷ cells) zero c all h =
+  cell_seam : (cells : List Cell) (number : ℕ) (c : Cell) → AllByRecursion HasRoom cells → slice_get cells number ≡ Some c → CellSeam cells number c
+  cell_seam [] number c rooms h = absurd (cc)
+  cell_seam (first ∷ cells) zero c rooms h =
       let e : c ≡ first = cc in
       subst (λ x. CellSeam (first ∷ cells) zero x) (sym e)
       (record {
         pre = [];
-        post = replicate (first.stride - width_if (is_char first.type)) 0 ++ block_content cells;
+        post = replicate (first.stride - width_if (is_char first.type)) 0 ++ cells_bytes cells;
         at = refl;
-        now = split_cell first first.value (block_content cells);
-        new = λ v. split_cell first v (block_content cells);
+        now = split_cell first first.value (cells_bytes cells);
+        new = λ v. split_cell first v (cells_bytes cells);
       })
-  cell_seam (first ∷ cells) (suc cell) c all h =
-      let s = cell_seam cells cell c all.1 h in
+  cell_seam (first ∷ cells) (suc number) c rooms h =
+      let s = cell_seam cells number c rooms.1 h in
       record {
-        pre = cell_content first ++ s.pre;
+        pre = bytes_of base all first ++ s.pre;
         post = s.post;
-        at = omega (arith, length-append (cell_content first) s.pre, length_cell first all.0, s.at);
-        now = ap (λ l. cell_content first ++ l) s.now ∙ sym (append_assoc (cell_content first) s.pre (value_bytes c c.value ++ s.post));
-        new = λ v. ap (λ l. cell_content first ++ l) (s.new v) ∙ sym (append_assoc (cell_content first) s.pre (value_bytes c v ++ s.post));
+        at = omega (arith, length-append (bytes_of base all first) s.pre, length_cell first rooms.0, s.at);
+        now = ap (λ l. bytes_of base all first ++ l) s.now ∙ sym (append_assoc (bytes_of base all first) s.pre (value_bytes c c.value ++ s.post));
+        new = λ v. ap (λ l. bytes_of base all first ++ l) (s.new v) ∙ sym (append_assoc (bytes_of base all first) s.pre (value_bytes c v ++ s.post));
       }
 
   -- the zeros between a block and the next one
@@ -82,12 +89,12 @@ module _ (base : ℕ) (rows : List (List ℕ)) where
 
   module _ (tail : List ℕ) where
     -- the same in the memory, from the first block's offset on
-    pub record BlockSeam (offset : ℕ) (blocks : List Block) (block cell : ℕ) (cells : Block) (c : Cell) : Type 0 where
+    pub record BlockSeam (offset : ℕ) (blocks : List Block) (block number : ℕ) (b : Block) (c : Cell) : Type 0 where
       pub pre : List ℕ
       pub post : List ℕ
-      pub at : offset + length pre ≡ shape_offset offset (shape blocks) block + row_place (strides cells) cell
-      pub now : spread (map block_content blocks) ++ tail ≡ pre ++ (value_bytes c c.value ++ post)
-      pub new : (v : Value) → spread (map block_content (slice_set blocks block (slice_set cells cell (record c { value = v })))) ++ tail ≡ pre ++ (value_bytes c v ++ post)
+      pub at : offset + length pre ≡ offset_from offset (shapes blocks) block + bytes_before (strides b.cells) number
+      pub now : spread (map (block_bytes base all) blocks) ++ tail ≡ pre ++ (value_bytes c c.value ++ post)
+      pub new : (v : Value) → spread (map (block_bytes base all) (slice_set blocks block (with_cell b number c v))) ++ tail ≡ pre ++ (value_bytes c v ++ post)
 
     -- the first block with what follows it, where its word is seen
     split_block : (bytes rest pre word post : List ℕ) (size : ℕ) → bytes ≡ pre ++ (word ++ post) → length bytes ≡ size → ((bytes ++ gap bytes) ++ rest) ++ tail ≡ pre ++ (word ++ (post ++ (replicate (rounded_up size - size + 16) 0 ++ (rest ++ tail))))
@@ -104,31 +111,30 @@ module _ (base : ℕ) (rows : List (List ℕ)) where
     long_block offset bytes pre size long =
         omega (arith, length-append (bytes ++ gap bytes) pre, length-append bytes (gap bytes), length-replicate {A = ℕ} (rounded_up (length bytes) - length bytes + 16) 0, long)
 
-    pub block_seam : (offset : ℕ) (blocks : List Block) (block cell : ℕ) (cells : Block) (c : Cell) → AllByRecursion (AllByRecursion HasRoom) blocks → slice_get blocks block ≡ Some cells → slice_get cells cell ≡ Some c → BlockSeam offset blocks block cell cells c
-    block_seam offset [] block cell cells c all there h = absurd (cc)
-    block_seam offset (first ∷ blocks) zero cell cells c all there h =
-        let e : first ≡ cells = cc in
-        let room : AllByRecursion HasRoom cells = subst (λ x. AllByRecursion HasRoom x) e all.0 in
-        let s = cell_seam cells cell c room h in
+    pub block_seam : (offset : ℕ) (blocks : List Block) (block number : ℕ) (b : Block) (c : Cell) → AllByRecursion HasRooms blocks → slice_get blocks block ≡ Some b → slice_get b.cells number ≡ Some c → BlockSeam offset blocks block number b c
+    block_seam offset [] block number b c rooms there h = absurd (cc)
+    block_seam offset (first ∷ blocks) zero number b c rooms there h =
+        let e : first ≡ b = cc in
+        let s = cell_seam b.cells number c (subst HasRooms e rooms.0) h in
         let size = length s.pre + (width_if (is_char c.type) + length s.post) in
-        let rest = spread (map block_content blocks) in
-        let long = λ (v : Value). length-append s.pre (value_bytes c v ++ s.post) ∙ ap (λ n. length s.pre + n) (length-append (value_bytes c v) s.post ∙ ap (λ n. n + length s.post) (length_word (is_char c.type) (word_in base rows v))) in
-        subst (λ x. BlockSeam offset (x ∷ blocks) zero cell cells c) (sym e)
+        let rest = spread (map (block_bytes base all) blocks) in
+        let long = λ (v : Value). length-append s.pre (value_bytes c v ++ s.post) ∙ ap (λ n. length s.pre + n) (length-append (value_bytes c v) s.post ∙ ap (λ n. n + length s.post) (length_word (is_char c.type) (word_of base all v))) in
+        subst (λ x. BlockSeam offset (x ∷ blocks) zero number b c) (sym e)
         (record {
           pre = s.pre;
           post = s.post ++ (replicate (rounded_up size - size + 16) 0 ++ (rest ++ tail));
           at = omega (arith, s.at);
-          now = split_block (block_content cells) rest s.pre (value_bytes c c.value) s.post size s.now (ap length s.now ∙ long c.value);
-          new = λ v. split_block (block_content (slice_set cells cell (record c { value = v }))) rest s.pre (value_bytes c v) s.post size (s.new v) (ap length (s.new v) ∙ long v);
+          now = split_block (block_bytes base all b) rest s.pre (value_bytes c c.value) s.post size s.now (ap length s.now ∙ long c.value);
+          new = λ v. split_block (block_bytes base all (with_cell b number c v)) rest s.pre (value_bytes c v) s.post size (s.new v) (ap length (s.new v) ∙ long v);
         })
-    block_seam offset (first ∷ blocks) (suc block) cell cells c all there h =
-        let front = block_content first ++ gap (block_content first) in
-        let s = block_seam (grown offset (sum (strides first))) blocks block cell cells c all.1 there h in
+    block_seam offset (first ∷ blocks) (suc block) number b c rooms there h =
+        let front = block_bytes base all first ++ gap (block_bytes base all first) in
+        let s = block_seam (grown offset (size_of (shape first))) blocks block number b c rooms.1 there h in
         let regroup = λ (rest word : List ℕ) (e : rest ++ tail ≡ s.pre ++ (word ++ s.post)). append_assoc front rest tail ∙ ap (λ l. front ++ l) e ∙ sym (append_assoc front s.pre (word ++ s.post)) in
         record {
           pre = front ++ s.pre;
           post = s.post;
-          at = long_block offset (block_content first) s.pre (sum (strides first)) (length_block first all.0) ∙ s.at;
-          now = regroup (spread (map block_content blocks)) (value_bytes c c.value) s.now;
-          new = λ v. regroup (spread (map block_content (slice_set blocks block (slice_set cells cell (record c { value = v }))))) (value_bytes c v) (s.new v);
+          at = long_block offset (block_bytes base all first) s.pre (size_of (shape first)) (length_block first rooms.0) ∙ s.at;
+          now = regroup (spread (map (block_bytes base all) blocks)) (value_bytes c c.value) s.now;
+          new = λ v. regroup (spread (map (block_bytes base all) (slice_set blocks block (with_cell b number c v)))) (value_bytes c v) (s.new v);
         }

@@ -194,12 +194,12 @@ module _ (all : List Op) where
     starts_arguments at (core.More first rest) has end = starts_expression at first (has_front all at (expression_code at first) (arguments_code (at + expression_size first) rest) has)
 
     starts_place : (at : ℕ) (p : core.Place) → HasAt all at (place_code at p) → IsTarget at
-    starts_place at (core.Direct object cell offset) has = target_there at (ops.BlockAddress object) refl has.0
-    starts_place at (core.Through pointer cell offset site) has = starts_expression at pointer (has_front all at (expression_code at pointer) (through_code offset site) has)
+    starts_place at (core.Direct object offset) has = target_there at (ops.BlockAddress object) refl has.0
+    starts_place at (core.Through pointer offset site) has = starts_expression at pointer (has_front all at (expression_code at pointer) (through_code offset site) has)
 
   starts_before_value : (at : ℕ) (p : core.Place) → HasAt all at (before_value at p) → IsTarget at
-  starts_before_value at (core.Direct object cell offset) has = target_there at (ops.BlockAddress object) refl has.0
-  starts_before_value at (core.Through pointer cell offset site) has = starts_expression at pointer has
+  starts_before_value at (core.Direct object offset) has = target_there at (ops.BlockAddress object) refl has.0
+  starts_before_value at (core.Through pointer offset site) has = starts_expression at pointer has
 
   mutual
     starts_statement : (p : Places) (at : ℕ) (x : core.Statement) → HasAt all at (statement_code p at x) → IsTarget (at + statement_size x) → IsTarget at
@@ -334,8 +334,8 @@ module _ (all : List Op) where
         (paced_arguments m rest back out)
 
     paced_place : (at : ℕ) (p : core.Place) → HasAt all at (place_code at p) → IsTarget (at + place_size p) → AllKeep at (place_code at p)
-    paced_place at (core.Direct object cell offset) has end = (refl, offset_keeps (at + 1) offset)
-    paced_place at (core.Through pointer cell offset site) has end = through_with at pointer offset site has (paced_expression at pointer)
+    paced_place at (core.Direct object offset) has end = (refl, offset_keeps (at + 1) offset)
+    paced_place at (core.Through pointer offset site) has end = through_with at pointer offset site has (paced_expression at pointer)
 
   paced_one : (at : ℕ) (e : core.Expression) (op : Op) → IsCalm op → HasAt all at (expression_code at e ++ op ∷ []) → AllKeep at (expression_code at e ++ op ∷ [])
   paced_one at e op calm has = expression_with at e op calm has (paced_expression at e)
@@ -351,13 +351,13 @@ module _ (all : List Op) where
   lead_from p m n le l = record { break_behind = omega (arith, l.break_behind); break_free = l.break_free; continue_behind = omega (arith, l.continue_behind); continue_free = l.continue_free }
 
   paced_store : (scratch at : ℕ) (type : CType) (cell : core.Place) (value : core.Expression) → HasAt all at (before_value at cell ++ (expression_code (at + before_value_size cell) value ++ behind_value scratch type cell)) → AllKeep at (before_value at cell ++ (expression_code (at + before_value_size cell) value ++ behind_value scratch type cell))
-  paced_store scratch at type (core.Direct object cell offset) value has =
+  paced_store scratch at type (core.Direct object offset) value has =
       let m = at + (1 + offset_size offset) in
       let rest = expression_code m value ++ store_code type ∷ [] in
       let back = has_back all at (address_code object offset) rest (1 + offset_size offset) (omega (arith, length_offset offset)) has in
       joined at (1 + offset_size offset) (address_code object offset) rest (omega (arith, length_offset offset)) (refl, offset_keeps (at + 1) offset)
       (paced_one m value (store_code type) (calm_store (is_char type)) back)
-  paced_store scratch at type (core.Through pointer cell offset site) value has =
+  paced_store scratch at type (core.Through pointer offset site) value has =
       let m = at + expression_size pointer in
       let n = m + expression_size value in
       let last = ops.Local scratch ∷ store_code type ∷ [] in

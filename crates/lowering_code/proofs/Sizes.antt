@@ -62,17 +62,17 @@ mutual
       length_then (expression_code at first) (arguments_code (at + expression_size first) rest) (expression_size first) (arguments_size rest) (length_expression at first) (length_arguments (at + expression_size first) rest)
 
   pub length_place : (at : ℕ) (p : core.Place) → length (place_code at p) ≡ place_size p
-  length_place at (core.Direct object cell offset) = omega (arith, length_offset offset)
-  length_place at (core.Through pointer cell offset site) =
+  length_place at (core.Direct object offset) = omega (arith, length_offset offset)
+  length_place at (core.Through pointer offset site) =
       length_then (expression_code at pointer) (through_code offset site) (expression_size pointer) (1 + offset_size offset) (length_expression at pointer) (omega (arith, length_offset offset))
 
 pub length_before : (at : ℕ) (p : core.Place) → length (before_value at p) ≡ before_value_size p
-length_before at (core.Direct object cell offset) = omega (arith, length_offset offset)
-length_before at (core.Through pointer cell offset site) = length_expression at pointer
+length_before at (core.Direct object offset) = omega (arith, length_offset offset)
+length_before at (core.Through pointer offset site) = length_expression at pointer
 
 pub length_behind : (scratch : ℕ) (type : CType) (p : core.Place) → length (behind_value scratch type p) ≡ behind_value_size p
-length_behind scratch type (core.Direct object cell offset) = refl
-length_behind scratch type (core.Through pointer cell offset site) = omega (arith, length-append (through_code offset site) (ops.Local scratch ∷ store_code type ∷ []), length_offset offset)
+length_behind scratch type (core.Direct object offset) = refl
+length_behind scratch type (core.Through pointer offset site) = omega (arith, length-append (through_code offset site) (ops.Local scratch ∷ store_code type ∷ []), length_offset offset)
 
 mutual
   pub length_statement : (p : Places) (at : ℕ) (x : core.Statement) → length (statement_code p at x) ≡ statement_size x
@@ -149,5 +149,5 @@ mutual
   stack_above core.NextInput = omega arith
 
   pub place_above : (p : core.Place) → 1 ≤ place_stack p
-  place_above (core.Direct object cell offset) = offset_above offset
-  place_above (core.Through pointer cell offset site) = omega (arith, stack_above pointer)
+  place_above (core.Direct object offset) = offset_above offset
+  place_above (core.Through pointer offset site) = omega (arith, stack_above pointer)

@@ -8,20 +8,21 @@ use Rattle.pointer_modes.specs.Types.{CType}
 use Rattle.ckc_core.specs.declared.program.Site.{Site}
 use Rattle.act_words.specs.declared.operator.Operator.{Operator}
 use Rattle.ckc_core.specs.Core as core
-use Rattle.ckc_core.specs.States.{Value, Number, Null, At, Block, stands_at}
+use Rattle.ckc_core.specs.States.{Value, Number, Null, At, Cell, shapes, cell_at}
 use Rattle.ckc_core.specs.States as meaning
-use Rattle.ckc_core.specs.Meaning.{Result, Knot, Flow, Next, Broke, Continued, Returned, is_char, given, truth, value, place, place_where, pointer_of, load_at, store_at, arithmetic_of, kept_if, set_local, printed, put, on_next, behind_turn, no_result, choose, effect, effects}
+use Rattle.ckc_core.specs.Meaning.{Result, Knot, Flow, Next, Broke, Continued, Returned, is_char, given, truth, value, place, place_if, place_at, pointer_to, pointer_of, load_at, store_at, arithmetic_of, kept_if, set_local, printed, put, on_next, behind_turn, no_result, choose, effect, effects}
 use Rattle.code_words.specs.declared.op.Op.{Op}
 use Rattle.code_words.specs.declared.op.Op.TheVariants as ops
 use Rattle.lowering_code.specs.Code.{Places, operator_code, load_code, store_code, address_code, byte_code, byte_size, offset_size, expression_size, arguments_size, place_size, statement_size, statements_size, expression_code, place_code, behind_value, statement_code, statements_code}
 use Rattle.ckc_core.specs.Stacks.{expression_stack, offset_stack, statement_stack, statements_stack}
 use Rattle.ckc_core.proofs.Numbers.{signed-word}
+use Rattle.lowering_code.proofs.Shapes.{kept_grows, word_grows}
 use Rattle.lowering_code.proofs.Worlds.{KeptWorld}
 use Rattle.lowering_code.proofs.Executions.{Execution, word_of, IsKept}
-use Rattle.lowering_code.proofs.Steps.{HasAt, has_front, has_back, Leads, leads_on, leads_to, asks_on, Finishes, Layout, code, frame, Here, kept_in, fetched, moved, pushes, here_at, Arrives}
+use Rattle.lowering_code.proofs.Steps.{HasAt, has_front, has_back, Leads, leads_on, leads_to, asks_on, Finishes, Layout, code, frame, Here, kept_in, fetched, moved, pushes, here_at, Arrives, from, here_from, here_on, Both, both}
 use Rattle.lowering_code.proofs.Sizes.{length_offset, length_byte, length_expression, length_place, length_statement}
 use Rattle.lowering_code.proofs.Expressions.{local_runs, operator_runs, tick_runs, jump_runs, branch_runs}
-use Rattle.lowering_code.proofs.Places.{address_of, Placed, direct_runs, load_runs, truth_word}
+use Rattle.lowering_code.proofs.Places.{Placed, variable_runs, load_runs, truth_word}
 use Rattle.lowering_code.proofs.Calls.{Leaves, FlowsTo, Affects, ArePlaces, test_of, KnotRuns, Resumes}
 use Rattle.lowering_code.proofs.Values.{setting, called_runs, value_runs, arguments_run, place_runs}
 use Rattle.lowering_code.proofs.Stores.{store_runs, set_runs, byte_runs, through_store_runs}
@@ -63,18 +64,18 @@ module _ (g : Execution) (l : Layout g) where
       by Continued s h = more s (here_at g l q.on_continue m [] s on_continue h)
       by (Returned v) s h = h
 
-  -- the address of a variable's cell
-  address_runs : (next : ℕ) (s : meaning.State) (object cell offset : ℕ) (o : Option Block) → slice_get s.blocks object ≡ o → Here g l next [] s → HasAt (code g l).ops next (address_code object offset) → offset_stack offset ≤ (code g l).stack → Leads (λ (q : Value) t. Here g l (next + (1 + offset_size offset)) (address_of g object cell ∷ []) t) (Finishes g) (and_then (place_where (stands_at o cell offset) object cell s) (λ place t. Gives (At place.0 place.1) t))
-  address_runs next s object cell offset o found here at room = by (stands_at o cell offset) (direct_runs g l next [] s object cell offset o found here at (omega arith))
+  -- the address of a byte of a variable
+  address_runs : (next : ℕ) (s : meaning.State) (object offset : ℕ) → Here g l next [] s → HasAt (code g l).ops next (address_code object offset) → offset_stack offset ≤ (code g l).stack → Leads (λ (q : Value) t. Arrives g l (next + (1 + offset_size offset)) [] (At object offset) t) (Finishes g) (and_then (place_at None object offset s) pointer_to)
+  address_runs next s object offset here at room = by (cell_at s.blocks object offset) (variable_runs g l next [] s object offset (cell_at s.blocks object offset) refl here at (omega arith))
     where
-      by : (there : Bool) → Leads (Placed g l (next + (1 + offset_size offset)) []) (Finishes g) (place_where there object cell s) → Leads (λ (q : Value) t. Here g l (next + (1 + offset_size offset)) (address_of g object cell ∷ []) t) (Finishes g) (and_then (place_where there object cell s) (λ place t. Gives (At place.0 place.1) t))
-      by true h = h.here
-      by false h = tt
+      by : (o : Option Cell) → Leads (Placed g l (next + (1 + offset_size offset)) []) (Finishes g) (place_if o None object offset s) → Leads (λ (q : Value) t. Arrives g l (next + (1 + offset_size offset)) [] (At object offset) t) (Finishes g) (and_then (place_if o None object offset s) pointer_to)
+      by (Some c) h = h
+      by None h = tt
 
   -- a store to a variable, whose address and value lie on the stack
-  direct_store_runs : (next : ℕ) (s : meaning.State) (p : Places) (type : CType) (object cell : ℕ) (v : Value) (there : Bool) → IsKept g v → Here g l next (word_of g v ∷ (address_of g object cell ∷ [])) s → slice_get (code g l).ops next ≡ Some (store_code type) → Affects g l p (next + 1) (and_then (place_where there object cell s) (λ at_cell t. store_at type at_cell v t))
-  direct_store_runs next s p type object cell v true value here at = store_runs g l next s p type (object, cell) v value here at
-  direct_store_runs next s p type object cell v false value here at = tt
+  direct_store_runs : (next : ℕ) (s : meaning.State) (p : Places) (type : CType) (object offset : ℕ) (v : Value) (o : Option Cell) → IsKept s v → Here g l next (word_of g s v ∷ (word_of g s (At object offset) ∷ [])) s → slice_get (code g l).ops next ≡ Some (store_code type) → Affects g l p (next + 1) (and_then (place_if o None object offset s) (λ place t. store_at type None place v t))
+  direct_store_runs next s p type object offset v (Some c) kept here at = store_runs g l next s p type None (object, offset) v kept here at
+  direct_store_runs next s p type object offset v None kept here at = tt
 
   -- ---- output
 
@@ -84,7 +85,7 @@ module _ (g : Execution) (l : Layout g) where
       let kept : KeptWorld w = record { acts = x.0.kept.world.acts; inputs = x.0.kept.world.inputs } in
       moved g l next (word z ∷ []) s ops.Print (next + 1) [] (meaning.in_world w s) x.0 at (kept_in g l s w x.0.kept kept) (λ scratch. rw (signed-word z x.1) refl)
   print_runs next s p Null x at = tt
-  print_runs next s p (At block cell) x at = tt
+  print_runs next s p (At block byte) x at = tt
 
   put_runs : (next : ℕ) (s : meaning.State) (p : Places) (v : Value) → Arrives g l next [] v s → slice_get (code g l).ops next ≡ Some ops.PutByte → Affects g l p (next + 1) (put v s)
   put_runs next s p (Number z) x at =
@@ -92,7 +93,7 @@ module _ (g : Execution) (l : Layout g) where
       let kept : KeptWorld w = record { acts = x.0.kept.world.acts; inputs = x.0.kept.world.inputs } in
       moved g l next (word z ∷ []) s ops.PutByte (next + 1) [] (meaning.in_world w s) x.0 at (kept_in g l s w x.0.kept kept) (λ scratch. refl)
   put_runs next s p Null x at = tt
-  put_runs next s p (At block cell) x at = tt
+  put_runs next s p (At block byte) x at = tt
 
   -- a call without a result
   alone_runs : (next : ℕ) (p : Places) (v : Option Value) (s : meaning.State) → Resumes g l next [] v s → Affects g l p next (no_result v s)
@@ -101,15 +102,15 @@ module _ (g : Execution) (l : Layout g) where
 
   -- ---- returns
 
-  pub return_runs : (next : ℕ) (s : meaning.State) (v : Value) → Arrives g l next [] v s → slice_get (code g l).ops next ≡ Some ops.Return → Leaves g l.callers (Some v) s
+  pub return_runs : (next : ℕ) (s : meaning.State) (v : Value) → Arrives g l next [] v s → slice_get (code g l).ops next ≡ Some ops.Return → Leaves g l.callers l.since (Some v) s
   return_runs next s v x at =
-      let f = frame g l next x.0.scratch (word_of g v ∷ []) s.locals in
-      record { last = f; popped = record f { stack = [] }; blocks = x.0.kept.blocks; world = x.0.kept.world; value = x.1; reached = x.0.reached; returns = fetched g l next x.0.scratch (word_of g v ∷ []) s ops.Return at }
+      let f = frame g l next x.0.scratch (word_of g s v ∷ []) s in
+      record { last = f; popped = record f { stack = [] }; blocks = x.0.kept.blocks; grows = x.0.kept.grows; world = x.0.kept.world; value = x.1; reached = x.0.reached; returns = fetched g l next x.0.scratch (word_of g s v ∷ []) s ops.Return at }
 
-  pub nothing_runs : (next : ℕ) (s : meaning.State) → Here g l next [] s → slice_get (code g l).ops next ≡ Some ops.ReturnNothing → Leaves g l.callers None s
+  pub nothing_runs : (next : ℕ) (s : meaning.State) → Here g l next [] s → slice_get (code g l).ops next ≡ Some ops.ReturnNothing → Leaves g l.callers l.since None s
   nothing_runs next s here at =
-      let f = frame g l next here.scratch [] s.locals in
-      record { last = f; popped = f; blocks = here.kept.blocks; world = here.kept.world; value = tt; reached = here.reached; returns = fetched g l next here.scratch [] s ops.ReturnNothing at }
+      let f = frame g l next here.scratch [] s in
+      record { last = f; popped = f; blocks = here.kept.blocks; grows = here.kept.grows; world = here.kept.world; value = tt; reached = here.reached; returns = fetched g l next here.scratch [] s ops.ReturnNothing at }
 
   module _ (k : Knot) (runs : KnotRuns g k) where
     -- the code of a statement, where it stands, has its effect
@@ -118,8 +119,8 @@ module _ (g : Execution) (l : Layout g) where
 
     -- a condition on the stack, and two ways on
     if_runs : (p : Places) (next other end : ℕ) (v : Value) (test : Bool) (s : meaning.State) (first second : Result Flow) → truth v ≡ test → Arrives g l next [] v s → slice_get (code g l).ops next ≡ Some (ops.JumpIfZero other) → other < length (code g l).ops → (Here g l (next + 1) [] s → Affects g l p end first) → (Here g l other [] s → Affects g l p end second) → Affects g l p end (choose test first second)
-    if_runs p next other end v true s first second is x at low on_true on_false = on_true (branch_runs g l next (word_of g v) [] s other false (truth_word g v x.1 ∙ ap not is) low x.0 at)
-    if_runs p next other end v false s first second is x at low on_true on_false = on_false (branch_runs g l next (word_of g v) [] s other true (truth_word g v x.1 ∙ ap not is) low x.0 at)
+    if_runs p next other end v true s first second is x at low on_true on_false = on_true (branch_runs g l next (word_of g s v) [] s other false (truth_word g s v x.1 ∙ ap not is) low x.0 at)
+    if_runs p next other end v false s first second is x at low on_true on_false = on_false (branch_runs g l next (word_of g s v) [] s other true (truth_word g s v x.1 ∙ ap not is) low x.0 at)
 
     -- a loop from its test on
     pub loop_runs : (condition : core.Expression) (body step : core.Statement) → StatementRuns body → StatementRuns step → (p : Places) (at : ℕ) (s : meaning.State) → ArePlaces g l p → HasAt (code g l).ops at (statement_code p at (core.Loop condition body step)) → statement_stack (core.Loop condition body step) ≤ (code g l).stack → at + statement_size (core.Loop condition body step) < length (code g l).ops → Here g l (test_of at body step) [] s → Affects g l p (at + statement_size (core.Loop condition body step)) (effect (setting g) k (core.Loop condition body step) s)
@@ -141,7 +142,7 @@ module _ (g : Execution) (l : Layout g) where
         let inner : ArePlaces g l q = record { scratch = places.scratch; on_break = omega arith; on_continue = omega arith; free = places.free } in
         affects_at p end (at + statement_size (core.Loop condition body step)) (effect (setting g) k (core.Loop condition body step) s) whole
         (leads_on (Arrives g l last []) (FlowsTo g l p end) (Finishes g) (value (setting g) k condition s) _
-        (value_runs g l k runs condition test [] s here (has_front (code g l).ops test (expression_code test condition) (ops.JumpIfZero end ∷ (ops.Jump (at + 1) ∷ [])) at_test) (omega arith) (omega arith))
+        (value_runs g k runs condition l test [] s here (has_front (code g l).ops test (expression_code test condition) (ops.JumpIfZero end ∷ (ops.Jump (at + 1) ∷ [])) at_test) (omega arith) (omega arith))
         (λ v t x. if_runs p last end end v (truth v) t _ (Gives Next t) refl x branch.0 (omega arith)
         (λ again. asks_on (λ _ w. Here g l (at + 1 + 1) [] (meaning.in_world w t)) (FlowsTo g l p end) (Finishes g) (spend_tick g.settings.budget t.world) t _
         (tick_runs g l (at + 1) [] t (jump_runs g l (last + 1) [] [] t (ops.Jump (at + 1)) (at + 1) (omega arith) again branch.1.0 (λ scratch. refl)) has.1.0)
@@ -160,16 +161,17 @@ module _ (g : Execution) (l : Layout g) where
         let end : m + 1 ≡ next + (expression_size e + 1) = omega arith in
         affects_at p (m + 1) (next + (expression_size e + 1)) (and_then (value (setting g) k e s) more) end
         (leads_on (Arrives g l m []) (FlowsTo g l p (m + 1)) (Finishes g) (value (setting g) k e s) more
-        (value_runs g l k runs e next [] s here (has_front (code g l).ops next first (op ∷ []) at) (omega arith) (omega arith))
+        (value_runs g k runs e l next [] s here (has_front (code g l).ops next first (op ∷ []) at) (omega arith) (omega arith))
         (λ v t x. behind m v t x (has_back (code g l).ops next first (op ∷ []) (expression_size e) (length_expression next e) at).0))
 
     -- an operator on an old value and another one, whose words lie on the stack, and what becomes of the result
-    combined_runs : (p : Places) (next end : ℕ) (stack : List ℕ) (s : meaning.State) (char : Bool) (operator : Operator) (site : Site) (old v : Value) (last : List Op) (more : Value → meaning.State → Result Flow) → IsKept g old → Arrives g l next (word_of g old ∷ stack) v s → HasAt (code g l).ops next (operator_code operator site ∷ (byte_code char ++ last)) → length stack < (code g l).stack → ((new : Value) (t : meaning.State) → Arrives g l (next + 1 + byte_size char) stack new t → Affects g l p end (more new t)) → Affects g l p end (and_then (arithmetic_of operator site old v s) (λ new t. and_then (kept_if char new t) more))
-    combined_runs p next end stack s char operator site old v last more kept x at room further =
-        leads_on (Arrives g l (next + 1) stack) (FlowsTo g l p end) (Finishes g) (arithmetic_of operator site old v s) _
-        (operator_runs g l next stack s operator site old v kept x.1 x.0 at.0 room)
-        (λ new t y. leads_on (Arrives g l (next + 1 + byte_size char) stack) (FlowsTo g l p end) (Finishes g) (kept_if char new t) more
-        (byte_runs g l (next + 1) stack t char new y (has_front (code g l).ops (next + 1) (byte_code char) last at.1) room)
+    combined_runs : (p : Places) (next end : ℕ) (stack : List ℕ) (s : meaning.State) (char : Bool) (operator : Operator) (site : Site) (old v : Value) (last : List Op) (more : Value → meaning.State → Result Flow) → Both g l next stack old v s → HasAt (code g l).ops next (operator_code operator site ∷ (byte_code char ++ last)) → length stack < (code g l).stack → ((new : Value) (t : meaning.State) → Arrives g (from g l s) (next + 1 + byte_size char) stack new t → Affects g l p end (more new t)) → Affects g l p end (and_then (arithmetic_of operator site old v s) (λ new t. and_then (kept_if char new t) more))
+    combined_runs p next end stack s char operator site old v last more x at room further =
+        let m = from g l s in
+        leads_on (Arrives g m (next + 1) stack) (FlowsTo g l p end) (Finishes g) (arithmetic_of operator site old v s) _
+        (operator_runs g m next stack s operator site old v x.below x.top (here_from g l next (word_of g s v ∷ (word_of g s old ∷ stack)) s x.here) at.0 room)
+        (λ new t y. leads_on (Arrives g m (next + 1 + byte_size char) stack) (FlowsTo g l p end) (Finishes g) (kept_if char new t) more
+        (byte_runs g m (next + 1) stack t char new y (has_front (code g l).ops (next + 1) (byte_code char) last at.1) room)
         further)
 
     mutual
@@ -177,32 +179,37 @@ module _ (g : Execution) (l : Layout g) where
       effect_runs core.Nothing p next s places here at room low = let e : next ≡ next + 0 = omega arith in here_at g l next (next + 0) [] s e here
       effect_runs (core.SetLocal local e) p next s places here at room low =
           operand_runs e (ops.Set local) (set_local local) p next s (λ m v t x. set_runs g l m t p local v x.1 x.0) here at room low
-      effect_runs (core.Store type (core.Direct object cell offset) e) p next s places here at room low =
+      effect_runs (core.Store type (core.Direct object offset) e) p next s places here at room low =
           let m = next + (1 + offset_size offset) in
           let n = m + expression_size e in
+          let a = At object offset in
           let last = store_code type ∷ [] in
           let front = address_code object offset in
           let back = has_back (code g l).ops next front (expression_code m e ++ last) (1 + offset_size offset) (omega (arith, length_offset offset)) at in
           let end : n + 1 ≡ next + ((1 + offset_size offset) + (expression_size e + 1)) = omega arith in
-          affects_at p (n + 1) (next + ((1 + offset_size offset) + (expression_size e + 1))) (effect (setting g) k (core.Store type (core.Direct object cell offset) e) s) end
-          (leads_on (λ (q : Value) t. Here g l m (address_of g object cell ∷ []) t) (FlowsTo g l p (n + 1)) (Finishes g) (pointer_of (setting g) k (core.Direct object cell offset) s) _
-          (address_runs next s object cell offset (slice_get s.blocks object) refl here (has_front (code g l).ops next front (expression_code m e ++ last) at) (omega arith))
-          (λ q t x. leads_on (Arrives g l n (address_of g object cell ∷ [])) (FlowsTo g l p (n + 1)) (Finishes g) (value (setting g) k e t) _
-          (value_runs g l k runs e m (address_of g object cell ∷ []) t x (has_front (code g l).ops m (expression_code m e) last back) (omega arith) (omega arith))
-          (λ v u y. direct_store_runs n u p type object cell v (stands_at (slice_get u.blocks object) cell offset) y.1 y.0 (has_back (code g l).ops m (expression_code m e) last (expression_size e) (length_expression m e) back).0)))
-      effect_runs (core.Store type (core.Through pointer cell offset site) e) p next s places here at room low =
+          affects_at p (n + 1) (next + ((1 + offset_size offset) + (expression_size e + 1))) (effect (setting g) k (core.Store type (core.Direct object offset) e) s) end
+          (leads_on (λ (q : Value) t. Arrives g l m [] a t) (FlowsTo g l p (n + 1)) (Finishes g) (pointer_of (setting g) k (core.Direct object offset) s) _
+          (address_runs next s object offset here (has_front (code g l).ops next front (expression_code m e ++ last) at) (omega arith))
+          (λ q t x. leads_on (Arrives g (from g l t) n (word_of g t a ∷ [])) (FlowsTo g l p (n + 1)) (Finishes g) (value (setting g) k e t) _
+          (value_runs g k runs e (from g l t) m (word_of g t a ∷ []) t (here_from g l m (word_of g t a ∷ []) t x.0) (has_front (code g l).ops m (expression_code m e) last back) (omega arith) (omega arith))
+          (λ v u y.
+          let z = both g l n [] a v t u x.0.kept.grows x.1 y in
+          direct_store_runs n u p type object offset v (cell_at u.blocks object offset) z.top z.here (has_back (code g l).ops m (expression_code m e) last (expression_size e) (length_expression m e) back).0)))
+      effect_runs (core.Store type (core.Through pointer offset site) e) p next s places here at room low =
           let m = next + expression_size pointer in
           let n = m + expression_size e in
-          let last = behind_value p.scratch type (core.Through pointer cell offset site) in
+          let last = behind_value p.scratch type (core.Through pointer offset site) in
           let front = expression_code next pointer in
           let back = has_back (code g l).ops next front (expression_code m e ++ last) (expression_size pointer) (length_expression next pointer) at in
           let end : n + (4 + offset_size offset) ≡ next + (expression_size pointer + (expression_size e + (4 + offset_size offset))) = omega arith in
-          affects_at p (n + (4 + offset_size offset)) (next + (expression_size pointer + (expression_size e + (4 + offset_size offset)))) (effect (setting g) k (core.Store type (core.Through pointer cell offset site) e) s) end
+          affects_at p (n + (4 + offset_size offset)) (next + (expression_size pointer + (expression_size e + (4 + offset_size offset)))) (effect (setting g) k (core.Store type (core.Through pointer offset site) e) s) end
           (leads_on (Arrives g l m []) (FlowsTo g l p (n + (4 + offset_size offset))) (Finishes g) (value (setting g) k pointer s) _
-          (value_runs g l k runs pointer next [] s here (has_front (code g l).ops next front (expression_code m e ++ last) at) (omega arith) (omega arith))
-          (λ q t x. leads_on (Arrives g l n (word_of g q ∷ [])) (FlowsTo g l p (n + (4 + offset_size offset))) (Finishes g) (value (setting g) k e t) _
-          (value_runs g l k runs e m (word_of g q ∷ []) t x.0 (has_front (code g l).ops m (expression_code m e) last back) (omega arith) (omega arith))
-          (λ v u y. through_store_runs g l n u p type cell offset site q v places x.1 y.1 y.0 (has_back (code g l).ops m (expression_code m e) last (expression_size e) (length_expression m e) back) (omega arith) (stack_of_offset offset (code g l).stack (omega arith)))))
+          (value_runs g k runs pointer l next [] s here (has_front (code g l).ops next front (expression_code m e ++ last) at) (omega arith) (omega arith))
+          (λ q t x. leads_on (Arrives g (from g l t) n (word_of g t q ∷ [])) (FlowsTo g l p (n + (4 + offset_size offset))) (Finishes g) (value (setting g) k e t) _
+          (value_runs g k runs e (from g l t) m (word_of g t q ∷ []) t (here_from g l m (word_of g t q ∷ []) t x.0) (has_front (code g l).ops m (expression_code m e) last back) (omega arith) (omega arith))
+          (λ v u y.
+          let z = both g l n [] q v t u x.0.kept.grows x.1 y in
+          through_store_runs g l n u p type offset site q v places z.below z.top z.here (has_back (code g l).ops m (expression_code m e) last (expression_size e) (length_expression m e) back) (omega arith) (stack_of_offset offset (code g l).stack (omega arith)))))
       effect_runs (core.UpdateLocal char local operator e site) p next s places here at room low =
           let n = next + 1 + expression_size e in
           let m = n + 1 + byte_size char in
@@ -212,10 +219,12 @@ module _ (g : Execution) (l : Layout g) where
           affects_at p (m + 1) (next + statement_size (core.UpdateLocal char local operator e site)) (effect (setting g) k (core.UpdateLocal char local operator e site) s) end
           (leads_on (Arrives g l (next + 1) []) (FlowsTo g l p (m + 1)) (Finishes g) (given (slice_get s.locals local) s) _
           (local_runs g l next [] s local (slice_get s.locals local) refl here at.0 (omega arith))
-          (λ old t x. leads_on (Arrives g l n (word_of g old ∷ [])) (FlowsTo g l p (m + 1)) (Finishes g) (value (setting g) k e t) _
-          (value_runs g l k runs e (next + 1) (word_of g old ∷ []) t x.0 (has_front (code g l).ops (next + 1) (expression_code (next + 1) e) last at.1) (omega arith) (omega arith))
-          (λ v u y. combined_runs p n (m + 1) [] u char operator site old v (ops.Set local ∷ []) (set_local local) x.1 y back (omega arith)
-          (λ new w z. set_runs g l m w p local new z.1 z.0 (has_back (code g l).ops (n + 1) (byte_code char) (ops.Set local ∷ []) (byte_size char) (length_byte char) back.1).0))))
+          (λ old t x. leads_on (Arrives g (from g l t) n (word_of g t old ∷ [])) (FlowsTo g l p (m + 1)) (Finishes g) (value (setting g) k e t) _
+          (value_runs g k runs e (from g l t) (next + 1) (word_of g t old ∷ []) t (here_from g l (next + 1) (word_of g t old ∷ []) t x.0) (has_front (code g l).ops (next + 1) (expression_code (next + 1) e) last at.1) (omega arith) (omega arith))
+          (λ v u y.
+          let z = both g l n [] old v t u x.0.kept.grows x.1 y in
+          combined_runs p n (m + 1) [] u char operator site old v (ops.Set local ∷ []) (set_local local) z back (omega arith)
+          (λ new w i. set_runs g l m w p local new i.1 (here_on g l m (word_of g w new ∷ []) u w z.here.kept.grows i.0) (has_back (code g l).ops (n + 1) (byte_code char) (ops.Set local ∷ []) (byte_size char) (length_byte char) back.1).0))))
       effect_runs (core.Update type cell operator e site) p next s places here at room low =
           let m = next + place_size cell in
           let n = m + 2 + expression_size e in
@@ -230,20 +239,33 @@ module _ (g : Execution) (l : Layout g) where
           let end : o + 1 ≡ next + statement_size (core.Update type cell operator e site) = omega arith in
           affects_at p (o + 1) (next + statement_size (core.Update type cell operator e site)) (effect (setting g) k (core.Update type cell operator e site) s) end
           (leads_on (Placed g l m []) (FlowsTo g l p (o + 1)) (Finishes g) (place (setting g) k cell s) _
-          (place_runs g l k runs cell next [] s here (has_front (code g l).ops next (place_code next cell) rest at) (omega arith) (omega arith))
-          (λ at_cell t x.
-          let a = address_of g at_cell.0 at_cell.1 in
-          let twice = pushes g l m (a ∷ []) t ops.Duplicate a (a ∷ []) x.here middle.0 (omega arith) (λ scratch. refl) in
-          leads_on (Arrives g l (m + 1 + 1) (a ∷ [])) (FlowsTo g l p (o + 1)) (Finishes g) (load_at type at_cell t) _
-          (load_runs g l (m + 1) (a ∷ []) t type at_cell (record { here = twice }) middle.1.0 (omega arith))
-          (λ old u y. leads_on (Arrives g l n (word_of g old ∷ (a ∷ []))) (FlowsTo g l p (o + 1)) (Finishes g) (value (setting g) k e u) _
-          (value_runs g l k runs e (m + 2) (word_of g old ∷ (a ∷ [])) u (here_at g l (m + 1 + 1) (m + 2) (word_of g old ∷ (a ∷ [])) u two y.0) (has_front (code g l).ops (m + 2) (expression_code (m + 2) e) last at_value) (omega arith) (omega arith))
-          (λ v w z. combined_runs p n (o + 1) (a ∷ []) w char operator site old v (store_code type ∷ []) (store_at type at_cell) y.1 z back (omega arith)
-          (λ new w' z'. store_runs g l o w' p type at_cell new z'.1 z'.0 (has_back (code g l).ops (n + 1) (byte_code char) (store_code type ∷ []) (byte_size char) (length_byte char) back.1).0)))))
+          (place_runs g k runs cell l next [] s here (has_front (code g l).ops next (place_code next cell) rest at) (omega arith) (omega arith))
+          (λ place t x.
+          let a = At place.0 place.1 in
+          let at_t = word_of g t a in
+          let twice = pushes g l m (at_t ∷ []) t ops.Duplicate at_t (at_t ∷ []) x.0 middle.0 (omega arith) (λ scratch. refl) in
+          leads_on (Arrives g (from g l t) (m + 1 + 1) (at_t ∷ [])) (FlowsTo g l p (o + 1)) (Finishes g) (load_at type (Some site) place t) _
+          (load_runs g (from g l t) (m + 1) (at_t ∷ []) t type (Some site) place (here_from g l (m + 1) (at_t ∷ (at_t ∷ [])) t twice, x.1) middle.1.0 (omega arith))
+          (λ old u y.
+          let loaded = both g l (m + 1 + 1) [] a old t u x.0.kept.grows x.1 y in
+          let at_u = word_of g u a in
+          let old_u = word_of g u old in
+          leads_on (Arrives g (from g l u) n (old_u ∷ (at_u ∷ []))) (FlowsTo g l p (o + 1)) (Finishes g) (value (setting g) k e u) _
+          (value_runs g k runs e (from g l u) (m + 2) (old_u ∷ (at_u ∷ [])) u (here_from g l (m + 2) (old_u ∷ (at_u ∷ [])) u (here_at g l (m + 1 + 1) (m + 2) (old_u ∷ (at_u ∷ [])) u two loaded.here)) (has_front (code g l).ops (m + 2) (expression_code (m + 2) e) last at_value) (omega arith) (omega arith))
+          (λ v w z.
+          let three = both g l n (at_u ∷ []) old v u w loaded.here.kept.grows loaded.top z in
+          let added = z.0.kept.grows in
+          let still = kept_grows (shapes u.blocks) (shapes w.blocks) a added loaded.below in
+          let same = sym (word_grows g.settings.base (shapes u.blocks) (shapes w.blocks) a added loaded.below) in
+          combined_runs p n (o + 1) (word_of g w a ∷ []) w char operator site old v (store_code type ∷ []) (store_at type (Some site) place)
+          (record { here = subst (λ i. Here g l n (word_of g w v ∷ (word_of g w old ∷ (i ∷ []))) w) same three.here; below = three.below; top = three.top }) back (omega arith)
+          (λ new w' i.
+          let last_both = both g l o [] a new w w' three.here.kept.grows still i in
+          store_runs g l o w' p type (Some site) place new last_both.top last_both.here (has_back (code g l).ops (n + 1) (byte_code char) (store_code type ∷ []) (byte_size char) (length_byte char) back.1).0)))))
       effect_runs (core.Evaluate e) p next s places here at room low =
-          operand_runs e ops.Discard (λ _ t. Gives Next t) p next s (λ m v t x op. moved g l m (word_of g v ∷ []) t ops.Discard (m + 1) [] t x.0 op x.0.kept (λ scratch. refl)) here at room low
+          operand_runs e ops.Discard (λ _ t. Gives Next t) p next s (λ m v t x op. moved g l m (word_of g t v ∷ []) t ops.Discard (m + 1) [] t x.0 op x.0.kept (λ scratch. refl)) here at room low
       effect_runs (core.CallAlone callee args) p next s places here at room low =
-          called_runs g l k runs (FlowsTo g l p (next + (arguments_size args + 2))) args callee no_result (arguments_run g l k runs args) next [] s
+          called_runs g k runs (FlowsTo g l p (next + (arguments_size args + 2))) args callee no_result (arguments_run g k runs args) l next [] s
           (alone_runs (next + (arguments_size args + 2)) p) here at (omega arith) (omega arith) low
       effect_runs (core.Print e) p next s places here at room low = operand_runs e ops.Print printed p next s (λ m v t x. print_runs m t p v x) here at room low
       effect_runs (core.PutByte e) p next s places here at room low = operand_runs e ops.PutByte put p next s (λ m v t x. put_runs m t p v x) here at room low
@@ -260,7 +282,7 @@ module _ (g : Execution) (l : Layout g) where
           let whole : end ≡ next + statement_size (core.If condition consequent alternative) = omega arith in
           affects_at p end (next + statement_size (core.If condition consequent alternative)) (effect (setting g) k (core.If condition consequent alternative) s) whole
           (leads_on (Arrives g l m []) (FlowsTo g l p end) (Finishes g) (value (setting g) k condition s) _
-          (value_runs g l k runs condition next [] s here (has_front (code g l).ops next (expression_code next condition) rest at) (omega arith) (omega arith))
+          (value_runs g k runs condition l next [] s here (has_front (code g l).ops next (expression_code next condition) rest at) (omega arith) (omega arith))
           (λ v t x. if_runs p m other end v (truth v) t (effect (setting g) k consequent t) (effect (setting g) k alternative t) refl x back.0 (omega arith)
           (λ h. affects_next p (inside + statement_size consequent) end (effect (setting g) k consequent t)
           (λ u i. jump_runs g l (inside + statement_size consequent) [] [] u (ops.Jump end) end (omega arith) i behind.0 (λ scratch. refl))

@@ -1,7 +1,6 @@
 -- How instructions that stand in a function are executed, one after another, and how a state of the meaning is one of the code.
-use Rattle.std.proofs.Common.{◌≡◌, ℕ, zero, suc, ◌+◌, ◌<◌, true, List, [], ◌∷◌, ◌++◌, length, map, Option, Some, None, refl, ap, ◌∙◌, subst, arith, append_assoc, length-append}
+use Rattle.std.proofs.Common.{◌≡◌, ℕ, zero, suc, ◌+◌, ◌<◌, true, List, [], ◌∷◌, ◌++◌, length, Option, Some, None, refl, sym, ap, ◌∙◌, subst, arith, append_assoc, length-append}
 use Rattle.std.specs.Prelude.{slice_get, nat_lt}
-use Rattle.std.specs.List.{AllByRecursion}
 use Rattle.std.proofs.Math.Seq.{get_or-append_seam}
 use Rattle.std.proofs.lemmas.Option.{slice_get-get_or}
 use Rattle.std.proofs.lemmas.Bool.Decides.{nat_tests}
@@ -10,7 +9,7 @@ use Rattle.ckc_core.specs.Outcome.{Gives, Ends, Stuck, Short, and_then}
 use Rattle.act_words.specs.World.{World}
 use Rattle.act_words.specs.Touches.{Asked, Got, Ended}
 use Rattle.ckc_core.specs.Core.{Function}
-use Rattle.ckc_core.specs.States.{Value, Number, Null, At, Cell, Block, has_type, object_block}
+use Rattle.ckc_core.specs.States.{Value, Shape, Local, Grows, shapes}
 use Rattle.ckc_core.specs.States as meaning
 use Rattle.ckc_core.specs.Meaning.{Result}
 use Rattle.ckc_core.specs.Meaning as meanings
@@ -22,7 +21,8 @@ use Rattle.code_words.specs.Functions.{Func}
 use Rattle.lowering_code.specs.Images.{function_code, functions_from}
 use Rattle.lowering_code.specs.Correct.{SameEnd}
 use Rattle.lowering_code.proofs.Worlds.{KeptWorld}
-use Rattle.lowering_code.proofs.Executions.{Execution, image, word_of, state, IsKept, KeptBlocks, same_end}
+use Rattle.lowering_code.proofs.Shapes.{grows_none, grows_on, kept_grows, word_grows}
+use Rattle.lowering_code.proofs.Executions.{Execution, image, slots_by, word_of, state, IsKept, AreKeptBy, KeptBlocks, slots_grow, same_end}
 
 -- ---- code in a function
 
@@ -57,21 +57,21 @@ has_all (op ∷ ops) pre =
 abbrev pub Leads : {A : Type 0} → (A → meaning.State → Type 0) → (Ending → meaning.State → Type 0) → Result A → Type 0
 Leads G E (Gives value s) = G value s
 Leads G E (Ends ending s) = E ending s
-Leads G E Stuck = Unit {0}
+Leads G E (Stuck site s) = Unit {0}
 Leads G E Short = Unit {0}
 
 -- goes on from a value
 pub leads_on : {A B : Type 0} (G : A → meaning.State → Type 0) (H : B → meaning.State → Type 0) (E : Ending → meaning.State → Type 0) (o : Result A) (next : A → meaning.State → Result B) → Leads G E o → ((value : A) (s : meaning.State) → G value s → Leads H E (next value s)) → Leads H E (and_then o next)
 leads_on G H E (Gives value s) next l more = more value s l
 leads_on G H E (Ends ending s) next l more = l
-leads_on G H E Stuck next l more = tt
+leads_on G H E (Stuck site s) next l more = tt
 leads_on G H E Short next l more = tt
 
 -- another way to the same
 pub leads_to : {A : Type 0} (G H : A → meaning.State → Type 0) (E : Ending → meaning.State → Type 0) (o : Result A) → ((value : A) (s : meaning.State) → G value s → H value s) → Leads G E o → Leads H E o
 leads_to G H E (Gives value s) more l = more value s l
 leads_to G H E (Ends ending s) more l = l
-leads_to G H E Stuck more l = tt
+leads_to G H E (Stuck site s) more l = tt
 leads_to G H E Short more l = tt
 
 -- the same of what the world gives
@@ -105,13 +105,15 @@ last_move g t u ending s r h same = let p = r.by 1 in record { steps = p.0; last
 
 -- ---- frames
 
--- an open call: the function, what it goes back to, and what its scratch slot holds, where that matters
+-- an open call: the function, what it goes back to, what its scratch slot holds, where that matters, and the shapes of blocks
+-- that were there before
 pub record Layout (g : Execution) : Type 0 where
   pub number : ℕ
   pub function : Function
   pub there : slice_get g.program.functions number ≡ Some function
   pub callers : List Caller
   pub held : Option ℕ
+  pub since : List Shape
 
 -- the scratch slot holds what it has to
 abbrev pub Holds : Option ℕ → ℕ → Type 0
@@ -122,17 +124,21 @@ abbrev pub code : (g : Execution) → Layout g → Func
 code g l = function_code l.number l.function
 
 -- the locals in their slots, and the scratch slot behind them
-abbrev pub frame : (g : Execution) → Layout g → ℕ → ℕ → List ℕ → List Value → Frame
-frame g l next scratch stack locals = record { function = l.number; next = next; slots = map (word_of g) locals ++ scratch ∷ []; stack = stack }
+abbrev pub frame_by : (g : Execution) → Layout g → List Shape → ℕ → ℕ → List ℕ → List Local → Frame
+frame_by g l all next scratch stack locals = record { function = l.number; next = next; slots = slots_by g all locals ++ scratch ∷ []; stack = stack }
+
+abbrev pub frame : (g : Execution) → Layout g → ℕ → ℕ → List ℕ → meaning.State → Frame
+frame g l next scratch stack s = frame_by g l (shapes s.blocks) next scratch stack s.locals
 
 abbrev pub standing : (g : Execution) → Layout g → ℕ → ℕ → List ℕ → meaning.State → State
-standing g l next scratch stack s = state g (Runs (frame g l next scratch stack s.locals)) l.callers s
+standing g l next scratch stack s = state g (Runs (frame g l next scratch stack s)) l.callers s
 
 pub record Kept (g : Execution) (l : Layout g) (s : meaning.State) : Type 0 where
   pub count : length s.locals ≡ length l.function.locals
   pub depth : s.depth ≡ suc (length l.callers)
-  pub locals : AllByRecursion (IsKept g) s.locals
+  pub locals : AreKeptBy (shapes s.blocks) s.locals
   pub blocks : KeptBlocks g s.blocks
+  pub grows : Grows l.since (shapes s.blocks)
   pub world : KeptWorld s.world
 
 -- the run comes to a place in a function, with this stack
@@ -143,7 +149,7 @@ pub record Here (g : Execution) (l : Layout g) (next : ℕ) (stack : List ℕ) (
   pub reached : Reached g (standing g l next scratch stack s)
 
 pub kept_in : (g : Execution) (l : Layout g) (s : meaning.State) (w : World) → Kept g l s → KeptWorld w → Kept g l (meaning.in_world w s)
-kept_in g l s w k world = record { count = k.count; depth = k.depth; locals = k.locals; blocks = k.blocks; world = world }
+kept_in g l s w k world = record { count = k.count; depth = k.depth; locals = k.locals; blocks = k.blocks; grows = k.grows; world = world }
 
 -- a function of the program is one of the image
 pub function_there : (n k : ℕ) (functions : List Function) (f : Function) → slice_get functions k ≡ Some f → slice_get (functions_from n functions) k ≡ Some (function_code (n + k) f)
@@ -163,32 +169,32 @@ pub code_there : (g : Execution) (l : Layout g) → slice_get (image g).trusted.
 code_there g l = function_found g l.number l.function l.there
 
 -- the instruction that stands next is executed
-pub fetched : (g : Execution) (l : Layout g) (next scratch : ℕ) (stack : List ℕ) (s : meaning.State) (op : Op) → slice_get (code g l).ops next ≡ Some op → move (image g) g.settings (standing g l next scratch stack s) ≡ act (image g) g.settings (code g l) op (frame g l next scratch stack s.locals) (standing g l next scratch stack s)
+pub fetched : (g : Execution) (l : Layout g) (next scratch : ℕ) (stack : List ℕ) (s : meaning.State) (op : Op) → slice_get (code g l).ops next ≡ Some op → move (image g) g.settings (standing g l next scratch stack s) ≡ act (image g) g.settings (code g l) op (frame g l next scratch stack s) (standing g l next scratch stack s)
 fetched g l next scratch stack s op h = let there = code_there g l in rw (there, h) refl
 
 -- an instruction leads to another place
-pub moved : (g : Execution) (l : Layout g) (next : ℕ) (old : List ℕ) (s : meaning.State) (op : Op) (next' : ℕ) (new : List ℕ) (t : meaning.State) → Here g l next old s → slice_get (code g l).ops next ≡ Some op → Kept g l t → ((w : ℕ) → act (image g) g.settings (code g l) op (frame g l next w old s.locals) (standing g l next w old s) ≡ Goes (standing g l next' w new t)) → Here g l next' new t
+pub moved : (g : Execution) (l : Layout g) (next : ℕ) (old : List ℕ) (s : meaning.State) (op : Op) (next' : ℕ) (new : List ℕ) (t : meaning.State) → Here g l next old s → slice_get (code g l).ops next ≡ Some op → Kept g l t → ((w : ℕ) → act (image g) g.settings (code g l) op (frame g l next w old s) (standing g l next w old s) ≡ Goes (standing g l next' w new t)) → Here g l next' new t
 moved g l next old s op next' new t here at kept goes =
     record { scratch = here.scratch; holds = here.holds; kept = kept; reached = one_move g _ _ here.reached (fetched g l next here.scratch old s op at ∙ goes here.scratch) }
 
 -- a word is pushed onto a stack that has room, in a world
-pub pushes_in : (g : Execution) (l : Layout g) (next : ℕ) (old : List ℕ) (s : meaning.State) (op : Op) (w : ℕ) (stack : List ℕ) (world : World) → KeptWorld world → Here g l next old s → slice_get (code g l).ops next ≡ Some op → length stack < (code g l).stack → ((scratch : ℕ) → act (image g) g.settings (code g l) op (frame g l next scratch old s.locals) (standing g l next scratch old s) ≡ push (code g l) w stack (frame g l next scratch old s.locals) (standing g l next scratch old (meaning.in_world world s))) → Here g l (next + 1) (w ∷ stack) (meaning.in_world world s)
+pub pushes_in : (g : Execution) (l : Layout g) (next : ℕ) (old : List ℕ) (s : meaning.State) (op : Op) (w : ℕ) (stack : List ℕ) (world : World) → KeptWorld world → Here g l next old s → slice_get (code g l).ops next ≡ Some op → length stack < (code g l).stack → ((scratch : ℕ) → act (image g) g.settings (code g l) op (frame g l next scratch old s) (standing g l next scratch old s) ≡ push (code g l) w stack (frame g l next scratch old s) (standing g l next scratch old (meaning.in_world world s))) → Here g l (next + 1) (w ∷ stack) (meaning.in_world world s)
 pushes_in g l next old s op w stack world kept here at room is =
     let test : nat_lt (length stack) (code g l).stack ≡ true = grind (arith, nat_tests) in
     moved g l next old s op (next + 1) (w ∷ stack) (meaning.in_world world s) here at (kept_in g l s world here.kept kept) (λ scratch. is scratch ∙ rw test refl)
 
 -- the same, in the same world
-pub pushes : (g : Execution) (l : Layout g) (next : ℕ) (old : List ℕ) (s : meaning.State) (op : Op) (w : ℕ) (stack : List ℕ) → Here g l next old s → slice_get (code g l).ops next ≡ Some op → length stack < (code g l).stack → ((scratch : ℕ) → act (image g) g.settings (code g l) op (frame g l next scratch old s.locals) (standing g l next scratch old s) ≡ push (code g l) w stack (frame g l next scratch old s.locals) (standing g l next scratch old s)) → Here g l (next + 1) (w ∷ stack) s
+pub pushes : (g : Execution) (l : Layout g) (next : ℕ) (old : List ℕ) (s : meaning.State) (op : Op) (w : ℕ) (stack : List ℕ) → Here g l next old s → slice_get (code g l).ops next ≡ Some op → length stack < (code g l).stack → ((scratch : ℕ) → act (image g) g.settings (code g l) op (frame g l next scratch old s) (standing g l next scratch old s) ≡ push (code g l) w stack (frame g l next scratch old s) (standing g l next scratch old s)) → Here g l (next + 1) (w ∷ stack) s
 pushes g l next old s op w stack here at room is = pushes_in g l next old s op w stack s.world here.kept.world here at room is
 
 -- an instruction ends the run
-pub ended : (g : Execution) (l : Layout g) (next : ℕ) (old : List ℕ) (s : meaning.State) (op : Op) (ending : Ending) (t : meaning.State) → Here g l next old s → slice_get (code g l).ops next ≡ Some op → KeptBlocks g t.blocks → ((w : ℕ) → act (image g) g.settings (code g l) op (frame g l next w old s.locals) (standing g l next w old s) ≡ Over ending (state g (Runs (frame g l next w old s.locals)) l.callers t)) → Finishes g ending t
+pub ended : (g : Execution) (l : Layout g) (next : ℕ) (old : List ℕ) (s : meaning.State) (op : Op) (ending : Ending) (t : meaning.State) → Here g l next old s → slice_get (code g l).ops next ≡ Some op → KeptBlocks g t.blocks → ((w : ℕ) → act (image g) g.settings (code g l) op (frame g l next w old s) (standing g l next w old s) ≡ Over ending (state g (Runs (frame g l next w old s)) l.callers t)) → Finishes g ending t
 ended g l next old s op ending t here at kept over =
-    last_move g _ _ ending t here.reached (fetched g l next here.scratch old s op at ∙ over here.scratch) (same_end g (Runs (frame g l next here.scratch old s.locals)) l.callers t kept)
+    last_move g _ _ ending t here.reached (fetched g l next here.scratch old s op at ∙ over here.scratch) (same_end g (Runs (frame g l next here.scratch old s)) l.callers t kept)
 
 -- a value's word is on the stack
 abbrev pub Arrives : (g : Execution) → Layout g → ℕ → List ℕ → Value → meaning.State → Type 0
-Arrives g l next stack v s = Here g l next (word_of g v ∷ stack) s × IsKept g v
+Arrives g l next stack v s = Here g l next (word_of g s v ∷ stack) s × IsKept s v
 
 abbrev pub Evaluates : (g : Execution) → Layout g → ℕ → List ℕ → Result Value → Type 0
 Evaluates g l next stack o = Leads (Arrives g l next stack) (Finishes g) o
@@ -199,3 +205,52 @@ here_at g l m n stack s e h = subst (λ k. Here g l k stack s) e h
 
 pub evaluates_at : (g : Execution) (l : Layout g) (m n : ℕ) (stack : List ℕ) (o : Result Value) → m ≡ n → Evaluates g l m stack o → Evaluates g l n stack o
 evaluates_at g l m n stack o e h = subst (λ k. Evaluates g l k stack o) e h
+
+-- ---- blocks that are added on the way
+
+-- the same call, from a state on
+abbrev pub from : (g : Execution) → Layout g → meaning.State → Layout g
+from g l s = record l { since = shapes s.blocks }
+
+pub here_from : (g : Execution) (l : Layout g) (next : ℕ) (stack : List ℕ) (s : meaning.State) → Here g l next stack s → Here g (from g l s) next stack s
+here_from g l next stack s here =
+    let k = here.kept in
+    record {
+      scratch = here.scratch;
+      holds = here.holds;
+      kept = record { count = k.count; depth = k.depth; locals = k.locals; blocks = k.blocks; grows = grows_none (shapes s.blocks); world = k.world };
+      reached = here.reached;
+    }
+
+-- a place that is reached from there is reached
+pub here_on : (g : Execution) (l : Layout g) (next : ℕ) (stack : List ℕ) (s t : meaning.State) → Grows l.since (shapes s.blocks) → Here g (from g l s) next stack t → Here g l next stack t
+here_on g l next stack s t grows here =
+    let k = here.kept in
+    record {
+      scratch = here.scratch;
+      holds = here.holds;
+      kept = record { count = k.count; depth = k.depth; locals = k.locals; blocks = k.blocks; grows = grows_on l.since (shapes s.blocks) (shapes t.blocks) grows k.grows; world = k.world };
+      reached = here.reached;
+    }
+
+-- a value whose word lies below that of another one is still there, and so are both words
+pub record Both (g : Execution) (l : Layout g) (next : ℕ) (stack : List ℕ) (v w : Value) (t : meaning.State) : Type 0 where
+  pub here : Here g l next (word_of g t w ∷ (word_of g t v ∷ stack)) t
+  pub below : IsKept t v
+  pub top : IsKept t w
+
+pub both : (g : Execution) (l : Layout g) (next : ℕ) (stack : List ℕ) (v w : Value) (s t : meaning.State) → Grows l.since (shapes s.blocks) → IsKept s v → Arrives g (from g l s) next (word_of g s v ∷ stack) w t → Both g l next stack v w t
+both g l next stack v w s t grows kept x =
+    let added = x.0.kept.grows in
+    let same = word_grows g.settings.base (shapes s.blocks) (shapes t.blocks) v added kept in
+    record {
+      here = subst (λ u. Here g l next (word_of g t w ∷ (u ∷ stack)) t) (sym same) (here_on g l next (word_of g t w ∷ (word_of g s v ∷ stack)) s t grows x.0);
+      below = kept_grows (shapes s.blocks) (shapes t.blocks) v added kept;
+      top = x.1;
+    }
+
+-- the frame of a call that waits has the words of its locals
+pub frame_grows : (g : Execution) (l : Layout g) (next scratch : ℕ) (stack : List ℕ) (s t : meaning.State) → Grows (shapes s.blocks) (shapes t.blocks) → AreKeptBy (shapes s.blocks) s.locals → t.locals ≡ s.locals → frame g l next scratch stack s ≡ frame g l next scratch stack t
+frame_grows g l next scratch stack s t grows kept same =
+    ap (λ slots. record { function = l.number; next = next; slots = slots ++ scratch ∷ []; stack = stack })
+    (sym (slots_grow g (shapes s.blocks) (shapes t.blocks) s.locals grows kept) ∙ ap (slots_by g (shapes t.blocks)) (sym same))

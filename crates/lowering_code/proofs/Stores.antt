@@ -3,15 +3,18 @@ use Rattle.std.proofs.Common.{◌≡◌, ℕ, zero, suc, ◌+◌, ◌-◌, ◌<�
 use Rattle.std.specs.Prelude.{slice_get, slice_set, nat_lt, ◌&&◌}
 use Rattle.std.specs.List.{AllByRecursion}
 use Rattle.std.proofs.lemmas.List.{length-map}
+use Rattle.std.proofs.lemmas.Bool.{and_parts}
 use Rattle.std.proofs.lemmas.Bool.Decides.{nat_tests}
+use Rattle.flat_bytes.specs.Blocks.{first_offset}
 use Rattle.flat_bytes.specs.Words.{with_word}
 use Rattle.pointer_modes.specs.Types.{CType, Int, Char, Struct, Pointer}
 use Rattle.ckc_core.specs.declared.program.Site.{Site}
-use Rattle.ckc_core.specs.States.{Value, Number, Null, At, Cell, Block, cell_at, with_cell, same_type, has_type}
+use Rattle.ckc_core.specs.States.{Value, Number, Null, At, Cell, Block, Shape, Local, Grows, strides, shape, shapes, cell_at, same_type, has_type}
 use Rattle.ckc_core.specs.States as meaning
-use Rattle.ckc_core.specs.Meaning.{store_if, store_over, store_at, set_local_if, set_local, is_char, place_through, kept_if}
+use Rattle.ckc_core.specs.Meaning.{store_if, store_over, store_at, leaves_zero, set_over, set_local, is_char, place_through, kept_if}
+use Rattle.ckc_core.specs.Meaning as meanings
 use Rattle.ckc_core.specs.Outcome.{and_then}
-use Rattle.code_words.specs.Table.{State, Step, Goes, Over, act, store, stored, push_some, set_if}
+use Rattle.code_words.specs.Table.{Runs, Goes, act, store, push_some, set_if}
 use Rattle.code_words.specs.Table as table
 use Rattle.code_words.specs.declared.op.Op.TheVariants as ops
 use Rattle.lowering_code.specs.Code.{Places, store_code, through_code, byte_code, byte_size, offset_size}
@@ -19,14 +22,14 @@ use Rattle.lowering_code.specs.Code as codes
 use Rattle.ckc_core.specs.Stacks.{offset_stack}
 use Rattle.ckc_core.proofs.Elements.{of_element}
 use Rattle.lowering_code.specs.Correct.{width_if}
-use Rattle.lowering_code.proofs.Shapes.{strides}
+use Rattle.lowering_code.proofs.Shapes.{end_from, IsKeptBy, grows_none, grows_on, kept_grows, word_grows}
 use Rattle.lowering_code.proofs.Bytes.{with_word_behind, word_written}
-use Rattle.lowering_code.proofs.Memory.{value_bytes}
-use Rattle.lowering_code.proofs.Executions.{Execution, image, rows, word_of, memory, IsKept, KeptCell, KeptBlocks}
-use Rattle.lowering_code.proofs.Steps.{HasAt, has_front, has_back, leads_on, Finishes, Layout, Holds, code, frame, standing, Kept, Here, moved, one_move, fetched, here_at, Arrives, Evaluates}
+use Rattle.lowering_code.proofs.Memory.{with_cell, value_bytes}
+use Rattle.lowering_code.proofs.Executions.{Execution, image, variables, word_of, memory_by, memory, state_by, IsKept, AreKeptBy, KeptCell, KeptCells, KeptBlocks}
+use Rattle.lowering_code.proofs.Steps.{HasAt, has_front, has_back, leads_on, Finishes, Layout, Holds, code, frame_by, frame, standing, Kept, Here, moved, one_move, fetched, here_at, Arrives, Evaluates}
 use Rattle.lowering_code.proofs.Sizes.{length_offset}
-use Rattle.lowering_code.proofs.Expressions.{low_byte_runs}
-use Rattle.lowering_code.proofs.Places.{address_of, cell_of_block, Placed, through_runs, seam, seam_inside, typed_small, same_char}
+use Rattle.lowering_code.proofs.Expressions.{index_below, low_byte_runs}
+use Rattle.lowering_code.proofs.Places.{Found, cell_found, stored_is, Placed, through_runs, seam, seam_inside, typed_small, same_char}
 use Rattle.lowering_code.proofs.Calls.{FlowsTo, Affects, ArePlaces}
 
 -- ---- lists
@@ -62,14 +65,6 @@ map_set f (x ∷ xs) (suc i) old new h e = ap (λ l. f x ∷ l) (map_set f xs i 
 
 -- ---- types
 
-and_left : (a b : Bool) → (a && b) ≡ true → a ≡ true
-and_left true b h = refl
-and_left false b h = absurd (cc)
-
-and_right : (a b : Bool) → (a && b) ≡ true → b ≡ true
-and_right true b h = h
-and_right false b h = absurd (cc)
-
 same_typed : (a b : CType) (v : Value) → same_type a b ≡ true → has_type a v ≡ true → has_type b v ≡ true
 same_typed Int Int v h t = t
 same_typed Int Char v h t = absurd (cc)
@@ -87,156 +82,204 @@ same_typed (Pointer m k e) (Pointer m' k' e') (Number z) h t = absurd (cc)
 same_typed (Pointer m k e) (Pointer m' k' e') Null h t = refl
 same_typed (Pointer m k e) (Pointer m' k' e') (At block cell) h t = refl
 
--- the blocks after a write to a cell
-blocks_set : (blocks : List Block) (block cell : ℕ) (c : Cell) (cells : Block) → slice_get blocks block ≡ Some cells → with_cell blocks block cell c ≡ slice_set blocks block (slice_set cells cell c)
-blocks_set blocks block cell c cells h = rw h refl
+-- ---- blocks with another value in a cell
 
-module _ (g : Execution) where
-  -- blocks in which a cell keeps another value of its type
-  kept_set : (blocks : List Block) (block cell : ℕ) (cells : Block) (c : Cell) (v : Value) → KeptBlocks g blocks → slice_get blocks block ≡ Some cells → slice_get cells cell ≡ Some c → has_type c.type v ≡ true → IsKept g v → KeptBlocks g (slice_set blocks block (slice_set cells cell (record c { value = v })))
-  kept_set blocks block cell cells c v kept there h typed value =
-      let row = of_element (AllByRecursion (KeptCell g)) blocks block cells kept.cells there in
-      let old = of_element (KeptCell g) cells cell c row h in
-      let new : KeptCell g (record c { value = v }) = record { room = old.room; typed = typed; value = value } in
-      record {
-        shape = map_set strides blocks block cells (slice_set cells cell (record c { value = v })) there (map_set (λ (x : Cell). x.stride) cells cell c (record c { value = v }) h refl) ∙ kept.shape;
-        cells = all_set (AllByRecursion (KeptCell g)) blocks block (slice_set cells cell (record c { value = v })) kept.cells (all_set (KeptCell g) cells cell (record c { value = v }) row new);
-      }
+abbrev shaped : List CType → List ℕ → Bool → Shape
+shaped types strides zero_ended = record { types = types; strides = strides; zero_ended = zero_ended }
+
+-- the block keeps its shape
+shape_set : (b : Block) (number : ℕ) (c : Cell) (v : Value) → slice_get b.cells number ≡ Some c → shape (with_cell b number c v) ≡ shape b
+shape_set b number c v h =
+    let new : Cell = record c { value = v } in
+    ap (λ types. shaped types (strides (slice_set b.cells number new)) b.zero_ended) (map_set (λ (x : Cell). x.type) b.cells number c new h refl)
+    ∙ ap (λ row. shaped (map (λ (x : Cell). x.type) b.cells) row b.zero_ended) (map_set (λ (x : Cell). x.stride) b.cells number c new h refl)
+
+-- and all blocks keep theirs
+shapes_stored : (blocks : List Block) (block byte : ℕ) (c : Cell) (v : Value) → Found blocks block byte c → shapes (meaning.stored blocks block byte v) ≡ shapes blocks
+shapes_stored blocks block byte c v f =
+    ap shapes (stored_is blocks block byte c v f) ∙ map_set shape blocks block f.holder (with_cell f.holder f.number c v) f.there (shape_set f.holder f.number c v f.is)
+
+-- the value is one of the cell's type
+kept_stored : (g : Execution) (blocks : List Block) (block byte : ℕ) (c : Cell) (v : Value) → KeptBlocks g blocks → Found blocks block byte c → has_type c.type v ≡ true → IsKeptBy (shapes blocks) v → KeptBlocks g (meaning.stored blocks block byte v)
+kept_stored g blocks block byte c v kept f typed value =
+    let all = shapes blocks in
+    let after = meaning.stored blocks block byte v in
+    let same = shapes_stored blocks block byte c v f in
+    let row = of_element (KeptCells all) blocks block f.holder kept.cells f.there in
+    let old = of_element (KeptCell all) f.holder.cells f.number c row f.is in
+    let new : KeptCell all (record c { value = v }) = record { room = old.room; typed = typed; value = value } in
+    let cells = all_set (KeptCells all) blocks block (with_cell f.holder f.number c v) kept.cells (all_set (KeptCell all) f.holder.cells f.number (record c { value = v }) row new) in
+    record {
+      cells = subst (λ a. AllByRecursion (KeptCells a) after) (sym same) (subst (AllByRecursion (KeptCells all)) (sym (stored_is blocks block byte c v f)) cells);
+      fits = subst (λ a. end_from first_offset a ≤ g.settings.trusted) (sym same) kept.fits;
+      grows = subst (Grows (variables g)) (sym same) kept.grows;
+      only = ap length (stored_is blocks block byte c v f) ∙ length_set blocks block (with_cell f.holder f.number c v) ∙ kept.only;
+    }
 
 module _ (g : Execution) (l : Layout g) where
   -- ---- stores
 
-  store_act : (char : Bool) (next scratch a w : ℕ) (stack : List ℕ) (s : meaning.State) → act (image g) g.settings (code g l) (codes.store_if char) (frame g l next scratch (w ∷ (a ∷ stack)) s.locals) (standing g l next scratch (w ∷ (a ∷ stack)) s) ≡ store (width_if char) a w stack (frame g l next scratch (w ∷ (a ∷ stack)) s.locals) (standing g l next scratch (w ∷ (a ∷ stack)) s)
+  store_act : (char : Bool) (next scratch a w : ℕ) (stack : List ℕ) (s : meaning.State) → act (image g) g.settings (code g l) (codes.store_if char) (frame g l next scratch (w ∷ (a ∷ stack)) s) (standing g l next scratch (w ∷ (a ∷ stack)) s) ≡ store (width_if char) a w stack (frame g l next scratch (w ∷ (a ∷ stack)) s) (standing g l next scratch (w ∷ (a ∷ stack)) s)
   store_act true next scratch a w stack s = refl
   store_act false next scratch a w stack s = refl
 
-  store_typed : (next : ℕ) (stack : List ℕ) (s : meaning.State) (type : CType) (block cell : ℕ) (cells : Block) (c : Cell) (v : Value) → same_type type c.type ≡ true → has_type type v ≡ true → slice_get s.blocks block ≡ Some cells → slice_get cells cell ≡ Some c → IsKept g v → Here g l next (word_of g v ∷ (address_of g block cell ∷ stack)) s → slice_get (code g l).ops next ≡ Some (store_code type) → Here g l (next + 1) stack (record s { blocks = slice_set s.blocks block (slice_set cells cell (record c { value = v })) })
-  store_typed next stack s type block cell cells c v same typed there h value here at =
-      let a = address_of g block cell in
-      let w = word_of g v in
+  store_typed : (next : ℕ) (stack : List ℕ) (s : meaning.State) (type : CType) (block byte : ℕ) (c : Cell) (v : Value) → same_type type c.type ≡ true → has_type type v ≡ true → Found s.blocks block byte c → IsKept s v → Here g l next (word_of g s v ∷ (word_of g s (At block byte) ∷ stack)) s → slice_get (code g l).ops next ≡ Some (store_code type) → Here g l (next + 1) stack (record s { blocks = meaning.stored s.blocks block byte v })
+  store_typed next stack s type block byte c v same typed f value here at =
+      let a = word_of g s (At block byte) in
+      let w = word_of g s v in
+      let all = shapes s.blocks in
       let width = width_if (is_char c.type) in
       let char = same_char g l type c.type same in
-      let sm = seam g l s.blocks block cell cells c here.kept.blocks there h in
-      let new = slice_set s.blocks block (slice_set cells cell (record c { value = v })) in
+      let sm = seam g l s.blocks block byte c here.kept.blocks f in
+      let new = meaning.stored s.blocks block byte v in
+      let shape_is = sym (shapes_stored s.blocks block byte c v f) in
       let typed' = same_typed type c.type v same typed in
       let behind : a - g.settings.base ≡ length sm.pre + 0 = omega (arith, sm.at) in
-      let bytes : with_word width (memory g s.blocks).bytes (a - g.settings.base) w ≡ (memory g new).bytes =
+      let bytes : with_word width (memory g s.blocks).bytes (a - g.settings.base) w ≡ (memory_by g all new).bytes =
       ap (λ n. with_word width (memory g s.blocks).bytes n w) behind
       ∙ ap (λ bytes. with_word width bytes (length sm.pre + 0) w) sm.now
-      ∙ with_word_behind width sm.pre (value_bytes g.settings.base (rows g) c c.value ++ sm.post) 0 w
-      ∙ ap (λ l. sm.pre ++ l) (word_written (is_char c.type) (word_of g c.value) w sm.post (typed_small g l c.type v typed' value))
+      ∙ with_word_behind width sm.pre (value_bytes g.settings.base all c c.value ++ sm.post) 0 w
+      ∙ ap (λ l. sm.pre ++ l) (word_written (is_char c.type) (word_of g s c.value) w sm.post (typed_small g l s c.type v here.kept.blocks typed' value))
       ∙ sym (sm.new v) in
-      let kept : Kept g l (record s { blocks = new }) = record { count = here.kept.count; depth = here.kept.depth; locals = here.kept.locals; blocks = kept_set g s.blocks block cell cells c v here.kept.blocks there h typed' value; world = here.kept.world } in
+      let kept : Kept g l (record s { blocks = new }) = record {
+        count = here.kept.count;
+        depth = here.kept.depth;
+        locals = subst (λ a. AreKeptBy a s.locals) shape_is here.kept.locals;
+        blocks = kept_stored g s.blocks block byte c v here.kept.blocks f typed' value;
+        grows = subst (Grows l.since) shape_is here.kept.grows;
+        world = here.kept.world;
+      } in
       moved g l next (w ∷ (a ∷ stack)) s (store_code type) (next + 1) stack (record s { blocks = new }) here at kept
       (λ scratch.
-      let f = frame g l next scratch (w ∷ (a ∷ stack)) s.locals in
+      let fr = frame g l next scratch (w ∷ (a ∷ stack)) s in
       let t = standing g l next scratch (w ∷ (a ∷ stack)) s in
       store_act (is_char type) next scratch a w stack s
-      ∙ ap (λ b. store (width_if b) a w stack f t) char
-      ∙ ap (λ yes. table.store_if yes width a w stack f t) (seam_inside g l s.blocks block cell cells c sm)
-      ∙ ap (λ bytes. table.on_with f stack (record t { memory = record t.memory { bytes = bytes } })) bytes)
+      ∙ ap (λ b. store (width_if b) a w stack fr t) char
+      ∙ ap (λ yes. table.store_if yes width a w stack fr t) (seam_inside g l s.blocks block byte c sm)
+      ∙ ap (λ bytes. table.on_with fr stack (record t { memory = record t.memory { bytes = bytes } })) bytes
+      ∙ ap (λ a. Goes (state_by g a (Runs (frame_by g l a (next + 1) scratch stack s.locals)) l.callers new s.world)) shape_is)
 
-  store_by : (next : ℕ) (s : meaning.State) (p : Places) (type : CType) (block cell : ℕ) (cells : Block) (c : Cell) (v : Value) (fits : Bool) → (same_type type c.type && has_type type v) ≡ fits → slice_get s.blocks block ≡ Some cells → slice_get cells cell ≡ Some c → IsKept g v → Here g l next (word_of g v ∷ (address_of g block cell ∷ [])) s → slice_get (code g l).ops next ≡ Some (store_code type) → Affects g l p (next + 1) (store_if fits (record c { value = v }) block cell s)
-  store_by next s p type block cell cells c v false test there h value here at = tt
-  store_by next s p type block cell cells c v true test there h value here at =
-      subst (λ blocks. Here g l (next + 1) [] (record s { blocks = blocks })) (sym (blocks_set s.blocks block cell (record c { value = v }) cells there))
-      (store_typed next [] s type block cell cells c v (and_left (same_type type c.type) (has_type type v) test) (and_right (same_type type c.type) (has_type type v) test) there h value here at)
+  store_by : (next : ℕ) (s : meaning.State) (p : Places) (type : CType) (site : Option Site) (block byte : ℕ) (c : Cell) (v : Value) (rest fits : Bool) → (same_type type c.type && (has_type type v && rest)) ≡ fits → Found s.blocks block byte c → IsKept s v → Here g l next (word_of g s v ∷ (word_of g s (At block byte) ∷ [])) s → slice_get (code g l).ops next ≡ Some (store_code type) → Affects g l p (next + 1) (store_if fits site block byte v s)
+  store_by next s p type site block byte c v rest false test f value here at = tt
+  store_by next s p type site block byte c v rest true test f value here at =
+      let both = and_parts (same_type type c.type) (has_type type v && rest) test in
+      store_typed next [] s type block byte c v both.0 (and_parts (has_type type v) rest both.1).0 f value here at
 
-  store_found : (next : ℕ) (s : meaning.State) (p : Places) (type : CType) (block cell : ℕ) (o : Option Cell) (v : Value) → cell_at s.blocks block cell ≡ o → IsKept g v → Here g l next (word_of g v ∷ (address_of g block cell ∷ [])) s → slice_get (code g l).ops next ≡ Some (store_code type) → Affects g l p (next + 1) (store_over o type v block cell s)
-  store_found next s p type block cell None v h value here at = tt
-  store_found next s p type block cell (Some c) v h value here at =
-      let found = cell_of_block (slice_get s.blocks block) cell c h in
-      store_by next s p type block cell found.0 c v (same_type type c.type && has_type type v) refl found.1 found.2 value here at
+  store_found : (next : ℕ) (s : meaning.State) (p : Places) (type : CType) (site : Option Site) (block byte : ℕ) (o : Option Cell) (v : Value) → cell_at s.blocks block byte ≡ o → IsKept s v → Here g l next (word_of g s v ∷ (word_of g s (At block byte) ∷ [])) s → slice_get (code g l).ops next ≡ Some (store_code type) → Affects g l p (next + 1) (store_over o type site v block byte s)
+  store_found next s p type site block byte None v h value here at = tt
+  store_found next s p type site block byte (Some c) v h value here at =
+      let rest = leaves_zero (slice_get s.blocks block) byte v in
+      store_by next s p type site block byte c v rest (same_type type c.type && (has_type type v && rest)) refl (cell_found s.blocks block byte c h) value here at
 
   -- a value is put into a cell, whose address lies on the stack
-  pub store_runs : (next : ℕ) (s : meaning.State) (p : Places) (type : CType) (at_cell : ℕ × ℕ) (v : Value) → IsKept g v → Here g l next (word_of g v ∷ (address_of g at_cell.0 at_cell.1 ∷ [])) s → slice_get (code g l).ops next ≡ Some (store_code type) → Affects g l p (next + 1) (store_at type at_cell v s)
-  store_runs next s p type at_cell v value here at = store_found next s p type at_cell.0 at_cell.1 (cell_at s.blocks at_cell.0 at_cell.1) v refl value here at
+  pub store_runs : (next : ℕ) (s : meaning.State) (p : Places) (type : CType) (site : Option Site) (place : ℕ × ℕ) (v : Value) → IsKept s v → Here g l next (word_of g s v ∷ (word_of g s (At place.0 place.1) ∷ [])) s → slice_get (code g l).ops next ≡ Some (store_code type) → Affects g l p (next + 1) (store_at type site place v s)
+  store_runs next s p type site place v value here at = store_found next s p type site place.0 place.1 (cell_at s.blocks place.0 place.1) v refl value here at
 
   -- ---- local variables
 
-  set_by : (next : ℕ) (s : meaning.State) (p : Places) (k : ℕ) (v : Value) (low : Bool) → nat_lt k (length s.locals) ≡ low → IsKept g v → Here g l next (word_of g v ∷ []) s → slice_get (code g l).ops next ≡ Some (ops.Set k) → Affects g l p (next + 1) (set_local_if low k v s)
-  set_by next s p k v false test value here at = tt
-  set_by next s p k v true test value here at =
-      let low : k < length s.locals = grind (arith, nat_tests) in
-      let t = record s { locals = slice_set s.locals k v } in
-      let kept : Kept g l t = record { count = length_set s.locals k v ∙ here.kept.count; depth = here.kept.depth; locals = all_set (IsKept g) s.locals k v here.kept.locals value; blocks = here.kept.blocks; world = here.kept.world } in
-      moved g l next (word_of g v ∷ []) s (ops.Set k) (next + 1) [] t here at kept
-      (λ scratch.
-      let slots = map (word_of g) s.locals ++ scratch ∷ [] in
-      let long = length-append (map (word_of g) s.locals) (scratch ∷ []) in
-      let many = length-map s.locals (word_of g) in
-      let room : nat_lt k (length slots) ≡ true = grind (arith, nat_tests) in
-      let f = frame g l next scratch (word_of g v ∷ []) s.locals in
-      let u = standing g l next scratch (word_of g v ∷ []) s in
-      ap (λ yes. set_if yes k (word_of g v) [] f u) room
-      ∙ ap (λ slots. table.on_with (record f { slots = slots }) [] u) (mapped_set (word_of g) s.locals (scratch ∷ []) k v low))
+  abbrev slot : meaning.State → Local → ℕ
+  slot s x = word_of g s x.value
 
-  pub set_runs : (next : ℕ) (s : meaning.State) (p : Places) (k : ℕ) (v : Value) → IsKept g v → Here g l next (word_of g v ∷ []) s → slice_get (code g l).ops next ≡ Some (ops.Set k) → Affects g l p (next + 1) (set_local k v s)
-  set_runs next s p k v value here at = set_by next s p k v (nat_lt k (length s.locals)) refl value here at
+  set_by : (next : ℕ) (s : meaning.State) (p : Places) (k : ℕ) (old : Local) (v : Value) (fits : Bool) → slice_get s.locals k ≡ Some old → IsKept s v → Here g l next (word_of g s v ∷ []) s → slice_get (code g l).ops next ≡ Some (ops.Set k) → Affects g l p (next + 1) (meanings.set_if fits old k v s)
+  set_by next s p k old v false there value here at = tt
+  set_by next s p k old v true there value here at =
+      let low = index_below s.locals k old there in
+      let new : Local = record old { value = v } in
+      let t = record s { locals = slice_set s.locals k new } in
+      let kept : Kept g l t = record {
+        count = length_set s.locals k new ∙ here.kept.count;
+        depth = here.kept.depth;
+        locals = all_set (λ (x : Local). IsKept s x.value) s.locals k new here.kept.locals value;
+        blocks = here.kept.blocks;
+        grows = here.kept.grows;
+        world = here.kept.world;
+      } in
+      moved g l next (word_of g s v ∷ []) s (ops.Set k) (next + 1) [] t here at kept
+      (λ scratch.
+      let slots = map (slot s) s.locals ++ scratch ∷ [] in
+      let long = length-append (map (slot s) s.locals) (scratch ∷ []) in
+      let many = length-map s.locals (slot s) in
+      let room : nat_lt k (length slots) ≡ true = grind (arith, nat_tests) in
+      let fr = frame g l next scratch (word_of g s v ∷ []) s in
+      let u = standing g l next scratch (word_of g s v ∷ []) s in
+      ap (λ yes. set_if yes k (word_of g s v) [] fr u) room
+      ∙ ap (λ slots. table.on_with (record fr { slots = slots }) [] u) (mapped_set (slot s) s.locals (scratch ∷ []) k new low))
+
+  set_found : (next : ℕ) (s : meaning.State) (p : Places) (k : ℕ) (o : Option Local) (v : Value) → slice_get s.locals k ≡ o → IsKept s v → Here g l next (word_of g s v ∷ []) s → slice_get (code g l).ops next ≡ Some (ops.Set k) → Affects g l p (next + 1) (set_over o k v s)
+  set_found next s p k None v there value here at = tt
+  set_found next s p k (Some old) v there value here at = set_by next s p k old v (has_type old.type v) there value here at
+
+  pub set_runs : (next : ℕ) (s : meaning.State) (p : Places) (k : ℕ) (v : Value) → IsKept s v → Here g l next (word_of g s v ∷ []) s → slice_get (code g l).ops next ≡ Some (ops.Set k) → Affects g l p (next + 1) (set_local k v s)
+  set_runs next s p k v value here at = set_found next s p k (slice_get s.locals k) v refl value here at
 
   -- a value is kept modulo 256, where it has to be
   pub byte_runs : (next : ℕ) (stack : List ℕ) (s : meaning.State) (char : Bool) (v : Value) → Arrives g l next stack v s → HasAt (code g l).ops next (byte_code char) → length stack < (code g l).stack → Evaluates g l (next + byte_size char) stack (kept_if char v s)
   byte_runs next stack s true v x at room = low_byte_runs g l next stack s v x.1 x.0 at.0 room
-  byte_runs next stack s false v x at room = let e : next ≡ next + 0 = omega arith in (here_at g l next (next + 0) (word_of g v ∷ stack) s e x.0, x.1)
+  byte_runs next stack s false v x at room = let e : next ≡ next + 0 = omega arith in (here_at g l next (next + 0) (word_of g s v ∷ stack) s e x.0, x.1)
 
   -- ---- the scratch slot
 
-  -- the same call, whose scratch slot holds a word
-  abbrev pub holding : ℕ → Layout g
-  holding w = record l { held = Some w }
+  -- the same call from a state on, whose scratch slot holds a word
+  abbrev pub holding : ℕ → meaning.State → Layout g
+  holding w s = record l { held = Some w; since = shapes s.blocks }
 
-  scratch_set : (next : ℕ) (stack : List ℕ) (s : meaning.State) (p : Places) (w : ℕ) → p.scratch ≡ length l.function.locals → Here g l next (w ∷ stack) s → slice_get (code g l).ops next ≡ Some (ops.Set p.scratch) → Here g (holding w) (next + 1) stack s
+  scratch_set : (next : ℕ) (stack : List ℕ) (s : meaning.State) (p : Places) (w : ℕ) → p.scratch ≡ length l.function.locals → Here g l next (w ∷ stack) s → slice_get (code g l).ops next ≡ Some (ops.Set p.scratch) → Here g (holding w s) (next + 1) stack s
   scratch_set next stack s p w is here at =
-      let slots = map (word_of g) s.locals ++ here.scratch ∷ [] in
+      let slots = map (slot s) s.locals ++ here.scratch ∷ [] in
       let e : p.scratch ≡ length s.locals = is ∙ sym here.kept.count in
-      let long = length-append (map (word_of g) s.locals) (here.scratch ∷ []) in
-      let many = length-map s.locals (word_of g) in
+      let long = length-append (map (slot s) s.locals) (here.scratch ∷ []) in
+      let many = length-map s.locals (slot s) in
       let room : nat_lt p.scratch (length slots) ≡ true = grind (arith, nat_tests) in
-      let f = frame g l next here.scratch (w ∷ stack) s.locals in
+      let fr = frame g l next here.scratch (w ∷ stack) s in
       let u = standing g l next here.scratch (w ∷ stack) s in
       let k = here.kept in
       record {
         scratch = w;
         holds = refl;
-        kept = record { count = k.count; depth = k.depth; locals = k.locals; blocks = k.blocks; world = k.world };
+        kept = record { count = k.count; depth = k.depth; locals = k.locals; blocks = k.blocks; grows = grows_none (shapes s.blocks); world = k.world };
         reached = one_move g u _ here.reached
             (fetched g l next here.scratch (w ∷ stack) s (ops.Set p.scratch) at
-            ∙ ap (λ yes. set_if yes p.scratch w stack f u) room
-            ∙ ap (λ n. table.on_with (record f { slots = slice_set slots n w }) stack u) e
-            ∙ ap (λ slots. table.on_with (record f { slots = slots }) stack u) (last_set (word_of g) s.locals here.scratch w));
+            ∙ ap (λ yes. set_if yes p.scratch w stack fr u) room
+            ∙ ap (λ n. table.on_with (record fr { slots = slice_set slots n w }) stack u) e
+            ∙ ap (λ slots. table.on_with (record fr { slots = slots }) stack u) (last_set (slot s) s.locals here.scratch w));
       }
 
   -- the scratch slot's word is pushed
-  scratch_pushed : (next : ℕ) (stack : List ℕ) (s : meaning.State) (p : Places) (w : ℕ) → ArePlaces g l p → Here g (holding w) next stack s → slice_get (code g l).ops next ≡ Some (ops.Local p.scratch) → length stack < (code g l).stack → Here g l (next + 1) (w ∷ stack) s
-  scratch_pushed next stack s p w places here at room =
-      let slots = map (word_of g) s.locals ++ here.scratch ∷ [] in
-      let e : p.scratch ≡ length s.locals = places.scratch ∙ sym here.kept.count in
-      let f = frame g l next here.scratch stack s.locals in
-      let u = standing g l next here.scratch stack s in
+  scratch_pushed : (next : ℕ) (stack : List ℕ) (s t : meaning.State) (p : Places) (w : ℕ) → ArePlaces g l p → Grows l.since (shapes s.blocks) → Here g (holding w s) next stack t → slice_get (code g l).ops next ≡ Some (ops.Local p.scratch) → length stack < (code g l).stack → Here g l (next + 1) (w ∷ stack) t
+  scratch_pushed next stack s t p w places grows here at room =
+      let slots = map (slot t) t.locals ++ here.scratch ∷ [] in
+      let e : p.scratch ≡ length t.locals = places.scratch ∙ sym here.kept.count in
+      let fr = frame g l next here.scratch stack t in
+      let u = standing g l next here.scratch stack t in
       let k = here.kept in
       let test : nat_lt (length stack) (code g l).stack ≡ true = grind (arith, nat_tests) in
       record {
         scratch = here.scratch;
         holds = subst (λ o. Holds o here.scratch) (sym places.free) tt;
-        kept = record { count = k.count; depth = k.depth; locals = k.locals; blocks = k.blocks; world = k.world };
+        kept = record { count = k.count; depth = k.depth; locals = k.locals; blocks = k.blocks; grows = grows_on l.since (shapes s.blocks) (shapes t.blocks) grows k.grows; world = k.world };
         reached = one_move g u _ here.reached
-            (fetched g l next here.scratch stack s (ops.Local p.scratch) at
-            ∙ ap (λ n. push_some (code g l) (slice_get slots n) stack f u) e
-            ∙ ap (λ o. push_some (code g l) o stack f u) (last_there (word_of g) s.locals here.scratch)
-            ∙ ap (λ x. table.push (code g l) x stack f u) here.holds
-            ∙ ap (λ yes. table.push_if yes w stack f u) test);
+            (fetched g l next here.scratch stack t (ops.Local p.scratch) at
+            ∙ ap (λ n. push_some (code g l) (slice_get slots n) stack fr u) e
+            ∙ ap (λ o. push_some (code g l) o stack fr u) (last_there (slot t) t.locals here.scratch)
+            ∙ ap (λ x. table.push (code g l) x stack fr u) here.holds
+            ∙ ap (λ yes. table.push_if yes w stack fr u) test);
       }
 
   -- a store through a pointer: its value is kept aside while the pointer is checked
-  pub through_store_runs : (next : ℕ) (s : meaning.State) (p : Places) (type : CType) (cell offset : ℕ) (site : Site) (q v : Value) → ArePlaces g l p → IsKept g q → IsKept g v → Here g l next (word_of g v ∷ (word_of g q ∷ [])) s → HasAt (code g l).ops next (ops.Set p.scratch ∷ (through_code offset site ++ (ops.Local p.scratch ∷ (store_code type ∷ [])))) → 2 ≤ (code g l).stack → offset_stack offset ≤ (code g l).stack → Affects g l p (next + (4 + offset_size offset)) (and_then (place_through cell offset site q s) (λ at_cell t. store_at type at_cell v t))
-  through_store_runs next s p type cell offset site q v places hq hv here at two room =
-      let w = word_of g v in
-      let m = holding w in
+  pub through_store_runs : (next : ℕ) (s : meaning.State) (p : Places) (type : CType) (offset : ℕ) (site : Site) (q v : Value) → ArePlaces g l p → IsKept s q → IsKept s v → Here g l next (word_of g s v ∷ (word_of g s q ∷ [])) s → HasAt (code g l).ops next (ops.Set p.scratch ∷ (through_code offset site ++ (ops.Local p.scratch ∷ (store_code type ∷ [])))) → 2 ≤ (code g l).stack → offset_stack offset ≤ (code g l).stack → Affects g l p (next + (4 + offset_size offset)) (and_then (place_through offset site q s) (λ place t. store_at type (Some site) place v t))
+  through_store_runs next s p type offset site q v places hq hv here at two room =
+      let w = word_of g s v in
+      let m = holding w s in
       let last = ops.Local p.scratch ∷ (store_code type ∷ []) in
       let n = next + 1 + (1 + offset_size offset) in
       let back = has_back (code g l).ops (next + 1) (through_code offset site) last (1 + offset_size offset) (omega (arith, length_offset offset)) at.1 in
       let end : n + 1 + 1 ≡ next + (4 + offset_size offset) = omega arith in
-      subst (λ k. Affects g l p k (and_then (place_through cell offset site q s) (λ at_cell t. store_at type at_cell v t))) end
-      (leads_on (Placed g m n []) (FlowsTo g l p (n + 1 + 1)) (Finishes g) (place_through cell offset site q s) (λ at_cell t. store_at type at_cell v t)
-      (through_runs g m (next + 1) [] s cell offset site q hq (scratch_set next (word_of g q ∷ []) s p w places.scratch here at.0) (has_front (code g l).ops (next + 1) (through_code offset site) last at.1) (omega arith))
-      (λ at_cell t x. store_runs (n + 1) t p type at_cell v hv (scratch_pushed n (address_of g at_cell.0 at_cell.1 ∷ []) t p w places x.here back.0 (omega arith)) back.1.0))
+      subst (λ k. Affects g l p k (and_then (place_through offset site q s) (λ place t. store_at type (Some site) place v t))) end
+      (leads_on (Placed g m n []) (FlowsTo g l p (n + 1 + 1)) (Finishes g) (place_through offset site q s) (λ place t. store_at type (Some site) place v t)
+      (through_runs g m (next + 1) [] s offset site q hq (scratch_set next (word_of g s q ∷ []) s p w places.scratch here at.0) (has_front (code g l).ops (next + 1) (through_code offset site) last at.1) (omega arith))
+      (λ place t x.
+      let a = word_of g t (At place.0 place.1) in
+      let added = x.0.kept.grows in
+      let same = sym (word_grows g.settings.base (shapes s.blocks) (shapes t.blocks) v added hv) in
+      let pushed = scratch_pushed n (a ∷ []) s t p w places here.kept.grows x.0 back.0 (omega arith) in
+      store_runs (n + 1) t p type (Some site) place v (kept_grows (shapes s.blocks) (shapes t.blocks) v added hv) (subst (λ u. Here g l (n + 1) (u ∷ (a ∷ [])) t) same pushed) back.1.0))

@@ -18,11 +18,11 @@ use Rattle.act_words.specs.Touches.{Asked, Got, Ended, Crossed, asking, on_from,
 use Rattle.pointer_modes.specs.Types.{CType, Int, Char, Struct, Pointer}
 use Rattle.ckc_core.specs.declared.program.Site.{Site}
 use Rattle.ckc_core.specs.Core as core
-use Rattle.ckc_core.specs.States.{Value, Number, Null, At}
+use Rattle.ckc_core.specs.States.{Value, Number, Null, At, shapes}
 use Rattle.ckc_core.specs.States as meaning
-use Rattle.ckc_core.specs.Meaning.{Result, Knot, words_of, reply_as, passed, crossed, back, cross, cross_if, call_tainted}
+use Rattle.ckc_core.specs.Meaning.{Knot, setting_of, words_of, reply_as, passed, crossed, back, cross, cross_if, call_tainted}
 use Rattle.ckc_core.specs.Meaning as meanings
-use Rattle.code_words.specs.Table.{Frame, Caller, Waits, Passes, Touches, Away, State, Step, Goes, Over, act, pop_words, behind, push_result}
+use Rattle.code_words.specs.Table.{Frame, Caller, Waits, Passes, Touches, Away, State, Step, behind, push_result}
 use Rattle.code_words.specs.Table as table
 use Rattle.code_words.specs.Moves.{move, before_touch_by, in_sandbox_by, reply_to}
 use Rattle.code_words.specs.Moves as moves
@@ -31,9 +31,10 @@ use Rattle.lowering_code.specs.Code.{result_kind}
 use Rattle.code_words.specs.declared.op.Op.TheVariants as ops
 use Rattle.lowering_code.specs.Images.{import_code, imports_from}
 use Rattle.ckc_core.proofs.Numbers.{word-signed, signed_fits}
+use Rattle.lowering_code.proofs.Shapes.{grows_none, grows_on}
 use Rattle.lowering_code.proofs.Worlds.{KeptWorld, HasLeft, BeforeKeeps, SandboxKeeps, act_waits, act_keeps}
-use Rattle.lowering_code.proofs.Executions.{Execution, image, word_of, state, IsKept, KeptBlocks, same_end}
-use Rattle.lowering_code.proofs.Steps.{HasAt, Leads, leads_on, Asks, asks_on, Reached, Finishes, one_move, last_move, Layout, Holds, code, frame, standing, Kept, Here, kept_in, fetched}
+use Rattle.lowering_code.proofs.Executions.{Execution, image, word_of, state, AreKeptBy, KeptBlocks, locals_grow, same_end}
+use Rattle.lowering_code.proofs.Steps.{HasAt, Leads, leads_on, Asks, asks_on, Reached, Finishes, one_move, last_move, Layout, Holds, code, frame, standing, Kept, Here, kept_in, fetched, frame_grows}
 use Rattle.lowering_code.proofs.Expressions.{tick_runs}
 use Rattle.lowering_code.proofs.Calls.{Answered, KnotRuns, piled, piled_words, popped, Resumes, resumed}
 
@@ -85,14 +86,14 @@ module _ (g : Execution) (callers : List Caller) (s : meaning.State) (blocks : K
   abbrev resting : World → State
   resting w = state g Away callers (meaning.in_world w s)
 
-  act_answers : (acts : List Act) (x : InSandbox) (w : World) (next : World → Crossed) → AllByRecursion IsAct acts → SandboxKeeps acts x → Reached g (resting w) → move (image g) g.settings (resting w) ≡ in_sandbox_by (image g) g.settings x (resting w) → ((v : World) → HasLeft acts v → Reached g (resting v) → Leads (Answered g callers) (Finishes g) (crossed (next v) s)) → Leads (Answered g callers) (Finishes g) (crossed (on_keeps x next) s)
+  act_answers : (acts : List Act) (x : InSandbox) (w : World) (next : World → Crossed) → AllByRecursion IsAct acts → SandboxKeeps acts x → Reached g (resting w) → move (image g) g.settings (resting w) ≡ in_sandbox_by (image g) g.settings x (resting w) → ((v : World) → HasLeft acts v → Reached g (resting v) → Leads (Answered g callers (shapes s.blocks)) (Finishes g) (crossed (next v) s)) → Leads (Answered g callers (shapes s.blocks)) (Finishes g) (crossed (on_keeps x next) s)
   act_answers acts (InSandbox.Keeps v) w next all left reached goes more = more v left (one_move g (resting w) (resting v) reached goes)
   act_answers acts (InSandbox.Answers reply v) w next all left reached goes more =
-      record { is_word = left.0; blocks = blocks; world = kept_world acts v all left.1; before = meaning.in_world w s; reached = reached; answers = goes }
+      record { is_word = left.0; blocks = blocks; grows = grows_none (shapes s.blocks); world = kept_world acts v all left.1; before = meaning.in_world w s; reached = reached; answers = goes }
   act_answers acts (InSandbox.Calls fun args v) w next all left reached goes more = last_move g (resting w) (resting v) _ (meaning.in_world v s) reached goes (same_end g Away callers (meaning.in_world v s) blocks)
   act_answers acts (InSandbox.Ends ending v) w next all left reached goes more = last_move g (resting w) (resting v) ending (meaning.in_world v s) reached goes (same_end g Away callers (meaning.in_world v s) blocks)
 
-  pub sandbox_runs : (acts : List Act) (w : World) → AllByRecursion IsAct acts → HasLeft acts w → Reached g (resting w) → Leads (Answered g callers) (Finishes g) (crossed (until_return acts w) s)
+  pub sandbox_runs : (acts : List Act) (w : World) → AllByRecursion IsAct acts → HasLeft acts w → Reached g (resting w) → Leads (Answered g callers (shapes s.blocks)) (Finishes g) (crossed (until_return acts w) s)
   sandbox_runs [] w all left reached =
       let v = telling (NoAct turns.Sandbox ∷ []) w in
       last_move g (resting w) (resting v) sandbox_ended (meaning.in_world v s) reached (ap (λ acts. moves.in_sandbox (image g) g.settings acts (resting w)) left.left) (same_end g Away callers (meaning.in_world v s) blocks)
@@ -113,42 +114,42 @@ behind_first w None words h = absurd (cc)
 behind_first w (Some rest) words h = (rest, refl, cc)
 
 -- the words of numbers are those of the values
-passed_words : (g : Execution) (vs : List Value) (words : List ℕ) → words_of vs ≡ Some words → map (word_of g) vs ≡ words
-passed_words g [] words h = cc
-passed_words g (Number z ∷ vs) words h =
+passed_words : (g : Execution) (s : meaning.State) (vs : List Value) (words : List ℕ) → words_of vs ≡ Some words → map (word_of g s) vs ≡ words
+passed_words g s [] words h = cc
+passed_words g s (Number z ∷ vs) words h =
     let found = behind_first (word z) (words_of vs) words h in
-    ap (λ l. word z ∷ l) (passed_words g vs found.0 found.1) ∙ found.2
-passed_words g (Null ∷ vs) words h = absurd (cc)
-passed_words g (At block cell ∷ vs) words h = absurd (cc)
+    ap (λ l. word z ∷ l) (passed_words g s vs found.0 found.1) ∙ found.2
+passed_words g s (Null ∷ vs) words h = absurd (cc)
+passed_words g s (At block byte ∷ vs) words h = absurd (cc)
 
 module _ (g : Execution) (l : Layout g) where
   -- the move that takes a reply
   abbrev replies : ℕ → ℕ → List ℕ → meaning.State → Option CType → Place → ℕ → Step
-  replies next scratch stack s result place reply = moves.reply_if (fits_kind (result_kind result) reply) (image g) (frame g l next scratch stack s.locals) place (result_kind result) reply (state g Away l.callers s)
+  replies next scratch stack s result place reply = moves.reply_if (fits_kind (result_kind result) reply) (image g) (frame g l next scratch stack s) place (result_kind result) reply (state g Away l.callers s)
 
   -- a reply is a number of the result's type, or breaks off
   reply_runs : (result : Option CType) (next scratch : ℕ) (stack : List ℕ) (s : meaning.State) (site : Site) (reply : ℕ) (u : State) → IsWord reply → Holds l.held scratch → Kept g l s → length stack < (code g l).stack → Reached g u → move (image g) g.settings u ≡ replies next scratch stack s result site.place reply → Leads (Resumes g l next stack) (Finishes g) (reply_as result site reply s)
   reply_runs None next scratch stack s site reply u is holds kept room reached moves_on = resumed g l next scratch stack None s u (state g Away l.callers s) holds kept tt room refl reached moves_on
   reply_runs (Some Int) next scratch stack s site reply u is holds kept room reached moves_on =
       resumed g l next scratch stack (Some (Number (signed reply))) s u (state g Away l.callers s) holds kept (signed_fits reply is) room refl reached
-      (moves_on ∙ ap (λ w. push_result (slice_get (image g).trusted.funs l.number) (Some w) (frame g l next scratch stack s.locals) (state g Away l.callers s)) (sym (word-signed reply is)))
+      (moves_on ∙ ap (λ w. push_result (slice_get (image g).trusted.funs l.number) (Some w) (frame g l next scratch stack s) (state g Away l.callers s)) (sym (word-signed reply is)))
   reply_runs (Some Char) next scratch stack s site reply u is holds kept room reached moves_on = char_runs (nat_lt reply 256) refl
     where
       char_runs : (low : Bool) → nat_lt reply 256 ≡ low → Leads (Resumes g l next stack) (Finishes g) (reply_as (Some Char) site reply s)
       char_runs true test =
           rw test
           (resumed g l next scratch stack (Some (Number (signed reply))) s u (state g Away l.callers s) holds kept (signed_fits reply is) room refl reached
-          (moves_on ∙ ap (λ yes. moves.reply_if yes (image g) (frame g l next scratch stack s.locals) site.place (result_kind (Some Char)) reply (state g Away l.callers s)) test ∙ ap (λ w. push_result (slice_get (image g).trusted.funs l.number) (Some w) (frame g l next scratch stack s.locals) (state g Away l.callers s)) (sym (word-signed reply is))))
+          (moves_on ∙ ap (λ yes. moves.reply_if yes (image g) (frame g l next scratch stack s) site.place (result_kind (Some Char)) reply (state g Away l.callers s)) test ∙ ap (λ w. push_result (slice_get (image g).trusted.funs l.number) (Some w) (frame g l next scratch stack s) (state g Away l.callers s)) (sym (word-signed reply is))))
       char_runs false test =
           rw test
           (last_move g u (state g Away l.callers s) (Check C9 site.place) s reached
-          (moves_on ∙ ap (λ yes. moves.reply_if yes (image g) (frame g l next scratch stack s.locals) site.place (result_kind (Some Char)) reply (state g Away l.callers s)) test) (same_end g Away l.callers s kept.blocks))
+          (moves_on ∙ ap (λ yes. moves.reply_if yes (image g) (frame g l next scratch stack s) site.place (result_kind (Some Char)) reply (state g Away l.callers s)) test) (same_end g Away l.callers s kept.blocks))
   reply_runs (Some (Struct number)) next scratch stack s site reply u is holds kept room reached moves_on = tt
   reply_runs (Some (Pointer mode kind target)) next scratch stack s site reply u is holds kept room reached moves_on = tt
 
-  call_moves : (next scratch : ℕ) (stack words : List ℕ) (s : meaning.State) (k : ℕ) (place : Place) (i : core.Import) (few : Bool) → nat_lt s.depth 1000 ≡ few → slice_get g.program.imports k ≡ Some i → i.parameters ≡ length words → Kept g l s → slice_get (code g l).ops next ≡ Some (ops.TaintedCall k place) → move (image g) g.settings (standing g l next scratch (reverse words ++ stack) s) ≡ table.asked (entered_if few s.world) (standing g l next scratch (reverse words ++ stack) s) (λ _ u. table.touch_if true (Passes k words place) stack (frame g l next scratch (reverse words ++ stack) s.locals) u)
+  call_moves : (next scratch : ℕ) (stack words : List ℕ) (s : meaning.State) (k : ℕ) (place : Place) (i : core.Import) (few : Bool) → nat_lt s.depth 1000 ≡ few → slice_get g.program.imports k ≡ Some i → i.parameters ≡ length words → Kept g l s → slice_get (code g l).ops next ≡ Some (ops.TaintedCall k place) → move (image g) g.settings (standing g l next scratch (reverse words ++ stack) s) ≡ table.asked (entered_if few s.world) (standing g l next scratch (reverse words ++ stack) s) (λ _ u. table.touch_if true (Passes k words place) stack (frame g l next scratch (reverse words ++ stack) s) u)
   call_moves next scratch stack words s k place i few test there count kept at =
-      let fr = frame g l next scratch (reverse words ++ stack) s.locals in
+      let fr = frame g l next scratch (reverse words ++ stack) s in
       let t = standing g l next scratch (reverse words ++ stack) s in
       let found = import_there 0 k g.program.imports i there in
       let touches = λ (ws rest : List ℕ). table.asked (enter_call (suc (length l.callers)) s.world) t (λ _ u. table.touch_if true (Passes k ws place) rest fr u) in
@@ -158,28 +159,35 @@ module _ (g : Execution) (l : Layout g) where
       ∙ ap (λ yes. table.asked (entered_if yes s.world) t (λ _ u. table.touch_if true (Passes k words place) stack fr u)) (ap (λ n. nat_lt n 1000) (sym kept.depth) ∙ test)
 
   module _ (m : Knot) (runs : KnotRuns g m) where
-    passed_runs : (next scratch : ℕ) (stack : List ℕ) (s : meaning.State) (k : ℕ) (site : Site) (i : core.Import) → slice_get g.program.imports k ≡ Some i → Holds l.held scratch → Kept g l s → length stack < (code g l).stack → Reached g (state g Away (Waits (frame g l next scratch stack s.locals) k site.place ∷ l.callers) s) → Leads (Resumes g l next stack) (Finishes g) (passed m i site s)
+    passed_runs : (next scratch : ℕ) (stack : List ℕ) (s : meaning.State) (k : ℕ) (site : Site) (i : core.Import) → slice_get g.program.imports k ≡ Some i → Holds l.held scratch → Kept g l s → length stack < (code g l).stack → Reached g (state g Away (Waits (frame g l next scratch stack s) k site.place ∷ l.callers) s) → Leads (Resumes g l next stack) (Finishes g) (passed m i site s)
     passed_runs next scratch stack s k site i there holds kept room reached =
         let inside : meaning.State = record s { depth = s.depth + 1 } in
-        let waits : List Value → List Caller = λ locals. Waits (frame g l next scratch stack locals) k site.place ∷ l.callers in
-        let Back : ℕ → meaning.State → Type 0 = λ reply t. Answered g (waits s.locals) reply t × (t.locals ≡ s.locals) × (t.depth ≡ s.depth) in
+        let waits : List Caller = Waits (frame g l next scratch stack s) k site.place ∷ l.callers in
+        let Back : ℕ → meaning.State → Type 0 = λ reply t. Answered g waits (shapes s.blocks) reply t × (t.locals ≡ s.locals) × (t.depth ≡ s.depth) in
         leads_on Back (Resumes g l next stack) (Finishes g) (and_then (m.sandbox inside) (back s)) (reply_as i.result site)
-        (leads_on (Answered g (waits s.locals)) Back (Finishes g) (m.sandbox inside) (back s) (runs.sandbox (waits s.locals) inside kept.blocks kept.world (omega (arith, kept.depth)) reached)
-        (λ reply t a. (record { is_word = a.is_word; blocks = a.blocks; world = a.world; before = a.before; reached = a.reached; answers = a.answers }, refl, refl)))
+        (leads_on (Answered g waits (shapes s.blocks)) Back (Finishes g) (m.sandbox inside) (back s) (runs.sandbox waits inside kept.blocks kept.world (omega (arith, kept.depth)) reached)
+        (λ reply t a. (record { is_word = a.is_word; blocks = a.blocks; grows = a.grows; world = a.world; before = a.before; reached = a.reached; answers = a.answers }, refl, refl)))
         (λ reply t a.
         let found = import_there 0 k g.program.imports i there in
-        let back_kept : Kept g l t = record { count = ap length a.1 ∙ kept.count; depth = a.2 ∙ kept.depth; locals = subst (AllByRecursion (IsKept g)) (sym a.1) kept.locals; blocks = a.0.blocks; world = a.0.world } in
-        reply_runs i.result next scratch stack t site reply (state g Away (waits s.locals) a.0.before) a.0.is_word holds back_kept room a.0.reached
+        let back_kept : Kept g l t = record {
+          count = ap length a.1 ∙ kept.count;
+          depth = a.2 ∙ kept.depth;
+          locals = subst (AreKeptBy (shapes t.blocks)) (sym a.1) (locals_grow (shapes s.blocks) (shapes t.blocks) s.locals a.0.grows kept.locals);
+          blocks = a.0.blocks;
+          grows = grows_on l.since (shapes s.blocks) (shapes t.blocks) kept.grows a.0.grows;
+          world = a.0.world;
+        } in
+        reply_runs i.result next scratch stack t site reply (state g Away waits a.0.before) a.0.is_word holds back_kept room a.0.reached
         (a.0.answers
-        ∙ ap (λ o. reply_to (image g) (frame g l next scratch stack s.locals) site.place o reply (state g Away l.callers t)) found.1
-        ∙ ap (λ locals. moves.reply_if (fits_kind (result_kind i.result) reply) (image g) (frame g l next scratch stack locals) site.place (result_kind i.result) reply (state g Away l.callers t)) (sym a.1)))
+        ∙ ap (λ o. reply_to (image g) (frame g l next scratch stack s) site.place o reply (state g Away l.callers t)) found.1
+        ∙ ap (λ fr. moves.reply_if (fits_kind (result_kind i.result) reply) (image g) fr site.place (result_kind i.result) reply (state g Away l.callers t)) (frame_grows g l next scratch stack s t a.0.grows kept.locals a.1)))
 
     asks_runs : (next : ℕ) (stack words : List ℕ) (s : meaning.State) (k : ℕ) (site : Site) (i : core.Import) (few : Bool) → nat_lt s.depth 1000 ≡ few → slice_get g.program.imports k ≡ Some i → i.parameters ≡ length words → Here g l next (reverse words ++ stack) s → slice_get (code g l).ops next ≡ Some (ops.TaintedCall k site.place) → length stack < (code g l).stack → Leads (Resumes g l (next + 1) stack) (Finishes g) (meanings.asked (entered_if few s.world) s (λ _ u. meanings.asked (touch (Passed k words) u.world) u (λ _ v. passed m i site v)))
     asks_runs next stack words s k site i false test there count here at room =
         let t = standing g l next here.scratch (reverse words ++ stack) s in
         last_move g t t (Stop S2 None) s here.reached (call_moves next here.scratch stack words s k site.place i false test there count here.kept at) (same_end g t.control l.callers s here.kept.blocks)
     asks_runs next stack words s k site i true test there count here at room =
-        let f = frame g l next here.scratch stack s.locals in
+        let f = frame g l next here.scratch stack s in
         let w = s.world in
         let reached = one_move g (standing g l next here.scratch (reverse words ++ stack) s) (touching g s here.kept.blocks l.callers f k words site.place w) here.reached (call_moves next here.scratch stack words s k site.place i true test there count here.kept at) in
         asks_on (λ _ v. KeptWorld v × Reached g (away g s here.kept.blocks l.callers f k words site.place v)) (Resumes g l (next + 1) stack) (Finishes g) (touch (Passed k words) w) s (λ _ v. passed m i site v)
@@ -188,26 +196,26 @@ module _ (g : Execution) (l : Layout g) where
         (λ u v h. (record { acts = h.kept.acts; inputs = h.kept.inputs }, h.reached)))
         (λ u v h. passed_runs (next + 1) here.scratch stack (meaning.in_world v s) k site i there here.holds (kept_in g l s v here.kept h.0) room h.1)
 
-    cross_runs : (next : ℕ) (stack : List ℕ) (s : meaning.State) (k : ℕ) (site : Site) (i : core.Import) (vs : List Value) (ws : Option (List ℕ)) → slice_get g.program.imports k ≡ Some i → i.parameters ≡ length vs → words_of vs ≡ ws → Here g l next (piled g vs stack) s → HasAt (code g l).ops next (ops.Tick ∷ (ops.TaintedCall k site.place ∷ [])) → length stack < (code g l).stack → Leads (Resumes g l (next + 1 + 1) stack) (Finishes g) (cross (record { program = g.program; budget = g.settings.budget }) m k i site ws s)
+    cross_runs : (next : ℕ) (stack : List ℕ) (s : meaning.State) (k : ℕ) (site : Site) (i : core.Import) (vs : List Value) (ws : Option (List ℕ)) → slice_get g.program.imports k ≡ Some i → i.parameters ≡ length vs → words_of vs ≡ ws → Here g l next (piled g s vs stack) s → HasAt (code g l).ops next (ops.Tick ∷ (ops.TaintedCall k site.place ∷ [])) → length stack < (code g l).stack → Leads (Resumes g l (next + 1 + 1) stack) (Finishes g) (cross (setting_of g.program g.settings) m k i site ws s)
     cross_runs next stack s k site i vs None there count are here at room = tt
     cross_runs next stack s k site i vs (Some words) there count are here at room =
-        let same = passed_words g vs words are in
-        let pile : piled g vs stack ≡ reverse words ++ stack = piled_words g vs stack ∙ ap (λ l. reverse l ++ stack) same in
-        let many : i.parameters ≡ length words = count ∙ sym (length-map vs (word_of g)) ∙ ap length same in
+        let same = passed_words g s vs words are in
+        let pile : piled g s vs stack ≡ reverse words ++ stack = piled_words g s vs stack ∙ ap (λ l. reverse l ++ stack) same in
+        let many : i.parameters ≡ length words = count ∙ sym (length-map vs (word_of g s)) ∙ ap length same in
         asks_on (λ _ w. Here g l (next + 1) (reverse words ++ stack) (meaning.in_world w s)) (Resumes g l (next + 1 + 1) stack) (Finishes g) (spend_tick g.settings.budget s.world) s _
         (tick_runs g l next (reverse words ++ stack) s (subst (λ p. Here g l next p s) pile here) at.0)
         (λ _ w ticked. asks_runs (next + 1) stack words (meaning.in_world w s) k site i (nat_lt s.depth 1000) refl there many ticked at.1.0 room)
 
-    cross_if_runs : (next : ℕ) (stack : List ℕ) (s : meaning.State) (k : ℕ) (site : Site) (i : core.Import) (vs : List Value) (yes : Bool) → (i.parameters == length vs) ≡ yes → slice_get g.program.imports k ≡ Some i → Here g l next (piled g vs stack) s → HasAt (code g l).ops next (ops.Tick ∷ (ops.TaintedCall k site.place ∷ [])) → length stack < (code g l).stack → Leads (Resumes g l (next + 1 + 1) stack) (Finishes g) (cross_if yes (record { program = g.program; budget = g.settings.budget }) m k i site vs s)
+    cross_if_runs : (next : ℕ) (stack : List ℕ) (s : meaning.State) (k : ℕ) (site : Site) (i : core.Import) (vs : List Value) (yes : Bool) → (i.parameters == length vs) ≡ yes → slice_get g.program.imports k ≡ Some i → Here g l next (piled g s vs stack) s → HasAt (code g l).ops next (ops.Tick ∷ (ops.TaintedCall k site.place ∷ [])) → length stack < (code g l).stack → Leads (Resumes g l (next + 1 + 1) stack) (Finishes g) (cross_if yes (setting_of g.program g.settings) m k i site vs s)
     cross_if_runs next stack s k site i vs false test there here at room = tt
     cross_if_runs next stack s k site i vs true test there here at room =
         let count : i.parameters ≡ length vs = grind (arith, nat_tests) in
         cross_runs next stack s k site i vs (words_of vs) there count refl here at room
 
-    taken_runs : (next : ℕ) (stack : List ℕ) (s : meaning.State) (k : ℕ) (site : Site) (vs : List Value) (o : Option core.Import) → slice_get g.program.imports k ≡ o → Here g l next (piled g vs stack) s → HasAt (code g l).ops next (ops.Tick ∷ (ops.TaintedCall k site.place ∷ [])) → length stack < (code g l).stack → Leads (Resumes g l (next + 1 + 1) stack) (Finishes g) (call_tainted (record { program = g.program; budget = g.settings.budget }) m k o site vs s)
+    taken_runs : (next : ℕ) (stack : List ℕ) (s : meaning.State) (k : ℕ) (site : Site) (vs : List Value) (o : Option core.Import) → slice_get g.program.imports k ≡ o → Here g l next (piled g s vs stack) s → HasAt (code g l).ops next (ops.Tick ∷ (ops.TaintedCall k site.place ∷ [])) → length stack < (code g l).stack → Leads (Resumes g l (next + 1 + 1) stack) (Finishes g) (call_tainted (setting_of g.program g.settings) m k o site vs s)
     taken_runs next stack s k site vs None there here at room = tt
     taken_runs next stack s k site vs (Some i) there here at room = cross_if_runs next stack s k site i vs (i.parameters == length vs) refl there here at room
 
     -- a call of values, whose words lie on the stack
-    pub tainted_runs : (next : ℕ) (stack : List ℕ) (s : meaning.State) (k : ℕ) (site : Site) (vs : List Value) → Here g l next (piled g vs stack) s → HasAt (code g l).ops next (ops.Tick ∷ (ops.TaintedCall k site.place ∷ [])) → length stack < (code g l).stack → Leads (Resumes g l (next + 1 + 1) stack) (Finishes g) (call_tainted (record { program = g.program; budget = g.settings.budget }) m k (slice_get g.program.imports k) site vs s)
+    pub tainted_runs : (next : ℕ) (stack : List ℕ) (s : meaning.State) (k : ℕ) (site : Site) (vs : List Value) → Here g l next (piled g s vs stack) s → HasAt (code g l).ops next (ops.Tick ∷ (ops.TaintedCall k site.place ∷ [])) → length stack < (code g l).stack → Leads (Resumes g l (next + 1 + 1) stack) (Finishes g) (call_tainted (setting_of g.program g.settings) m k (slice_get g.program.imports k) site vs s)
     tainted_runs next stack s k site vs here at room = taken_runs next stack s k site vs (slice_get g.program.imports k) refl here at room

@@ -40,12 +40,12 @@ mutual
   arguments_short (core.More first rest) = omega (arith, expression_short first, arguments_short rest)
 
   place_short : (p : core.Place) → place_size p ≤ 6 * place_weight p
-  place_short (core.Direct object cell offset) = omega (arith, offset_short offset)
-  place_short (core.Through pointer cell offset site) = omega (arith, expression_short pointer, offset_short offset)
+  place_short (core.Direct object offset) = omega (arith, offset_short offset)
+  place_short (core.Through pointer offset site) = omega (arith, expression_short pointer, offset_short offset)
 
 around_short : (p : core.Place) → before_value_size p + behind_value_size p ≤ 6 * place_weight p
-around_short (core.Direct object cell offset) = omega (arith, offset_short offset)
-around_short (core.Through pointer cell offset site) = omega (arith, expression_short pointer, offset_short offset)
+around_short (core.Direct object offset) = omega (arith, offset_short offset)
+around_short (core.Through pointer offset site) = omega (arith, expression_short pointer, offset_short offset)
 
 mutual
   statement_short : (x : core.Statement) → statement_size x ≤ 6 * statement_weight x

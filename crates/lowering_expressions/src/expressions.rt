@@ -139,12 +139,11 @@ pub fn emit_place(ops: &mut Vec<Op>, cell: &CellPlace) -> Result<(), NoMemory>
     ensures { OnOk result (ops.new.items ≡ ops.old.items ++ code.place_code (length ops.old.items) (place_of cell.now)) }
 {
     match cell {
-        CellPlace::Direct { object, offset, .. } => emit_address(ops, *object, *offset),
+        CellPlace::Direct { object, offset } => emit_address(ops, *object, *offset),
         CellPlace::Through {
             pointer,
             offset,
             site,
-            ..
         } => {
             emit_expression(ops, pointer)?;
             emit_through(ops, *offset, *site)
