@@ -34,10 +34,10 @@ use Rattle.region_typing_rules.specs.Types.{type_named, is_number, is_pointer, a
 use Rattle.region_typing_rules.specs.Expressions.{Places, Lvalue, OfLocal, OfCell, Typed, Value, AStruct, Called, Gives, GivesNothing, site_at, number, at_place, local_typed, name_typed, member_place, member_from, offset_among, member_at, dotted, pointed_by, arrowed, pointed_at, dereferenced, pointer_to, address, number_of, scalar_of, unary_typed, is_pointer_value, two_numbers, two_scalars, summands, as_pointer, equated_values, equated, ordered_values, ordered, arithmetic, binary_typed, indexed, in_type, converted, arguments_as, is_import, side_number, callee_of, call_of, first_of, writes, predefined_call, called, with_result, constant, typed, all_typed, call_typed}
 use Rattle.region_typing_rules.specs.Typed as rules
 use Rattle.region_typing_rules.specs.Typed.{Frame, slots, IsCallee, HasType, HaveTypes, HasPlace, IsStatement, IsScalar, IsScalarResult, IsNumberResult}
+use Rattle.region_typing_rules.proofs.Values.{scalar_stands}
 use Rattle.region_typing_rules.proofs.Verdicts.{Promises, passing_promises, needs_promises, anything_promised}
 use Rattle.region_typing_rules.proofs.Knowledge.{IsNumberType, IsTrusted, IsTainted, Knows, same_equal, StandsFor, name_stands, crossing_promises, HasMember, IfMember, member_there, member_slot}
 use Rattle.region_typing_rules.proofs.Sizes.{size_fits}
-use Rattle.region_typing_rules.proofs.Slots.{scalar_at}
 
 pub number_scalar : (t : CType) → is_number t ≡ true → IsScalar t
 number_scalar Int h = refl
@@ -103,7 +103,7 @@ module _ (g : Frame) (types : List CType) where
 
   member_of : {p : core.Place} {n : ℕ} → HasPlace g types p (Struct n) → (k offset : ℕ) (t : CType) (site : Site) → slice_get (slots g.structs (Struct n)) k ≡ Some (record { type = t; offset = offset }) → IsScalar t → HasPlace g types (member_place p offset site) t
   member_of (rules.direct {offset = first} {cells = is} found stands) k offset t site slot scalar =
-      rules.direct found (scalar_at g.structs (shape (object_block is)) (first + offset) t scalar (stands.each k (record { type = t; offset = offset }) slot) stands.open_ended)
+      rules.direct found (scalar_stands g.structs (shape (object_block is)) (first + offset) t scalar (stands.each k (record { type = t; offset = offset }) slot) stands.open_ended)
   member_of (rules.pointed {e = e} h) k offset t site slot scalar =
       let place : offset ≡ 0 + offset = omega arith in
       let here : HasPlace g types (core.Through e offset site) t = rules.member k h slot scalar in

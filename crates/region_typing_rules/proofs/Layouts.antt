@@ -2,6 +2,7 @@
 use Rattle.std.proofs.Common.{◌≡◌, ℕ, zero, suc, ◌+◌, ◌-◌, ◌<◌, ◌≤◌, ◌^◌, ◌%◌, Bool, true, false, ℤ, pos, List, [], ◌∷◌, ◌++◌, map, length, Option, Some, None, refl, sym, ap, ◌∙◌, subst, ◌⊎◌, inl, inr, ⊎_elim, arith}
 use Rattle.std.specs.Prelude.{◌==◌, nat_lt, slice_get}
 use Rattle.std.specs.List.{AllByRecursion}
+use Rattle.std.specs.Option.{option_and_then, option_map}
 use Rattle.std.proofs.lemmas.Bool.Decides.{nat_tests}
 use Rattle.act_words.specs.Checks.{is_word_number}
 use Rattle.act_words.specs.Numbers.{word}
@@ -13,7 +14,7 @@ use Rattle.ckc_tree.specs.Expressions.{Expression}
 use Rattle.pointer_modes.specs.Types.{CType, Int, Char, Struct, Pointer, Member, Structure, members_of}
 use Rattle.pointer_modes.specs.Layout.{placed_from, member_sizes, size_of, aligned_up, scalar_size, end_from, largest_of}
 use Rattle.ckc_core.specs.Core as core
-use Rattle.ckc_core.specs.States.{shape, type_at, has_type, initial_value, object_block}
+use Rattle.ckc_core.specs.States.{number_at, shape, type_at, initial_value, object_block}
 use Rattle.ckc_core.specs.States as states
 use Rattle.ckc_core.specs.Meaning.{low_byte}
 use Rattle.ckc_names_rules.specs.declared.given.Given.{Given}
@@ -23,8 +24,8 @@ use Rattle.region_typing_rules.specs.Items.{negative, null_number, unsigned_cons
 use Rattle.region_typing_rules.specs.Typed.{Slot, slots_from, slots, Stands, HasValue, IsScalar, IsInitial}
 use Rattle.region_typing_rules.specs.Lowerable.{cells_size, IsRoomy}
 use Rattle.ckc_core.proofs.Numbers.{low_byte_small}
+use Rattle.region_typing_rules.proofs.Values.{value_typed, scalar_stands}
 use Rattle.region_typing_rules.proofs.Verdicts.{Promises, passing_promises, needs_promises, anything_promised, always_promised, Extends}
-use Rattle.region_typing_rules.proofs.Slots.{behind_cell, scalar_at}
 
 -- a cell before the run holds a value of its type, in every program
 abbrev pub IsStart : core.Initial → Type 0
@@ -79,6 +80,18 @@ scalar_width Char = inl refl
 scalar_width (Struct n) = inr refl
 scalar_width (Pointer m k t) = inr refl
 
+-- behind a cell that takes bytes the others stand as they do without it
+behind_cell : (t : CType) (types : List CType) (stride : ℕ) (strides : List ℕ) (zero_ended : Bool) (byte : ℕ) → 0 < stride → type_at (record { types = t ∷ types; strides = stride ∷ strides; zero_ended = zero_ended }) (stride + byte) ≡ type_at (record { types = types; strides = strides; zero_ended = zero_ended }) byte
+behind_cell t types stride strides zero_ended byte wide =
+    let not_first : (stride + byte == 0) ≡ false = grind (arith, nat_tests) in
+    let not_inside : nat_lt (stride + byte) stride ≡ false = grind (arith, nat_tests) in
+    let rest : stride + byte - stride ≡ byte = omega arith in
+    rw (not_first, not_inside, rest) (by (number_at strides byte))
+  where
+    by : (o : Option ℕ) → option_and_then (λ number. slice_get (t ∷ types) number) (option_map (λ number. suc number) o) ≡ option_and_then (λ number. slice_get types number) o
+    by None = refl
+    by (Some number) = refl
+
 abbrev types_of : List Member → List CType
 types_of members = map (λ (m : Member). m.ctype) members
 
@@ -127,9 +140,9 @@ members_stand (m ∷ members) number end some = record { there = omega arith; ea
 
 -- the cells of a variable, where there are some
 pub cells_stand : (structs : List Structure) (t : CType) (number : ℤ) → 0 < length (cells_with structs t number) → Stands (shape (object_block (cells_with structs t number))) 0 (slots structs t)
-cells_stand structs Int number some = scalar_at structs (shape (object_block (cells_with structs Int number))) 0 Int refl refl refl
-cells_stand structs Char number some = scalar_at structs (shape (object_block (cells_with structs Char number))) 0 Char refl refl refl
-cells_stand structs (Pointer m k t) number some = scalar_at structs (shape (object_block (cells_with structs (Pointer m k t) number))) 0 (Pointer m k t) refl refl refl
+cells_stand structs Int number some = scalar_stands structs (shape (object_block (cells_with structs Int number))) 0 Int refl refl refl
+cells_stand structs Char number some = scalar_stands structs (shape (object_block (cells_with structs Char number))) 0 Char refl refl refl
+cells_stand structs (Pointer m k t) number some = scalar_stands structs (shape (object_block (cells_with structs (Pointer m k t) number))) 0 (Pointer m k t) refl refl refl
 cells_stand structs (Struct n) number some = members_stand (members_of structs n) number (size_of structs (Struct n)) some
 
 -- ---- values before the run
@@ -207,18 +220,12 @@ all_roomy structs Char number = (omega arith, tt)
 all_roomy structs (Pointer m k t) number = (omega arith, tt)
 all_roomy structs (Struct n) number = cells_roomy number (members_of structs n) 0 (size_of structs (Struct n)) (struct_wide (members_of structs n))
 
-initial_typed : (t : CType) (number : ℤ) → HasValue [] [] t (initial_value t number) → has_type t (initial_value t number) ≡ true
-initial_typed Int number h = h
-initial_typed Char number h = h
-initial_typed (Struct n) number h = absurd h
-initial_typed (Pointer m k t) number h = refl
-
 -- cells with one number, which has 32 bits, and is 0 where the cell is null
 roomy_start : (number : ℤ) (ts : List CType) (strides : List ℕ) → is_word_number number ≡ true → AllByRecursion (λ (t : CType). initial_value t number ≡ states.Null → number ≡ pos 0) ts → AllByRecursion HasRoom (numbered_cells number ts strides) → AllByRecursion IsStart (numbered_cells number ts strides) → AllByRecursion IsRoomy (numbered_cells number ts strides)
 roomy_start number [] strides word null rooms start = tt
 roomy_start number (t ∷ ts) [] word null rooms start = tt
 roomy_start number (t ∷ ts) (stride ∷ strides) word null rooms start = (
-  record { room = rooms.0; typed = initial_typed t number (start.0 []); word = word; null = null.0 },
+  record { room = rooms.0; typed = value_typed [] [] t (initial_value t number) (start.0 []); word = word; null = null.0 },
   roomy_start number ts strides word null.1 rooms.1 start.1,
 )
 

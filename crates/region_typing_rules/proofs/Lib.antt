@@ -5,7 +5,6 @@ pub mod Programs
 pub mod Verdicts
 pub mod Knowledge
 pub mod Sizes
-pub mod Slots
 pub mod Expressions
 pub mod Growth
 pub mod Statements
