@@ -1,5 +1,6 @@
 pub mod Worlds
 pub mod Values
+pub mod Validity
 pub mod Soundness
 pub mod Programs
 pub mod Verdicts

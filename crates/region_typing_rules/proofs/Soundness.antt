@@ -1,4 +1,4 @@
--- What has types is never stuck: an induction over the meaning, with what each state keeps.
+-- What has types is never stuck and never unsound: an induction over the audited meaning, with what each state keeps.
 use Rattle.std.proofs.Common.{◌≡◌, neg_ℤ, ℕ, zero, suc, ◌+◌, ◌%◌, ◌<◌, ◌≤◌, ◌^◌, Bool, true, false, ℤ, List, [], ◌∷◌, map, replicate, length, Option, Some, None, refl, sym, ap, ◌∙◌, subst, arith}
 use Rattle.std.specs.Prelude.{◌==◌, ◌&&◌, not, nat_lt, slice_get, option_map}
 use Rattle.std.specs.List.{AllByRecursion}
@@ -7,7 +7,7 @@ use Rattle.std.proofs.lemmas.Int.{to_z_pos}
 use Rattle.std.proofs.lemmas.Bool.Decides.{nat_tests}
 use Rattle.std.proofs.lemmas.Bool.{and_from}
 use Rattle.std.proofs.lemmas.List.{length-replicate}
-use Rattle.ckc_core.specs.Outcome.{Gives, Ends, Stuck, Short, and_then}
+use Rattle.ckc_core.specs.Outcome.{Gives, Ends, Stuck, Unsound, Short, and_then}
 use Rattle.act_words.specs.Checks.{Checked, Holds, Fails, is_word_number}
 use Rattle.act_words.specs.Numbers.{word}
 use Rattle.act_words.specs.Arithmetic as arithmetic
@@ -25,13 +25,18 @@ use Rattle.pointer_modes.specs.declared.ctype.Kind.TheVariants as kinds
 use Rattle.pointer_modes.specs.Types.{CType, Int, Char, Struct, Pointer}
 use Rattle.ckc_core.specs.Core as core
 use Rattle.ckc_core.specs.States.{Value, Number, Null, At, Local, Shape, Grows, State, in_world, shape, shapes, stored, same_type, has_type, object_block}
-use Rattle.ckc_core.specs.Meaning.{Result, Flow, Next, Broke, Continued, Returned, Knot, Setting, given, checked, value_if, value_in, place_if, place_at, place_through, site_of, load_at, pointer_to, truth, number_of_test, same_place, test_given, result_of, arithmetic_of, compared, negated, complemented, low_byte_of, asked, words_of, reply_as, back, passed, cross, cross_if, call_tainted, takes, parameters_of, enter_if, call_trusted, result_given, choose, value, values, place, leaves_zero, store_if, store_over, store_at, set_if, set_over, set_local, pointer_of, kept_if, is_char, printed, put, on_next, behind_turn, no_result, effect, effects, called}
+use Rattle.ckc_core.specs.declared.program.PointerBounds.{PointerBounds}
+use Rattle.ckc_core.specs.Programs.{Import, Initial}
+use Rattle.ckc_core.specs.Bounds.{Pointed, with_ends}
+use Rattle.ckc_core.specs.Steps.{Result, Flow, Next, Broke, Continued, Returned, given, checked, value_if, value_in, place_if, place_at, load_at, pointer_to, truth, number_of_test, same_place, test_given, result_of, arithmetic_of, compared, negated, complemented, low_byte_of, asked, words_of, reply_as, back, passed, cross, cross_if, call_tainted, takes, parameters_of, enter_if, call_trusted, result_given, choose, leaves_zero, store_if, store_over, store_at, set_if, set_over, set_local, kept_if, is_char, printed, put, on_next, behind_turn, no_result, called}
+use Rattle.ckc_core.specs.Meaning.{Knot, Setting, audit, bounds_of, site_of, element, without_ends, value, values, place, pointed, pointer_of, effect, effects}
 use Rattle.region_typing_rules.specs.Types.{is_number}
 use Rattle.region_typing_rules.specs.Typed as typed
-use Rattle.region_typing_rules.specs.Typed.{Frame, IsPlace, HasValue, IsNumberResult, IsCallee, HasType, HaveTypes, HasPlace, IsStatement, AreStatements, IsScalar}
+use Rattle.region_typing_rules.specs.Typed.{Frame, HasBounds, HasRow, IsPlace, HasValue, IsNumberResult, IsCallee, HasType, HaveTypes, HasPlace, IsStatement, AreStatements, IsScalar}
 use Rattle.ckc_core.proofs.Numbers.{IsNumber, IfHolds, result_fits, overflow_fits, signed_fits, complement_fits, low_byte_small}
 use Rattle.region_typing_rules.proofs.Worlds.{IsWorld, Answers, Anything, IsWord, tick_answers, enter_answers, touch_answers, next_answers}
 use Rattle.region_typing_rules.proofs.Values.{same_refl, mapped_there, grows_here, grows_on, at_cell, zero_left, shapes_stored, member_place, place_grown, scalar_cell, some_cell, value_grown, value_typed, value_widened, value_number, HaveValues, values_count, values_fit, HaveLocals, local_there, locals_set, HoldsValues, cell_typed, stored_typed, values_grown, locals_grown}
+use Rattle.region_typing_rules.proofs.Validity.{same_pointer, sound}
 
 -- the shapes of the blocks of a state
 abbrev pub shaped : State → List Shape
@@ -50,6 +55,10 @@ OfTypes g ts b vs = HaveValues g.structs b ts vs
 -- a place at which a value of the type stands
 abbrev pub IsPlaced : Frame → CType → List Shape → ℕ × ℕ → Type 0
 IsPlaced g t b at = IsPlace g.structs b t at.0 at.1
+
+-- a pointer of a type
+abbrev pub IsPointed : Frame → CType → List Shape → Pointed → Type 0
+IsPointed g t b q = OfType g t b q.value
 
 -- the word of a reply
 abbrev pub IsReply : List Shape → ℕ → Type 0
@@ -85,12 +94,14 @@ module _ (g : Frame) (budget n : ℕ) where
   Goes low types b P (Gives v s) = P (shaped s) v × Grows b (shaped s) × IsKept low types s
   Goes low types b P (Ends ending s) = Unit {0}
   Goes low types b P (Stuck site s) = ⊥
+  Goes low types b P (Unsound site s) = ⊥
   Goes low types b P Short = ⊥
 
   from_grown : {A : Type 0} (low : ℕ) (types : List CType) (a b : List Shape) (P : List Shape → A → Type 0) (o : Result A) → Grows a b → Goes low types b P o → Goes low types a P o
   from_grown low types a b P (Gives v s) grown h = (h.0, grows_on a b (shaped s) grown h.1, h.2)
   from_grown low types a b P (Ends ending s) grown h = tt
   from_grown low types a b P (Stuck site s) grown h = h
+  from_grown low types a b P (Unsound site s) grown h = h
   from_grown low types a b P Short grown h = h
 
   pub goes_on : {A B : Type 0} (low : ℕ) (types : List CType) (b : List Shape) (P : List Shape → A → Type 0) (Q : List Shape → B → Type 0) (o : Result A) (next : A → State → Result B) → Goes low types b P o
@@ -98,6 +109,7 @@ module _ (g : Frame) (budget n : ℕ) where
   goes_on low types b P Q (Gives v s) next h more = from_grown low types b (shaped s) Q (next v s) h.1 (more v s h.1 h.0 h.2)
   goes_on low types b P Q (Ends ending s) next h more = tt
   goes_on low types b P Q (Stuck site s) next h more = h
+  goes_on low types b P Q (Unsound site s) next h more = h
   goes_on low types b P Q Short next h more = h
 
   -- what asks the world goes on with the same blocks and locals, and may have spent a tick
@@ -114,6 +126,7 @@ module _ (g : Frame) (budget n : ℕ) where
       (h.0, h.1, record { grown = h.2.grown; cells = h.2.cells; locals = h.2.locals; world = (w.0, w.1, omega (arith, w.2), w.3); enough = enough })
   lowered low types b P (Ends ending s) enough h = tt
   lowered low types b P (Stuck site s) enough h = h
+  lowered low types b P (Unsound site s) enough h = h
   lowered low types b P Short enough h = h
 
   -- calls and turns that come behind a tick
@@ -148,6 +161,7 @@ module _ (g : Frame) (budget n : ℕ) where
     widened_goes b (Gives v s) h = (value_widened g.structs (shaped s) v h.0, h.1, h.2)
     widened_goes b (Ends ending s) h = tt
     widened_goes b (Stuck site s) h = h
+    widened_goes b (Unsound site s) h = h
     widened_goes b Short h = h
 
     test_goes : (s : State) (test : Bool) → IsKept low types s → Goes low types (shaped s) (OfType g Int) (Gives (number_of_test test) s)
@@ -200,18 +214,18 @@ module _ (g : Frame) (budget n : ℕ) where
         let c = some_cell g.structs s.blocks t block byte place in
         subst (λ o. Goes low types (shaped s) (IsPlaced g t) (place_if o site block byte s)) (sym c.1) (place, grows_here (shaped s), kept)
 
-    pub direct_goes : (s : State) (t : CType) (object offset : ℕ) (is : List core.Initial) → slice_get g.program.objects object ≡ Some is → typed.Stands (shape (object_block is)) offset (typed.slots g.structs t) → IsKept low types s
+    pub direct_goes : (s : State) (t : CType) (object offset : ℕ) (is : List Initial) → slice_get g.program.objects object ≡ Some is → HasRow g.structs (shape (object_block is)) offset t → IsKept low types s
         → Goes low types (shaped s) (IsPlaced g t) (place_at None object offset s)
-    direct_goes s t object offset is found stands kept =
+    direct_goes s t object offset is found row kept =
         let blocks = map object_block g.program.objects in
         let start : IsPlace g.structs (shapes blocks) t object offset = record {
           shape = shape (object_block is);
           found = mapped_there shape blocks object (object_block is) (mapped_there object_block g.program.objects object is found);
-          stands = stands;
+          row = row;
         } in
         placed_goes s None t object offset (place_grown g.structs (shapes blocks) (shaped s) kept.grown t object offset start) kept
 
-    pub pointed_goes : (s : State) (m : Mode) (k : Kind) (t : CType) (site : Site) (v : Value) → OfType g (Pointer m k t) (shaped s) v → IsKept low types s → Goes low types (shaped s) (IsPlaced g t) (place_through 0 site v s)
+    pub pointed_goes : (s : State) (m : Mode) (k : Kind) (t : CType) (site : Site) (v : Value) → OfType g (Pointer m k t) (shaped s) v → IsKept low types s → Goes low types (shaped s) (IsPlaced g t) (element 0 site v s)
     pointed_goes s m k t site (Number z) h kept = absurd h
     pointed_goes s m k t site Null h kept = tt
     pointed_goes s m k t site (At block byte) h kept =
@@ -219,11 +233,26 @@ module _ (g : Frame) (budget n : ℕ) where
         placed_goes s (Some site) t block (byte + 0) (subst (λ x. IsPlace g.structs (shaped s) t block x) same h) kept
 
     pub member_goes : (s : State) (m : Mode) (k : Kind) (number slot offset : ℕ) (t : CType) (site : Site) (v : Value) → slice_get (typed.slots g.structs (Struct number)) slot ≡ Some (record { type = t; offset = offset }) → IsScalar t → OfType g (Pointer m k (Struct number)) (shaped s) v → IsKept low types s
-        → Goes low types (shaped s) (IsPlaced g t) (place_through offset site v s)
+        → Goes low types (shaped s) (IsPlaced g t) (element offset site v s)
     member_goes s m k number slot offset t site (Number z) found scalar h kept = absurd h
     member_goes s m k number slot offset t site Null found scalar h kept = tt
     member_goes s m k number slot offset t site (At block byte) found scalar h kept =
         placed_goes s (Some site) t block (byte + offset) (member_place g.structs (shaped s) number block byte slot offset t scalar h found) kept
+
+    -- a value of a type passes the audit by the bounds of its type
+    audit_goes : (s : State) (t : CType) (b : Option PointerBounds) (v : Value) → HasBounds g.structs t b → OfType g t (shaped s) v → IsKept low types s → Goes low types (shaped s) (OfType g t) (audit true b v s)
+    audit_goes s t b v bounds h kept =
+        let gives = ap (λ b. audit true b v s) bounds.1 ∙ sound g.structs bounds.0 s t v h in
+        subst (λ o. Goes low types (shaped s) (OfType g t) o) (sym gives) (h, grows_here (shaped s), kept)
+
+    pub audited_goes : (s : State) (t : CType) (b : Option PointerBounds) (o : Result Value) → HasBounds g.structs t b → Goes low types (shaped s) (OfType g t) o → Goes low types (shaped s) (OfType g t) (and_then o (audit true b))
+    audited_goes s t b o bounds h = goes_on low types (shaped s) (OfType g t) (OfType g t) o (audit true b) h (λ v u _ typed kept. audit_goes u t b v bounds typed kept)
+
+    -- a pointer as an access gets it
+    pub ended_goes : (s : State) (m : Mode) (k : Kind) (t : CType) (b : Option PointerBounds) (o : Result Value) → Goes low types (shaped s) (OfType g (Pointer m k t)) o
+        → Goes low types (shaped s) (IsPointed g (Pointer m k t)) (and_then o (λ v u. Gives (with_ends b v u.locals) u))
+    ended_goes s m k t b o h =
+        goes_on low types (shaped s) (OfType g (Pointer m k t)) (IsPointed g (Pointer m k t)) o _ h (λ v u _ typed kept. (same_pointer (OfType g (Pointer m k t) (shaped u)) b v u typed, grows_here (shaped u), kept))
 
     pub load_goes : (s : State) (t : CType) (site : Option Site) (at : ℕ × ℕ) → IsScalar t → IsPlaced g t (shaped s) at → IsKept low types s → Goes low types (shaped s) (OfType g t) (load_at t site at s)
     load_goes s t site at scalar placed kept =
@@ -275,7 +304,7 @@ module _ (g : Frame) (budget n : ℕ) where
       back_kept low s t grown kept after =
           record { grown = after.grown; cells = after.cells; locals = locals_grown g.structs (shaped s) (shaped t) grown types s.locals kept.locals; world = after.world; enough = after.enough }
 
-      passed_goes : (low : ℕ) (s : State) (i : core.Import) (site : Site) → IsNumberResult i.result → suc budget ≤ low + n → IsKept low types s → Goes low types (shaped s) (IsAnswer g i.result) (passed k i site s)
+      passed_goes : (low : ℕ) (s : State) (i : Import) (site : Site) → IsNumberResult i.result → suc budget ≤ low + n → IsKept low types s → Goes low types (shaped s) (IsAnswer g i.result) (passed k i site s)
       passed_goes low s i site crosses enough kept =
           let inside : State = record s { depth = s.depth + 1 } in
           goes_on low types (shaped s) IsReply (IsAnswer g i.result) (and_then (k.sandbox inside) (back s)) (reply_as i.result site)
@@ -284,7 +313,7 @@ module _ (g : Frame) (budget n : ℕ) where
           (λ reply t grown small t_kept. (small, grows_here (shaped t), back_kept low s t grown kept t_kept)))
           (λ reply t grown small t_kept. reply_goes low types t i.result site reply crosses small t_kept)
 
-      cross_goes : (low : ℕ) (s : State) (import : ℕ) (i : core.Import) (site : Site) (o : Option (List ℕ)) (words : List ℕ) → o ≡ Some words → IsNumberResult i.result → IsKept low types s → Goes low types (shaped s) (IsAnswer g i.result) (cross setting k import i site o s)
+      cross_goes : (low : ℕ) (s : State) (import : ℕ) (i : Import) (site : Site) (o : Option (List ℕ)) (words : List ℕ) → o ≡ Some words → IsNumberResult i.result → IsKept low types s → Goes low types (shaped s) (IsAnswer g i.result) (cross setting k import i site o s)
       cross_goes low s import i site None words e crosses kept = absurd (cc)
       cross_goes low s import i site (Some sent) words e crosses kept =
           lowered low types (shaped s) (IsAnswer g i.result) (cross setting k import i site (Some sent) s) kept.enough
@@ -293,7 +322,7 @@ module _ (g : Frame) (budget n : ℕ) where
           (λ _ u _ _ u_kept. asked_goes (suc low) (suc low) types Anything (IsAnswer g i.result) (touch (Passed import sent) u.world) u _ (touch_answers budget (suc low) (Passed import sent) u.world u_kept.world) u_kept.enough u_kept
           (λ _ v _ _ v_kept. passed_goes (suc low) v i site crosses (let few = kept.enough in omega arith) v_kept))))
 
-      tainted_goes : (low : ℕ) (s : State) (import : ℕ) (i : core.Import) (site : Site) (vs : List Value) → slice_get g.program.imports import ≡ Some i → IsNumberResult i.result → OfTypes g (replicate i.parameters Int) (shaped s) vs → IsKept low types s
+      tainted_goes : (low : ℕ) (s : State) (import : ℕ) (i : Import) (site : Site) (vs : List Value) → slice_get g.program.imports import ≡ Some i → IsNumberResult i.result → OfTypes g (replicate i.parameters Int) (shaped s) vs → IsKept low types s
           → Goes low types (shaped s) (IsAnswer g i.result) (call_tainted setting k import (slice_get g.program.imports import) site vs s)
       tainted_goes low s import i site vs found crosses h kept =
           let words = words_there (shaped s) i.parameters vs h in
@@ -339,58 +368,63 @@ module _ (g : Frame) (budget n : ℕ) where
           goes_on low types (shaped s) (OfType g t') Q o next h (λ w x grown typed' x_kept. more w x (value_grown g.structs (shaped s) (shaped x) grown t v typed) typed' x_kept)
 
       mutual
-        pub value_goes : {e : core.Expression} {t : CType} → HasType g types e t → (s : State) → IsKept low types s → Goes low types (shaped s) (OfType g t) (value setting k e s)
+        pub value_goes : {e : core.Expression} {t : CType} → HasType g types e t → (s : State) → IsKept low types s → Goes low types (shaped s) (OfType g t) (value true setting k e s)
         value_goes (typed.word {z = z} fits) s kept = number_goes low types s z (is_word_number z) refl fits kept
         value_goes (typed.byte {z = z} fits) s kept = byte_number_goes low types s z (is_word_number z) (value_widened g.structs (shaped s) (Number z) fits) fits kept
         value_goes typed.null s kept = (tt, grows_here (shaped s), kept)
-        value_goes (typed.local {k = i} {t = t} e) s kept = given_goes low types s i t kept e
-        value_goes (typed.widened {e = e} h) s kept = widened_goes low types (shaped s) (value setting k e s) (value_goes h s kept)
-        value_goes (typed.load {t = t} {p = p} scalar h) s kept =
-            goes_on low types (shaped s) (IsPlaced g t) (OfType g t) (place setting k p s) (load_at t (site_of p)) (place_goes h s kept) (λ at u _ placed u_kept. load_goes low types u t (site_of p) at scalar placed u_kept)
-        value_goes (typed.address_of {mode = m} {kind = d} {t = t} {p = p} h) s kept =
-            goes_on low types (shaped s) (IsPlaced g t) (OfType g (Pointer m d t)) (place setting k p s) pointer_to (place_goes h s kept) (λ at u _ placed u_kept. (placed, grows_here (shaped u), u_kept))
+        value_goes (typed.local {k = i} {t = t} {b = b} e bounds) s kept = audited_goes low types s t b (given (slice_get s.locals i) s) bounds (given_goes low types s i t kept e)
+        value_goes (typed.widened {e = e} h) s kept = widened_goes low types (shaped s) (value true setting k e s) (value_goes h s kept)
+        value_goes (typed.load {t = t} {p = p} {b = b} scalar h bounds) s kept =
+            audited_goes low types s t b (and_then (place true setting k p s) (load_at t (site_of p))) bounds
+            (goes_on low types (shaped s) (IsPlaced g t) (OfType g t) (place true setting k p s) (load_at t (site_of p)) (place_goes h s kept) (λ at u _ placed u_kept. load_goes low types u t (site_of p) at scalar placed u_kept))
+        value_goes (typed.address_of {mode = m} {kind = d} {t = t} {p = p} {b = b} h bounds) s kept =
+            audited_goes low types s (Pointer m d t) b (and_then (place true setting k p s) pointer_to) bounds
+            (goes_on low types (shaped s) (IsPlaced g t) (OfType g (Pointer m d t)) (place true setting k p s) pointer_to (place_goes h s kept) (λ at u _ placed u_kept. (placed, grows_here (shaped u), u_kept)))
         value_goes (typed.negate {e = e} {site = site} h) s kept =
-            goes_on low types (shaped s) (OfType g Int) (OfType g Int) (value setting k e s) (negated site) (value_goes h s kept) (λ v u _ typed u_kept. negated_goes low types u site v typed u_kept)
+            goes_on low types (shaped s) (OfType g Int) (OfType g Int) (value true setting k e s) (negated site) (value_goes h s kept) (λ v u _ typed u_kept. negated_goes low types u site v typed u_kept)
         value_goes (typed.complement {e = e} h) s kept =
-            goes_on low types (shaped s) (OfType g Int) (OfType g Int) (value setting k e s) complemented (value_goes h s kept) (λ v u _ typed u_kept. complemented_goes low types u v typed u_kept)
+            goes_on low types (shaped s) (OfType g Int) (OfType g Int) (value true setting k e s) complemented (value_goes h s kept) (λ v u _ typed u_kept. complemented_goes low types u v typed u_kept)
         value_goes (typed.inverse {e = e} {t = t} h) s kept =
-            goes_on low types (shaped s) (OfType g t) (OfType g Int) (value setting k e s) _ (value_goes h s kept) (λ v u _ typed u_kept. test_goes low types u (not (truth v)) u_kept)
+            goes_on low types (shaped s) (OfType g t) (OfType g Int) (value true setting k e s) _ (value_goes h s kept) (λ v u _ typed u_kept. test_goes low types u (not (truth v)) u_kept)
         value_goes (typed.arithmetic {operator = operator} {a = a} {b = b} {site = site} ha hb) s kept =
-            goes_on low types (shaped s) (OfType g Int) (OfType g Int) (value setting k a s) _ (value_goes ha s kept)
-            (λ v u _ typed u_kept. behind Int Int (OfType g Int) u v (value setting k b u) (arithmetic_of operator site v) typed (value_goes hb u u_kept) (λ w x typed typed' x_kept. arithmetic_goes low types x operator site v w typed typed' x_kept))
+            goes_on low types (shaped s) (OfType g Int) (OfType g Int) (value true setting k a s) _ (value_goes ha s kept)
+            (λ v u _ typed u_kept. behind Int Int (OfType g Int) u v (value true setting k b u) (arithmetic_of operator site v) typed (value_goes hb u u_kept) (λ w x typed typed' x_kept. arithmetic_goes low types x operator site v w typed typed' x_kept))
         value_goes (typed.compare {comparison = comparison} {a = a} {b = b} ha hb) s kept =
-            goes_on low types (shaped s) (OfType g Int) (OfType g Int) (value setting k a s) _ (value_goes ha s kept)
-            (λ v u _ typed u_kept. behind Int Int (OfType g Int) u v (value setting k b u) (compared comparison v) typed (value_goes hb u u_kept) (λ w x typed typed' x_kept. compared_goes low types x comparison v w typed typed' x_kept))
+            goes_on low types (shaped s) (OfType g Int) (OfType g Int) (value true setting k a s) _ (value_goes ha s kept)
+            (λ v u _ typed u_kept. behind Int Int (OfType g Int) u v (value true setting k b u) (compared comparison v) typed (value_goes hb u u_kept) (λ w x typed typed' x_kept. compared_goes low types x comparison v w typed typed' x_kept))
         value_goes (typed.same {mode = m} {mode' = m'} {kind = d} {kind' = d'} {t = t} {t' = t'} {a = a} {b = b} ha hb) s kept =
-            goes_on low types (shaped s) (OfType g (Pointer m d t)) (OfType g Int) (value setting k a s) _ (value_goes ha s kept)
-            (λ v u _ typed u_kept. behind (Pointer m d t) (Pointer m' d' t') (OfType g Int) u v (value setting k b u) _ typed (value_goes hb u u_kept) (λ w x typed typed' x_kept. same_goes low types x m m' d d' t t' v w typed typed' x_kept))
+            goes_on low types (shaped s) (OfType g (Pointer m d t)) (OfType g Int) (value true setting k a s) _ (value_goes ha s kept)
+            (λ v u _ typed u_kept. behind (Pointer m d t) (Pointer m' d' t') (OfType g Int) u v (value true setting k b u) _ typed (value_goes hb u u_kept) (λ w x typed typed' x_kept. same_goes low types x m m' d d' t t' v w typed typed' x_kept))
         value_goes (typed.both {a = a} {b = b} {t = t} {t' = t'} ha hb) s kept =
-            goes_on low types (shaped s) (OfType g t) (OfType g Int) (value setting k a s) _ (value_goes ha s kept)
-            (λ v u _ typed u_kept. chosen_goes low types (shaped u) (OfType g Int) (truth v) _ _ (truth_goes low types (shaped u) t' (value setting k b u) (value_goes hb u u_kept)) (test_goes low types u false u_kept))
+            goes_on low types (shaped s) (OfType g t) (OfType g Int) (value true setting k a s) _ (value_goes ha s kept)
+            (λ v u _ typed u_kept. chosen_goes low types (shaped u) (OfType g Int) (truth v) _ _ (truth_goes low types (shaped u) t' (value true setting k b u) (value_goes hb u u_kept)) (test_goes low types u false u_kept))
         value_goes (typed.either {a = a} {b = b} {t = t} {t' = t'} ha hb) s kept =
-            goes_on low types (shaped s) (OfType g t) (OfType g Int) (value setting k a s) _ (value_goes ha s kept)
-            (λ v u _ typed u_kept. chosen_goes low types (shaped u) (OfType g Int) (truth v) _ _ (test_goes low types u true u_kept) (truth_goes low types (shaped u) t' (value setting k b u) (value_goes hb u u_kept)))
+            goes_on low types (shaped s) (OfType g t) (OfType g Int) (value true setting k a s) _ (value_goes ha s kept)
+            (λ v u _ typed u_kept. chosen_goes low types (shaped u) (OfType g Int) (truth v) _ _ (test_goes low types u true u_kept) (truth_goes low types (shaped u) t' (value true setting k b u) (value_goes hb u u_kept)))
         value_goes (typed.low_byte {e = e} h) s kept =
-            goes_on low types (shaped s) (OfType g Int) (OfType g Char) (value setting k e s) low_byte_of (value_goes h s kept) (λ v u _ typed u_kept. byte_goes low types u v typed u_kept)
-        value_goes (typed.call {callee = callee} {ts = ts} {arguments = arguments} {t = t} known h) s kept =
-            goes_on low types (shaped s) (OfTypes g ts) (OfType g t) (values setting k arguments s) _ (values_go h s kept)
-            (λ vs u _ typed u_kept. goes_on low types (shaped u) (IsAnswer g (Some t)) (OfType g t) (called setting k callee vs u) result_given (called_goes types low u known vs typed u_kept) (λ v w _ answered w_kept. given_back low types w t v answered w_kept))
+            goes_on low types (shaped s) (OfType g Int) (OfType g Char) (value true setting k e s) low_byte_of (value_goes h s kept) (λ v u _ typed u_kept. byte_goes low types u v typed u_kept)
+        value_goes (typed.call {callee = callee} {ts = ts} {arguments = arguments} {t = t} {b = b} known h bounds) s kept =
+            goes_on low types (shaped s) (OfTypes g ts) (OfType g t) (values true setting k arguments s) _ (values_go h s kept)
+            (λ vs u _ typed u_kept. audited_goes low types u t b (and_then (called setting k callee vs u) result_given) bounds
+            (goes_on low types (shaped u) (IsAnswer g (Some t)) (OfType g t) (called setting k callee vs u) result_given (called_goes types low u known vs typed u_kept) (λ v w _ answered w_kept. given_back low types w t v answered w_kept)))
         value_goes typed.next_input s kept =
             asked_goes low low types IsNumber (OfType g Int) (next_input s.world) s _ (next_answers budget low s.world kept.world) kept.enough kept (λ z u _ fits u_kept. (fits, grows_here (shaped u), u_kept))
 
-        values_go : {arguments : core.Arguments} {ts : List CType} → HaveTypes g types arguments ts → (s : State) → IsKept low types s → Goes low types (shaped s) (OfTypes g ts) (values setting k arguments s)
+        values_go : {arguments : core.Arguments} {ts : List CType} → HaveTypes g types arguments ts → (s : State) → IsKept low types s → Goes low types (shaped s) (OfTypes g ts) (values true setting k arguments s)
         values_go typed.done s kept = (tt, grows_here (shaped s), kept)
         values_go (typed.more {e = e} {rest = rest} {t = t} {ts = ts} h hs) s kept =
-            goes_on low types (shaped s) (OfType g t) (OfTypes g (t ∷ ts)) (value setting k e s) _ (value_goes h s kept)
-            (λ v u _ typed u_kept. goes_on low types (shaped u) (OfTypes g ts) (OfTypes g (t ∷ ts)) (values setting k rest u) _ (values_go hs u u_kept)
+            goes_on low types (shaped s) (OfType g t) (OfTypes g (t ∷ ts)) (value true setting k e s) _ (value_goes h s kept)
+            (λ v u _ typed u_kept. goes_on low types (shaped u) (OfTypes g ts) (OfTypes g (t ∷ ts)) (values true setting k rest u) _ (values_go hs u u_kept)
             (λ vs w grown typed' w_kept. ((value_grown g.structs (shaped u) (shaped w) grown t v typed, typed'), grows_here (shaped w), w_kept)))
 
-        pub place_goes : {p : core.Place} {t : CType} → HasPlace g types p t → (s : State) → IsKept low types s → Goes low types (shaped s) (IsPlaced g t) (place setting k p s)
-        place_goes (typed.direct {object = object} {offset = offset} {t = t} {cells = is} found stands) s kept = direct_goes low types s t object offset is found stands kept
+        pub place_goes : {p : core.Place} {t : CType} → HasPlace g types p t → (s : State) → IsKept low types s → Goes low types (shaped s) (IsPlaced g t) (place true setting k p s)
+        place_goes (typed.direct {object = object} {offset = offset} {t = t} {cells = is} found row) s kept = direct_goes low types s t object offset is found row kept
         place_goes (typed.pointed {mode = m} {kind = d} {e = e} {t = t} {site = site} h) s kept =
-            goes_on low types (shaped s) (OfType g (Pointer m d t)) (IsPlaced g t) (value setting k e s) (place_through 0 site) (value_goes h s kept) (λ v u _ typed u_kept. pointed_goes low types u m d t site v typed u_kept)
+            goes_on low types (shaped s) (OfType g (Pointer m d t)) (IsPlaced g t) (value true setting k e s) _ (value_goes h s kept)
+            (λ v u _ typed u_kept. pointed_goes low types u m d t site _ (same_pointer (OfType g (Pointer m d t) (shaped u)) (bounds_of e) v u typed) u_kept)
         place_goes (typed.member {mode = m} {kind = d} {e = e} {n = number} {offset = offset} {t = t} {site = site} slot h found scalar) s kept =
-            goes_on low types (shaped s) (OfType g (Pointer m d (Struct number))) (IsPlaced g t) (value setting k e s) (place_through offset site) (value_goes h s kept) (λ v u _ typed u_kept. member_goes low types u m d number slot offset t site v found scalar typed u_kept)
+            goes_on low types (shaped s) (OfType g (Pointer m d (Struct number))) (IsPlaced g t) (value true setting k e s) _ (value_goes h s kept)
+            (λ v u _ typed u_kept. member_goes low types u m d number slot offset t site _ found scalar (same_pointer (OfType g (Pointer m d (Struct number)) (shaped u)) (bounds_of e) v u typed) u_kept)
 
     -- ---- stores
 
@@ -451,20 +485,20 @@ module _ (g : Frame) (budget n : ℕ) where
           goes_on low types (shaped s) (IsPlaced g t) (IsFlow g result loop) o _ h (λ at u grown placed u_kept. store_goes u result loop t site at v scalar placed (value_grown g.structs (shaped s) (shaped u) grown t v typed) u_kept)
 
       -- a place whose pointer was worked out before the value
-      pub pointed_store : {p : core.Place} {t : CType} → HasPlace g types p t → IsScalar t → {e : core.Expression} → HasType g types e t → (result : Option CType) (loop : Bool) (s : State) → IsKept low types s → Goes low types (shaped s) (IsFlow g result loop) (effect setting k (core.Store t p e) s)
-      pointed_store {t = t} (typed.direct {object = object} {offset = offset} {cells = is} found stands) scalar {e = e} h result loop s kept =
-          goes_on low types (shaped s) (OfType g (Pointer modes.Checked kinds.One t)) (IsFlow g result loop) (pointer_of setting k (core.Direct object offset) s) _
-          (goes_on low types (shaped s) (IsPlaced g t) (OfType g (Pointer modes.Checked kinds.One t)) (place_at None object offset s) pointer_to (direct_goes low types s t object offset is found stands kept) (λ at u _ placed u_kept. (placed, grows_here (shaped u), u_kept)))
-          (λ q u _ _ u_kept. goes_on low types (shaped u) (OfType g t) (IsFlow g result loop) (value setting k e u) _ (value_goes low types h u u_kept)
-          (λ v w _ typed w_kept. placed_store w result loop t None v (place_at None object offset w) scalar typed (direct_goes low types w t object offset is found stands w_kept)))
+      pub pointed_store : {p : core.Place} {t : CType} → HasPlace g types p t → IsScalar t → {e : core.Expression} → HasType g types e t → (result : Option CType) (loop : Bool) (s : State) → IsKept low types s → Goes low types (shaped s) (IsFlow g result loop) (effect true setting k (core.Store t p e) s)
+      pointed_store {t = t} (typed.direct {object = object} {offset = offset} {cells = is} found row) scalar {e = e} h result loop s kept =
+          goes_on low types (shaped s) (IsPointed g (Pointer modes.Checked kinds.One t)) (IsFlow g result loop) (pointer_of true setting k (core.Direct object offset) s) _
+          (goes_on low types (shaped s) (IsPlaced g t) (IsPointed g (Pointer modes.Checked kinds.One t)) (place_at None object offset s) (λ at u. Gives (without_ends at) u) (direct_goes low types s t object offset is found row kept) (λ at u _ placed u_kept. (placed, grows_here (shaped u), u_kept)))
+          (λ q u _ _ u_kept. goes_on low types (shaped u) (OfType g t) (IsFlow g result loop) (value true setting k e u) _ (value_goes low types h u u_kept)
+          (λ v w _ typed w_kept. placed_store w result loop t None v (place_at None object offset w) scalar typed (direct_goes low types w t object offset is found row w_kept)))
       pointed_store {t = t} (typed.pointed {mode = m} {kind = d} {e = p} {site = site} hp) scalar {e = e} h result loop s kept =
-          goes_on low types (shaped s) (OfType g (Pointer m d t)) (IsFlow g result loop) (value setting k p s) _ (value_goes low types hp s kept)
-          (λ q u _ pointer u_kept. behind low types (Pointer m d t) t (IsFlow g result loop) u q (value setting k e u) _ pointer (value_goes low types h u u_kept)
-          (λ v w pointer typed w_kept. placed_store w result loop t (Some site) v (place_through 0 site q w) scalar typed (pointed_goes low types w m d t site q pointer w_kept)))
+          goes_on low types (shaped s) (IsPointed g (Pointer m d t)) (IsFlow g result loop) (pointed true setting k p s) _ (ended_goes low types s m d t (bounds_of p) (value true setting k p s) (value_goes low types hp s kept))
+          (λ q u _ pointer u_kept. behind low types (Pointer m d t) t (IsFlow g result loop) u q.value (value true setting k e u) _ pointer (value_goes low types h u u_kept)
+          (λ v w pointer typed w_kept. placed_store w result loop t (Some site) v (element 0 site q.value w) scalar typed (pointed_goes low types w m d t site q.value pointer w_kept)))
       pointed_store {t = t} (typed.member {mode = m} {kind = d} {e = p} {n = number} {offset = offset} {site = site} slot hp found scalar') scalar {e = e} h result loop s kept =
-          goes_on low types (shaped s) (OfType g (Pointer m d (Struct number))) (IsFlow g result loop) (value setting k p s) _ (value_goes low types hp s kept)
-          (λ q u _ pointer u_kept. behind low types (Pointer m d (Struct number)) t (IsFlow g result loop) u q (value setting k e u) _ pointer (value_goes low types h u u_kept)
-          (λ v w pointer typed w_kept. placed_store w result loop t (Some site) v (place_through offset site q w) scalar typed (member_goes low types w m d number slot offset t site q found scalar pointer w_kept)))
+          goes_on low types (shaped s) (IsPointed g (Pointer m d (Struct number))) (IsFlow g result loop) (pointed true setting k p s) _ (ended_goes low types s m d (Struct number) (bounds_of p) (value true setting k p s) (value_goes low types hp s kept))
+          (λ q u _ pointer u_kept. behind low types (Pointer m d (Struct number)) t (IsFlow g result loop) u q.value (value true setting k e u) _ pointer (value_goes low types h u u_kept)
+          (λ v w pointer typed w_kept. placed_store w result loop t (Some site) v (element offset site q.value w) scalar typed (member_goes low types w m d number slot offset t site q.value found scalar pointer w_kept)))
 
     -- ---- statements
 
@@ -493,58 +527,58 @@ module _ (g : Frame) (budget n : ℕ) where
 
     module _ (types : List CType) (result : Option CType) where
       mutual
-        pub statement_goes : {loop : Bool} {x : core.Statement} → IsStatement g types result loop x → (low : ℕ) (s : State) → IsKept low types s → Goes low types (shaped s) (IsFlow g result loop) (effect setting k x s)
+        pub statement_goes : {loop : Bool} {x : core.Statement} → IsStatement g types result loop x → (low : ℕ) (s : State) → IsKept low types s → Goes low types (shaped s) (IsFlow g result loop) (effect true setting k x s)
         statement_goes typed.nothing low s kept = (tt, grows_here (shaped s), kept)
         statement_goes {loop = loop} (typed.set_local {k = i} {t = t} {e = e} found h) low s kept =
-            goes_on low types (shaped s) (OfType g t) (IsFlow g result loop) (value setting k e s) (set_local i) (value_goes low types h s kept) (λ v u _ typed u_kept. set_goes low types u result loop i t v found typed u_kept)
+            goes_on low types (shaped s) (OfType g t) (IsFlow g result loop) (value true setting k e s) (set_local i) (value_goes low types h s kept) (λ v u _ typed u_kept. set_goes low types u result loop i t v found typed u_kept)
         statement_goes {loop = loop} (typed.store {t = t} scalar place h) low s kept = pointed_store low types place scalar h result loop s kept
         statement_goes {loop = loop} (typed.update_local {char = char} {k = i} {t = t} {operator = operator} {e = e} {site = site} found number is_char h) low s kept =
             goes_on low types (shaped s) (OfType g t) (IsFlow g result loop) (given (slice_get s.locals i) s) _ (given_goes low types s i t kept found)
-            (λ old u _ old_typed u_kept. behind low types t Int (IsFlow g result loop) u old (value setting k e u) _ old_typed (value_goes low types h u u_kept)
+            (λ old u _ old_typed u_kept. behind low types t Int (IsFlow g result loop) u old (value true setting k e u) _ old_typed (value_goes low types h u u_kept)
             (λ v w old_typed typed w_kept. goes_on low types (shaped w) (OfType g Int) (IsFlow g result loop) (arithmetic_of operator site old v w) _ (arithmetic_goes low types w operator site old v (value_number g.structs (shaped w) t old number old_typed) typed w_kept)
             (λ new x _ new_typed x_kept. goes_on low types (shaped x) (OfType g t) (IsFlow g result loop) (kept_if char new x) (set_local i) (kept_goes low types x t char new number is_char new_typed x_kept)
             (λ last y _ last_typed y_kept. set_goes low types y result loop i t last found last_typed y_kept))))
         statement_goes {loop = loop} (typed.update {t = t} {p = p} {operator = operator} {e = e} {site = site} number hp h) low s kept =
-            goes_on low types (shaped s) (IsPlaced g t) (IsFlow g result loop) (place setting k p s) _ (place_goes low types hp s kept)
+            goes_on low types (shaped s) (IsPlaced g t) (IsFlow g result loop) (place true setting k p s) _ (place_goes low types hp s kept)
             (λ at r _ placed r_kept. goes_on low types (shaped r) (OfType g t) (IsFlow g result loop) (load_at t (Some site) at r) _ (load_goes low types r t (Some site) at (number_scalar t number) placed r_kept)
-            (λ old u to_u old_typed u_kept. goes_on low types (shaped u) (OfType g Int) (IsFlow g result loop) (value setting k e u) _ (value_goes low types h u u_kept)
+            (λ old u to_u old_typed u_kept. goes_on low types (shaped u) (OfType g Int) (IsFlow g result loop) (value true setting k e u) _ (value_goes low types h u u_kept)
             (λ v w to_w typed w_kept. goes_on low types (shaped w) (OfType g Int) (IsFlow g result loop) (arithmetic_of operator site old v w) _
             (arithmetic_goes low types w operator site old v (value_number g.structs (shaped w) t old number (value_grown g.structs (shaped u) (shaped w) to_w t old old_typed)) typed w_kept)
             (λ new x to_x new_typed x_kept.
             let grown = grows_on (shaped r) (shaped w) (shaped x) (grows_on (shaped r) (shaped u) (shaped w) to_u to_w) to_x in
             kept_store low types x result loop t (Some site) at new number (place_grown g.structs (shaped r) (shaped x) grown t at.0 at.1 placed) new_typed x_kept))))
         statement_goes {loop = loop} (typed.evaluate {e = e} {t = t} h) low s kept =
-            goes_on low types (shaped s) (OfType g t) (IsFlow g result loop) (value setting k e s) _ (value_goes low types h s kept) (λ v u _ typed u_kept. (tt, grows_here (shaped u), u_kept))
+            goes_on low types (shaped s) (OfType g t) (IsFlow g result loop) (value true setting k e s) _ (value_goes low types h s kept) (λ v u _ typed u_kept. (tt, grows_here (shaped u), u_kept))
         statement_goes {loop = loop} (typed.call_alone {callee = callee} {ts = ts} {arguments = arguments} known h) low s kept =
-            goes_on low types (shaped s) (OfTypes g ts) (IsFlow g result loop) (values setting k arguments s) _ (values_go low types h s kept)
+            goes_on low types (shaped s) (OfTypes g ts) (IsFlow g result loop) (values true setting k arguments s) _ (values_go low types h s kept)
             (λ vs u _ typed u_kept. goes_on low types (shaped u) (IsAnswer g None) (IsFlow g result loop) (called setting k callee vs u) no_result (called_goes types low u known vs typed u_kept) (λ v w _ answered w_kept. nothing_back low types w result loop v answered w_kept))
         statement_goes {loop = loop} (typed.print {e = e} h) low s kept =
-            goes_on low types (shaped s) (OfType g Int) (IsFlow g result loop) (value setting k e s) printed (value_goes low types h s kept) (λ v u _ typed u_kept. printed_goes low types result loop u v typed u_kept)
+            goes_on low types (shaped s) (OfType g Int) (IsFlow g result loop) (value true setting k e s) printed (value_goes low types h s kept) (λ v u _ typed u_kept. printed_goes low types result loop u v typed u_kept)
         statement_goes {loop = loop} (typed.put_byte {e = e} h) low s kept =
-            goes_on low types (shaped s) (OfType g Int) (IsFlow g result loop) (value setting k e s) put (value_goes low types h s kept) (λ v u _ typed u_kept. put_goes low types result loop u v typed u_kept)
+            goes_on low types (shaped s) (OfType g Int) (IsFlow g result loop) (value true setting k e s) put (value_goes low types h s kept) (λ v u _ typed u_kept. put_goes low types result loop u v typed u_kept)
         statement_goes (typed.block h) low s kept = statements_go h low s kept
         statement_goes {loop = loop} (typed.choice {e = e} {t = t} {x = x} {y = y} h hx hy) low s kept =
-            goes_on low types (shaped s) (OfType g t) (IsFlow g result loop) (value setting k e s) _ (value_goes low types h s kept)
+            goes_on low types (shaped s) (OfType g t) (IsFlow g result loop) (value true setting k e s) _ (value_goes low types h s kept)
             (λ v u _ typed u_kept. chosen_goes low types (shaped u) (IsFlow g result loop) (truth v) _ _ (statement_goes hx low u u_kept) (statement_goes hy low u u_kept))
         statement_goes {loop = loop} (typed.repeat {e = e} {t = t} {x = x} {y = y} h hx hy) low s kept =
-            goes_on low types (shaped s) (OfType g t) (IsFlow g result loop) (value setting k e s) _ (value_goes low types h s kept)
+            goes_on low types (shaped s) (OfType g t) (IsFlow g result loop) (value true setting k e s) _ (value_goes low types h s kept)
             (λ v u _ typed u_kept. chosen_goes low types (shaped u) (IsFlow g result loop) (truth v) _ _
             (lowered low types (shaped u) (IsFlow g result loop) _ u_kept.enough
             (asked_goes low (suc low) types Anything (IsFlow g result loop) (spend_tick budget u.world) u _ (tick_answers budget low u.world u_kept.world) (let few = u_kept.enough in omega arith) u_kept
-            (λ _ w _ _ w_kept. goes_on (suc low) types (shaped w) (IsFlow g result true) (IsFlow g result loop) (effect setting k x w) _ (statement_goes hx (suc low) w w_kept)
+            (λ _ w _ _ w_kept. goes_on (suc low) types (shaped w) (IsFlow g result true) (IsFlow g result loop) (effect true setting k x w) _ (statement_goes hx (suc low) w w_kept)
             (λ flow w' _ ok w'_kept. turned_goes (suc low) types result loop _ flow w' ok w'_kept
-            (goes_on (suc low) types (shaped w') (IsFlow g result false) (IsFlow g result loop) (effect setting k y w') _ (statement_goes hy (suc low) w' w'_kept)
+            (goes_on (suc low) types (shaped w') (IsFlow g result false) (IsFlow g result loop) (effect true setting k y w') _ (statement_goes hy (suc low) w' w'_kept)
             (λ flow' z _ ok' z_kept. next_goes (suc low) types result loop false _ flow' z (λ e. absurd (cc)) ok' z_kept
             (is.turn (suc low) types result loop e t x y z h hx hy (let few = u_kept.enough in omega arith) z_kept)))))))
             (tt, grows_here (shaped u), u_kept))
         statement_goes {loop = loop} (typed.returned {e = e} {t = t} declared h) low s kept =
-            goes_on low types (shaped s) (OfType g t) (IsFlow g result loop) (value setting k e s) _ (value_goes low types h s kept) (λ v u _ typed u_kept. (subst (λ r. IsAnswer g r (shaped u) (Some v)) (sym declared) typed, grows_here (shaped u), u_kept))
+            goes_on low types (shaped s) (OfType g t) (IsFlow g result loop) (value true setting k e s) _ (value_goes low types h s kept) (λ v u _ typed u_kept. (subst (λ r. IsAnswer g r (shaped u) (Some v)) (sym declared) typed, grows_here (shaped u), u_kept))
         statement_goes (typed.returned_nothing declared) low s kept = (subst (λ r. IsAnswer g r (shaped s) None) (sym declared) tt, grows_here (shaped s), kept)
         statement_goes typed.broken low s kept = (refl, grows_here (shaped s), kept)
         statement_goes typed.continued low s kept = (refl, grows_here (shaped s), kept)
 
-        pub statements_go : {loop : Bool} {xs : core.Statements} → AreStatements g types result loop xs → (low : ℕ) (s : State) → IsKept low types s → Goes low types (shaped s) (IsFlow g result loop) (effects setting k xs s)
+        pub statements_go : {loop : Bool} {xs : core.Statements} → AreStatements g types result loop xs → (low : ℕ) (s : State) → IsKept low types s → Goes low types (shaped s) (IsFlow g result loop) (effects true setting k xs s)
         statements_go typed.no_more low s kept = (tt, grows_here (shaped s), kept)
         statements_go {loop = loop} (typed.then_more {x = x} {xs = xs} h hs) low s kept =
-            goes_on low types (shaped s) (IsFlow g result loop) (IsFlow g result loop) (effect setting k x s) _ (statement_goes h low s kept)
-            (λ flow u _ ok u_kept. next_goes low types result loop loop (effects setting k xs) flow u (λ e. e) ok u_kept (statements_go hs low u u_kept))
+            goes_on low types (shaped s) (IsFlow g result loop) (IsFlow g result loop) (effect true setting k x s) _ (statement_goes h low s kept)
+            (λ flow u _ ok u_kept. next_goes low types result loop loop (effects true setting k xs) flow u (λ e. e) ok u_kept (statements_go hs low u u_kept))

@@ -1,5 +1,5 @@
 -- Values, cells and places of their types, in blocks that are only added.
-use Rattle.std.proofs.Common.{◌≡◌, ℕ, zero, suc, ◌+◌, ◌<◌, true, false, not, pos, negsuc, List, [], ◌∷◌, ◌++◌, map, take, length, Option, Some, None, refl, sym, ap, ◌∙◌, subst, arith, append_assoc, append-nil}
+use Rattle.std.proofs.Common.{◌≡◌, ℕ, zero, suc, ◌+◌, ◌<◌, ◌≤◌, true, false, not, pos, negsuc, List, [], ◌∷◌, ◌++◌, map, take, length, Option, Some, None, refl, sym, ap, ◌∙◌, subst, arith, append_assoc, append-nil}
 use Rattle.std.specs.Prelude.{◌||◌, slice_get, slice_set, option_map}
 use Rattle.std.specs.List.{AllByRecursion}
 use Rattle.std.specs.Option.{option_and_then}
@@ -11,12 +11,13 @@ use Rattle.pointer_modes.specs.declared.ctype.Mode.TheVariants as modes
 use Rattle.pointer_modes.specs.declared.ctype.Kind.{Kind}
 use Rattle.pointer_modes.specs.declared.ctype.Kind.TheVariants as kinds
 use Rattle.pointer_modes.specs.Types.{CType, Int, Char, Struct, Pointer, Member, Structure, members_of}
-use Rattle.pointer_modes.specs.Layout.{aligned_up, scalar_size, member_sizes, placed_from}
+use Rattle.pointer_modes.specs.Layout.{aligned_up, scalar_size, member_sizes, sizes_of, placed_from, end_from, size_of}
+use Rattle.pointer_modes.proofs.Layouts.{widths, size_behind}
 use Rattle.ckc_core.specs.States.{Value, Number, Null, At, Cell, Block, Local, Shape, Grows, same_mode, same_kind, same_type, has_type, zero_of, strides, number_at, cell_in, cell_at, stored, shape, shapes, type_at}
-use Rattle.ckc_core.specs.Meaning.{fit, is_zero, is_last, leaves_zero, locals_for}
+use Rattle.ckc_core.specs.Steps.{fit, is_zero, is_last, leaves_zero, locals_for}
 use Rattle.ckc_core.proofs.Elements.{of_element}
 use Rattle.region_typing_rules.specs.Types.{is_number}
-use Rattle.region_typing_rules.specs.Typed.{Slot, slots, slots_from, Stands, IsPlace, HasValue, IsScalar}
+use Rattle.region_typing_rules.specs.Typed.{Slot, slots, slots_from, Stands, HasRow, IsPlace, HasValue, IsScalar}
 
 -- ---- types
 
@@ -43,7 +44,7 @@ still_there [] more k x h = absurd (cc)
 still_there (y ∷ xs) more zero x h = h
 still_there (y ∷ xs) more (suc k) x h = still_there xs more k x h
 
-mapped_from : {X Y : Type 0} (f : X → Y) (xs : List X) (k : ℕ) (y : Y) → slice_get (map f xs) k ≡ Some y → (x : X) × (slice_get xs k ≡ Some x) × (f x ≡ y)
+pub mapped_from : {X Y : Type 0} (f : X → Y) (xs : List X) (k : ℕ) (y : Y) → slice_get (map f xs) k ≡ Some y → (x : X) × (slice_get xs k ≡ Some x) × (f x ≡ y)
 mapped_from f [] k y h = absurd (cc)
 mapped_from f (x ∷ xs) zero y h = (x, refl, same_Some (f x) y h)
 mapped_from f (x ∷ xs) (suc k) y h = mapped_from f xs k y h
@@ -168,16 +169,59 @@ module _ (structs : List Structure) where
           subst (λ (x : Slot). type_at s (byte + x.offset) ≡ Some x.type) (same_Some (record { type = t; offset = 0 }) slot h) (subst (λ k. type_at s k ≡ Some t) same typed)
       each (suc k) slot h = absurd (cc)
 
+  -- ---- the bytes that a value takes
+
+  scalar_bytes : (t : CType) → IsScalar t → size_of structs t ≡ scalar_size t
+  scalar_bytes Int h = refl
+  scalar_bytes Char h = refl
+  scalar_bytes (Struct n) h = absurd (cc)
+  scalar_bytes (Pointer m k t) h = refl
+
+  aligned_behind : (t : CType) (n : ℕ) → n ≤ aligned_up (scalar_size t) n
+  aligned_behind Int n = omega arith
+  aligned_behind Char n = omega arith
+  aligned_behind (Struct number) n = omega arith
+  aligned_behind (Pointer m k t) n = omega arith
+
+  end_behind : (members : List Member) (n : ℕ) → n ≤ end_from n (member_sizes members)
+  end_behind [] n = omega arith
+  end_behind (m ∷ members) n =
+      let here = aligned_behind m.ctype n in
+      let rest = end_behind members (aligned_up (scalar_size m.ctype) n + scalar_size m.ctype) in
+      omega (arith, here, rest)
+
+  -- each member ends before its struct does
+  slot_before : (members : List Member) (n k : ℕ) (slot : Slot) → slice_get (slots_from members (placed_from n (member_sizes members))) k ≡ Some slot → slot.offset + scalar_size slot.type ≤ end_from n (member_sizes members)
+  slot_before [] n k slot h = absurd (cc)
+  slot_before (m ∷ members) n zero slot h =
+      let first : Slot = record { type = m.ctype; offset = aligned_up (scalar_size m.ctype) n } in
+      subst (λ (x : Slot). x.offset + scalar_size x.type ≤ end_from n (member_sizes (m ∷ members))) (same_Some first slot h) (end_behind members (aligned_up (scalar_size m.ctype) n + scalar_size m.ctype))
+  slot_before (m ∷ members) n (suc k) slot h = slot_before members (aligned_up (scalar_size m.ctype) n + scalar_size m.ctype) k slot h
+
+  member_within : (n k offset : ℕ) (t : CType) → IsScalar t → slice_get (slots structs (Struct n)) k ≡ Some (record { type = t; offset = offset }) → offset + size_of structs t ≤ size_of structs (Struct n)
+  member_within n k offset t scalar h =
+      let bytes = scalar_bytes t scalar in
+      let before = slot_before (members_of structs n) 0 k (record { type = t; offset = offset }) h in
+      let end = size_behind (sizes_of structs (Struct n)) (widths structs (Struct n)) in
+      omega (arith, bytes, before, end)
+
   -- the member of a struct that stands at a place
   pub member_place : (b : List Shape) (n block first k offset : ℕ) (t : CType) → IsScalar t → IsPlace structs b (Struct n) block first → slice_get (slots structs (Struct n)) k ≡ Some (record { type = t; offset = offset }) → IsPlace structs b t block (first + offset)
   member_place b n block first k offset t scalar h found =
-      let typed = h.stands.each k (record { type = t; offset = offset }) found in
-      record { shape = h.shape; found = h.found; stands = scalar_stands h.shape (first + offset) t scalar typed h.stands.open_ended }
+      let stands = h.row.stands in
+      let typed = stands.each k (record { type = t; offset = offset }) found in
+      let within = member_within n k offset t scalar found in
+      let room = h.row.room in
+      let row : HasRow structs h.shape (first + offset) t = record {
+        stands = scalar_stands h.shape (first + offset) t scalar typed stands.open_ended;
+        room = omega (arith, within, room);
+      } in
+      record { shape = h.shape; found = h.found; row = row }
 
   -- a place is still there where blocks are added
   pub place_grown : (a b : List Shape) → Grows a b → (t : CType) (block byte : ℕ) → IsPlace structs a t block byte → IsPlace structs b t block byte
   place_grown a b more t block byte h =
-      record { shape = h.shape; found = ap (λ x. slice_get x block) more.1 ∙ still_there a more.0 block h.shape h.found; stands = h.stands }
+      record { shape = h.shape; found = ap (λ x. slice_get x block) more.1 ∙ still_there a more.0 block h.shape h.found; row = h.row }
 
   -- what stands first at a place
   first_slot : (row : List Slot) → 0 < length row → (slot : Slot) × (slice_get row 0 ≡ Some slot)
@@ -188,7 +232,7 @@ module _ (structs : List Structure) where
   place_has_cell blocks t block byte slot h first =
       let start = first_at_zero t slot first in
       let same : byte + slot.offset ≡ byte = omega (arith, start) in
-      cell_there blocks block byte h.shape slot.type h.found (subst (λ k. type_at h.shape k ≡ Some slot.type) same (h.stands.each 0 slot first)) h.stands.open_ended
+      cell_there blocks block byte h.shape slot.type h.found (subst (λ k. type_at h.shape k ≡ Some slot.type) same (h.row.stands.each 0 slot first)) h.row.stands.open_ended
 
   -- a cell of a scalar type
   pub scalar_cell : (blocks : List Block) (t : CType) (block byte : ℕ) → IsScalar t → IsPlace structs (shapes blocks) t block byte → HasCell blocks block byte t
@@ -198,7 +242,7 @@ module _ (structs : List Structure) where
   -- at each place a cell begins
   pub some_cell : (blocks : List Block) (t : CType) (block byte : ℕ) → IsPlace structs (shapes blocks) t block byte → (c : Cell) × (cell_at blocks block byte ≡ Some c)
   some_cell blocks t block byte h =
-      let first = first_slot (slots structs t) h.stands.there in
+      let first = first_slot (slots structs t) h.row.stands.there in
       let c = place_has_cell blocks t block byte first.0 h first.1 in
       (c.cell, at_cell blocks block byte first.0.type c)
 

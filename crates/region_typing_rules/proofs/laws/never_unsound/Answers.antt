@@ -1,0 +1,5 @@
+use Rattle.region_typing_rules.proofs.Programs.{never_unsound}
+use Rattle.region_typing_rules.proofs.laws.never_unsound.Goals as goal
+
+pub returns : goal.returns
+returns c = never_unsound
