@@ -3,14 +3,16 @@
 ghost use Rattle.std.specs.Prelude.{◌≡◌, ◌≤◌, ◌++◌, length, map, option_map, IfOk, OnOk, All};
 ghost use Rattle.pointer_modes.specs.Types.{ctype as type_of};
 ghost use Rattle.code_words.specs.Formats.{IsFunc, IsImport};
-ghost use Rattle.ckc_core.specs.Core.{core, function, import_of, object};
+ghost use Rattle.ckc_core.specs.Core.{import_of, object};
+ghost use Rattle.check_insertion.specs.Erased.{erased, function};
 ghost use Rattle.lowering_code.specs.Code as code;
 ghost use Rattle.lowering_code.specs.Images.{object_bytes, function_code, functions_from, import_code, imports_from, image_of};
 ghost use Rattle.lowering_code.specs.Correct.{IsFunction, IsLowerable};
 
 use crate::statement_code::emit_statements;
 use ckc_core::program;
-use ckc_core::program::{Core, Function, Object};
+use check_insertion::erased::{Erased, Function};
+use ckc_core::program::Object;
 use ckc_text::fault::NoMemory;
 use ckc_text::listed::Listed;
 use code_words::image::{Blocks, Func, Funs, Image, Import, Imports, Layout, Ops, SideCode};

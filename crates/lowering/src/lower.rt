@@ -1,12 +1,12 @@
 // The whole way from a core to an image.
 
 ghost use Rattle.std.specs.Prelude.{◌≡◌, IfOk};
-ghost use Rattle.ckc_core.specs.Core.{core};
+ghost use Rattle.check_insertion.specs.Erased.{erased};
 ghost use Rattle.lowering_code.specs.Images.{image_of};
 ghost use Rattle.lowering_code.specs.Correct.{IsLowerable, KeepsMeaning};
 
 use crate::images::emit_image;
-use ckc_core::program::Core;
+use check_insertion::erased::Erased;
 use ckc_text::fault::NoMemory;
 use code_words::image::Image;
 use std::alloc::Global;

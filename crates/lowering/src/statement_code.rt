@@ -2,8 +2,8 @@
 
 ghost use Rattle.std.specs.Prelude.{◌≡◌, ◌+◌, ◌^◌, ◌≤◌, [], ◌∷◌, ◌++◌, length, OnOk};
 ghost use Rattle.pointer_modes.specs.Types.{ctype as type_of};
-ghost use Rattle.ckc_core.specs.Core.{expression, place as place_of, statement, statements_of};
-ghost use Rattle.ckc_core.specs.Core as cores;
+ghost use Rattle.check_insertion.specs.Erased.{expression, place as place_of, statement, statements_of};
+ghost use Rattle.check_insertion.specs.Erased as eraseds;
 ghost use Rattle.code_words.specs.declared.op.Op.TheVariants as ops_of;
 ghost use Rattle.lowering_code.specs.Code as code;
 ghost use Rattle.lowering_code.specs.Code.{Places};
@@ -11,7 +11,8 @@ ghost use Rattle.lowering_expressions.specs.Views.{targets_of};
 
 use act_words::operator::Operator;
 use ckc_core::char_cells::has_one_byte;
-use ckc_core::program::{CellPlace, Expr, Site, Stmt};
+use check_insertion::erased::{CellPlace, Expr, Stmt};
+use ckc_core::program::Site;
 use ckc_text::fault::NoMemory;
 use code_words::op::Op;
 use lowering_code::code_sizes::{expression_size, statement_size};

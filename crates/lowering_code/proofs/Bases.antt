@@ -9,8 +9,8 @@ use Rattle.act_words.specs.Limits.{AreAllowed}
 use Rattle.ckc_core.specs.Outcome.{Ends}
 use Rattle.act_words.specs.View.{output_of, releases_of, view_of}
 use Rattle.act_words.specs.World.{World}
-use Rattle.ckc_core.specs.Core.{Core}
-use Rattle.ckc_core.specs.Meaning as meaning
+use Rattle.check_insertion.specs.Erased.{Erased}
+use Rattle.check_insertion.specs.ErasedMeaning as meaning
 use Rattle.ckc_core.specs.States as meaning_states
 use Rattle.code_words.specs.declared.image.Image.{Image}
 use Rattle.code_words.specs.Table.{State}

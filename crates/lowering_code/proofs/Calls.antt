@@ -11,19 +11,20 @@ use Rattle.ckc_text.specs.declared.code.Code.TheVariants.{S2}
 use Rattle.act_words.specs.Acts.{IsWord}
 use Rattle.act_words.specs.declared.ending.Ending.TheVariants.{Stop}
 use Rattle.act_words.specs.Touches.{entered_if, enter_call, spend_tick}
-use Rattle.ckc_core.specs.Core.{Function}
-use Rattle.ckc_core.specs.Core as core
+use Rattle.check_insertion.specs.Erased.{Function}
+use Rattle.check_insertion.specs.Erased as erased
 use Rattle.pointer_modes.specs.Types.{CType}
 use Rattle.ckc_core.specs.States.{Value, Shape, Grows, shapes, has_type}
 use Rattle.ckc_core.specs.States as meaning
-use Rattle.ckc_core.specs.Meaning.{Result, Knot, Flow, Next, Broke, Continued, Returned, setting_of, fit, parameters_of, enter_if, takes, call_trusted}
-use Rattle.ckc_core.specs.Meaning as meanings
+use Rattle.ckc_core.specs.Steps.{Result, Flow, Next, Broke, Continued, Returned, setting_of, fit, parameters_of, enter_if, takes, call_trusted}
+use Rattle.check_insertion.specs.ErasedMeaning.{Knot}
+use Rattle.check_insertion.specs.ErasedMeaning as meanings
 use Rattle.code_words.specs.Table.{Frame, Caller, Calls, Runs, Away, State, Step, Goes, pop_words, pop_if, call_function, enter, behind, frame_for, push_result, return_to, depth}
 use Rattle.code_words.specs.Table as table
 use Rattle.code_words.specs.Moves.{move, answer as answer_by}
 use Rattle.code_words.specs.declared.op.Op.TheVariants as ops
 use Rattle.lowering_code.specs.Code.{Places, statement_size, statement_code}
-use Rattle.ckc_core.specs.Stacks.{statement_stack}
+use Rattle.check_insertion.specs.Stacks.{statement_stack}
 use Rattle.lowering_code.specs.Images.{function_code}
 use Rattle.lowering_code.specs.Correct.{IsFunction}
 use Rattle.ckc_core.proofs.Elements.{of_element}
@@ -111,7 +112,7 @@ pub record ArePlaces (g : Execution) (l : Layout g) (p : Places) : Type 0 where
   pub free : l.held ≡ None
 
 -- the test of a loop whose code stands at a place
-abbrev pub test_of : ℕ → core.Statement → core.Statement → ℕ
+abbrev pub test_of : ℕ → erased.Statement → erased.Statement → ℕ
 test_of at body step = at + 2 + statement_size body + statement_size step
 
 -- the innermost tainted call ends with a word, and blocks were only added
@@ -127,7 +128,7 @@ pub record Answered (g : Execution) (callers : List Caller) (since : List Shape)
 -- the code does what calls, further turns and the sandbox's turn mean
 pub record KnotRuns (g : Execution) (k : Knot) : Type 0 where
   pub call : (number : ℕ) (f : Function) (callers : List Caller) (values : List Value) (s : meaning.State) → slice_get g.program.functions number ≡ Some f → f.parameters ≡ length values → AllByRecursion (IsKept s) values → KeptBlocks g s.blocks → KeptWorld s.world → s.depth ≡ length callers → Reached g (entered g number f callers values s) → Leads (Returns g callers s) (Finishes g) (k.call number values s)
-  pub turn : (l : Layout g) (p : Places) (at : ℕ) (condition : core.Expression) (body step : core.Statement) (s : meaning.State) → ArePlaces g l p → HasAt (code g l).ops at (statement_code p at (core.Loop condition body step)) → statement_stack (core.Loop condition body step) ≤ (code g l).stack → at + statement_size (core.Loop condition body step) < length (code g l).ops → Here g l (test_of at body step) [] s → Affects g l p (at + statement_size (core.Loop condition body step)) (k.turn condition body step s)
+  pub turn : (l : Layout g) (p : Places) (at : ℕ) (condition : erased.Expression) (body step : erased.Statement) (s : meaning.State) → ArePlaces g l p → HasAt (code g l).ops at (statement_code p at (erased.Loop condition body step)) → statement_stack (erased.Loop condition body step) ≤ (code g l).stack → at + statement_size (erased.Loop condition body step) < length (code g l).ops → Here g l (test_of at body step) [] s → Affects g l p (at + statement_size (erased.Loop condition body step)) (k.turn condition body step s)
   pub sandbox : (callers : List Caller) (s : meaning.State) → KeptBlocks g s.blocks → KeptWorld s.world → s.depth ≡ suc (length callers) → Reached g (state g Away callers s) → Leads (Answered g callers (shapes s.blocks)) (Finishes g) (k.sandbox s)
 
 -- ---- back in the caller

@@ -5,7 +5,7 @@ use Rattle.ckc_core.specs.Outcome.{Gives, and_then}
 use Rattle.act_words.specs.declared.operator.Comparison.TheVariants as comparisons
 use Rattle.ckc_core.specs.States.{Value}
 use Rattle.ckc_core.specs.States as meaning
-use Rattle.ckc_core.specs.Meaning.{Result, truth, number_of_test, choose, same_place, test_given}
+use Rattle.ckc_core.specs.Steps.{Result, truth, number_of_test, choose, same_place, test_given}
 use Rattle.code_words.specs.declared.op.Op.TheVariants as ops
 use Rattle.lowering_code.proofs.Executions.{Execution, word_of, IsKept}
 use Rattle.lowering_code.proofs.Steps.{HasAt, leads_on, Finishes, Layout, code, Here, pushes, here_at, Arrives, Evaluates}

@@ -3,13 +3,13 @@ use Rattle.std.proofs.Common.{◌≡◌, ℕ, zero, suc, ◌+◌, ◌^◌, ◌<�
 use Rattle.std.proofs.lemmas.Result.{on_ok_weaker}
 use Rattle.ckc_text.specs.declared.fault.NoMemory.{NoMemory}
 use Rattle.pointer_modes.specs.Types.{CType}
-use Rattle.ckc_core.specs.declared.program.Expr.{Expr}
-use Rattle.ckc_core.specs.declared.program.Stmt.{Stmt}
+use Rattle.check_insertion.specs.declared.erased.Expr.{Expr}
+use Rattle.check_insertion.specs.declared.erased.Stmt.{Stmt}
 use Rattle.act_words.specs.declared.operator.Operator.{Operator}
 use Rattle.ckc_core.specs.declared.program.Site.{Site}
-use Rattle.ckc_core.specs.Core as core
-use Rattle.ckc_core.specs.Meaning.{is_char}
-use Rattle.ckc_core.specs.Core.{expression, arguments_of, statement, statements_of}
+use Rattle.check_insertion.specs.Erased as erased
+use Rattle.ckc_core.specs.Steps.{is_char}
+use Rattle.check_insertion.specs.Erased.{expression, arguments_of, statement, statements_of}
 use Rattle.code_words.specs.declared.op.Op.{Op}
 use Rattle.code_words.specs.declared.op.Op.TheVariants as ops
 use Rattle.lowering_code.specs.Code.{Places, operator_code, load_code, store_code, byte_code, expression_size, arguments_size, place_size, before_value_size, statement_size, statements_size, expression_code, arguments_code, place_code, before_value, behind_value, statement_code, statements_code}
@@ -25,13 +25,13 @@ emitted_then old mid new a b first second = second ∙ ap (λ l. l ++ b) first �
 pub place_after : (old mid a : List Op) (n : ℕ) → length a ≡ n → mid ≡ old ++ a → length mid ≡ length old + n
 place_after old mid a n long first = omega (arith, ap length first, length-append old a)
 
-pub after_expression : (x : core.Expression) (old mid : List Op) → mid ≡ old ++ expression_code (length old) x → length mid ≡ length old + expression_size x
+pub after_expression : (x : erased.Expression) (old mid : List Op) → mid ≡ old ++ expression_code (length old) x → length mid ≡ length old + expression_size x
 after_expression x old mid e = place_after old mid (expression_code (length old) x) (expression_size x) (length_expression (length old) x) e
 
-pub after_statement : (p : Places) (x : core.Statement) (old mid : List Op) → mid ≡ old ++ statement_code p (length old) x → length mid ≡ length old + statement_size x
+pub after_statement : (p : Places) (x : erased.Statement) (old mid : List Op) → mid ≡ old ++ statement_code p (length old) x → length mid ≡ length old + statement_size x
 after_statement p x old mid e = place_after old mid (statement_code p (length old) x) (statement_size x) (length_statement p (length old) x) e
 
-pub after_condition : (x : core.Expression) (op : Op) (old mid : List Op) → mid ≡ old ++ (expression_code (length old) x ++ op ∷ []) → length mid ≡ length old + (expression_size x + 1)
+pub after_condition : (x : erased.Expression) (op : Op) (old mid : List Op) → mid ≡ old ++ (expression_code (length old) x ++ op ∷ []) → length mid ≡ length old + (expression_size x + 1)
 after_condition x op old mid e =
     let code = expression_code (length old) x in
     place_after old mid (code ++ op ∷ []) (expression_size x + 1) (omega (arith, length-append code (op ∷ []), length_expression (length old) x)) e
@@ -43,19 +43,19 @@ moved_to f mid new m n same e = e ∙ ap (λ k. mid ++ f k) same
 -- ---- expressions
 
 -- a part that is followed by an expression and by more
-pub then_expression : (right : core.Expression) (n : ℕ) (old one two new a last : List Op) → length a ≡ n → one ≡ old ++ a → two ≡ one ++ expression_code (length one) right → new ≡ two ++ last → new ≡ old ++ (a ++ (expression_code (length old + n) right ++ last))
+pub then_expression : (right : erased.Expression) (n : ℕ) (old one two new a last : List Op) → length a ≡ n → one ≡ old ++ a → two ≡ one ++ expression_code (length one) right → new ≡ two ++ last → new ≡ old ++ (a ++ (expression_code (length old + n) right ++ last))
 then_expression right n old one two new a last long first second third =
     let m = place_after old one a n long first in
     emitted_then old one new a (expression_code (length old + n) right ++ last) first
     (emitted_then one two new (expression_code (length old + n) right) last (moved_to (λ k. expression_code k right) one two (length one) (length old + n) m second) third)
 
 -- the right one of two operands, and what is done with both
-pub right_emitted : (left right : core.Expression) (old one two : List Op) (op : Op) (r : Result (Unit {0}) NoMemory) → one ≡ old ++ expression_code (length old) left → OnOk r (two ≡ one ++ (expression_code (length one) right ++ op ∷ [])) → OnOk r (two ≡ old ++ (expression_code (length old) left ++ (expression_code (length old + expression_size left) right ++ op ∷ [])))
+pub right_emitted : (left right : erased.Expression) (old one two : List Op) (op : Op) (r : Result (Unit {0}) NoMemory) → one ≡ old ++ expression_code (length old) left → OnOk r (two ≡ one ++ (expression_code (length one) right ++ op ∷ [])) → OnOk r (two ≡ old ++ (expression_code (length old) left ++ (expression_code (length old + expression_size left) right ++ op ∷ [])))
 right_emitted left right old one two op r first second =
     let m = place_after old one (expression_code (length old) left) (expression_size left) (length_expression (length old) left) first in
     on_ok_weaker r (λ e. emitted_then old one two (expression_code (length old) left) (expression_code (length old + expression_size left) right ++ op ∷ []) first (moved_to (λ k. expression_code k right ++ op ∷ []) one two (length one) (length old + expression_size left) m e)) second
 
-pub and_emitted : (left right : core.Expression) (size : ℕ) (old one jumped two new : List Op) → size ≡ expression_size right → one ≡ old ++ expression_code (length old) left → jumped ≡ one ++ ops.JumpIfZero (length one + 1 + size + 3) ∷ [] → two ≡ jumped ++ expression_code (length jumped) right → new ≡ two ++ ops.Zero ∷ ops.Zero ∷ ops.Jump (length two + 4) ∷ ops.Const (pos 0) ∷ [] → new ≡ old ++ expression_code (length old) (core.AndAlso left right)
+pub and_emitted : (left right : erased.Expression) (size : ℕ) (old one jumped two new : List Op) → size ≡ expression_size right → one ≡ old ++ expression_code (length old) left → jumped ≡ one ++ ops.JumpIfZero (length one + 1 + size + 3) ∷ [] → two ≡ jumped ++ expression_code (length jumped) right → new ≡ two ++ ops.Zero ∷ ops.Zero ∷ ops.Jump (length two + 4) ∷ ops.Const (pos 0) ∷ [] → new ≡ old ++ expression_code (length old) (erased.AndAlso left right)
 and_emitted left right size old one jumped two new is first second third fourth =
     let m = length old + expression_size left in
     let at_one : length one ≡ m = place_after old one (expression_code (length old) left) (expression_size left) (length_expression (length old) left) first in
@@ -69,7 +69,7 @@ and_emitted left right size old one jumped two new is first second third fourth 
     (emitted_then one jumped new (ops.JumpIfZero (m + 1 + expression_size right + 3) ∷ []) (expression_code (m + 1) right ++ last (m + 1 + expression_size right + 4)) branch
     (emitted_then jumped two new (expression_code (m + 1) right) (last (m + 1 + expression_size right + 4)) inner behind))
 
-pub or_emitted : (left right : core.Expression) (size : ℕ) (old one jumped two new : List Op) → size ≡ expression_size right → one ≡ old ++ expression_code (length old) left → jumped ≡ one ++ ops.JumpIfZero (length one + 3) ∷ ops.Const (pos 1) ∷ ops.Jump (length one + 3 + size + 2) ∷ [] → two ≡ jumped ++ expression_code (length jumped) right → new ≡ two ++ ops.Zero ∷ ops.Zero ∷ [] → new ≡ old ++ expression_code (length old) (core.OrElse left right)
+pub or_emitted : (left right : erased.Expression) (size : ℕ) (old one jumped two new : List Op) → size ≡ expression_size right → one ≡ old ++ expression_code (length old) left → jumped ≡ one ++ ops.JumpIfZero (length one + 3) ∷ ops.Const (pos 1) ∷ ops.Jump (length one + 3 + size + 2) ∷ [] → two ≡ jumped ++ expression_code (length jumped) right → new ≡ two ++ ops.Zero ∷ ops.Zero ∷ [] → new ≡ old ++ expression_code (length old) (erased.OrElse left right)
 or_emitted left right size old one jumped two new is first second third fourth =
     let m = length old + expression_size left in
     let at_one : length one ≡ m = place_after old one (expression_code (length old) left) (expression_size left) (length_expression (length old) left) first in
@@ -111,10 +111,10 @@ arguments_emitted args i x now next whole low is so_far e =
 
 -- ---- statements
 
-pub store_emitted : (type : CType) (cell : core.Place) (value : core.Expression) (scratch : ℕ) (old one two new : List Op) → one ≡ old ++ before_value (length old) cell → two ≡ one ++ expression_code (length one) value → new ≡ two ++ behind_value scratch type cell → new ≡ old ++ (before_value (length old) cell ++ (expression_code (length old + before_value_size cell) value ++ behind_value scratch type cell))
+pub store_emitted : (type : CType) (cell : erased.Place) (value : erased.Expression) (scratch : ℕ) (old one two new : List Op) → one ≡ old ++ before_value (length old) cell → two ≡ one ++ expression_code (length one) value → new ≡ two ++ behind_value scratch type cell → new ≡ old ++ (before_value (length old) cell ++ (expression_code (length old + before_value_size cell) value ++ behind_value scratch type cell))
 store_emitted type cell value scratch old one two new = then_expression value (before_value_size cell) old one two new (before_value (length old) cell) (behind_value scratch type cell) (length_before (length old) cell)
 
-pub update_emitted : (p : Places) (type : CType) (cell : core.Place) (value : core.Expression) (operator : Operator) (site : Site) (op load store : Op) (char : Bool) (old one loaded two new : List Op) → op ≡ operator_code operator site → load ≡ load_code type → char ≡ is_char type → store ≡ store_code type → one ≡ old ++ place_code (length old) cell → loaded ≡ one ++ ops.Duplicate ∷ load ∷ [] → two ≡ loaded ++ expression_code (length loaded) value → new ≡ two ++ op ∷ (byte_code char ++ store ∷ []) → new ≡ old ++ statement_code p (length old) (core.Update type cell operator value site)
+pub update_emitted : (p : Places) (type : CType) (cell : erased.Place) (value : erased.Expression) (operator : Operator) (site : Site) (op load store : Op) (char : Bool) (old one loaded two new : List Op) → op ≡ operator_code operator site → load ≡ load_code type → char ≡ is_char type → store ≡ store_code type → one ≡ old ++ place_code (length old) cell → loaded ≡ one ++ ops.Duplicate ∷ load ∷ [] → two ≡ loaded ++ expression_code (length loaded) value → new ≡ two ++ op ∷ (byte_code char ++ store ∷ []) → new ≡ old ++ statement_code p (length old) (erased.Update type cell operator value site)
 update_emitted p type cell value operator site op load store char old one loaded two new made loads chars stores first second third fourth =
     let m = length old + place_size cell in
     let last = λ (o : Op) (b : Bool) (s : Op). o ∷ (byte_code b ++ s ∷ []) in
@@ -128,19 +128,19 @@ update_emitted p type cell value operator site op load store char old one loaded
     (emitted_then one loaded new (ops.Duplicate ∷ load_code type ∷ []) (expression_code (m + 2) value ++ behind) loaded_by
     (emitted_then loaded two new (expression_code (m + 2) value) behind inner stored_by))
 
-pub local_update_emitted : (p : Places) (char : Bool) (local : ℕ) (value : core.Expression) (operator : Operator) (site : Site) (op : Op) (old one two new : List Op) → op ≡ operator_code operator site → one ≡ old ++ ops.Local local ∷ [] → two ≡ one ++ expression_code (length one) value → new ≡ two ++ op ∷ (byte_code char ++ ops.Set local ∷ []) → new ≡ old ++ statement_code p (length old) (core.UpdateLocal char local operator value site)
+pub local_update_emitted : (p : Places) (char : Bool) (local : ℕ) (value : erased.Expression) (operator : Operator) (site : Site) (op : Op) (old one two new : List Op) → op ≡ operator_code operator site → one ≡ old ++ ops.Local local ∷ [] → two ≡ one ++ expression_code (length one) value → new ≡ two ++ op ∷ (byte_code char ++ ops.Set local ∷ []) → new ≡ old ++ statement_code p (length old) (erased.UpdateLocal char local operator value site)
 local_update_emitted p char local value operator site op old one two new made first second third =
     let last = λ (o : Op). o ∷ (byte_code char ++ ops.Set local ∷ []) in
     then_expression value 1 old one two new (ops.Local local ∷ []) (last (operator_code operator site)) refl first second (third ∙ ap (λ o. two ++ last o) made)
 
-pub condition_emitted : (condition : core.Expression) (over other : ℕ) (old one new : List Op) → other ≡ length one + (over + 1) → one ≡ old ++ expression_code (length old) condition → new ≡ one ++ ops.JumpIfZero other ∷ [] → new ≡ old ++ (expression_code (length old) condition ++ ops.JumpIfZero (length old + expression_size condition + 1 + over) ∷ [])
+pub condition_emitted : (condition : erased.Expression) (over other : ℕ) (old one new : List Op) → other ≡ length one + (over + 1) → one ≡ old ++ expression_code (length old) condition → new ≡ one ++ ops.JumpIfZero other ∷ [] → new ≡ old ++ (expression_code (length old) condition ++ ops.JumpIfZero (length old + expression_size condition + 1 + over) ∷ [])
 condition_emitted condition over other old one new others first second =
     let code = expression_code (length old) condition in
     let there : length one ≡ length old + expression_size condition = place_after old one code (expression_size condition) (length_expression (length old) condition) first in
     emitted_then old one new code (ops.JumpIfZero (length old + expression_size condition + 1 + over) ∷ []) first
     (moved_to (λ k. ops.JumpIfZero k ∷ []) one new other (length old + expression_size condition + 1 + over) (omega arith) second)
 
-pub if_emitted : (p : Places) (condition : core.Expression) (consequent alternative : core.Statement) (over size : ℕ) (old one two jumped new : List Op) → over ≡ statement_size consequent + 1 → size ≡ statement_size alternative → one ≡ old ++ (expression_code (length old) condition ++ ops.JumpIfZero (length old + expression_size condition + 1 + over) ∷ []) → two ≡ one ++ statement_code p (length one) consequent → jumped ≡ two ++ ops.Jump (length two + 1 + size) ∷ [] → new ≡ jumped ++ statement_code p (length jumped) alternative → new ≡ old ++ statement_code p (length old) (core.If condition consequent alternative)
+pub if_emitted : (p : Places) (condition : erased.Expression) (consequent alternative : erased.Statement) (over size : ℕ) (old one two jumped new : List Op) → over ≡ statement_size consequent + 1 → size ≡ statement_size alternative → one ≡ old ++ (expression_code (length old) condition ++ ops.JumpIfZero (length old + expression_size condition + 1 + over) ∷ []) → two ≡ one ++ statement_code p (length one) consequent → jumped ≡ two ++ ops.Jump (length two + 1 + size) ∷ [] → new ≡ jumped ++ statement_code p (length jumped) alternative → new ≡ old ++ statement_code p (length old) (erased.If condition consequent alternative)
 if_emitted p condition consequent alternative over size old one two jumped new is is' first second third fourth =
     let code = expression_code (length old) condition in
     let inside = length old + expression_size condition + 1 in
@@ -159,7 +159,7 @@ if_emitted p condition consequent alternative over size old one two jumped new i
     (emitted_then two jumped new (ops.Jump (other + statement_size alternative) ∷ []) (statement_code p other alternative) leap passed))
     ∙ ap (λ l. old ++ l) (append_assoc code (ops.JumpIfZero other ∷ []) rest)
 
-pub loop_emitted : (p q : Places) (condition : core.Expression) (body step : core.Statement) (turn body_is step_is condition_is : ℕ) (old one two three new : List Op) → turn ≡ length old + 1 → body_is ≡ statement_size body → step_is ≡ statement_size step → condition_is ≡ expression_size condition → q ≡ loop_places p.scratch (length old) body_is step_is condition_is → one ≡ old ++ ops.Jump (q.on_continue + step_is) ∷ ops.Tick ∷ [] → two ≡ one ++ statement_code q (length one) body → three ≡ two ++ statement_code p (length two) step → new ≡ three ++ (expression_code (length three) condition ++ ops.JumpIfZero q.on_break ∷ ops.Jump turn ∷ []) → new ≡ old ++ statement_code p (length old) (core.Loop condition body step)
+pub loop_emitted : (p q : Places) (condition : erased.Expression) (body step : erased.Statement) (turn body_is step_is condition_is : ℕ) (old one two three new : List Op) → turn ≡ length old + 1 → body_is ≡ statement_size body → step_is ≡ statement_size step → condition_is ≡ expression_size condition → q ≡ loop_places p.scratch (length old) body_is step_is condition_is → one ≡ old ++ ops.Jump (q.on_continue + step_is) ∷ ops.Tick ∷ [] → two ≡ one ++ statement_code q (length one) body → three ≡ two ++ statement_code p (length two) step → new ≡ three ++ (expression_code (length three) condition ++ ops.JumpIfZero q.on_break ∷ ops.Jump turn ∷ []) → new ≡ old ++ statement_code p (length old) (erased.Loop condition body step)
 loop_emitted p q condition body step turn body_is step_is condition_is old one two three new turns bodies steps tests places first second third fourth =
     let inside = length old + 2 in
     let next = inside + statement_size body in

@@ -14,10 +14,11 @@ use Rattle.flat_bytes.specs.Blocks.{first_offset, grown, rounded_up, is_refused,
 use Rattle.flat_bytes.specs.Blocks as flat
 use Rattle.trusted_memory.specs.Memories.{Memory}
 use Rattle.pointer_modes.specs.Types.{CType, Int, Char, Struct, Pointer}
-use Rattle.ckc_core.specs.Core.{Core, Initial}
+use Rattle.ckc_core.specs.Programs.{Initial}
+use Rattle.check_insertion.specs.Erased.{Erased}
 use Rattle.ckc_core.specs.States.{Value, Null, Cell, Block, Shape, Local, Grows, strides, shape, shapes, has_type, initial_value, object_block}
 use Rattle.ckc_core.specs.States as meaning
-use Rattle.ckc_core.specs.Meaning.{is_char}
+use Rattle.ckc_core.specs.Steps.{is_char}
 use Rattle.code_words.specs.Table.{Caller, Control, State}
 use Rattle.code_words.specs.Table as table
 use Rattle.code_words.specs.Runs.{spread, counter_behind}

@@ -6,7 +6,8 @@ use Rattle.act_words.specs.declared.settings.Settings.{Settings}
 use Rattle.act_words.specs.Limits.{AreAllowed}
 use Rattle.flat_bytes.specs.Blocks.{first_offset}
 use Rattle.ckc_text.specs.Names.{IsName}
-use Rattle.ckc_core.specs.Core.{Core, Initial, Function, Import}
+use Rattle.ckc_core.specs.Programs.{Initial, Import}
+use Rattle.check_insertion.specs.Erased.{Erased, Function}
 use Rattle.code_words.specs.Fitting.{Fits}
 use Rattle.code_words.specs.Formats.{HasSmallFrame, IsFunc, Follow, KeepsFormat}
 use Rattle.code_words.specs.Functions.{Func}

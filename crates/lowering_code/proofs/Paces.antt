@@ -10,8 +10,8 @@ use Rattle.act_words.specs.declared.operator.Operator.TheVariants as operators
 use Rattle.act_words.specs.declared.operator.Comparison.TheVariants as comparisons
 use Rattle.ckc_core.specs.declared.program.Callee.{Callee}
 use Rattle.ckc_core.specs.declared.program.Callee.TheVariants as callees
-use Rattle.ckc_core.specs.Core as core
-use Rattle.ckc_core.specs.Meaning.{is_char}
+use Rattle.check_insertion.specs.Erased as erased
+use Rattle.ckc_core.specs.Steps.{is_char}
 use Rattle.code_words.specs.declared.op.Op.{Op}
 use Rattle.code_words.specs.declared.op.Op.TheVariants as ops
 use Rattle.code_words.specs.Paced.{is_call, target_of, keeps_pace, all_keep_pace, is_paced_function}
@@ -164,72 +164,72 @@ module _ (all : List Op) where
   -- ---- where the code of a part begins, no call stands
 
   mutual
-    starts_expression : (at : ℕ) (e : core.Expression) → HasAt all at (expression_code at e) → IsTarget at
-    starts_expression at (core.Number z) has = target_there at (ops.Const z) refl has.0
-    starts_expression at core.Null has = target_there at (ops.Const (pos 0)) refl has.0
-    starts_expression at (core.Local k) has = target_there at (ops.Local k) refl has.0
-    starts_expression at (core.Load type p) has = starts_place at p (has_front all at (place_code at p) (load_code type ∷ []) has)
-    starts_expression at (core.AddressOf p) has = starts_place at p has
-    starts_expression at (core.Negate operand site) has = starts_expression at operand (has_front all at (expression_code at operand) (ops.Neg site.place ∷ []) has)
-    starts_expression at (core.Complement operand) has = starts_expression at operand (has_front all at (expression_code at operand) (ops.Not ∷ []) has)
-    starts_expression at (core.Not operand) has = starts_expression at operand (has_front all at (expression_code at operand) (ops.Zero ∷ []) has)
-    starts_expression at (core.Arithmetic operator left right site) has =
+    starts_expression : (at : ℕ) (e : erased.Expression) → HasAt all at (expression_code at e) → IsTarget at
+    starts_expression at (erased.Number z) has = target_there at (ops.Const z) refl has.0
+    starts_expression at erased.Null has = target_there at (ops.Const (pos 0)) refl has.0
+    starts_expression at (erased.Local k) has = target_there at (ops.Local k) refl has.0
+    starts_expression at (erased.Load type p) has = starts_place at p (has_front all at (place_code at p) (load_code type ∷ []) has)
+    starts_expression at (erased.AddressOf p) has = starts_place at p has
+    starts_expression at (erased.Negate operand site) has = starts_expression at operand (has_front all at (expression_code at operand) (ops.Neg site.place ∷ []) has)
+    starts_expression at (erased.Complement operand) has = starts_expression at operand (has_front all at (expression_code at operand) (ops.Not ∷ []) has)
+    starts_expression at (erased.Not operand) has = starts_expression at operand (has_front all at (expression_code at operand) (ops.Zero ∷ []) has)
+    starts_expression at (erased.Arithmetic operator left right site) has =
         starts_expression at left (has_front all at (expression_code at left) (expression_code (at + expression_size left) right ++ operator_code operator site ∷ []) has)
-    starts_expression at (core.Compare comparison left right) has =
+    starts_expression at (erased.Compare comparison left right) has =
         starts_expression at left (has_front all at (expression_code at left) (expression_code (at + expression_size left) right ++ ops.Compare comparison ∷ []) has)
-    starts_expression at (core.Same left right) has =
+    starts_expression at (erased.Same left right) has =
         starts_expression at left (has_front all at (expression_code at left) (expression_code (at + expression_size left) right ++ ops.Compare comparisons.Equal ∷ []) has)
-    starts_expression at (core.AndAlso left right) has =
+    starts_expression at (erased.AndAlso left right) has =
         starts_expression at left (has_front all at (expression_code at left) (ops.JumpIfZero (at + expression_size left + 1 + expression_size right + 3) ∷ (expression_code (at + expression_size left + 1) right ++ ops.Zero ∷ ops.Zero ∷ ops.Jump (at + expression_size left + 1 + expression_size right + 4) ∷ ops.Const (pos 0) ∷ [])) has)
-    starts_expression at (core.OrElse left right) has =
+    starts_expression at (erased.OrElse left right) has =
         starts_expression at left (has_front all at (expression_code at left) (ops.JumpIfZero (at + expression_size left + 3) ∷ ops.Const (pos 1) ∷ ops.Jump (at + expression_size left + 3 + expression_size right + 2) ∷ (expression_code (at + expression_size left + 3) right ++ ops.Zero ∷ ops.Zero ∷ [])) has)
-    starts_expression at (core.LowByte operand) has = starts_expression at operand (has_front all at (expression_code at operand) (ops.Byte ∷ []) has)
-    starts_expression at (core.Call callee arguments) has =
+    starts_expression at (erased.LowByte operand) has = starts_expression at operand (has_front all at (expression_code at operand) (ops.Byte ∷ []) has)
+    starts_expression at (erased.Call callee arguments) has =
         let there = has_back all at (arguments_code at arguments) (ops.Tick ∷ callee_code callee ∷ []) (arguments_size arguments) (length_arguments at arguments) has in
         starts_arguments at arguments (has_front all at (arguments_code at arguments) (ops.Tick ∷ callee_code callee ∷ []) has) (target_there (at + arguments_size arguments) ops.Tick refl there.0)
-    starts_expression at core.NextInput has = target_there at ops.NextInput refl has.0
+    starts_expression at erased.NextInput has = target_there at ops.NextInput refl has.0
 
-    starts_arguments : (at : ℕ) (arguments : core.Arguments) → HasAt all at (arguments_code at arguments) → IsTarget (at + arguments_size arguments) → IsTarget at
-    starts_arguments at core.Done has end = target_same (at + 0) at (omega arith) end
-    starts_arguments at (core.More first rest) has end = starts_expression at first (has_front all at (expression_code at first) (arguments_code (at + expression_size first) rest) has)
+    starts_arguments : (at : ℕ) (arguments : erased.Arguments) → HasAt all at (arguments_code at arguments) → IsTarget (at + arguments_size arguments) → IsTarget at
+    starts_arguments at erased.Done has end = target_same (at + 0) at (omega arith) end
+    starts_arguments at (erased.More first rest) has end = starts_expression at first (has_front all at (expression_code at first) (arguments_code (at + expression_size first) rest) has)
 
-    starts_place : (at : ℕ) (p : core.Place) → HasAt all at (place_code at p) → IsTarget at
-    starts_place at (core.Direct object offset) has = target_there at (ops.BlockAddress object) refl has.0
-    starts_place at (core.Through pointer offset site) has = starts_expression at pointer (has_front all at (expression_code at pointer) (through_code offset site) has)
+    starts_place : (at : ℕ) (p : erased.Place) → HasAt all at (place_code at p) → IsTarget at
+    starts_place at (erased.Direct object offset) has = target_there at (ops.BlockAddress object) refl has.0
+    starts_place at (erased.Through pointer offset site) has = starts_expression at pointer (has_front all at (expression_code at pointer) (through_code offset site) has)
 
-  starts_before_value : (at : ℕ) (p : core.Place) → HasAt all at (before_value at p) → IsTarget at
-  starts_before_value at (core.Direct object offset) has = target_there at (ops.BlockAddress object) refl has.0
-  starts_before_value at (core.Through pointer offset site) has = starts_expression at pointer has
+  starts_before_value : (at : ℕ) (p : erased.Place) → HasAt all at (before_value at p) → IsTarget at
+  starts_before_value at (erased.Direct object offset) has = target_there at (ops.BlockAddress object) refl has.0
+  starts_before_value at (erased.Through pointer offset site) has = starts_expression at pointer has
 
   mutual
-    starts_statement : (p : Places) (at : ℕ) (x : core.Statement) → HasAt all at (statement_code p at x) → IsTarget (at + statement_size x) → IsTarget at
-    starts_statement p at core.Nothing has end = target_same (at + 0) at (omega arith) end
-    starts_statement p at (core.SetLocal local value) has end = starts_expression at value (has_front all at (expression_code at value) (ops.Set local ∷ []) has)
-    starts_statement p at (core.Store type cell value) has end =
+    starts_statement : (p : Places) (at : ℕ) (x : erased.Statement) → HasAt all at (statement_code p at x) → IsTarget (at + statement_size x) → IsTarget at
+    starts_statement p at erased.Nothing has end = target_same (at + 0) at (omega arith) end
+    starts_statement p at (erased.SetLocal local value) has end = starts_expression at value (has_front all at (expression_code at value) (ops.Set local ∷ []) has)
+    starts_statement p at (erased.Store type cell value) has end =
         starts_before_value at cell (has_front all at (before_value at cell) (expression_code (at + before_value_size cell) value ++ behind_value p.scratch type cell) has)
-    starts_statement p at (core.UpdateLocal char local operator value site) has end = target_there at (ops.Local local) refl has.0
-    starts_statement p at (core.Update type cell operator value site) has end =
+    starts_statement p at (erased.UpdateLocal char local operator value site) has end = target_there at (ops.Local local) refl has.0
+    starts_statement p at (erased.Update type cell operator value site) has end =
         starts_place at cell (has_front all at (place_code at cell) (ops.Duplicate ∷ load_code type ∷ (expression_code (at + place_size cell + 2) value ++ operator_code operator site ∷ (byte_code (is_char type) ++ store_code type ∷ []))) has)
-    starts_statement p at (core.Evaluate value) has end = starts_expression at value (has_front all at (expression_code at value) (ops.Discard ∷ []) has)
-    starts_statement p at (core.CallAlone callee arguments) has end =
+    starts_statement p at (erased.Evaluate value) has end = starts_expression at value (has_front all at (expression_code at value) (ops.Discard ∷ []) has)
+    starts_statement p at (erased.CallAlone callee arguments) has end =
         let there = has_back all at (arguments_code at arguments) (ops.Tick ∷ callee_code callee ∷ []) (arguments_size arguments) (length_arguments at arguments) has in
         starts_arguments at arguments (has_front all at (arguments_code at arguments) (ops.Tick ∷ callee_code callee ∷ []) has) (target_there (at + arguments_size arguments) ops.Tick refl there.0)
-    starts_statement p at (core.Print number) has end = starts_expression at number (has_front all at (expression_code at number) (ops.Print ∷ []) has)
-    starts_statement p at (core.PutByte number) has end = starts_expression at number (has_front all at (expression_code at number) (ops.PutByte ∷ []) has)
-    starts_statement p at (core.Block inner) has end = starts_statements p at inner has end
-    starts_statement p at (core.If condition consequent alternative) has end =
+    starts_statement p at (erased.Print number) has end = starts_expression at number (has_front all at (expression_code at number) (ops.Print ∷ []) has)
+    starts_statement p at (erased.PutByte number) has end = starts_expression at number (has_front all at (expression_code at number) (ops.PutByte ∷ []) has)
+    starts_statement p at (erased.Block inner) has end = starts_statements p at inner has end
+    starts_statement p at (erased.If condition consequent alternative) has end =
         let inside = at + expression_size condition + 1 in
         let other = inside + statement_size consequent + 1 in
         starts_expression at condition (has_front all at (expression_code at condition) (ops.JumpIfZero other ∷ (statement_code p inside consequent ++ ops.Jump (other + statement_size alternative) ∷ statement_code p other alternative)) has)
-    starts_statement p at (core.Loop condition body step) has end = target_there at (ops.Jump (at + 2 + statement_size body + statement_size step)) refl has.0
-    starts_statement p at (core.Return value) has end = starts_expression at value (has_front all at (expression_code at value) (ops.Return ∷ []) has)
-    starts_statement p at core.ReturnNothing has end = target_there at ops.ReturnNothing refl has.0
-    starts_statement p at core.Break has end = target_there at (ops.Jump p.on_break) refl has.0
-    starts_statement p at core.Continue has end = target_there at (ops.Jump p.on_continue) refl has.0
+    starts_statement p at (erased.Loop condition body step) has end = target_there at (ops.Jump (at + 2 + statement_size body + statement_size step)) refl has.0
+    starts_statement p at (erased.Return value) has end = starts_expression at value (has_front all at (expression_code at value) (ops.Return ∷ []) has)
+    starts_statement p at erased.ReturnNothing has end = target_there at ops.ReturnNothing refl has.0
+    starts_statement p at erased.Break has end = target_there at (ops.Jump p.on_break) refl has.0
+    starts_statement p at erased.Continue has end = target_there at (ops.Jump p.on_continue) refl has.0
 
-    starts_statements : (p : Places) (at : ℕ) (xs : core.Statements) → HasAt all at (statements_code p at xs) → IsTarget (at + statements_size xs) → IsTarget at
-    starts_statements p at core.NoMore has end = target_same (at + 0) at (omega arith) end
-    starts_statements p at (core.Then first others) has end =
+    starts_statements : (p : Places) (at : ℕ) (xs : erased.Statements) → HasAt all at (statements_code p at xs) → IsTarget (at + statements_size xs) → IsTarget at
+    starts_statements p at erased.NoMore has end = target_same (at + 0) at (omega arith) end
+    starts_statements p at (erased.Then first others) has end =
         let m = at + statement_size first in
         let there = has_back all at (statement_code p at first) (statements_code p m others) (statement_size first) (length_statement p at first) has in
         starts_statement p at first (has_front all at (statement_code p at first) (statements_code p m others) has)
@@ -238,14 +238,14 @@ module _ (all : List Op) where
   -- ---- each part keeps the pace
 
   -- what is shown of an expression's code
-  abbrev KeepsPace : ℕ → core.Expression → Type 0
+  abbrev KeepsPace : ℕ → erased.Expression → Type 0
   KeepsPace at e = HasAt all at (expression_code at e) → IsTarget (at + expression_size e) → AllKeep at (expression_code at e)
 
-  expression_with : (at : ℕ) (e : core.Expression) (op : Op) → IsCalm op → HasAt all at (expression_code at e ++ op ∷ []) → KeepsPace at e → AllKeep at (expression_code at e ++ op ∷ [])
+  expression_with : (at : ℕ) (e : erased.Expression) (op : Op) → IsCalm op → HasAt all at (expression_code at e ++ op ∷ []) → KeepsPace at e → AllKeep at (expression_code at e ++ op ∷ [])
   expression_with at e op calm has here =
       with_op at (expression_size e) (expression_code at e) op (length_expression at e) calm has (here (has_front all at (expression_code at e) (op ∷ []) has))
 
-  two_with : (at : ℕ) (left right : core.Expression) (op : Op) → IsCalm op → HasAt all at (expression_code at left ++ (expression_code (at + expression_size left) right ++ op ∷ [])) → KeepsPace at left → KeepsPace (at + expression_size left) right → AllKeep at (expression_code at left ++ (expression_code (at + expression_size left) right ++ op ∷ []))
+  two_with : (at : ℕ) (left right : erased.Expression) (op : Op) → IsCalm op → HasAt all at (expression_code at left ++ (expression_code (at + expression_size left) right ++ op ∷ [])) → KeepsPace at left → KeepsPace (at + expression_size left) right → AllKeep at (expression_code at left ++ (expression_code (at + expression_size left) right ++ op ∷ []))
   two_with at left right op calm has first second =
       let m = at + expression_size left in
       let rest = expression_code m right ++ op ∷ [] in
@@ -254,7 +254,7 @@ module _ (all : List Op) where
       (first (has_front all at (expression_code at left) rest has) (starts_expression m right (has_front all m (expression_code m right) (op ∷ []) back)))
       (expression_with m right op calm back second)
 
-  through_with : (at : ℕ) (pointer : core.Expression) (offset : ℕ) (site : Site) → HasAt all at (expression_code at pointer ++ through_code offset site) → KeepsPace at pointer → AllKeep at (expression_code at pointer ++ through_code offset site)
+  through_with : (at : ℕ) (pointer : erased.Expression) (offset : ℕ) (site : Site) → HasAt all at (expression_code at pointer ++ through_code offset site) → KeepsPace at pointer → AllKeep at (expression_code at pointer ++ through_code offset site)
   through_with at pointer offset site has here =
       let m = at + expression_size pointer in
       let back = has_back all at (expression_code at pointer) (through_code offset site) (expression_size pointer) (length_expression at pointer) has in
@@ -263,20 +263,20 @@ module _ (all : List Op) where
       (refl, offset_keeps (m + 1) offset)
 
   mutual
-    paced_expression : (at : ℕ) (e : core.Expression) → HasAt all at (expression_code at e) → IsTarget (at + expression_size e) → AllKeep at (expression_code at e)
-    paced_expression at (core.Number z) has end = (refl, tt)
-    paced_expression at core.Null has end = (refl, tt)
-    paced_expression at (core.Local k) has end = (refl, tt)
-    paced_expression at (core.Load type p) has end =
+    paced_expression : (at : ℕ) (e : erased.Expression) → HasAt all at (expression_code at e) → IsTarget (at + expression_size e) → AllKeep at (expression_code at e)
+    paced_expression at (erased.Number z) has end = (refl, tt)
+    paced_expression at erased.Null has end = (refl, tt)
+    paced_expression at (erased.Local k) has end = (refl, tt)
+    paced_expression at (erased.Load type p) has end =
         with_op at (place_size p) (place_code at p) (load_code type) (length_place at p) (calm_load (is_char type)) has (paced_place at p (has_front all at (place_code at p) (load_code type ∷ []) has))
-    paced_expression at (core.AddressOf p) has end = paced_place at p has end
-    paced_expression at (core.Negate operand site) has end = expression_with at operand (ops.Neg site.place) (record { no_jump = refl; no_call = refl }) has (paced_expression at operand)
-    paced_expression at (core.Complement operand) has end = expression_with at operand ops.Not (record { no_jump = refl; no_call = refl }) has (paced_expression at operand)
-    paced_expression at (core.Not operand) has end = expression_with at operand ops.Zero (record { no_jump = refl; no_call = refl }) has (paced_expression at operand)
-    paced_expression at (core.Arithmetic operator left right site) has end = two_with at left right (operator_code operator site) (calm_operator operator site) has (paced_expression at left) (paced_expression (at + expression_size left) right)
-    paced_expression at (core.Compare comparison left right) has end = two_with at left right (ops.Compare comparison) (record { no_jump = refl; no_call = refl }) has (paced_expression at left) (paced_expression (at + expression_size left) right)
-    paced_expression at (core.Same left right) has end = two_with at left right (ops.Compare comparisons.Equal) (record { no_jump = refl; no_call = refl }) has (paced_expression at left) (paced_expression (at + expression_size left) right)
-    paced_expression at (core.AndAlso left right) has end =
+    paced_expression at (erased.AddressOf p) has end = paced_place at p has end
+    paced_expression at (erased.Negate operand site) has end = expression_with at operand (ops.Neg site.place) (record { no_jump = refl; no_call = refl }) has (paced_expression at operand)
+    paced_expression at (erased.Complement operand) has end = expression_with at operand ops.Not (record { no_jump = refl; no_call = refl }) has (paced_expression at operand)
+    paced_expression at (erased.Not operand) has end = expression_with at operand ops.Zero (record { no_jump = refl; no_call = refl }) has (paced_expression at operand)
+    paced_expression at (erased.Arithmetic operator left right site) has end = two_with at left right (operator_code operator site) (calm_operator operator site) has (paced_expression at left) (paced_expression (at + expression_size left) right)
+    paced_expression at (erased.Compare comparison left right) has end = two_with at left right (ops.Compare comparison) (record { no_jump = refl; no_call = refl }) has (paced_expression at left) (paced_expression (at + expression_size left) right)
+    paced_expression at (erased.Same left right) has end = two_with at left right (ops.Compare comparisons.Equal) (record { no_jump = refl; no_call = refl }) has (paced_expression at left) (paced_expression (at + expression_size left) right)
+    paced_expression at (erased.AndAlso left right) has end =
         let m = at + expression_size left in
         let n = m + 1 + expression_size right in
         let last = ops.Zero ∷ ops.Zero ∷ ops.Jump (n + 4) ∷ ops.Const (pos 0) ∷ [] in
@@ -293,7 +293,7 @@ module _ (all : List Op) where
               (paced_expression (m + 1) right (has_front all (m + 1) inner last back.1) (target_there n ops.Zero refl behind.0))
               (refl, (refl, (forward (n + 1 + 1) (n + 4) (omega arith) out, (refl, tt)))),
         )
-    paced_expression at (core.OrElse left right) has end =
+    paced_expression at (erased.OrElse left right) has end =
         let m = at + expression_size left in
         let n = m + 3 + expression_size right in
         let last = ops.Zero ∷ ops.Zero ∷ [] in
@@ -318,14 +318,14 @@ module _ (all : List Op) where
             ),
           ),
         )
-    paced_expression at (core.LowByte operand) has end = expression_with at operand ops.Byte (record { no_jump = refl; no_call = refl }) has (paced_expression at operand)
-    paced_expression at (core.Call callee arguments) has end =
+    paced_expression at (erased.LowByte operand) has end = expression_with at operand ops.Byte (record { no_jump = refl; no_call = refl }) has (paced_expression at operand)
+    paced_expression at (erased.Call callee arguments) has end =
         called at (arguments_size arguments) (arguments_code at arguments) (callee_code callee) (length_arguments at arguments) (callee_no_jump callee) has (paced_arguments at arguments (has_front all at (arguments_code at arguments) (ops.Tick ∷ callee_code callee ∷ []) has))
-    paced_expression at core.NextInput has end = (refl, tt)
+    paced_expression at erased.NextInput has end = (refl, tt)
 
-    paced_arguments : (at : ℕ) (arguments : core.Arguments) → HasAt all at (arguments_code at arguments) → IsTarget (at + arguments_size arguments) → AllKeep at (arguments_code at arguments)
-    paced_arguments at core.Done has end = tt
-    paced_arguments at (core.More first rest) has end =
+    paced_arguments : (at : ℕ) (arguments : erased.Arguments) → HasAt all at (arguments_code at arguments) → IsTarget (at + arguments_size arguments) → AllKeep at (arguments_code at arguments)
+    paced_arguments at erased.Done has end = tt
+    paced_arguments at (erased.More first rest) has end =
         let m = at + expression_size first in
         let back = has_back all at (expression_code at first) (arguments_code m rest) (expression_size first) (length_expression at first) has in
         let out = target_same (at + (expression_size first + arguments_size rest)) (m + arguments_size rest) (omega arith) end in
@@ -333,11 +333,11 @@ module _ (all : List Op) where
         (paced_expression at first (has_front all at (expression_code at first) (arguments_code m rest) has) (starts_arguments m rest back out))
         (paced_arguments m rest back out)
 
-    paced_place : (at : ℕ) (p : core.Place) → HasAt all at (place_code at p) → IsTarget (at + place_size p) → AllKeep at (place_code at p)
-    paced_place at (core.Direct object offset) has end = (refl, offset_keeps (at + 1) offset)
-    paced_place at (core.Through pointer offset site) has end = through_with at pointer offset site has (paced_expression at pointer)
+    paced_place : (at : ℕ) (p : erased.Place) → HasAt all at (place_code at p) → IsTarget (at + place_size p) → AllKeep at (place_code at p)
+    paced_place at (erased.Direct object offset) has end = (refl, offset_keeps (at + 1) offset)
+    paced_place at (erased.Through pointer offset site) has end = through_with at pointer offset site has (paced_expression at pointer)
 
-  paced_one : (at : ℕ) (e : core.Expression) (op : Op) → IsCalm op → HasAt all at (expression_code at e ++ op ∷ []) → AllKeep at (expression_code at e ++ op ∷ [])
+  paced_one : (at : ℕ) (e : erased.Expression) (op : Op) → IsCalm op → HasAt all at (expression_code at e ++ op ∷ []) → AllKeep at (expression_code at e ++ op ∷ [])
   paced_one at e op calm has = expression_with at e op calm has (paced_expression at e)
 
   -- `break` and `continue` go behind a part that ends here
@@ -350,14 +350,14 @@ module _ (all : List Op) where
   lead_from : (p : Places) (m n : ℕ) → n ≤ m → LeadOn p m → LeadOn p n
   lead_from p m n le l = record { break_behind = omega (arith, l.break_behind); break_free = l.break_free; continue_behind = omega (arith, l.continue_behind); continue_free = l.continue_free }
 
-  paced_store : (scratch at : ℕ) (type : CType) (cell : core.Place) (value : core.Expression) → HasAt all at (before_value at cell ++ (expression_code (at + before_value_size cell) value ++ behind_value scratch type cell)) → AllKeep at (before_value at cell ++ (expression_code (at + before_value_size cell) value ++ behind_value scratch type cell))
-  paced_store scratch at type (core.Direct object offset) value has =
+  paced_store : (scratch at : ℕ) (type : CType) (cell : erased.Place) (value : erased.Expression) → HasAt all at (before_value at cell ++ (expression_code (at + before_value_size cell) value ++ behind_value scratch type cell)) → AllKeep at (before_value at cell ++ (expression_code (at + before_value_size cell) value ++ behind_value scratch type cell))
+  paced_store scratch at type (erased.Direct object offset) value has =
       let m = at + (1 + offset_size offset) in
       let rest = expression_code m value ++ store_code type ∷ [] in
       let back = has_back all at (address_code object offset) rest (1 + offset_size offset) (omega (arith, length_offset offset)) has in
       joined at (1 + offset_size offset) (address_code object offset) rest (omega (arith, length_offset offset)) (refl, offset_keeps (at + 1) offset)
       (paced_one m value (store_code type) (calm_store (is_char type)) back)
-  paced_store scratch at type (core.Through pointer offset site) value has =
+  paced_store scratch at type (erased.Through pointer offset site) value has =
       let m = at + expression_size pointer in
       let n = m + expression_size value in
       let last = ops.Local scratch ∷ store_code type ∷ [] in
@@ -379,7 +379,7 @@ module _ (all : List Op) where
     joined (at + 1) (byte_size char) (byte_code char) (keep ∷ []) (length_byte char) (byte_keeps (at + 1) char) (calm_keeps (at + 1 + byte_size char) keep calm, tt),
   )
 
-  paced_operand : (at : ℕ) (value : core.Expression) (operator : Operator) (site : Site) (char : Bool) (keep : Op) → IsCalm keep → HasAt all at (expression_code at value ++ operator_code operator site ∷ (byte_code char ++ keep ∷ [])) → AllKeep at (expression_code at value ++ operator_code operator site ∷ (byte_code char ++ keep ∷ []))
+  paced_operand : (at : ℕ) (value : erased.Expression) (operator : Operator) (site : Site) (char : Bool) (keep : Op) → IsCalm keep → HasAt all at (expression_code at value ++ operator_code operator site ∷ (byte_code char ++ keep ∷ [])) → AllKeep at (expression_code at value ++ operator_code operator site ∷ (byte_code char ++ keep ∷ []))
   paced_operand at value operator site char keep calm has =
       let last = operator_code operator site ∷ (byte_code char ++ keep ∷ []) in
       let back = has_back all at (expression_code at value) last (expression_size value) (length_expression at value) has in
@@ -387,7 +387,7 @@ module _ (all : List Op) where
       (paced_expression at value (has_front all at (expression_code at value) last has) (target_there (at + expression_size value) (operator_code operator site) (calm_operator operator site).no_call back.0))
       (paced_result (at + expression_size value) operator site char keep calm)
 
-  paced_update : (at : ℕ) (type : CType) (cell : core.Place) (value : core.Expression) (operator : Operator) (site : Site) → (p : Places) → HasAt all at (statement_code p at (core.Update type cell operator value site)) → AllKeep at (statement_code p at (core.Update type cell operator value site))
+  paced_update : (at : ℕ) (type : CType) (cell : erased.Place) (value : erased.Expression) (operator : Operator) (site : Site) → (p : Places) → HasAt all at (statement_code p at (erased.Update type cell operator value site)) → AllKeep at (statement_code p at (erased.Update type cell operator value site))
   paced_update at type cell value operator site p has =
       let m = at + place_size cell in
       let operand = expression_code (m + 2) value ++ operator_code operator site ∷ (byte_code (is_char type) ++ store_code type ∷ []) in
@@ -400,19 +400,19 @@ module _ (all : List Op) where
       (refl, (calm_keeps (m + 1) (load_code type) (calm_load (is_char type)), subst (λ k. AllKeep k operand) (sym two) keeps))
 
   mutual
-    paced_statement : (p : Places) (at : ℕ) (x : core.Statement) → HasAt all at (statement_code p at x) → IsTarget (at + statement_size x) → LeadOn p (at + statement_size x) → AllKeep at (statement_code p at x)
-    paced_statement p at core.Nothing has end leads = tt
-    paced_statement p at (core.SetLocal local value) has end leads = paced_one at value (ops.Set local) (record { no_jump = refl; no_call = refl }) has
-    paced_statement p at (core.Store type cell value) has end leads = paced_store p.scratch at type cell value has
-    paced_statement p at (core.UpdateLocal char local operator value site) has end leads = (refl, paced_operand (at + 1) value operator site char (ops.Set local) (record { no_jump = refl; no_call = refl }) has.1)
-    paced_statement p at (core.Update type cell operator value site) has end leads = paced_update at type cell value operator site p has
-    paced_statement p at (core.Evaluate value) has end leads = paced_one at value ops.Discard (record { no_jump = refl; no_call = refl }) has
-    paced_statement p at (core.CallAlone callee arguments) has end leads =
+    paced_statement : (p : Places) (at : ℕ) (x : erased.Statement) → HasAt all at (statement_code p at x) → IsTarget (at + statement_size x) → LeadOn p (at + statement_size x) → AllKeep at (statement_code p at x)
+    paced_statement p at erased.Nothing has end leads = tt
+    paced_statement p at (erased.SetLocal local value) has end leads = paced_one at value (ops.Set local) (record { no_jump = refl; no_call = refl }) has
+    paced_statement p at (erased.Store type cell value) has end leads = paced_store p.scratch at type cell value has
+    paced_statement p at (erased.UpdateLocal char local operator value site) has end leads = (refl, paced_operand (at + 1) value operator site char (ops.Set local) (record { no_jump = refl; no_call = refl }) has.1)
+    paced_statement p at (erased.Update type cell operator value site) has end leads = paced_update at type cell value operator site p has
+    paced_statement p at (erased.Evaluate value) has end leads = paced_one at value ops.Discard (record { no_jump = refl; no_call = refl }) has
+    paced_statement p at (erased.CallAlone callee arguments) has end leads =
         called at (arguments_size arguments) (arguments_code at arguments) (callee_code callee) (length_arguments at arguments) (callee_no_jump callee) has (paced_arguments at arguments (has_front all at (arguments_code at arguments) (ops.Tick ∷ callee_code callee ∷ []) has))
-    paced_statement p at (core.Print number) has end leads = paced_one at number ops.Print (record { no_jump = refl; no_call = refl }) has
-    paced_statement p at (core.PutByte number) has end leads = paced_one at number ops.PutByte (record { no_jump = refl; no_call = refl }) has
-    paced_statement p at (core.Block inner) has end leads = paced_statements p at inner has end leads
-    paced_statement p at (core.If condition consequent alternative) has end leads =
+    paced_statement p at (erased.Print number) has end leads = paced_one at number ops.Print (record { no_jump = refl; no_call = refl }) has
+    paced_statement p at (erased.PutByte number) has end leads = paced_one at number ops.PutByte (record { no_jump = refl; no_call = refl }) has
+    paced_statement p at (erased.Block inner) has end leads = paced_statements p at inner has end leads
+    paced_statement p at (erased.If condition consequent alternative) has end leads =
         let m = at + expression_size condition in
         let inside = m + 1 in
         let turn = inside + statement_size consequent in
@@ -422,8 +422,8 @@ module _ (all : List Op) where
         let rest = ops.JumpIfZero other ∷ (statement_code p inside consequent ++ leap) in
         let back = has_back all at (expression_code at condition) rest (expression_size condition) (length_expression at condition) has in
         let behind = has_back all inside (statement_code p inside consequent) leap (statement_size consequent) (length_statement p inside consequent) back.1 in
-        let out = target_same (at + statement_size (core.If condition consequent alternative)) after (omega arith) end in
-        let lead_out = lead_from p (at + statement_size (core.If condition consequent alternative)) after (omega arith) leads in
+        let out = target_same (at + statement_size (erased.If condition consequent alternative)) after (omega arith) end in
+        let lead_out = lead_from p (at + statement_size (erased.If condition consequent alternative)) after (omega arith) leads in
         joined at (expression_size condition) (expression_code at condition) rest (length_expression at condition)
         (paced_expression at condition (has_front all at (expression_code at condition) rest has) (target_there m (ops.JumpIfZero other) refl back.0)) (
           forward_if_zero m other (omega arith) (starts_statement p other alternative behind.1 out),
@@ -431,7 +431,7 @@ module _ (all : List Op) where
               (paced_statement p inside consequent (has_front all inside (statement_code p inside consequent) leap back.1) (target_there turn (ops.Jump after) refl behind.0) (lead_from p after turn (omega arith) lead_out))
               (forward turn after (omega arith) out, paced_statement p other alternative behind.1 out lead_out),
         )
-    paced_statement p at (core.Loop condition body step) has end leads =
+    paced_statement p at (erased.Loop condition body step) has end leads =
         let inside = at + 2 in
         let next = inside + statement_size body in
         let test = next + statement_size step in
@@ -449,7 +449,7 @@ module _ (all : List Op) where
         let at_branch = has_back all test (expression_code test condition) last (expression_size condition) (length_expression test condition) at_test in
         let front_step = has_front all next (statement_code p next step) tests at_step in
         let front_test = has_front all test (expression_code test condition) last at_test in
-        let free_out = target_same (at + statement_size (core.Loop condition body step)) out (omega arith) end in
+        let free_out = target_same (at + statement_size (erased.Loop condition body step)) out (omega arith) end in
         let free_test = starts_expression test condition front_test in
         let free_next = starts_statement p next step front_step free_test in
         let inner : LeadOn q next = record { break_behind = omega arith; break_free = free_out; continue_behind = omega arith; continue_free = free_next } in
@@ -457,18 +457,18 @@ module _ (all : List Op) where
         (paced_expression test condition front_test (target_there branch (ops.JumpIfZero out) refl at_branch.0))
         (forward_if_zero branch out (omega arith) free_out, (to_tick (branch + 1) (at + 1) has.1.0, tt)) in
         let steps_keep = joined next (statement_size step) (statement_code p next step) tests (length_statement p next step)
-        (paced_statement p next step front_step free_test (lead_from p (at + statement_size (core.Loop condition body step)) test (omega arith) leads)) tests_keep in
+        (paced_statement p next step front_step free_test (lead_from p (at + statement_size (erased.Loop condition body step)) test (omega arith) leads)) tests_keep in
         let bodies_keep = joined inside (statement_size body) (statement_code q inside body) steps (length_statement q inside body)
         (paced_statement q inside body (has_front all inside (statement_code q inside body) steps at_body) free_next inner) steps_keep in
         (forward at test (omega arith) free_test, (refl, subst (λ k. AllKeep k bodies) (sym two) bodies_keep))
-    paced_statement p at (core.Return value) has end leads = paced_one at value ops.Return (record { no_jump = refl; no_call = refl }) has
-    paced_statement p at core.ReturnNothing has end leads = (refl, tt)
-    paced_statement p at core.Break has end leads = (forward at p.on_break (omega (arith, leads.break_behind)) leads.break_free, tt)
-    paced_statement p at core.Continue has end leads = (forward at p.on_continue (omega (arith, leads.continue_behind)) leads.continue_free, tt)
+    paced_statement p at (erased.Return value) has end leads = paced_one at value ops.Return (record { no_jump = refl; no_call = refl }) has
+    paced_statement p at erased.ReturnNothing has end leads = (refl, tt)
+    paced_statement p at erased.Break has end leads = (forward at p.on_break (omega (arith, leads.break_behind)) leads.break_free, tt)
+    paced_statement p at erased.Continue has end leads = (forward at p.on_continue (omega (arith, leads.continue_behind)) leads.continue_free, tt)
 
-    paced_statements : (p : Places) (at : ℕ) (xs : core.Statements) → HasAt all at (statements_code p at xs) → IsTarget (at + statements_size xs) → LeadOn p (at + statements_size xs) → AllKeep at (statements_code p at xs)
-    paced_statements p at core.NoMore has end leads = tt
-    paced_statements p at (core.Then first others) has end leads =
+    paced_statements : (p : Places) (at : ℕ) (xs : erased.Statements) → HasAt all at (statements_code p at xs) → IsTarget (at + statements_size xs) → LeadOn p (at + statements_size xs) → AllKeep at (statements_code p at xs)
+    paced_statements p at erased.NoMore has end leads = tt
+    paced_statements p at (erased.Then first others) has end leads =
         let m = at + statement_size first in
         let whole = at + (statement_size first + statements_size others) in
         let back = has_back all at (statement_code p at first) (statements_code p m others) (statement_size first) (length_statement p at first) has in
@@ -487,7 +487,7 @@ starts_ending : (all : List Op) (at : ℕ) (result : Option CType) → HasAt all
 starts_ending all at None has = target_there all at ops.ReturnNothing refl has.0
 starts_ending all at (Some type) has = target_there all at (ops.Const (pos 0)) refl has.0
 
-function_keeps : (f : core.Function) → AllKeep (function_ops f) 0 (function_ops f)
+function_keeps : (f : erased.Function) → AllKeep (function_ops f) 0 (function_ops f)
 function_keeps f =
     let all = function_ops f in
     let p = body_places f in
@@ -503,16 +503,16 @@ function_keeps f =
     (paced_statements all p 0 f.body (has_front all 0 body last has) (target_same all n (0 + n) (sym zero) free) (subst (LeadOn all p) (sym zero) leads))
     (paced_ending all (0 + n) f.result)
 
-pub function_paced : (f : core.Function) → all_keep_pace (function_ops f) 0 (function_ops f) ≡ true
+pub function_paced : (f : erased.Function) → all_keep_pace (function_ops f) 0 (function_ops f) ≡ true
 function_paced f = keep_pace (function_ops f) 0 (function_ops f) (function_keeps f)
 
-pub function_sized : (f : core.Function) → list_all is_sized (function_ops f) ≡ true
+pub function_sized : (f : erased.Function) → list_all is_sized (function_ops f) ≡ true
 function_sized f = are_sized (function_ops f) 0 (function_ops f) (function_keeps f)
 
-pub paced_functions : (number : ℕ) (functions : List core.Function) → list_all is_paced_function (functions_from number functions) ≡ true
+pub paced_functions : (number : ℕ) (functions : List erased.Function) → list_all is_paced_function (functions_from number functions) ≡ true
 paced_functions number [] = refl
 paced_functions number (f ∷ functions) = rw (function_paced f) (paced_functions (suc number) functions)
 
-pub sized_functions : (number : ℕ) (functions : List core.Function) → list_all is_sized_function (functions_from number functions) ≡ true
+pub sized_functions : (number : ℕ) (functions : List erased.Function) → list_all is_sized_function (functions_from number functions) ≡ true
 sized_functions number [] = refl
 sized_functions number (f ∷ functions) = rw (function_sized f) (sized_functions (suc number) functions)

@@ -15,13 +15,14 @@ use Rattle.pointer_modes.specs.Types.{CType, Int, Char, Struct, Pointer}
 use Rattle.ckc_core.specs.declared.program.Site.{Site}
 use Rattle.ckc_core.specs.States.{Value, Number, Null, At, Cell, Block, strides, shape, shapes, number_at, cell_in, cell_at, object_block, same_type, has_type}
 use Rattle.ckc_core.specs.States as meaning
-use Rattle.ckc_core.specs.Meaning.{value_if, value_in, place_if, place_at, place_through, load_at, truth, same_place, is_char}
+use Rattle.ckc_core.specs.Steps.{value_if, value_in, place_if, place_at, load_at, truth, same_place, is_char}
+use Rattle.check_insertion.specs.ErasedMeaning.{place_through}
 use Rattle.code_words.specs.Table.{act, push, push_some, load, holds}
 use Rattle.code_words.specs.Table as table
 use Rattle.code_words.specs.declared.op.Op.TheVariants as ops
 use Rattle.lowering_code.specs.Code.{offset_code, offset_size, address_code, through_code, load_code}
 use Rattle.lowering_code.specs.Code as codes
-use Rattle.ckc_core.specs.Stacks.{offset_stack}
+use Rattle.check_insertion.specs.Stacks.{offset_stack}
 use Rattle.lowering_code.specs.Correct.{width_if, offset_from}
 use Rattle.lowering_code.specs.Correct as correct
 use Rattle.ckc_core.proofs.Numbers.{word_small, word-signed, zero_word}

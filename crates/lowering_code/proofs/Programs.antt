@@ -15,11 +15,13 @@ use Rattle.act_words.specs.World.{new_world}
 use Rattle.flat_bytes.specs.Blocks.{first_offset, blocks_of}
 use Rattle.flat_bytes.specs.Blocks as flat
 use Rattle.pointer_modes.specs.Types.{CType, Int, Char, Struct, Pointer}
-use Rattle.ckc_core.specs.Core.{Core, Function, Initial}
+use Rattle.ckc_core.specs.Programs.{Initial}
+use Rattle.check_insertion.specs.Erased.{Erased, Function}
 use Rattle.ckc_core.specs.States.{Value, Number, Null, At, Shape, shapes, zero_of, initial_value, object_block}
 use Rattle.ckc_core.specs.States as meaning
-use Rattle.ckc_core.specs.Meaning.{Flow, Next, Broke, Continued, Returned, fits_result, answer_if, answer, back, fit, parameters_of, body_if, body_of, default_result, effects, exit, initial, knot, locals_for}
-use Rattle.ckc_core.specs.Meaning as meanings
+use Rattle.ckc_core.specs.Steps.{Flow, Next, Broke, Continued, Returned, fits_result, answer_if, answer, back, fit, parameters_of, default_result, exit, initial, locals_for}
+use Rattle.check_insertion.specs.ErasedMeaning.{body_if, body_of, effects, knot}
+use Rattle.check_insertion.specs.ErasedMeaning as meanings
 use Rattle.code_words.specs.Table.{Caller, State, Frame, Runs, frame_for, slots_for}
 use Rattle.code_words.specs.Runs.{CodeRun, counter_behind, spread, started, main_frame, memory_of}
 use Rattle.code_words.specs.declared.op.Op.TheVariants as ops

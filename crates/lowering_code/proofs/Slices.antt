@@ -4,9 +4,9 @@ use Rattle.std.specs.Prelude.{All}
 use Rattle.std.specs.List.{AllByRecursion}
 use Rattle.std.proofs.lemmas.List.Elements.{recursion_from_All}
 use Rattle.std.proofs.Math.Seq.{drop-cons}
-use Rattle.ckc_core.specs.declared.program.Expr.{Expr}
-use Rattle.ckc_core.specs.declared.program.Stmt.{Stmt}
-use Rattle.ckc_core.specs.Core.{More, Then, expression, arguments_of, statement, statements_of}
+use Rattle.check_insertion.specs.declared.erased.Expr.{Expr}
+use Rattle.check_insertion.specs.declared.erased.Stmt.{Stmt}
+use Rattle.check_insertion.specs.Erased.{More, Then, expression, arguments_of, statement, statements_of}
 
 -- an argument, and those behind it
 pub arguments_drop : (args : List Expr) (i : ℕ) (x : Expr) → i < length args → x ≡ get_or args i x → arguments_of (drop i args) ≡ More (expression x) (arguments_of (drop (i + 1) args))

@@ -7,14 +7,15 @@ use Rattle.act_words.specs.Touches.{spend_tick, write}
 use Rattle.pointer_modes.specs.Types.{CType}
 use Rattle.ckc_core.specs.declared.program.Site.{Site}
 use Rattle.act_words.specs.declared.operator.Operator.{Operator}
-use Rattle.ckc_core.specs.Core as core
+use Rattle.check_insertion.specs.Erased as erased
 use Rattle.ckc_core.specs.States.{Value, Number, Null, At, Cell, shapes, cell_at}
 use Rattle.ckc_core.specs.States as meaning
-use Rattle.ckc_core.specs.Meaning.{Result, Knot, Flow, Next, Broke, Continued, Returned, is_char, given, truth, value, place, place_if, place_at, pointer_to, pointer_of, load_at, store_at, arithmetic_of, kept_if, set_local, printed, put, on_next, behind_turn, no_result, choose, effect, effects}
+use Rattle.ckc_core.specs.Steps.{Result, Flow, Next, Broke, Continued, Returned, is_char, given, truth, place_if, place_at, pointer_to, load_at, store_at, arithmetic_of, kept_if, set_local, printed, put, on_next, behind_turn, no_result, choose}
+use Rattle.check_insertion.specs.ErasedMeaning.{Knot, value, place, pointer_of, effect, effects}
 use Rattle.code_words.specs.declared.op.Op.{Op}
 use Rattle.code_words.specs.declared.op.Op.TheVariants as ops
 use Rattle.lowering_code.specs.Code.{Places, operator_code, load_code, store_code, address_code, byte_code, byte_size, offset_size, expression_size, arguments_size, place_size, statement_size, statements_size, expression_code, place_code, behind_value, statement_code, statements_code}
-use Rattle.ckc_core.specs.Stacks.{expression_stack, offset_stack, statement_stack, statements_stack}
+use Rattle.check_insertion.specs.Stacks.{expression_stack, offset_stack, statement_stack, statements_stack}
 use Rattle.ckc_core.proofs.Numbers.{signed-word}
 use Rattle.lowering_code.proofs.Shapes.{kept_grows, word_grows}
 use Rattle.lowering_code.proofs.Worlds.{KeptWorld}
@@ -114,7 +115,7 @@ module _ (g : Execution) (l : Layout g) where
 
   module _ (k : Knot) (runs : KnotRuns g k) where
     -- the code of a statement, where it stands, has its effect
-    abbrev pub StatementRuns : core.Statement → Type 0
+    abbrev pub StatementRuns : erased.Statement → Type 0
     StatementRuns x = (p : Places) (next : ℕ) (s : meaning.State) → ArePlaces g l p → Here g l next [] s → HasAt (code g l).ops next (statement_code p next x) → statement_stack x ≤ (code g l).stack → next + statement_size x < length (code g l).ops → Affects g l p (next + statement_size x) (effect (setting g) k x s)
 
     -- a condition on the stack, and two ways on
@@ -123,7 +124,7 @@ module _ (g : Execution) (l : Layout g) where
     if_runs p next other end v false s first second is x at low on_true on_false = on_false (branch_runs g l next (word_of g s v) [] s other true (truth_word g s v x.1 ∙ ap not is) low x.0 at)
 
     -- a loop from its test on
-    pub loop_runs : (condition : core.Expression) (body step : core.Statement) → StatementRuns body → StatementRuns step → (p : Places) (at : ℕ) (s : meaning.State) → ArePlaces g l p → HasAt (code g l).ops at (statement_code p at (core.Loop condition body step)) → statement_stack (core.Loop condition body step) ≤ (code g l).stack → at + statement_size (core.Loop condition body step) < length (code g l).ops → Here g l (test_of at body step) [] s → Affects g l p (at + statement_size (core.Loop condition body step)) (effect (setting g) k (core.Loop condition body step) s)
+    pub loop_runs : (condition : erased.Expression) (body step : erased.Statement) → StatementRuns body → StatementRuns step → (p : Places) (at : ℕ) (s : meaning.State) → ArePlaces g l p → HasAt (code g l).ops at (statement_code p at (erased.Loop condition body step)) → statement_stack (erased.Loop condition body step) ≤ (code g l).stack → at + statement_size (erased.Loop condition body step) < length (code g l).ops → Here g l (test_of at body step) [] s → Affects g l p (at + statement_size (erased.Loop condition body step)) (effect (setting g) k (erased.Loop condition body step) s)
     loop_runs condition body step body_runs step_runs p at s places has room low here =
         let inside = at + 2 in
         let next = inside + statement_size body in
@@ -131,7 +132,7 @@ module _ (g : Execution) (l : Layout g) where
         let last = test + expression_size condition in
         let end = last + 2 in
         let q : Places = record { scratch = p.scratch; on_break = end; on_continue = next } in
-        let whole : end ≡ at + statement_size (core.Loop condition body step) = omega arith in
+        let whole : end ≡ at + statement_size (erased.Loop condition body step) = omega arith in
         let tests = expression_code test condition ++ (ops.JumpIfZero end ∷ (ops.Jump (at + 1) ∷ [])) in
         let steps = statement_code p next step ++ tests in
         let first : at + 1 + 1 ≡ inside = omega arith in
@@ -140,7 +141,7 @@ module _ (g : Execution) (l : Layout g) where
         let at_test = has_back (code g l).ops next (statement_code p next step) tests (statement_size step) (length_statement p next step) at_step in
         let branch = has_back (code g l).ops test (expression_code test condition) (ops.JumpIfZero end ∷ (ops.Jump (at + 1) ∷ [])) (expression_size condition) (length_expression test condition) at_test in
         let inner : ArePlaces g l q = record { scratch = places.scratch; on_break = omega arith; on_continue = omega arith; free = places.free } in
-        affects_at p end (at + statement_size (core.Loop condition body step)) (effect (setting g) k (core.Loop condition body step) s) whole
+        affects_at p end (at + statement_size (erased.Loop condition body step)) (effect (setting g) k (erased.Loop condition body step) s) whole
         (leads_on (Arrives g l last []) (FlowsTo g l p end) (Finishes g) (value (setting g) k condition s) _
         (value_runs g k runs condition l test [] s here (has_front (code g l).ops test (expression_code test condition) (ops.JumpIfZero end ∷ (ops.Jump (at + 1) ∷ [])) at_test) (omega arith) (omega arith))
         (λ v t x. if_runs p last end end v (truth v) t _ (Gives Next t) refl x branch.0 (omega arith)
@@ -150,11 +151,11 @@ module _ (g : Execution) (l : Layout g) where
         (body_runs q inside (meaning.in_world w t) inner (here_at g l (at + 1 + 1) inside [] (meaning.in_world w t) first ticked) (has_front (code g l).ops inside (statement_code q inside body) steps bodies) (omega arith) (omega arith))
         (λ u h. affects_on p test end (effect (setting g) k step u) (k.turn condition body step)
         (step_runs p next u places h (has_front (code g l).ops next (statement_code p next step) tests at_step) (omega arith) (omega arith))
-        (λ z i. affects_at p (at + statement_size (core.Loop condition body step)) end (k.turn condition body step z) (sym whole) (runs.turn l p at condition body step z places has room low i)))))
+        (λ z i. affects_at p (at + statement_size (erased.Loop condition body step)) end (k.turn condition body step z) (sym whole) (runs.turn l p at condition body step z places has room low i)))))
         (λ done. done)))
 
     -- a value, and the instruction that takes it
-    operand_runs : (e : core.Expression) (op : Op) (more : Value → meaning.State → Result Flow) (p : Places) (next : ℕ) (s : meaning.State) → ((m : ℕ) (v : Value) (t : meaning.State) → Arrives g l m [] v t → slice_get (code g l).ops m ≡ Some op → Affects g l p (m + 1) (more v t)) → Here g l next [] s → HasAt (code g l).ops next (expression_code next e ++ op ∷ []) → expression_stack e ≤ (code g l).stack → next + (expression_size e + 1) < length (code g l).ops → Affects g l p (next + (expression_size e + 1)) (and_then (value (setting g) k e s) more)
+    operand_runs : (e : erased.Expression) (op : Op) (more : Value → meaning.State → Result Flow) (p : Places) (next : ℕ) (s : meaning.State) → ((m : ℕ) (v : Value) (t : meaning.State) → Arrives g l m [] v t → slice_get (code g l).ops m ≡ Some op → Affects g l p (m + 1) (more v t)) → Here g l next [] s → HasAt (code g l).ops next (expression_code next e ++ op ∷ []) → expression_stack e ≤ (code g l).stack → next + (expression_size e + 1) < length (code g l).ops → Affects g l p (next + (expression_size e + 1)) (and_then (value (setting g) k e s) more)
     operand_runs e op more p next s behind here at room low =
         let m = next + expression_size e in
         let first = expression_code next e in
@@ -175,11 +176,11 @@ module _ (g : Execution) (l : Layout g) where
         further)
 
     mutual
-      pub effect_runs : (x : core.Statement) (p : Places) (next : ℕ) (s : meaning.State) → ArePlaces g l p → Here g l next [] s → HasAt (code g l).ops next (statement_code p next x) → statement_stack x ≤ (code g l).stack → next + statement_size x < length (code g l).ops → Affects g l p (next + statement_size x) (effect (setting g) k x s)
-      effect_runs core.Nothing p next s places here at room low = let e : next ≡ next + 0 = omega arith in here_at g l next (next + 0) [] s e here
-      effect_runs (core.SetLocal local e) p next s places here at room low =
+      pub effect_runs : (x : erased.Statement) (p : Places) (next : ℕ) (s : meaning.State) → ArePlaces g l p → Here g l next [] s → HasAt (code g l).ops next (statement_code p next x) → statement_stack x ≤ (code g l).stack → next + statement_size x < length (code g l).ops → Affects g l p (next + statement_size x) (effect (setting g) k x s)
+      effect_runs erased.Nothing p next s places here at room low = let e : next ≡ next + 0 = omega arith in here_at g l next (next + 0) [] s e here
+      effect_runs (erased.SetLocal local e) p next s places here at room low =
           operand_runs e (ops.Set local) (set_local local) p next s (λ m v t x. set_runs g l m t p local v x.1 x.0) here at room low
-      effect_runs (core.Store type (core.Direct object offset) e) p next s places here at room low =
+      effect_runs (erased.Store type (erased.Direct object offset) e) p next s places here at room low =
           let m = next + (1 + offset_size offset) in
           let n = m + expression_size e in
           let a = At object offset in
@@ -187,22 +188,22 @@ module _ (g : Execution) (l : Layout g) where
           let front = address_code object offset in
           let back = has_back (code g l).ops next front (expression_code m e ++ last) (1 + offset_size offset) (omega (arith, length_offset offset)) at in
           let end : n + 1 ≡ next + ((1 + offset_size offset) + (expression_size e + 1)) = omega arith in
-          affects_at p (n + 1) (next + ((1 + offset_size offset) + (expression_size e + 1))) (effect (setting g) k (core.Store type (core.Direct object offset) e) s) end
-          (leads_on (λ (q : Value) t. Arrives g l m [] a t) (FlowsTo g l p (n + 1)) (Finishes g) (pointer_of (setting g) k (core.Direct object offset) s) _
+          affects_at p (n + 1) (next + ((1 + offset_size offset) + (expression_size e + 1))) (effect (setting g) k (erased.Store type (erased.Direct object offset) e) s) end
+          (leads_on (λ (q : Value) t. Arrives g l m [] a t) (FlowsTo g l p (n + 1)) (Finishes g) (pointer_of (setting g) k (erased.Direct object offset) s) _
           (address_runs next s object offset here (has_front (code g l).ops next front (expression_code m e ++ last) at) (omega arith))
           (λ q t x. leads_on (Arrives g (from g l t) n (word_of g t a ∷ [])) (FlowsTo g l p (n + 1)) (Finishes g) (value (setting g) k e t) _
           (value_runs g k runs e (from g l t) m (word_of g t a ∷ []) t (here_from g l m (word_of g t a ∷ []) t x.0) (has_front (code g l).ops m (expression_code m e) last back) (omega arith) (omega arith))
           (λ v u y.
           let z = both g l n [] a v t u x.0.kept.grows x.1 y in
           direct_store_runs n u p type object offset v (cell_at u.blocks object offset) z.top z.here (has_back (code g l).ops m (expression_code m e) last (expression_size e) (length_expression m e) back).0)))
-      effect_runs (core.Store type (core.Through pointer offset site) e) p next s places here at room low =
+      effect_runs (erased.Store type (erased.Through pointer offset site) e) p next s places here at room low =
           let m = next + expression_size pointer in
           let n = m + expression_size e in
-          let last = behind_value p.scratch type (core.Through pointer offset site) in
+          let last = behind_value p.scratch type (erased.Through pointer offset site) in
           let front = expression_code next pointer in
           let back = has_back (code g l).ops next front (expression_code m e ++ last) (expression_size pointer) (length_expression next pointer) at in
           let end : n + (4 + offset_size offset) ≡ next + (expression_size pointer + (expression_size e + (4 + offset_size offset))) = omega arith in
-          affects_at p (n + (4 + offset_size offset)) (next + (expression_size pointer + (expression_size e + (4 + offset_size offset)))) (effect (setting g) k (core.Store type (core.Through pointer offset site) e) s) end
+          affects_at p (n + (4 + offset_size offset)) (next + (expression_size pointer + (expression_size e + (4 + offset_size offset)))) (effect (setting g) k (erased.Store type (erased.Through pointer offset site) e) s) end
           (leads_on (Arrives g l m []) (FlowsTo g l p (n + (4 + offset_size offset))) (Finishes g) (value (setting g) k pointer s) _
           (value_runs g k runs pointer l next [] s here (has_front (code g l).ops next front (expression_code m e ++ last) at) (omega arith) (omega arith))
           (λ q t x. leads_on (Arrives g (from g l t) n (word_of g t q ∷ [])) (FlowsTo g l p (n + (4 + offset_size offset))) (Finishes g) (value (setting g) k e t) _
@@ -210,13 +211,13 @@ module _ (g : Execution) (l : Layout g) where
           (λ v u y.
           let z = both g l n [] q v t u x.0.kept.grows x.1 y in
           through_store_runs g l n u p type offset site q v places z.below z.top z.here (has_back (code g l).ops m (expression_code m e) last (expression_size e) (length_expression m e) back) (omega arith) (stack_of_offset offset (code g l).stack (omega arith)))))
-      effect_runs (core.UpdateLocal char local operator e site) p next s places here at room low =
+      effect_runs (erased.UpdateLocal char local operator e site) p next s places here at room low =
           let n = next + 1 + expression_size e in
           let m = n + 1 + byte_size char in
           let last = operator_code operator site ∷ (byte_code char ++ (ops.Set local ∷ [])) in
           let back = has_back (code g l).ops (next + 1) (expression_code (next + 1) e) last (expression_size e) (length_expression (next + 1) e) at.1 in
-          let end : m + 1 ≡ next + statement_size (core.UpdateLocal char local operator e site) = omega arith in
-          affects_at p (m + 1) (next + statement_size (core.UpdateLocal char local operator e site)) (effect (setting g) k (core.UpdateLocal char local operator e site) s) end
+          let end : m + 1 ≡ next + statement_size (erased.UpdateLocal char local operator e site) = omega arith in
+          affects_at p (m + 1) (next + statement_size (erased.UpdateLocal char local operator e site)) (effect (setting g) k (erased.UpdateLocal char local operator e site) s) end
           (leads_on (Arrives g l (next + 1) []) (FlowsTo g l p (m + 1)) (Finishes g) (given (slice_get s.locals local) s) _
           (local_runs g l next [] s local (slice_get s.locals local) refl here at.0 (omega arith))
           (λ old t x. leads_on (Arrives g (from g l t) n (word_of g t old ∷ [])) (FlowsTo g l p (m + 1)) (Finishes g) (value (setting g) k e t) _
@@ -225,7 +226,7 @@ module _ (g : Execution) (l : Layout g) where
           let z = both g l n [] old v t u x.0.kept.grows x.1 y in
           combined_runs p n (m + 1) [] u char operator site old v (ops.Set local ∷ []) (set_local local) z back (omega arith)
           (λ new w i. set_runs g l m w p local new i.1 (here_on g l m (word_of g w new ∷ []) u w z.here.kept.grows i.0) (has_back (code g l).ops (n + 1) (byte_code char) (ops.Set local ∷ []) (byte_size char) (length_byte char) back.1).0))))
-      effect_runs (core.Update type cell operator e site) p next s places here at room low =
+      effect_runs (erased.Update type cell operator e site) p next s places here at room low =
           let m = next + place_size cell in
           let n = m + 2 + expression_size e in
           let o = n + 1 + byte_size (is_char type) in
@@ -236,8 +237,8 @@ module _ (g : Execution) (l : Layout g) where
           let two : m + 1 + 1 ≡ m + 2 = omega arith in
           let at_value = subst (λ i. HasAt (code g l).ops i (expression_code (m + 2) e ++ last)) two middle.1.1 in
           let back = has_back (code g l).ops (m + 2) (expression_code (m + 2) e) last (expression_size e) (length_expression (m + 2) e) at_value in
-          let end : o + 1 ≡ next + statement_size (core.Update type cell operator e site) = omega arith in
-          affects_at p (o + 1) (next + statement_size (core.Update type cell operator e site)) (effect (setting g) k (core.Update type cell operator e site) s) end
+          let end : o + 1 ≡ next + statement_size (erased.Update type cell operator e site) = omega arith in
+          affects_at p (o + 1) (next + statement_size (erased.Update type cell operator e site)) (effect (setting g) k (erased.Update type cell operator e site) s) end
           (leads_on (Placed g l m []) (FlowsTo g l p (o + 1)) (Finishes g) (place (setting g) k cell s) _
           (place_runs g k runs cell l next [] s here (has_front (code g l).ops next (place_code next cell) rest at) (omega arith) (omega arith))
           (λ place t x.
@@ -262,15 +263,15 @@ module _ (g : Execution) (l : Layout g) where
           (λ new w' i.
           let last_both = both g l o [] a new w w' three.here.kept.grows still i in
           store_runs g l o w' p type (Some site) place new last_both.top last_both.here (has_back (code g l).ops (n + 1) (byte_code char) (store_code type ∷ []) (byte_size char) (length_byte char) back.1).0)))))
-      effect_runs (core.Evaluate e) p next s places here at room low =
+      effect_runs (erased.Evaluate e) p next s places here at room low =
           operand_runs e ops.Discard (λ _ t. Gives Next t) p next s (λ m v t x op. moved g l m (word_of g t v ∷ []) t ops.Discard (m + 1) [] t x.0 op x.0.kept (λ scratch. refl)) here at room low
-      effect_runs (core.CallAlone callee args) p next s places here at room low =
+      effect_runs (erased.CallAlone callee args) p next s places here at room low =
           called_runs g k runs (FlowsTo g l p (next + (arguments_size args + 2))) args callee no_result (arguments_run g k runs args) l next [] s
           (alone_runs (next + (arguments_size args + 2)) p) here at (omega arith) (omega arith) low
-      effect_runs (core.Print e) p next s places here at room low = operand_runs e ops.Print printed p next s (λ m v t x. print_runs m t p v x) here at room low
-      effect_runs (core.PutByte e) p next s places here at room low = operand_runs e ops.PutByte put p next s (λ m v t x. put_runs m t p v x) here at room low
-      effect_runs (core.Block inner) p next s places here at room low = effects_run inner p next s places here at room low
-      effect_runs (core.If condition consequent alternative) p next s places here at room low =
+      effect_runs (erased.Print e) p next s places here at room low = operand_runs e ops.Print printed p next s (λ m v t x. print_runs m t p v x) here at room low
+      effect_runs (erased.PutByte e) p next s places here at room low = operand_runs e ops.PutByte put p next s (λ m v t x. put_runs m t p v x) here at room low
+      effect_runs (erased.Block inner) p next s places here at room low = effects_run inner p next s places here at room low
+      effect_runs (erased.If condition consequent alternative) p next s places here at room low =
           let m = next + expression_size condition in
           let inside = m + 1 in
           let other = inside + statement_size consequent + 1 in
@@ -279,8 +280,8 @@ module _ (g : Execution) (l : Layout g) where
           let rest = ops.JumpIfZero other ∷ (statement_code p inside consequent ++ leap) in
           let back = has_back (code g l).ops next (expression_code next condition) rest (expression_size condition) (length_expression next condition) at in
           let behind = has_back (code g l).ops inside (statement_code p inside consequent) leap (statement_size consequent) (length_statement p inside consequent) back.1 in
-          let whole : end ≡ next + statement_size (core.If condition consequent alternative) = omega arith in
-          affects_at p end (next + statement_size (core.If condition consequent alternative)) (effect (setting g) k (core.If condition consequent alternative) s) whole
+          let whole : end ≡ next + statement_size (erased.If condition consequent alternative) = omega arith in
+          affects_at p end (next + statement_size (erased.If condition consequent alternative)) (effect (setting g) k (erased.If condition consequent alternative) s) whole
           (leads_on (Arrives g l m []) (FlowsTo g l p end) (Finishes g) (value (setting g) k condition s) _
           (value_runs g k runs condition l next [] s here (has_front (code g l).ops next (expression_code next condition) rest at) (omega arith) (omega arith))
           (λ v t x. if_runs p m other end v (truth v) t (effect (setting g) k consequent t) (effect (setting g) k alternative t) refl x back.0 (omega arith)
@@ -288,21 +289,21 @@ module _ (g : Execution) (l : Layout g) where
           (λ u i. jump_runs g l (inside + statement_size consequent) [] [] u (ops.Jump end) end (omega arith) i behind.0 (λ scratch. refl))
           (effect_runs consequent p inside t places h (has_front (code g l).ops inside (statement_code p inside consequent) leap back.1) (omega arith) (omega arith)))
           (λ h. effect_runs alternative p other t places h behind.1 (omega arith) (omega arith))))
-      effect_runs (core.Loop condition body step) p next s places here at room low =
+      effect_runs (erased.Loop condition body step) p next s places here at room low =
           loop_runs condition body step (effect_runs body) (effect_runs step) p next s places at room low
           (jump_runs g l next [] [] s (ops.Jump (test_of next body step)) (test_of next body step) (omega arith) here at.0 (λ scratch. refl))
-      effect_runs (core.Return e) p next s places here at room low =
+      effect_runs (erased.Return e) p next s places here at room low =
           operand_runs e ops.Return (λ v t. Gives (Returned (Some v)) t) p next s (λ m v t x. return_runs m t v x) here at room low
-      effect_runs core.ReturnNothing p next s places here at room low = nothing_runs next s here at.0
-      effect_runs core.Break p next s places here at room low = jump_runs g l next [] [] s (ops.Jump p.on_break) p.on_break places.on_break here at.0 (λ scratch. refl)
-      effect_runs core.Continue p next s places here at room low = jump_runs g l next [] [] s (ops.Jump p.on_continue) p.on_continue places.on_continue here at.0 (λ scratch. refl)
+      effect_runs erased.ReturnNothing p next s places here at room low = nothing_runs next s here at.0
+      effect_runs erased.Break p next s places here at room low = jump_runs g l next [] [] s (ops.Jump p.on_break) p.on_break places.on_break here at.0 (λ scratch. refl)
+      effect_runs erased.Continue p next s places here at room low = jump_runs g l next [] [] s (ops.Jump p.on_continue) p.on_continue places.on_continue here at.0 (λ scratch. refl)
 
-      pub effects_run : (xs : core.Statements) (p : Places) (next : ℕ) (s : meaning.State) → ArePlaces g l p → Here g l next [] s → HasAt (code g l).ops next (statements_code p next xs) → statements_stack xs ≤ (code g l).stack → next + statements_size xs < length (code g l).ops → Affects g l p (next + statements_size xs) (effects (setting g) k xs s)
-      effects_run core.NoMore p next s places here at room low = let e : next ≡ next + 0 = omega arith in here_at g l next (next + 0) [] s e here
-      effects_run (core.Then first others) p next s places here at room low =
+      pub effects_run : (xs : erased.Statements) (p : Places) (next : ℕ) (s : meaning.State) → ArePlaces g l p → Here g l next [] s → HasAt (code g l).ops next (statements_code p next xs) → statements_stack xs ≤ (code g l).stack → next + statements_size xs < length (code g l).ops → Affects g l p (next + statements_size xs) (effects (setting g) k xs s)
+      effects_run erased.NoMore p next s places here at room low = let e : next ≡ next + 0 = omega arith in here_at g l next (next + 0) [] s e here
+      effects_run (erased.Then first others) p next s places here at room low =
           let m = next + statement_size first in
           let end : m + statements_size others ≡ next + (statement_size first + statements_size others) = omega arith in
-          affects_at p (m + statements_size others) (next + (statement_size first + statements_size others)) (effects (setting g) k (core.Then first others) s) end
+          affects_at p (m + statements_size others) (next + (statement_size first + statements_size others)) (effects (setting g) k (erased.Then first others) s) end
           (affects_on p m (m + statements_size others) (effect (setting g) k first s) (effects (setting g) k others)
           (effect_runs first p next s places here (has_front (code g l).ops next (statement_code p next first) (statements_code p m others) at) (omega arith) (omega arith))
           (λ t x. effects_run others p m t places x (has_back (code g l).ops next (statement_code p next first) (statements_code p m others) (statement_size first) (length_statement p next first) at) (omega arith) (omega arith)))

@@ -8,11 +8,11 @@ use Rattle.act_words.specs.declared.ending.Ending.{Ending}
 use Rattle.ckc_core.specs.Outcome.{Gives, Ends, Stuck, Short, and_then}
 use Rattle.act_words.specs.World.{World}
 use Rattle.act_words.specs.Touches.{Asked, Got, Ended}
-use Rattle.ckc_core.specs.Core.{Function}
+use Rattle.check_insertion.specs.Erased.{Function}
 use Rattle.ckc_core.specs.States.{Value, Shape, Local, Grows, shapes}
 use Rattle.ckc_core.specs.States as meaning
-use Rattle.ckc_core.specs.Meaning.{Result}
-use Rattle.ckc_core.specs.Meaning as meanings
+use Rattle.ckc_core.specs.Steps.{Result}
+use Rattle.check_insertion.specs.ErasedMeaning as meanings
 use Rattle.code_words.specs.Table.{Frame, Caller, Runs, State, Goes, Over, act, push}
 use Rattle.code_words.specs.Moves.{move}
 use Rattle.code_words.specs.Runs.{Finished, exec, go_on}

@@ -11,15 +11,16 @@ use Rattle.pointer_modes.specs.Types.{CType, Int, Char, Struct, Pointer}
 use Rattle.ckc_core.specs.declared.program.Site.{Site}
 use Rattle.ckc_core.specs.States.{Value, Number, Null, At, Cell, Block, Shape, Local, Grows, strides, shape, shapes, cell_at, same_type, has_type}
 use Rattle.ckc_core.specs.States as meaning
-use Rattle.ckc_core.specs.Meaning.{store_if, store_over, store_at, leaves_zero, set_over, set_local, is_char, place_through, kept_if}
-use Rattle.ckc_core.specs.Meaning as meanings
+use Rattle.ckc_core.specs.Steps.{store_if, store_over, store_at, leaves_zero, set_over, set_local, is_char, kept_if}
+use Rattle.check_insertion.specs.ErasedMeaning.{place_through}
+use Rattle.check_insertion.specs.ErasedMeaning as meanings
 use Rattle.ckc_core.specs.Outcome.{and_then}
 use Rattle.code_words.specs.Table.{Runs, Goes, act, store, push_some, set_if}
 use Rattle.code_words.specs.Table as table
 use Rattle.code_words.specs.declared.op.Op.TheVariants as ops
 use Rattle.lowering_code.specs.Code.{Places, store_code, through_code, byte_code, byte_size, offset_size}
 use Rattle.lowering_code.specs.Code as codes
-use Rattle.ckc_core.specs.Stacks.{offset_stack}
+use Rattle.check_insertion.specs.Stacks.{offset_stack}
 use Rattle.ckc_core.proofs.Elements.{of_element}
 use Rattle.lowering_code.specs.Correct.{width_if}
 use Rattle.lowering_code.proofs.Shapes.{end_from, IsKeptBy, grows_none, grows_on, kept_grows, word_grows}

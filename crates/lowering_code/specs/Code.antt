@@ -13,8 +13,8 @@ use Rattle.ckc_core.specs.declared.program.Index.{Index}
 use Rattle.ckc_core.specs.declared.program.Index.TheVariants as indexes
 use Rattle.check_insertion.specs.declared.erased.Check.{Check}
 use Rattle.check_insertion.specs.declared.erased.Check.TheVariants as checks
-use Rattle.ckc_core.specs.Core as core
-use Rattle.ckc_core.specs.Meaning.{is_char}
+use Rattle.check_insertion.specs.Erased as erased
+use Rattle.ckc_core.specs.Steps.{is_char}
 use Rattle.code_words.specs.declared.op.Op.{Op}
 use Rattle.code_words.specs.declared.op.Op.TheVariants as ops
 use Rattle.marshalling.specs.declared.kind.WordKind.{WordKind}
@@ -85,109 +85,109 @@ byte_size true = 1
 byte_size false = 0
 
 abbrev mutual
-  pub expression_size : core.Expression → ℕ
-  expression_size (core.Number number) = 1
-  expression_size core.Null = 1
-  expression_size (core.Local local) = 1
-  expression_size (core.Load type p) = place_size p + 1
-  expression_size (core.AddressOf p) = place_size p
-  expression_size (core.Negate operand site) = expression_size operand + 1
-  expression_size (core.Complement operand) = expression_size operand + 1
-  expression_size (core.Not operand) = expression_size operand + 1
-  expression_size (core.Arithmetic operator left right site) = expression_size left + (expression_size right + 1)
-  expression_size (core.Compare comparison left right) = expression_size left + (expression_size right + 1)
-  expression_size (core.Same left right) = expression_size left + (expression_size right + 1)
-  expression_size (core.AndAlso left right) = expression_size left + (expression_size right + 5)
-  expression_size (core.OrElse left right) = expression_size left + (expression_size right + 5)
-  expression_size (core.LowByte operand) = expression_size operand + 1
-  expression_size (core.Call callee arguments) = arguments_size arguments + 2
-  expression_size core.NextInput = 1
+  pub expression_size : erased.Expression → ℕ
+  expression_size (erased.Number number) = 1
+  expression_size erased.Null = 1
+  expression_size (erased.Local local) = 1
+  expression_size (erased.Load type p) = place_size p + 1
+  expression_size (erased.AddressOf p) = place_size p
+  expression_size (erased.Negate operand site) = expression_size operand + 1
+  expression_size (erased.Complement operand) = expression_size operand + 1
+  expression_size (erased.Not operand) = expression_size operand + 1
+  expression_size (erased.Arithmetic operator left right site) = expression_size left + (expression_size right + 1)
+  expression_size (erased.Compare comparison left right) = expression_size left + (expression_size right + 1)
+  expression_size (erased.Same left right) = expression_size left + (expression_size right + 1)
+  expression_size (erased.AndAlso left right) = expression_size left + (expression_size right + 5)
+  expression_size (erased.OrElse left right) = expression_size left + (expression_size right + 5)
+  expression_size (erased.LowByte operand) = expression_size operand + 1
+  expression_size (erased.Call callee arguments) = arguments_size arguments + 2
+  expression_size erased.NextInput = 1
 
-  pub arguments_size : core.Arguments → ℕ
-  arguments_size core.Done = 0
-  arguments_size (core.More first rest) = expression_size first + arguments_size rest
+  pub arguments_size : erased.Arguments → ℕ
+  arguments_size erased.Done = 0
+  arguments_size (erased.More first rest) = expression_size first + arguments_size rest
 
-  pub place_size : core.Place → ℕ
-  place_size (core.Direct object offset) = 1 + offset_size offset
-  place_size (core.Through pointer index offset checks) = expression_size pointer + through_size index offset checks
+  pub place_size : erased.Place → ℕ
+  place_size (erased.Direct object offset) = 1 + offset_size offset
+  place_size (erased.Through pointer index offset checks) = expression_size pointer + through_size index offset checks
 
 -- what a store has before its value, and behind it
-abbrev pub before_value_size : core.Place → ℕ
-before_value_size (core.Direct object offset) = 1 + offset_size offset
-before_value_size (core.Through pointer index offset checks) = expression_size pointer
+abbrev pub before_value_size : erased.Place → ℕ
+before_value_size (erased.Direct object offset) = 1 + offset_size offset
+before_value_size (erased.Through pointer index offset checks) = expression_size pointer
 
-abbrev pub behind_value_size : core.Place → ℕ
-behind_value_size (core.Direct object offset) = 1
-behind_value_size (core.Through pointer index offset checks) = 3 + through_size index offset checks
+abbrev pub behind_value_size : erased.Place → ℕ
+behind_value_size (erased.Direct object offset) = 1
+behind_value_size (erased.Through pointer index offset checks) = 3 + through_size index offset checks
 
 abbrev mutual
-  pub statement_size : core.Statement → ℕ
-  statement_size core.Nothing = 0
-  statement_size (core.SetLocal local value) = expression_size value + 1
-  statement_size (core.Store type p value) = before_value_size p + (expression_size value + behind_value_size p)
-  statement_size (core.UpdateLocal char local operator value site) = 1 + (expression_size value + (1 + (byte_size char + 1)))
-  statement_size (core.Update type p operator value site) = place_size p + (2 + (expression_size value + (1 + (byte_size (is_char type) + 1))))
-  statement_size (core.Evaluate value) = expression_size value + 1
-  statement_size (core.CallAlone callee arguments) = arguments_size arguments + 2
-  statement_size (core.Print number) = expression_size number + 1
-  statement_size (core.PutByte number) = expression_size number + 1
-  statement_size (core.Block inner) = statements_size inner
-  statement_size (core.If condition consequent alternative) = expression_size condition + (1 + (statement_size consequent + (1 + statement_size alternative)))
-  statement_size (core.Loop condition body step) = 2 + (statement_size body + (statement_size step + (expression_size condition + 2)))
-  statement_size (core.Return value) = expression_size value + 1
-  statement_size core.ReturnNothing = 1
-  statement_size core.Break = 1
-  statement_size core.Continue = 1
+  pub statement_size : erased.Statement → ℕ
+  statement_size erased.Nothing = 0
+  statement_size (erased.SetLocal local value) = expression_size value + 1
+  statement_size (erased.Store type p value) = before_value_size p + (expression_size value + behind_value_size p)
+  statement_size (erased.UpdateLocal char local operator value site) = 1 + (expression_size value + (1 + (byte_size char + 1)))
+  statement_size (erased.Update type p operator value site) = place_size p + (2 + (expression_size value + (1 + (byte_size (is_char type) + 1))))
+  statement_size (erased.Evaluate value) = expression_size value + 1
+  statement_size (erased.CallAlone callee arguments) = arguments_size arguments + 2
+  statement_size (erased.Print number) = expression_size number + 1
+  statement_size (erased.PutByte number) = expression_size number + 1
+  statement_size (erased.Block inner) = statements_size inner
+  statement_size (erased.If condition consequent alternative) = expression_size condition + (1 + (statement_size consequent + (1 + statement_size alternative)))
+  statement_size (erased.Loop condition body step) = 2 + (statement_size body + (statement_size step + (expression_size condition + 2)))
+  statement_size (erased.Return value) = expression_size value + 1
+  statement_size erased.ReturnNothing = 1
+  statement_size erased.Break = 1
+  statement_size erased.Continue = 1
 
-  pub statements_size : core.Statements → ℕ
-  statements_size core.NoMore = 0
-  statements_size (core.Then first others) = statement_size first + statements_size others
+  pub statements_size : erased.Statements → ℕ
+  statements_size erased.NoMore = 0
+  statements_size (erased.Then first others) = statement_size first + statements_size others
 
 -- ---- expressions
 
 abbrev mutual
   -- leaves the word of the expression's value on the stack
-  pub expression_code : ℕ → core.Expression → List Op
-  expression_code at (core.Number number) = ops.Const number ∷ []
-  expression_code at core.Null = ops.Const (pos 0) ∷ []
-  expression_code at (core.Local local) = ops.Local local ∷ []
-  expression_code at (core.Load type p) = place_code at p ++ load_code type ∷ []
-  expression_code at (core.AddressOf p) = place_code at p
-  expression_code at (core.Negate operand site) = expression_code at operand ++ ops.Neg site.place ∷ []
-  expression_code at (core.Complement operand) = expression_code at operand ++ ops.Not ∷ []
-  expression_code at (core.Not operand) = expression_code at operand ++ ops.Zero ∷ []
-  expression_code at (core.Arithmetic operator left right site) =
+  pub expression_code : ℕ → erased.Expression → List Op
+  expression_code at (erased.Number number) = ops.Const number ∷ []
+  expression_code at erased.Null = ops.Const (pos 0) ∷ []
+  expression_code at (erased.Local local) = ops.Local local ∷ []
+  expression_code at (erased.Load type p) = place_code at p ++ load_code type ∷ []
+  expression_code at (erased.AddressOf p) = place_code at p
+  expression_code at (erased.Negate operand site) = expression_code at operand ++ ops.Neg site.place ∷ []
+  expression_code at (erased.Complement operand) = expression_code at operand ++ ops.Not ∷ []
+  expression_code at (erased.Not operand) = expression_code at operand ++ ops.Zero ∷ []
+  expression_code at (erased.Arithmetic operator left right site) =
       expression_code at left ++ (expression_code (at + expression_size left) right ++ operator_code operator site ∷ [])
-  expression_code at (core.Compare comparison left right) =
+  expression_code at (erased.Compare comparison left right) =
       expression_code at left ++ (expression_code (at + expression_size left) right ++ ops.Compare comparison ∷ [])
-  expression_code at (core.Same left right) =
+  expression_code at (erased.Same left right) =
       expression_code at left ++ (expression_code (at + expression_size left) right ++ ops.Compare comparisons.Equal ∷ [])
   -- where the left one is 0 or null the right one is passed over, and the result is 0
-  expression_code at (core.AndAlso left right) =
+  expression_code at (erased.AndAlso left right) =
       expression_code at left
       ++ ops.JumpIfZero (at + expression_size left + 1 + expression_size right + 3)
       ∷ (expression_code (at + expression_size left + 1) right
       ++ ops.Zero ∷ ops.Zero ∷ ops.Jump (at + expression_size left + 1 + expression_size right + 4) ∷ ops.Const (pos 0) ∷ [])
   -- where the left one is neither the right one is passed over, and the result is 1
-  expression_code at (core.OrElse left right) =
+  expression_code at (erased.OrElse left right) =
       expression_code at left
       ++ ops.JumpIfZero (at + expression_size left + 3)
       ∷ ops.Const (pos 1)
       ∷ ops.Jump (at + expression_size left + 3 + expression_size right + 2)
       ∷ (expression_code (at + expression_size left + 3) right ++ ops.Zero ∷ ops.Zero ∷ [])
-  expression_code at (core.LowByte operand) = expression_code at operand ++ ops.Byte ∷ []
-  expression_code at (core.Call callee arguments) = arguments_code at arguments ++ ops.Tick ∷ callee_code callee ∷ []
-  expression_code at core.NextInput = ops.NextInput ∷ []
+  expression_code at (erased.LowByte operand) = expression_code at operand ++ ops.Byte ∷ []
+  expression_code at (erased.Call callee arguments) = arguments_code at arguments ++ ops.Tick ∷ callee_code callee ∷ []
+  expression_code at erased.NextInput = ops.NextInput ∷ []
 
   -- leaves the words of the arguments there, the last on top
-  pub arguments_code : ℕ → core.Arguments → List Op
-  arguments_code at core.Done = []
-  arguments_code at (core.More first rest) = expression_code at first ++ arguments_code (at + expression_size first) rest
+  pub arguments_code : ℕ → erased.Arguments → List Op
+  arguments_code at erased.Done = []
+  arguments_code at (erased.More first rest) = expression_code at first ++ arguments_code (at + expression_size first) rest
 
   -- leaves the address of the cell there
-  pub place_code : ℕ → core.Place → List Op
-  place_code at (core.Direct object offset) = address_code object offset
-  place_code at (core.Through pointer index offset checks) = expression_code at pointer ++ through_code index offset checks
+  pub place_code : ℕ → erased.Place → List Op
+  place_code at (erased.Direct object offset) = address_code object offset
+  place_code at (erased.Through pointer index offset checks) = expression_code at pointer ++ through_code index offset checks
 
 -- ---- statements
 
@@ -202,35 +202,35 @@ abbrev pub loop_places : ℕ → ℕ → ℕ → ℕ → ℕ → Places
 loop_places scratch at body step condition = record { scratch = scratch; on_break = at + 2 + body + step + condition + 2; on_continue = at + 2 + body }
 
 -- the address that a store needs before its value, or its pointer
-abbrev pub before_value : ℕ → core.Place → List Op
-before_value at (core.Direct object offset) = address_code object offset
-before_value at (core.Through pointer index offset checks) = expression_code at pointer
+abbrev pub before_value : ℕ → erased.Place → List Op
+before_value at (erased.Direct object offset) = address_code object offset
+before_value at (erased.Through pointer index offset checks) = expression_code at pointer
 
 -- what follows the value
-abbrev pub behind_value : ℕ → CType → core.Place → List Op
-behind_value scratch type (core.Direct object offset) = store_code type ∷ []
-behind_value scratch type (core.Through pointer index offset checks) =
+abbrev pub behind_value : ℕ → CType → erased.Place → List Op
+behind_value scratch type (erased.Direct object offset) = store_code type ∷ []
+behind_value scratch type (erased.Through pointer index offset checks) =
     ops.Set scratch ∷ (through_code index offset checks ++ ops.Local scratch ∷ store_code type ∷ [])
 
 abbrev mutual
-  pub statement_code : Places → ℕ → core.Statement → List Op
-  statement_code p at core.Nothing = []
-  statement_code p at (core.SetLocal local value) = expression_code at value ++ ops.Set local ∷ []
-  statement_code p at (core.Store type cell value) =
+  pub statement_code : Places → ℕ → erased.Statement → List Op
+  statement_code p at erased.Nothing = []
+  statement_code p at (erased.SetLocal local value) = expression_code at value ++ ops.Set local ∷ []
+  statement_code p at (erased.Store type cell value) =
       before_value at cell ++ (expression_code (at + before_value_size cell) value ++ behind_value p.scratch type cell)
-  statement_code p at (core.UpdateLocal char local operator value site) =
+  statement_code p at (erased.UpdateLocal char local operator value site) =
       ops.Local local ∷ (expression_code (at + 1) value ++ operator_code operator site ∷ (byte_code char ++ ops.Set local ∷ []))
-  statement_code p at (core.Update type cell operator value site) =
+  statement_code p at (erased.Update type cell operator value site) =
       place_code at cell
       ++ ops.Duplicate
       ∷ load_code type
       ∷ (expression_code (at + place_size cell + 2) value ++ operator_code operator site ∷ (byte_code (is_char type) ++ store_code type ∷ []))
-  statement_code p at (core.Evaluate value) = expression_code at value ++ ops.Discard ∷ []
-  statement_code p at (core.CallAlone callee arguments) = arguments_code at arguments ++ ops.Tick ∷ callee_code callee ∷ []
-  statement_code p at (core.Print number) = expression_code at number ++ ops.Print ∷ []
-  statement_code p at (core.PutByte number) = expression_code at number ++ ops.PutByte ∷ []
-  statement_code p at (core.Block inner) = statements_code p at inner
-  statement_code p at (core.If condition consequent alternative) =
+  statement_code p at (erased.Evaluate value) = expression_code at value ++ ops.Discard ∷ []
+  statement_code p at (erased.CallAlone callee arguments) = arguments_code at arguments ++ ops.Tick ∷ callee_code callee ∷ []
+  statement_code p at (erased.Print number) = expression_code at number ++ ops.Print ∷ []
+  statement_code p at (erased.PutByte number) = expression_code at number ++ ops.PutByte ∷ []
+  statement_code p at (erased.Block inner) = statements_code p at inner
+  statement_code p at (erased.If condition consequent alternative) =
       let inside = at + expression_size condition + 1 in
       let other = inside + statement_size consequent + 1 in
       expression_code at condition
@@ -238,7 +238,7 @@ abbrev mutual
       ∷ (statement_code p inside consequent ++ ops.Jump (other + statement_size alternative) ∷ statement_code p other alternative)
   -- The condition stands behind the body and the step, and is where the loop begins. Each turn begins with a tick. `break` and
   -- `continue` in the step are those of the loop around it.
-  statement_code p at (core.Loop condition body step) =
+  statement_code p at (erased.Loop condition body step) =
       let inside = at + 2 in
       let next = inside + statement_size body in
       let test = next + statement_size step in
@@ -248,14 +248,14 @@ abbrev mutual
       ∷ ops.Tick
       ∷ (statement_code q inside body
       ++ (statement_code p next step ++ (expression_code test condition ++ ops.JumpIfZero end ∷ ops.Jump (at + 1) ∷ [])))
-  statement_code p at (core.Return value) = expression_code at value ++ ops.Return ∷ []
-  statement_code p at core.ReturnNothing = ops.ReturnNothing ∷ []
-  statement_code p at core.Break = ops.Jump p.on_break ∷ []
-  statement_code p at core.Continue = ops.Jump p.on_continue ∷ []
+  statement_code p at (erased.Return value) = expression_code at value ++ ops.Return ∷ []
+  statement_code p at erased.ReturnNothing = ops.ReturnNothing ∷ []
+  statement_code p at erased.Break = ops.Jump p.on_break ∷ []
+  statement_code p at erased.Continue = ops.Jump p.on_continue ∷ []
 
-  pub statements_code : Places → ℕ → core.Statements → List Op
-  statements_code p at core.NoMore = []
-  statements_code p at (core.Then first others) = statement_code p at first ++ statements_code p (at + statement_size first) others
+  pub statements_code : Places → ℕ → erased.Statements → List Op
+  statements_code p at erased.NoMore = []
+  statements_code p at (erased.Then first others) = statement_code p at first ++ statements_code p (at + statement_size first) others
 
 -- ---- functions and the whole program
 
@@ -275,8 +275,8 @@ result_kind None = kinds.Void
 result_kind (Some type) = kind_of type
 
 -- outside of loops, `break` and `continue` lead to the end of the body
-abbrev pub body_places : core.Function → Places
+abbrev pub body_places : erased.Function → Places
 body_places f = record { scratch = length f.locals; on_break = statements_size f.body; on_continue = statements_size f.body }
 
-abbrev pub function_ops : core.Function → List Op
+abbrev pub function_ops : erased.Function → List Op
 function_ops f = statements_code (body_places f) 0 f.body ++ ending_code f.result

@@ -12,10 +12,12 @@ use Rattle.act_words.specs.Numbers.{word}
 use Rattle.act_words.specs.Shown.{Shown}
 use Rattle.act_words.specs.View.{output_of, releases_of, view_of}
 use Rattle.flat_bytes.specs.Blocks.{first_offset, grown}
-use Rattle.ckc_core.specs.Core.{Core, Initial, Function, Import}
+use Rattle.ckc_core.specs.Programs.{Initial, Import}
+use Rattle.check_insertion.specs.Erased.{Erased, Function}
 use Rattle.ckc_core.specs.States.{Value, Number, Null, At, Cell, Block, Shape, shape, shapes, has_type, initial_value}
 use Rattle.ckc_core.specs.States as meaning_states
-use Rattle.ckc_core.specs.Meaning.{meaning, is_char}
+use Rattle.ckc_core.specs.Steps.{is_char}
+use Rattle.check_insertion.specs.ErasedMeaning.{meaning}
 use Rattle.code_words.specs.Table.{State}
 use Rattle.code_words.specs.Runs.{CodeRun}
 use Rattle.code_words.specs.Dumps.{blocks_held}
@@ -23,8 +25,8 @@ use Rattle.code_words.specs.Fitting.{Fits}
 use Rattle.code_words.specs.Formats.{KeepsFormat}
 use Rattle.code_words.specs.declared.image.Image.{Image}
 use Rattle.lowering_code.specs.Images.{word_bytes_if, padded}
-use Rattle.ckc_core.specs.Stacks.{body_stack}
-use Rattle.ckc_core.specs.Weights.{statements_weight}
+use Rattle.check_insertion.specs.Stacks.{body_stack}
+use Rattle.check_insertion.specs.Weights.{statements_weight}
 
 -- ---- where blocks stand, and their bytes
 

@@ -4,7 +4,7 @@ use Rattle.act_words.specs.declared.ending.Ending.{Ending}
 use Rattle.act_words.specs.declared.settings.Settings.{Settings}
 use Rattle.act_words.specs.World.{new_world}
 use Rattle.flat_bytes.specs.Blocks.{first_offset, blocks_of}
-use Rattle.ckc_core.specs.Core.{Core}
+use Rattle.check_insertion.specs.Erased.{Erased}
 use Rattle.code_words.specs.Table.{State, Runs}
 use Rattle.code_words.specs.Runs.{Run, Unfinished, Finished, exec, memory_of, counter_behind, main_frame}
 use Rattle.code_words.specs.declared.image.Image.{Image}

@@ -2,11 +2,11 @@
 // its code has 2^31 instructions at most, and no sum of sizes passes 32 bits.
 
 ghost use Rattle.std.specs.Prelude.{◌≡◌, ◌+◌, ◌^◌, ◌≤◌};
-ghost use Rattle.ckc_core.specs.Core.{expression, place, arguments_of, statement, statements_of};
+ghost use Rattle.check_insertion.specs.Erased.{expression, place, arguments_of, statement, statements_of};
 ghost use Rattle.lowering_code.specs.Code as code;
 
 use ckc_core::char_cells::has_one_byte;
-use ckc_core::program::{CellPlace, Expr, Stmt};
+use check_insertion::erased::{CellPlace, Expr, Stmt};
 
 // The size of what adds an offset to an address.
 fn offset_size(offset: u32) -> u32

@@ -1,10 +1,10 @@
 // How many words the parts of a program have on the stack at most.
 
 ghost use Rattle.std.specs.Prelude.{◌≡◌, ◌+◌, ◌≤◌};
-ghost use Rattle.ckc_core.specs.Core.{expression, place, arguments_of, statement, statements_of};
-ghost use Rattle.ckc_core.specs.Stacks as stacks;
+ghost use Rattle.check_insertion.specs.Erased.{expression, place, arguments_of, statement, statements_of};
+ghost use Rattle.check_insertion.specs.Stacks as stacks;
 
-use ckc_core::program::{CellPlace, Expr, Stmt};
+use check_insertion::erased::{CellPlace, Expr, Stmt};
 
 // An offset is added to an address on the stack.
 fn offset_stack(offset: u32) -> u32

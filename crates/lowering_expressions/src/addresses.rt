@@ -2,10 +2,10 @@
 
 ghost use Rattle.std.specs.Prelude.{◌≡◌, ◌++◌, OnOk};
 ghost use Rattle.pointer_modes.specs.Types.{ctype as type_of};
-ghost use Rattle.ckc_core.specs.Core.{place as place_of};
+ghost use Rattle.check_insertion.specs.Erased.{place as place_of};
 ghost use Rattle.lowering_code.specs.Code as code;
 
-use ckc_core::program::{CellPlace, Site};
+use check_insertion::erased::{CellPlace, Check};
 use ckc_text::fault::NoMemory;
 use code_words::op::Op;
 use lowering_code::instructions::{put, put_two, store_op};

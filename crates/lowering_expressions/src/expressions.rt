@@ -1,15 +1,16 @@
 // Emitting the code of expressions.
 
 ghost use Rattle.std.specs.Prelude.{◌≡◌, ◌+◌, ◌^◌, ◌<◌, ◌≤◌, [], ◌∷◌, ◌++◌, length, slice_get, Some, OnOk};
-ghost use Rattle.ckc_core.specs.declared.program.Expr.{Expr};
-ghost use Rattle.ckc_core.specs.Core.{expression, place as place_of, arguments_of, AndAlso, OrElse};
+ghost use Rattle.check_insertion.specs.declared.erased.Expr.{Expr};
+ghost use Rattle.check_insertion.specs.Erased.{expression, place as place_of, arguments_of, AndAlso, OrElse};
 ghost use Rattle.code_words.specs.declared.op.Op.TheVariants as ops_of;
 ghost use Rattle.lowering_code.specs.Code as code;
 
 use crate::addresses::{emit_address, emit_through};
 use crate::calls::{argument_at, put_call};
 use act_words::operator::Comparison;
-use ckc_core::program::{Callee, CellPlace, Expr};
+use check_insertion::erased::{CellPlace, Expr};
+use ckc_core::program::Callee;
 use ckc_text::fault::NoMemory;
 use code_words::op::Op;
 use lowering_code::code_sizes::expression_size;

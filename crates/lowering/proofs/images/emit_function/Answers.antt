@@ -2,8 +2,8 @@ use Rattle.std.proofs.Common.{◌≡◌, length, ap, arith}
 use Rattle.std.proofs.lemmas.List.{length-map}
 use Rattle.ckc_text.specs.Names.{IsName}
 use Rattle.pointer_modes.specs.Types.{ctype}
-use Rattle.ckc_core.specs.Core.{function, statements_of}
-use Rattle.ckc_core.specs.Stacks.{statements_stack, body_stack}
+use Rattle.check_insertion.specs.Erased.{function, statements_of}
+use Rattle.check_insertion.specs.Stacks.{statements_stack, body_stack}
 use Rattle.lowering_code.proofs.Fits.{is_func}
 use Rattle.lowering.proofs.images.emit_function.Goals as goal
 

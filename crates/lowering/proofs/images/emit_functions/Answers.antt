@@ -2,7 +2,7 @@ use Rattle.std.proofs.Common.{◌≡◌, suc, ◌+◌, ◌++◌, ◌∷◌, [], 
 use Rattle.std.proofs.lemmas.List.{drop_more}
 use Rattle.std.proofs.lemmas.List.Elements.{All-push}
 use Rattle.code_words.specs.Formats.{IsFunc}
-use Rattle.ckc_core.specs.Core.{function}
+use Rattle.check_insertion.specs.Erased.{function}
 use Rattle.lowering_code.specs.Correct.{IsFunction}
 use Rattle.lowering_code.specs.Images.{function_code, functions_from}
 use Rattle.lowering_code.proofs.Slices.{meant_at}

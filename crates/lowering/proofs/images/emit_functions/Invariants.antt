@@ -1,7 +1,7 @@
 use Rattle.std.proofs.Common.{◌≡◌, ◌++◌, map, drop}
 use Rattle.std.specs.Prelude.{All}
 use Rattle.code_words.specs.Formats.{IsFunc}
-use Rattle.ckc_core.specs.Core.{function}
+use Rattle.check_insertion.specs.Erased.{function}
 use Rattle.lowering_code.specs.Images.{functions_from}
 use Rattle.lowering.proofs.images.emit_functions.Given as goal
 

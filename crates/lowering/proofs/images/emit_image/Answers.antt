@@ -2,7 +2,8 @@ use Rattle.std.proofs.Common.{map, ap, subst, ◌∙◌}
 use Rattle.std.proofs.lemmas.List.Elements.{All-nil}
 use Rattle.std.specs.Prelude.{All}
 use Rattle.code_words.specs.Formats.{IsFunc, IsImport}
-use Rattle.ckc_core.specs.Core.{core, function, import_of}
+use Rattle.ckc_core.specs.Core.{import_of}
+use Rattle.check_insertion.specs.Erased.{erased, function}
 use Rattle.lowering_code.specs.Images.{functions_from, imports_from}
 use Rattle.lowering_code.proofs.Fits.{keeps_format}
 use Rattle.lowering.proofs.images.emit_image.Goals as goal

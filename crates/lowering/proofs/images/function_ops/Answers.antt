@@ -1,5 +1,5 @@
 use Rattle.std.proofs.Common.{length, ap, arith}
-use Rattle.ckc_core.specs.Core.{statements_of}
+use Rattle.check_insertion.specs.Erased.{statements_of}
 use Rattle.lowering_code.specs.Code.{statements_size}
 use Rattle.lowering_code.proofs.Weights.{body_short}
 use Rattle.lowering.proofs.images.function_ops.Goals as goal

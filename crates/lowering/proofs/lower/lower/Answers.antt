@@ -1,6 +1,6 @@
 use Rattle.std.proofs.Common.{sym, subst}
 use Rattle.std.proofs.lemmas.Result.{IfOk-weaker}
-use Rattle.ckc_core.specs.Core.{core}
+use Rattle.check_insertion.specs.Erased.{erased}
 use Rattle.lowering_code.specs.Correct.{KeepsMeaning}
 use Rattle.lowering_code.proofs.Fits.{image_keeps}
 use Rattle.lowering.proofs.lower.lower.Goals as goal

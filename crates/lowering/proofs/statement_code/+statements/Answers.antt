@@ -1,7 +1,7 @@
 use Rattle.std.proofs.Common.{◌+◌, ◌++◌, length, refl, sym, ap, ◌∙◌, arith, rules}
 use Rattle.std.proofs.lemmas.Result.{IfOk-weaker}
-use Rattle.ckc_core.specs.declared.program.Stmt.{the_lemmas}
-use Rattle.ckc_core.specs.Core.{expression, statement}
+use Rattle.check_insertion.specs.declared.erased.Stmt.{the_lemmas}
+use Rattle.check_insertion.specs.Erased.{expression, statement}
 use Rattle.ckc_core.proofs.Rows.{block_of}
 use Rattle.lowering_code.specs.Code.{statement_size, statement_code}
 use Rattle.lowering_expressions.specs.Views.{targets_of}

@@ -1,7 +1,7 @@
 use Rattle.std.proofs.Common.{◌≡◌, ◌+◌, ◌*◌, ◌++◌, length, drop}
 use Rattle.std.specs.Prelude.{max}
-use Rattle.ckc_core.specs.declared.program.Stmt.{size-Stmt}
-use Rattle.ckc_core.specs.Core.{statements_of}
+use Rattle.check_insertion.specs.declared.erased.Stmt.{size-Stmt}
+use Rattle.check_insertion.specs.Erased.{statements_of}
 use Rattle.lowering_code.specs.Code.{statements_code}
 use Rattle.lowering_expressions.specs.Views.{targets_of}
 use Rattle.lowering.proofs.statement_code.+statements.Given as goal

@@ -1,5 +1,5 @@
 use Rattle.std.proofs.lemmas.Result.{IfOk-weaker}
-use Rattle.ckc_core.specs.Core.{expression}
+use Rattle.check_insertion.specs.Erased.{expression}
 use Rattle.lowering_code.proofs.Emitting.{local_update_emitted}
 use Rattle.lowering.proofs.statement_code.emit_local_update.Goals as goal
 

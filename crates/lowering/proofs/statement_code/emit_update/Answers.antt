@@ -1,7 +1,7 @@
 use Rattle.std.proofs.Common.{length, refl, arith}
 use Rattle.std.proofs.lemmas.Result.{IfOk-weaker}
 use Rattle.pointer_modes.specs.Types.{ctype}
-use Rattle.ckc_core.specs.Core.{expression, place}
+use Rattle.check_insertion.specs.Erased.{expression, place}
 use Rattle.lowering_code.specs.Code.{place_size, place_code}
 use Rattle.lowering_code.proofs.Sizes.{length_place}
 use Rattle.lowering_code.proofs.Emitting.{place_after, update_emitted}

@@ -1,5 +1,5 @@
 use Rattle.std.proofs.Common.{ap, arith, rules}
-use Rattle.ckc_core.specs.declared.program.Expr.{the_lemmas}
+use Rattle.check_insertion.specs.declared.erased.Expr.{the_lemmas}
 use Rattle.ckc_core.proofs.Rows.{call_of}
 use Rattle.lowering_code.specs.Code.{expression_size}
 use Rattle.lowering_code.proofs.code_sizes.+sizes.Goals as goal

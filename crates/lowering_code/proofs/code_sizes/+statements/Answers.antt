@@ -1,5 +1,5 @@
 use Rattle.std.proofs.Common.{◌∙◌, ap, sym, arith, rules}
-use Rattle.ckc_core.specs.declared.program.Stmt.{the_lemmas}
+use Rattle.check_insertion.specs.declared.erased.Stmt.{the_lemmas}
 use Rattle.lowering_code.specs.Code.{statement_size}
 use Rattle.ckc_core.proofs.Rows.{block_of}
 use Rattle.lowering_code.proofs.code_sizes.+statements.Goals as goal

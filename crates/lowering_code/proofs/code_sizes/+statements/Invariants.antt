@@ -1,5 +1,5 @@
 use Rattle.std.proofs.Common.{◌≡◌, ◌+◌, drop}
-use Rattle.ckc_core.specs.Core.{statements_of}
+use Rattle.check_insertion.specs.Erased.{statements_of}
 use Rattle.lowering_code.specs.Code as code
 use Rattle.lowering_code.proofs.code_sizes.+statements.Given as goal
 

@@ -1,7 +1,7 @@
 use Rattle.std.proofs.Common.{ap, arith, rules}
-use Rattle.ckc_core.specs.declared.program.Expr.{the_lemmas}
-use Rattle.ckc_core.specs.Core.{expression}
-use Rattle.ckc_core.specs.Stacks.{expression_stack, arguments_stack}
+use Rattle.check_insertion.specs.declared.erased.Expr.{the_lemmas}
+use Rattle.check_insertion.specs.Erased.{expression}
+use Rattle.check_insertion.specs.Stacks.{expression_stack, arguments_stack}
 use Rattle.ckc_core.proofs.Rows.{call_of}
 use Rattle.lowering_code.proofs.Sizes.{stack_above}
 use Rattle.lowering_code.proofs.Slices.{arguments_drop}

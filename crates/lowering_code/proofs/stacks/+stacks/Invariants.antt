@@ -1,6 +1,6 @@
 use Rattle.std.proofs.Common.{◌≡◌, ◌+◌, ◌≤◌, max, drop}
-use Rattle.ckc_core.specs.Core.{arguments_of}
-use Rattle.ckc_core.specs.Stacks as stacks
+use Rattle.check_insertion.specs.Erased.{arguments_of}
+use Rattle.check_insertion.specs.Stacks as stacks
 use Rattle.lowering_code.proofs.stacks.+stacks.Given as goal
 
 -- the most so far and of the arguments that are left, which stand above the others, is the most of all arguments

@@ -1,6 +1,6 @@
 use Rattle.std.proofs.Common.{◌∙◌, ap, sym, arith, rules}
-use Rattle.ckc_core.specs.declared.program.Stmt.{the_lemmas}
-use Rattle.ckc_core.specs.Stacks.{statement_stack}
+use Rattle.check_insertion.specs.declared.erased.Stmt.{the_lemmas}
+use Rattle.check_insertion.specs.Stacks.{statement_stack}
 use Rattle.ckc_core.proofs.Rows.{block_of}
 use Rattle.lowering_code.proofs.stacks.+statement_stacks.Goals as goal
 

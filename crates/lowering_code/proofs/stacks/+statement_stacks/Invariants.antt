@@ -1,6 +1,6 @@
 use Rattle.std.proofs.Common.{◌≡◌, max, drop}
-use Rattle.ckc_core.specs.Core.{statements_of}
-use Rattle.ckc_core.specs.Stacks as stacks
+use Rattle.check_insertion.specs.Erased.{statements_of}
+use Rattle.check_insertion.specs.Stacks as stacks
 use Rattle.lowering_code.proofs.stacks.+statement_stacks.Given as goal
 
 -- the most so far and of what is left is the most of all

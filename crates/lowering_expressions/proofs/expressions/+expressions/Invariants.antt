@@ -1,7 +1,7 @@
 use Rattle.std.proofs.Common.{◌≡◌, ◌+◌, ◌*◌, ◌++◌, length, drop}
 use Rattle.std.specs.Prelude.{max}
-use Rattle.ckc_core.specs.declared.program.Expr.{size-Expr}
-use Rattle.ckc_core.specs.Core.{arguments_of}
+use Rattle.check_insertion.specs.declared.erased.Expr.{size-Expr}
+use Rattle.check_insertion.specs.Erased.{arguments_of}
 use Rattle.lowering_code.specs.Code.{arguments_code}
 use Rattle.lowering_expressions.proofs.expressions.+expressions.Given as goal
 
