@@ -205,6 +205,7 @@ module _ (words : List (List ℕ)) (told : Option Files) (old new : Option (List
           ending = e.0;
           last = e.1;
           runs = e.2;
+          audited = e.3;
           view = view_over files words options list c e.0 e.1 a e.2;
           view_before = view_before_over files words options list c e.0 e.1 a e.2;
           printed = is_given result (settled result h) (run_answer files words options list c e.0 e.1 a e.2);

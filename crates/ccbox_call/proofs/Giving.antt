@@ -30,6 +30,7 @@ use Rattle.act_recorder.specs.Diagnostics.{refused_text, act_refused_text}
 use Rattle.ccbox_call_words.specs.Statuses.{status_of}
 use Rattle.ccbox_call_words.specs.Given.{all, failed, LineGiven, given, unmade, OutcomeGiven}
 use Rattle.ccbox_call_words.specs.Requests.{Options, settings_of, inputs_of}
+use Rattle.check_insertion.specs.Insert.{inserted}
 use Rattle.ccbox_call.specs.Acceptance.{IsAcceptedCore, no_tokens}
 use Rattle.ccbox_call.specs.Answers.{acts_at, ListAnswer, CoreAnswer, acts, SourceAnswer, refused, accepted}
 use Rattle.ccbox_call.specs.Calls.{IsFoundStatus, StatusCounts, Gives, answered, output_failed, files_failed, no_memory, no_memory_behind}
@@ -73,7 +74,7 @@ line_found = inr (inr (inr (inr refl)))
 unchanged : (ending : Ending) (before : Counts) → StatusCounts (status_of ending) before before
 unchanged ending before = (refl, inr (found ending, refl))
 
-module _ (c : Core) (image : Image) (settings : Settings) (inputs : List ℤ) (list : ActList) (is : IsAcceptedCore c) (keeps : KeepsMeaning c image) (allowed : AreAllowed settings) (are_words : All (λ z. IsTrue (is_word_number z)) inputs) (are : All IsAct list.acts) where
+module _ (c : Core) (image : Image) (settings : Settings) (inputs : List ℤ) (list : ActList) (is : IsAcceptedCore c) (keeps : KeepsMeaning (inserted c) image) (allowed : AreAllowed settings) (are_words : All (λ z. IsTrue (is_word_number z)) inputs) (are : All IsAct list.acts) where
   abbrev IsAnswer : List ℕ → ℕ → Type 0
   IsAnswer = ListAnswer c settings inputs list
 

@@ -30,9 +30,10 @@ use Rattle.run_core.specs.Chains.{Chain, none, more}
 use Rattle.run_core.specs.Runs.{Outcome, Ends, LineRefused, EndsBefore, Comes, ended, ran_out, refused, missing}
 use Rattle.act_recorder.specs.Diagnostics.{act_refused_text}
 use Rattle.ccbox_call_words.specs.Statuses.{status_of}
+use Rattle.check_insertion.specs.Insert.{inserted}
 use Rattle.ccbox_call.specs.Acceptance.{IsAcceptedCore}
 use Rattle.ccbox_call.specs.Answers.{RunsTo, needed_from, needed_line, text_with, status_with, ListAnswer, ran}
-use Rattle.ccbox_call.proofs.Runs.{ends}
+use Rattle.ccbox_call.proofs.Runs.{inserted_ends, ends}
 
 -- how a list answers
 abbrev pub FromList : ActList → Option Files → Moment → Answer → ActList → Type 0
@@ -62,7 +63,7 @@ before-append last (NoAct turn ∷ xs) ys moment h = refl
 
 -- ---- the program's run over the list
 
-module _ (c : Core) (image : Image) (settings : Settings) (inputs : List ℤ) (list : ActList) (is : IsAcceptedCore c) (keeps : KeepsMeaning c image) (allowed : AreAllowed settings) (are_words : All (λ z. IsTrue (is_word_number z)) inputs) (are : All IsAct list.acts) where
+module _ (c : Core) (image : Image) (settings : Settings) (inputs : List ℤ) (list : ActList) (is : IsAcceptedCore c) (keeps : KeepsMeaning (inserted c) image) (allowed : AreAllowed settings) (are_words : All (λ z. IsTrue (is_word_number z)) inputs) (are : All IsAct list.acts) where
   -- what the code's run over the list comes to is what the program's run does
   record Meant (ending : Ending) (t : State) : Type 0 where
     pub state : meaning.State
@@ -73,7 +74,7 @@ module _ (c : Core) (image : Image) (settings : Settings) (inputs : List ℤ) (l
   meant : (ending : Ending) (t : State) → CodeRun image settings inputs list.acts ending t → Meant ending t
   meant ending t run =
       let e = ends c is settings inputs list.acts are_words are in
-      let r = keeps.ends settings inputs list.acts e.0 e.1 allowed are_words are e.2 in
+      let r = keeps.ends settings inputs list.acts e.0 e.1 allowed are_words are (inserted_ends c settings inputs list.acts e.0 e.1 e.2) in
       let both = one_end image settings run.0 (r.1).0 (started image settings inputs list.acts) ending e.0 t r.0 run.1 (r.1).1 in
       let last : t ≡ r.0 = same_last ending e.0 t r.0 both in
       record {
@@ -123,7 +124,7 @@ module _ (c : Core) (image : Image) (settings : Settings) (inputs : List ℤ) (l
       let is_list = given_refused g step in
       let same : acts ≡ list.acts = ap (λ (l : ActList). l.acts) (sym is_list) in
       let e = ends c is settings inputs list.acts are_words are in
-      let r = keeps.ends settings inputs list.acts e.0 e.1 allowed are_words are e.2 in
+      let r = keeps.ends settings inputs list.acts e.0 e.1 allowed are_words are (inserted_ends c settings inputs list.acts e.0 e.1 e.2) in
       let so_far : List Event = events_of (exec image settings due.steps (started image settings inputs acts)) in
       let run = subst (λ xs. CodeRun image settings inputs xs e.0 r.0) (sym same) r.1 in
       let later = stay image settings inputs acts due.steps e.0 r.0 run in

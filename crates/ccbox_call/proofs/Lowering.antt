@@ -38,7 +38,7 @@ IsLight f = statements_weight f.body ≤ 2 ^ 26
 function_is : (f : Function) → IsSmall 3400 f → IsLight f → IsFunction f
 function_is f small light = record { parameters = small.few_parameters; held = small.held; frame = omega (arith, small.few_locals, small.low); few_nodes = light }
 
-pub small_is_lowerable : (c : Core) → IsSmallCore c → HasFewFunctions c → All IsLight c.functions → IsLowerable c
+pub small_is_lowerable : (c : Core) → IsSmallCore c → HasFewFunctions c → All IsLight c.functions → IsLowerable (inserted c)
 small_is_lowerable c small few light = record {
   cells = λ k d lt. let here = small.cells k d lt in ((λ j e less. cell_is _ (here.0 j e less)), here.1);
   objects = omega (arith, counted_is c.objects first_offset, small.objects);

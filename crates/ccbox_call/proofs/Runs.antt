@@ -1,5 +1,5 @@
 -- The run of an accepted program ends, and its code ends in the same way.
-use Rattle.std.proofs.Common.{◌≡◌, ℕ, ◌+◌, ◌-◌, ◌≤◌, List, [], ◌∷◌, length, Option, Some, None, option_map, refl, ap, ◌∙◌, subst, arith}
+use Rattle.std.proofs.Common.{◌≡◌, ℕ, ◌+◌, ◌-◌, ◌≤◌, false, ℤ, List, [], ◌∷◌, length, Option, Some, None, option_map, refl, ap, ◌∙◌, subst, arith}
 use Rattle.std.specs.Prelude.{All, replicate}
 use Rattle.std.proofs.lemmas.List.{replicate-append-replicate}
 use Rattle.std.proofs.lemmas.List.Elements.{All-nil}
@@ -8,11 +8,18 @@ use Rattle.ckc_io.specs.Files.{Files, file_at}
 use Rattle.ckc_lexer.proofs.Next.{few_tokens}
 use Rattle.ckc_parser_grammar.proofs.FewNodes.{few_nodes}
 use Rattle.act_words.specs.declared.ending.Ending.{Ending}
-use Rattle.act_words.specs.Acts.{IsAct, Seen}
+use Rattle.act_words.specs.declared.settings.Settings.{Settings}
+use Rattle.act_words.specs.Acts.{Act, IsAct, Seen}
 use Rattle.act_words.specs.World.{World, Event, Took, Output, Released, Showed, NoAct}
 use Rattle.act_words.specs.View.{ViewIsFold, due_front}
 use Rattle.ckc_core.specs.Core.{Core}
+use Rattle.ckc_core.specs.Outcome.{Ends}
 use Rattle.ckc_core.specs.States.{State}
+use Rattle.ckc_core.specs.Meaning.{meaning, audited_meaning}
+use Rattle.check_insertion.specs.ErasedMeaning as erased
+use Rattle.check_insertion.specs.Insert.{inserted}
+use Rattle.check_insertion.specs.Keeps.{Follows}
+use Rattle.check_insertion.proofs.Insertions.{keeps_meaning as inserted_keeps}
 use Rattle.sandbox_actor.specs.Answers.{Moment}
 use Rattle.sandbox_actor.specs.ActLists.{ActList, RefusedLine, no_acts, acts_of_file, lines_of}
 use Rattle.run_core.specs.Moments.{due_in, due_from, before_due}
@@ -23,11 +30,11 @@ use Rattle.code_words.proofs.Due.{shown_before}
 use Rattle.lowering_code.specs.Images.{image_of}
 use Rattle.lowering_code.specs.Correct.{IsLowerable}
 use Rattle.lowering_code.proofs.Programs.{keeps_meaning}
-use Rattle.region_typing_rules.specs.NeverStuck.{NeverStuck}
+use Rattle.region_typing_rules.specs.NeverStuck.{AlwaysEnds}
 use Rattle.region_typing_rules.proofs.Counts.{few}
 use Rattle.region_typing_rules.proofs.BodyWeights.{light}
 use Rattle.region_typing_rules.proofs.Typing.{typed, small}
-use Rattle.region_typing_rules.proofs.Programs.{never_stuck}
+use Rattle.region_typing_rules.proofs.Programs.{always_ends}
 use Rattle.ccbox_call_words.specs.Requests.{Run, Options, settings_of, inputs_of, request_of}
 use Rattle.ccbox_call_words.proofs.Allowed.{settings_allowed, inputs_are_words}
 use Rattle.ccbox_call.specs.Acceptance.{IsAcceptedCore}
@@ -47,13 +54,18 @@ light_bodies c a = λ k d lt.
     let nodes = few_nodes (length a.0) t.tokens x.tree (t.is_tree).spelled in
     omega (arith, few_tokens t.are_tokens, nodes, light (place_at a.0) x.tree c x.has_core k d lt)
 
--- what is accepted can be lowered
-pub lowerable : (c : Core) → IsAcceptedCore c → IsLowerable c
+-- what is accepted can be lowered, with its checks
+pub lowerable : (c : Core) → IsAcceptedCore c → IsLowerable (inserted c)
 lowerable c a = let x = a.1 in small_is_lowerable c (small (place_at a.0) x.tree c x.has_core ((x.has_tree).is_tree).low) (few (place_at a.0) x.tree c x.has_core) (light_bodies c a)
 
--- what is accepted never gets stuck
-pub ends : (c : Core) → IsAcceptedCore c → NeverStuck c
-ends c a = let x = a.1 in never_stuck c (typed (place_at a.0) x.tree c x.has_core)
+-- the run of what is accepted ends, audited or not
+pub ends : (c : Core) → IsAcceptedCore c → AlwaysEnds c
+ends c a = let x = a.1 in always_ends c (typed (place_at a.0) x.tree c x.has_core)
+
+-- and so it does with its checks inserted
+pub inserted_ends : (c : Core) (settings : Settings) (inputs : List ℤ) (acts : List Act) (ending : Ending) (s : State) → meaning c settings inputs acts ≡ Ends ending s → erased.meaning (inserted c) settings inputs acts ≡ Ends ending s
+inserted_ends c settings inputs acts ending s h =
+    subst (λ o. Follows o (erased.meaning (inserted c) settings inputs acts)) h (inserted_keeps c false settings inputs acts)
 
 -- what files say are acts
 acts_from_file : (o : Option (List ℕ)) (list : ActList) → option_map acts_of_file o ≡ Some list → All IsAct list.acts
@@ -88,6 +100,7 @@ needed_front list events refused = by (due_in events) refl
 
 module _ (files : Files) (words : List (List ℕ)) (options : Options) (list : ActList) (c : Core) where
   pub ends_over : AsksFor files words options list c → (ending : Ending) × (s : State) × RunsTo c (settings_of options) (inputs_of options) list ending s
+      × (audited_meaning c (settings_of options) (inputs_of options) list.acts ≡ Ends ending s)
   ends_over a =
       ends c (a.src, a.accepted) (settings_of options) (inputs_of options) list.acts (may_run words a.asks.name options a.asks.request).inputs (acts_there files options.acts list a.acts)
 
@@ -97,8 +110,9 @@ module _ (files : Files) (words : List (List ℕ)) (options : Options) (list : A
       let settings = settings_of options in
       let inputs = inputs_of options in
       let may = may_run words a.asks.name options a.asks.request in
-      let r = keeps_meaning c (lowerable c (a.src, a.accepted)) settings inputs list.acts ending s may.settings may.inputs (acts_there files options.acts list a.acts) runs in
-      let shown = (folded (image_of c) settings inputs list.acts ending r.0 r.1).fold in
+      let meant = inserted_ends c settings inputs list.acts ending s runs in
+      let r = keeps_meaning (inserted c) (lowerable c (a.src, a.accepted)) settings inputs list.acts ending s may.settings may.inputs (acts_there files options.acts list a.acts) meant in
+      let shown = (folded (image_of (inserted c)) settings inputs list.acts ending r.0 r.1).fold in
       subst (ViewIsFold (replicate settings.sandbox 0) list.acts) (r.2).world (subst (λ start. ViewIsFold start list.acts (r.0).world) (no_blocks settings.sandbox may.settings.least_sandbox) shown)
 
   -- and so is what it shows up to a refused line that it needs
@@ -108,7 +122,8 @@ module _ (files : Files) (words : List (List ℕ)) (options : Options) (list : A
       let settings = settings_of options in
       let inputs = inputs_of options in
       let may = may_run words a.asks.name options a.asks.request in
-      let r = keeps_meaning c (lowerable c (a.src, a.accepted)) settings inputs list.acts ending s may.settings may.inputs (acts_there files options.acts list a.acts) runs in
+      let meant = inserted_ends c settings inputs list.acts ending s runs in
+      let r = keeps_meaning (inserted c) (lowerable c (a.src, a.accepted)) settings inputs list.acts ending s may.settings may.inputs (acts_there files options.acts list a.acts) meant in
       let front = needed_front list s.world.events refused needed in
       subst (λ (start : List ℕ). ViewIsFoldOf start list.acts (before_due s.world.events)) (no_blocks settings.sandbox may.settings.least_sandbox)
-      (shown_before (image_of c) settings inputs list.acts ending r.0 r.1 (before_due s.world.events) (ap (λ (w : World). due_front w.events) (r.2).world ∙ front))
+      (shown_before (image_of (inserted c)) settings inputs list.acts ending r.0 r.1 (before_due s.world.events) (ap (λ (w : World). due_front w.events) (r.2).world ∙ front))

@@ -18,7 +18,7 @@ use Rattle.act_words.specs.Acts.{Act}
 use Rattle.act_words.specs.View.{ViewIsFold, view_fold, view_of, releases_of}
 use Rattle.ckc_core.specs.Core.{Core}
 use Rattle.ckc_core.specs.States.{State}
-use Rattle.ckc_core.specs.Meaning.{meaning}
+use Rattle.ckc_core.specs.Meaning.{meaning, audited_meaning}
 use Rattle.sandbox_actor.specs.Answers.{Moment}
 use Rattle.sandbox_actor.specs.ActLists.{ActList, RefusedLine, no_acts, acts_of_file}
 use Rattle.run_core_transcript.specs.Texts.{run_text, front_text}
@@ -179,13 +179,14 @@ pub record Tells (status n old new : ℕ) (Among : Type 0) : Type 0 where
 abbrev pub ViewIsFoldOf : List ℕ → List Act → List Event → Type 0
 ViewIsFoldOf start taken events = view_of events ≡ view_fold start taken (releases_of events)
 
--- the run of an accepted source is never stuck; what the sandbox is shown is the fold of its starting memory, the acts that
--- were taken and the releases, and so is what it is shown up to a refused line that the run needs; and the text of the run is
--- printed, unless something fails
+-- the run of an accepted source is never stuck, and each pointer in it is valid with its bounds; what the sandbox is shown is the
+-- fold of its starting memory, the acts that were taken and the releases, and so is what it is shown up to a refused line that the
+-- run needs; and the text of the run is printed, unless something fails
 pub record PrintsRun (options : Options) (list : ActList) (c : Core) (old new : Option (List ℕ)) (status : ℕ) : Type 0 where
   pub ending : Ending
   pub last : State
   pub runs : RunsTo c (settings_of options) (inputs_of options) list ending last
+  pub audited : audited_meaning c (settings_of options) (inputs_of options) list.acts ≡ Ends ending last
   pub view : ViewIsFold (replicate (settings_of options).sandbox 0) list.acts last.world
   pub view_before : (refused : RefusedLine) → needed_line list last.world.events ≡ Some refused
       → ViewIsFoldOf (replicate (settings_of options).sandbox 0) list.acts (before_due last.world.events)
