@@ -81,7 +81,7 @@ param kind line region = record { kind = kind; place = record { line = line; col
 
 -- a pointer's bounds: so many bytes from it on, and some more behind them
 abbrev pub bytes_from : (param : ℕ) (high : ℤ) (high_var : Option ℕ) (more : ℕ) → Region
-bytes_from param high high_var more = record { base = param; low_var = None; low_plus = pos 0; high_var = high_var; high_plus = high; size = 1; more = more }
+bytes_from param high high_var more = record { base = param; lo_var = None; lo_plus = pos 0; hi_var = high_var; hi_plus = high; size = 1; more = more }
 
 -- an image whose `main` returns what a tainted function gives it, and whose one callback has these parameters and these
 -- instructions

@@ -1,0 +1,2 @@
+mod ArgumentFaults
+mod Scaling

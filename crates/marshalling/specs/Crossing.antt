@@ -1,6 +1,6 @@
 -- Words that cross between the sides.
 use Rattle.std.specs.Prelude.{ℕ, suc, Bool, true, false, ◌&&◌, ◌||◌, ◌==◌, nat_lt, int_lt, int_le, List, [], ◌∷◌, length, Option, Some, None}
-use Rattle.std.specs.Prelude.{slice_get, unwrap_or, pos}
+use Rattle.std.specs.Prelude.{Result, Ok, Err, slice_get, unwrap_or, pos}
 use Rattle.std.proofs.Common.{ℤ, ◌+ℤ◌, ◌*ℤ◌}
 use Rattle.act_words.specs.Numbers.{signed}
 use Rattle.marshalling.specs.declared.kind.WordKind.{WordKind}
@@ -39,25 +39,37 @@ lie_in size pointer low high more = pointer == 0 || (int_lt high low || (int_le 
 
 abbrev pub region_lies : ℕ → List ℕ → ℕ → Region → Bool
 region_lies size words pointer r =
-    lie_in size pointer (end_at (unwrap_or (slice_get words r.base) 0) r.size (added r.low_var words) r.low_plus)
-    (end_at (unwrap_or (slice_get words r.base) 0) r.size (added r.high_var words) r.high_plus) r.more
+    lie_in size pointer (end_at (unwrap_or (slice_get words r.base) 0) r.size (added r.lo_var words) r.lo_plus)
+    (end_at (unwrap_or (slice_get words r.base) 0) r.size (added r.hi_var words) r.hi_plus) r.more
 
 abbrev pub optional_region_lies : ℕ → List ℕ → ℕ → Option Region → Bool
 optional_region_lies size words pointer None = true
 optional_region_lies size words pointer (Some r) = region_lies size words pointer r
 
-abbrev fault_unless : Bool → MarshalFault → Option MarshalFault → Option MarshalFault
+abbrev pub fault_unless : Bool → MarshalFault → Option MarshalFault → Option MarshalFault
 fault_unless true fault later = later
 fault_unless false fault later = Some fault
+
+-- what is wrong with the word of one parameter, or what a later one comes to
+abbrev pub fault_at : ℕ → ℕ → List ℕ → Param → ℕ → Option MarshalFault → Option MarshalFault
+fault_at number size words p w later =
+    fault_unless (fits_kind p.kind w) (Char number) (fault_unless (optional_region_lies size words w p.region) (Range number) later)
 
 -- the first fault of words from a parameter on, from left to right
 abbrev pub fault_from : ℕ → ℕ → List ℕ → List Param → List ℕ → Option MarshalFault
 fault_from number size words [] left = None
 fault_from number size words (p ∷ params) [] = None
-fault_from number size words (p ∷ params) (w ∷ left) =
-    fault_unless (fits_kind p.kind w) (Char number) (fault_unless (optional_region_lies size words w p.region) (Range number)
-    (fault_from (suc number) size words params left))
+fault_from number size words (p ∷ params) (w ∷ left) = fault_at number size words p w (fault_from (suc number) size words params left)
 
 -- what is wrong with the words that the sandbox passes, if anything is
 abbrev pub arguments_fault : List Param → List ℕ → ℕ → Option MarshalFault
 arguments_fault params words size = fault_unless (length params == length words) Count (fault_from 0 size words params words)
+
+-- words cross unless something is wrong with them
+abbrev pub unless_fault : Option MarshalFault → Result (Unit {0}) MarshalFault
+unless_fault None = Ok tt
+unless_fault (Some fault) = Err fault
+
+-- the words that the sandbox passes cross, or the first fault says why they don't
+abbrev pub unpacked_arguments : List Param → List ℕ → ℕ → Result (Unit {0}) MarshalFault
+unpacked_arguments params words size = unless_fault (arguments_fault params words size)

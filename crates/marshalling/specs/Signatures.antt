@@ -13,8 +13,8 @@ IsBelow count (Some number) = number < count
 -- a pointer of so many parameters has bounds over these parameters alone; its elements have a size
 pub record IsRegionAmong (count : ℕ) (r : Region) : Type 0 where
   pub base : r.base < count
-  pub low : IsBelow count r.low_var
-  pub high : IsBelow count r.high_var
+  pub low : IsBelow count r.lo_var
+  pub high : IsBelow count r.hi_var
   pub size : 1 ≤ r.size
 
 -- what may stand among so many parameters

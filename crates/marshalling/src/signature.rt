@@ -12,10 +12,10 @@ use std::marker::Model;
 #[derive(Clone, Copy)]
 pub struct Region {
     pub base: u32,
-    pub low_var: Option<u32>,
-    pub low_plus: i64,
-    pub high_var: Option<u32>,
-    pub high_plus: i64,
+    pub lo_var: Option<u32>,
+    pub lo_plus: i64,
+    pub hi_var: Option<u32>,
+    pub hi_plus: i64,
     pub size: u32,
     pub more: u32,
 }
@@ -34,8 +34,8 @@ impl Region {
         ensures { IsTrue result ↔ IsRegionAmong count self.now }
     {
         (self.base as usize) < count
-            && is_below(self.low_var, count)
-            && is_below(self.high_var, count)
+            && is_below(self.lo_var, count)
+            && is_below(self.hi_var, count)
             && self.size >= 1
     }
 }

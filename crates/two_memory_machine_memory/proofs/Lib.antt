@@ -1,6 +1,4 @@
 mod Windows
 mod Stacked
-mod Scaling
 pub mod Statics
-mod Faults
 mod TextCounts

@@ -1,5 +1,5 @@
 // What the machine computes with numbers and words, and what it keeps in memory: the frames of its open calls, and both
-// memories at their start. Bounds, texts, and what crosses into callbacks are read here too, without a machine's state.
+// memories at their start. Bounds and texts are checked here too, and what crosses into callbacks, without a machine's state.
 #![tactic(auto)]
 
 pub mod arithmetic;

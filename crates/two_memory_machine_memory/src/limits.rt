@@ -1,4 +1,4 @@
-// What words, places, open calls and acts may be, and the stop by an act.
+// What words, places, open calls and acts may be, and stops.
 
 ghost use Rattle.std.specs.Prelude.{◌≡◌, ◌==◌, ◌≤◌, ◌+◌, not, nat_lt, nat_le, Some};
 ghost use Rattle.act_words.specs.declared.ending.Ending.TheVariants as endings;
@@ -8,6 +8,12 @@ use ckc_text::code::Code;
 
 /// How many calls may be open.
 pub const MAX_DEPTH: u32 = 1_000;
+
+/// The end of a run that no line of the instruction table goes on with.
+pub const WILD: Ending = Ending::Stop {
+    code: Code::S6,
+    act: None,
+};
 
 /// Whether a word is the address of something: it isn't null (C1).
 pub fn is_not_null(word: u32) -> bool

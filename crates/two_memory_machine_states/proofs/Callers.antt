@@ -87,29 +87,22 @@ away (phases.HasNumber number) h = absurd h
 away (phases.Touching touch) h = absurd h
 away (phases.Suspended import place) h = record { import = import; place = place; is = refl }
 
+-- a check of a parameter ends the run at the parameter's place
+checked_at : (code : Code) (p : Option Param) (s : State) → at_place_of p (λ place. Over (endings.Check code place) s) (wild s) ≡ Over (ending_at code p) s
+checked_at code None s = refl
+checked_at code (Some p) s = refl
+
 pub tested_ends : (image : Image) (k : ℕ) (callback : Callback) (fault : Option MarshalFault) (words : List ℕ) (s : State) (ending : Ending) → Some ending ≡ fault_ending callback.signature fault → tested image k callback fault words s ≡ Over ending s
 tested_ends image k callback None words s ending e = absurd (cc)
 tested_ends image k callback (Some faults.Count) words s ending e = let same : ending ≡ endings.Stop S6 None = cc in rw same refl
-tested_ends image k callback (Some (faults.Char param)) words s ending e = by (slice_get callback.signature param) e
-  where
-    by : (p : Option Param) → Some ending ≡ ending_at C9 p → at_place_of p (λ place. Over (endings.Check C9 place) s) (wild s) ≡ Over ending s
-    by None h = let same : ending ≡ endings.Stop S6 None = cc in rw same refl
-    by (Some p) h = let same : ending ≡ endings.Check C9 p.place = cc in rw same refl
-tested_ends image k callback (Some (faults.Range param)) words s ending e = by (slice_get callback.signature param) e
-  where
-    by : (p : Option Param) → Some ending ≡ ending_at C4 p → at_place_of p (λ place. Over (endings.Check C4 place) s) (wild s) ≡ Over ending s
-    by None h = let same : ending ≡ endings.Stop S6 None = cc in rw same refl
-    by (Some p) h = let same : ending ≡ endings.Check C4 p.place = cc in rw same refl
-
-no_ending : (code : Code) (p : Option Param) → None ≡ ending_at code p → ⊥
-no_ending code None h = cc
-no_ending code (Some p) h = cc
+tested_ends image k callback (Some (faults.Char param)) words s ending e = let same : ending ≡ ending_at C9 (slice_get callback.signature param) = cc in rw same (checked_at C9 (slice_get callback.signature param) s)
+tested_ends image k callback (Some (faults.Range param)) words s ending e = let same : ending ≡ ending_at C4 (slice_get callback.signature param) = cc in rw same (checked_at C4 (slice_get callback.signature param) s)
 
 pub tested_passes : (image : Image) (k : ℕ) (callback : Callback) (fault : Option MarshalFault) (words : List ℕ) (s : State) → None ≡ fault_ending callback.signature fault → tested image k callback fault words s ≡ run_callback k callback (slice_get image.trusted.funs callback.fun) words s
 tested_passes image k callback None words s e = refl
 tested_passes image k callback (Some faults.Count) words s e = absurd (cc)
-tested_passes image k callback (Some (faults.Char param)) words s e = absurd (no_ending C9 (slice_get callback.signature param) e)
-tested_passes image k callback (Some (faults.Range param)) words s e = absurd (no_ending C4 (slice_get callback.signature param) e)
+tested_passes image k callback (Some (faults.Char param)) words s e = absurd (cc)
+tested_passes image k callback (Some (faults.Range param)) words s e = absurd (cc)
 
 pub needs : (phase : Phase) → doing_of phase ≡ NeedsNumber → phase ≡ phases.NeedsNumber
 needs phases.Running h = absurd (cc)

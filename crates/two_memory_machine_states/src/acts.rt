@@ -25,12 +25,7 @@ use marshalling::kind::WordKind;
 use marshalling::reply::unpack_reply;
 use two_memory_machine_memory::calls::Link;
 use two_memory_machine_memory::limits;
-
-/// The end of a run that no line of the table goes on with.
-pub const WILD: Ending = Ending::Stop {
-    code: Code::S6,
-    act: None,
-};
+use two_memory_machine_memory::limits::WILD;
 
 /// The end of a run whose sandbox has ended.
 pub const SANDBOX_ENDED: Ending = Ending::Stop {

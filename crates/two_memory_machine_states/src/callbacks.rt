@@ -4,18 +4,19 @@ ghost use Rattle.std.specs.Prelude.{◌≡◌, ◌+◌, ◌<◌, length, slice_g
 ghost use Rattle.code_words.specs.Moves.{call_back, run_callback};
 ghost use Rattle.two_memory_machine_states.specs.Steps.{MovesBy, IsSuspended};
 
-use crate::acts::WILD;
 use crate::event::Event;
 use crate::running_image::{Phase, RunningImage};
 use act_words::ending::Ending;
+use act_words::row::Words;
 use ckc_text::code::Code;
 use code_words::image::Callback;
 use two_memory_machine_memory::calls::Link;
+use two_memory_machine_memory::limits::WILD;
 use two_memory_machine_memory::{callbacks, limits};
 
 impl<'a> RunningImage<'a> {
     /// Calls a callback for the sandbox: the count of arguments (S5), a tick (S1), an open call (S2), the arguments (C9, C4).
-    pub fn call_back(&mut self, k: u32, words: &[u32]) -> Event
+    pub fn call_back(&mut self, k: u32, words: &Words) -> Event
         requires going { self.old.over ≡ None }
         requires suspended { IsSuspended self.old.doing }
         ensures { MovesBy (λ s. call_back self.old.image self.old.settings k (slice_get self.old.image.layout.callbacks k) words.now s) self.old result self.new }
@@ -23,8 +24,9 @@ impl<'a> RunningImage<'a> {
         let Some(callback) = self.image.callbacks().get(k as usize) else {
             return self.stop_by_act(Code::S5);
         };
-        let signature = callback.signature.as_slice();
-        if signature.len() != words.len() {
+        let params = callback.signature.as_slice();
+        let args = words.as_slice();
+        if params.len() != args.len() {
             return self.stop_by_act(Code::S5);
         }
         if self.ticks >= self.settings.budget {
@@ -43,9 +45,9 @@ impl<'a> RunningImage<'a> {
                 act: None,
             });
         }
-        match callbacks::fault_of(signature, words, size) {
+        match callbacks::fault_of(&callback.signature, words, size) {
             Some(ending) => self.end_move(ending),
-            None => self.run_callback(k, callback, words),
+            None => self.run_callback(k, callback, args),
         }
     }
 

@@ -10,7 +10,6 @@ ghost use Rattle.code_words.specs.Functions.{Func as FuncData};
 ghost use Rattle.two_memory_machine_states.specs.Machines.{HasNumber, Running, Steps, waiting_of, next_op_of, ending_given, TellsSomething};
 ghost use Rattle.two_memory_machine_states.specs.Steps.{Acts, Tells, IsReady, IsIn, GoesBy};
 
-use crate::acts::WILD;
 use crate::event::{Event, Waiting};
 use crate::outcome::Outcome;
 use crate::running_image::{Phase, RunningImage};
@@ -20,6 +19,7 @@ use ckc_text::code::Code;
 use code_words::op::Op;
 use itoa::Buffer;
 use two_memory_machine_memory::blocks::BlockRow;
+use two_memory_machine_memory::limits::WILD;
 use two_memory_machine_memory::texts;
 use two_memory_machine_memory::texts::TextEnd;
 

@@ -23,6 +23,7 @@ use ckc_text::fault::NoMemory;
 use ckc_text::place::Place;
 use code_words::image::Image;
 use code_words::op::Op;
+use marshalling::arguments::pack;
 use std::alloc::Global;
 use std::marker::Model;
 use trusted_memory::memory::Trusted;
@@ -503,6 +504,6 @@ impl<'a> RunningImage<'a> {
         let words = &mut words[..count];
         words.copy_from_slice(&stack[..count]);
         words.reverse();
-        Words::from_slice(words)
+        Some(pack(words))
     }
 }

@@ -54,7 +54,7 @@ fn act_in_sandbox(machine: &mut RunningImage, act: &Act) -> Event
         Act::Go => Event::Ran,
         Act::Read { at, len } => machine.show(*at, len.number),
         Act::Write { at, bytes } => machine.write(*at, bytes.octets.as_slice()),
-        Act::Call { fun, args } => machine.call_back(*fun, args.as_slice()),
+        Act::Call { fun, args } => machine.call_back(*fun, args),
         Act::Return { value } => machine.answer(*value),
         Act::Stop => machine.end_move(SANDBOX_ENDED),
     }

@@ -6,8 +6,8 @@ use crate::stack;
 use ckc_text::code::Code;
 use ckc_text::place::Place;
 use code_words::op::Op;
-use two_memory_machine_memory::bounds::Ends;
-use two_memory_machine_memory::limits;
+use marshalling::ends::Ends;
+use two_memory_machine_memory::{bounds, limits};
 use two_memory_machine_states::outcome::Outcome;
 use two_memory_machine_states::running_image::RunningImage;
 
@@ -44,7 +44,7 @@ pub fn check_in(
         high_plus,
         size,
     };
-    let holds = ends.hold(pointer, index);
+    let holds = bounds::holds(&ends, pointer, index);
     stack::check(machine, 5, holds, Code::C2, place)
 }
 
@@ -70,7 +70,7 @@ pub fn check_up_to(
         high_plus,
         size,
     };
-    let holds = ends.reach(pointer, index);
+    let holds = bounds::reaches(&ends, pointer, index);
     stack::check(machine, 5, holds, Code::C2, place)
 }
 
@@ -90,7 +90,7 @@ pub fn check_term(machine: &mut RunningImage, high_plus: i64, size: u32, place: 
         high_plus,
         size,
     };
-    let holds = ends.leave_end(pointer, index, value);
+    let holds = bounds::leaves_end(&ends, pointer, index, value);
     stack::check(machine, 5, holds, Code::C3, place)
 }
 
@@ -126,7 +126,7 @@ pub fn check_contain(
         high_plus: new_high,
         size,
     };
-    let holds = old.contain(pointer, &new);
+    let holds = bounds::contains(&old, pointer, &new);
     stack::check(machine, 6, holds, Code::C5, place)
 }
 

@@ -11,6 +11,6 @@ returns c = λ f here acts inputs events.
     let w = c.in-Some in
     let low : FitsSigned w64 c.args.low_plus = c.ranges.low_plus in
     let high : FitsSigned w64 c.args.high_plus = c.ranges.high_plus in
-    let holds : c.reach-holds.result ≡ is_up_to (end_of w.base w.low c.args.low_plus c.args.size) (place_at w.pointer w.index c.args.size) (end_of w.base w.high c.args.high_plus c.args.size) =
-    simp to_z-of_z at c.reach-holds.ensures in
+    let holds : c.reaches-holds.result ≡ is_up_to (end_of w.base w.low c.args.low_plus c.args.size) (place_at w.pointer w.index c.args.size) (end_of w.base w.high c.args.high_plus c.args.size) =
+    simp to_z-of_z at c.reaches-holds.ensures in
     rw (pop_5_found c.args.machine.now.frame.stack w.pointer w.index w.base w.low w.high _ _ w.ensures, ← holds) (c.check.ensures acts inputs events)

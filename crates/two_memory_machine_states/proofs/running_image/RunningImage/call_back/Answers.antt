@@ -16,7 +16,7 @@ there : (c : After-fault_of) → slice_get c.self.inside.image.now.layout.callba
 there c = rw c.callbacks.ensures at (sym (item_found c.callbacks.result.now c.args.k (Some c.in-Some.callback) c.in-Some.ensures.lookup))
 
 count : (c : After-fault_of) → (length c.in-Some.callback.now.signature == length c.args.words.now) ≡ true
-count c = let signature = ap length c.as_slice-signature.ensures.parameters in grind (arith, nat_tests, signature, c.if-signature-words.false)
+count c = let params = ap length c.as_slice-params.ensures.parameters in let args = ap length c.as_slice-args.ensures.items in grind (arith, nat_tests, params, args, c.if-params-args.false)
 
 early : (c : After-fault_of) → nat_lt c.self.inside.ticks c.self.inside.settings.budget ≡ true
 early c = grind (arith, nat_tests, c.if-self.false)
@@ -29,9 +29,7 @@ shallow c =
 same_fault : (c : After-fault_of) → c.fault_of.result ≡ fault_ending c.in-Some.callback.now.signature (arguments_fault c.in-Some.callback.now.signature c.args.words.now (length c.self.inside.sandbox.items))
 same_fault c =
     let size : c.len-size.result ≡ length c.self.inside.sandbox.items = omega (arith, c.len-size.ensures, c.self.inside.sandbox.ok.0) in
-    c.fault_of.ensures
-    ∙ ap (λ ps. fault_ending ps (arguments_fault ps c.args.words.now c.len-size.result)) c.as_slice-signature.ensures.parameters
-    ∙ ap (λ n. fault_ending c.in-Some.callback.now.signature (arguments_fault c.in-Some.callback.now.signature c.args.words.now n)) size
+    c.fault_of.ensures ∙ ap (λ n. fault_ending c.in-Some.callback.now.signature (arguments_fault c.in-Some.callback.now.signature c.args.words.now n)) size
 
 pub returns-in-Some-fault_of : goal.returns-in-Some-fault_of
 returns-in-Some-fault_of c = λ acts inputs events.
@@ -52,7 +50,7 @@ returns-in-None c = λ acts inputs events.
     let fault = arguments_fault callback.signature words (length i.sandbox.items) in
     let passes : None ≡ fault_ending callback.signature fault = sym c.in-None.is ∙ same_fault b in
     rw (← c.self.view_is, there b, count b, early b, shallow b, tested_passes i.image.now c.args.k callback fault words _ passes)
-    (gives_at TellsAct acts inputs events _ (machine i) (record (machine i) { ticks = i.ticks + 1 }) c.run_callback.new.self c.run_callback.result refl refl ((rw (c.set_ticks.ensures, ← c.self.view_is) at c.run_callback.ensures) acts inputs events))
+    (gives_at TellsAct acts inputs events _ (machine i) (record (machine i) { ticks = i.ticks + 1 }) c.run_callback.new.self c.run_callback.result refl refl ((rw (c.set_ticks.ensures, ← c.self.view_is, c.as_slice-args.ensures.items) at c.run_callback.ensures) acts inputs events))
 
 pub returns-in_default : goal.returns-in_default
 returns-in_default c = rw (← c.self.view_is)
@@ -64,16 +62,16 @@ returns-in_default c = rw (← c.self.view_is)
 named : (c : In-Some) → slice_get c.self.inside.image.now.layout.callbacks c.args.k ≡ Some c.in-Some.callback.now
 named c = rw c.callbacks.ensures at (sym (item_found c.callbacks.result.now c.args.k (Some c.in-Some.callback) c.in-Some.ensures.lookup))
 
-pub returns-then-signature-words : goal.returns-then-signature-words
-returns-then-signature-words c = rw (← c.self.view_is)
+pub returns-then-params-args : goal.returns-then-params-args
+returns-then-params-args c = rw (← c.self.view_is)
     (λ acts inputs events.
-    let other : (length c.in-Some.callback.now.signature == length c.args.words.now) ≡ false = let signature = ap length c.as_slice-signature.ensures.parameters in grind (arith, nat_tests, signature, c.if-signature-words.true) in
-    rw (named (goal.at.returns-then-signature-words c).In-Some, other) ((rw (← c.self.view_is) at c.stop_by_act-then-signature-words.ensures.line) acts inputs events))
+    let other : (length c.in-Some.callback.now.signature == length c.args.words.now) ≡ false = let params = ap length c.as_slice-params.ensures.parameters in let args = ap length c.as_slice-args.ensures.items in grind (arith, nat_tests, params, args, c.if-params-args.true) in
+    rw (named (goal.at.returns-then-params-args c).In-Some, other) ((rw (← c.self.view_is) at c.stop_by_act-then-params-args.ensures.line) acts inputs events))
 
 pub returns-then-self : goal.returns-then-self
 returns-then-self c = rw (← c.self.view_is)
     (λ acts inputs events.
-    let same : (length c.in-Some.callback.now.signature == length c.args.words.now) ≡ true = let signature = ap length c.as_slice-signature.ensures.parameters in grind (arith, nat_tests, signature, c.if-signature-words.false) in
+    let same : (length c.in-Some.callback.now.signature == length c.args.words.now) ≡ true = let params = ap length c.as_slice-params.ensures.parameters in let args = ap length c.as_slice-args.ensures.items in grind (arith, nat_tests, params, args, c.if-params-args.false) in
     let late : nat_lt c.self.inside.ticks c.self.inside.settings.budget ≡ false = grind (arith, nat_tests, c.if-self.true) in
     rw (named (goal.at.returns-then-self c).In-Some, same, late) ((rw (← c.self.view_is) at c.end_move.ensures.line) acts inputs events))
 
@@ -81,7 +79,7 @@ pub returns-then-not-may_call : goal.returns-then-not-may_call
 returns-then-not-may_call c = rw (← c.self.view_is)
     (λ acts inputs events.
     let i = c.self.inside in
-    let same : (length c.in-Some.callback.now.signature == length c.args.words.now) ≡ true = let signature = ap length c.as_slice-signature.ensures.parameters in grind (arith, nat_tests, signature, c.if-signature-words.false) in
+    let same : (length c.in-Some.callback.now.signature == length c.args.words.now) ≡ true = let params = ap length c.as_slice-params.ensures.parameters in let args = ap length c.as_slice-args.ensures.items in grind (arith, nat_tests, params, args, c.if-params-args.false) in
     let soon : nat_lt i.ticks i.settings.budget ≡ true = grind (arith, nat_tests, c.if-self.false) in
     let a = away i.phase (subst IsSuspended (ap (λ (m : Machine). m.doing) (sym c.self.view_is)) c.requires.suspended) in
     let deep : nat_lt (suc (length (callers_in (doing_of i.phase) i.calls.frame (callers_of i.calls.behind)))) 1000 ≡ false =

@@ -3,8 +3,8 @@ use Rattle.std.specs.Prelude.{FitsSigned}
 use Rattle.std.proofs.lemmas.Int.{ints, to_z-of_z, fits_signed_mul}
 use mir.Syntax.{w128}
 use mir.Val.{to_z, of_z}
-use Rattle.two_memory_machine_memory.proofs.Scaling.{scaled_bounds, size_of_count}
-use Rattle.two_memory_machine_memory.proofs.bounds.scaled.Goals as goal
+use Rattle.marshalling.proofs.Scaling.{scaled_bounds, size_of_count}
+use Rattle.marshalling.proofs.ends.scaled.Goals as goal
 
 pub returns : goal.returns
 returns c =
