@@ -1,12 +1,19 @@
 -- What is accepted can be lowered.
-use Rattle.std.proofs.Common.{◌≡◌, ℕ, ◌+◌, ◌^◌, ◌≤◌, List, [], ◌∷◌, map, refl, ap, ◌∙◌, arith}
-use Rattle.std.specs.Prelude.{sum, All}
+use Rattle.std.proofs.Common.{◌≡◌, ℕ, ◌+◌, ◌^◌, ◌≤◌, List, [], ◌∷◌, map, Some, refl, ap, ◌∙◌, arith}
+use Rattle.std.specs.Prelude.{sum, All, slice_get, option_map}
+use Rattle.std.proofs.lemmas.List.{length-map}
+use Rattle.std.proofs.lemmas.List.Elements.{All-map}
 use Rattle.std.proofs.lemmas.List.Sums.{sum_by-cons}
 use Rattle.flat_bytes.specs.Blocks.{first_offset, grown, rounded_up}
 use Rattle.pointer_modes.specs.Types.{CType, Int, Char, Struct, Pointer}
 use Rattle.pointer_modes.specs.Layout.{scalar_size}
-use Rattle.ckc_core.specs.Core.{Core, Initial, Function}
-use Rattle.ckc_core.specs.Meaning.{is_char}
+use Rattle.ckc_core.specs.Programs.{Initial}
+use Rattle.ckc_core.specs.Core.{Core, Function}
+use Rattle.ckc_core.specs.Steps.{is_char}
+use Rattle.check_insertion.specs.Erased as erased
+use Rattle.check_insertion.specs.Insert.{function, inserted}
+use Rattle.check_insertion.proofs.Insertions.{function_there}
+use Rattle.check_insertion.proofs.Sizes.{same_body, few_in_statements}
 use Rattle.ckc_core.specs.Weights.{statements_weight}
 use Rattle.lowering_code.specs.Correct.{width_if, counted_from, IsCell, IsFunction, IsLowerable}
 use Rattle.region_typing_rules.specs.Lowerable.{cells_size, objects_size, IsRoomy, IsSmall, HasFewFunctions, IsSmallCore}
@@ -33,18 +40,28 @@ counted_is (cells ∷ objects) offset =
 
 -- the body has few nodes
 abbrev pub IsLight : Function → Type 0
-IsLight f = statements_weight f.body ≤ 2 ^ 26
+IsLight f = statements_weight f.body ≤ 2 ^ 25
 
-function_is : (f : Function) → IsSmall 3400 f → IsLight f → IsFunction f
-function_is f small light = record { parameters = small.few_parameters; held = small.held; frame = omega (arith, small.few_locals, small.low); few_nodes = light }
+function_is : (f : Function) → IsSmall 3400 f → IsLight f → IsFunction (function f)
+function_is f small light = record {
+  parameters = small.few_parameters;
+  held = small.held;
+  frame = omega (arith, small.few_locals, small.low, same_body f);
+  few_nodes = omega (arith, light, few_in_statements f.body);
+}
+
+-- `main` with its checks
+main_is : (c : Core) → (f : Function) × (slice_get c.functions c.main ≡ Some f) × (f.parameters ≡ 0)
+    → (f : erased.Function) × (slice_get (map function c.functions) c.main ≡ Some f) × (f.parameters ≡ 0)
+main_is c main = (function main.0, function_there c.functions c.main ∙ ap (option_map function) main.1, main.2)
 
 pub small_is_lowerable : (c : Core) → IsSmallCore c → HasFewFunctions c → All IsLight c.functions → IsLowerable (inserted c)
 small_is_lowerable c small few light = record {
   cells = λ k d lt. let here = small.cells k d lt in ((λ j e less. cell_is _ (here.0 j e less)), here.1);
   objects = omega (arith, counted_is c.objects first_offset, small.objects);
   imports = small.imports;
-  functions = λ k d lt. function_is _ (small.functions k d lt) (light k d lt);
-  few_functions = few.functions;
+  functions = All-map IsFunction function c.functions (λ k d lt. function_is _ (small.functions k d lt) (light k d lt));
+  few_functions = omega (arith, few.functions, length-map function c.functions);
   few_imports = few.imports;
-  main = small.main;
+  main = main_is c small.main;
 }

@@ -1,6 +1,6 @@
 // Running the program of a file.
 
-ghost use Rattle.std.specs.Prelude.{◌≡◌, List, ℕ, false, IsTrue};
+ghost use Rattle.std.specs.Prelude.{◌≡◌, List, ℕ, false, IsTrue, IfOk};
 ghost use Rattle.std.specs.List.{All};
 ghost use Rattle.act_words.specs.Acts.{IsAct};
 ghost use Rattle.act_words.specs.Checks.{is_word_number};
@@ -8,6 +8,8 @@ ghost use Rattle.act_words.specs.Limits.{AreAllowed};
 ghost use Rattle.ckc_text.specs.Places.{place_at};
 ghost use Rattle.ckc_io.specs.Files.{Told};
 ghost use Rattle.ckc_core.specs.Core.{core};
+ghost use Rattle.check_insertion.specs.Insert.{inserted};
+ghost use Rattle.lowering_code.specs.Correct.{KeepsMeaning};
 ghost use Rattle.ccbox_call.specs.Acceptance.{IsAcceptedCore, IsRefused};
 ghost use Rattle.ccbox_call.specs.Answers.{ListAnswer, CoreAnswer, SourceAnswer, FileAnswer};
 ghost use Rattle.ccbox_call_words.specs.Statuses.{number_of};
@@ -19,13 +21,15 @@ use act_words::settings::Settings;
 use ccbox_call_words::output::{give_missing, give_outcome, give_refused};
 use ccbox_call_words::request::Options;
 use ccbox_call_words::status::Status;
+use check_insertion::insert::insert;
 use ckc_core::program::Core;
 use ckc_io::shelf::Shelf;
 use ckc_io::sink::Sink;
 use ckc_io::whole::{ReadFault, read_whole};
 use ckc_lexer_tokens::limits::MAX_SOURCE;
-use ckc_text::fault::{Refused, SourceFault};
+use ckc_text::fault::{NoMemory, Refused, SourceFault};
 use ckc_text::place::{Place, place_of};
+use code_words::image::Image;
 use lowering::lower::lower;
 use run_core::run::run;
 use sandbox_actor::actor::ActorFault;
@@ -122,7 +126,16 @@ fn run_program<F: Shelf, K: Sink>(
     }
 }
 
-// Turns a program into code, and runs it with an actor.
+// The code of a program with its checks.
+fn image_of(alloc: Global, program: &Core) -> Result<Image, NoMemory>
+    requires accepted { IsAcceptedCore (core program.now) }
+    ensures { IfOk result (λ image. KeepsMeaning (inserted (core program.now)) image) }
+{
+    let erased = insert(alloc, program)?;
+    lower(alloc, &erased)
+}
+
+// Runs the code of a program with an actor.
 fn run_with<F: Shelf, K: Sink>(
     alloc: Global,
     program: &Core,
@@ -142,7 +155,7 @@ fn run_with<F: Shelf, K: Sink>(
         (record { misses = F.misses shelf.old; faults = F.faults shelf.old; sink = K.faults sink.old })
         (record { misses = F.misses shelf.new; faults = F.faults shelf.new; sink = K.faults sink.new }) (number_of result) }
 {
-    let Ok(image) = lower(alloc, program) else {
+    let Ok(image) = image_of(alloc, program) else {
         return Status::NoMemory;
     };
     let outcome = run(alloc, &image, settings, inputs, actor, shelf, sink);

@@ -26,10 +26,10 @@ use Rattle.check_insertion.specs.Keeps.{Follows, KeepsMeaning}
 use Rattle.check_insertion.proofs.Following.{FollowsBy, same, on, on_by, left_out, asked_on, chosen, next_on, turned_on, audit_on, ends_aside, reached_on, load_on, store_on}
 
 -- a function of the core, with its checks
-there : (fs : List core.Function) (n : ℕ) → slice_get (map insert.function fs) n ≡ option_map insert.function (slice_get fs n)
-there [] n = refl
-there (f ∷ fs) zero = refl
-there (f ∷ fs) (suc n) = there fs n
+pub function_there : (fs : List core.Function) (n : ℕ) → slice_get (map insert.function fs) n ≡ option_map insert.function (slice_get fs n)
+function_there [] n = refl
+function_there (f ∷ fs) zero = refl
+function_there (f ∷ fs) (suc n) = function_there fs n
 
 takes_same : (o : Option core.Function) (vs : List Value) → takes (option_map insert.function o) vs ≡ takes o vs
 takes_same None vs = refl
@@ -79,7 +79,7 @@ module _ (audited : Bool) (program : core.Core) (settings : Settings) where
 
     called_on : (callee : Callee) (vs : List Value) (s : State) → Follows (called g k callee vs s) (called g' k' callee vs s)
     called_on (callees.Trusted function) vs s =
-        let there_too = ap (λ o. takes o vs) (there program.functions function) ∙ takes_same (slice_get program.functions function) vs in
+        let there_too = ap (λ o. takes o vs) (function_there program.functions function) ∙ takes_same (slice_get program.functions function) vs in
         subst (λ test. Follows (called g k (callees.Trusted function) vs s) (enter_if test g' k' function vs s)) (sym there_too)
         (entered_on (takes (slice_get program.functions function) vs) function vs s)
     called_on (callees.Tainted import site) vs s = tainted_on import (slice_get program.imports import) site vs s
@@ -223,7 +223,7 @@ module _ (audited : Bool) (program : core.Core) (settings : Settings) where
 
     body_on : (function : ℕ) (vs : List Value) (s : State) → Follows (meaning.body_of audited g k (slice_get program.functions function) vs s) (erased.body_of g' k' (slice_get (map insert.function program.functions) function) vs s)
     body_on function vs s =
-        subst (λ o. Follows (meaning.body_of audited g k (slice_get program.functions function) vs s) (erased.body_of g' k' o vs s)) (sym (there program.functions function))
+        subst (λ o. Follows (meaning.body_of audited g k (slice_get program.functions function) vs s) (erased.body_of g' k' o vs s)) (sym (function_there program.functions function))
         (body_on_option (slice_get program.functions function) vs s)
 
   knots : (n : ℕ) → Follow (meaning.knot audited g n) (erased.knot g' n)
