@@ -20,6 +20,7 @@ use Rattle.ckc_tree.specs.Statements as s
 use Rattle.ckc_tree.specs.Statements.{Statement, Statements, Declarator}
 use Rattle.ckc_tree.specs.Items as i
 use Rattle.ckc_tree.specs.Items.{Item, Tree}
+use Rattle.bounds_exprs.specs.Normal.{constant}
 use Rattle.pointer_modes.specs.declared.ctype.Mode.TheVariants as modes
 use Rattle.pointer_modes.specs.declared.ctype.Kind.TheVariants as kinds
 use Rattle.pointer_modes.specs.Types.{Int, Pointer}
@@ -32,7 +33,6 @@ use Rattle.ckc_core.specs.Core as core
 use Rattle.region_typing_rules.specs.Verdicts.{Verdict, Passes, Stops, Broken, Nameless}
 use Rattle.ckc_core.specs.Core.{Core}
 use Rattle.ckc_names_rules.specs.Naming.{named_of}
-use Rattle.region_typing_rules.specs.Expressions.{bounds_at}
 use Rattle.region_typing_rules.specs.Cores.{checked}
 
 -- spans that no place is asked of
@@ -103,7 +103,7 @@ place = record { place = at 0 }
 
 -- the bounds of a `ptr<int>` there
 abbrev one_int : Site → Option PointerBounds
-one_int site = bounds_at [] (Pointer modes.Checked kinds.One Int) site
+one_int site = Some (record { bounds = record { base = None; lo = constant (pos 0); hi = constant (pos 1) }; size = 4; site = site })
 
 -- int g = 1; int main(void) { ptr<int> p = &g; *p = 41; return g + 1; }
 abbrev pub first_run : Type 0
