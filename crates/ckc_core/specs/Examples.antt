@@ -1,5 +1,6 @@
 -- Small programs, written down as plain data.
-use Rattle.std.specs.Prelude.{◌≡◌, ℕ, true, List, [], ◌∷◌, Option, Some, None, codes, pos, replicate}
+use Rattle.std.specs.Prelude.{◌≡◌, ℕ, Bool, true, false, List, [], ◌∷◌, Option, Some, None, codes, pos, negsuc, replicate}
+use Rattle.std.proofs.Common.{ℤ}
 use Rattle.act_words.specs.declared.ending.Ending.{Ending}
 use Rattle.act_words.specs.declared.ending.Ending.TheVariants.{Exit, Check, Stop}
 use Rattle.ckc_text.specs.declared.code.Code.TheVariants.{C6, S1, S2}
@@ -19,7 +20,8 @@ use Rattle.ckc_core.specs.declared.program.PointerBounds.{PointerBounds}
 use Rattle.bounds_exprs.specs.Normal.{constant}
 use Rattle.ckc_core.specs.Programs.{Initial}
 use Rattle.ckc_core.specs.Core.{Core, Expression, Statement, Statements, Function}
-use Rattle.ckc_core.specs.States.{State}
+use Rattle.ckc_core.specs.States.{At, State}
+use Rattle.ckc_core.specs.Bounds.{is_valid}
 use Rattle.ckc_core.specs.Steps.{initial}
 use Rattle.ckc_core.specs.Meaning.{run_from}
 
@@ -49,6 +51,13 @@ ends_as (Ends how s) ending = how ≡ ending
 ends_as (Stuck site s) ending = ⊥
 ends_as (Unsound site s) ending = ⊥
 ends_as Short ending = ⊥
+
+abbrev pub is_unsound : Outcome State (Unit {0}) → Site → Type 0
+is_unsound (Gives value s) at = ⊥
+is_unsound (Ends how s) at = ⊥
+is_unsound (Stuck other s) at = ⊥
+is_unsound (Unsound other s) at = other ≡ at
+is_unsound Short at = ⊥
 
 abbrev pub body : List Statement → Statements
 body [] = Core.NoMore
@@ -137,3 +146,27 @@ members =
 
 abbrev pub struct_ends : Type 0
 struct_ends = ends_as (runs members 100) (Exit (pos 51))
+
+-- whether a pointer to a byte of a block of 4 bytes is valid with bounds from one end to the other, counted in bytes
+abbrev valid_between : ℕ → ℤ → ℤ → Bool
+valid_between byte lo hi =
+    is_valid (record { bounds = record { base = None; lo = constant lo; hi = constant hi }; size = 1; site = site 1 1 }) (At 0 byte)
+    (initial (one [] ((int_cell 0 ∷ []) ∷ []) []) world)
+
+-- valid are bounds up to both ends of the block, and no further
+abbrev pub within_block : Type 0
+within_block =
+    (valid_between 0 (pos 0) (pos 4) ≡ true) × (valid_between 0 (pos 0) (pos 5) ≡ false)
+    × (valid_between 2 (negsuc 1) (pos 2) ≡ true) × (valid_between 2 (negsuc 2) (pos 2) ≡ false)
+
+-- bounds that hold nothing may stand anywhere, but their pointer stands in its block, or at the end of it
+abbrev pub empty_bounds : Type 0
+empty_bounds = (valid_between 4 (pos 0) (pos 0) ≡ true) × (valid_between 4 (pos 2) (pos 1) ≡ true) × (valid_between 5 (pos 1) (pos 0) ≡ false)
+
+-- int g; int main(void) { ptr<int> p = &g; return 0; }, where the address has the bounds of an element of 5 bytes
+abbrev pub beyond_block : Type 0
+beyond_block =
+    is_unsound
+    (runs (one (Pointer modes.Checked kinds.One Int ∷ []) ((int_cell 0 ∷ []) ∷ [])
+    (Core.SetLocal 0 (Core.AddressOf (Core.Direct 0 0) (one_of 5)) ∷ (Core.Return (number 0) ∷ []))) 100)
+    (site 1 1)

@@ -9,7 +9,7 @@ ghost use Rattle.ckc_core.specs.Meaning.{run_of};
 ghost use Rattle.ckc_core.specs.Audits.{AuditChangesNothing};
 ghost use Rattle.ckc_core.specs.Examples as examples;
 
-/// Small programs with what they mean.
+/// Small programs with what they mean, and pointers with whether they are valid.
 pub fn examples()
     ensures first_run { examples.first_run_ends }
     ensures overflow { examples.overflow_ends }
@@ -17,6 +17,9 @@ pub fn examples()
     ensures budget { examples.loop_budget }
     ensures depth { examples.depth_and_budget }
     ensures members { examples.struct_ends }
+    ensures within_block { examples.within_block }
+    ensures empty_bounds { examples.empty_bounds }
+    ensures beyond_block { examples.beyond_block }
 {}
 
 /// What a program means is told: it has as many ticks as its budget, and is never short of them.
