@@ -1,9 +1,9 @@
 -- The audit changes nothing where it finds nothing: an induction over the ticks, and over the tree.
-use Rattle.std.proofs.Common.{◌≡◌, ℕ, zero, suc, ◌+◌, Bool, true, false, ℤ, List, [], ◌∷◌, length, replicate, Option, Some, None, refl, sym, ap, ◌∙◌, subst}
-use Rattle.std.specs.Prelude.{◌==◌, ◌||◌, not, slice_get}
+use Rattle.std.proofs.Common.{ℕ, zero, suc, ◌+◌, Bool, true, false, List, [], length, replicate, Option, Some, None, refl, sym, ap, subst}
+use Rattle.std.specs.Prelude.{◌==◌, slice_get}
 use Rattle.flat_bytes.specs.Blocks.{first_offset}
 use Rattle.act_words.specs.declared.settings.Settings.{Settings}
-use Rattle.act_words.specs.Acts.{Act, Passed}
+use Rattle.act_words.specs.Acts.{Passed}
 use Rattle.act_words.specs.World.{new_world}
 use Rattle.act_words.specs.Touches.{Asked, Got, Ended, spend_tick, enter_call, next_input, touch, until_return}
 use Rattle.ckc_core.specs.declared.program.Site.{Site}
@@ -16,7 +16,7 @@ use Rattle.ckc_core.specs.Core as core
 use Rattle.ckc_core.specs.States.{Value, State, in_world}
 use Rattle.ckc_core.specs.Bounds.{with_ends, is_valid}
 use Rattle.ckc_core.specs.Steps.{Result, Flow, Next, Broke, Continued, Returned, setting_of, given, place_at, load_at, pointer_to, truth, same_place, test_given, arithmetic_of, compared, negated, complemented, low_byte_of, words_of, reply_as, back, passed, cross, cross_if, call_tainted, crossed, fit, parameters_of, takes, enter_if, called, result_given, choose, store_at, set_local, kept_if, is_char, printed, put, on_next, behind_turn, no_result, answer, locals_for, exit, initial, asked}
-use Rattle.ckc_core.specs.Meaning.{Knot, Setting, sound_if, audit, site_of, bounds_of, place_from, pointed, pointer_of, reached, value, values, place, effect, effects, body_if, body_of, knot, run_from, without_ends}
+use Rattle.ckc_core.specs.Meaning.{Knot, Setting, sound_if, audit, site_of, bounds_of, place_from, pointer_of, reached, value, values, place, effect, effects, body_if, body_of, knot, run_from}
 use Rattle.ckc_core.specs.Audits.{Agrees, AuditChangesNothing}
 
 same : {A : Type 0} (o : Result A) → Agrees o o

@@ -1,6 +1,6 @@
 -- What a program means: pointers with their ends, each check at its site, and stuck where nothing is meant. Where the meaning is
 -- audited, a pointer that isn't valid with its bounds ends the run as unsound.
-use Rattle.std.specs.Prelude.{ℕ, zero, suc, ◌+◌, Bool, true, false, not, ◌||◌, List, [], ◌∷◌, Option, Some, None, slice_get, replicate, pos}
+use Rattle.std.specs.Prelude.{ℕ, zero, suc, ◌+◌, Bool, true, false, not, ◌||◌, List, [], ◌∷◌, Option, Some, None, slice_get, replicate}
 use Rattle.std.proofs.Common.{ℤ}
 use Rattle.ckc_text.specs.declared.code.Code.TheVariants.{C1}
 use Rattle.act_words.specs.declared.ending.Ending.TheVariants.{Check}

@@ -1,20 +1,19 @@
 -- The steps that the meanings of both languages share: values and places, calls, stores, and what follows a statement.
-use Rattle.std.specs.Prelude.{ℕ, zero, ◌+◌, ◌%◌, Bool, true, false, not, ◌&&◌, ◌==◌, List, [], ◌∷◌, Option, Some, None, option_map}
-use Rattle.std.specs.Prelude.{suc, ◌||◌, slice_get, slice_set, nat_lt, length, map, take, replicate, pos}
+use Rattle.std.specs.Prelude.{ℕ, ◌+◌, ◌%◌, Bool, true, false, not, ◌&&◌, ◌==◌, List, [], ◌∷◌, Option, Some, None, option_map}
+use Rattle.std.specs.Prelude.{suc, ◌||◌, slice_get, slice_set, nat_lt, length, map, take, pos}
 use Rattle.std.proofs.Common.{ℤ}
 use Rattle.ckc_text.specs.declared.code.Code.TheVariants.{C1, C9, S5}
 use Rattle.act_words.specs.declared.ending.Ending.TheVariants.{Check, Exit}
 use Rattle.act_words.specs.declared.settings.Settings.{Settings}
-use Rattle.act_words.specs.Acts.{Act, Passed}
+use Rattle.act_words.specs.Acts.{Passed}
 use Rattle.act_words.specs.Acting.{stopped_by_act}
-use Rattle.ckc_core.specs.Outcome.{Outcome, Gives, Ends, Stuck, Short, and_then}
+use Rattle.ckc_core.specs.Outcome.{Outcome, Gives, Ends, Stuck, and_then}
 use Rattle.act_words.specs.Numbers.{signed, word, number_line}
-use Rattle.act_words.specs.Checks.{Checked, Holds, Fails, is_word_number}
-use Rattle.flat_bytes.specs.Blocks.{first_offset}
+use Rattle.act_words.specs.Checks.{Checked, Holds, Fails}
 use Rattle.pointer_modes.specs.Types.{CType, Int, Char, Struct, Pointer}
 use Rattle.act_words.specs.Arithmetic as arithmetic
-use Rattle.act_words.specs.World.{World, new_world}
-use Rattle.act_words.specs.Touches.{Asked, Got, Ended, Crossed, spend_tick, enter_call, next_input, write, touch, until_return}
+use Rattle.act_words.specs.World.{World}
+use Rattle.act_words.specs.Touches.{Asked, Got, Ended, Crossed, spend_tick, enter_call, write, touch}
 use Rattle.ckc_core.specs.declared.program.Site.{Site}
 use Rattle.act_words.specs.declared.operator.Operator.{Operator}
 use Rattle.act_words.specs.declared.operator.Operator.TheVariants as operators
