@@ -10,8 +10,8 @@ ghost use Rattle.lowering_code.specs.Images.{object_bytes, function_code, functi
 ghost use Rattle.lowering_code.specs.Correct.{IsFunction, IsLowerable};
 
 use crate::statement_code::emit_statements;
-use ckc_core::program;
 use check_insertion::erased::{Erased, Function};
+use ckc_core::program;
 use ckc_core::program::Object;
 use ckc_text::fault::NoMemory;
 use ckc_text::listed::Listed;
@@ -157,9 +157,9 @@ fn tainted_imports(alloc: Global, functions: &[program::Import]) -> Result<Impor
 // ---- the whole program
 
 /// The image of a program.
-pub fn emit_image(alloc: Global, program: &Core) -> Result<Image, NoMemory>
-    requires { IsLowerable (core program.now) }
-    ensures { IfOk result (λ image. image ≡ image_of (core program.now)) }
+pub fn emit_image(alloc: Global, program: &Erased) -> Result<Image, NoMemory>
+    requires { IsLowerable (erased program.now) }
+    ensures { IfOk result (λ image. image ≡ image_of (erased program.now)) }
 {
     let blocks = static_blocks(alloc, program.objects.as_slice())?;
     let funs = emit_functions(alloc, program.functions.as_slice())?;

@@ -1,4 +1,4 @@
-// From cores to images whose runs are what the cores mean.
+// From programs with their checks to images whose runs are what the programs mean.
 #![tactic(auto)]
 
 mod images;

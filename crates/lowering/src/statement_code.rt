@@ -2,36 +2,26 @@
 
 ghost use Rattle.std.specs.Prelude.{◌≡◌, ◌+◌, ◌^◌, ◌≤◌, [], ◌∷◌, ◌++◌, length, OnOk};
 ghost use Rattle.pointer_modes.specs.Types.{ctype as type_of};
-ghost use Rattle.check_insertion.specs.Erased.{expression, place as place_of, statement, statements_of};
-ghost use Rattle.check_insertion.specs.Erased as eraseds;
+ghost use Rattle.check_insertion.specs.Erased.{If, Loop, Store, Update, UpdateLocal, expression, place as place_of, statement, statements_of};
 ghost use Rattle.code_words.specs.declared.op.Op.TheVariants as ops_of;
 ghost use Rattle.lowering_code.specs.Code as code;
 ghost use Rattle.lowering_code.specs.Code.{Places};
 ghost use Rattle.lowering_expressions.specs.Views.{targets_of};
 
 use act_words::operator::Operator;
-use ckc_core::char_cells::has_one_byte;
 use check_insertion::erased::{CellPlace, Expr, Stmt};
+use ckc_core::char_cells::has_one_byte;
 use ckc_core::program::Site;
 use ckc_text::fault::NoMemory;
 use code_words::op::Op;
 use lowering_code::code_sizes::{expression_size, statement_size};
 use lowering_code::instructions::{load_op, operator_op, place_behind, put, put_two, store_op};
-use lowering_expressions::addresses::{emit_address, emit_behind_value};
-use lowering_expressions::expressions::{emit_call, emit_expression, emit_place, emit_with};
+use lowering_expressions::addresses::emit_behind_value;
+use lowering_expressions::expressions::{
+    emit_before_value, emit_call, emit_expression, emit_place, emit_with,
+};
 use lowering_expressions::loops::{Targets, begin_loop, loop_targets};
 use pointer_modes::ctype::CType;
-
-// The address that a store needs before its value, or its pointer.
-fn emit_before_value(ops: &mut Vec<Op>, cell: &CellPlace) -> Result<(), NoMemory>
-    requires { length ops.old.items + code.before_value_size (place_of cell.now) ≤ 2 ^ 31 }
-    ensures { OnOk result (ops.new.items ≡ ops.old.items ++ code.before_value (length ops.old.items) (place_of cell.now)) }
-{
-    match cell {
-        CellPlace::Direct { object, offset, .. } => emit_address(ops, *object, *offset),
-        CellPlace::Through { pointer, .. } => emit_expression(ops, pointer),
-    }
-}
 
 // A value into a cell.
 fn emit_store(
@@ -42,7 +32,7 @@ fn emit_store(
     value: &Expr,
 ) -> Result<(), NoMemory>
     requires { length ops.old.items + (code.before_value_size (place_of cell.now) + code.expression_size (expression value.now)) ≤ 2 ^ 31 }
-    ensures { OnOk result (ops.new.items ≡ ops.old.items ++ code.statement_code (targets_of targets) (length ops.old.items) (cores.Store (type_of ctype.now) (place_of cell.now) (expression value.now))) }
+    ensures { OnOk result (ops.new.items ≡ ops.old.items ++ code.statement_code (targets_of targets) (length ops.old.items) (Store (type_of ctype.now) (place_of cell.now) (expression value.now))) }
 {
     emit_before_value(ops, cell)?;
     emit_expression(ops, value)?;
@@ -70,7 +60,7 @@ fn emit_update(
     site: Site,
 ) -> Result<(), NoMemory>
     requires { length ops.old.items + (code.place_size (place_of cell.now) + (2 + code.expression_size (expression value.now))) ≤ 2 ^ 31 }
-    ensures { (p : Places) → OnOk result (ops.new.items ≡ ops.old.items ++ code.statement_code p (length ops.old.items) (cores.Update (type_of ctype.now) (place_of cell.now) operator (expression value.now) site)) }
+    ensures { (p : Places) → OnOk result (ops.new.items ≡ ops.old.items ++ code.statement_code p (length ops.old.items) (Update (type_of ctype.now) (place_of cell.now) operator (expression value.now) site)) }
 {
     emit_place(ops, cell)?;
     put_two(ops, Op::Duplicate, load_op(ctype))?;
@@ -89,7 +79,7 @@ fn emit_local_update(
     site: Site,
 ) -> Result<(), NoMemory>
     requires { length ops.old.items + (1 + code.expression_size (expression value.now)) ≤ 2 ^ 31 }
-    ensures { (p : Places) → OnOk result (ops.new.items ≡ ops.old.items ++ code.statement_code p (length ops.old.items) (cores.UpdateLocal char local operator (expression value.now) site)) }
+    ensures { (p : Places) → OnOk result (ops.new.items ≡ ops.old.items ++ code.statement_code p (length ops.old.items) (UpdateLocal char local operator (expression value.now) site)) }
 {
     put(ops, Op::Local(local))?;
     emit_expression(ops, value)?;
@@ -180,8 +170,8 @@ fn emit_if(
     consequent: &Stmt,
     alternative: &Stmt,
 ) -> Result<(), NoMemory>
-    requires { length ops.old.items + code.statement_size (cores.If (expression condition.now) (statement consequent.now) (statement alternative.now)) ≤ 2 ^ 31 }
-    ensures { OnOk result (ops.new.items ≡ ops.old.items ++ code.statement_code (targets_of targets) (length ops.old.items) (cores.If (expression condition.now) (statement consequent.now) (statement alternative.now))) }
+    requires { length ops.old.items + code.statement_size (If (expression condition.now) (statement consequent.now) (statement alternative.now)) ≤ 2 ^ 31 }
+    ensures { OnOk result (ops.new.items ≡ ops.old.items ++ code.statement_code (targets_of targets) (length ops.old.items) (If (expression condition.now) (statement consequent.now) (statement alternative.now))) }
 {
     emit_condition(ops, condition, statement_size(consequent) + 1)?;
     emit_statement(ops, targets, consequent)?;
@@ -198,8 +188,8 @@ fn emit_loop(
     body: &Stmt,
     step: &Stmt,
 ) -> Result<(), NoMemory>
-    requires { length ops.old.items + code.statement_size (cores.Loop (expression condition.now) (statement body.now) (statement step.now)) ≤ 2 ^ 31 }
-    ensures { OnOk result (ops.new.items ≡ ops.old.items ++ code.statement_code (targets_of targets) (length ops.old.items) (cores.Loop (expression condition.now) (statement body.now) (statement step.now))) }
+    requires { length ops.old.items + code.statement_size (Loop (expression condition.now) (statement body.now) (statement step.now)) ≤ 2 ^ 31 }
+    ensures { OnOk result (ops.new.items ≡ ops.old.items ++ code.statement_code (targets_of targets) (length ops.old.items) (Loop (expression condition.now) (statement body.now) (statement step.now))) }
 {
     let turn = place_behind(ops, 1);
     let after = statement_size(step);

@@ -24,7 +24,7 @@ use Rattle.lowering_code.proofs.Fits.{image_keeps}
 pub record EndsAs (image : Image) (settings : Settings) (inputs : List ℤ) (acts : List Act) (ending : Ending) (w : World) : Type 0 where
   pub each : (other : Ending) (t : State) → CodeRun image settings inputs acts other t → (other ≡ ending) × (t.world ≡ w)
 
-ends_as : (program : Core) → IsLowerable program → (settings : Settings) (inputs : List ℤ) (acts : List Act) (ending : Ending) (s : meaning_states.State) → AreAllowed settings → All (λ z. IsTrue (is_word_number z)) inputs → All IsAct acts → meaning.meaning program settings inputs acts ≡ Ends ending s → EndsAs (image_of program) settings inputs acts ending s.world
+ends_as : (program : Erased) → IsLowerable program → (settings : Settings) (inputs : List ℤ) (acts : List Act) (ending : Ending) (s : meaning_states.State) → AreAllowed settings → All (λ z. IsTrue (is_word_number z)) inputs → All IsAct acts → meaning.meaning program settings inputs acts ≡ Ends ending s → EndsAs (image_of program) settings inputs acts ending s.world
 ends_as program lowerable settings inputs acts ending s allowed words are runs =
     let k = (image_keeps program lowerable).ends settings inputs acts ending s allowed words are runs in
     record {
@@ -33,7 +33,7 @@ ends_as program lowerable settings inputs acts ending s allowed words are runs =
           (same_ending other ending t k.0 both, ap (λ (x : State). x.world) (same_last other ending t k.0 both) ∙ k.2.world);
     }
 
-pub bases_agree : (program : Core) (settings : Settings) (inputs : List ℤ) (acts : List Act) (ending : Ending) (s : meaning_states.State) → IsLowerable program → AreAllowed settings → All (λ z. IsTrue (is_word_number z)) inputs → All IsAct acts → meaning.meaning program settings inputs acts ≡ Ends ending s → AgreesAtBases (image_of program) settings inputs acts
+pub bases_agree : (program : Erased) (settings : Settings) (inputs : List ℤ) (acts : List Act) (ending : Ending) (s : meaning_states.State) → IsLowerable program → AreAllowed settings → All (λ z. IsTrue (is_word_number z)) inputs → All IsAct acts → meaning.meaning program settings inputs acts ≡ Ends ending s → AgreesAtBases (image_of program) settings inputs acts
 bases_agree program settings inputs acts ending s lowerable allowed words are runs = λ base first second t u also run other.
     let here = (ends_as program lowerable settings inputs acts ending s allowed words are runs).each first t run in
     let there = (ends_as program lowerable (record settings { base = base }) inputs acts ending s also words are runs).each second u other in

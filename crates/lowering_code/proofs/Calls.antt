@@ -18,7 +18,7 @@ use Rattle.ckc_core.specs.States.{Value, Shape, Grows, shapes, has_type}
 use Rattle.ckc_core.specs.States as meaning
 use Rattle.ckc_core.specs.Steps.{Result, Flow, Next, Broke, Continued, Returned, setting_of, fit, parameters_of, enter_if, takes, call_trusted}
 use Rattle.check_insertion.specs.ErasedMeaning.{Knot}
-use Rattle.check_insertion.specs.ErasedMeaning as meanings
+use Rattle.ckc_core.specs.Steps as meanings
 use Rattle.code_words.specs.Table.{Frame, Caller, Calls, Runs, Away, State, Step, Goes, pop_words, pop_if, call_function, enter, behind, frame_for, push_result, return_to, depth}
 use Rattle.code_words.specs.Table as table
 use Rattle.code_words.specs.Moves.{move, answer as answer_by}

@@ -32,7 +32,7 @@ use Rattle.lowering_code.proofs.Memory.{HasRoom, HasRooms, memory_bytes, length_
 
 -- a run of a program's code, from a state on
 pub record Execution : Type 0 where
-  pub program : Core
+  pub program : Erased
   pub lowerable : IsLowerable program
   pub settings : Settings
   pub allowed : AreAllowed settings

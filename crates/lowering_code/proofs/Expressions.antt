@@ -21,7 +21,7 @@ use Rattle.act_words.specs.declared.operator.Comparison.TheVariants as compariso
 use Rattle.ckc_core.specs.States.{Value, Number, Null, At, Local}
 use Rattle.ckc_core.specs.States as meaning
 use Rattle.ckc_core.specs.Steps.{given, checked, value_if, number_of_test, result_of, arithmetic_of, compared, negated, complemented, low_byte_of}
-use Rattle.check_insertion.specs.ErasedMeaning as meanings
+use Rattle.ckc_core.specs.Steps as meanings
 use Rattle.code_words.specs.Table as table
 use Rattle.code_words.specs.Table.{act, push, push_some, push_checked}
 use Rattle.code_words.specs.declared.op.Op.{Op}

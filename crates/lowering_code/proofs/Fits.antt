@@ -46,7 +46,7 @@ imports_follow : (number : ℕ) (imports : List Import) → Follow number (map (
 imports_follow number [] = tt
 imports_follow number (i ∷ imports) = (refl, imports_follow (suc number) imports)
 
-pub keeps_format : (program : Core) → IsLowerable program → KeepsFormat (image_of program)
+pub keeps_format : (program : Erased) → IsLowerable program → KeepsFormat (image_of program)
 keeps_format program lowerable =
     record {
       functions = functions_follow 0 program.functions;
@@ -63,7 +63,7 @@ keeps_format program lowerable =
       paced = rw (paced_functions 0 program.functions) refl;
     }
 
-pub image_fits : (program : Core) → IsLowerable program → (settings : Settings) → AreAllowed settings → Fits (image_of program) settings
+pub image_fits : (program : Erased) → IsLowerable program → (settings : Settings) → AreAllowed settings → Fits (image_of program) settings
 image_fits program lowerable settings allowed =
     let objects = recursion_from_All IsObject program.objects lowerable.cells in
     let blocks = map object_bytes program.objects in
@@ -79,5 +79,5 @@ image_fits program lowerable settings allowed =
     }
 
 -- the image of a program that can be lowered keeps the format, fits, and ends wherever the program does
-pub image_keeps : (program : Core) → IsLowerable program → KeepsMeaning program (image_of program)
+pub image_keeps : (program : Erased) → IsLowerable program → KeepsMeaning program (image_of program)
 image_keeps program lowerable = record { format = keeps_format program lowerable; fits = image_fits program lowerable; ends = keeps_meaning program lowerable }

@@ -2,7 +2,9 @@
 use Rattle.std.proofs.Common.{◌≡◌, ℕ, zero, suc, ◌+◌, ◌<◌, ◌≤◌, Bool, true, false, List, [], ◌∷◌, ◌++◌, length, Option, Some, None, pos, refl, sym, ap, subst, arith}
 use Rattle.std.specs.Prelude.{slice_get, nat_lt, not, ◌&&◌, ◌||◌}
 use Rattle.std.specs.List.{list_all}
+use Rattle.std.proofs.lemmas.List.{length-map}
 use Rattle.std.proofs.lemmas.Bool.Decides.{nat_tests}
+use Rattle.act_words.specs.Numbers.{signed}
 use Rattle.pointer_modes.specs.Types.{CType}
 use Rattle.ckc_core.specs.declared.program.Site.{Site}
 use Rattle.act_words.specs.declared.operator.Operator.{Operator}
@@ -10,16 +12,20 @@ use Rattle.act_words.specs.declared.operator.Operator.TheVariants as operators
 use Rattle.act_words.specs.declared.operator.Comparison.TheVariants as comparisons
 use Rattle.ckc_core.specs.declared.program.Callee.{Callee}
 use Rattle.ckc_core.specs.declared.program.Callee.TheVariants as callees
+use Rattle.ckc_core.specs.declared.program.Index.{Index}
+use Rattle.ckc_core.specs.declared.program.Index.TheVariants as indexes
+use Rattle.check_insertion.specs.declared.erased.Check.{Check}
+use Rattle.check_insertion.specs.declared.erased.Check.TheVariants as checks
 use Rattle.check_insertion.specs.Erased as erased
 use Rattle.ckc_core.specs.Steps.{is_char}
 use Rattle.code_words.specs.declared.op.Op.{Op}
 use Rattle.code_words.specs.declared.op.Op.TheVariants as ops
 use Rattle.code_words.specs.Paced.{is_call, target_of, keeps_pace, all_keep_pace, is_paced_function}
 use Rattle.code_words.specs.Formats.{element_size, is_sized, is_sized_function}
-use Rattle.lowering_code.specs.Code.{Places, operator_code, load_code, load_if, store_code, store_if, offset_code, offset_size, address_code, through_code, byte_code, byte_size, expression_size, arguments_size, place_size, before_value_size, statement_size, statements_size, expression_code, arguments_code, place_code, before_value, behind_value, statement_code, statements_code, ending_code, body_places, function_ops, callee_code}
+use Rattle.lowering_code.specs.Code.{Places, operator_code, load_code, load_if, store_code, store_if, offset_code, offset_size, address_code, check_code, checks_code, through_code, through_size, byte_code, byte_size, expression_size, arguments_size, place_size, before_value_size, statement_size, statements_size, expression_code, arguments_code, place_code, before_value, behind_value, statement_code, statements_code, ending_code, body_places, function_ops, callee_code}
 use Rattle.lowering_code.specs.Images.{functions_from}
 use Rattle.lowering_code.proofs.Steps.{HasAt, has_front, has_back, has_all}
-use Rattle.lowering_code.proofs.Sizes.{length_offset, length_byte, length_expression, length_arguments, length_place, length_statement, length_statements}
+use Rattle.lowering_code.proofs.Sizes.{length_offset, length_through, length_byte, length_expression, length_arguments, length_place, length_statement, length_statements}
 
 -- ---- single instructions
 
@@ -40,6 +46,9 @@ calm_operator (operators.Bitwise operator) site = record { no_jump = refl; no_ca
 callee_no_jump : (callee : Callee) → named (callee_code callee) ≡ (None, None)
 callee_no_jump (callees.Trusted function) = refl
 callee_no_jump (callees.Tainted import site) = refl
+
+calm_check : (c : Check) → IsCalm (check_code c)
+calm_check (checks.NotNull site) = record { no_jump = refl; no_call = refl }
 
 calm_load : (char : Bool) → IsCalm (load_if char)
 calm_load true = record { no_jump = refl; no_call = refl }
@@ -149,6 +158,13 @@ module _ (all : List Op) where
   offset_keeps at zero = tt
   offset_keeps at (suc n) = (refl, (refl, tt))
 
+  checks_keep : (at : ℕ) (cs : List Check) → AllKeep at (checks_code cs)
+  checks_keep at [] = tt
+  checks_keep at (c ∷ cs) = (calm_keeps at (check_code c) (calm_check c), checks_keep (at + 1) cs)
+
+  through_keeps : (at : ℕ) (index : Index) (offset : ℕ) (cs : List Check) → AllKeep at (through_code index offset cs)
+  through_keeps at indexes.First offset cs = joined at (length cs) (checks_code cs) (offset_code offset) (length-map cs check_code) (checks_keep at cs) (offset_keeps (at + length cs) offset)
+
   byte_keeps : (at : ℕ) (char : Bool) → AllKeep at (byte_code char)
   byte_keeps at true = (refl, tt)
   byte_keeps at false = tt
@@ -195,11 +211,19 @@ module _ (all : List Op) where
 
     starts_place : (at : ℕ) (p : erased.Place) → HasAt all at (place_code at p) → IsTarget at
     starts_place at (erased.Direct object offset) has = target_there at (ops.BlockAddress object) refl has.0
-    starts_place at (erased.Through pointer offset site) has = starts_expression at pointer (has_front all at (expression_code at pointer) (through_code offset site) has)
+    starts_place at (erased.Through pointer index offset checks) has = starts_expression at pointer (has_front all at (expression_code at pointer) (through_code index offset checks) has)
+
+  starts_offset : (at offset : ℕ) → HasAt all at (offset_code offset) → IsTarget (at + offset_size offset) → IsTarget at
+  starts_offset at zero has end = target_same (at + 0) at (omega arith) end
+  starts_offset at (suc n) has end = target_there at (ops.Const (signed (suc n))) refl has.0
+
+  starts_through : (at : ℕ) (index : Index) (offset : ℕ) (cs : List Check) → HasAt all at (through_code index offset cs) → IsTarget (at + through_size index offset cs) → IsTarget at
+  starts_through at indexes.First offset [] has end = starts_offset at offset has (target_same (at + (0 + offset_size offset)) (at + offset_size offset) (omega arith) end)
+  starts_through at indexes.First offset (c ∷ cs) has end = target_there at (check_code c) (calm_check c).no_call has.0
 
   starts_before_value : (at : ℕ) (p : erased.Place) → HasAt all at (before_value at p) → IsTarget at
   starts_before_value at (erased.Direct object offset) has = target_there at (ops.BlockAddress object) refl has.0
-  starts_before_value at (erased.Through pointer offset site) has = starts_expression at pointer has
+  starts_before_value at (erased.Through pointer index offset checks) has = starts_expression at pointer has
 
   mutual
     starts_statement : (p : Places) (at : ℕ) (x : erased.Statement) → HasAt all at (statement_code p at x) → IsTarget (at + statement_size x) → IsTarget at
@@ -254,13 +278,15 @@ module _ (all : List Op) where
       (first (has_front all at (expression_code at left) rest has) (starts_expression m right (has_front all m (expression_code m right) (op ∷ []) back)))
       (expression_with m right op calm back second)
 
-  through_with : (at : ℕ) (pointer : erased.Expression) (offset : ℕ) (site : Site) → HasAt all at (expression_code at pointer ++ through_code offset site) → KeepsPace at pointer → AllKeep at (expression_code at pointer ++ through_code offset site)
-  through_with at pointer offset site has here =
+  through_with : (at : ℕ) (pointer : erased.Expression) (index : Index) (offset : ℕ) (checks : List Check) → HasAt all at (expression_code at pointer ++ through_code index offset checks) → IsTarget (at + (expression_size pointer + through_size index offset checks)) → KeepsPace at pointer → AllKeep at (expression_code at pointer ++ through_code index offset checks)
+  through_with at pointer index offset checks has end here =
       let m = at + expression_size pointer in
-      let back = has_back all at (expression_code at pointer) (through_code offset site) (expression_size pointer) (length_expression at pointer) has in
-      joined at (expression_size pointer) (expression_code at pointer) (through_code offset site) (length_expression at pointer)
-      (here (has_front all at (expression_code at pointer) (through_code offset site) has) (target_there m (ops.NonNull site.place) refl back.0))
-      (refl, offset_keeps (m + 1) offset)
+      let last = through_code index offset checks in
+      let size = through_size index offset checks in
+      let back = has_back all at (expression_code at pointer) last (expression_size pointer) (length_expression at pointer) has in
+      joined at (expression_size pointer) (expression_code at pointer) last (length_expression at pointer)
+      (here (has_front all at (expression_code at pointer) last has) (starts_through m index offset checks back (target_same (at + (expression_size pointer + size)) (m + size) (omega arith) end)))
+      (through_keeps m index offset checks)
 
   mutual
     paced_expression : (at : ℕ) (e : erased.Expression) → HasAt all at (expression_code at e) → IsTarget (at + expression_size e) → AllKeep at (expression_code at e)
@@ -335,7 +361,7 @@ module _ (all : List Op) where
 
     paced_place : (at : ℕ) (p : erased.Place) → HasAt all at (place_code at p) → IsTarget (at + place_size p) → AllKeep at (place_code at p)
     paced_place at (erased.Direct object offset) has end = (refl, offset_keeps (at + 1) offset)
-    paced_place at (erased.Through pointer offset site) has end = through_with at pointer offset site has (paced_expression at pointer)
+    paced_place at (erased.Through pointer index offset checks) has end = through_with at pointer index offset checks has end (paced_expression at pointer)
 
   paced_one : (at : ℕ) (e : erased.Expression) (op : Op) → IsCalm op → HasAt all at (expression_code at e ++ op ∷ []) → AllKeep at (expression_code at e ++ op ∷ [])
   paced_one at e op calm has = expression_with at e op calm has (paced_expression at e)
@@ -357,20 +383,21 @@ module _ (all : List Op) where
       let back = has_back all at (address_code object offset) rest (1 + offset_size offset) (omega (arith, length_offset offset)) has in
       joined at (1 + offset_size offset) (address_code object offset) rest (omega (arith, length_offset offset)) (refl, offset_keeps (at + 1) offset)
       (paced_one m value (store_code type) (calm_store (is_char type)) back)
-  paced_store scratch at type (erased.Through pointer offset site) value has =
+  paced_store scratch at type (erased.Through pointer index offset checks) value has =
       let m = at + expression_size pointer in
       let n = m + expression_size value in
       let last = ops.Local scratch ∷ store_code type ∷ [] in
-      let check = ops.Set scratch ∷ (through_code offset site ++ last) in
+      let size = through_size index offset checks in
+      let check = ops.Set scratch ∷ (through_code index offset checks ++ last) in
       let rest = expression_code m value ++ check in
       let back = has_back all at (expression_code at pointer) rest (expression_size pointer) (length_expression at pointer) has in
       let behind = has_back all m (expression_code m value) check (expression_size value) (length_expression m value) back in
-      let store = calm_keeps (n + 1 + (1 + offset_size offset) + 1) (store_code type) (calm_store (is_char type)) in
+      let store = calm_keeps (n + 1 + size + 1) (store_code type) (calm_store (is_char type)) in
       joined at (expression_size pointer) (expression_code at pointer) rest (length_expression at pointer)
       (paced_expression at pointer (has_front all at (expression_code at pointer) rest has) (starts_expression m value (has_front all m (expression_code m value) check back)))
       (joined m (expression_size value) (expression_code m value) check (length_expression m value)
       (paced_expression m value (has_front all m (expression_code m value) check back) (target_there n (ops.Set scratch) refl behind.0))
-      (refl, joined (n + 1) (1 + offset_size offset) (through_code offset site) last (omega (arith, length_offset offset)) (refl, offset_keeps (n + 1 + 1) offset) (refl, (store, tt))))
+      (refl, joined (n + 1) size (through_code index offset checks) last (length_through index offset checks) (through_keeps (n + 1) index offset checks) (refl, (store, tt))))
 
   -- an operator, and where its result goes
   paced_result : (at : ℕ) (operator : Operator) (site : Site) (char : Bool) (keep : Op) → IsCalm keep → AllKeep at (operator_code operator site ∷ (byte_code char ++ keep ∷ []))

@@ -6,7 +6,7 @@ use Rattle.std.proofs.lemmas.Bool.{cases_lt}
 use Rattle.std.proofs.lemmas.Bool.Decides.{nat_tests}
 use Rattle.std.proofs.lemmas.List.{length-map}
 use Rattle.ckc_text.specs.declared.code.Code.TheVariants.{C1}
-use Rattle.act_words.specs.declared.ending.Ending.TheVariants.{Check}
+use Rattle.act_words.specs.declared.ending.Ending.TheVariants.{Check as Failed}
 use Rattle.act_words.specs.Numbers.{word, signed}
 use Rattle.act_words.specs.Arithmetic.{is_zero}
 use Rattle.flat_bytes.specs.Blocks.{first_offset}
@@ -16,11 +16,16 @@ use Rattle.ckc_core.specs.declared.program.Site.{Site}
 use Rattle.ckc_core.specs.States.{Value, Number, Null, At, Cell, Block, strides, shape, shapes, number_at, cell_in, cell_at, object_block, same_type, has_type}
 use Rattle.ckc_core.specs.States as meaning
 use Rattle.ckc_core.specs.Steps.{value_if, value_in, place_if, place_at, load_at, truth, same_place, is_char}
-use Rattle.check_insertion.specs.ErasedMeaning.{place_through}
+use Rattle.ckc_core.specs.Outcome.{and_then}
+use Rattle.ckc_core.specs.declared.program.Index.{Index}
+use Rattle.ckc_core.specs.declared.program.Index.TheVariants as indexes
+use Rattle.check_insertion.specs.declared.erased.Check.{Check}
+use Rattle.check_insertion.specs.declared.erased.Check.TheVariants as checks
+use Rattle.check_insertion.specs.ErasedMeaning.{check, pass, element, reached}
 use Rattle.code_words.specs.Table.{act, push, push_some, load, holds}
 use Rattle.code_words.specs.Table as table
 use Rattle.code_words.specs.declared.op.Op.TheVariants as ops
-use Rattle.lowering_code.specs.Code.{offset_code, offset_size, address_code, through_code, load_code}
+use Rattle.lowering_code.specs.Code.{offset_code, offset_size, address_code, check_code, checks_code, through_code, through_size, load_code}
 use Rattle.lowering_code.specs.Code as codes
 use Rattle.check_insertion.specs.Stacks.{offset_stack}
 use Rattle.lowering_code.specs.Correct.{width_if, offset_from}
@@ -31,7 +36,7 @@ use Rattle.lowering_code.proofs.Shapes.{begins, bytes_before_le, shape_there, of
 use Rattle.lowering_code.proofs.Bytes.{word_behind, length_word, word_read}
 use Rattle.lowering_code.proofs.Memory.{with_cell, value_bytes, block_seam}
 use Rattle.lowering_code.proofs.Executions.{Execution, image, variables, word_of, tail, memory_by, memory, IsKept, KeptCell, KeptCells, KeptBlocks, variable_address, rooms_kept}
-use Rattle.lowering_code.proofs.Steps.{HasAt, Leads, Finishes, Layout, code, frame, standing, Here, moved, pushes, ended, here_at, Arrives, Evaluates}
+use Rattle.lowering_code.proofs.Steps.{HasAt, has_front, has_back, Leads, leads_on, Finishes, Layout, code, frame, standing, Here, moved, pushes, ended, here_at, Arrives, Evaluates}
 use Rattle.lowering_code.proofs.Expressions.{index_below}
 
 -- ---- where a cell stands
@@ -195,17 +200,43 @@ module _ (g : Execution) (l : Layout g) where
       let low : object < length g.program.objects = omega (arith, index_below s.blocks object f.holder f.there, here.kept.blocks.only) in
       subst (λ o. Leads (Placed (next + (1 + offset_size offset)) stack) (Finishes g) (place_if o None object offset s)) is (direct_runs next stack s object offset low here at room)
 
-  -- the address behind a pointer, whose word lies on the stack
-  pub through_runs : (next : ℕ) (stack : List ℕ) (s : meaning.State) (offset : ℕ) (site : Site) (v : Value) → IsKept s v → Here g l next (word_of g s v ∷ stack) s → HasAt (code g l).ops next (through_code offset site) → length stack + offset_stack offset ≤ (code g l).stack → Leads (Placed (next + (1 + offset_size offset)) stack) (Finishes g) (place_through offset site v s)
-  through_runs next stack s offset site (Number z) kept here at room = tt
-  through_runs next stack s offset site Null kept here at room = ended g l next (0 ∷ stack) s (ops.NonNull site.place) (Check C1 site.place) s here at.0 here.kept.blocks (λ scratch. refl)
-  through_runs next stack s offset site (At block byte) kept here at room =
+  -- a check of the pointer whose word lies on the stack, where it stays
+  check_runs : (next : ℕ) (stack : List ℕ) (s : meaning.State) (c : Check) (v : Value) → IsKept s v → Here g l next (word_of g s v ∷ stack) s → slice_get (code g l).ops next ≡ Some (check_code c) → Leads (λ (u : Unit {0}) t. Arrives g l (next + 1) stack v t) (Finishes g) (check c v s)
+  check_runs next stack s (checks.NotNull site) (Number z) kept here at = tt
+  check_runs next stack s (checks.NotNull site) Null kept here at = ended g l next (0 ∷ stack) s (ops.NonNull site.place) (Failed C1 site.place) s here at here.kept.blocks (λ scratch. refl)
+  check_runs next stack s (checks.NotNull site) (At block byte) kept here at =
       let w = word_of g s (At block byte) in
       let passes : not (w == 0) ≡ true = ap not (truth_word g s (At block byte) kept) in
-      let checked = moved g l next (w ∷ stack) s (ops.NonNull site.place) (next + 1) (w ∷ stack) s here at.0 here.kept (λ scratch. rw passes refl) in
-      let place : next + 1 + offset_size offset ≡ next + (1 + offset_size offset) = omega arith in
-      subst (λ n. Leads (Placed n stack) (Finishes g) (place_at (Some site) block (byte + offset) s)) place
-      (behind_runs (next + 1) stack s (Some site) block byte offset (cell_at s.blocks block (byte + offset)) refl checked at.1 room)
+      (moved g l next (w ∷ stack) s (ops.NonNull site.place) (next + 1) (w ∷ stack) s here at here.kept (λ scratch. rw passes refl), kept)
+
+  -- and checks of it, one after the other
+  checks_run : (next : ℕ) (stack : List ℕ) (s : meaning.State) (cs : List Check) (v : Value) → IsKept s v → Here g l next (word_of g s v ∷ stack) s → HasAt (code g l).ops next (checks_code cs) → Leads (λ (u : Unit {0}) t. Arrives g l (next + length cs) stack v t) (Finishes g) (pass cs v s)
+  checks_run next stack s [] v kept here at =
+      let none : next ≡ next + 0 = omega arith in
+      (here_at g l next (next + 0) (word_of g s v ∷ stack) s none here, kept)
+  checks_run next stack s (c ∷ cs) v kept here at =
+      let end : next + 1 + length cs ≡ next + suc (length cs) = omega arith in
+      subst (λ n. Leads (λ (u : Unit {0}) t. Arrives g l n stack v t) (Finishes g) (pass (c ∷ cs) v s)) end
+      (leads_on (λ (u : Unit {0}) t. Arrives g l (next + 1) stack v t) (λ (u : Unit {0}) t. Arrives g l (next + 1 + length cs) stack v t) (Finishes g) (check c v s) (λ _ t. pass cs v t)
+      (check_runs next stack s c v kept here at.0)
+      (λ u t x. checks_run (next + 1) stack t cs v x.1 x.0 at.1))
+
+  -- the address of an element, behind the pointer's word
+  element_runs : (next : ℕ) (stack : List ℕ) (s : meaning.State) (offset : ℕ) (v : Value) → Arrives g l next stack v s → HasAt (code g l).ops next (offset_code offset) → length stack + offset_stack offset ≤ (code g l).stack → Leads (Placed (next + offset_size offset) stack) (Finishes g) (element offset v s)
+  element_runs next stack s offset (Number z) x at room = tt
+  element_runs next stack s offset Null x at room = tt
+  element_runs next stack s offset (At block byte) x at room = behind_runs next stack s None block byte offset (cell_at s.blocks block (byte + offset)) refl x.0 at room
+
+  -- the address behind a pointer, whose word lies on the stack, and behind its checks
+  pub through_runs : (next : ℕ) (stack : List ℕ) (s : meaning.State) (index : Index) (offset : ℕ) (cs : List Check) (v : Value) → IsKept s v → Here g l next (word_of g s v ∷ stack) s → HasAt (code g l).ops next (through_code index offset cs) → length stack + offset_stack offset ≤ (code g l).stack → Leads (Placed (next + through_size index offset cs) stack) (Finishes g) (and_then (pass cs v s) (λ _ t. reached index offset v t))
+  through_runs next stack s indexes.First offset cs v kept here at room =
+      let m = next + length cs in
+      let back = has_back (code g l).ops next (checks_code cs) (offset_code offset) (length cs) (length-map cs check_code) at in
+      let end : m + offset_size offset ≡ next + (length cs + offset_size offset) = omega arith in
+      subst (λ n. Leads (Placed n stack) (Finishes g) (and_then (pass cs v s) (λ _ t. reached indexes.First offset v t))) end
+      (leads_on (λ (u : Unit {0}) t. Arrives g l m stack v t) (Placed (m + offset_size offset) stack) (Finishes g) (pass cs v s) (λ _ t. reached indexes.First offset v t)
+      (checks_run next stack s cs v kept here (has_front (code g l).ops next (checks_code cs) (offset_code offset) at))
+      (λ u t x. element_runs m stack t offset v x back room))
 
   -- ---- loads
 

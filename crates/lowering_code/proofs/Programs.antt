@@ -197,7 +197,7 @@ module _ (all : List Shape) where
   objects_kept [] is = tt
   objects_kept (cells ∷ objects) is = (cells_kept cells (recursion_from_All IsCell cells is.0.0), objects_kept objects is.1)
 
-module _ (program : Core) (lowerable : IsLowerable program) (settings : Settings) (allowed : AreAllowed settings) (inputs : List ℤ) (acts : List Act) where
+module _ (program : Erased) (lowerable : IsLowerable program) (settings : Settings) (allowed : AreAllowed settings) (inputs : List ℤ) (acts : List Act) where
   abbrev run : Execution
   run = record { program = program; lowerable = lowerable; settings = settings; allowed = allowed; start = started (image_of program) settings inputs acts }
 
@@ -251,7 +251,7 @@ module _ (program : Core) (lowerable : IsLowerable program) (settings : Settings
       (exits run before)
 
 -- wherever the program's run over inputs and acts ends, so does the image's
-pub keeps_meaning : (program : Core) → IsLowerable program → (settings : Settings) (inputs : List ℤ) (acts : List Act) (ending : Ending) (s : meaning.State) → AreAllowed settings → All (λ z. IsTrue (is_word_number z)) inputs → All IsAct acts → meanings.meaning program settings inputs acts ≡ Ends ending s → (t : State) × CodeRun (image_of program) settings inputs acts ending t × SameEnd settings.base s t
+pub keeps_meaning : (program : Erased) → IsLowerable program → (settings : Settings) (inputs : List ℤ) (acts : List Act) (ending : Ending) (s : meaning.State) → AreAllowed settings → All (λ z. IsTrue (is_word_number z)) inputs → All IsAct acts → meanings.meaning program settings inputs acts ≡ Ends ending s → (t : State) × CodeRun (image_of program) settings inputs acts ending t × SameEnd settings.base s t
 keeps_meaning program lowerable settings inputs acts ending s allowed numbers all h =
     let l = subst (Leads (λ (u : Unit {0}) (t : meaning.State). Unit {0}) (Finishes (run program lowerable settings allowed inputs acts))) h (run_follows program lowerable settings allowed inputs acts numbers all) in
     (l.last, (l.steps, l.is), l.same)

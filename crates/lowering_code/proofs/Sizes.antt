@@ -1,12 +1,16 @@
 -- How many instructions the code of a part has, and that each expression needs a word of the stack.
 use Rattle.std.proofs.Common.{◌≡◌, ℕ, zero, suc, ◌+◌, ◌≤◌, Bool, true, false, pos, List, [], ◌∷◌, ◌++◌, length, refl, ap, ◌∙◌, arith, length-append}
+use Rattle.std.proofs.lemmas.List.{length-map}
 use Rattle.pointer_modes.specs.Types.{CType}
 use Rattle.act_words.specs.declared.operator.Comparison.TheVariants as comparisons
+use Rattle.ckc_core.specs.declared.program.Index.{Index}
+use Rattle.ckc_core.specs.declared.program.Index.TheVariants as indexes
+use Rattle.check_insertion.specs.declared.erased.Check.{Check}
 use Rattle.check_insertion.specs.Erased as erased
 use Rattle.ckc_core.specs.Steps.{is_char}
 use Rattle.code_words.specs.declared.op.Op.{Op}
 use Rattle.code_words.specs.declared.op.Op.TheVariants as ops
-use Rattle.lowering_code.specs.Code.{Places, operator_code, load_code, store_code, offset_code, offset_size, through_code, byte_code, byte_size, expression_size, arguments_size, place_size, before_value_size, behind_value_size, statement_size, statements_size, expression_code, arguments_code, place_code, before_value, behind_value, statement_code, statements_code, callee_code}
+use Rattle.lowering_code.specs.Code.{Places, operator_code, load_code, store_code, offset_code, offset_size, check_code, checks_code, through_code, through_size, byte_code, byte_size, expression_size, arguments_size, place_size, before_value_size, behind_value_size, statement_size, statements_size, expression_code, arguments_code, place_code, before_value, behind_value, statement_code, statements_code, callee_code}
 use Rattle.check_insertion.specs.Stacks.{offset_stack, expression_stack, place_stack}
 
 pub length_offset : (n : ℕ) → length (offset_code n) ≡ offset_size n
@@ -20,6 +24,9 @@ length_byte false = refl
 -- a part and what follows it
 length_then : (a b : List Op) (n m : ℕ) → length a ≡ n → length b ≡ m → length (a ++ b) ≡ n + m
 length_then a b n m ea eb = omega (arith, length-append a b)
+
+pub length_through : (index : Index) (offset : ℕ) (checks : List Check) → length (through_code index offset checks) ≡ through_size index offset checks
+length_through indexes.First offset checks = length_then (checks_code checks) (offset_code offset) (length checks) (offset_size offset) (length-map checks check_code) (length_offset offset)
 
 length_two : (at : ℕ) (left right : erased.Expression) (op : Op) → length (expression_code at left) ≡ expression_size left → length (expression_code (at + expression_size left) right) ≡ expression_size right → length (expression_code at left ++ (expression_code (at + expression_size left) right ++ op ∷ [])) ≡ expression_size left + (expression_size right + 1)
 length_two at left right op el er =
@@ -63,16 +70,16 @@ mutual
 
   pub length_place : (at : ℕ) (p : erased.Place) → length (place_code at p) ≡ place_size p
   length_place at (erased.Direct object offset) = omega (arith, length_offset offset)
-  length_place at (erased.Through pointer offset site) =
-      length_then (expression_code at pointer) (through_code offset site) (expression_size pointer) (1 + offset_size offset) (length_expression at pointer) (omega (arith, length_offset offset))
+  length_place at (erased.Through pointer index offset checks) =
+      length_then (expression_code at pointer) (through_code index offset checks) (expression_size pointer) (through_size index offset checks) (length_expression at pointer) (length_through index offset checks)
 
 pub length_before : (at : ℕ) (p : erased.Place) → length (before_value at p) ≡ before_value_size p
 length_before at (erased.Direct object offset) = omega (arith, length_offset offset)
-length_before at (erased.Through pointer offset site) = length_expression at pointer
+length_before at (erased.Through pointer index offset checks) = length_expression at pointer
 
 pub length_behind : (scratch : ℕ) (type : CType) (p : erased.Place) → length (behind_value scratch type p) ≡ behind_value_size p
 length_behind scratch type (erased.Direct object offset) = refl
-length_behind scratch type (erased.Through pointer offset site) = omega (arith, length-append (through_code offset site) (ops.Local scratch ∷ store_code type ∷ []), length_offset offset)
+length_behind scratch type (erased.Through pointer index offset checks) = omega (arith, length-append (through_code index offset checks) (ops.Local scratch ∷ store_code type ∷ []), length_through index offset checks)
 
 mutual
   pub length_statement : (p : Places) (at : ℕ) (x : erased.Statement) → length (statement_code p at x) ≡ statement_size x
@@ -150,4 +157,4 @@ mutual
 
   pub place_above : (p : erased.Place) → 1 ≤ place_stack p
   place_above (erased.Direct object offset) = offset_above offset
-  place_above (erased.Through pointer offset site) = omega (arith, stack_above pointer)
+  place_above (erased.Through pointer index offset checks) = omega (arith, stack_above pointer)

@@ -14,7 +14,7 @@ use Rattle.ckc_core.specs.Steps.{Result, Flow, Next, Broke, Continued, Returned,
 use Rattle.check_insertion.specs.ErasedMeaning.{Knot, value, place, pointer_of, effect, effects}
 use Rattle.code_words.specs.declared.op.Op.{Op}
 use Rattle.code_words.specs.declared.op.Op.TheVariants as ops
-use Rattle.lowering_code.specs.Code.{Places, operator_code, load_code, store_code, address_code, byte_code, byte_size, offset_size, expression_size, arguments_size, place_size, statement_size, statements_size, expression_code, place_code, behind_value, statement_code, statements_code}
+use Rattle.lowering_code.specs.Code.{Places, operator_code, load_code, store_code, address_code, byte_code, byte_size, offset_size, through_size, expression_size, arguments_size, place_size, statement_size, statements_size, expression_code, place_code, behind_value, statement_code, statements_code}
 use Rattle.check_insertion.specs.Stacks.{expression_stack, offset_stack, statement_stack, statements_stack}
 use Rattle.ckc_core.proofs.Numbers.{signed-word}
 use Rattle.lowering_code.proofs.Shapes.{kept_grows, word_grows}
@@ -196,21 +196,22 @@ module _ (g : Execution) (l : Layout g) where
           (λ v u y.
           let z = both g l n [] a v t u x.0.kept.grows x.1 y in
           direct_store_runs n u p type object offset v (cell_at u.blocks object offset) z.top z.here (has_back (code g l).ops m (expression_code m e) last (expression_size e) (length_expression m e) back).0)))
-      effect_runs (erased.Store type (erased.Through pointer offset site) e) p next s places here at room low =
+      effect_runs (erased.Store type (erased.Through pointer index offset checks) e) p next s places here at room low =
           let m = next + expression_size pointer in
           let n = m + expression_size e in
-          let last = behind_value p.scratch type (erased.Through pointer offset site) in
+          let last = behind_value p.scratch type (erased.Through pointer index offset checks) in
+          let size = 3 + through_size index offset checks in
           let front = expression_code next pointer in
           let back = has_back (code g l).ops next front (expression_code m e ++ last) (expression_size pointer) (length_expression next pointer) at in
-          let end : n + (4 + offset_size offset) ≡ next + (expression_size pointer + (expression_size e + (4 + offset_size offset))) = omega arith in
-          affects_at p (n + (4 + offset_size offset)) (next + (expression_size pointer + (expression_size e + (4 + offset_size offset)))) (effect (setting g) k (erased.Store type (erased.Through pointer offset site) e) s) end
-          (leads_on (Arrives g l m []) (FlowsTo g l p (n + (4 + offset_size offset))) (Finishes g) (value (setting g) k pointer s) _
+          let end : n + size ≡ next + (expression_size pointer + (expression_size e + size)) = omega arith in
+          affects_at p (n + size) (next + (expression_size pointer + (expression_size e + size))) (effect (setting g) k (erased.Store type (erased.Through pointer index offset checks) e) s) end
+          (leads_on (Arrives g l m []) (FlowsTo g l p (n + size)) (Finishes g) (value (setting g) k pointer s) _
           (value_runs g k runs pointer l next [] s here (has_front (code g l).ops next front (expression_code m e ++ last) at) (omega arith) (omega arith))
-          (λ q t x. leads_on (Arrives g (from g l t) n (word_of g t q ∷ [])) (FlowsTo g l p (n + (4 + offset_size offset))) (Finishes g) (value (setting g) k e t) _
+          (λ q t x. leads_on (Arrives g (from g l t) n (word_of g t q ∷ [])) (FlowsTo g l p (n + size)) (Finishes g) (value (setting g) k e t) _
           (value_runs g k runs e (from g l t) m (word_of g t q ∷ []) t (here_from g l m (word_of g t q ∷ []) t x.0) (has_front (code g l).ops m (expression_code m e) last back) (omega arith) (omega arith))
           (λ v u y.
           let z = both g l n [] q v t u x.0.kept.grows x.1 y in
-          through_store_runs g l n u p type offset site q v places z.below z.top z.here (has_back (code g l).ops m (expression_code m e) last (expression_size e) (length_expression m e) back) (omega arith) (stack_of_offset offset (code g l).stack (omega arith)))))
+          through_store_runs g l n u p type index offset checks q v places z.below z.top z.here (has_back (code g l).ops m (expression_code m e) last (expression_size e) (length_expression m e) back) (omega arith) (stack_of_offset offset (code g l).stack (omega arith)))))
       effect_runs (erased.UpdateLocal char local operator e site) p next s places here at room low =
           let n = next + 1 + expression_size e in
           let m = n + 1 + byte_size char in
@@ -245,8 +246,8 @@ module _ (g : Execution) (l : Layout g) where
           let a = At place.0 place.1 in
           let at_t = word_of g t a in
           let twice = pushes g l m (at_t ∷ []) t ops.Duplicate at_t (at_t ∷ []) x.0 middle.0 (omega arith) (λ scratch. refl) in
-          leads_on (Arrives g (from g l t) (m + 1 + 1) (at_t ∷ [])) (FlowsTo g l p (o + 1)) (Finishes g) (load_at type (Some site) place t) _
-          (load_runs g (from g l t) (m + 1) (at_t ∷ []) t type (Some site) place (here_from g l (m + 1) (at_t ∷ (at_t ∷ [])) t twice, x.1) middle.1.0 (omega arith))
+          leads_on (Arrives g (from g l t) (m + 1 + 1) (at_t ∷ [])) (FlowsTo g l p (o + 1)) (Finishes g) (load_at type None place t) _
+          (load_runs g (from g l t) (m + 1) (at_t ∷ []) t type None place (here_from g l (m + 1) (at_t ∷ (at_t ∷ [])) t twice, x.1) middle.1.0 (omega arith))
           (λ old u y.
           let loaded = both g l (m + 1 + 1) [] a old t u x.0.kept.grows x.1 y in
           let at_u = word_of g u a in
@@ -258,11 +259,11 @@ module _ (g : Execution) (l : Layout g) where
           let added = z.0.kept.grows in
           let still = kept_grows (shapes u.blocks) (shapes w.blocks) a added loaded.below in
           let same = sym (word_grows g.settings.base (shapes u.blocks) (shapes w.blocks) a added loaded.below) in
-          combined_runs p n (o + 1) (word_of g w a ∷ []) w char operator site old v (store_code type ∷ []) (store_at type (Some site) place)
+          combined_runs p n (o + 1) (word_of g w a ∷ []) w char operator site old v (store_code type ∷ []) (store_at type None place)
           (record { here = subst (λ i. Here g l n (word_of g w v ∷ (word_of g w old ∷ (i ∷ []))) w) same three.here; below = three.below; top = three.top }) back (omega arith)
           (λ new w' i.
           let last_both = both g l o [] a new w w' three.here.kept.grows still i in
-          store_runs g l o w' p type (Some site) place new last_both.top last_both.here (has_back (code g l).ops (n + 1) (byte_code char) (store_code type ∷ []) (byte_size char) (length_byte char) back.1).0)))))
+          store_runs g l o w' p type None place new last_both.top last_both.here (has_back (code g l).ops (n + 1) (byte_code char) (store_code type ∷ []) (byte_size char) (length_byte char) back.1).0)))))
       effect_runs (erased.Evaluate e) p next s places here at room low =
           operand_runs e ops.Discard (λ _ t. Gives Next t) p next s (λ m v t x op. moved g l m (word_of g t v ∷ []) t ops.Discard (m + 1) [] t x.0 op x.0.kept (λ scratch. refl)) here at room low
       effect_runs (erased.CallAlone callee args) p next s places here at room low =

@@ -5,14 +5,14 @@ use Rattle.std.proofs.Math.Seq.{get_or-append_seam}
 use Rattle.std.proofs.lemmas.Option.{slice_get-get_or}
 use Rattle.std.proofs.lemmas.Bool.Decides.{nat_tests}
 use Rattle.act_words.specs.declared.ending.Ending.{Ending}
-use Rattle.ckc_core.specs.Outcome.{Gives, Ends, Stuck, Short, and_then}
+use Rattle.ckc_core.specs.Outcome.{Gives, Ends, Stuck, Unsound, Short, and_then}
 use Rattle.act_words.specs.World.{World}
 use Rattle.act_words.specs.Touches.{Asked, Got, Ended}
 use Rattle.check_insertion.specs.Erased.{Function}
 use Rattle.ckc_core.specs.States.{Value, Shape, Local, Grows, shapes}
 use Rattle.ckc_core.specs.States as meaning
 use Rattle.ckc_core.specs.Steps.{Result}
-use Rattle.check_insertion.specs.ErasedMeaning as meanings
+use Rattle.ckc_core.specs.Steps as meanings
 use Rattle.code_words.specs.Table.{Frame, Caller, Runs, State, Goes, Over, act, push}
 use Rattle.code_words.specs.Moves.{move}
 use Rattle.code_words.specs.Runs.{Finished, exec, go_on}
@@ -58,6 +58,7 @@ abbrev pub Leads : {A : Type 0} → (A → meaning.State → Type 0) → (Ending
 Leads G E (Gives value s) = G value s
 Leads G E (Ends ending s) = E ending s
 Leads G E (Stuck site s) = Unit {0}
+Leads G E (Unsound site s) = Unit {0}
 Leads G E Short = Unit {0}
 
 -- goes on from a value
@@ -65,6 +66,7 @@ pub leads_on : {A B : Type 0} (G : A → meaning.State → Type 0) (H : B → me
 leads_on G H E (Gives value s) next l more = more value s l
 leads_on G H E (Ends ending s) next l more = l
 leads_on G H E (Stuck site s) next l more = tt
+leads_on G H E (Unsound site s) next l more = tt
 leads_on G H E Short next l more = tt
 
 -- another way to the same
@@ -72,6 +74,7 @@ pub leads_to : {A : Type 0} (G H : A → meaning.State → Type 0) (E : Ending �
 leads_to G H E (Gives value s) more l = more value s l
 leads_to G H E (Ends ending s) more l = l
 leads_to G H E (Stuck site s) more l = tt
+leads_to G H E (Unsound site s) more l = tt
 leads_to G H E Short more l = tt
 
 -- the same of what the world gives

@@ -12,13 +12,15 @@ use Rattle.ckc_core.specs.declared.program.Site.{Site}
 use Rattle.ckc_core.specs.States.{Value, Number, Null, At, Cell, Block, Shape, Local, Grows, strides, shape, shapes, cell_at, same_type, has_type}
 use Rattle.ckc_core.specs.States as meaning
 use Rattle.ckc_core.specs.Steps.{store_if, store_over, store_at, leaves_zero, set_over, set_local, is_char, kept_if}
-use Rattle.check_insertion.specs.ErasedMeaning.{place_through}
-use Rattle.check_insertion.specs.ErasedMeaning as meanings
+use Rattle.ckc_core.specs.declared.program.Index.{Index}
+use Rattle.check_insertion.specs.declared.erased.Check.{Check}
+use Rattle.check_insertion.specs.ErasedMeaning.{pass, reached}
+use Rattle.ckc_core.specs.Steps as meanings
 use Rattle.ckc_core.specs.Outcome.{and_then}
 use Rattle.code_words.specs.Table.{Runs, Goes, act, store, push_some, set_if}
 use Rattle.code_words.specs.Table as table
 use Rattle.code_words.specs.declared.op.Op.TheVariants as ops
-use Rattle.lowering_code.specs.Code.{Places, store_code, through_code, byte_code, byte_size, offset_size}
+use Rattle.lowering_code.specs.Code.{Places, store_code, through_code, through_size, byte_code, byte_size}
 use Rattle.lowering_code.specs.Code as codes
 use Rattle.check_insertion.specs.Stacks.{offset_stack}
 use Rattle.ckc_core.proofs.Elements.{of_element}
@@ -28,7 +30,7 @@ use Rattle.lowering_code.proofs.Bytes.{with_word_behind, word_written}
 use Rattle.lowering_code.proofs.Memory.{with_cell, value_bytes}
 use Rattle.lowering_code.proofs.Executions.{Execution, image, variables, word_of, memory_by, memory, state_by, IsKept, AreKeptBy, KeptCell, KeptCells, KeptBlocks}
 use Rattle.lowering_code.proofs.Steps.{HasAt, has_front, has_back, leads_on, Finishes, Layout, Holds, code, frame_by, frame, standing, Kept, Here, moved, one_move, fetched, here_at, Arrives, Evaluates}
-use Rattle.lowering_code.proofs.Sizes.{length_offset}
+use Rattle.lowering_code.proofs.Sizes.{length_through}
 use Rattle.lowering_code.proofs.Expressions.{index_below, low_byte_runs}
 use Rattle.lowering_code.proofs.Places.{Found, cell_found, stored_is, Placed, through_runs, seam, seam_inside, typed_small, same_char}
 use Rattle.lowering_code.proofs.Calls.{FlowsTo, Affects, ArePlaces}
@@ -267,20 +269,21 @@ module _ (g : Execution) (l : Layout g) where
       }
 
   -- a store through a pointer: its value is kept aside while the pointer is checked
-  pub through_store_runs : (next : ℕ) (s : meaning.State) (p : Places) (type : CType) (offset : ℕ) (site : Site) (q v : Value) → ArePlaces g l p → IsKept s q → IsKept s v → Here g l next (word_of g s v ∷ (word_of g s q ∷ [])) s → HasAt (code g l).ops next (ops.Set p.scratch ∷ (through_code offset site ++ (ops.Local p.scratch ∷ (store_code type ∷ [])))) → 2 ≤ (code g l).stack → offset_stack offset ≤ (code g l).stack → Affects g l p (next + (4 + offset_size offset)) (and_then (place_through offset site q s) (λ place t. store_at type (Some site) place v t))
-  through_store_runs next s p type offset site q v places hq hv here at two room =
+  pub through_store_runs : (next : ℕ) (s : meaning.State) (p : Places) (type : CType) (index : Index) (offset : ℕ) (cs : List Check) (q v : Value) → ArePlaces g l p → IsKept s q → IsKept s v → Here g l next (word_of g s v ∷ (word_of g s q ∷ [])) s → HasAt (code g l).ops next (ops.Set p.scratch ∷ (through_code index offset cs ++ (ops.Local p.scratch ∷ (store_code type ∷ [])))) → 2 ≤ (code g l).stack → offset_stack offset ≤ (code g l).stack → Affects g l p (next + (3 + through_size index offset cs)) (and_then (and_then (pass cs q s) (λ _ t. reached index offset q t)) (λ place t. store_at type None place v t))
+  through_store_runs next s p type index offset cs q v places hq hv here at two room =
       let w = word_of g s v in
       let m = holding w s in
       let last = ops.Local p.scratch ∷ (store_code type ∷ []) in
-      let n = next + 1 + (1 + offset_size offset) in
-      let back = has_back (code g l).ops (next + 1) (through_code offset site) last (1 + offset_size offset) (omega (arith, length_offset offset)) at.1 in
-      let end : n + 1 + 1 ≡ next + (4 + offset_size offset) = omega arith in
-      subst (λ k. Affects g l p k (and_then (place_through offset site q s) (λ place t. store_at type (Some site) place v t))) end
-      (leads_on (Placed g m n []) (FlowsTo g l p (n + 1 + 1)) (Finishes g) (place_through offset site q s) (λ place t. store_at type (Some site) place v t)
-      (through_runs g m (next + 1) [] s offset site q hq (scratch_set next (word_of g s q ∷ []) s p w places.scratch here at.0) (has_front (code g l).ops (next + 1) (through_code offset site) last at.1) (omega arith))
+      let n = next + 1 + through_size index offset cs in
+      let o = and_then (pass cs q s) (λ _ t. reached index offset q t) in
+      let back = has_back (code g l).ops (next + 1) (through_code index offset cs) last (through_size index offset cs) (length_through index offset cs) at.1 in
+      let end : n + 1 + 1 ≡ next + (3 + through_size index offset cs) = omega arith in
+      subst (λ k. Affects g l p k (and_then o (λ place t. store_at type None place v t))) end
+      (leads_on (Placed g m n []) (FlowsTo g l p (n + 1 + 1)) (Finishes g) o (λ place t. store_at type None place v t)
+      (through_runs g m (next + 1) [] s index offset cs q hq (scratch_set next (word_of g s q ∷ []) s p w places.scratch here at.0) (has_front (code g l).ops (next + 1) (through_code index offset cs) last at.1) (omega arith))
       (λ place t x.
       let a = word_of g t (At place.0 place.1) in
       let added = x.0.kept.grows in
       let same = sym (word_grows g.settings.base (shapes s.blocks) (shapes t.blocks) v added hv) in
       let pushed = scratch_pushed n (a ∷ []) s t p w places here.kept.grows x.0 back.0 (omega arith) in
-      store_runs (n + 1) t p type (Some site) place v (kept_grows (shapes s.blocks) (shapes t.blocks) v added hv) (subst (λ u. Here g l (n + 1) (u ∷ (a ∷ [])) t) same pushed) back.1.0))
+      store_runs (n + 1) t p type None place v (kept_grows (shapes s.blocks) (shapes t.blocks) v added hv) (subst (λ u. Here g l (n + 1) (u ∷ (a ∷ [])) t) same pushed) back.1.0))

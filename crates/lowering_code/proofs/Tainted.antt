@@ -17,12 +17,12 @@ use Rattle.act_words.specs.Acting.{BeforeTouch, InSandbox, act_before_touch, act
 use Rattle.act_words.specs.Touches.{Asked, Got, Ended, Crossed, asking, on_from, on_keeps, before_touch, released, until_return, entered_if, enter_call, spend_tick, touch}
 use Rattle.pointer_modes.specs.Types.{CType, Int, Char, Struct, Pointer}
 use Rattle.ckc_core.specs.declared.program.Site.{Site}
-use Rattle.check_insertion.specs.Erased as erased
+use Rattle.ckc_core.specs.Programs.{Import}
 use Rattle.ckc_core.specs.States.{Value, Number, Null, At, shapes}
 use Rattle.ckc_core.specs.States as meaning
 use Rattle.ckc_core.specs.Steps.{setting_of, words_of, reply_as, passed, crossed, back, cross, cross_if, call_tainted}
 use Rattle.check_insertion.specs.ErasedMeaning.{Knot}
-use Rattle.check_insertion.specs.ErasedMeaning as meanings
+use Rattle.ckc_core.specs.Steps as meanings
 use Rattle.code_words.specs.Table.{Frame, Caller, Waits, Passes, Touches, Away, State, Step, behind, push_result}
 use Rattle.code_words.specs.Table as table
 use Rattle.code_words.specs.Moves.{move, before_touch_by, in_sandbox_by, reply_to}
@@ -104,7 +104,7 @@ module _ (g : Execution) (callers : List Caller) (s : meaning.State) (blocks : K
       (λ v h r. sandbox_runs acts v all.1 h r)
 
 -- a tainted function of the program is one of the image, with as many arguments
-import_there : (n k : ℕ) (imports : List erased.Import) (i : erased.Import) → slice_get imports k ≡ Some i → (m : ℕ) × (slice_get (imports_from n imports) k ≡ Some (import_code m i))
+import_there : (n k : ℕ) (imports : List Import) (i : Import) → slice_get imports k ≡ Some i → (m : ℕ) × (slice_get (imports_from n imports) k ≡ Some (import_code m i))
 import_there n k [] i h = absurd (cc)
 import_there n zero (j ∷ imports) i h = let e : j ≡ i = cc in (n, ap (λ x. Some (import_code n x)) e)
 import_there n (suc k) (j ∷ imports) i h = import_there (suc n) k imports i h
@@ -148,7 +148,7 @@ module _ (g : Execution) (l : Layout g) where
   reply_runs (Some (Struct number)) next scratch stack s site reply u is holds kept room reached moves_on = tt
   reply_runs (Some (Pointer mode kind target)) next scratch stack s site reply u is holds kept room reached moves_on = tt
 
-  call_moves : (next scratch : ℕ) (stack words : List ℕ) (s : meaning.State) (k : ℕ) (place : Place) (i : erased.Import) (few : Bool) → nat_lt s.depth 1000 ≡ few → slice_get g.program.imports k ≡ Some i → i.parameters ≡ length words → Kept g l s → slice_get (code g l).ops next ≡ Some (ops.TaintedCall k place) → move (image g) g.settings (standing g l next scratch (reverse words ++ stack) s) ≡ table.asked (entered_if few s.world) (standing g l next scratch (reverse words ++ stack) s) (λ _ u. table.touch_if true (Passes k words place) stack (frame g l next scratch (reverse words ++ stack) s) u)
+  call_moves : (next scratch : ℕ) (stack words : List ℕ) (s : meaning.State) (k : ℕ) (place : Place) (i : Import) (few : Bool) → nat_lt s.depth 1000 ≡ few → slice_get g.program.imports k ≡ Some i → i.parameters ≡ length words → Kept g l s → slice_get (code g l).ops next ≡ Some (ops.TaintedCall k place) → move (image g) g.settings (standing g l next scratch (reverse words ++ stack) s) ≡ table.asked (entered_if few s.world) (standing g l next scratch (reverse words ++ stack) s) (λ _ u. table.touch_if true (Passes k words place) stack (frame g l next scratch (reverse words ++ stack) s) u)
   call_moves next scratch stack words s k place i few test there count kept at =
       let fr = frame g l next scratch (reverse words ++ stack) s in
       let t = standing g l next scratch (reverse words ++ stack) s in
@@ -160,7 +160,7 @@ module _ (g : Execution) (l : Layout g) where
       ∙ ap (λ yes. table.asked (entered_if yes s.world) t (λ _ u. table.touch_if true (Passes k words place) stack fr u)) (ap (λ n. nat_lt n 1000) (sym kept.depth) ∙ test)
 
   module _ (m : Knot) (runs : KnotRuns g m) where
-    passed_runs : (next scratch : ℕ) (stack : List ℕ) (s : meaning.State) (k : ℕ) (site : Site) (i : erased.Import) → slice_get g.program.imports k ≡ Some i → Holds l.held scratch → Kept g l s → length stack < (code g l).stack → Reached g (state g Away (Waits (frame g l next scratch stack s) k site.place ∷ l.callers) s) → Leads (Resumes g l next stack) (Finishes g) (passed m i site s)
+    passed_runs : (next scratch : ℕ) (stack : List ℕ) (s : meaning.State) (k : ℕ) (site : Site) (i : Import) → slice_get g.program.imports k ≡ Some i → Holds l.held scratch → Kept g l s → length stack < (code g l).stack → Reached g (state g Away (Waits (frame g l next scratch stack s) k site.place ∷ l.callers) s) → Leads (Resumes g l next stack) (Finishes g) (passed m i site s)
     passed_runs next scratch stack s k site i there holds kept room reached =
         let inside : meaning.State = record s { depth = s.depth + 1 } in
         let waits : List Caller = Waits (frame g l next scratch stack s) k site.place ∷ l.callers in
@@ -183,7 +183,7 @@ module _ (g : Execution) (l : Layout g) where
         ∙ ap (λ o. reply_to (image g) (frame g l next scratch stack s) site.place o reply (state g Away l.callers t)) found.1
         ∙ ap (λ fr. moves.reply_if (fits_kind (result_kind i.result) reply) (image g) fr site.place (result_kind i.result) reply (state g Away l.callers t)) (frame_grows g l next scratch stack s t a.0.grows kept.locals a.1)))
 
-    asks_runs : (next : ℕ) (stack words : List ℕ) (s : meaning.State) (k : ℕ) (site : Site) (i : erased.Import) (few : Bool) → nat_lt s.depth 1000 ≡ few → slice_get g.program.imports k ≡ Some i → i.parameters ≡ length words → Here g l next (reverse words ++ stack) s → slice_get (code g l).ops next ≡ Some (ops.TaintedCall k site.place) → length stack < (code g l).stack → Leads (Resumes g l (next + 1) stack) (Finishes g) (meanings.asked (entered_if few s.world) s (λ _ u. meanings.asked (touch (Passed k words) u.world) u (λ _ v. passed m i site v)))
+    asks_runs : (next : ℕ) (stack words : List ℕ) (s : meaning.State) (k : ℕ) (site : Site) (i : Import) (few : Bool) → nat_lt s.depth 1000 ≡ few → slice_get g.program.imports k ≡ Some i → i.parameters ≡ length words → Here g l next (reverse words ++ stack) s → slice_get (code g l).ops next ≡ Some (ops.TaintedCall k site.place) → length stack < (code g l).stack → Leads (Resumes g l (next + 1) stack) (Finishes g) (meanings.asked (entered_if few s.world) s (λ _ u. meanings.asked (touch (Passed k words) u.world) u (λ _ v. passed m i site v)))
     asks_runs next stack words s k site i false test there count here at room =
         let t = standing g l next here.scratch (reverse words ++ stack) s in
         last_move g t t (Stop S2 None) s here.reached (call_moves next here.scratch stack words s k site.place i false test there count here.kept at) (same_end g t.control l.callers s here.kept.blocks)
@@ -197,7 +197,7 @@ module _ (g : Execution) (l : Layout g) where
         (λ u v h. (record { acts = h.kept.acts; inputs = h.kept.inputs }, h.reached)))
         (λ u v h. passed_runs (next + 1) here.scratch stack (meaning.in_world v s) k site i there here.holds (kept_in g l s v here.kept h.0) room h.1)
 
-    cross_runs : (next : ℕ) (stack : List ℕ) (s : meaning.State) (k : ℕ) (site : Site) (i : erased.Import) (vs : List Value) (ws : Option (List ℕ)) → slice_get g.program.imports k ≡ Some i → i.parameters ≡ length vs → words_of vs ≡ ws → Here g l next (piled g s vs stack) s → HasAt (code g l).ops next (ops.Tick ∷ (ops.TaintedCall k site.place ∷ [])) → length stack < (code g l).stack → Leads (Resumes g l (next + 1 + 1) stack) (Finishes g) (cross (setting_of g.program g.settings) m k i site ws s)
+    cross_runs : (next : ℕ) (stack : List ℕ) (s : meaning.State) (k : ℕ) (site : Site) (i : Import) (vs : List Value) (ws : Option (List ℕ)) → slice_get g.program.imports k ≡ Some i → i.parameters ≡ length vs → words_of vs ≡ ws → Here g l next (piled g s vs stack) s → HasAt (code g l).ops next (ops.Tick ∷ (ops.TaintedCall k site.place ∷ [])) → length stack < (code g l).stack → Leads (Resumes g l (next + 1 + 1) stack) (Finishes g) (cross (setting_of g.program g.settings) m k i site ws s)
     cross_runs next stack s k site i vs None there count are here at room = tt
     cross_runs next stack s k site i vs (Some words) there count are here at room =
         let same = passed_words g s vs words are in
@@ -207,13 +207,13 @@ module _ (g : Execution) (l : Layout g) where
         (tick_runs g l next (reverse words ++ stack) s (subst (λ p. Here g l next p s) pile here) at.0)
         (λ _ w ticked. asks_runs (next + 1) stack words (meaning.in_world w s) k site i (nat_lt s.depth 1000) refl there many ticked at.1.0 room)
 
-    cross_if_runs : (next : ℕ) (stack : List ℕ) (s : meaning.State) (k : ℕ) (site : Site) (i : erased.Import) (vs : List Value) (yes : Bool) → (i.parameters == length vs) ≡ yes → slice_get g.program.imports k ≡ Some i → Here g l next (piled g s vs stack) s → HasAt (code g l).ops next (ops.Tick ∷ (ops.TaintedCall k site.place ∷ [])) → length stack < (code g l).stack → Leads (Resumes g l (next + 1 + 1) stack) (Finishes g) (cross_if yes (setting_of g.program g.settings) m k i site vs s)
+    cross_if_runs : (next : ℕ) (stack : List ℕ) (s : meaning.State) (k : ℕ) (site : Site) (i : Import) (vs : List Value) (yes : Bool) → (i.parameters == length vs) ≡ yes → slice_get g.program.imports k ≡ Some i → Here g l next (piled g s vs stack) s → HasAt (code g l).ops next (ops.Tick ∷ (ops.TaintedCall k site.place ∷ [])) → length stack < (code g l).stack → Leads (Resumes g l (next + 1 + 1) stack) (Finishes g) (cross_if yes (setting_of g.program g.settings) m k i site vs s)
     cross_if_runs next stack s k site i vs false test there here at room = tt
     cross_if_runs next stack s k site i vs true test there here at room =
         let count : i.parameters ≡ length vs = grind (arith, nat_tests) in
         cross_runs next stack s k site i vs (words_of vs) there count refl here at room
 
-    taken_runs : (next : ℕ) (stack : List ℕ) (s : meaning.State) (k : ℕ) (site : Site) (vs : List Value) (o : Option erased.Import) → slice_get g.program.imports k ≡ o → Here g l next (piled g s vs stack) s → HasAt (code g l).ops next (ops.Tick ∷ (ops.TaintedCall k site.place ∷ [])) → length stack < (code g l).stack → Leads (Resumes g l (next + 1 + 1) stack) (Finishes g) (call_tainted (setting_of g.program g.settings) m k o site vs s)
+    taken_runs : (next : ℕ) (stack : List ℕ) (s : meaning.State) (k : ℕ) (site : Site) (vs : List Value) (o : Option Import) → slice_get g.program.imports k ≡ o → Here g l next (piled g s vs stack) s → HasAt (code g l).ops next (ops.Tick ∷ (ops.TaintedCall k site.place ∷ [])) → length stack < (code g l).stack → Leads (Resumes g l (next + 1 + 1) stack) (Finishes g) (call_tainted (setting_of g.program g.settings) m k o site vs s)
     taken_runs next stack s k site vs None there here at room = tt
     taken_runs next stack s k site vs (Some i) there here at room = cross_if_runs next stack s k site i vs (i.parameters == length vs) refl there here at room
 

@@ -11,10 +11,10 @@ use Rattle.check_insertion.specs.Erased as erased
 use Rattle.ckc_core.specs.States.{Value, Grows, shapes, cell_at}
 use Rattle.ckc_core.specs.States as meaning
 use Rattle.ckc_core.specs.Steps.{Result, setting_of, truth, number_of_test, arithmetic_of, compared, negated, complemented, low_byte_of, same_place, test_given, pointer_to, load_at, called, result_given}
-use Rattle.check_insertion.specs.ErasedMeaning.{Knot, Setting, value, values, place, place_through, site_of}
+use Rattle.check_insertion.specs.ErasedMeaning.{Knot, Setting, value, values, place, pass, reached}
 use Rattle.code_words.specs.declared.op.Op.{Op}
 use Rattle.code_words.specs.declared.op.Op.TheVariants as ops
-use Rattle.lowering_code.specs.Code.{operator_code, load_code, through_code, offset_size, expression_size, arguments_size, place_size, expression_code, arguments_code, place_code, callee_code}
+use Rattle.lowering_code.specs.Code.{operator_code, load_code, through_code, through_size, expression_size, arguments_size, place_size, expression_code, arguments_code, place_code, callee_code}
 use Rattle.check_insertion.specs.Stacks.{expression_stack, arguments_stack, place_stack}
 use Rattle.lowering_code.proofs.Shapes.{kept_grows, word_grows}
 use Rattle.lowering_code.proofs.Executions.{Execution, word_of, IsKept}
@@ -116,9 +116,9 @@ module _ (g : Execution) where
           let last = load_code type ∷ [] in
           let end : m + 1 ≡ next + (place_size p + 1) = omega arith in
           evaluates_at g l (m + 1) (next + (place_size p + 1)) stack (value (setting g) k (erased.Load type p) s) end
-          (leads_on (Placed g l m stack) (Arrives g l (m + 1) stack) (Finishes g) (place (setting g) k p s) (load_at type (site_of p))
+          (leads_on (Placed g l m stack) (Arrives g l (m + 1) stack) (Finishes g) (place (setting g) k p s) (load_at type None)
           (place_runs p l next stack s here (has_front (code g l).ops next (place_code next p) last at) room (omega arith))
-          (λ at_cell t x. load_runs g l m stack t type (site_of p) at_cell x (has_back (code g l).ops next (place_code next p) last (place_size p) (length_place next p) at).0 (omega (arith, place_above p))))
+          (λ at_cell t x. load_runs g l m stack t type None at_cell x (has_back (code g l).ops next (place_code next p) last (place_size p) (length_place next p) at).0 (omega (arith, place_above p))))
       value_runs (erased.AddressOf p) l next stack s here at room low =
           let m = next + place_size p in
           leads_on (Placed g l m stack) (Arrives g l m stack) (Finishes g) (place (setting g) k p s) pointer_to
@@ -190,12 +190,12 @@ module _ (g : Execution) where
       -- the address of a cell
       pub place_runs : (p : erased.Place) (l : Layout g) (next : ℕ) (stack : List ℕ) (s : meaning.State) → Here g l next stack s → HasAt (code g l).ops next (place_code next p) → length stack + place_stack p ≤ (code g l).stack → next + place_size p < length (code g l).ops → Leads (Placed g l (next + place_size p) stack) (Finishes g) (place (setting g) k p s)
       place_runs (erased.Direct object offset) l next stack s here at room low = variable_runs g l next stack s object offset (cell_at s.blocks object offset) refl here at room
-      place_runs (erased.Through pointer offset site) l next stack s here at room low =
+      place_runs (erased.Through pointer index offset checks) l next stack s here at room low =
           let first = expression_code next pointer in
-          let last = through_code offset site in
+          let last = through_code index offset checks in
           let m = next + expression_size pointer in
-          let end : m + (1 + offset_size offset) ≡ next + (expression_size pointer + (1 + offset_size offset)) = omega arith in
-          subst (λ n. Leads (Placed g l n stack) (Finishes g) (place (setting g) k (erased.Through pointer offset site) s)) end
-          (leads_on (Arrives g l m stack) (Placed g l (m + (1 + offset_size offset)) stack) (Finishes g) (value (setting g) k pointer s) (place_through offset site)
+          let end : m + through_size index offset checks ≡ next + (expression_size pointer + through_size index offset checks) = omega arith in
+          subst (λ n. Leads (Placed g l n stack) (Finishes g) (place (setting g) k (erased.Through pointer index offset checks) s)) end
+          (leads_on (Arrives g l m stack) (Placed g l (m + through_size index offset checks) stack) (Finishes g) (value (setting g) k pointer s) (λ v t. and_then (pass checks v t) (λ _ u. reached index offset v u))
           (value_runs pointer l next stack s here (has_front (code g l).ops next first last at) (omega arith) (omega arith))
-          (λ v t x. through_runs g l m stack t offset site v x.1 x.0 (has_back (code g l).ops next first last (expression_size pointer) (length_expression next pointer) at) (omega arith)))
+          (λ v t x. through_runs g l m stack t index offset checks v x.1 x.0 (has_back (code g l).ops next first last (expression_size pointer) (length_expression next pointer) at) (omega arith)))

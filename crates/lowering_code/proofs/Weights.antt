@@ -1,16 +1,22 @@
 -- The code of a part has few instructions, by how many nodes the part has.
-use Rattle.std.proofs.Common.{ℕ, zero, suc, ◌+◌, ◌*◌, ◌^◌, ◌<◌, ◌≤◌, Bool, true, false, length, Option, Some, None, length-append, arith}
+use Rattle.std.proofs.Common.{ℕ, zero, suc, ◌+◌, ◌*◌, ◌^◌, ◌<◌, ◌≤◌, Bool, true, false, List, length, Option, Some, None, length-append, arith}
 use Rattle.pointer_modes.specs.Types.{CType}
+use Rattle.ckc_core.specs.declared.program.Index.{Index}
+use Rattle.ckc_core.specs.declared.program.Index.TheVariants as indexes
+use Rattle.check_insertion.specs.declared.erased.Check.{Check}
 use Rattle.check_insertion.specs.Erased as erased
 use Rattle.ckc_core.specs.Steps.{is_char}
 use Rattle.check_insertion.specs.Weights.{expression_weight, arguments_weight, place_weight, statement_weight, statements_weight}
-use Rattle.lowering_code.specs.Code.{offset_size, byte_size, expression_size, arguments_size, place_size, before_value_size, behind_value_size, statement_size, statements_size, statements_code, ending_code, body_places, function_ops}
+use Rattle.lowering_code.specs.Code.{offset_size, through_size, byte_size, expression_size, arguments_size, place_size, before_value_size, behind_value_size, statement_size, statements_size, statements_code, ending_code, body_places, function_ops}
 use Rattle.lowering_code.specs.Correct.{IsFunction}
 use Rattle.lowering_code.proofs.Sizes.{length_statements}
 
 offset_short : (n : ℕ) → offset_size n ≤ 2
 offset_short zero = omega arith
 offset_short (suc n) = omega arith
+
+through_short : (index : Index) (offset : ℕ) (checks : List Check) → through_size index offset checks ≤ length checks + 2
+through_short indexes.First offset checks = omega (arith, offset_short offset)
 
 byte_short : (char : Bool) → byte_size char ≤ 1
 byte_short true = omega arith
@@ -41,11 +47,11 @@ mutual
 
   place_short : (p : erased.Place) → place_size p ≤ 6 * place_weight p
   place_short (erased.Direct object offset) = omega (arith, offset_short offset)
-  place_short (erased.Through pointer offset site) = omega (arith, expression_short pointer, offset_short offset)
+  place_short (erased.Through pointer index offset checks) = omega (arith, expression_short pointer, through_short index offset checks)
 
 around_short : (p : erased.Place) → before_value_size p + behind_value_size p ≤ 6 * place_weight p
 around_short (erased.Direct object offset) = omega (arith, offset_short offset)
-around_short (erased.Through pointer offset site) = omega (arith, expression_short pointer, offset_short offset)
+around_short (erased.Through pointer index offset checks) = omega (arith, expression_short pointer, through_short index offset checks)
 
 mutual
   statement_short : (x : erased.Statement) → statement_size x ≤ 6 * statement_weight x

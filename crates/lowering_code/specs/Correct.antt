@@ -99,7 +99,7 @@ counted_from offset [] = offset
 counted_from offset (cells ∷ objects) = counted_from (grown offset (sum (map (λ (i : Initial). i.stride) cells))) objects
 
 -- the program is small enough to be lowered, and its numbers have 32 bits
-pub record IsLowerable (program : Core) : Type 0 where
+pub record IsLowerable (program : Erased) : Type 0 where
   pub cells : All (λ cells. All IsCell cells × (0 < length cells)) program.objects
   pub objects : counted_from first_offset program.objects ≤ 65536
   -- no tainted function has more parameters than can be passed, and none gives a pointer back
@@ -111,7 +111,7 @@ pub record IsLowerable (program : Core) : Type 0 where
   pub main : (f : Function) × (slice_get program.functions program.main ≡ Some f) × (f.parameters ≡ 0)
 
 -- wherever the program's run over inputs and acts ends, so does the image's, at every base address
-pub record KeepsMeaning (program : Core) (image : Image) : Type 0 where
+pub record KeepsMeaning (program : Erased) (image : Image) : Type 0 where
   pub format : KeepsFormat image
   pub fits : (settings : Settings) → AreAllowed settings → Fits image settings
   pub ends : (settings : Settings) (inputs : List ℤ) (acts : List Act) (ending : Ending) (s : meaning_states.State) → AreAllowed settings

@@ -35,7 +35,7 @@ ending_of (Unfinished s) = None
 ending_of (Finished ending s) = Some ending
 
 -- how the code of a program whose first function is `main` ends within 200 moves
-abbrev pub ends : Core → ℕ → Ending → Type 0
+abbrev pub ends : Erased → ℕ → Ending → Type 0
 ends program budget ending = ending_of (exec (image_of program) (settings budget) 200 (before (image_of program))) ≡ Some ending
 
 abbrev held : Option State → List Shown
@@ -43,7 +43,7 @@ held None = []
 held (Some s) = blocks_held s
 
 -- the blocks behind the run
-abbrev pub holds : Core → List Shown → Type 0
+abbrev pub holds : Erased → List Shown → Type 0
 holds program shown = held (last (exec (image_of program) (settings 100) 200 (before (image_of program)))) ≡ shown
 
 abbrev pub shown_members : List Shown

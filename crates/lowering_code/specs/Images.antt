@@ -2,7 +2,9 @@
 use Rattle.std.specs.Prelude.{ℕ, suc, ◌+◌, ◌-◌, Bool, true, false, List, [], ◌∷◌, ◌++◌, length, flat_map, map, replicate, Some}
 use Rattle.std.specs.Int.{to_le_bytes, w8, w32}
 use Rattle.act_words.specs.Numbers.{word}
-use Rattle.check_insertion.specs.Erased as erased
+use Rattle.ckc_core.specs.Programs.{Initial}
+use Rattle.ckc_core.specs.Programs as programs
+use Rattle.check_insertion.specs.Erased.{Erased, Function}
 use Rattle.ckc_core.specs.Steps.{is_char}
 use Rattle.code_words.specs.Functions.{Func, Import}
 use Rattle.code_words.specs.declared.image.Image.{Image}
@@ -18,15 +20,15 @@ abbrev pub padded : ℕ → List ℕ → List ℕ
 padded size bytes = bytes ++ replicate (size - length bytes) 0
 
 -- the bytes of a cell up to the next one: its word, and zeros
-abbrev pub cell_bytes : erased.Initial → List ℕ
+abbrev pub cell_bytes : Initial → List ℕ
 cell_bytes i = padded i.stride (word_bytes_if (is_char i.type) (word i.number))
 
 -- the bytes of a file-level variable
-abbrev pub object_bytes : List erased.Initial → List ℕ
+abbrev pub object_bytes : List Initial → List ℕ
 object_bytes cells = flat_map cell_bytes cells
 
 -- a function, whose scratch slot stands behind its locals
-abbrev pub function_code : ℕ → erased.Function → Func
+abbrev pub function_code : ℕ → Function → Func
 function_code number f =
     record {
       number = number;
@@ -38,20 +40,20 @@ function_code number f =
       ops = function_ops f;
     }
 
-abbrev pub import_code : ℕ → erased.Import → Import
+abbrev pub import_code : ℕ → programs.Import → Import
 import_code number i = record { number = number; name = i.name; args = i.parameters; result = result_kind i.result }
 
 -- functions, of which the first has this number
-abbrev pub functions_from : ℕ → List erased.Function → List Func
+abbrev pub functions_from : ℕ → List Function → List Func
 functions_from number [] = []
 functions_from number (f ∷ functions) = function_code number f ∷ functions_from (suc number) functions
 
-abbrev pub imports_from : ℕ → List erased.Import → List Import
+abbrev pub imports_from : ℕ → List programs.Import → List Import
 imports_from number [] = []
 imports_from number (i ∷ imports) = import_code number i ∷ imports_from (suc number) imports
 
 -- the whole program
-abbrev pub image_of : erased.Core → Image
+abbrev pub image_of : Erased → Image
 image_of program =
     record {
       trusted = record { blocks = map object_bytes program.objects; funs = functions_from 0 program.functions };

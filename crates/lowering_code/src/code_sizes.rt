@@ -5,8 +5,9 @@ ghost use Rattle.std.specs.Prelude.{◌≡◌, ◌+◌, ◌^◌, ◌≤◌};
 ghost use Rattle.check_insertion.specs.Erased.{expression, place, arguments_of, statement, statements_of};
 ghost use Rattle.lowering_code.specs.Code as code;
 
+use check_insertion::erased::{CellPlace, Check, Expr, Stmt};
 use ckc_core::char_cells::has_one_byte;
-use check_insertion::erased::{CellPlace, Expr, Stmt};
+use ckc_core::program::Index;
 
 // The size of what adds an offset to an address.
 fn offset_size(offset: u32) -> u32
@@ -23,6 +24,16 @@ fn byte_size(char: bool) -> u32
     ensures { result ≡ code.byte_size char }
 {
     if char { 1 } else { 0 }
+}
+
+// The size of what makes an address of the pointer on the stack, with the pointer's checks.
+fn through_size(index: Index, offset: u32, checks: &[Check]) -> u32
+    requires { code.through_size index offset checks.now ≤ 2 ^ 31 }
+    ensures { result ≡ code.through_size index offset checks.now }
+{
+    match index {
+        Index::First => checks.len() as u32 + offset_size(offset),
+    }
 }
 
 /// The size of an expression's code.
@@ -72,9 +83,10 @@ fn place_size(cell: &CellPlace) -> u32
         CellPlace::Direct { offset, .. } => 1 + offset_size(*offset),
         CellPlace::Through {
             pointer,
+            index,
             offset,
-            ..
-        } => expression_size(pointer) + 1 + offset_size(*offset),
+            checks,
+        } => expression_size(pointer) + through_size(*index, *offset, checks.as_slice()),
     }
 }
 
@@ -87,9 +99,13 @@ fn store_size(cell: &CellPlace, value: u32) -> u32
         CellPlace::Direct { offset, .. } => 1 + offset_size(*offset) + value + 1,
         CellPlace::Through {
             pointer,
+            index,
             offset,
-            ..
-        } => expression_size(pointer) + value + 4 + offset_size(*offset),
+            checks,
+        } => {
+            let through = through_size(*index, *offset, checks.as_slice());
+            expression_size(pointer) + value + 3 + through
+        }
     }
 }
 

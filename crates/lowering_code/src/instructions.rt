@@ -7,6 +7,7 @@ ghost use Rattle.code_words.specs.declared.op.Op.TheVariants as ops_of;
 ghost use Rattle.lowering_code.specs.Code as code;
 
 use act_words::operator::Operator;
+use check_insertion::erased::Check;
 use ckc_core::char_cells::has_one_byte;
 use ckc_core::program::{Callee, Site};
 use ckc_text::fault::NoMemory;
@@ -36,6 +37,15 @@ pub fn callee_op(callee: Callee) -> Op
             import,
             place: site.place,
         },
+    }
+}
+
+/// The instruction that checks the pointer on the stack.
+pub fn check_op(check: Check) -> Op
+    ensures { result ≡ code.check_code check }
+{
+    match check {
+        Check::NotNull { site } => Op::NonNull { place: site.place },
     }
 }
 

@@ -13,6 +13,7 @@ ghost use Rattle.ckc_core.specs.States.{State};
 ghost use Rattle.act_words.specs.declared.ending.Ending.TheVariants.{Exit, Stop};
 ghost use Rattle.ckc_text.specs.declared.code.Code.TheVariants.{S1};
 ghost use Rattle.check_insertion.specs.Erased.{Erased, Function};
+ghost use Rattle.check_insertion.specs.Insert.{inserted};
 ghost use Rattle.ckc_core.specs.Examples.{first_run, counting, members};
 ghost use Rattle.lowering_code.specs.Images.{image_of};
 ghost use Rattle.lowering_code.specs.Code.{function_ops};
@@ -21,13 +22,13 @@ ghost use Rattle.lowering_code.specs.Examples.{ends, holds, shown_members};
 
 /// The code of a program does what the program means, under all settings and over all inputs and acts.
 pub fn code_keeps_meaning()
-    ensures { (program : Core) → IsLowerable program → KeepsMeaning program (image_of program) }
+    ensures { (program : Erased) → IsLowerable program → KeepsMeaning program (image_of program) }
 {}
 
 /// The code of a program shows nothing of its base address: over inputs and acts over which the program's meaning ends, the
 /// ending, the output, the acts that are taken, the releases and the view are the same at every two.
 pub fn bases_agree()
-    ensures { (program : Core) (settings : Settings) (inputs : List ℤ) (acts : List Act) (ending : Ending) (s : State)
+    ensures { (program : Erased) (settings : Settings) (inputs : List ℤ) (acts : List Act) (ending : Ending) (s : State)
         → IsLowerable program → AreAllowed settings → All (λ z. IsTrue (is_word_number z)) inputs → All IsAct acts
         → meaning program settings inputs acts ≡ Ends ending s → AgreesAtBases (image_of program) settings inputs acts }
 {}
@@ -39,9 +40,9 @@ pub fn short_code()
 
 /// Small programs as code, with what the code does.
 pub fn examples()
-    ensures first_run { ends first_run 100 (Exit (pos 42)) }
-    ensures turns { ends counting 3 (Exit (pos 3)) }
-    ensures budget { ends counting 2 (Stop S1 None) }
-    ensures members { ends members 100 (Exit (pos 51)) }
-    ensures blocks { holds members shown_members }
+    ensures first_run { ends (inserted first_run) 100 (Exit (pos 42)) }
+    ensures turns { ends (inserted counting) 3 (Exit (pos 3)) }
+    ensures budget { ends (inserted counting) 2 (Stop S1 None) }
+    ensures members { ends (inserted members) 100 (Exit (pos 51)) }
+    ensures blocks { holds (inserted members) shown_members }
 {}

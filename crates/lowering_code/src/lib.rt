@@ -1,4 +1,5 @@
-// What code a core becomes: the definition, the law that the code does what the program means, and the sizes of parts.
+// What code a program with its checks becomes: the definition, the law that the code does what the program means, and the
+// sizes of parts.
 #![tactic(auto)]
 
 pub mod code_sizes;

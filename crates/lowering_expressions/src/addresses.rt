@@ -6,9 +6,10 @@ ghost use Rattle.check_insertion.specs.Erased.{place as place_of};
 ghost use Rattle.lowering_code.specs.Code as code;
 
 use check_insertion::erased::{CellPlace, Check};
+use ckc_core::program::Index;
 use ckc_text::fault::NoMemory;
 use code_words::op::Op;
-use lowering_code::instructions::{put, put_two, store_op};
+use lowering_code::instructions::{check_op, put, put_two, store_op};
 use pointer_modes::ctype::CType;
 
 // Adds an offset to the address on the stack.
@@ -29,15 +30,32 @@ pub fn emit_address(ops: &mut Vec<Op>, object: u32, offset: u32) -> Result<(), N
     emit_offset(ops, offset)
 }
 
-/// The address of a cell behind the pointer on the stack, which isn't null.
-pub fn emit_through(ops: &mut Vec<Op>, offset: u32, site: Site) -> Result<(), NoMemory>
-    ensures { OnOk result (ops.new.items ≡ ops.old.items ++ code.through_code offset site) }
+// The checks of the pointer on the stack, one after the other.
+fn emit_checks(ops: &mut Vec<Op>, checks: &[Check]) -> Result<(), NoMemory>
+    ensures { OnOk result (ops.new.items ≡ ops.old.items ++ code.checks_code checks.now) }
 {
-    put(ops, Op::NonNull { place: site.place })?;
-    emit_offset(ops, offset)
+    for check in checks {
+        put(ops, check_op(*check))?;
+    }
+    Ok(())
 }
 
-/// What follows the value: the check of the pointer, while the value is kept in the scratch slot.
+/// The address of a cell of an element that the pointer on the stack leads to, behind its checks.
+pub fn emit_through(
+    ops: &mut Vec<Op>,
+    index: Index,
+    offset: u32,
+    checks: &[Check],
+) -> Result<(), NoMemory>
+    ensures { OnOk result (ops.new.items ≡ ops.old.items ++ code.through_code index offset checks.now) }
+{
+    emit_checks(ops, checks)?;
+    match index {
+        Index::First => emit_offset(ops, offset),
+    }
+}
+
+/// What follows the value: the checks of the pointer, while the value is kept in the scratch slot.
 pub fn emit_behind_value(
     ops: &mut Vec<Op>,
     scratch: u32,
@@ -48,9 +66,14 @@ pub fn emit_behind_value(
 {
     match cell {
         CellPlace::Direct { .. } => put(ops, store_op(ctype)),
-        CellPlace::Through { offset, site, .. } => {
+        CellPlace::Through {
+            index,
+            offset,
+            checks,
+            ..
+        } => {
             put(ops, Op::Set(scratch))?;
-            emit_through(ops, *offset, *site)?;
+            emit_through(ops, *index, *offset, checks.as_slice())?;
             put_two(ops, Op::Local(scratch), store_op(ctype))
         }
     }

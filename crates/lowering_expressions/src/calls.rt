@@ -3,7 +3,7 @@
 ghost use Rattle.std.specs.Prelude.{◌≡◌, ◌<◌, ◌∷◌, [], ◌++◌, length, slice_get, Some, OnOk};
 ghost use Rattle.code_words.specs.declared.op.Op.TheVariants as ops_of;
 
-use ckc_core::program::Expr;
+use check_insertion::erased::Expr;
 use ckc_text::fault::NoMemory;
 use code_words::op::Op;
 use lowering_code::instructions::put_two;

@@ -143,11 +143,23 @@ pub fn emit_place(ops: &mut Vec<Op>, cell: &CellPlace) -> Result<(), NoMemory>
         CellPlace::Direct { object, offset } => emit_address(ops, *object, *offset),
         CellPlace::Through {
             pointer,
+            index,
             offset,
-            site,
+            checks,
         } => {
             emit_expression(ops, pointer)?;
-            emit_through(ops, *offset, *site)
+            emit_through(ops, *index, *offset, checks.as_slice())
         }
+    }
+}
+
+/// What a store has before its value: the address of its cell, or the pointer, whose checks come behind the value.
+pub fn emit_before_value(ops: &mut Vec<Op>, cell: &CellPlace) -> Result<(), NoMemory>
+    requires { length ops.old.items + code.before_value_size (place_of cell.now) ≤ 2 ^ 31 }
+    ensures { OnOk result (ops.new.items ≡ ops.old.items ++ code.before_value (length ops.old.items) (place_of cell.now)) }
+{
+    match cell {
+        CellPlace::Direct { object, offset } => emit_address(ops, *object, *offset),
+        CellPlace::Through { pointer, .. } => emit_expression(ops, pointer),
     }
 }

@@ -16,6 +16,6 @@ invariant_of-result c =
     subst (All IsImport) (c.in_ok-imports.ensures.code ∙ ap (λ fs. imports_from 0 (map import_of fs)) c.as_slice-3.ensures.value) c.in_ok-imports.ensures.tainted in
     rw (c.in_ok-blocks.ensures, c.as_slice.ensures.value, c.in_ok-funs.ensures.code, c.as_slice-2.ensures.value, c.in_ok-imports.ensures.code, c.as_slice-3.ensures.value, c.from_vec.ensures, c.new.ensures.items, c.from_vec-2.ensures, c.new-2.ensures.items, c.from_vec-3.ensures, c.new-3.ensures.items)
     (record {
-      format = keeps_format (core c.args.program.now) c.requires;
+      format = keeps_format (erased c.args.program.now) c.requires;
       names = record { functions = λ k d low. (funs k d low).named; bodies = All-nil _; imports = λ k d low. (imports k d low).named };
     })

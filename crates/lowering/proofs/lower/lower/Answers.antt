@@ -7,4 +7,4 @@ use Rattle.lowering.proofs.lower.lower.Goals as goal
 
 pub returns-clause-meaning : goal.returns-clause-meaning
 returns-clause-meaning c =
-    IfOk-weaker c.emit_image.result _ _ (λ image e. subst (KeepsMeaning (core c.args.program.now)) (sym e) (image_keeps (core c.args.program.now) c.requires)) c.emit_image.ensures
+    IfOk-weaker c.emit_image.result _ _ (λ image e. subst (KeepsMeaning (erased c.args.program.now)) (sym e) (image_keeps (erased c.args.program.now) c.requires)) c.emit_image.ensures
