@@ -16,7 +16,7 @@ use Rattle.ckc_core.specs.Programs.{Import}
 use Rattle.ckc_core.specs.Core as core
 use Rattle.ckc_core.specs.States.{Value, Number, Null, At, State}
 use Rattle.ckc_core.specs.Bounds.{Pointed, with_ends}
-use Rattle.ckc_core.specs.Steps.{Result, Flow, Next, setting_of, given, place_at, load_at, pointer_to, truth, number_of_test, same_place, test_given, arithmetic_of, compared, negated, complemented, low_byte_of, words_of, reply_as, back, passed, cross, cross_if, call_tainted, crossed, fit, parameters_of, takes, enter_if, called, result_given, store_at, set_local, kept_if, is_char, printed, put, on_next, behind_turn, no_result, answer, locals_for, exit, initial}
+use Rattle.ckc_core.specs.Steps.{Result, Flow, Next, setting_of, given, place_at, variable_at, load_at, pointer_to, truth, number_of_test, same_place, test_given, arithmetic_of, compared, negated, complemented, low_byte_of, words_of, reply_as, back, passed, cross, cross_if, call_tainted, crossed, fit, parameters_of, takes, enter_if, called, result_given, store_at, set_local, kept_if, is_char, printed, put, on_next, behind_turn, no_result, answer, locals_for, exit, initial}
 use Rattle.ckc_core.specs.Meaning as meaning
 use Rattle.ckc_core.specs.Meaning.{audit, site_of, bounds_of, without_ends, place_from, pointed, reached}
 use Rattle.check_insertion.specs.ErasedMeaning as erased
@@ -132,7 +132,7 @@ module _ (audited : Bool) (program : core.Core) (settings : Settings) where
           (λ v t. on (meaning.values audited g k rest t) (erased.values g' k' (insert.arguments_of rest) t) _ _ (values_on rest t) (λ vs u. refl))
 
       place_on : (p : core.Place) (s : State) → Follows (meaning.place audited g k p s) (erased.place g' k' (insert.place p) s)
-      place_on (core.Direct object offset) s = same (place_at None object offset s)
+      place_on (core.Direct object offset) s = same (variable_at g object offset s)
       place_on (core.Through pointer index offset site) s =
           on (meaning.value audited g k pointer s) (erased.value g' k' (insert.expression pointer) s) _ _ (value_on pointer s)
           (λ v t. reached_on index offset site (with_ends (bounds_of pointer) v t.locals) v t (ends_aside (bounds_of pointer) v t))
@@ -143,7 +143,7 @@ module _ (audited : Bool) (program : core.Core) (settings : Settings) where
     bare p = p.value
 
     pointer_on : (p : core.Place) (s : State) → FollowsBy bare (meaning.pointer_of audited g k p s) (erased.pointer_of g' k' (insert.place p) s)
-    pointer_on (core.Direct object offset) s = direct (place_at None object offset s)
+    pointer_on (core.Direct object offset) s = direct (variable_at g object offset s)
       where
         direct : (o : Result (ℕ × ℕ)) → FollowsBy bare (and_then o (λ place t. Gives (without_ends place) t)) (and_then o pointer_to)
         direct (Gives place t) = refl

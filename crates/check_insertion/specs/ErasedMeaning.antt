@@ -13,7 +13,7 @@ use Rattle.ckc_core.specs.declared.program.Index.{Index}
 use Rattle.ckc_core.specs.declared.program.Index.TheVariants as indexes
 use Rattle.ckc_core.specs.Outcome.{Gives, Ends, Stuck, Short, and_then}
 use Rattle.ckc_core.specs.States.{Value, Number, Null, At, State}
-use Rattle.ckc_core.specs.Steps.{Result, Flow, Next, Broke, Continued, Returned, KnotOf, SettingOf, setting_of, given, value_if, place_at, load_at, pointer_to}
+use Rattle.ckc_core.specs.Steps.{Result, Flow, Next, Broke, Continued, Returned, KnotOf, SettingOf, setting_of, given, value_if, place_at, variable_at, load_at, pointer_to}
 use Rattle.ckc_core.specs.Steps.{truth, number_of_test, same_place, test_given, arithmetic_of, compared, negated, complemented, low_byte_of, asked, crossed}
 use Rattle.ckc_core.specs.Steps.{back, called, result_given, choose, store_at, set_local, kept_if, is_char, printed, put, on_next, behind_turn, no_result}
 use Rattle.ckc_core.specs.Steps.{fit, parameters_of, answer, locals_for, exit, initial}
@@ -82,13 +82,13 @@ abbrev mutual
 
   -- where a cell stands
   pub place : Setting → Knot → erased.Place → State → Result (ℕ × ℕ)
-  place g k (erased.Direct object offset) s = place_at None object offset s
+  place g k (erased.Direct object offset) s = variable_at g object offset s
   place g k (erased.Through pointer index offset checks) s =
       and_then (value g k pointer s) (λ v t. and_then (pass checks v t) (λ _ u. reached index offset v u))
 
 -- A store evaluates its pointer, then its value, and makes its checks behind both. A file-level variable is there before.
 abbrev pub pointer_of : Setting → Knot → erased.Place → State → Result Value
-pointer_of g k (erased.Direct object offset) s = and_then (place_at None object offset s) pointer_to
+pointer_of g k (erased.Direct object offset) s = and_then (variable_at g object offset s) pointer_to
 pointer_of g k (erased.Through pointer index offset checks) s = value g k pointer s
 
 abbrev pub place_from : erased.Place → Value → State → Result (ℕ × ℕ)

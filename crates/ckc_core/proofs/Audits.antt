@@ -15,7 +15,7 @@ use Rattle.ckc_core.specs.Programs.{Import}
 use Rattle.ckc_core.specs.Core as core
 use Rattle.ckc_core.specs.States.{Value, State, in_world}
 use Rattle.ckc_core.specs.Bounds.{with_ends, is_valid}
-use Rattle.ckc_core.specs.Steps.{Result, Flow, Next, Broke, Continued, Returned, setting_of, given, place_at, load_at, pointer_to, truth, same_place, test_given, arithmetic_of, compared, negated, complemented, low_byte_of, words_of, reply_as, back, passed, cross, cross_if, call_tainted, crossed, fit, parameters_of, takes, enter_if, called, result_given, choose, store_at, set_local, kept_if, is_char, printed, put, on_next, behind_turn, no_result, answer, locals_for, exit, initial, asked}
+use Rattle.ckc_core.specs.Steps.{Result, Flow, Next, Broke, Continued, Returned, setting_of, given, variable_at, load_at, pointer_to, truth, same_place, test_given, arithmetic_of, compared, negated, complemented, low_byte_of, words_of, reply_as, back, passed, cross, cross_if, call_tainted, crossed, fit, parameters_of, takes, enter_if, called, result_given, choose, store_at, set_local, kept_if, is_char, printed, put, on_next, behind_turn, no_result, answer, locals_for, exit, initial, asked}
 use Rattle.ckc_core.specs.Meaning.{Knot, Setting, sound_if, audit, site_of, bounds_of, place_from, pointer_of, reached, value, values, place, effect, effects, body_if, body_of, knot, run_from}
 use Rattle.ckc_core.specs.Audits.{Agrees, AuditChangesNothing}
 
@@ -157,7 +157,7 @@ module _ (program : core.Core) (settings : Settings) where
           (λ v t. on (values true g k rest t) (values false g k' rest t) _ _ (values_on rest t) (λ vs u. refl))
 
       place_on : (p : core.Place) (s : State) → Agrees (place true g k p s) (place false g k' p s)
-      place_on (core.Direct object offset) s = same (place_at None object offset s)
+      place_on (core.Direct object offset) s = same (variable_at g object offset s)
       place_on (core.Through pointer index offset site) s =
           on (value true g k pointer s) (value false g k' pointer s) _ _ (value_on pointer s)
           (λ v t. same (reached index offset site (with_ends (bounds_of pointer) v t.locals) t))

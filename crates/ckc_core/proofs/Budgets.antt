@@ -22,7 +22,7 @@ use Rattle.ckc_core.specs.declared.program.PointerBounds.{PointerBounds}
 use Rattle.ckc_core.specs.Bounds.{Pointed, with_ends, is_valid}
 use Rattle.ckc_core.specs.Core as core
 use Rattle.ckc_core.specs.States.{Value, Number, Null, At, Cell, Local, State, in_world, cell_at, same_type, has_type}
-use Rattle.ckc_core.specs.Steps.{Result, Flow, Next, Broke, Continued, Returned, given, checked, value_if, value_in, load_at, place_if, pointer_to, truth, same_place, test_given, result_of, arithmetic_of, compared, negated, complemented, low_byte_of, asked, words_of, reply_as, passed, cross, cross_if, call_tainted, crossed, takes, enter_if, call_trusted, called, result_given, choose, store_if, store_over, store_at, set_local, kept_if, is_char, printed, put, on_next, behind_turn, no_result, answer, locals_for, back, exit, initial, place_at, set_if, set_over, leaves_zero, fit, parameters_of, fits_result, answer_if}
+use Rattle.ckc_core.specs.Steps.{variable_if, variable_at, Result, Flow, Next, Broke, Continued, Returned, given, checked, value_if, value_in, load_at, place_if, pointer_to, truth, same_place, test_given, result_of, arithmetic_of, compared, negated, complemented, low_byte_of, asked, words_of, reply_as, passed, cross, cross_if, call_tainted, crossed, takes, enter_if, call_trusted, called, result_given, choose, store_if, store_over, store_at, set_local, kept_if, is_char, printed, put, on_next, behind_turn, no_result, answer, locals_for, back, exit, initial, place_at, set_if, set_over, leaves_zero, fit, parameters_of, fits_result, answer_if}
 use Rattle.ckc_core.specs.Meaning.{Knot, bounds_of, Setting, audit, body_if, body_of, effect, effects, element, knot, run_of, place, place_from, pointed, pointer_of, reached, site_of, sound_if, value, values}
 use Rattle.ckc_core.proofs.Ticks.{HasSpent, Answers, Crosses, tick_answers, enter_answers, touch_answers, until_crosses, next_answers}
 
@@ -83,6 +83,10 @@ module _ (budget : ℕ) where
 
     direct_goes : (site : Option Site) (block byte : ℕ) → Goes budget low (place_at site block byte s)
     direct_goes site block byte = placed_goes (cell_at s.blocks block byte) site block byte
+
+    variable_goes : (test : Bool) (object offset : ℕ) → Goes budget low (variable_if test object offset s)
+    variable_goes true object offset = direct_goes None object offset
+    variable_goes false object offset = tt
 
     element_goes : (offset : ℕ) (site : Site) (v : Value) → Goes budget low (element offset site v s)
     element_goes offset site (Number z) = tt
@@ -309,7 +313,7 @@ module _ (budget : ℕ) where
             (λ v t t_spent. goes_on low (values audited g k rest t) _ (values_go rest low enough t t_spent) (λ vs u u_spent. u_spent))
 
         place_goes : (p : core.Place) (low : ℕ) (enough : budget ≤ low + n) (s : State) → HasSpent budget low s.world → Goes budget low (place audited g k p s)
-        place_goes (core.Direct object offset) low enough s spent = direct_goes low s spent None object offset
+        place_goes (core.Direct object offset) low enough s spent = variable_goes low s spent (nat_lt object (length program.objects)) object offset
         place_goes (core.Through pointer index offset site) low enough s spent =
             goes_on low (value audited g k pointer s) _ (value_goes pointer low enough s spent)
             (λ v t t_spent. reached_goes low t t_spent index offset site (with_ends (bounds_of pointer) v t.locals))
@@ -318,7 +322,7 @@ module _ (budget : ℕ) where
       pointed_goes e low enough s spent = goes_on low (value audited g k e s) _ (value_goes e low enough s spent) (λ v t t_spent. t_spent)
 
       pointer_goes : (p : core.Place) (low : ℕ) (enough : budget ≤ low + n) (s : State) → HasSpent budget low s.world → Goes budget low (pointer_of audited g k p s)
-      pointer_goes (core.Direct object offset) low enough s spent = goes_on low (place_at None object offset s) _ (direct_goes low s spent None object offset) (λ at t t_spent. t_spent)
+      pointer_goes (core.Direct object offset) low enough s spent = goes_on low (variable_at g object offset s) _ (variable_goes low s spent (nat_lt object (length program.objects)) object offset) (λ at t t_spent. t_spent)
       pointer_goes (core.Through pointer index offset site) low enough s spent = pointed_goes pointer low enough s spent
 
       -- ---- statements

@@ -18,7 +18,7 @@ use Rattle.ckc_core.specs.Outcome.{Gives, Ends, Stuck, Unsound, Short, and_then}
 use Rattle.ckc_core.specs.Core as core
 use Rattle.ckc_core.specs.States.{Value, Number, Null, At, State}
 use Rattle.ckc_core.specs.Bounds.{Pointed, with_ends, is_valid}
-use Rattle.ckc_core.specs.Steps.{Result, Flow, Next, Broke, Continued, Returned, KnotOf, SettingOf, setting_of, given, value_if, place_at, load_at, pointer_to}
+use Rattle.ckc_core.specs.Steps.{Result, Flow, Next, Broke, Continued, Returned, KnotOf, SettingOf, setting_of, given, value_if, place_at, variable_at, load_at, pointer_to}
 use Rattle.ckc_core.specs.Steps.{truth, number_of_test, same_place, test_given, arithmetic_of, compared, negated, complemented, low_byte_of, asked, crossed}
 use Rattle.ckc_core.specs.Steps.{back, called, result_given, choose, store_at, set_local, kept_if, is_char, printed, put, on_next, behind_turn, no_result}
 use Rattle.ckc_core.specs.Steps.{fit, parameters_of, answer, locals_for, exit, initial}
@@ -110,7 +110,7 @@ abbrev mutual
 
   -- where a cell stands
   pub place : Bool → Setting → Knot → core.Place → State → Result (ℕ × ℕ)
-  place audited g k (core.Direct object offset) s = place_at None object offset s
+  place audited g k (core.Direct object offset) s = variable_at g object offset s
   place audited g k (core.Through pointer index offset site) s =
       and_then (value audited g k pointer s) (λ v t. reached index offset site (with_ends (bounds_of pointer) v t.locals) t)
 
@@ -120,7 +120,7 @@ pointed audited g k e s = and_then (value audited g k e s) (λ v t. Gives (with_
 
 -- A store evaluates its pointer, then its value, and makes its checks behind both. A file-level variable is there before.
 abbrev pub pointer_of : Bool → Setting → Knot → core.Place → State → Result Pointed
-pointer_of audited g k (core.Direct object offset) s = and_then (place_at None object offset s) (λ place t. Gives (without_ends place) t)
+pointer_of audited g k (core.Direct object offset) s = and_then (variable_at g object offset s) (λ place t. Gives (without_ends place) t)
 pointer_of audited g k (core.Through pointer index offset site) s = pointed audited g k pointer s
 
 abbrev pub place_from : core.Place → Pointed → State → Result (ℕ × ℕ)

@@ -94,6 +94,14 @@ load_at type site place s = value_in type site (cell_at s.blocks place.0 place.1
 abbrev pub pointer_to : ℕ × ℕ → State → Result Value
 pointer_to place s = Gives (At place.0 place.1) s
 
+abbrev pub variable_if : Bool → ℕ → ℕ → State → Result (ℕ × ℕ)
+variable_if true object offset s = place_at None object offset s
+variable_if false object offset s = Stuck None s
+
+-- a place in a file-level variable, which is one of the program's: blocks that are added behind these are no variables
+abbrev pub variable_at : {Body : Type 0} → SettingOf Body → (object offset : ℕ) → State → Result (ℕ × ℕ)
+variable_at g object offset s = variable_if (nat_lt object (length g.program.objects)) object offset s
+
 -- a scalar as a condition: a number that isn't 0, or a pointer that isn't null
 abbrev pub truth : Value → Bool
 truth (Number number) = not (arithmetic.is_zero number)

@@ -103,7 +103,6 @@ pub record KeptBlocks (g : Execution) (blocks : List Block) : Type 0 where
   pub cells : AllByRecursion (KeptCells (shapes blocks)) blocks
   pub fits : end_from first_offset (shapes blocks) ≤ g.settings.trusted
   pub grows : Grows (variables g) (shapes blocks)
-  pub only : length blocks ≡ length g.program.objects
 
 -- words of local variables stay where blocks are added
 pub slots_grow : (g : Execution) (before after : List Shape) (locals : List Local) → Grows before after → AreKeptBy before locals → slots_by g after locals ≡ slots_by g before locals

@@ -1,6 +1,6 @@
 -- Places: addresses, loads and stores of cells.
 use Rattle.std.proofs.Common.{◌≡◌, ℕ, zero, suc, ◌+◌, ◌-◌, ◌%◌, ◌^◌, ◌<◌, ◌≤◌, Bool, true, false, pos, negsuc, List, [], ◌∷◌, ◌++◌, length, map, replicate, Option, Some, None, refl, sym, ap, ◌∙◌, subst, arith, ⊎_elim, append_assoc, length-append}
-use Rattle.std.specs.Prelude.{slice_get, slice_set, nat_le, not, ◌&&◌, ◌==◌}
+use Rattle.std.specs.Prelude.{slice_get, slice_set, nat_lt, nat_le, not, ◌&&◌, ◌==◌}
 use Rattle.std.specs.Option.{option_and_then}
 use Rattle.std.proofs.lemmas.Bool.{cases_lt}
 use Rattle.std.proofs.lemmas.Bool.Decides.{nat_tests}
@@ -15,7 +15,7 @@ use Rattle.pointer_modes.specs.Types.{CType, Int, Char, Struct, Pointer}
 use Rattle.ckc_core.specs.declared.program.Site.{Site}
 use Rattle.ckc_core.specs.States.{Value, Number, Null, At, Cell, Block, strides, shape, shapes, number_at, cell_in, cell_at, object_block, same_type, has_type}
 use Rattle.ckc_core.specs.States as meaning
-use Rattle.ckc_core.specs.Steps.{value_if, value_in, place_if, place_at, load_at, truth, same_place, is_char}
+use Rattle.ckc_core.specs.Steps.{setting_of, value_if, value_in, place_if, place_at, variable_if, variable_at, load_at, truth, same_place, is_char}
 use Rattle.ckc_core.specs.Outcome.{and_then}
 use Rattle.ckc_core.specs.declared.program.Index.{Index}
 use Rattle.ckc_core.specs.declared.program.Index.TheVariants as indexes
@@ -37,7 +37,6 @@ use Rattle.lowering_code.proofs.Bytes.{word_behind, length_word, word_read}
 use Rattle.lowering_code.proofs.Memory.{with_cell, value_bytes, block_seam}
 use Rattle.lowering_code.proofs.Executions.{Execution, image, variables, word_of, tail, memory_by, memory, IsKept, KeptCell, KeptCells, KeptBlocks, variable_address, rooms_kept}
 use Rattle.lowering_code.proofs.Steps.{HasAt, has_front, has_back, Leads, leads_on, Finishes, Layout, code, frame, standing, Here, moved, pushes, ended, here_at, Arrives, Evaluates}
-use Rattle.lowering_code.proofs.Expressions.{index_below}
 
 -- ---- where a cell stands
 
@@ -193,12 +192,12 @@ module _ (g : Execution) (l : Layout g) where
       stack_least zero = omega arith
       stack_least (suc n) = omega arith
 
-  pub variable_runs : (next : ℕ) (stack : List ℕ) (s : meaning.State) (object offset : ℕ) (o : Option Cell) → cell_at s.blocks object offset ≡ o → Here g l next stack s → HasAt (code g l).ops next (address_code object offset) → length stack + offset_stack offset ≤ (code g l).stack → Leads (Placed (next + (1 + offset_size offset)) stack) (Finishes g) (place_if o None object offset s)
-  variable_runs next stack s object offset None is here at room = tt
-  variable_runs next stack s object offset (Some c) is here at room =
-      let f = cell_found s.blocks object offset c is in
-      let low : object < length g.program.objects = omega (arith, index_below s.blocks object f.holder f.there, here.kept.blocks.only) in
-      subst (λ o. Leads (Placed (next + (1 + offset_size offset)) stack) (Finishes g) (place_if o None object offset s)) is (direct_runs next stack s object offset low here at room)
+  variable_by : (next : ℕ) (stack : List ℕ) (s : meaning.State) (object offset : ℕ) (low : Bool) → nat_lt object (length g.program.objects) ≡ low → Here g l next stack s → HasAt (code g l).ops next (address_code object offset) → length stack + offset_stack offset ≤ (code g l).stack → Leads (Placed (next + (1 + offset_size offset)) stack) (Finishes g) (variable_if low object offset s)
+  variable_by next stack s object offset false test here at room = tt
+  variable_by next stack s object offset true test here at room = let low : object < length g.program.objects = grind (arith, nat_tests) in direct_runs next stack s object offset low here at room
+
+  pub variable_runs : (next : ℕ) (stack : List ℕ) (s : meaning.State) (object offset : ℕ) → Here g l next stack s → HasAt (code g l).ops next (address_code object offset) → length stack + offset_stack offset ≤ (code g l).stack → Leads (Placed (next + (1 + offset_size offset)) stack) (Finishes g) (variable_at (setting_of g.program g.settings) object offset s)
+  variable_runs next stack s object offset here at room = variable_by next stack s object offset (nat_lt object (length g.program.objects)) refl here at room
 
   -- a check of the pointer whose word lies on the stack, where it stays
   check_runs : (next : ℕ) (stack : List ℕ) (s : meaning.State) (c : Check) (v : Value) → IsKept s v → Here g l next (word_of g s v ∷ stack) s → slice_get (code g l).ops next ≡ Some (check_code c) → Leads (λ (u : Unit {0}) t. Arrives g l (next + 1) stack v t) (Finishes g) (check c v s)

@@ -242,7 +242,6 @@ module _ (program : Erased) (lowerable : IsLowerable program) (settings : Settin
         cells = objects_kept (variables run) program.objects (all_objects run);
         fits = omega (arith, variables_end run, allowed.least_trusted);
         grows = grows_none (variables run);
-        only = length-map program.objects object_block;
       } in
       let world : KeptWorld before.world = record { acts = recursion_from_All IsAct acts all; inputs = recursion_from_All IsNumber inputs numbers } in
       let first : Reached run (entered run program.main main.0 [] [] before) = subst (Reached run) (starts main.0 main.1) (record { by = λ k. (k, refl) }) in

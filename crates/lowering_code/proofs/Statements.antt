@@ -1,6 +1,6 @@
 -- The code of a statement has the statement's effect.
 use Rattle.std.proofs.Common.{◌≡◌, ℕ, zero, suc, ◌+◌, ◌%◌, ◌<◌, ◌≤◌, Bool, true, false, List, [], ◌∷◌, ◌++◌, length, Option, Some, None, refl, sym, ap, ◌∙◌, subst, arith}
-use Rattle.std.specs.Prelude.{slice_get, not}
+use Rattle.std.specs.Prelude.{slice_get, nat_lt, not}
 use Rattle.ckc_core.specs.Outcome.{Gives, and_then}
 use Rattle.act_words.specs.Numbers.{word, number_line}
 use Rattle.act_words.specs.Touches.{spend_tick, write}
@@ -10,7 +10,7 @@ use Rattle.act_words.specs.declared.operator.Operator.{Operator}
 use Rattle.check_insertion.specs.Erased as erased
 use Rattle.ckc_core.specs.States.{Value, Number, Null, At, Cell, shapes, cell_at}
 use Rattle.ckc_core.specs.States as meaning
-use Rattle.ckc_core.specs.Steps.{Result, Flow, Next, Broke, Continued, Returned, is_char, given, truth, place_if, place_at, pointer_to, load_at, store_at, arithmetic_of, kept_if, set_local, printed, put, on_next, behind_turn, no_result, choose}
+use Rattle.ckc_core.specs.Steps.{Result, Flow, Next, Broke, Continued, Returned, is_char, given, truth, place_if, variable_if, variable_at, pointer_to, load_at, store_at, arithmetic_of, kept_if, set_local, printed, put, on_next, behind_turn, no_result, choose}
 use Rattle.check_insertion.specs.ErasedMeaning.{Knot, value, place, pointer_of, effect, effects}
 use Rattle.code_words.specs.declared.op.Op.{Op}
 use Rattle.code_words.specs.declared.op.Op.TheVariants as ops
@@ -65,13 +65,19 @@ module _ (g : Execution) (l : Layout g) where
       by Continued s h = more s (here_at g l q.on_continue m [] s on_continue h)
       by (Returned v) s h = h
 
-  -- the address of a byte of a variable
-  address_runs : (next : ℕ) (s : meaning.State) (object offset : ℕ) → Here g l next [] s → HasAt (code g l).ops next (address_code object offset) → offset_stack offset ≤ (code g l).stack → Leads (λ (q : Value) t. Arrives g l (next + (1 + offset_size offset)) [] (At object offset) t) (Finishes g) (and_then (place_at None object offset s) pointer_to)
-  address_runs next s object offset here at room = by (cell_at s.blocks object offset) (variable_runs g l next [] s object offset (cell_at s.blocks object offset) refl here at (omega arith))
-    where
-      by : (o : Option Cell) → Leads (Placed g l (next + (1 + offset_size offset)) []) (Finishes g) (place_if o None object offset s) → Leads (λ (q : Value) t. Arrives g l (next + (1 + offset_size offset)) [] (At object offset) t) (Finishes g) (and_then (place_if o None object offset s) pointer_to)
-      by (Some c) h = h
-      by None h = tt
+  -- the address of a byte of a variable lies on the stack, whatever pointer leads there
+  abbrev Addresses : ℕ → ℕ → ℕ → Value → meaning.State → Type 0
+  Addresses next object offset q t = Arrives g l next [] (At object offset) t
+
+  addresses_by : (next : ℕ) (s : meaning.State) (object offset : ℕ) (low : Bool) (o : Option Cell) → cell_at s.blocks object offset ≡ o → Leads (Placed g l next []) (Finishes g) (variable_if low object offset s) → Leads (Addresses next object offset) (Finishes g) (and_then (variable_if low object offset s) pointer_to)
+  addresses_by next s object offset false o is h = tt
+  addresses_by next s object offset true None is h = rw is tt
+  addresses_by next s object offset true (Some c) is h = let h' = subst (λ x. Leads (Placed g l next []) (Finishes g) (place_if x None object offset s)) is h in rw is h'
+
+  address_runs : (next : ℕ) (s : meaning.State) (object offset : ℕ) → Here g l next [] s → HasAt (code g l).ops next (address_code object offset) → offset_stack offset ≤ (code g l).stack → Leads (Addresses (next + (1 + offset_size offset)) object offset) (Finishes g) (and_then (variable_at (setting g) object offset s) pointer_to)
+  address_runs next s object offset here at room =
+      addresses_by (next + (1 + offset_size offset)) s object offset (nat_lt object (length g.program.objects)) (cell_at s.blocks object offset) refl
+      (variable_runs g l next [] s object offset here at (omega arith))
 
   -- a store to a variable, whose address and value lie on the stack
   direct_store_runs : (next : ℕ) (s : meaning.State) (p : Places) (type : CType) (object offset : ℕ) (v : Value) (o : Option Cell) → IsKept s v → Here g l next (word_of g s v ∷ (word_of g s (At object offset) ∷ [])) s → slice_get (code g l).ops next ≡ Some (store_code type) → Affects g l p (next + 1) (and_then (place_if o None object offset s) (λ place t. store_at type None place v t))
@@ -189,7 +195,7 @@ module _ (g : Execution) (l : Layout g) where
           let back = has_back (code g l).ops next front (expression_code m e ++ last) (1 + offset_size offset) (omega (arith, length_offset offset)) at in
           let end : n + 1 ≡ next + ((1 + offset_size offset) + (expression_size e + 1)) = omega arith in
           affects_at p (n + 1) (next + ((1 + offset_size offset) + (expression_size e + 1))) (effect (setting g) k (erased.Store type (erased.Direct object offset) e) s) end
-          (leads_on (λ (q : Value) t. Arrives g l m [] a t) (FlowsTo g l p (n + 1)) (Finishes g) (pointer_of (setting g) k (erased.Direct object offset) s) _
+          (leads_on (Addresses m object offset) (FlowsTo g l p (n + 1)) (Finishes g) (pointer_of (setting g) k (erased.Direct object offset) s) _
           (address_runs next s object offset here (has_front (code g l).ops next front (expression_code m e ++ last) at) (omega arith))
           (λ q t x. leads_on (Arrives g (from g l t) n (word_of g t a ∷ [])) (FlowsTo g l p (n + 1)) (Finishes g) (value (setting g) k e t) _
           (value_runs g k runs e (from g l t) m (word_of g t a ∷ []) t (here_from g l m (word_of g t a ∷ []) t x.0) (has_front (code g l).ops m (expression_code m e) last back) (omega arith) (omega arith))

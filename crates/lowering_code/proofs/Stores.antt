@@ -116,7 +116,6 @@ kept_stored g blocks block byte c v kept f typed value =
       cells = subst (λ a. AllByRecursion (KeptCells a) after) (sym same) (subst (AllByRecursion (KeptCells all)) (sym (stored_is blocks block byte c v f)) cells);
       fits = subst (λ a. end_from first_offset a ≤ g.settings.trusted) (sym same) kept.fits;
       grows = subst (Grows (variables g)) (sym same) kept.grows;
-      only = ap length (stored_is blocks block byte c v f) ∙ length_set blocks block (with_cell f.holder f.number c v) ∙ kept.only;
     }
 
 module _ (g : Execution) (l : Layout g) where

@@ -8,7 +8,7 @@ use Rattle.act_words.specs.declared.operator.Comparison.TheVariants as compariso
 use Rattle.ckc_core.specs.declared.program.Callee.{Callee}
 use Rattle.ckc_core.specs.declared.program.Callee.TheVariants as callees
 use Rattle.check_insertion.specs.Erased as erased
-use Rattle.ckc_core.specs.States.{Value, Grows, shapes, cell_at}
+use Rattle.ckc_core.specs.States.{Value, Grows, shapes}
 use Rattle.ckc_core.specs.States as meaning
 use Rattle.ckc_core.specs.Steps.{Result, setting_of, truth, number_of_test, arithmetic_of, compared, negated, complemented, low_byte_of, same_place, test_given, pointer_to, load_at, called, result_given}
 use Rattle.check_insertion.specs.ErasedMeaning.{Knot, Setting, value, values, place, pass, reached}
@@ -189,7 +189,7 @@ module _ (g : Execution) where
 
       -- the address of a cell
       pub place_runs : (p : erased.Place) (l : Layout g) (next : ℕ) (stack : List ℕ) (s : meaning.State) → Here g l next stack s → HasAt (code g l).ops next (place_code next p) → length stack + place_stack p ≤ (code g l).stack → next + place_size p < length (code g l).ops → Leads (Placed g l (next + place_size p) stack) (Finishes g) (place (setting g) k p s)
-      place_runs (erased.Direct object offset) l next stack s here at room low = variable_runs g l next stack s object offset (cell_at s.blocks object offset) refl here at room
+      place_runs (erased.Direct object offset) l next stack s here at room low = variable_runs g l next stack s object offset here at room
       place_runs (erased.Through pointer index offset checks) l next stack s here at room low =
           let first = expression_code next pointer in
           let last = through_code index offset checks in

@@ -5,6 +5,7 @@ use Rattle.std.specs.List.{AllByRecursion}
 use Rattle.std.specs.Int.{w32}
 use Rattle.std.proofs.lemmas.Int.{to_z_pos}
 use Rattle.std.proofs.lemmas.Bool.Decides.{nat_tests}
+use Rattle.std.proofs.lemmas.Option.{slice_get_within}
 use Rattle.std.proofs.lemmas.Bool.{and_from}
 use Rattle.std.proofs.lemmas.List.{length-replicate}
 use Rattle.ckc_core.specs.Outcome.{Gives, Ends, Stuck, Unsound, Short, and_then}
@@ -28,7 +29,7 @@ use Rattle.ckc_core.specs.States.{Value, Number, Null, At, Local, Shape, Grows, 
 use Rattle.ckc_core.specs.declared.program.PointerBounds.{PointerBounds}
 use Rattle.ckc_core.specs.Programs.{Import, Initial}
 use Rattle.ckc_core.specs.Bounds.{Pointed, with_ends}
-use Rattle.ckc_core.specs.Steps.{Result, Flow, Next, Broke, Continued, Returned, given, checked, value_if, value_in, place_if, place_at, load_at, pointer_to, truth, number_of_test, same_place, test_given, result_of, arithmetic_of, compared, negated, complemented, low_byte_of, asked, words_of, reply_as, back, passed, cross, cross_if, call_tainted, takes, parameters_of, enter_if, call_trusted, result_given, choose, leaves_zero, store_if, store_over, store_at, set_if, set_over, set_local, kept_if, is_char, printed, put, on_next, behind_turn, no_result, called}
+use Rattle.ckc_core.specs.Steps.{Result, Flow, Next, Broke, Continued, Returned, given, checked, value_if, value_in, place_if, place_at, variable_if, variable_at, load_at, pointer_to, truth, number_of_test, same_place, test_given, result_of, arithmetic_of, compared, negated, complemented, low_byte_of, asked, words_of, reply_as, back, passed, cross, cross_if, call_tainted, takes, parameters_of, enter_if, call_trusted, result_given, choose, leaves_zero, store_if, store_over, store_at, set_if, set_over, set_local, kept_if, is_char, printed, put, on_next, behind_turn, no_result, called}
 use Rattle.ckc_core.specs.Meaning.{Knot, Setting, audit, bounds_of, site_of, element, without_ends, value, values, place, pointed, pointer_of, effect, effects}
 use Rattle.region_typing_rules.specs.Types.{is_number}
 use Rattle.region_typing_rules.specs.Typed as typed
@@ -225,6 +226,18 @@ module _ (g : Frame) (budget n : ℕ) where
         } in
         placed_goes s None t object offset (place_grown g.structs (shapes blocks) (shaped s) kept.grown t object offset start) kept
 
+    variable_goes_if : (test : Bool) → test ≡ true → (s : State) (t : CType) (object offset : ℕ) → Goes low types (shaped s) (IsPlaced g t) (place_at None object offset s) → Goes low types (shaped s) (IsPlaced g t) (variable_if test object offset s)
+    variable_goes_if true e s t object offset h = h
+    variable_goes_if false e s t object offset h = absurd (cc)
+
+    -- a place in a variable of the program
+    pub variable_goes : (s : State) (t : CType) (object offset : ℕ) (is : List Initial) → slice_get g.program.objects object ≡ Some is → HasRow g.structs (shape (object_block is)) offset t → IsKept low types s
+        → Goes low types (shaped s) (IsPlaced g t) (variable_if (nat_lt object (length g.program.objects)) object offset s)
+    variable_goes s t object offset is found row kept =
+        let within = slice_get_within g.program.objects object is found in
+        let test : nat_lt object (length g.program.objects) ≡ true = grind (arith, nat_tests) in
+        variable_goes_if (nat_lt object (length g.program.objects)) test s t object offset (direct_goes s t object offset is found row kept)
+
     pub pointed_goes : (s : State) (m : Mode) (k : Kind) (t : CType) (site : Site) (v : Value) → OfType g (Pointer m k t) (shaped s) v → IsKept low types s → Goes low types (shaped s) (IsPlaced g t) (element 0 site v s)
     pointed_goes s m k t site (Number z) h kept = absurd h
     pointed_goes s m k t site Null h kept = tt
@@ -418,7 +431,7 @@ module _ (g : Frame) (budget n : ℕ) where
             (λ vs w grown typed' w_kept. ((value_grown g.structs (shaped u) (shaped w) grown t v typed, typed'), grows_here (shaped w), w_kept)))
 
         pub place_goes : {p : core.Place} {t : CType} → HasPlace g types p t → (s : State) → IsKept low types s → Goes low types (shaped s) (IsPlaced g t) (place true setting k p s)
-        place_goes (typed.direct {object = object} {offset = offset} {t = t} {cells = is} found row) s kept = direct_goes low types s t object offset is found row kept
+        place_goes (typed.direct {object = object} {offset = offset} {t = t} {cells = is} found row) s kept = variable_goes low types s t object offset is found row kept
         place_goes (typed.pointed {mode = m} {kind = d} {e = e} {t = t} {site = site} h) s kept =
             goes_on low types (shaped s) (OfType g (Pointer m d t)) (IsPlaced g t) (value true setting k e s) _ (value_goes h s kept)
             (λ v u _ typed u_kept. pointed_goes low types u m d t site _ (same_pointer (OfType g (Pointer m d t) (shaped u)) (bounds_of e) v u typed) u_kept)
@@ -488,7 +501,7 @@ module _ (g : Frame) (budget n : ℕ) where
       pub pointed_store : {p : core.Place} {t : CType} → HasPlace g types p t → IsScalar t → {e : core.Expression} → HasType g types e t → (result : Option CType) (loop : Bool) (s : State) → IsKept low types s → Goes low types (shaped s) (IsFlow g result loop) (effect true setting k (core.Store t p e) s)
       pointed_store {t = t} (typed.direct {object = object} {offset = offset} {cells = is} found row) scalar {e = e} h result loop s kept =
           goes_on low types (shaped s) (IsPointed g (Pointer modes.Checked kinds.One t)) (IsFlow g result loop) (pointer_of true setting k (core.Direct object offset) s) _
-          (goes_on low types (shaped s) (IsPlaced g t) (IsPointed g (Pointer modes.Checked kinds.One t)) (place_at None object offset s) (λ at u. Gives (without_ends at) u) (direct_goes low types s t object offset is found row kept) (λ at u _ placed u_kept. (placed, grows_here (shaped u), u_kept)))
+          (goes_on low types (shaped s) (IsPlaced g t) (IsPointed g (Pointer modes.Checked kinds.One t)) (variable_at setting object offset s) (λ at u. Gives (without_ends at) u) (variable_goes low types s t object offset is found row kept) (λ at u _ placed u_kept. (placed, grows_here (shaped u), u_kept)))
           (λ q u _ _ u_kept. goes_on low types (shaped u) (OfType g t) (IsFlow g result loop) (value true setting k e u) _ (value_goes low types h u u_kept)
           (λ v w _ typed w_kept. placed_store w result loop t None v (place_at None object offset w) scalar typed (direct_goes low types w t object offset is found row w_kept)))
       pointed_store {t = t} (typed.pointed {mode = m} {kind = d} {e = p} {site = site} hp) scalar {e = e} h result loop s kept =
