@@ -1,3 +1,5 @@
 pub mod Following
 pub mod Insertions
+pub mod Made
+pub mod Rows
 pub mod Sizes

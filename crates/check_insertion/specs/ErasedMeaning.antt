@@ -13,7 +13,8 @@ use Rattle.ckc_core.specs.declared.program.Index.{Index}
 use Rattle.ckc_core.specs.declared.program.Index.TheVariants as indexes
 use Rattle.ckc_core.specs.Outcome.{Gives, Ends, Stuck, Short, and_then}
 use Rattle.ckc_core.specs.States.{Value, Number, Null, At, State}
-use Rattle.ckc_core.specs.Steps.{Result, Flow, Next, Broke, Continued, Returned, KnotOf, SettingOf, setting_of, given, value_if, place_at, variable_at, load_at, pointer_to}
+use Rattle.ckc_core.specs.Steps.{Result, Flow, Next, Broke, Continued, Returned, KnotOf, SettingOf, setting_of}
+use Rattle.ckc_core.specs.Steps.{given, value_if, place_at, variable_at, load_at, pointer_to}
 use Rattle.ckc_core.specs.Steps.{truth, number_of_test, same_place, test_given, arithmetic_of, compared, negated, complemented, low_byte_of, asked, crossed}
 use Rattle.ckc_core.specs.Steps.{back, called, result_given, choose, store_at, set_local, kept_if, is_char, printed, put, on_next, behind_turn, no_result}
 use Rattle.ckc_core.specs.Steps.{fit, parameters_of, answer, locals_for, exit, initial}

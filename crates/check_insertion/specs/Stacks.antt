@@ -51,7 +51,8 @@ abbrev mutual
   statement_stack (erased.Print number) = expression_stack number
   statement_stack (erased.PutByte number) = expression_stack number
   statement_stack (erased.Block inner) = statements_stack inner
-  statement_stack (erased.If condition consequent alternative) = max (expression_stack condition) (max (statement_stack consequent) (statement_stack alternative))
+  statement_stack (erased.If condition consequent alternative) =
+      max (expression_stack condition) (max (statement_stack consequent) (statement_stack alternative))
   statement_stack (erased.Loop condition body step) = max (expression_stack condition) (max (statement_stack body) (statement_stack step))
   statement_stack (erased.Return value) = expression_stack value
   statement_stack erased.ReturnNothing = 0

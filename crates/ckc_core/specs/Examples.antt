@@ -141,7 +141,8 @@ members =
     (Core.SetLocal 0 (Core.AddressOf (Core.Direct 0 0) (one_of 8))
     ∷ (Core.Store Int (Core.Through (Core.Local 0 (one_of 8)) indexes.First 4 (site 3 40)) (number 7)
     ∷ (Core.Store Char (Core.Direct 0 0) (Core.LowByte (number 300))
-    ∷ (Core.Return (Core.Arithmetic (operators.Arithmetic arithmetics.Add) (Core.Load Int (Core.Through (Core.Local 0 (one_of 8)) indexes.First 4 (site 3 65)) None)
+    ∷ (Core.Return (Core.Arithmetic (operators.Arithmetic arithmetics.Add)
+    (Core.Load Int (Core.Through (Core.Local 0 (one_of 8)) indexes.First 4 (site 3 65)) None)
     (Core.Load Char (Core.Direct 0 0) None) (site 3 65)) ∷ [])))))
 
 abbrev pub struct_ends : Type 0

@@ -18,7 +18,8 @@ use Rattle.ckc_core.specs.Outcome.{Gives, Ends, Stuck, Unsound, Short, and_then}
 use Rattle.ckc_core.specs.Core as core
 use Rattle.ckc_core.specs.States.{Value, Number, Null, At, State}
 use Rattle.ckc_core.specs.Bounds.{Pointed, with_ends, is_valid}
-use Rattle.ckc_core.specs.Steps.{Result, Flow, Next, Broke, Continued, Returned, KnotOf, SettingOf, setting_of, given, value_if, place_at, variable_at, load_at, pointer_to}
+use Rattle.ckc_core.specs.Steps.{Result, Flow, Next, Broke, Continued, Returned, KnotOf, SettingOf, setting_of}
+use Rattle.ckc_core.specs.Steps.{given, value_if, place_at, variable_at, load_at, pointer_to}
 use Rattle.ckc_core.specs.Steps.{truth, number_of_test, same_place, test_given, arithmetic_of, compared, negated, complemented, low_byte_of, asked, crossed}
 use Rattle.ckc_core.specs.Steps.{back, called, result_given, choose, store_at, set_local, kept_if, is_char, printed, put, on_next, behind_turn, no_result}
 use Rattle.ckc_core.specs.Steps.{fit, parameters_of, answer, locals_for, exit, initial}
@@ -89,9 +90,12 @@ abbrev mutual
   value audited g k (core.Negate operand site) s = and_then (value audited g k operand s) (negated site)
   value audited g k (core.Complement operand) s = and_then (value audited g k operand s) complemented
   value audited g k (core.Not operand) s = and_then (value audited g k operand s) (λ v t. Gives (number_of_test (not (truth v))) t)
-  value audited g k (core.Arithmetic operator left right site) s = and_then (value audited g k left s) (λ a t. and_then (value audited g k right t) (arithmetic_of operator site a))
-  value audited g k (core.Compare comparison left right) s = and_then (value audited g k left s) (λ a t. and_then (value audited g k right t) (compared comparison a))
-  value audited g k (core.Same left right) s = and_then (value audited g k left s) (λ a t. and_then (value audited g k right t) (λ b u. test_given (same_place a b) u))
+  value audited g k (core.Arithmetic operator left right site) s =
+      and_then (value audited g k left s) (λ a t. and_then (value audited g k right t) (arithmetic_of operator site a))
+  value audited g k (core.Compare comparison left right) s =
+      and_then (value audited g k left s) (λ a t. and_then (value audited g k right t) (compared comparison a))
+  value audited g k (core.Same left right) s =
+      and_then (value audited g k left s) (λ a t. and_then (value audited g k right t) (λ b u. test_given (same_place a b) u))
   value audited g k (core.AndAlso left right) s =
       and_then (value audited g k left s) (λ a t. choose (truth a) (and_then (value audited g k right t) (λ b u. Gives (number_of_test (truth b)) u))
       (Gives (number_of_test false) t))
@@ -133,7 +137,8 @@ abbrev mutual
   effect audited g k core.Nothing s = Gives Next s
   effect audited g k (core.SetLocal local e) s = and_then (value audited g k e s) (set_local local)
   effect audited g k (core.Store type p e) s =
-      and_then (pointer_of audited g k p s) (λ q t. and_then (value audited g k e t) (λ v u. and_then (place_from p q u) (λ place w. store_at type (site_of p) place v w)))
+      and_then (pointer_of audited g k p s) (λ q t. and_then (value audited g k e t)
+      (λ v u. and_then (place_from p q u) (λ place w. store_at type (site_of p) place v w)))
   effect audited g k (core.UpdateLocal char local operator e site) s =
       and_then (given (slice_get s.locals local) s) (λ old t. and_then (value audited g k e t)
       (λ v u. and_then (arithmetic_of operator site old v u) (λ new w. and_then (kept_if char new w) (set_local local))))

@@ -1,7 +1,13 @@
 // The types of the language.
 
+ghost use Rattle.std.specs.Prelude.{◌≡◌, IfOk};
+ghost use Rattle.pointer_modes.specs.Types.{ctype as ctype_of};
+
+use ckc_text::fault::NoMemory;
 use ckc_text::name::Name;
+use ckc_text::on_heap::boxed;
 use ckc_text::place::Span;
+use std::alloc::Global;
 
 /// What a pointer is checked for: with bounds, against the range of the sandbox, or not at all.
 #[derive(Clone, Copy, PartialEq, Eq)]
@@ -26,6 +32,23 @@ pub enum CType {
     Char,
     Struct(u32),
     Pointer(Mode, Kind, Box<CType>),
+}
+
+impl CType {
+    /// A copy of the type.
+    pub fn copy(&self, alloc: Global) -> Result<CType, NoMemory>
+        ensures { IfOk result (λ t. ctype_of t ≡ ctype_of self.now) }
+    {
+        match self {
+            CType::Int => Ok(CType::Int),
+            CType::Char => Ok(CType::Char),
+            CType::Struct(number) => Ok(CType::Struct(*number)),
+            CType::Pointer(mode, kind, target) => {
+                let target = boxed(alloc, target.copy(alloc)?)?;
+                Ok(CType::Pointer(*mode, *kind, target))
+            }
+        }
+    }
 }
 
 /// A member of a struct. Its span is where it is declared.
