@@ -10,7 +10,8 @@ use Rattle.ckc_lexer_tokens.specs.Bytes.{is_hexadecimal_digit}
 use Rattle.ckc_lexer_tokens.specs.declared.keyword.Keyword.{Keyword}
 use Rattle.ckc_lexer_tokens.specs.declared.keyword.Keyword.TheVariants.{Int, Char, Void, Struct, If, Else, While, For, Return}
 use Rattle.ckc_lexer_tokens.specs.declared.keyword.Keyword.TheVariants.{Break, Continue, Sizeof, Malloc, Calloc, NtCalloc, TMalloc, Ptr, ArrayPtr}
-use Rattle.ckc_lexer_tokens.specs.declared.keyword.Keyword.TheVariants.{NtArrayPtr, TPtr, TArrayPtr, TNtArrayPtr, Checked, NtChecked, Unchecked, Bundled, Tainted}
+use Rattle.ckc_lexer_tokens.specs.declared.keyword.Keyword.TheVariants.{NtArrayPtr, TPtr, TArrayPtr, TNtArrayPtr}
+use Rattle.ckc_lexer_tokens.specs.declared.keyword.Keyword.TheVariants.{Checked, NtChecked, Unchecked, Bundled, Tainted}
 use Rattle.ckc_lexer_tokens.specs.declared.keyword.Keyword.TheVariants.{Callback, DynamicBoundsCast, AssumeBoundsCast}
 use Rattle.ckc_lexer_tokens.specs.declared.token.TokenKind.TheVariants as kinds
 use Rattle.ckc_lexer_tokens.specs.declared.piece.Piece.{Piece}

@@ -3,6 +3,8 @@ use Rattle.std.specs.Prelude.{List, [], ◌∷◌, ◌++◌, Option}
 use Rattle.std.specs.List.{flat_map}
 use Rattle.ckc_lexer_tokens.specs.declared.keyword.Keyword.TheVariants as keywords
 use Rattle.ckc_lexer_tokens.specs.declared.token.TokenKind.TheVariants as kinds
+use Rattle.ckc_tree.specs.declared.expr.Expr.{Expr}
+use Rattle.ckc_tree.specs.declared.expr.Expr.TheVariants as exprs
 use Rattle.ckc_tree.specs.declared.expr.UnaryOperator.{UnaryOperator}
 use Rattle.ckc_tree.specs.declared.expr.BinaryOperator.{BinaryOperator}
 use Rattle.ckc_tree.specs.declared.expr.MallocWord.{MallocWord}
@@ -11,12 +13,20 @@ use Rattle.ckc_tree.specs.declared.identifier.Identifier.{Identifier}
 use Rattle.ckc_tree.specs.declared.stmt.Mark.{Mark}
 use Rattle.ckc_tree.specs.Types.{TypeName}
 use Rattle.ckc_tree.specs.Expressions.{Expression, Expressions, Bounds}
-use Rattle.ckc_tree.specs.Statements.{Assignment, Statement, Statements}
+use Rattle.ckc_tree.specs.Statements.{Assignment, ForInitial, Statement, Statements}
 use Rattle.ckc_printer.specs.Pieces.{Sign, One}
 use Rattle.ckc_printer.specs.TypePieces.{name_sign, type_name_pieces, angled_pieces}
 use Rattle.ckc_printer.specs.ExpressionPieces.{malloc_kind, calloc_kind, unary_kind, binary_sign}
 use Rattle.ckc_printer.specs.ExpressionPieces.{operand_pieces, expression_pieces, arguments_pieces, bounds_pieces}
-use Rattle.ckc_printer.specs.StatementPieces.{mark_pieces, optional_expression_pieces, bundled_pieces, statement_pieces, statements_pieces}
+use Rattle.ckc_printer.specs.StatementPieces.{mark_pieces, optional_expression_pieces, bundled_pieces, for_head_pieces, tested_pieces}
+use Rattle.ckc_printer.specs.StatementPieces.{statement_pieces, statements_pieces}
+
+-- an expression with a type in angle brackets: a cast or an allocation
+abbrev pub HasAngledType : Expr → Type 0
+HasAngledType (exprs.Cast' word type p operand written span) = Unit {0}
+HasAngledType (exprs.Malloc' word type p size span) = Unit {0}
+HasAngledType (exprs.Calloc' word type p count q size span) = Unit {0}
+HasAngledType _ = ⊥
 
 -- an expression and the parenthesis behind it
 abbrev pub closed_pieces : Expression → List Sign
@@ -58,6 +68,13 @@ return_pieces value = One (kinds.Keyword keywords.Return) ∷ (optional_expressi
 abbrev pub block_pieces : Option Mark → Statements → List Sign
 block_pieces mark statements = mark_pieces mark ++ One kinds.OpenBrace ∷ (statements_pieces statements ++ One kinds.CloseBrace ∷ [])
 
--- an else and the statement behind it
-abbrev pub alternative_pieces : Statement → List Sign
-alternative_pieces alternative = One (kinds.Keyword keywords.Else) ∷ statement_pieces alternative
+-- signs with a semicolon behind them
+abbrev pub ended_pieces : List Sign → List Sign
+ended_pieces signs = signs ++ One kinds.Semicolon ∷ []
+
+abbrev pub if_else_pieces : Expression → Statement → Statement → List Sign
+if_else_pieces condition consequent alternative =
+    tested_pieces (kinds.Keyword keywords.If) condition ++ (statement_pieces consequent ++ One (kinds.Keyword keywords.Else) ∷ statement_pieces alternative)
+
+abbrev pub for_pieces : ForInitial → Option Expression → Option Assignment → Statement → List Sign
+for_pieces initial condition step body = for_head_pieces initial condition step ++ statement_pieces body

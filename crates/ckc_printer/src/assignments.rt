@@ -92,13 +92,21 @@ pub fn put_assignment(out: &mut Output, written: &Assignment)
     }
 }
 
+/// An assignment, with its semicolon.
+#[tactic(auto, using(crate::proofs::Texts::spaced_append))]
+pub fn put_ended_assignment(out: &mut Output, written: &Assignment)
+    ensures { Puts out.old out.new (spaced_text (bundled_pieces (assignment written.now))) }
+{
+    put_assignment(out, written);
+    put(out, b";")
+}
+
 /// The assignments of a bundle, with a semicolon behind each.
 #[tactic(auto, using(crate::proofs::Texts::spaced_append))]
 pub fn bundled(out: &mut Output, listed: &[Assignment])
     ensures { Puts out.old out.new (spaced_text (flat_map bundled_pieces (map assignment listed.now))) }
 {
     for written in listed {
-        put_assignment(out, written);
-        put(out, b";");
+        put_ended_assignment(out, written);
     }
 }

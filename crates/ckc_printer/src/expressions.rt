@@ -5,7 +5,7 @@ ghost use Rattle.ckc_tree.specs.Types.{type_name as type_name_tree};
 ghost use Rattle.ckc_tree.specs.Expressions.{expression, bounds};
 ghost use Rattle.ckc_printer.specs.ExpressionPieces.{operand_pieces, expression_pieces, arguments_pieces, bounds_pieces};
 ghost use Rattle.ckc_printer.specs.TypePieces.{angled_pieces};
-ghost use Rattle.ckc_printer.specs.Parts.{size_pieces, closed_pieces, limits_pieces, call_pieces, malloc_pieces, calloc_pieces, index_pieces, unary_pieces, binary_pieces};
+ghost use Rattle.ckc_printer.specs.Parts.{HasAngledType, size_pieces, closed_pieces, limits_pieces, call_pieces, malloc_pieces, calloc_pieces, index_pieces, unary_pieces, binary_pieces};
 ghost use Rattle.ckc_printer.specs.Slices.{expressions_of};
 ghost use Rattle.ckc_printer.specs.Output.{Puts};
 ghost use Rattle.ckc_printer.specs.Spaced.{spaced, spaced_text};
@@ -56,6 +56,32 @@ pub fn put_expr(out: &mut Output, expr: &Expr)
             ..
         } => put_call(out, callee, arguments.as_slice()),
         Expr::SizeOf { type_name, .. } => put_size(out, type_name),
+        Expr::Cast { .. } | Expr::Malloc { .. } | Expr::Calloc { .. } => put_with_type(out, expr),
+        Expr::Index { base, index, .. } => put_index(out, base, index),
+        Expr::Dot { base, member, .. } => put_member(out, base, b".", member),
+        Expr::Arrow { base, member, .. } => put_member(out, base, b"->", member),
+        Expr::Unary {
+            operator,
+            operand,
+            ..
+        } => put_unary(out, *operator, operand),
+        Expr::Binary {
+            operator,
+            left,
+            right,
+            ..
+        } => put_binary(out, *operator, left, right),
+    }
+}
+
+/// A cast or an allocation: a word with a type in angle brackets behind it.
+#[cycle(expressions)]
+#[tactic(auto, using(crate::proofs::Texts::spaced_append))]
+fn put_with_type(out: &mut Output, expr: &Expr)
+    requires { HasAngledType expr.now }
+    ensures { Puts out.old out.new (spaced_text (expression_pieces (expression expr.now))) }
+{
+    match expr {
         Expr::Cast {
             word,
             type_name,
@@ -83,20 +109,7 @@ pub fn put_expr(out: &mut Output, expr: &Expr)
             size,
             ..
         } => put_calloc(out, *word, type_name, count, size),
-        Expr::Index { base, index, .. } => put_index(out, base, index),
-        Expr::Dot { base, member, .. } => put_member(out, base, b".", member),
-        Expr::Arrow { base, member, .. } => put_member(out, base, b"->", member),
-        Expr::Unary {
-            operator,
-            operand,
-            ..
-        } => put_unary(out, *operator, operand),
-        Expr::Binary {
-            operator,
-            left,
-            right,
-            ..
-        } => put_binary(out, *operator, left, right),
+        _ => unreachable!(),
     }
 }
 

@@ -3,21 +3,21 @@
 ghost use Rattle.std.specs.Prelude.{◌∷◌, [], ◌++◌, map};
 ghost use Rattle.std.specs.Option.{option_map};
 ghost use Rattle.ckc_tree.specs.Expressions.{expression};
-ghost use Rattle.ckc_tree.specs.Statements.{assignment, for_initial, on_heap, statement};
+ghost use Rattle.ckc_tree.specs.Statements.{assignment, declaration, for_initial, on_heap, statement};
 ghost use Rattle.ckc_tree.specs.Items.{statement_list};
 ghost use Rattle.ckc_printer.specs.ExpressionPieces.{expression_pieces};
-ghost use Rattle.ckc_printer.specs.StatementPieces.{mark_pieces, initial_pieces, optional_expression_pieces, optional_assignment_pieces, for_head_pieces, statement_pieces, statements_pieces};
-ghost use Rattle.ckc_printer.specs.Parts.{bundle_pieces, return_pieces, block_pieces, alternative_pieces};
+ghost use Rattle.ckc_printer.specs.StatementPieces.{declaration_pieces, mark_pieces, initial_pieces, optional_expression_pieces, optional_assignment_pieces, for_head_pieces, statement_pieces, statements_pieces};
+ghost use Rattle.ckc_printer.specs.Parts.{bundle_pieces, return_pieces, ended_pieces, block_pieces, if_else_pieces, for_pieces};
 ghost use Rattle.ckc_printer.specs.Output.{Puts};
 ghost use Rattle.ckc_printer.specs.Spaced.{spaced, spaced_text};
 
-use crate::assignments::{bundled, put_assignment};
+use crate::assignments::{bundled, put_assignment, put_ended_assignment};
 use crate::declarations::put_declaration;
 use crate::expressions::put_expr;
 use crate::output::Output;
 use crate::signs::put;
 use ckc_tree::expr::Expr;
-use ckc_tree::stmt::{Assignment, ForInitial, Mark, Stmt};
+use ckc_tree::stmt::{Assignment, Declaration, ForInitial, Mark, Stmt};
 
 /// The word before a block or a function, if one is written.
 pub fn optional_mark(out: &mut Output, mark: Option<Mark>)
@@ -111,6 +111,24 @@ fn put_return(out: &mut Output, value: &Option<Box<Expr>>)
     put(out, b";")
 }
 
+/// A declaration, with its semicolon.
+#[tactic(auto, using(crate::proofs::Texts::spaced_append))]
+fn put_ended_declaration(out: &mut Output, written: &Declaration)
+    ensures { Puts out.old out.new (spaced_text (ended_pieces (declaration_pieces (declaration written.now)))) }
+{
+    put_declaration(out, written);
+    put(out, b";")
+}
+
+/// A call, with its semicolon.
+#[tactic(auto, using(crate::proofs::Texts::spaced_append))]
+fn put_ended_call(out: &mut Output, call: &Expr)
+    ensures { Puts out.old out.new (spaced_text (ended_pieces (expression_pieces (expression call.now)))) }
+{
+    put_expr(out, call);
+    put(out, b";")
+}
+
 /// A statement.
 #[cycle(statements)]
 #[tactic(auto, using(crate::proofs::Texts::spaced_append))]
@@ -124,31 +142,19 @@ fn put_stmt(out: &mut Output, stmt: &Stmt)
             ..
         } => put_block(out, *mark, statements.as_slice()),
         Stmt::Bundle { assignments, .. } => put_bundle(out, assignments.as_slice()),
-        Stmt::Declare { declaration, .. } => {
-            put_declaration(out, declaration);
-            put(out, b";")
-        }
-        Stmt::Assign { assignment, .. } => {
-            put_assignment(out, assignment);
-            put(out, b";")
-        }
-        Stmt::Call { call, .. } => {
-            put_expr(out, call);
-            put(out, b";")
-        }
+        Stmt::Declare { declaration, .. } => put_ended_declaration(out, declaration),
+        Stmt::Assign { assignment, .. } => put_ended_assignment(out, assignment),
+        Stmt::Call { call, .. } => put_ended_call(out, call),
         Stmt::Empty { .. } => put(out, b";"),
         Stmt::If {
             condition,
             consequent,
             alternative,
             ..
-        } => {
-            put_guarded(out, b"if", condition, consequent);
-            match alternative {
-                Some(alternative) => put_alternative(out, alternative),
-                None => {}
-            }
-        }
+        } => match alternative {
+            Some(alternative) => put_if_else(out, condition, consequent, alternative),
+            None => put_guarded(out, b"if", condition, consequent),
+        },
         Stmt::While {
             condition,
             body,
@@ -160,10 +166,7 @@ fn put_stmt(out: &mut Output, stmt: &Stmt)
             step,
             body,
             ..
-        } => {
-            for_head(out, initial, condition, step);
-            put_stmt(out, body);
-        }
+        } => put_for(out, initial, condition, step, body),
         Stmt::Return { value, .. } => put_return(out, value),
         Stmt::Break { .. } => put(out, b"break ;"),
         Stmt::Continue { .. } => put(out, b"continue ;"),
@@ -179,13 +182,31 @@ fn put_guarded(out: &mut Output, word: &[u8], condition: &Expr, body: &Stmt)
     put_stmt(out, body);
 }
 
-/// An `else` and the statement behind it.
+/// An `if` with its `else`.
 #[cycle(statements)]
-fn put_alternative(out: &mut Output, alternative: &Stmt)
-    ensures { Puts out.old out.new (spaced_text (alternative_pieces (statement alternative.now))) }
+#[tactic(auto, using(crate::proofs::Texts::spaced_append))]
+fn put_if_else(out: &mut Output, condition: &Expr, consequent: &Stmt, alternative: &Stmt)
+    ensures { Puts out.old out.new (spaced_text (if_else_pieces (expression condition.now) (statement consequent.now) (statement alternative.now))) }
 {
+    put_guarded(out, b"if", condition, consequent);
     put(out, b"else");
     put_stmt(out, alternative);
+}
+
+/// A `for`.
+#[cycle(statements)]
+#[tactic(auto, using(crate::proofs::Texts::spaced_append))]
+fn put_for(
+    out: &mut Output,
+    initial: &ForInitial,
+    condition: &Option<Box<Expr>>,
+    step: &Option<Assignment>,
+    body: &Stmt,
+)
+    ensures { Puts out.old out.new (spaced_text (for_pieces (for_initial initial.now) (option_map on_heap condition.now) (option_map assignment step.now) (statement body.now))) }
+{
+    for_head(out, initial, condition, step);
+    put_stmt(out, body);
 }
 
 /// The statements of a block.

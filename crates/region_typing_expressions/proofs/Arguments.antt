@@ -6,7 +6,7 @@ use Rattle.ckc_text.specs.declared.place.Span.{Span}
 use Rattle.ckc_tree.specs.declared.identifier.Identifier.{Identifier}
 use Rattle.ckc_tree.specs.declared.expr.Expr.{Expr, Row_of-Expr, end_of-Expr, more_of-Expr, items-the_row-Expr, items_hidden-the_row-Expr-0}
 use Rattle.ckc_tree.specs.declared.expr.Expr.TheVariants as exprs
-use Rattle.ckc_tree.specs.Expressions.{Call, Then, expression, expressions, expression_span}
+use Rattle.ckc_tree.specs.Expressions.{Expressions, Call, Then, expression, expressions, expression_span}
 use Rattle.region_typing_rules.specs.Verdicts.{Stop, Verdict, Passes, Stops, passing}
 use Rattle.region_typing_rules.specs.Scopes.{Scope}
 use Rattle.region_typing_rules.specs.Expressions.{Places, Typed, typed, all_typed, with_result}
@@ -35,10 +35,8 @@ passing_twice (Passes x) f g = refl
 passing_twice (Stops stop) f g = refl
 
 -- the value of a call
-pub call_parts : (at : Places) (s : Scope) (x : Expr) (callee : Identifier) (arguments : Vec Expr Global) (span : Span) (slice : List Expr) → x ≡ exprs.Call callee arguments span → slice ≡ arguments.items
-    → typed at s (expression x) ≡ passing (called_with at s callee.number (expression_list slice) span) (λ c. with_result c span)
-call_parts at s x callee arguments span slice is same =
-    ap (typed at s) (call_tree x callee arguments span slice is same) ∙ passing_twice (all_typed at s (expression_list slice)) _ _
+pub call_parts : (at : Places) (s : Scope) (callee : Identifier) (arguments : Expressions) (span : Span) → typed at s (Call callee arguments span) ≡ passing (called_with at s callee.number arguments span) (λ c. with_result c span)
+call_parts at s callee arguments span = passing_twice (all_typed at s arguments) _ _
 
 -- the arguments so far before those that are left
 abbrev pub behind : List (Typed × Span) → Verdict (List (Typed × Span)) → Verdict (List (Typed × Span))

@@ -3,7 +3,7 @@
 ghost use Rattle.std.specs.Prelude.{◌≡◌, IfOk, map, false, None};
 ghost use Rattle.ckc_text.specs.Places.{place_at};
 ghost use Rattle.ckc_tree.specs.Types.{type_name as type_name_of};
-ghost use Rattle.ckc_tree.specs.Expressions.{expression as expression_of};
+ghost use Rattle.ckc_tree.specs.Expressions.{expression as expression_of, Call, Dot, Arrow, Unary};
 ghost use Rattle.pointer_modes.specs.Types.{Int};
 ghost use Rattle.ckc_core.specs.Core.{Number};
 ghost use Rattle.region_typing_rules.specs.Verdicts.{Passes};
@@ -22,7 +22,8 @@ use ckc_core::program;
 use ckc_text::code::Code;
 use ckc_text::fault::NoMemory;
 use ckc_text::place::Span;
-use ckc_tree::expr::Expr;
+use ckc_tree::expr::{Expr, UnaryOperator};
+use ckc_tree::identifier::Identifier;
 use ckc_tree::type_form::TypeName;
 use pointer_modes::ctype::CType;
 use region_typing_scope::context::Context;
@@ -105,35 +106,20 @@ pub fn typed(context: &Context, scope: &Scope, e: &Expr) -> Result<Box<Typed>, C
             callee,
             arguments,
             span,
-        } => {
-            let arguments = arguments.as_slice();
-            let answer = called(context, scope, callee.number, arguments, *span)?;
-            with_result(context, answer, *span)
-        }
+        } => call_value(context, scope, callee, arguments.as_slice(), *span),
         Expr::SizeOf { type_name, .. } => size_of(context, scope, type_name),
         Expr::Index { base, index, span } => {
             let base = typed(context, scope, base)?;
             let index = typed(context, scope, index)?;
             indexed(&base, &index, *span)
         }
-        Expr::Dot { base, member, span } => {
-            let base = typed(context, scope, base)?;
-            let site = context.site(*span);
-            dotted(context, scope, base, member.number, site, *span)
-        }
-        Expr::Arrow { base, member, span } => {
-            let base = typed(context, scope, base)?;
-            let site = context.site(*span);
-            arrowed(context, scope, base, member.number, site, *span)
-        }
+        Expr::Dot { base, member, span } => member_of(context, scope, base, member, *span),
+        Expr::Arrow { base, member, span } => member_through(context, scope, base, member, *span),
         Expr::Unary {
             operator,
             operand,
             span,
-        } => {
-            let operand = typed(context, scope, operand)?;
-            unary(context, *operator, operand, context.site(*span), *span)
-        }
+        } => unary_of(context, scope, *operator, operand, *span),
         Expr::Binary {
             operator,
             left,
@@ -145,6 +131,68 @@ pub fn typed(context: &Context, scope: &Scope, e: &Expr) -> Result<Box<Typed>, C
             binary(context, *operator, left, right, *span)
         }
     }
+}
+
+// The value of a call.
+#[cycle(expressions)]
+fn call_value(
+    context: &Context,
+    scope: &Scope,
+    callee: &Identifier,
+    arguments: &[Expr],
+    span: Span,
+) -> Result<Box<Typed>, CheckError>
+    ensures { Answers typed_view (typed_of (place_at context.now) (scope_of scope.now) (Call callee.now (expression_list arguments.now) span)) result }
+{
+    let call = called(context, scope, callee.number, arguments, span)?;
+    with_result(context, call, span)
+}
+
+// A member of a struct.
+#[cycle(expressions)]
+fn member_of(
+    context: &Context,
+    scope: &Scope,
+    base: &Expr,
+    member: &Identifier,
+    span: Span,
+) -> Result<Box<Typed>, CheckError>
+    ensures { Answers typed_view (typed_of (place_at context.now) (scope_of scope.now) (Dot (expression_of base.now) member.now span)) result }
+{
+    let base = typed(context, scope, base)?;
+    let site = context.site(span);
+    dotted(context, scope, base, member.number, site, span)
+}
+
+// A member of the struct that a pointer points to.
+#[cycle(expressions)]
+fn member_through(
+    context: &Context,
+    scope: &Scope,
+    base: &Expr,
+    member: &Identifier,
+    span: Span,
+) -> Result<Box<Typed>, CheckError>
+    ensures { Answers typed_view (typed_of (place_at context.now) (scope_of scope.now) (Arrow (expression_of base.now) member.now span)) result }
+{
+    let base = typed(context, scope, base)?;
+    let site = context.site(span);
+    arrowed(context, scope, base, member.number, site, span)
+}
+
+// An operator before its operand.
+#[cycle(expressions)]
+fn unary_of(
+    context: &Context,
+    scope: &Scope,
+    operator: UnaryOperator,
+    operand: &Expr,
+    span: Span,
+) -> Result<Box<Typed>, CheckError>
+    ensures { Answers typed_view (typed_of (place_at context.now) (scope_of scope.now) (Unary operator (expression_of operand.now) span)) result }
+{
+    let operand = typed(context, scope, operand)?;
+    unary(context, operator, operand, context.site(span), span)
 }
 
 /// What arguments are, from left to right.

@@ -14,6 +14,10 @@ ghost use Rattle.region_typing_expressions.specs.Comparing.{compared as comparis
 use crate::equality::{equality_of, equated_by};
 use crate::operand_tests::{are_comparable_values, has_pointer, is_number_value, is_pointer_value};
 use crate::places::{address, pointed_at};
+use act_words::operator::ArithmeticOperator::{
+    Add, Divide, Multiply, Remainder, ShiftLeft, ShiftRight, Subtract,
+};
+use act_words::operator::Comparison::{Greater, GreaterEqual, Less, LessEqual};
 use act_words::operator::{ArithmeticOperator, BitwiseOperator, Comparison, Operator};
 use ckc_core::program::{Expr, Site};
 use ckc_text::code::Code;
@@ -260,52 +264,16 @@ pub fn binary(
         BinaryOperator::BitAnd => bitwise(context, BitwiseOperator::And, left, right, span),
         BinaryOperator::Equal => equal(context, left, right, span),
         BinaryOperator::NotEqual => different(context, left, right, span),
-        BinaryOperator::Less => ordered(context, Comparison::Less, left, right, span),
-        BinaryOperator::LessEqual => ordered(context, Comparison::LessEqual, left, right, span),
-        BinaryOperator::Greater => ordered(context, Comparison::Greater, left, right, span),
-        BinaryOperator::GreaterEqual => ordered(
-            context,
-            Comparison::GreaterEqual,
-            left,
-            right,
-            span,
-        ),
-        BinaryOperator::ShiftLeft => arithmetic(
-            context,
-            ArithmeticOperator::ShiftLeft,
-            left,
-            right,
-            span,
-        ),
-        BinaryOperator::ShiftRight => arithmetic(
-            context,
-            ArithmeticOperator::ShiftRight,
-            left,
-            right,
-            span,
-        ),
-        BinaryOperator::Add => sum(context, ArithmeticOperator::Add, left, right, span),
-        BinaryOperator::Subtract => sum(context, ArithmeticOperator::Subtract, left, right, span),
-        BinaryOperator::Multiply => arithmetic(
-            context,
-            ArithmeticOperator::Multiply,
-            left,
-            right,
-            span,
-        ),
-        BinaryOperator::Divide => arithmetic(
-            context,
-            ArithmeticOperator::Divide,
-            left,
-            right,
-            span,
-        ),
-        BinaryOperator::Remainder => arithmetic(
-            context,
-            ArithmeticOperator::Remainder,
-            left,
-            right,
-            span,
-        ),
+        BinaryOperator::Less => ordered(context, Less, left, right, span),
+        BinaryOperator::LessEqual => ordered(context, LessEqual, left, right, span),
+        BinaryOperator::Greater => ordered(context, Greater, left, right, span),
+        BinaryOperator::GreaterEqual => ordered(context, GreaterEqual, left, right, span),
+        BinaryOperator::ShiftLeft => arithmetic(context, ShiftLeft, left, right, span),
+        BinaryOperator::ShiftRight => arithmetic(context, ShiftRight, left, right, span),
+        BinaryOperator::Add => sum(context, Add, left, right, span),
+        BinaryOperator::Subtract => sum(context, Subtract, left, right, span),
+        BinaryOperator::Multiply => arithmetic(context, Multiply, left, right, span),
+        BinaryOperator::Divide => arithmetic(context, Divide, left, right, span),
+        BinaryOperator::Remainder => arithmetic(context, Remainder, left, right, span),
     }
 }

@@ -5,6 +5,8 @@ use Rattle.ckc_text.specs.declared.code.Code.TheVariants.{E13, E30}
 use Rattle.pointer_modes.specs.Types.{CType}
 use Rattle.ckc_core.specs.Core as core
 use Rattle.ckc_core.specs.declared.program.Stmt.{Stmt}
+use Rattle.ckc_tree.specs.declared.stmt.Stmt as trees
+use Rattle.ckc_tree.specs.declared.stmt.Stmt.TheVariants as stmts
 use Rattle.ckc_tree.specs.Expressions.{Expression}
 use Rattle.ckc_tree.specs.Statements.{Statement, Assignment, ForInitial}
 use Rattle.region_typing_rules.specs.Verdicts.{Verdict, Passes, passing, breaks, needs}
@@ -13,6 +15,14 @@ use Rattle.region_typing_rules.specs.Statements.{both, alone, statement, behind_
 use Rattle.region_typing_rules.specs.Scopes.{Scope}
 use Rattle.region_typing_statements.specs.declared.core_forms.Branch as code
 use Rattle.region_typing_scope.specs.OnHeap as on_heap
+
+-- a statement that has statements
+abbrev pub IsStructured : trees.Stmt → Type 0
+IsStructured (stmts.Block' mark shape inner span) = Unit {0}
+IsStructured (stmts.If' condition p consequent alternative span) = Unit {0}
+IsStructured (stmts.While' condition p body span) = Unit {0}
+IsStructured (stmts.For' initial condition step p body span) = Unit {0}
+IsStructured _ = ⊥
 
 -- a statement whose locals are gone behind it, where a loop is around or not
 abbrev pub nested : Places → Scope → Bool → Statement → Verdict (core.Statement × Scope)

@@ -10,7 +10,7 @@ ghost use Rattle.region_typing_rules.specs.Statements.{statement as statement_in
 ghost use Rattle.region_typing_scope.specs.Views.{scope as scope_of};
 ghost use Rattle.region_typing_scope.specs.OnHeap.{statement as statement_of};
 ghost use Rattle.region_typing_statements.specs.Walks.{Walks};
-ghost use Rattle.region_typing_statements.specs.Parts.{nested as nested_in, branched, then_branch as branch_in, if_alone as if_in, otherwise as otherwise_in, turns as turns_in, while_loop as while_in, for_loop as for_in};
+ghost use Rattle.region_typing_statements.specs.Parts.{IsStructured, nested as nested_in, branched, then_branch as branch_in, if_alone as if_in, otherwise as otherwise_in, turns as turns_in, while_loop as while_in, for_loop as for_in};
 
 use crate::core_forms;
 use crate::core_forms::{Branch, both, choice, repeated};
@@ -38,11 +38,10 @@ pub fn statement(
     ensures { Walks statement_of (statement_in (place_at context.now) (scope_of scope.old) (statement_tree written.now)) scope.old result scope.new }
 {
     match written {
-        stmt::Stmt::Block {
-            mark,
-            statements: inner,
-            span,
-        } => block(context, scope, inner.as_slice(), *mark, *span),
+        stmt::Stmt::Block { .. }
+        | stmt::Stmt::If { .. }
+        | stmt::Stmt::While { .. }
+        | stmt::Stmt::For { .. } => structured(context, scope, written),
         stmt::Stmt::Bundle { span, .. } => Err(refusal(Code::E13, *span)),
         stmt::Stmt::Declare {
             declaration: written,
@@ -54,6 +53,28 @@ pub fn statement(
         } => assignment(context, scope, written),
         stmt::Stmt::Call { call, .. } => call_alone(context, scope, call),
         stmt::Stmt::Empty { .. } => Ok(context.boxed(Stmt::Nothing)?),
+        stmt::Stmt::Return { value, span } => return_from(context, scope, value, *span),
+        stmt::Stmt::Break { span } => break_from(context, scope, *span),
+        stmt::Stmt::Continue { span } => continue_with(context, scope, *span),
+    }
+}
+
+// A statement that has statements.
+#[cycle(statements)]
+fn structured(
+    context: &Context,
+    scope: &mut Scope,
+    written: &stmt::Stmt,
+) -> Result<Box<Stmt>, CheckError>
+    requires { IsStructured written.now }
+    ensures { Walks statement_of (statement_in (place_at context.now) (scope_of scope.old) (statement_tree written.now)) scope.old result scope.new }
+{
+    match written {
+        stmt::Stmt::Block {
+            mark,
+            statements: inner,
+            span,
+        } => block(context, scope, inner.as_slice(), *mark, *span),
         stmt::Stmt::If {
             condition: test,
             consequent,
@@ -78,9 +99,7 @@ pub fn statement(
             body,
             ..
         } => for_loop(context, scope, body, initial, test, step),
-        stmt::Stmt::Return { value, span } => return_from(context, scope, value, *span),
-        stmt::Stmt::Break { span } => break_from(context, scope, *span),
-        stmt::Stmt::Continue { span } => continue_with(context, scope, *span),
+        _ => unreachable!(),
     }
 }
 

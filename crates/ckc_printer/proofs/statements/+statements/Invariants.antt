@@ -1,4 +1,5 @@
 use Rattle.std.proofs.Common.{◌+◌, ◌*◌, drop}
+use Rattle.std.specs.Prelude.{max}
 use Rattle.ckc_tree.specs.declared.stmt.Stmt.{size-Stmt}
 use Rattle.ckc_tree.specs.Items.{statement_list}
 use Rattle.ckc_printer.specs.StatementPieces.{statements_pieces}
@@ -14,8 +15,11 @@ decreases-put_stmt l = 3 * goal.size-put_stmt l
 abbrev pub decreases-put_guarded : goal.decreases-put_guarded
 decreases-put_guarded l = 3 * size-Stmt l.body.now + 1
 
-abbrev pub decreases-put_alternative : goal.decreases-put_alternative
-decreases-put_alternative l = 3 * goal.size-put_alternative l + 1
+abbrev pub decreases-put_for : goal.decreases-put_for
+decreases-put_for l = 3 * size-Stmt l.body.now + 1
+
+abbrev pub decreases-put_if_else : goal.decreases-put_if_else
+decreases-put_if_else l = 3 * max (size-Stmt l.consequent.now) (size-Stmt l.alternative.now) + 2
 
 abbrev pub decreases-put_stmts : goal.decreases-put_stmts
 decreases-put_stmts l = 3 * goal.size-put_stmts l + 1

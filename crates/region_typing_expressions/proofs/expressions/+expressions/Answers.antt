@@ -1,23 +1,25 @@
 use Rattle.std.proofs.Common.{◌<◌, length, map, arith}
 use Rattle.ckc_text.specs.Places.{place_at}
 use Rattle.region_typing_scope.specs.Views.{scope}
-use Rattle.region_typing_expressions.specs.Calls.{argument, called_with}
+use Rattle.region_typing_expressions.specs.Calls.{argument}
 use Rattle.region_typing_expressions.specs.Slices.{expression_list}
 use Rattle.region_typing_scope.proofs.Going.{goes_on, refused, refused_by}
-use Rattle.region_typing_expressions.proofs.Arguments.{call_parts, argument_pushed, argument_breaks, arguments_done}
+use Rattle.region_typing_expressions.proofs.Arguments.{call_tree, call_parts, argument_pushed, argument_breaks, arguments_done}
 use Rattle.region_typing_expressions.proofs.expressions.+expressions.Goals as goal
 
-pub typed-returns-in_err-answer-in-Call : goal.typed-returns-in_err-answer-in-Call
-typed-returns-in_err-answer-in-Call t c =
-    let answer = c.in_err-answer-in-Call.ensures in
-    rw (call_parts (place_at c.args.context.now) (scope c.args.scope.now) c.args.e.now c.in-Call.callee c.in-Call.arguments c.in-Call.span c.as_slice-arguments.result.now c.in-Call.is c.as_slice-arguments.ensures.value)
-    (refused {verdict = called_with (place_at c.args.context.now) (scope c.args.scope.now) c.in-Call.callee.number (expression_list c.as_slice-arguments.result.now) c.in-Call.span} _ c.from_residual-in_err-answer-in-Call.result c.from_residual-in_err-answer-in-Call.ensures.1 answer)
+pub typed-returns-in-Call : goal.typed-returns-in-Call
+typed-returns-in-Call t c =
+    rw (call_tree c.args.e.now c.in-Call.callee c.in-Call.arguments c.in-Call.span c.as_slice.result.now c.in-Call.is c.as_slice.ensures.value) c.call_value.ensures
 
-pub typed-returns-in_ok-answer-in-Call : goal.typed-returns-in_ok-answer-in-Call
-typed-returns-in_ok-answer-in-Call t c =
-    let answer = c.in_ok-answer-in-Call.ensures in
-    rw (call_parts (place_at c.args.context.now) (scope c.args.scope.now) c.args.e.now c.in-Call.callee c.in-Call.arguments c.in-Call.span c.as_slice-arguments.result.now c.in-Call.is c.as_slice-arguments.ensures.value)
-    (goes_on {verdict = called_with (place_at c.args.context.now) (scope c.args.scope.now) c.in-Call.callee.number (expression_list c.as_slice-arguments.result.now) c.in-Call.span} _ answer c.with_result.ensures)
+pub call_value-returns-in_err-call : goal.call_value-returns-in_err-call
+call_value-returns-in_err-call t c =
+    rw (call_parts (place_at c.args.context.now) (scope c.args.scope.now) c.args.callee.now (expression_list c.args.arguments.now) c.args.span)
+    (refused _ c.from_residual.result c.from_residual.ensures.1 c.in_err-call.ensures)
+
+pub call_value-returns : goal.call_value-returns
+call_value-returns t c =
+    rw (call_parts (place_at c.args.context.now) (scope c.args.scope.now) c.args.callee.now (expression_list c.args.arguments.now) c.args.span)
+    (goes_on _ c.in_ok-call.ensures c.with_result.ensures)
 
 pub called-returns-in_err-arguments : goal.called-returns-in_err-arguments
 called-returns-in_err-arguments t c = refused _ c.from_residual.result c.from_residual.ensures.1 c.in_err-arguments.ensures

@@ -1,4 +1,4 @@
-use Rattle.std.proofs.Common.{sym, ap, ◌∙◌, ◌<◌, length, refl, arith}
+use Rattle.std.proofs.Common.{sym, ap, ◌∙◌, length, refl, arith}
 use Rattle.std.proofs.lemmas.Option.{slice_get_read}
 use Rattle.pointer_modes.specs.Types.{Struct, ctype}
 use Rattle.pointer_modes.proofs.Cells.{length_of_cells}

@@ -117,8 +117,8 @@ pub statements-returns : goal.statements-returns
 statements-returns t c =
     record { so = (statements_done (place_at c.args.context.now) (rules.statements (place_at c.args.context.now) (scope c.args.scope.now) (statement_list c.args.written.now)) c.args.written.now c.loop-listed.listed-index (scope c.loop-listed.scope) c.loop-listed.built.items (omega (arith, c.loop-listed-test.false)) c.loop-listed.invariant.so_far, c.loop-listed.invariant.more) }
 
-pub statement-returns-in-Block : goal.statement-returns-in-Block
-statement-returns-in-Block t c =
+pub structured-returns-in-Block : goal.structured-returns-in-Block
+structured-returns-in-Block t c =
     rw (block_tree c.args.written.now c.in-Block.mark c.in-Block.inner c.in-Block.span c.as_slice.result.now c.in-Block.is c.as_slice.ensures.value) c.block.ensures
 
 pub statement-returns-in-Assign : goal.statement-returns-in-Assign
@@ -134,13 +134,13 @@ statement-returns-in-Call t c =
 pub statement-returns-in_ok-boxed-in-Empty : goal.statement-returns-in_ok-boxed-in-Empty
 statement-returns-in_ok-boxed-in-Empty t c = rw c.in-Empty.is (done statement c.in_ok-boxed-in-Empty.field-0 core.Nothing c.args.scope.now (ap core.statement c.in_ok-boxed-in-Empty.ensures))
 
-pub statement-returns-in-While : goal.statement-returns-in-While
-statement-returns-in-While t c =
+pub structured-returns-in-While : goal.structured-returns-in-While
+structured-returns-in-While t c =
     let walk = rw (c.deref-in-While.ensures, c.deref-in-While-2.ensures) at c.while_loop.ensures in
     while_walk (place_at c.args.context.now) (s.statement c.args.written.now) (trees.expression c.in-While.test.value) (s.statement c.in-While.body.value) c.in-While.span (ap s.statement c.in-While.is) walk
 
-pub statement-returns-in-For : goal.statement-returns-in-For
-statement-returns-in-For t c =
+pub structured-returns-in-For : goal.structured-returns-in-For
+structured-returns-in-For t c =
     let walk = rw c.deref-in-For.ensures at c.for_loop.ensures in
     for_walk (place_at c.args.context.now) (s.statement c.args.written.now) (s.for_initial c.in-For.initial) (option_map s.on_heap c.in-For.test) (option_map s.assignment c.in-For.step) (s.statement c.in-For.body.value) c.in-For.span (ap s.statement c.in-For.is) walk
 
@@ -157,19 +157,19 @@ statement-returns-in-Continue t c =
     let g = scope c.args.scope.now in
     rw c.in-Continue.is (kept_as (rules.statement (place_at c.args.context.now) g (s.Continue c.in-Continue.span)) c.args.scope.now (loop_parts g core.Continue c.in-Continue.span) c.continue_with.ensures)
 
-pub statement-returns-in-None : goal.statement-returns-in-None
-statement-returns-in-None t c =
-    let walk = rw (c.deref-in-None.ensures, c.deref-in-None-2.ensures) at c.if_alone.ensures in
+pub structured-returns-in-None : goal.structured-returns-in-None
+structured-returns-in-None t c =
+    let walk = rw (c.deref.ensures, c.deref-in-None.ensures) at c.if_alone.ensures in
     if_walk (place_at c.args.context.now) (s.statement c.args.written.now) (trees.expression c.in-If.test.value) (s.statement c.in-If.consequent.value) c.in-If.span (rw (c.in-If.is, c.in-None.is) refl) walk
 
-pub statement-returns-in_err-first-in-Some : goal.statement-returns-in_err-first-in-Some
-statement-returns-in_err-first-in-Some t c =
+pub structured-returns-in_err-first-in-Some : goal.structured-returns-in_err-first-in-Some
+structured-returns-in_err-first-in-Some t c =
     let broken = rw (c.deref-in-Some.ensures, c.deref-in-Some-2.ensures) at c.in_err-first-in-Some.ensures in
     if_else_walk (place_at c.args.context.now) (s.statement c.args.written.now) (trees.expression c.in-If.test.value) (s.statement c.in-If.consequent.value) (s.statement c.in-Some.alternative.value) c.in-If.span (rw (c.in-If.is, c.in-Some.is) refl)
-    (refused_walk _ c.from_residual-in_err-first-in-Some.result c.from_residual-in_err-first-in-Some.ensures.1 broken)
+    (refused_walk _ c.from_residual.result c.from_residual.ensures.1 broken)
 
-pub statement-returns-in_ok-first-in-Some : goal.statement-returns-in_ok-first-in-Some
-statement-returns-in_ok-first-in-Some t c =
+pub structured-returns-in_ok-first-in-Some : goal.structured-returns-in_ok-first-in-Some
+structured-returns-in_ok-first-in-Some t c =
     let first = rw (c.deref-in-Some.ensures, c.deref-in-Some-2.ensures) at c.in_ok-first-in-Some.ensures in
     let second = rw c.deref-in-Some-3.ensures at c.otherwise.ensures in
     if_else_walk (place_at c.args.context.now) (s.statement c.args.written.now) (trees.expression c.in-If.test.value) (s.statement c.in-If.consequent.value) (s.statement c.in-Some.alternative.value) c.in-If.span (rw (c.in-If.is, c.in-Some.is) refl)
