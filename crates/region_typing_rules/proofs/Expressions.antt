@@ -13,7 +13,7 @@ use Rattle.ckc_tree.specs.Expressions as e
 use Rattle.ckc_tree.specs.Expressions.{Expression, Expressions}
 use Rattle.pointer_modes.specs.declared.ctype.Mode.{Mode}
 use Rattle.pointer_modes.specs.declared.ctype.Kind.{Kind}
-use Rattle.pointer_modes.specs.Types.{CType, Int, Char, Struct, Pointer, members_of}
+use Rattle.pointer_modes.specs.Types.{CType, Int, Char, Struct, Pointer, Structure, members_of}
 use Rattle.pointer_modes.specs.Layout.{cells_of, size_of}
 use Rattle.ckc_core.specs.declared.program.Site.{Site}
 use Rattle.act_words.specs.declared.operator.Operator.{Operator}
@@ -24,18 +24,22 @@ use Rattle.act_words.specs.declared.operator.Comparison.{Comparison}
 use Rattle.act_words.specs.declared.operator.Comparison.TheVariants as comparisons
 use Rattle.ckc_core.specs.declared.program.Callee.{Callee}
 use Rattle.ckc_core.specs.declared.program.Callee.TheVariants as callees
+use Rattle.ckc_core.specs.declared.program.Index.TheVariants as indexes
 use Rattle.ckc_core.specs.Core as core
 use Rattle.ckc_core.specs.States.{shape, object_block, same_type}
 use Rattle.ckc_core.proofs.Elements.{of_element}
 use Rattle.ckc_names_rules.specs.declared.given.Given.{Given}
-use Rattle.region_typing_rules.specs.Verdicts.{Verdict, Passes, breaks}
+use Rattle.region_typing_rules.specs.Verdicts.{Verdict, Passes, Stops, passing, breaks}
 use Rattle.region_typing_rules.specs.Scopes.{Scope, Signature, Named, Local, Object, Nothing, named, function_named, members_named}
 use Rattle.region_typing_rules.specs.Types.{type_named, is_number, is_pointer, are_comparable, converts}
-use Rattle.region_typing_rules.specs.Expressions.{Places, Lvalue, OfLocal, OfCell, Typed, Value, AStruct, Called, Gives, GivesNothing, site_at, number, at_place, local_typed, name_typed, member_place, member_from, offset_among, member_at, dotted, pointed_by, arrowed, pointed_at, dereferenced, pointer_to, address, number_of, scalar_of, unary_typed, is_pointer_value, two_numbers, two_scalars, summands, as_pointer, equated_values, equated, ordered_values, ordered, arithmetic, binary_typed, indexed, in_type, converted, arguments_as, is_import, side_number, callee_of, call_of, first_of, writes, predefined_call, called, with_result, constant, typed, all_typed, call_typed}
+use Rattle.region_typing_rules.specs.Expressions.{Places, Lvalue, OfLocal, OfCell, Typed, Value, AStruct, Called, Gives, GivesNothing, site_at, noted, with_bounds, bounded, number, at_place, local_typed, name_typed, member_place, member_from, offset_among, member_at, dotted, pointed_by, arrowed, pointed_at, dereferenced, pointer_to, address, number_of, scalar_of, unary_typed, is_pointer_value, two_numbers, two_scalars, summands, as_pointer, equated_values, equated, ordered_values, ordered, arithmetic, binary_typed, indexed, in_type, converted, arguments_as, is_import, side_number, callee_of, call_of, first_of, writes, predefined_call, called, with_result, constant, typed, all_typed, call_typed}
 use Rattle.region_typing_rules.specs.Typed as rules
 use Rattle.region_typing_rules.specs.Typed.{Frame, slots, IsCallee, HasType, HaveTypes, HasPlace, IsStatement, IsScalar, IsScalarResult, IsNumberResult}
-use Rattle.region_typing_rules.proofs.Values.{scalar_stands}
-use Rattle.region_typing_rules.proofs.Verdicts.{Promises, passing_promises, needs_promises, anything_promised}
+use Rattle.region_typing_rules.proofs.Values.{member_row}
+use Rattle.region_typing_rules.proofs.Verdicts.{Promises, passing_promises, needs_promises, anything_promised, Extends}
+use Rattle.region_typing_rules.proofs.Known.{IsKnownResult, bounds_kept}
+use Rattle.region_typing_rules.proofs.KnownTypes.{IsKnownTyped, typed_known}
+use Rattle.region_typing_rules.proofs.Signatures.{named_has}
 use Rattle.region_typing_rules.proofs.Knowledge.{IsNumberType, IsTrusted, IsTainted, Knows, same_equal, StandsFor, name_stands, crossing_promises, HasMember, IfMember, member_there, member_slot}
 use Rattle.region_typing_rules.proofs.Sizes.{size_fits}
 
@@ -64,6 +68,10 @@ module _ (g : Frame) (types : List CType) where
   Fits (AStruct number (OfLocal k)) = ⊥
   Fits (AStruct number (OfCell p)) = HasPlace g types p (Struct number)
 
+  -- what it is fits with bounds at its node, wherever it begins
+  abbrev pub FitsNoted : Typed → Type 0
+  FitsNoted t = (site : Site) → Fits (with_bounds g.structs site t)
+
   -- and so has what a call is
   abbrev pub FitsCall : Called → Type 0
   FitsCall (Gives type value) = HasType g types value type × IsScalar type
@@ -84,52 +92,52 @@ module _ (g : Frame) (types : List CType) where
 
   -- ---- places
 
-  at_place_fits : (t : CType) (p : core.Place) → HasPlace g types p t → Fits (at_place t p)
-  at_place_fits Int p h = record { has_type = rules.load refl h; is_number = λ x. absurd (cc); stands = h; scalar = refl }
-  at_place_fits Char p h = record { has_type = rules.load refl h; is_number = λ x. absurd (cc); stands = h; scalar = refl }
-  at_place_fits (Struct number) p h = h
-  at_place_fits (Pointer m k t) p h = record { has_type = rules.load refl h; is_number = λ x. absurd (cc); stands = h; scalar = refl }
+  at_place_fits : (t : CType) (p : core.Place) → HasPlace g types p t → FitsNoted (at_place t p)
+  at_place_fits Int p h site = record { has_type = rules.load refl h (site, refl); is_number = λ x. absurd (cc); stands = h; scalar = refl }
+  at_place_fits Char p h site = record { has_type = rules.load refl h (site, refl); is_number = λ x. absurd (cc); stands = h; scalar = refl }
+  at_place_fits (Struct number) p h site = h
+  at_place_fits (Pointer m k t) p h site = record { has_type = rules.load refl h (site, refl); is_number = λ x. absurd (cc); stands = h; scalar = refl }
 
-  local_fits : (k : ℕ) (t : CType) → IsScalar t → slice_get types k ≡ Some t → Fits (local_typed k t)
-  local_fits k Int scalar h = record { has_type = rules.local h; is_number = λ x. absurd (cc); stands = h; scalar = refl }
-  local_fits k Char scalar h = record { has_type = rules.local h; is_number = λ x. absurd (cc); stands = h; scalar = refl }
-  local_fits k (Struct number) scalar h = absurd (cc)
-  local_fits k (Pointer m d t) scalar h = record { has_type = rules.local h; is_number = λ x. absurd (cc); stands = h; scalar = refl }
+  local_fits : (k : ℕ) (t : CType) → IsScalar t → slice_get types k ≡ Some t → FitsNoted (local_typed k t)
+  local_fits k Int scalar h site = record { has_type = rules.local h (site, refl); is_number = λ x. absurd (cc); stands = h; scalar = refl }
+  local_fits k Char scalar h site = record { has_type = rules.local h (site, refl); is_number = λ x. absurd (cc); stands = h; scalar = refl }
+  local_fits k (Struct number) scalar h site = absurd (cc)
+  local_fits k (Pointer m d t) scalar h site = record { has_type = rules.local h (site, refl); is_number = λ x. absurd (cc); stands = h; scalar = refl }
 
-  name_fits : AllByRecursion IsScalar types → (n : Named) → StandsFor g types n → Fits (name_typed n)
+  name_fits : AllByRecursion IsScalar types → (n : Named) → StandsFor g types n → FitsNoted (name_typed n)
   name_fits all (Local k t) h = local_fits k t (of_element IsScalar types k t all h) h
-  name_fits all (Object k t) h = at_place_fits t (core.Direct k 0) (rules.direct h.found h.stands)
-  name_fits all Nothing h = record { has_type = rules.word refl; is_number = λ x. refl; stands = tt; scalar = refl }
+  name_fits all (Object k t) h = at_place_fits t (core.Direct k 0) (rules.direct h.found h.row)
+  name_fits all Nothing h = λ site. record { has_type = rules.word refl; is_number = λ x. refl; stands = tt; scalar = refl }
 
   member_of : {p : core.Place} {n : ℕ} → HasPlace g types p (Struct n) → (k offset : ℕ) (t : CType) (site : Site) → slice_get (slots g.structs (Struct n)) k ≡ Some (record { type = t; offset = offset }) → IsScalar t → HasPlace g types (member_place p offset site) t
-  member_of (rules.direct {offset = first} {cells = is} found stands) k offset t site slot scalar =
-      rules.direct found (scalar_stands g.structs (shape (object_block is)) (first + offset) t scalar (stands.each k (record { type = t; offset = offset }) slot) stands.open_ended)
+  member_of {n = n} (rules.direct {offset = first} {cells = is} found row) k offset t site slot scalar =
+      rules.direct found (member_row g.structs (shape (object_block is)) n first k offset t scalar row slot)
   member_of (rules.pointed {e = e} h) k offset t site slot scalar =
       let place : offset ≡ 0 + offset = omega arith in
-      let here : HasPlace g types (core.Through e offset site) t = rules.member k h slot scalar in
-      subst (λ o. HasPlace g types (core.Through e o site) t) place here
+      let here : HasPlace g types (core.Through e indexes.First offset site) t = rules.member k h slot scalar in
+      subst (λ o. HasPlace g types (core.Through e indexes.First o site) t) place here
   member_of (rules.member i h found scalar') k offset t site slot scalar = absurd (cc)
 
   -- a pointer to a place
-  pointer_fits : {p : core.Place} {t : CType} → HasPlace g types p t → (site : Site) → Fits (pointer_to t p site)
-  pointer_fits (rules.direct found stands) site = plain_fits _ _ refl (rules.address_of (rules.direct found stands))
-  pointer_fits (rules.pointed h) site = plain_fits _ _ refl (rules.address_of (rules.pointed h))
-  pointer_fits (rules.member k h found scalar) site = plain_fits _ _ refl (rules.address_of (rules.member k h found scalar))
+  pointer_fits : {p : core.Place} {t : CType} → HasPlace g types p t → (site : Site) → FitsNoted (pointer_to t p site)
+  pointer_fits (rules.direct found row) site = λ node. plain_fits _ _ refl (rules.address_of (rules.direct found row) (node, refl))
+  pointer_fits (rules.pointed h) site = λ node. plain_fits _ _ refl (rules.address_of (rules.pointed h) (node, refl))
+  pointer_fits (rules.member k h found scalar) site = λ node. plain_fits _ _ refl (rules.address_of (rules.member k h found scalar) (node, refl))
 
-  address_promises : (a : Typed) (site : Site) (span : Span) → Fits a → Promises Fits (address a site span)
+  address_promises : (a : Typed) (site : Site) (span : Span) → Fits a → Promises FitsNoted (address a site span)
   address_promises (Value type zero value None) site span h = tt
   address_promises (Value type zero value (Some (OfLocal k))) site span h = tt
   address_promises (Value type zero value (Some (OfCell p))) site span h = pointer_fits h.stands site
   address_promises (AStruct number (OfLocal k)) site span h = tt
   address_promises (AStruct number (OfCell p)) site span h = pointer_fits h site
 
-  pointed_promises : (type : CType) (value : core.Expression) (site : Site) (span : Span) → HasType g types value type → Promises Fits (pointed_at type value site span)
+  pointed_promises : (type : CType) (value : core.Expression) (site : Site) (span : Span) → HasType g types value type → Promises FitsNoted (pointed_at type value site span)
   pointed_promises Int value site span h = tt
   pointed_promises Char value site span h = tt
   pointed_promises (Struct number) value site span h = tt
-  pointed_promises (Pointer m k t) value site span h = at_place_fits t (core.Through value 0 site) (rules.pointed h)
+  pointed_promises (Pointer m k t) value site span h = at_place_fits t (core.Through value indexes.First 0 site) (rules.pointed h)
 
-  dereferenced_promises : (a : Typed) (site : Site) (span : Span) → Fits a → Promises Fits (dereferenced a site span)
+  dereferenced_promises : (a : Typed) (site : Site) (span : Span) → Fits a → Promises FitsNoted (dereferenced a site span)
   dereferenced_promises (Value type zero value place) site span h = pointed_promises type value site span h.has_type
   dereferenced_promises (AStruct number place) site span h = tt
 
@@ -143,12 +151,12 @@ module _ (g : Frame) (types : List CType) where
   scalar_of_promises Q (Value type zero value place) span next h more = more value type h.has_type
   scalar_of_promises Q (AStruct number place) span next h more = tt
 
-  unary_promises : (operator : UnaryOperator) (a : Typed) (site : Site) (span : Span) → Fits a → Promises Fits (unary_typed operator a site span)
+  unary_promises : (operator : UnaryOperator) (a : Typed) (site : Site) (span : Span) → Fits a → Promises FitsNoted (unary_typed operator a site span)
   unary_promises unary.Deref a site span h = dereferenced_promises a site span h
   unary_promises unary.AddressOf a site span h = address_promises a site span h
-  unary_promises unary.Negate a site span h = number_of_promises Fits a span _ h (λ v n. number_fits (core.Negate v site) (rules.negate n))
-  unary_promises unary.Not a site span h = scalar_of_promises Fits a span _ h (λ v t typed. number_fits (core.Not v) (rules.inverse typed))
-  unary_promises unary.Complement a site span h = number_of_promises Fits a span _ h (λ v n. number_fits (core.Complement v) (rules.complement n))
+  unary_promises unary.Negate a site span h = number_of_promises FitsNoted a span _ h (λ v n node. number_fits (core.Negate v site) (rules.negate n))
+  unary_promises unary.Not a site span h = scalar_of_promises FitsNoted a span _ h (λ v t typed node. number_fits (core.Not v) (rules.inverse typed))
+  unary_promises unary.Complement a site span h = number_of_promises FitsNoted a span _ h (λ v n node. number_fits (core.Complement v) (rules.complement n))
 
   pub two_numbers_promise : {A : Type 0} (Q : A → Type 0) (a b : Typed) (span : Span) (next : core.Expression → core.Expression → Verdict A) → Fits a → Fits b → ((v w : core.Expression) → HasType g types v Int → HasType g types w Int → Promises Q (next v w)) → Promises Q (two_numbers a b span next)
   two_numbers_promise Q a b span next ha hb more = number_of_promises Q a span _ ha (λ v n. number_of_promises Q b span _ hb (λ w m. more v w n m))
@@ -290,9 +298,9 @@ module _ (g : Frame) (types : List CType) where
   scalar_result None h = tt
   scalar_result (Some t) h = number_scalar t h
 
-  call_fits : (callee : Callee) (ts : List CType) (result : Option CType) (values : core.Arguments) → IsCallee g callee ts result → HaveTypes g types values ts → IsScalarResult result → FitsCall (call_of result callee values)
-  call_fits callee ts None values is h scalar = λ result loop. rules.call_alone is h
-  call_fits callee ts (Some t) values is h scalar = (rules.call is h, scalar)
+  call_fits : (structs : List Structure) (callee : Callee) (ts : List CType) (result : Option CType) (values : core.Arguments) (site : Site) → Extends structs g.structs → IsKnownResult structs result → IsCallee g callee ts result → HaveTypes g types values ts → IsScalarResult result → FitsCall (call_of structs result callee values site)
+  call_fits structs callee ts None values site ext known is h scalar = λ result loop. rules.call_alone is h
+  call_fits structs callee ts (Some t) values site ext known is h scalar = (rules.call is h (site, bounds_kept structs g.structs t site ext known), scalar)
 
   trusted_callee : (number : ℕ) (f : Signature) → IsTrusted g number f → IsCallee g (callees.Trusted number) f.parameters f.result
   trusted_callee number f is =
@@ -329,7 +337,7 @@ module _ (g : Frame) (types : List CType) where
   module _ (s : Scope) (knows : Knows g types s) where
     -- ---- members
 
-    member_fits : (n : ℕ) (p : core.Place) (found : ℕ × CType) (site : Site) → HasPlace g types p (Struct n) → HasMember (members_of s.structs n) 0 found → Fits (at_place found.1 (member_place p (offset_among (cells_of s.structs (Struct n)) found.0) site))
+    member_fits : (n : ℕ) (p : core.Place) (found : ℕ × CType) (site : Site) → HasPlace g types p (Struct n) → HasMember (members_of s.structs n) 0 found → FitsNoted (at_place found.1 (member_place p (offset_among (cells_of s.structs (Struct n)) found.0) site))
     member_fits n p found site h m =
         let k : m.index ≡ found.0 = let e = m.counted in omega arith in
         let slot = member_slot g s knows.file n m.index m.member m.listed in
@@ -338,42 +346,45 @@ module _ (g : Frame) (types : List CType) where
         let typed = subst (λ t. HasPlace g types (member_place p (offset_among (cells_of s.structs (Struct n)) m.index) site) t) m.typed there in
         at_place_fits found.1 _ (subst (λ i. HasPlace g types (member_place p (offset_among (cells_of s.structs (Struct n)) i) site) found.1) k typed)
 
-    member_at_promises : (n : ℕ) (p : core.Place) (name : ℕ) (site : Site) (span : Span) → HasPlace g types p (Struct n) → Promises Fits (member_at s n p name site span)
+    member_at_promises : (n : ℕ) (p : core.Place) (name : ℕ) (site : Site) (span : Span) → HasPlace g types p (Struct n) → Promises FitsNoted (member_at s n p name site span)
     member_at_promises n p name site span h = by (member_from 0 (members_named s n) (members_of s.structs n) name) refl
       where
-        by : (o : Option (ℕ × CType)) → member_from 0 (members_named s n) (members_of s.structs n) name ≡ o → Promises Fits (member_at s n p name site span)
+        by : (o : Option (ℕ × CType)) → member_from 0 (members_named s n) (members_of s.structs n) name ≡ o → Promises FitsNoted (member_at s n p name site span)
         by None e = rw e tt
         by (Some found) e = rw e (member_fits n p found site h (subst (IfMember (members_of s.structs n) 0) e (member_there 0 (members_named s n) (members_of s.structs n) name)))
 
-    dotted_promises : (a : Typed) (name : ℕ) (site : Site) (span : Span) → Fits a → Promises Fits (dotted s a name site span)
+    dotted_promises : (a : Typed) (name : ℕ) (site : Site) (span : Span) → Fits a → Promises FitsNoted (dotted s a name site span)
     dotted_promises (Value type zero value place) name site span h = tt
     dotted_promises (AStruct n (OfLocal k)) name site span h = absurd h
     dotted_promises (AStruct n (OfCell p)) name site span h = member_at_promises n p name site span h
 
-    pointed_by_promises : (type : CType) (value : core.Expression) (name : ℕ) (site : Site) (span : Span) → HasType g types value type → Promises Fits (pointed_by s type value name site span)
+    pointed_by_promises : (type : CType) (value : core.Expression) (name : ℕ) (site : Site) (span : Span) → HasType g types value type → Promises FitsNoted (pointed_by s type value name site span)
     pointed_by_promises Int value name site span h = tt
     pointed_by_promises Char value name site span h = tt
     pointed_by_promises (Struct n) value name site span h = tt
     pointed_by_promises (Pointer m k Int) value name site span h = tt
     pointed_by_promises (Pointer m k Char) value name site span h = tt
     pointed_by_promises (Pointer m k (Pointer m' k' t)) value name site span h = tt
-    pointed_by_promises (Pointer m k (Struct n)) value name site span h = member_at_promises n (core.Through value 0 site) name site span (rules.pointed h)
+    pointed_by_promises (Pointer m k (Struct n)) value name site span h = member_at_promises n (core.Through value indexes.First 0 site) name site span (rules.pointed h)
 
-    arrowed_promises : (a : Typed) (name : ℕ) (site : Site) (span : Span) → Fits a → Promises Fits (arrowed s a name site span)
+    arrowed_promises : (a : Typed) (name : ℕ) (site : Site) (span : Span) → Fits a → Promises FitsNoted (arrowed s a name site span)
     arrowed_promises (Value type zero value place) name site span h = pointed_by_promises type value name site span h.has_type
     arrowed_promises (AStruct n place) name site span h = tt
 
     -- ---- calls of functions that are declared
 
-    side_fits : (name : ℕ) (f : Signature) (site : Site) (values : core.Arguments) (side : Bool) → is_import f ≡ side → function_named s.functions name ≡ Some f → HaveTypes g types values f.parameters → FitsCall (call_of f.result (callee_of side (side_number side s.functions f.name 0) site) values)
+    result_known : (name : ℕ) (f : Signature) → function_named s.functions name ≡ Some f → IsKnownResult s.structs f.result
+    result_known name f found = named_has (λ (x : Signature). IsKnownResult s.structs x.result) s.functions name f knows.file.closed.of_functions found
+
+    side_fits : (name : ℕ) (f : Signature) (site : Site) (values : core.Arguments) (side : Bool) → is_import f ≡ side → function_named s.functions name ≡ Some f → HaveTypes g types values f.parameters → FitsCall (call_of s.structs f.result (callee_of side (side_number side s.functions f.name 0) site) values site)
     side_fits name f site values true e found h =
         let number = side_number true s.functions f.name 0 in
         let is = knows.file.tainted name f found e in
-        call_fits (callees.Tainted number site) (replicate (length f.parameters) Int) f.result values (tainted_callee number f site is) (crossing h is.numbers) (scalar_result f.result is.number_result)
+        call_fits s.structs (callees.Tainted number site) (replicate (length f.parameters) Int) f.result values site knows.file.structs (result_known name f found) (tainted_callee number f site is) (crossing h is.numbers) (scalar_result f.result is.number_result)
     side_fits name f site values false e found h =
         let number = side_number false s.functions f.name 0 in
         let is = knows.file.trusted name f found e in
-        call_fits (callees.Trusted number) f.parameters f.result values (trusted_callee number f is) h is.scalar
+        call_fits s.structs (callees.Trusted number) f.parameters f.result values site knows.file.structs (result_known name f found) (trusted_callee number f is) h is.scalar
 
     called_promises : (o : Option Signature) (name : ℕ) (arguments : List (Typed × Span)) (site : Site) (span : Span) → function_named s.functions name ≡ o → AllFit arguments → Promises FitsCall (called s o name arguments site span)
     called_promises None name arguments site span e all = predefined_promises s.given name arguments span all
@@ -385,6 +396,17 @@ module _ (g : Frame) (types : List CType) where
 
     -- ---- the walk
 
+    noted_fits : (site : Site) (t : Typed) → FitsNoted t → IsKnownTyped s.structs t → Fits (with_bounds s.structs site t)
+    noted_fits site (Value type zero value place) h known =
+        subst (λ b. Fits (Value type zero (noted b value) place)) (sym (bounds_kept s.structs g.structs type site knows.file.structs known)) (h site)
+    noted_fits site (AStruct number place) h known = h site
+
+    -- with the bounds at its node
+    bounded_promises : (site : Site) (v : Verdict Typed) → Promises (IsKnownTyped s.structs) (bounded s site v) → Promises FitsNoted v → Promises Fits (bounded s site v)
+    bounded_promises site (Passes (Value type zero value place)) known h = noted_fits site (Value type zero value place) h known
+    bounded_promises site (Passes (AStruct number place)) known h = h site
+    bounded_promises site (Stops stop) known h = tt
+
     constant_promises : (value : ℕ) (zero : Bool) (span : Span) → Promises Fits (constant value zero span)
     constant_promises value zero span =
         needs_promises Fits (nat_lt value (2 ^ 31)) E04 span (Passes (Value Int zero (core.Number (pos value)) None)) (λ low. record { has_type = rules.word low; is_number = λ x. refl; stands = tt; scalar = refl })
@@ -394,7 +416,9 @@ module _ (g : Frame) (types : List CType) where
       typed_promises at (e.Number value span) = constant_promises value (value == 0) span
       typed_promises at (e.Character value span) = constant_promises value false span
       typed_promises at (e.Text bytes span) = tt
-      typed_promises at (e.Name name) = passing_promises (StandsFor g types) Fits (named s name.number) _ (name_stands g types s knows name.number) (name_fits knows.scalar)
+      typed_promises at (e.Name name) =
+          bounded_promises (site_at at name.span) (passing (named s name.number) (λ n. Passes (name_typed n))) (typed_known s knows.file.closed at (e.Name name))
+          (passing_promises (StandsFor g types) FitsNoted (named s name.number) _ (name_stands g types s knows name.number) (name_fits knows.scalar))
       typed_promises at (e.Call callee arguments span) =
           passing_promises AllFit Fits (all_typed at s arguments) _ (all_promise at arguments)
           (λ ts all. passing_promises FitsCall Fits (called s (function_named s.functions callee.number) callee.number ts (site_at at span) span) _ (called_promises (function_named s.functions callee.number) callee.number ts (site_at at span) span refl all)
@@ -407,9 +431,15 @@ module _ (g : Frame) (types : List CType) where
       typed_promises at (e.Calloc word type count size span) = tt
       typed_promises at (e.Index base index span) =
           passing_promises Fits Fits (typed at s base) _ (typed_promises at base) (λ a ha. passing_promises Fits Fits (typed at s index) _ (typed_promises at index) (λ b hb. indexed_promises a b span))
-      typed_promises at (e.Dot base member span) = passing_promises Fits Fits (typed at s base) _ (typed_promises at base) (λ a h. dotted_promises a member.number (site_at at span) span h)
-      typed_promises at (e.Arrow base member span) = passing_promises Fits Fits (typed at s base) _ (typed_promises at base) (λ a h. arrowed_promises a member.number (site_at at span) span h)
-      typed_promises at (e.Unary operator operand span) = passing_promises Fits Fits (typed at s operand) _ (typed_promises at operand) (λ a h. unary_promises operator a (site_at at span) span h)
+      typed_promises at (e.Dot base member span) =
+          bounded_promises (site_at at span) (passing (typed at s base) (λ a. dotted s a member.number (site_at at span) span)) (typed_known s knows.file.closed at (e.Dot base member span))
+          (passing_promises Fits FitsNoted (typed at s base) _ (typed_promises at base) (λ a h. dotted_promises a member.number (site_at at span) span h))
+      typed_promises at (e.Arrow base member span) =
+          bounded_promises (site_at at span) (passing (typed at s base) (λ a. arrowed s a member.number (site_at at span) span)) (typed_known s knows.file.closed at (e.Arrow base member span))
+          (passing_promises Fits FitsNoted (typed at s base) _ (typed_promises at base) (λ a h. arrowed_promises a member.number (site_at at span) span h))
+      typed_promises at (e.Unary operator operand span) =
+          bounded_promises (site_at at span) (passing (typed at s operand) (λ a. unary_typed operator a (site_at at span) span)) (typed_known s knows.file.closed at (e.Unary operator operand span))
+          (passing_promises Fits FitsNoted (typed at s operand) _ (typed_promises at operand) (λ a h. unary_promises operator a (site_at at span) span h))
       typed_promises at (e.Binary operator left right span) =
           passing_promises Fits Fits (typed at s left) _ (typed_promises at left) (λ a ha. passing_promises Fits Fits (typed at s right) _ (typed_promises at right) (λ b hb. binary_promises operator a b (site_at at span) span ha hb))
 

@@ -1,27 +1,29 @@
 -- What stays of a scope behind a statement, and what is added to it.
-use Rattle.std.proofs.Common.{◌≡◌, ℕ, ◌<◌, ◌≤◌, ◌++◌, List, [], ◌∷◌, length, refl, ◌∙◌, subst, arith}
-use Rattle.std.specs.Prelude.{nat_lt, not, ◌||◌}
+use Rattle.std.proofs.Common.{◌≡◌, ℕ, ◌<◌, ◌≤◌, ◌++◌, true, false, List, [], ◌∷◌, length, Some, refl, ◌∙◌, subst, arith}
+use Rattle.std.specs.Prelude.{◌==◌, slice_get, nat_lt, not, ◌||◌}
 use Rattle.std.specs.List.{AllByRecursion}
 use Rattle.std.proofs.lemmas.Bool.{ltb-true}
 use Rattle.std.proofs.lemmas.List.{length-append}
 use Rattle.ckc_text.specs.declared.place.Span.{Span}
 use Rattle.ckc_text.specs.declared.code.Code.TheVariants.{E08, E13, E15, E30}
-use Rattle.ckc_tree.specs.Types.{TypeTree}
+use Rattle.ckc_tree.specs.Types.{TypeTree, type_span}
 use Rattle.ckc_tree.specs.Statements as s
 use Rattle.ckc_tree.specs.Statements.{Declarator, Declaration, ForInitial, Statement, Statements}
-use Rattle.pointer_modes.specs.Types.{CType}
+use Rattle.pointer_modes.specs.Types.{CType, Member, Structure, members_of}
 use Rattle.ckc_core.specs.Core as core
-use Rattle.region_typing_rules.specs.Verdicts.{Verdict, passing}
-use Rattle.region_typing_rules.specs.Scopes.{Scope}
+use Rattle.region_typing_rules.specs.Verdicts.{Verdict, Passes, passing}
+use Rattle.region_typing_rules.specs.Scopes.{Scope, Signature, Variable, function_named}
 use Rattle.region_typing_rules.specs.Types.{is_scalar, without_stars, base_type}
-use Rattle.region_typing_rules.specs.Expressions.{Places, call_typed}
+use Rattle.region_typing_rules.specs.Expressions.{Places, is_import, side_number, call_typed}
 use Rattle.region_typing_rules.specs.Statements.{Walked, assignment, initialised, with_local, declarator, declarators, declaration, behind_block, in_loop, is_unchecked, condition, optional_condition, optional_step, first_part, return, statement, statements}
 use Rattle.region_typing_rules.specs.Typed.{Frame, IsScalar}
-use Rattle.region_typing_rules.proofs.Verdicts.{Promises, passing_promises, needs_promises, anything_promised, Extends, extends_append}
-use Rattle.region_typing_rules.proofs.Knowledge.{KnowsFile}
+use Rattle.region_typing_rules.proofs.Verdicts.{Promises, passing_promises, needs_promises, anything_promised, later_promises, Extends, extends_append}
+use Rattle.region_typing_rules.proofs.Known.{IsKnown, IsClosed, base_known}
+use Rattle.region_typing_rules.proofs.Knowledge.{IsTrusted, IsTainted, IsObject, KnowsFile}
 
 -- what stands at file level stays, and so do the result and the loop; locals are added, which are scalars
 pub record Grows (before after : Scope) : Type 0 where
+  pub tags : before.tags ≡ after.tags
   pub structs : before.structs ≡ after.structs
   pub functions : before.functions ≡ after.functions
   pub variables : before.variables ≡ after.variables
@@ -30,12 +32,14 @@ pub record Grows (before after : Scope) : Type 0 where
   pub locals : Extends before.locals after.locals
   pub scalars : AllByRecursion IsScalar before.locals → AllByRecursion IsScalar after.locals
   pub few : length before.locals ≤ 256 → length after.locals ≤ 256
+  pub closed : IsClosed before → IsClosed after
 
 pub stays : (g : Scope) → Grows g g
-stays g = record { structs = refl; functions = refl; variables = refl; result = refl; loop = refl; locals = λ k x h. h; scalars = λ h. h; few = λ h. h }
+stays g = record { tags = refl; structs = refl; functions = refl; variables = refl; result = refl; loop = refl; locals = λ k x h. h; scalars = λ h. h; few = λ h. h; closed = λ h. h }
 
 pub grows_further : (a b c : Scope) → Grows a b → Grows b c → Grows a c
 grows_further a b c h h' = record {
+  tags = h.tags ∙ h'.tags;
   structs = h.structs ∙ h'.structs;
   functions = h.functions ∙ h'.functions;
   variables = h.variables ∙ h'.variables;
@@ -44,15 +48,21 @@ grows_further a b c h h' = record {
   locals = λ k x e. h'.locals k x (h.locals k x e);
   scalars = λ all. h'.scalars (h.scalars all);
   few = λ n. h'.few (h.few n);
+  closed = λ c. h'.closed (h.closed c);
 }
 
 -- what is known of the file is known behind it
 pub file_known : (g : Frame) (a b : Scope) → Grows a b → KnowsFile g a → KnowsFile g b
 file_known g a b h k =
-    let known = subst (λ x. KnowsFile g (record a { structs = x })) h.structs (record { structs = k.structs; few_members = k.few_members; scalar_members = k.scalar_members; variables = k.variables; trusted = k.trusted; tainted = k.tainted }) in
-    let known' = subst (λ x. KnowsFile g (record a { structs = b.structs; functions = x })) h.functions (record { structs = known.structs; few_members = known.few_members; scalar_members = known.scalar_members; variables = known.variables; trusted = known.trusted; tainted = known.tainted }) in
-    let known'' = subst (λ x. KnowsFile g (record a { structs = b.structs; functions = b.functions; variables = x })) h.variables (record { structs = known'.structs; few_members = known'.few_members; scalar_members = known'.scalar_members; variables = known'.variables; trusted = known'.trusted; tainted = known'.tainted }) in
-    record { structs = known''.structs; few_members = known''.few_members; scalar_members = known''.scalar_members; variables = known''.variables; trusted = known''.trusted; tainted = known''.tainted }
+    record {
+      structs = subst (λ x. Extends x g.structs) h.structs k.structs;
+      closed = h.closed k.closed;
+      few_members = subst (λ x. (n : ℕ) → length (members_of x n) ≤ 64) h.structs k.few_members;
+      scalar_members = subst (λ x. (n : ℕ) → AllByRecursion (λ (m : Member). IsScalar m.ctype) (members_of x n)) h.structs k.scalar_members;
+      variables = subst (λ vs. (n : ℕ) (v : Variable) → slice_get vs n ≡ Some v → IsObject g v.type n) h.variables k.variables;
+      trusted = subst (λ fs. (name : ℕ) (f : Signature) → function_named fs name ≡ Some f → is_import f ≡ false → IsTrusted g (side_number false fs f.name 0) f) h.functions k.trusted;
+      tainted = subst (λ fs. (name : ℕ) (f : Signature) → function_named fs name ≡ Some f → is_import f ≡ true → IsTainted g (side_number true fs f.name 0) f) h.functions k.tainted;
+    }
 
 -- ---- locals
 
@@ -60,18 +70,35 @@ scalars_append : (ts : List CType) (t : CType) → IsScalar t → AllByRecursion
 scalars_append [] t h all = (h, tt)
 scalars_append (u ∷ ts) t h all = (all.0, scalars_append ts t h all.1)
 
-pub local_grows : (name : ℕ) (t : CType) (g : Scope) → IsScalar t → length g.locals < 256 → Grows g (with_local name t g)
-local_grows name t g h low = record { structs = refl; functions = refl; variables = refl; result = refl; loop = refl; locals = extends_append g.locals (t ∷ []); scalars = scalars_append g.locals t h; few = λ n. omega (arith, length-append g.locals (t ∷ [])) }
+known_append : (structs : List Structure) (ts : List CType) (t : CType) → IsKnown structs t → AllByRecursion (IsKnown structs) ts → AllByRecursion (IsKnown structs) (ts ++ t ∷ [])
+known_append structs [] t h all = (h, tt)
+known_append structs (u ∷ ts) t h all = (all.0, known_append structs ts t h all.1)
+
+pub local_closed : (name : ℕ) (t : CType) (g : Scope) → IsKnown g.structs t → IsClosed g → IsClosed (with_local name t g)
+local_closed name t g h c = record { tagged = c.tagged; of_members = c.of_members; of_functions = c.of_functions; of_variables = c.of_variables; of_locals = known_append g.structs g.locals t h c.of_locals }
+
+-- a type that a scope knows, where each of its tags has a struct
+abbrev pub IsNamedIn : Scope → CType → Type 0
+IsNamedIn g t = length g.tags ≤ length g.structs → IsKnown g.structs t
+
+pub named_further : (a b : Scope) (t : CType) → Grows a b → IsNamedIn a t → IsNamedIn b t
+named_further a b t h named few =
+    let before : length a.tags ≤ length a.structs = rw (h.tags, h.structs) few in
+    subst (λ x. IsKnown x t) h.structs (named before)
+
+pub local_grows : (name : ℕ) (t : CType) (g : Scope) → IsScalar t → length g.locals < 256 → IsNamedIn g t → Grows g (with_local name t g)
+local_grows name t g h low named = record { tags = refl; structs = refl; functions = refl; variables = refl; result = refl; loop = refl; locals = extends_append g.locals (t ∷ []); scalars = scalars_append g.locals t h; few = λ n. omega (arith, length-append g.locals (t ∷ [])); closed = λ c. local_closed name t g (named c.tagged) c }
 
 -- behind a block
 pub block_grows : (g inside : Scope) → Grows g inside → Grows g (behind_block g inside)
-block_grows g inside h = record { structs = h.structs; functions = h.functions; variables = h.variables; result = h.result; loop = refl; locals = h.locals; scalars = h.scalars; few = h.few }
+block_grows g inside h = record { tags = h.tags; structs = h.structs; functions = h.functions; variables = h.variables; result = h.result; loop = refl; locals = h.locals; scalars = h.scalars; few = h.few; closed = h.closed }
 
 pub loop_grows : (g inside : Scope) → Grows (in_loop g) inside → Grows g (behind_block g inside)
-loop_grows g inside h = record { structs = h.structs; functions = h.functions; variables = h.variables; result = h.result; loop = refl; locals = h.locals; scalars = h.scalars; few = h.few }
+loop_grows g inside h = record { tags = h.tags; structs = h.structs; functions = h.functions; variables = h.variables; result = h.result; loop = refl; locals = h.locals; scalars = h.scalars; few = h.few; closed = h.closed }
 
 pub for_grows : (g first inside : Scope) → Grows g first → Grows (in_loop first) inside → Grows g (behind_block g inside)
 for_grows g first inside h h' = record {
+  tags = h.tags ∙ h'.tags;
   structs = h.structs ∙ h'.structs;
   functions = h.functions ∙ h'.functions;
   variables = h.variables ∙ h'.variables;
@@ -80,28 +107,32 @@ for_grows g first inside h h' = record {
   locals = λ k x e. h'.locals k x (h.locals k x e);
   scalars = λ all. h'.scalars (h.scalars all);
   few = λ n. h'.few (h.few n);
+  closed = λ c. h'.closed (h.closed c);
 }
 
 abbrev pub GrowsTo : {A : Type 0} → Scope → A × Scope → Type 0
 GrowsTo g w = Grows g w.1
 
-pub declarator_grows : (at : Places) (g : Scope) (base : TypeTree) (type : CType) (span : Span) (d : Declarator) → Promises (GrowsTo {A = core.Statement} g) (declarator at g base type span d)
-declarator_grows at g base type span d =
+pub declarator_grows : (at : Places) (g : Scope) (base : TypeTree) (type : CType) (span : Span) (d : Declarator) → IsNamedIn g type → Promises (GrowsTo {A = core.Statement} g) (declarator at g base type span d)
+declarator_grows at g base type span d named =
     needs_promises (GrowsTo {A = core.Statement} g) (nat_lt (length g.locals) 256) E08 span _
-    (λ few. passing_promises (λ (t : CType). Unit {0}) (GrowsTo {A = core.Statement} g) (without_stars base d.stars type) _ (anything_promised (without_stars base d.stars type))
-    (λ t _. passing_promises (λ (x : core.Statement). Unit {0}) (GrowsTo {A = core.Statement} g) (initialised at (with_local d.name.number t g) d.initializer t (length g.locals) span) _ (anything_promised (initialised at (with_local d.name.number t g) d.initializer t (length g.locals) span))
-    (λ initial _. needs_promises (GrowsTo {A = core.Statement} g) (is_scalar t) E13 span _ (λ scalar. local_grows d.name.number t g scalar (ltb-true (length g.locals) 256 few)))))
+    (λ few. passing_promises (IsNamedIn g) (GrowsTo {A = core.Statement} g) (without_stars base d.stars type) _ (needs_promises (IsNamedIn g) (d.stars == 0) E15 (type_span base) (Passes type) (λ none. named))
+    (λ t named_t. passing_promises (λ (x : core.Statement). Unit {0}) (GrowsTo {A = core.Statement} g) (initialised at (with_local d.name.number t g) d.initializer t (length g.locals) span) _ (anything_promised (initialised at (with_local d.name.number t g) d.initializer t (length g.locals) span))
+    (λ initial _. needs_promises (GrowsTo {A = core.Statement} g) (is_scalar t) E13 span _ (λ scalar. local_grows d.name.number t g scalar (ltb-true (length g.locals) 256 few) named_t))))
 
-pub declarators_grow : (at : Places) (g : Scope) (base : TypeTree) (type : CType) (span : Span) (ds : List Declarator) → Promises (GrowsTo {A = core.Statement} g) (declarators at g base type span ds)
-declarators_grow at g base type span [] = stays g
-declarators_grow at g base type span (d ∷ ds) =
-    passing_promises (GrowsTo {A = core.Statement} g) (GrowsTo {A = core.Statement} g) (declarator at g base type span d) _ (declarator_grows at g base type span d)
-    (λ first h. passing_promises (GrowsTo {A = core.Statement} first.1) (GrowsTo {A = core.Statement} g) (declarators at first.1 base type span ds) _ (declarators_grow at first.1 base type span ds) (λ rest h'. grows_further g first.1 rest.1 h h'))
+pub declarators_grow : (at : Places) (g : Scope) (base : TypeTree) (type : CType) (span : Span) (ds : List Declarator) → IsNamedIn g type → Promises (GrowsTo {A = core.Statement} g) (declarators at g base type span ds)
+declarators_grow at g base type span [] named = stays g
+declarators_grow at g base type span (d ∷ ds) named =
+    passing_promises (GrowsTo {A = core.Statement} g) (GrowsTo {A = core.Statement} g) (declarator at g base type span d) _ (declarator_grows at g base type span d named)
+    (λ first h. passing_promises (GrowsTo {A = core.Statement} first.1) (GrowsTo {A = core.Statement} g) (declarators at first.1 base type span ds) _ (declarators_grow at first.1 base type span ds (named_further g first.1 type h named)) (λ rest h'. grows_further g first.1 rest.1 h h'))
+
+pub base_named : (g : Scope) (base : TypeTree) → Promises (IsNamedIn g) (base_type g base)
+base_named g base = later_promises (length g.tags ≤ length g.structs) (IsKnown g.structs) (base_type g base) (λ few. base_known g few base)
 
 pub declaration_grows : (at : Places) (g : Scope) (d : Declaration) → Promises (GrowsTo {A = core.Statement} g) (declaration at g d)
 declaration_grows at g d =
     needs_promises (GrowsTo {A = core.Statement} g) (nat_lt (length g.locals) 256) E08 d.span _
-    (λ few. passing_promises (λ (t : CType). Unit {0}) (GrowsTo {A = core.Statement} g) (base_type g d.base) _ (anything_promised (base_type g d.base)) (λ type _. declarators_grow at g d.base type d.span d.declarators))
+    (λ few. passing_promises (IsNamedIn g) (GrowsTo {A = core.Statement} g) (base_type g d.base) _ (base_named g d.base) (λ type named. declarators_grow at g d.base type d.span d.declarators named))
 
 pub first_grows : (at : Places) (g : Scope) (initial : ForInitial) → Promises (GrowsTo {A = core.Statement} g) (first_part at g initial)
 first_grows at g s.Nothing = stays g

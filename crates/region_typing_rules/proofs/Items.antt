@@ -23,6 +23,7 @@ use Rattle.ckc_tree.specs.Heights.{◌beside◌, statements_reach, optional_boun
 use Rattle.flat_bytes.specs.Blocks.{rounded_up}
 use Rattle.pointer_modes.specs.Layout.{size_of}
 use Rattle.pointer_modes.specs.Types.{CType, Int, Char, Struct, Pointer, Member, Structure}
+use Rattle.ckc_core.specs.Programs.{Initial}
 use Rattle.ckc_core.specs.Core as core
 use Rattle.ckc_core.specs.States.{shape, object_block}
 use Rattle.ckc_core.specs.Stacks.{statements_stack}
@@ -33,15 +34,16 @@ use Rattle.region_typing_rules.specs.Expressions.{Places, Typed, typed, is_impor
 use Rattle.region_typing_rules.specs.Statements.{statements, with_local, is_unchecked}
 use Rattle.region_typing_rules.specs.Items as items
 use Rattle.region_typing_rules.specs.Items.{Walk, in_checked_region, is_struct, member_types, scalar_members, with_struct, member_names, signed_constant, structure, Walked, initializer, object_cells, with_variable, WalkedVariable, written_size, few_bytes, room_for, room_for_first, variables, with_objects, global, listed, parameter_types, result_type, with_function, with_parameters, inside, core_function, function_body, is_defined, agrees, all_scalar, scalar_result, function_rules, signature_of, function, item}
-use Rattle.region_typing_rules.specs.Typed.{Frame, slots, Stands, IsScalar, IsScalarResult, AreStatements, IsNumberResult}
+use Rattle.region_typing_rules.specs.Typed.{Frame, HasRow, IsScalar, IsScalarResult, AreStatements, IsNumberResult}
 use Rattle.region_typing_rules.specs.Lowerable.{cells_size, objects_size, IsRoomy}
 use Rattle.region_typing_rules.proofs.Verdicts.{Promises, passing_promises, needs_promises, anything_promised, promised_so, both_promise, later_promises, all_promised, Extends, extends_append}
+use Rattle.region_typing_rules.proofs.Known.{IsKnown, IsKnownResult, known_later, all_so, of_members, with_struct_closed, without_known, base_known, type_known}
 use Rattle.region_typing_rules.proofs.Knowledge.{IsNumberType, KnowsFile}
 use Rattle.region_typing_rules.proofs.Growth.{Grows, stays, grows_further, file_known, local_grows, statements_grow, GrowsTo}
 use Rattle.region_typing_rules.proofs.Statements.{statements_promise}
 use Rattle.region_typing_rules.proofs.Stacks.{beside_first, beside_second, around_higher, HasFew}
 use Rattle.region_typing_rules.proofs.StatementStacks.{HaveFew, statements_low}
-use Rattle.region_typing_rules.proofs.Layouts.{ConstantFits, IsStart, AreCellsOf, IsWalked, of_members, cells_stand, whole_size, object_promises, constant_promises}
+use Rattle.region_typing_rules.proofs.Layouts.{ConstantFits, IsStart, AreCellsOf, IsWalked, cells_row, whole_size, object_promises, constant_promises}
 use Rattle.region_typing_rules.proofs.Signatures.{named_further, named_last, side_further, Agrees, agrees_equal, scalars_all, result_scalar, IsDeclared}
 use Rattle.region_typing_rules.proofs.Walks.{FileGrows, file_stays, file_further, AreSettled, IsBody, IsWell, settled_later, bodies_later, all_append}
 
@@ -90,6 +92,14 @@ module _ (height entry : ℕ) where
       (λ low. passing_promises (λ (t : CType). Unit {0}) (λ (ms : List Member). length ms ≤ 64) (type_named g m.type) _ (anything_promised (type_named g m.type))
       (λ t _. few_promised g members (before ++ record { name = m.name.name; ctype = t; span = m.span } ∷ []) (let below = ltb-true (length before) 64 low in let new : Member = record { name = m.name.name; ctype = t; span = m.span } in omega (arith, length-append before (new ∷ [])))))
 
+  members_known : (g : Scope) → length g.tags ≤ length g.structs → (members : List i.Member) (before : List Member) → AllByRecursion (λ (m : Member). IsKnown g.structs m.ctype) before → Promises (AllByRecursion (λ (m : Member). IsKnown g.structs m.ctype)) (member_types g members before)
+  members_known g tagged [] before all = all
+  members_known g tagged (m ∷ members) before all =
+      let known = λ (x : Member). IsKnown g.structs x.ctype in
+      needs_promises (AllByRecursion known) (nat_lt (length before) 64) E08 (type_span m.type.base) _
+      (λ low. passing_promises (IsKnown g.structs) (AllByRecursion known) (type_named g m.type) _ (type_known g tagged m.type)
+      (λ t h. members_known g tagged members (before ++ record { name = m.name.name; ctype = t; span = m.span } ∷ []) (all_append known before (record { name = m.name.name; ctype = t; span = m.span }) all h)))
+
   no_struct : (t : CType) → not (is_struct t) ≡ true → IsScalar t
   no_struct Int h = refl
   no_struct Char h = refl
@@ -101,19 +111,20 @@ module _ (height entry : ℕ) where
   scalars_promised Q (m ∷ members) next h = needs_promises Q (not (is_struct m.ctype)) E27 m.span (scalar_members members next) (λ one. scalars_promised Q members next (λ all. h (no_struct m.ctype one, all)))
 
   -- one struct more
-  with_struct_follows : (w : Walk) (tag : ℕ) (names : List ℕ) (tainted : Bool) (members : List Member) → IsWell height w → AreSettled w.scope.structs w.scope.variables w.objects → length members ≤ 64 → AllByRecursion (λ (m : Member). IsScalar m.ctype) members → Follows w (record w { scope = with_struct tag names tainted members w.scope })
-  with_struct_follows w tag names tainted members well settled few scalars =
+  with_struct_follows : (w : Walk) (tag : ℕ) (names : List ℕ) (tainted : Bool) (members : List Member) → IsWell height w → AreSettled w.scope.structs w.scope.variables w.objects → length members ≤ 64 → AllByRecursion (λ (m : Member). IsScalar m.ctype) members → AllByRecursion (λ (m : Member). IsKnown (with_struct tag names tainted members w.scope).structs m.ctype) members → Follows w (record w { scope = with_struct tag names tainted members w.scope })
+  with_struct_follows w tag names tainted members well settled few scalars known =
       let new : Structure = record { tainted = tainted; members = members } in
       let ext = extends_append w.scope.structs (new ∷ []) in
       let after = with_struct tag names tainted members w.scope in
       let grows : FileGrows w.scope after = record { structs = ext; variables = λ k x h. h; functions = λ name f h. h; numbers = λ side name f h. refl } in
       record {
         well = record {
+          closed = with_struct_closed w.scope tag names tainted members known well.closed;
           few = of_members (λ ms. length ms ≤ 64) (omega arith) w.scope.structs new well.few few;
           scalars = of_members (AllByRecursion (λ (m : Member). IsScalar m.ctype)) tt w.scope.structs new well.scalars scalars;
           start = well.start;
           declared = well.declared;
-          bodies = bodies_later height w.scope after w.bodies grows well.bodies;
+          bodies = bodies_later height w.scope after w.bodies well.closed grows well.bodies;
           roomy = well.roomy;
           bytes = well.bytes;
           room = well.room;
@@ -122,13 +133,27 @@ module _ (height entry : ℕ) where
         grows = grows;
       }
 
+  -- a struct with its members, or with none while these are walked
+  abbrev with_members : i.Structure → List Member → Structure
+  with_members d members = record { tainted = d.tainted; members = members }
+
   structure_promises : (w : Walk) (d : i.Structure) → IsWell height w → AreSettled w.scope.structs w.scope.variables w.objects → Promises (Follows w) (structure w d)
   structure_promises w d well settled =
       let inside = with_struct d.tag.number (member_names d.members) d.tainted [] w.scope in
       needs_promises (Follows w) (nat_lt (length w.scope.structs) 4096) E08 d.span _
-      (λ low. passing_promises (λ (ms : List Member). length ms ≤ 64) (Follows w) (member_types inside d.members []) _ (few_promised inside d.members [] (omega arith))
-      (λ members few. scalars_promised (Follows w) members _
-      (λ scalars. region_promises (Follows w) w.scope d.span _ (with_struct_follows w d.tag.number (member_names d.members) d.tainted members well settled few scalars))))
+      (λ low. passing_promises (λ (ms : List Member). (length ms ≤ 64) × AllByRecursion (λ (m : Member). IsKnown inside.structs m.ctype) ms) (Follows w) (member_types inside d.members []) _
+      (both_promise (λ (ms : List Member). length ms ≤ 64) (AllByRecursion (λ (m : Member). IsKnown inside.structs m.ctype)) (member_types inside d.members []) (few_promised inside d.members [] (omega arith)) (members_known inside tagged d.members [] tt))
+      (λ members h. scalars_promised (Follows w) members _
+      (λ scalars. region_promises (Follows w) w.scope d.span _ (with_struct_follows w d.tag.number (member_names d.members) d.tainted members well settled h.0 scalars (later members h.1)))))
+    where
+      tagged : length (w.scope.tags ++ d.tag.number ∷ []) ≤ length (w.scope.structs ++ with_members d [] ∷ [])
+      tagged = omega (arith, well.closed.tagged, length-append w.scope.tags (d.tag.number ∷ []), length-append w.scope.structs (with_members d [] ∷ []))
+
+      -- a struct is known as well by its members as without them
+      later : (members : List Member) → AllByRecursion (λ (m : Member). IsKnown (w.scope.structs ++ with_members d [] ∷ []) m.ctype) members → AllByRecursion (λ (m : Member). IsKnown (w.scope.structs ++ with_members d members ∷ []) m.ctype) members
+      later members all =
+          let longer : length (w.scope.structs ++ with_members d [] ∷ []) ≤ length (w.scope.structs ++ with_members d members ∷ []) = omega (arith, length-append w.scope.structs (with_members d [] ∷ []), length-append w.scope.structs (with_members d members ∷ [])) in
+          all_so (λ (m : Member). IsKnown (w.scope.structs ++ with_members d [] ∷ []) m.ctype) (λ (m : Member). IsKnown (w.scope.structs ++ with_members d members ∷ []) m.ctype) (λ m. known_later (w.scope.structs ++ with_members d [] ∷ []) (w.scope.structs ++ with_members d members ∷ []) m.ctype longer) members all
 
   -- ---- file-level variables
 
@@ -160,7 +185,7 @@ module _ (height entry : ℕ) where
   waiting_more structs [] v = omega arith
   waiting_more structs (u ∷ vs) v = omega (arith, waiting_more structs vs v)
 
-  objects_more : (objects : List (List core.Initial)) (cells : List core.Initial) → objects_size (objects ++ cells ∷ []) ≡ objects_size objects + (rounded_up (cells_size cells) + 16)
+  objects_more : (objects : List (List Initial)) (cells : List Initial) → objects_size (objects ++ cells ∷ []) ≡ objects_size objects + (rounded_up (cells_size cells) + 16)
   objects_more [] cells = omega arith
   objects_more (o ∷ objects) cells = omega (arith, objects_more objects cells)
 
@@ -222,46 +247,57 @@ module _ (height entry : ℕ) where
       let size = sized room.size (subst (λ n. written_size w.scope base n ≡ Passes room.size) none room.written) ∙ ap (size_of w.scope.structs) (sym same) in
       room.bytes ∙ ap (λ n. w.taken + (rounded_up n + 16)) size
 
-  with_variable_waits : (a w : Walk) (walked : List WalkedVariable) (name : ℕ) (t : CType) (initial : Walked) (taken : ℕ) → taken ≡ w.taken + (rounded_up (size_of w.scope.structs t) + 16) → taken ≤ 32768 → Waits a (w, walked) → IsWalked initial → Waits a (record w { scope = with_variable name t w.scope; taken = taken }, walked ++ record { type = t; initial = initial } ∷ [])
-  with_variable_waits a w walked name t initial taken bytes within h is =
+  with_variable_waits : (a w : Walk) (walked : List WalkedVariable) (name : ℕ) (t : CType) (initial : Walked) (taken : ℕ) → IsKnown w.scope.structs t → taken ≡ w.taken + (rounded_up (size_of w.scope.structs t) + 16) → taken ≤ 32768 → Waits a (w, walked) → IsWalked initial → Waits a (record w { scope = with_variable name t w.scope; taken = taken }, walked ++ record { type = t; initial = initial } ∷ [])
+  with_variable_waits a w walked name t initial taken known bytes within h is =
       let v : Variable = record { name = name; type = t } in
+      let c = h.well.closed in
       let after = with_variable name t w.scope in
       let more : FileGrows w.scope after = record { structs = λ k x e. e; variables = extends_append w.scope.variables (v ∷ []); functions = λ n f e. e; numbers = λ side n f e. refl } in
       record {
         settled_ones = h.settled_ones;
         waiting_ones = h.waiting_ones ++ v ∷ [];
         all = ap (λ vs. vs ++ v ∷ []) h.all ∙ append_assoc h.settled_ones h.waiting_ones (v ∷ []);
-        well = record { few = h.well.few; scalars = h.well.scalars; start = h.well.start; declared = h.well.declared; bodies = bodies_later height w.scope after w.bodies more h.well.bodies; roomy = h.well.roomy; bytes = omega (arith, h.well.bytes, bytes); room = within };
+        well = record {
+          closed = record { tagged = c.tagged; of_members = c.of_members; of_functions = c.of_functions; of_variables = all_append (λ (x : Variable). IsKnown w.scope.structs x.type) w.scope.variables v c.of_variables known; of_locals = c.of_locals };
+          few = h.well.few;
+          scalars = h.well.scalars;
+          start = h.well.start;
+          declared = h.well.declared;
+          bodies = bodies_later height w.scope after w.bodies h.well.closed more h.well.bodies;
+          roomy = h.well.roomy;
+          bytes = omega (arith, h.well.bytes, bytes);
+          room = within;
+        };
         settled = h.settled;
         waiting = waiting_append h.waiting_ones walked v (record { type = t; initial = initial }) h.waiting refl is;
         grows = file_further a.scope w.scope after h.grows more;
         bytes = omega (arith, h.bytes, bytes, waiting_more w.scope.structs h.waiting_ones v);
       }
 
-  variables_promise : (at : Places) (a w : Walk) (base : TypeTree) (type : CType) (span : Span) (ds : List Declarator) (walked : List WalkedVariable) → IsSized w.scope base type → Waits a (w, walked) → Promises (Waits a) (variables at w base type span ds walked)
-  variables_promise at a w base type span [] walked sized h = h
-  variables_promise at a w base type span (d ∷ ds) walked sized h =
+  variables_promise : (at : Places) (a w : Walk) (base : TypeTree) (type : CType) (span : Span) (ds : List Declarator) (walked : List WalkedVariable) → IsKnown w.scope.structs type → IsSized w.scope base type → Waits a (w, walked) → Promises (Waits a) (variables at w base type span ds walked)
+  variables_promise at a w base type span [] walked known sized h = h
+  variables_promise at a w base type span (d ∷ ds) walked known sized h =
       passing_promises (HasRoom w base d.stars) (Waits a) (room_for w base span d) _ (room_promises w base span d)
       (λ taken room. passing_promises (λ (t : CType). (d.stars ≡ 0) × (t ≡ type)) (Waits a) (without_stars base d.stars type) _ (starless base d.stars type)
       (λ t plain. passing_promises IsWalked (Waits a) (initializer at (with_variable d.name.number t w.scope) d.initializer) _ (initializer_promises at (with_variable d.name.number t w.scope) d.initializer)
-      (λ initial is. variables_promise at a (record w { scope = with_variable d.name.number t w.scope; taken = taken }) base type span ds (walked ++ record { type = t; initial = initial } ∷ []) (sized_later w.scope d.name.number t base type sized)
-      (with_variable_waits a w walked d.name.number t initial taken (taken_by w base type t d.stars taken sized room plain.0 plain.1) room.within h is))))
+      (λ initial is. variables_promise at a (record w { scope = with_variable d.name.number t w.scope; taken = taken }) base type span ds (walked ++ record { type = t; initial = initial } ∷ []) known (sized_later w.scope d.name.number t base type sized)
+      (with_variable_waits a w walked d.name.number t initial taken (subst (IsKnown w.scope.structs) (sym plain.1) known) (taken_by w base type t d.stars taken sized room plain.0 plain.1) room.within h is))))
 
-  settled_append : (structs : List Structure) (vs : List Variable) (objects : List (List core.Initial)) (v : Variable) (cells : List core.Initial) → AreSettled structs vs objects → Stands (shape (object_block cells)) 0 (slots structs v.type) → AreSettled structs (vs ++ v ∷ []) (objects ++ cells ∷ [])
+  settled_append : (structs : List Structure) (vs : List Variable) (objects : List (List Initial)) (v : Variable) (cells : List Initial) → AreSettled structs vs objects → HasRow structs (shape (object_block cells)) 0 v.type → AreSettled structs (vs ++ v ∷ []) (objects ++ cells ∷ [])
   settled_append structs [] [] v cells h stands = (stands, tt)
   settled_append structs [] (o ∷ objects) v cells h stands = absurd h
   settled_append structs (u ∷ vs) [] v cells h stands = absurd h
   settled_append structs (u ∷ vs) (o ∷ objects) v cells h stands = (h.0, settled_append structs vs objects v cells h.1 stands)
 
   -- the cells of the first one that waits
-  with_cells : (a w : Walk) (x : WalkedVariable) (walked : List WalkedVariable) (cells : List core.Initial) → Waits a (w, x ∷ walked) → AreCellsOf w.scope.structs x.type cells → 0 < length cells → Waits a (record w { objects = w.objects ++ cells ∷ [] }, walked)
+  with_cells : (a w : Walk) (x : WalkedVariable) (walked : List WalkedVariable) (cells : List Initial) → Waits a (w, x ∷ walked) → AreCellsOf w.scope.structs x.type cells → 0 < length cells → Waits a (record w { objects = w.objects ++ cells ∷ [] }, walked)
   with_cells a w x walked cells h is some = by h.waiting_ones h.all h.waiting h.bytes
     where
-      stands : Stands (shape (object_block cells)) 0 (slots w.scope.structs x.type)
-      stands = subst (λ c. Stands (shape (object_block c)) 0 (slots w.scope.structs x.type)) (sym is.same) (cells_stand w.scope.structs x.type is.number (subst (λ (c : List core.Initial). 0 < length c) is.same some))
+      row : HasRow w.scope.structs (shape (object_block cells)) 0 x.type
+      row = subst (λ c. HasRow w.scope.structs (shape (object_block c)) 0 x.type) (sym is.same) (cells_row w.scope.structs x.type is.number (subst (λ (c : List Initial). 0 < length c) is.same some))
 
       size : cells_size cells ≡ size_of w.scope.structs x.type
-      size = ap cells_size is.same ∙ whole_size w.scope.structs x.type is.number (subst (λ (c : List core.Initial). 0 < length c) is.same some)
+      size = ap cells_size is.same ∙ whole_size w.scope.structs x.type is.number (subst (λ (c : List Initial). 0 < length c) is.same some)
 
       taken : (v : Variable) → v.type ≡ x.type → objects_size (w.objects ++ cells ∷ []) ≡ objects_size w.objects + (rounded_up (size_of w.scope.structs v.type) + 16)
       taken v type = objects_more w.objects cells ∙ ap (λ n. objects_size w.objects + (rounded_up n + 16)) (size ∙ ap (size_of w.scope.structs) (sym type))
@@ -272,8 +308,8 @@ module _ (height entry : ℕ) where
         settled_ones = h.settled_ones ++ v ∷ [];
         waiting_ones = vs;
         all = all ∙ sym (append_assoc h.settled_ones (v ∷ []) vs);
-        well = record { few = h.well.few; scalars = h.well.scalars; start = all_append (AllByRecursion IsStart) w.objects cells h.well.start is.start; declared = h.well.declared; bodies = h.well.bodies; roomy = all_append (λ (o : List core.Initial). AllByRecursion IsRoomy o × (0 < length o)) w.objects cells h.well.roomy (is.roomy, some); bytes = omega (arith, bytes, taken v waiting.0); room = h.well.room };
-        settled = settled_append w.scope.structs h.settled_ones w.objects v cells h.settled (subst (λ t. Stands (shape (object_block cells)) 0 (slots w.scope.structs t)) (sym waiting.0) stands);
+        well = record { closed = h.well.closed; few = h.well.few; scalars = h.well.scalars; start = all_append (AllByRecursion IsStart) w.objects cells h.well.start is.start; declared = h.well.declared; bodies = h.well.bodies; roomy = all_append (λ (o : List Initial). AllByRecursion IsRoomy o × (0 < length o)) w.objects cells h.well.roomy (is.roomy, some); bytes = omega (arith, bytes, taken v waiting.0); room = h.well.room };
+        settled = settled_append w.scope.structs h.settled_ones w.objects v cells h.settled (subst (λ t. HasRow w.scope.structs (shape (object_block cells)) 0 t) (sym waiting.0) row);
         waiting = waiting.2;
         grows = h.grows;
         bytes = omega (arith, bytes, taken v waiting.0);
@@ -306,8 +342,9 @@ module _ (height entry : ℕ) where
   global_promises : (at : Places) (w : Walk) (d : i.Global) → IsWell height w → AreSettled w.scope.structs w.scope.variables w.objects → Promises (Follows w) (global at w d)
   global_promises at w d well settled =
       passing_promises (λ (n : ℕ). Unit {0}) (Follows w) (room_for_first w d d.declarators) _ (anything_promised (room_for_first w d d.declarators))
-      (λ taken _. passing_promises (IsSized w.scope d.base) (Follows w) (base_type w.scope d.base) _ (base_sized w.scope d.base)
-      (λ type sized. passing_promises (Waits w) (Follows w) (variables at w d.base type d.span d.declarators []) _ (variables_promise at w w d.base type d.span d.declarators [] sized (nothing_waits w well settled))
+      (λ taken _. passing_promises (λ (t : CType). IsSized w.scope d.base t × IsKnown w.scope.structs t) (Follows w) (base_type w.scope d.base) _
+      (both_promise (IsSized w.scope d.base) (IsKnown w.scope.structs) (base_type w.scope d.base) (base_sized w.scope d.base) (base_known w.scope well.closed.tagged d.base))
+      (λ type is. passing_promises (Waits w) (Follows w) (variables at w d.base type d.span d.declarators []) _ (variables_promise at w w d.base type d.span d.declarators [] is.1 is.0 (nothing_waits w well settled))
       (λ x h. passing_promises (Follows w) (Follows w) (with_objects x.0 d.span x.1) _ (with_objects_promises w x.0 d.span x.1 h)
       (λ v follows. region_promises (Follows w) v.scope d.span v follows))))
 
@@ -369,8 +406,25 @@ module _ (height entry : ℕ) where
       (λ low. passing_promises (λ (t : CType). Unit {0}) (λ (vs : List Variable). length vs ≤ 16) (type_named g p.type) _ (anything_promised (type_named g p.type))
       (λ t _. few_parameters g members (before ++ record { name = p.name.number; type = t } ∷ []) (let below = ltb-true (length before) 16 low in let new : Variable = record { name = p.name.number; type = t } in omega (arith, length-append before (new ∷ [])))))
 
+  -- the types of a signature name declared structs alone
+  result_known : (g : Scope) → length g.tags ≤ length g.structs → (form : i.ResultForm) (stars : ℕ) → Promises (IsKnownResult g.structs) (result_type g form stars)
+  result_known g tagged (i.Void span) stars = needs_promises (IsKnownResult g.structs) (stars == 0) E15 span (Passes None) (λ none. tt)
+  result_known g tagged (i.Value base) stars =
+      passing_promises (IsKnown g.structs) (IsKnownResult g.structs) (passing (base_type g base) (without_stars base stars)) _
+      (passing_promises (IsKnown g.structs) (IsKnown g.structs) (base_type g base) (without_stars base stars) (base_known g tagged base) (without_known g tagged base stars)) (λ t h. h)
+
+  parameters_known : (g : Scope) → length g.tags ≤ length g.structs → (members : List i.Member) (before : List Variable) → AllByRecursion (λ (v : Variable). IsKnown g.structs v.type) before → Promises (AllByRecursion (λ (v : Variable). IsKnown g.structs v.type)) (parameter_types g members before)
+  parameters_known g tagged [] before all = all
+  parameters_known g tagged (p ∷ members) before all =
+      let known = λ (x : Variable). IsKnown g.structs x.type in
+      needs_promises (AllByRecursion known) (nat_lt (length before) 16) E08 (type_span p.type.base) _
+      (λ low. passing_promises (IsKnown g.structs) (AllByRecursion known) (type_named g p.type) _ (type_known g tagged p.type)
+      (λ t h. parameters_known g tagged members (before ++ record { name = p.name.number; type = t } ∷ []) (all_append known before (record { name = p.name.number; type = t }) all h)))
+
   -- what its form says of a function, for its signature
-  record FitsForm (d : i.Function) (result : Option CType) (parameters : List Variable) : Type 0 where
+  record FitsForm (structs : List Structure) (d : i.Function) (result : Option CType) (parameters : List Variable) : Type 0 where
+    known_result : IsKnownResult structs result
+    known : AllByRecursion (λ (v : Variable). IsKnown structs v.type) parameters
     numbers : is_tainted d.kind ≡ true → AllByRecursion IsNumberType (map (λ (p : Variable). p.type) parameters)
     number_result : is_tainted d.kind ≡ true → IsNumberResult result
     int_result : is_main_function d ≡ true → result ≡ Some Int
@@ -419,11 +473,11 @@ module _ (height entry : ℕ) where
 
   -- ---- the body of a function
 
-  parameters_grow : (ps : List Variable) (g : Scope) → length g.locals + length ps ≤ 256 → AllByRecursion IsScalar (map (λ (p : Variable). p.type) ps) → Grows g (with_parameters ps g)
-  parameters_grow [] g few all = stays g
-  parameters_grow (p ∷ ps) g few all =
-      grows_further g (with_local p.name p.type g) (with_parameters ps (with_local p.name p.type g)) (local_grows p.name p.type g all.0 (omega arith))
-      (parameters_grow ps (with_local p.name p.type g) (omega (arith, length-append g.locals (p.type ∷ []))) all.1)
+  parameters_grow : (ps : List Variable) (g : Scope) → length g.locals + length ps ≤ 256 → AllByRecursion IsScalar (map (λ (p : Variable). p.type) ps) → AllByRecursion (λ (v : Variable). IsKnown g.structs v.type) ps → Grows g (with_parameters ps g)
+  parameters_grow [] g few all known = stays g
+  parameters_grow (p ∷ ps) g few all known =
+      grows_further g (with_local p.name p.type g) (with_parameters ps (with_local p.name p.type g)) (local_grows p.name p.type g all.0 (omega arith) (λ tagged. known.0))
+      (parameters_grow ps (with_local p.name p.type g) (omega (arith, length-append g.locals (p.type ∷ []))) all.1 known.1)
 
   parameter_locals : (ps : List Variable) (g : Scope) → (with_parameters ps g).locals ≡ g.locals ++ map (λ (p : Variable). p.type) ps
   parameter_locals [] g = sym (append-nil g.locals)
@@ -440,10 +494,10 @@ module _ (height entry : ℕ) where
       (cc, omega (arith, rest.1))
 
   -- the scope in which a body stands
-  file_inside : (g : Frame) (f : Signature) (ps : List Variable) (s : Scope) → length ps ≤ 16 → AllByRecursion IsScalar (map (λ (p : Variable). p.type) ps) → KnowsFile g s → KnowsFile g (inside f ps s)
-  file_inside g f ps s few all known =
+  file_inside : (g : Frame) (f : Signature) (ps : List Variable) (s : Scope) → length ps ≤ 16 → AllByRecursion IsScalar (map (λ (p : Variable). p.type) ps) → AllByRecursion (λ (v : Variable). IsKnown s.structs v.type) ps → KnowsFile g s → KnowsFile g (inside f ps s)
+  file_inside g f ps s few all types known =
       let start : Scope = record s { locals = []; visible = []; result = f.result; in_loop = false } in
-      file_known g start (with_parameters ps start) (parameters_grow ps start (omega arith) all) (record { structs = known.structs; few_members = known.few_members; scalar_members = known.scalar_members; variables = known.variables; trusted = known.trusted; tainted = known.tainted })
+      file_known g start (with_parameters ps start) (parameters_grow ps start (omega arith) all types) (record { structs = known.structs; closed = record { tagged = known.closed.tagged; of_members = known.closed.of_members; of_functions = known.closed.of_functions; of_variables = known.closed.of_variables; of_locals = tt }; few_members = known.few_members; scalar_members = known.scalar_members; variables = known.variables; trusted = known.trusted; tainted = known.tainted })
 
   -- a body that was walked, in a program in which the file is known, where its locals are these
   record Premises (s : Scope) : Type 0 where
@@ -470,12 +524,12 @@ module _ (height entry : ℕ) where
     named : function_named s.functions f.name ≡ Some signature
     agrees : Agrees signature f
 
-  function_body_typed : (s : Scope) (f : Signature) (ps : List Variable) (x : core.Statements × Scope) → f.parameters ≡ map (λ (p : Variable). p.type) ps → IsKnownAs s f → AllByRecursion IsScalar f.parameters → IsScalarResult f.result → length ps ≤ 16 → IsWalkedBody (inside f ps s) x → IsBody height s (record { name = f.name; function = core_function f ps x.0 x.1 })
-  function_body_typed s f ps x same known scalars result few walked =
+  function_body_typed : (s : Scope) (f : Signature) (ps : List Variable) (x : core.Statements × Scope) → f.parameters ≡ map (λ (p : Variable). p.type) ps → IsKnownAs s f → AllByRecursion IsScalar f.parameters → IsScalarResult f.result → length ps ≤ 16 → AllByRecursion (λ (v : Variable). IsKnown s.structs v.type) ps → IsWalkedBody (inside f ps s) x → IsBody height s (record { name = f.name; function = core_function f ps x.0 x.1 })
+  function_body_typed s f ps x same known scalars result few known_types walked =
       let start : Scope = record s { locals = []; visible = []; result = f.result; in_loop = false } in
       let types = map (λ (p : Variable). p.type) ps in
       let all : AllByRecursion IsScalar types = subst (AllByRecursion IsScalar) same scalars in
-      let grown = parameters_grow ps start (omega arith) all in
+      let grown = parameters_grow ps start (omega arith) all known_types in
       let held : (inside f ps s).locals ≡ types = parameter_locals ps start in
       let ext : Extends types x.1.locals = subst (λ ts. Extends ts x.1.locals) held walked.1.locals in
       let taken = extends_take types x.1.locals ext in
@@ -490,7 +544,7 @@ module _ (height entry : ℕ) where
           parameters = subst (λ n. n ≤ length x.1.locals) count taken.1;
           locals = locals;
           result = result;
-          body = subst (λ r. AreStatements g x.1.locals r false x.0) (sym grown.result) (subst (λ l. AreStatements g x.1.locals (inside f ps s).result l x.0) (sym grown.loop) (walked.2 (record { frame = g; types = x.1.locals; scalar = locals; known = file_inside g f ps s few all file }) (λ k t e. e)));
+          body = subst (λ r. AreStatements g x.1.locals r false x.0) (sym grown.result) (subst (λ l. AreStatements g x.1.locals (inside f ps s).result l x.0) (sym grown.loop) (walked.2 (record { frame = g; types = x.1.locals; scalar = locals; known = file_inside g f ps s few all known_types file }) (λ k t e. e)));
         };
         few_parameters = few;
         few_locals = walked.1.few (grown.few (omega arith));
@@ -537,9 +591,10 @@ module _ (height entry : ℕ) where
       follows : Follows w (record w { scope = with_function known f w.scope })
       is_known : IsKnownAs (with_function known f w.scope) f
 
-    declares : (known : Option Signature) (f : Signature) → function_named w.scope.functions f.name ≡ known → IsRuled known f → IsDeclared f → Declares known f
-    declares None f e ruled declared =
+    declares : (known : Option Signature) (f : Signature) → function_named w.scope.functions f.name ≡ known → IsRuled known f → IsDeclared f → IsKnownResult w.scope.structs f.result → Declares known f
+    declares None f e ruled declared known_result =
         let after = with_function None f w.scope in
+        let c = well.closed in
         let grows : FileGrows w.scope after = record {
           structs = λ k x h. h;
           variables = λ k x h. h;
@@ -548,22 +603,32 @@ module _ (height entry : ℕ) where
         } in
         record {
           follows = record {
-            well = record { few = well.few; scalars = well.scalars; start = well.start; declared = all_append IsDeclared w.scope.functions f well.declared declared; bodies = bodies_later height w.scope after w.bodies grows well.bodies; roomy = well.roomy; bytes = well.bytes; room = well.room };
+            well = record {
+              closed = record { tagged = c.tagged; of_members = c.of_members; of_functions = all_append (λ (x : Signature). IsKnownResult w.scope.structs x.result) w.scope.functions f c.of_functions known_result; of_variables = c.of_variables; of_locals = c.of_locals };
+              few = well.few;
+              scalars = well.scalars;
+              start = well.start;
+              declared = all_append IsDeclared w.scope.functions f well.declared declared;
+              bodies = bodies_later height w.scope after w.bodies well.closed grows well.bodies;
+              roomy = well.roomy;
+              bytes = well.bytes;
+              room = well.room;
+            };
             settled = settled;
             grows = grows;
           };
           is_known = record { signature = f; named = named_last w.scope.functions f e; agrees = record { kind = refl; parameters = refl; result = refl } };
         }
-    declares (Some before) f e ruled declared = record {
+    declares (Some before) f e ruled declared known_result = record {
       follows = record {
-        well = record { few = well.few; scalars = well.scalars; start = well.start; declared = well.declared; bodies = well.bodies; roomy = well.roomy; bytes = well.bytes; room = well.room };
+        well = record { closed = well.closed; few = well.few; scalars = well.scalars; start = well.start; declared = well.declared; bodies = well.bodies; roomy = well.roomy; bytes = well.bytes; room = well.room };
         settled = settled;
         grows = file_stays w.scope;
       };
       is_known = record { signature = before; named = e; agrees = agrees_equal before f ruled.agreed };
     }
 
-    module _ (d : i.Function) (result : Option CType) (parameters : List Variable) (form : FitsForm d result parameters) (of_main : IsNamedMain entry (i.FunctionItem d)) (known : Option Signature) (found : function_named w.scope.functions d.name.number ≡ known) where
+    module _ (d : i.Function) (result : Option CType) (parameters : List Variable) (form : FitsForm w.scope.structs d result parameters) (of_main : IsNamedMain entry (i.FunctionItem d)) (known : Option Signature) (found : function_named w.scope.functions d.name.number ≡ known) where
       abbrev signature : Signature
       signature = signature_of d result parameters
 
@@ -577,7 +642,7 @@ module _ (height entry : ℕ) where
       declared_so ruled = record { few = omega (arith, form.few, length-map parameters (λ (p : Variable). p.type)); scalars = scalars_all signature.parameters ruled.scalars; result = result_scalar result ruled.scalar; numbers = form.numbers; number_result = form.number_result }
 
       is_declared : IsRuled known signature → Declares known signature
-      is_declared ruled = declares known signature found ruled (declared_so ruled)
+      is_declared ruled = declares known signature found ruled (declared_so ruled) form.known_result
 
       main_known : IsKnownAs with_it.scope signature → is_main_function d ≡ true → HasMain with_it.scope
       main_known it_is main =
@@ -591,15 +656,19 @@ module _ (height entry : ℕ) where
             int = it_is.agrees.result ∙ form.int_result main;
           }
 
+      known_parameters : (o : Option Signature) → AllByRecursion (λ (v : Variable). IsKnown (with_function o signature w.scope).structs v.type) parameters
+      known_parameters None = form.known
+      known_parameters (Some before) = form.known
+
       -- with a body more
       with_body : IsRuled known signature → (x : core.Statements × Scope) → IsWalkedBody (inside signature parameters with_it.scope) x → IsPassed (record with_it { bodies = with_it.bodies ++ record { name = signature.name; function = core_function signature parameters x.0 x.1 } ∷ [] })
       with_body ruled x walked =
           let it = is_declared ruled in
-          let body = function_body_typed with_it.scope signature parameters x refl it.is_known (scalars_all signature.parameters ruled.scalars) (result_scalar result ruled.scalar) form.few walked in
+          let body = function_body_typed with_it.scope signature parameters x refl it.is_known (scalars_all signature.parameters ruled.scalars) (result_scalar result ruled.scalar) form.few (known_parameters known) walked in
           let well' = it.follows.well in
           record {
             follows = record {
-              well = record { few = well'.few; scalars = well'.scalars; start = well'.start; declared = well'.declared; bodies = all_append (IsBody height with_it.scope) with_it.bodies (record { name = signature.name; function = core_function signature parameters x.0 x.1 }) well'.bodies body; roomy = well'.roomy; bytes = well'.bytes; room = well'.room };
+              well = record { closed = well'.closed; few = well'.few; scalars = well'.scalars; start = well'.start; declared = well'.declared; bodies = all_append (IsBody height with_it.scope) with_it.bodies (record { name = signature.name; function = core_function signature parameters x.0 x.1 }) well'.bodies body; roomy = well'.roomy; bytes = well'.bytes; room = well'.room };
               settled = it.follows.settled;
               grows = it.follows.grows;
             };
@@ -638,26 +707,28 @@ module _ (height entry : ℕ) where
 
     -- what the form says of the result and of the parameters
     abbrev ResultFits : i.Function → Option CType → Type 0
-    ResultFits d result = (is_tainted d.kind ≡ true → IsNumberResult result) × (is_main_function d ≡ true → result ≡ Some Int)
+    ResultFits d result = (is_tainted d.kind ≡ true → IsNumberResult result) × ((is_main_function d ≡ true → result ≡ Some Int) × IsKnownResult w.scope.structs result)
 
     abbrev ParametersFit : i.Function → List Variable → Type 0
-    ParametersFit d parameters = (is_tainted d.kind ≡ true → AllByRecursion HasNumber parameters) × ((is_main_function d ≡ true → parameters ≡ []) × (length parameters ≤ 16))
+    ParametersFit d parameters = (is_tainted d.kind ≡ true → AllByRecursion HasNumber parameters) × ((is_main_function d ≡ true → parameters ≡ []) × ((length parameters ≤ 16) × AllByRecursion (λ (v : Variable). IsKnown w.scope.structs v.type) parameters))
 
     result_fits : (d : i.Function) → built_function d ≡ true → Promises (ResultFits d) (result_type w.scope d.result d.stars)
     result_fits d built =
         let v = result_type w.scope d.result d.stars in
-        both_promise (λ (o : Option CType). is_tainted d.kind ≡ true → IsNumberResult o) (λ (o : Option CType). is_main_function d ≡ true → o ≡ Some Int) v
+        both_promise (λ (o : Option CType). is_tainted d.kind ≡ true → IsNumberResult o) (λ (o : Option CType). (is_main_function d ≡ true → o ≡ Some Int) × IsKnownResult w.scope.structs o) v
         (later_promises (is_tainted d.kind ≡ true) IsNumberResult v (λ tainted. number_result w.scope d.result d.stars (crossing d built tainted).result))
+        (both_promise (λ (o : Option CType). is_main_function d ≡ true → o ≡ Some Int) (IsKnownResult w.scope.structs) v
         (later_promises (is_main_function d ≡ true) (λ (o : Option CType). o ≡ Some Int) v (λ main. int_result w.scope d.result d.stars (main_form d main).int))
+        (result_known w.scope well.closed.tagged d.result d.stars))
 
     parameters_fit : (d : i.Function) → built_function d ≡ true → Promises (ParametersFit d) (parameter_types w.scope (listed d.parameters) [])
     parameters_fit d built =
         let v = parameter_types w.scope (listed d.parameters) [] in
-        both_promise (λ (ps : List Variable). is_tainted d.kind ≡ true → AllByRecursion HasNumber ps) (λ (ps : List Variable). (is_main_function d ≡ true → ps ≡ []) × (length ps ≤ 16)) v
+        both_promise (λ (ps : List Variable). is_tainted d.kind ≡ true → AllByRecursion HasNumber ps) (λ (ps : List Variable). (is_main_function d ≡ true → ps ≡ []) × ((length ps ≤ 16) × AllByRecursion (λ (v : Variable). IsKnown w.scope.structs v.type) ps)) v
         (later_promises (is_tainted d.kind ≡ true) (AllByRecursion HasNumber) v (λ tainted. number_parameters w.scope (listed d.parameters) [] (listed_numbers d.parameters (crossing d built tainted).parameters) tt))
-        (both_promise (λ (ps : List Variable). is_main_function d ≡ true → ps ≡ []) (λ (ps : List Variable). length ps ≤ 16) v
+        (both_promise (λ (ps : List Variable). is_main_function d ≡ true → ps ≡ []) (λ (ps : List Variable). (length ps ≤ 16) × AllByRecursion (λ (v : Variable). IsKnown w.scope.structs v.type) ps) v
         (later_promises (is_main_function d ≡ true) (λ (ps : List Variable). ps ≡ []) v (λ main. none_listed w.scope d.parameters (main_form d main).nothing))
-        (few_parameters w.scope (listed d.parameters) [] (omega arith)))
+        (both_promise (λ (ps : List Variable). length ps ≤ 16) (AllByRecursion (λ (v : Variable). IsKnown w.scope.structs v.type)) v (few_parameters w.scope (listed d.parameters) [] (omega arith)) (parameters_known w.scope well.closed.tagged (listed d.parameters) [] tt)))
 
     function_promises : (at : Places) (all : List Item) (d : i.Function) → IsNamedMain entry (i.FunctionItem d) → built_function d ≡ true → (optional_body_reach d.body).height ≤ height → Promises (Passed w (is_main_function d)) (function at all w d)
     function_promises at all d of_main built low =
@@ -665,7 +736,7 @@ module _ (height entry : ℕ) where
         (λ few. passing_promises (ResultFits d) (Passed w (is_main_function d)) (result_type w.scope d.result d.stars) _ (result_fits d built)
         (λ result hr. passing_promises (ParametersFit d) (Passed w (is_main_function d)) (parameter_types w.scope (listed d.parameters) []) _ (parameters_fit d built)
         (λ parameters hp. declaration_promises d result parameters
-        (record { numbers = λ tainted. number_types parameters (hp.0 tainted); number_result = hr.0; int_result = hr.1; few = hp.1.1; none = hp.1.0 }) of_main
+        (record { known_result = hr.1.1; known = hp.1.1.1; numbers = λ tainted. number_types parameters (hp.0 tainted); number_result = hr.0; int_result = hr.1.0; few = hp.1.1.0; none = hp.1.0 }) of_main
         (function_named w.scope.functions d.name.number) refl at all low)))
 
     -- ---- items
@@ -678,11 +749,12 @@ module _ (height entry : ℕ) where
     item_promises at all (i.RegionItem region span) of_main built low = record {
       follows = record {
         well = record {
+          closed = well.closed;
           few = well.few;
           scalars = well.scalars;
           start = well.start;
           declared = well.declared;
-          bodies = bodies_later height w.scope (record w.scope { is_off = items.is_off region }) w.bodies (region_grows region) well.bodies;
+          bodies = bodies_later height w.scope (record w.scope { is_off = items.is_off region }) w.bodies well.closed (region_grows region) well.bodies;
           roomy = well.roomy;
           bytes = well.bytes;
           room = well.room;

@@ -9,7 +9,7 @@ use Rattle.ckc_tree.specs.Items as i
 use Rattle.ckc_tree.specs.Items.{Item}
 use Rattle.pointer_modes.specs.Types as types
 use Rattle.pointer_modes.specs.Types.{CType}
-use Rattle.ckc_core.specs.Core as core
+use Rattle.ckc_core.specs.Programs.{Initial}
 use Rattle.region_typing_rules.specs.Verdicts.{Verdict, Passes, Stops, passing, needs, picked}
 use Rattle.region_typing_rules.specs.Scopes.{Scope, Signature, Variable, function_named}
 use Rattle.region_typing_rules.specs.Expressions.{Places, is_tainted}
@@ -72,7 +72,7 @@ module _ (P : List Signature → List Defined → Type 0) where
       passing_any KeepsFirst (initializer at (with_variable d.name.number t w.scope) d.initializer) (behind_initial at w base type span d ds done taken t) (λ initial.
       variables_kept at (with_one w d taken t) base type span ds (done ++ record { type = t; initial = initial } ∷ []) h)))
 
-  abbrev behind_cells : Walk → Span → List WalkedVariable → List core.Initial → Verdict Walk
+  abbrev behind_cells : Walk → Span → List WalkedVariable → List Initial → Verdict Walk
   behind_cells w span vs cells = needs (nat_lt 0 (length cells)) E10 span (with_objects (record w { objects = w.objects ++ cells ∷ [] }) span vs)
 
   objects_kept : (w : Walk) (span : Span) (vs : List WalkedVariable) → Keeps w → Promises Keeps (with_objects w span vs)

@@ -11,14 +11,16 @@ use Rattle.pointer_modes.specs.declared.ctype.Kind.{Kind}
 use Rattle.pointer_modes.specs.declared.ctype.Kind.TheVariants as kinds
 use Rattle.pointer_modes.specs.Types.{CType, Int, Char, Struct, Pointer, Member, Structure, members_of}
 use Rattle.pointer_modes.specs.Layout.{placed_from, member_sizes, cells_of, aligned_up, scalar_size}
+use Rattle.ckc_core.specs.Programs.{Initial, Import}
 use Rattle.ckc_core.specs.Core as core
 use Rattle.ckc_core.specs.States.{shape, object_block, same_mode, same_kind, same_type}
 use Rattle.region_typing_rules.specs.Verdicts.{Verdict, meant, picked}
 use Rattle.region_typing_rules.specs.Scopes.{Scope, Signature, Variable, Visible, Named, Local, Object, Nothing, local_if, found_if, local_named, object_named, or_else, null_named, named, function_named}
 use Rattle.region_typing_rules.specs.Types.{is_number}
 use Rattle.region_typing_rules.specs.Expressions.{Typed, is_checked_argument, without_checked, crossing, is_import, side_number, member_from, offset_among}
-use Rattle.region_typing_rules.specs.Typed.{Frame, slots_from, slots, Stands, IsNumberResult, IsScalar, IsScalarResult}
+use Rattle.region_typing_rules.specs.Typed.{Frame, slots_from, slots, HasRow, IsNumberResult, IsScalar, IsScalarResult}
 use Rattle.region_typing_rules.proofs.Verdicts.{Promises, needs_promises, Extends}
+use Rattle.region_typing_rules.proofs.Known.{IsClosed}
 
 abbrev pub IsNumberType : CType → Type 0
 IsNumberType t = is_number t ≡ true
@@ -33,22 +35,23 @@ pub record IsTrusted (g : Frame) (number : ℕ) (f : Signature) : Type 0 where
 
 -- a tainted one, which takes and gives numbers
 pub record IsTainted (g : Frame) (number : ℕ) (f : Signature) : Type 0 where
-  pub import : core.Import
+  pub import : Import
   pub found : slice_get g.program.imports number ≡ Some import
   pub parameters : import.parameters ≡ length f.parameters
   pub result : import.result ≡ f.result
   pub numbers : AllByRecursion IsNumberType f.parameters
   pub number_result : IsNumberResult f.result
 
--- a variable of the program, and the type of what stands at its first byte
+-- a variable of the program, and what stands at its first byte
 pub record IsObject (g : Frame) (type : CType) (number : ℕ) : Type 0 where
-  pub cells : List core.Initial
+  pub cells : List Initial
   pub found : slice_get g.program.objects number ≡ Some cells
-  pub stands : Stands (shape (object_block cells)) 0 (slots g.structs type)
+  pub row : HasRow g.structs (shape (object_block cells)) 0 type
 
 -- the structs, the variables and the functions that are known are those of the program
 pub record KnowsFile (g : Frame) (s : Scope) : Type 0 where
   pub structs : Extends s.structs g.structs
+  pub closed : IsClosed s
   pub few_members : (n : ℕ) → length (members_of s.structs n) ≤ 64
   pub scalar_members : (n : ℕ) → AllByRecursion (λ m. IsScalar m.ctype) (members_of s.structs n)
   pub variables : (k : ℕ) (v : Variable) → slice_get s.variables k ≡ Some v → IsObject g v.type k

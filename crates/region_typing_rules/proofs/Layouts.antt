@@ -1,9 +1,10 @@
 -- The cells of a file-level variable stand as the slots of its type.
-use Rattle.std.proofs.Common.{◌≡◌, ℕ, zero, suc, ◌+◌, ◌-◌, ◌<◌, ◌≤◌, ◌^◌, ◌%◌, Bool, true, false, ℤ, pos, List, [], ◌∷◌, ◌++◌, map, length, Option, Some, None, refl, sym, ap, ◌∙◌, subst, ◌⊎◌, inl, inr, ⊎_elim, arith}
-use Rattle.std.specs.Prelude.{◌==◌, nat_lt, slice_get}
+use Rattle.std.proofs.Common.{◌≡◌, ℕ, zero, suc, ◌+◌, ◌-◌, ◌<◌, ◌≤◌, ◌^◌, ◌%◌, Bool, true, false, ℤ, pos, List, [], ◌∷◌, map, length, Option, Some, None, refl, sym, ap, ◌∙◌, subst, ◌⊎◌, inl, inr, ⊎_elim, arith}
+use Rattle.std.specs.Prelude.{◌==◌, nat_lt, slice_get, sum}
 use Rattle.std.specs.List.{AllByRecursion}
 use Rattle.std.specs.Option.{option_and_then, option_map}
 use Rattle.std.proofs.lemmas.Bool.Decides.{nat_tests}
+use Rattle.std.proofs.lemmas.List.Sums.{sum_by-cons}
 use Rattle.act_words.specs.Checks.{is_word_number}
 use Rattle.act_words.specs.Numbers.{word}
 use Rattle.ckc_text.specs.declared.place.Span.{Span}
@@ -13,32 +14,26 @@ use Rattle.ckc_tree.specs.Expressions as e
 use Rattle.ckc_tree.specs.Expressions.{Expression}
 use Rattle.pointer_modes.specs.Types.{CType, Int, Char, Struct, Pointer, Member, Structure, members_of}
 use Rattle.pointer_modes.specs.Layout.{placed_from, member_sizes, size_of, aligned_up, scalar_size, end_from, largest_of}
-use Rattle.ckc_core.specs.Core as core
-use Rattle.ckc_core.specs.States.{number_at, shape, type_at, initial_value, object_block}
+use Rattle.ckc_core.specs.Programs.{Initial}
+use Rattle.ckc_core.specs.States.{Shape, number_at, shape, type_at, initial_value, object_block}
 use Rattle.ckc_core.specs.States as states
-use Rattle.ckc_core.specs.Meaning.{low_byte}
+use Rattle.ckc_core.specs.Steps.{low_byte}
 use Rattle.ckc_names_rules.specs.declared.given.Given.{Given}
+use Rattle.region_typing_rules.specs.Verdicts.{passing}
 use Rattle.region_typing_rules.specs.Scopes.{Scope}
 use Rattle.region_typing_rules.specs.Expressions.{Places, Typed, typed, constant, offset_among, unary_typed, site_at}
 use Rattle.region_typing_rules.specs.Items.{negative, null_number, unsigned_constant, negated_of, positive_of, signed_constant, strides_from, strides_of, cell_types, numbered_cells, cells_with, Walked, Missing, Written, Constants, is_zero, number_or_break, written_cells, object_cells}
-use Rattle.region_typing_rules.specs.Typed.{Slot, slots_from, slots, Stands, HasValue, IsScalar, IsInitial}
+use Rattle.region_typing_rules.specs.Typed.{Slot, slots_from, slots, Stands, HasRow, HasValue, IsScalar, IsInitial}
 use Rattle.region_typing_rules.specs.Lowerable.{cells_size, IsRoomy}
 use Rattle.ckc_core.proofs.Numbers.{low_byte_small}
 use Rattle.region_typing_rules.proofs.Values.{value_typed, scalar_stands}
 use Rattle.region_typing_rules.proofs.Verdicts.{Promises, passing_promises, needs_promises, anything_promised, always_promised, Extends}
 
 -- a cell before the run holds a value of its type, in every program
-abbrev pub IsStart : core.Initial → Type 0
+abbrev pub IsStart : Initial → Type 0
 IsStart i = (structs : List Structure) → IsInitial structs i
 
 -- ---- members
-
--- what is so of no members, and of those of each struct
-pub of_members : (P : List Member → Type 0) → P [] → (structs : List Structure) (s : Structure) → ((n : ℕ) → P (members_of structs n)) → P s.members → (n : ℕ) → P (members_of (structs ++ s ∷ []) n)
-of_members P none [] s h new zero = new
-of_members P none [] s h new (suc n) = none
-of_members P none (x ∷ structs) s h new zero = h 0
-of_members P none (x ∷ structs) s h new (suc n) = of_members P none structs s (λ k. h (suc k)) new n
 
 -- a struct that is known has the same members later, and one that isn't has none
 pub earlier_members : (P : List Member → Type 0) → P [] → (a b : List Structure) → Extends a b → ((n : ℕ) → P (members_of b n)) → (n : ℕ) → P (members_of a n)
@@ -48,7 +43,7 @@ earlier_members P none a b ext h n = by (slice_get a n) refl
     by None e = rw e none
     by (Some x) e = let e' = ext n x e in let there : P (members_of b n) = h n in rw e (rw e' at there)
 
-pub slots_kept : (a b : List Structure) (t : CType) → Extends a b → 0 < length (slots a t) → slots a t ≡ slots b t
+slots_kept : (a b : List Structure) (t : CType) → Extends a b → 0 < length (slots a t) → slots a t ≡ slots b t
 slots_kept a b Int ext h = refl
 slots_kept a b Char ext h = refl
 slots_kept a b (Pointer m k t) ext h = refl
@@ -57,6 +52,23 @@ slots_kept a b (Struct n) ext h = by (slice_get a n) refl
     by : (o : Option Structure) → slice_get a n ≡ o → slots a (Struct n) ≡ slots b (Struct n)
     by None e = let none = rw e at h in absurd (omega arith)
     by (Some x) e = let e' = ext n x e in rw (e, e') refl
+
+-- what stands somewhere stands there when more structs are declared
+pub row_kept : (a b : List Structure) (s : Shape) (byte : ℕ) (t : CType) → Extends a b → HasRow a s byte t → HasRow b s byte t
+row_kept a b s byte t ext h = record {
+  stands = subst (λ row. Stands s byte row) (slots_kept a b t ext h.stands.there) h.stands;
+  room = subst (λ n. byte + n ≤ sum s.strides) (bytes_kept t h.stands.there) h.room;
+}
+  where
+    bytes_kept : (t : CType) → 0 < length (slots a t) → size_of a t ≡ size_of b t
+    bytes_kept Int some = refl
+    bytes_kept Char some = refl
+    bytes_kept (Pointer m k t) some = refl
+    bytes_kept (Struct n) some = by (slice_get a n) refl
+      where
+        by : (o : Option Structure) → slice_get a n ≡ o → size_of a (Struct n) ≡ size_of b (Struct n)
+        by None e = let none = rw e at some in absurd (omega arith)
+        by (Some x) e = let e' = ext n x e in rw (e, e') refl
 
 -- ---- places
 
@@ -96,11 +108,11 @@ abbrev types_of : List Member → List CType
 types_of members = map (λ (m : Member). m.ctype) members
 
 -- the cells of members from a place on
-abbrev cells_from : ℤ → ℕ → List Member → ℕ → List core.Initial
+abbrev cells_from : ℤ → ℕ → List Member → ℕ → List Initial
 cells_from number place members end = numbered_cells number (types_of members) (strides_from (placed_from place (member_sizes members)) end)
 
 -- the byte of a slot's cell, from the first cell on
-record HasSlot (cells : List core.Initial) (first : ℕ) (slot : Slot) : Type 0 where
+record HasSlot (cells : List Initial) (first : ℕ) (slot : Slot) : Type 0 where
   byte : ℕ
   typed : type_at (shape (object_block cells)) byte ≡ Some slot.type
   place : byte + first ≡ slot.offset
@@ -139,7 +151,7 @@ members_stand (m ∷ members) number end some = record { there = omega arith; ea
         subst (λ b. type_at (shape (object_block (cells_from number 0 (m ∷ members) end))) b ≡ Some slot.type) at here.typed
 
 -- the cells of a variable, where there are some
-pub cells_stand : (structs : List Structure) (t : CType) (number : ℤ) → 0 < length (cells_with structs t number) → Stands (shape (object_block (cells_with structs t number))) 0 (slots structs t)
+cells_stand : (structs : List Structure) (t : CType) (number : ℤ) → 0 < length (cells_with structs t number) → Stands (shape (object_block (cells_with structs t number))) 0 (slots structs t)
 cells_stand structs Int number some = scalar_stands structs (shape (object_block (cells_with structs Int number))) 0 Int refl refl refl
 cells_stand structs Char number some = scalar_stands structs (shape (object_block (cells_with structs Char number))) 0 Char refl refl refl
 cells_stand structs (Pointer m k t) number some = scalar_stands structs (shape (object_block (cells_with structs (Pointer m k t) number))) 0 (Pointer m k t) refl refl refl
@@ -183,7 +195,7 @@ end_least : (place : ℕ) (members : List Member) → place ≤ end_from place (
 end_least place [] = omega arith
 end_least place (m ∷ members) = omega (arith, aligned_least m.ctype place, end_least (aligned_up (scalar_size m.ctype) place + scalar_size m.ctype) members)
 
-abbrev HasRoom : core.Initial → Type 0
+abbrev HasRoom : Initial → Type 0
 HasRoom i = scalar_size i.type ≤ i.stride
 
 cells_roomy : (number : ℤ) (members : List Member) (place end : ℕ) → end_from place (member_sizes members) ≤ end → AllByRecursion HasRoom (cells_from number place members end)
@@ -214,6 +226,14 @@ whole_size structs Char number some = refl
 whole_size structs (Pointer m k t) number some = refl
 whole_size structs (Struct n) number some = members_size number (members_of structs n) (size_of structs (Struct n)) (struct_wide (members_of structs n)) some
 
+-- they stand in their own room
+strides_whole : (cells : List Initial) → sum (shape (object_block cells)).strides ≡ cells_size cells
+strides_whole [] = refl
+strides_whole (i ∷ cells) = sum_by-cons (λ (n : ℕ). n) i.stride (shape (object_block cells)).strides ∙ ap (λ n. i.stride + n) (strides_whole cells)
+
+pub cells_row : (structs : List Structure) (t : CType) (number : ℤ) → 0 < length (cells_with structs t number) → HasRow structs (shape (object_block (cells_with structs t number))) 0 t
+cells_row structs t number some = record { stands = cells_stand structs t number some; room = omega (arith, strides_whole (cells_with structs t number), whole_size structs t number some) }
+
 all_roomy : (structs : List Structure) (t : CType) (number : ℤ) → AllByRecursion HasRoom (cells_with structs t number)
 all_roomy structs Int number = (omega arith, tt)
 all_roomy structs Char number = (omega arith, tt)
@@ -234,7 +254,7 @@ zero_null [] = tt
 zero_null (t ∷ ts) = ((λ h. refl), zero_null ts)
 
 -- the cells of a variable that are written down
-pub record AreCellsOf (structs : List Structure) (t : CType) (cells : List core.Initial) : Type 0 where
+pub record AreCellsOf (structs : List Structure) (t : CType) (cells : List Initial) : Type 0 where
   pub number : ℤ
   pub same : cells ≡ cells_with structs t number
   pub start : AllByRecursion IsStart cells
@@ -336,8 +356,9 @@ module _ (given : Given) (at : Places) (s : Scope) where
   constant_promises (e.Dot base member span) = anything_promised (typed at s (e.Dot base member span))
   constant_promises (e.Arrow base member span) = anything_promised (typed at s (e.Arrow base member span))
   constant_promises (e.Unary unary.Negate operand span) =
-      passing_promises (λ (t : Typed). ConstantFits (negated_of (unsigned_constant given operand))) (λ (t : Typed). ConstantFits (negated_of (unsigned_constant given operand))) (typed at s operand) _ (negated_promises operand)
-      (λ a h. always_promised (unary_typed unary.Negate a (site_at at span) span) h)
+      let fits = λ (t : Typed). ConstantFits (negated_of (unsigned_constant given operand)) in
+      passing_promises fits fits (passing (typed at s operand) (λ a. unary_typed unary.Negate a (site_at at span) span)) _
+      (passing_promises fits fits (typed at s operand) _ (negated_promises operand) (λ a h. always_promised (unary_typed unary.Negate a (site_at at span) span) h)) (λ t h. h)
   constant_promises (e.Unary unary.Deref operand span) = anything_promised (typed at s (e.Unary unary.Deref operand span))
   constant_promises (e.Unary unary.AddressOf operand span) = anything_promised (typed at s (e.Unary unary.AddressOf operand span))
   constant_promises (e.Unary unary.Not operand span) = anything_promised (typed at s (e.Unary unary.Not operand span))

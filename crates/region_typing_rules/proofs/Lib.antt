@@ -4,8 +4,10 @@ pub mod Validity
 pub mod Soundness
 pub mod Programs
 pub mod Verdicts
+pub mod Known
 pub mod Knowledge
 pub mod Sizes
+pub mod KnownTypes
 pub mod Expressions
 pub mod Growth
 pub mod Statements

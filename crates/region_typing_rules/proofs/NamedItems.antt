@@ -25,6 +25,7 @@ use Rattle.ckc_names_rules.specs.Naming.{has_main, naming_fault_in, naming_fault
 use Rattle.flat_bytes.specs.Blocks.{rounded_up}
 use Rattle.pointer_modes.specs.Types as types
 use Rattle.pointer_modes.specs.Types.{CType, Int, Char, Struct, Pointer, Structure}
+use Rattle.ckc_core.specs.Programs.{Initial}
 use Rattle.ckc_core.specs.Core as core
 use Rattle.region_typing_rules.specs.Verdicts.{Verdict, Passes, Stops, Broken, Nameless, Unnamed, passing, meant, picked}
 use Rattle.region_typing_rules.specs.Scopes.{Scope, Signature, Variable as FileVariable, found_if, Object, object_named, function_named, struct_named}
@@ -182,7 +183,7 @@ initializer_named of at n g agrees None built found = tt
 initializer_named of at n g agrees (Some (s.Value value)) built found = then_named Any (typed at g (number_expression of value)) _ (typed_named of at n g agrees value built found) (λ t. tt)
 initializer_named of at n g agrees (Some (s.Constants constants span)) built found = tt
 
-number_named : (o : Option ℤ) (span : Span) (cells : ℤ → List core.Initial) → AllNamed (number_or_break o span cells)
+number_named : (o : Option ℤ) (span : Span) (cells : ℤ → List Initial) → AllNamed (number_or_break o span cells)
 number_named None span cells = tt
 number_named (Some z) span cells = tt
 

@@ -12,7 +12,7 @@ use Rattle.ckc_tree.specs.declared.expr.BinaryOperator.TheVariants as binary
 use Rattle.ckc_tree.specs.Expressions as e
 use Rattle.ckc_tree.specs.Expressions.{Expression, Expressions}
 use Rattle.ckc_tree.specs.Heights.{Reach, deeper, ◌beside◌, inside, around, type_reach, expression_reach, expressions_reach}
-use Rattle.pointer_modes.specs.Types.{CType, Int, Char, Struct, Pointer, members_of}
+use Rattle.pointer_modes.specs.Types.{CType, Int, Char, Struct, Pointer, Structure, members_of}
 use Rattle.pointer_modes.specs.Layout.{cells_of}
 use Rattle.ckc_core.specs.declared.program.Site.{Site}
 use Rattle.act_words.specs.declared.operator.Operator.{Operator}
@@ -22,13 +22,15 @@ use Rattle.act_words.specs.declared.operator.Operator.TheVariants as operators
 use Rattle.act_words.specs.declared.operator.Comparison.{Comparison}
 use Rattle.act_words.specs.declared.operator.Comparison.TheVariants as comparisons
 use Rattle.ckc_core.specs.declared.program.Callee.{Callee}
+use Rattle.ckc_core.specs.declared.program.Index.TheVariants as indexes
+use Rattle.ckc_core.specs.declared.program.PointerBounds.{PointerBounds}
 use Rattle.ckc_core.specs.Core as core
 use Rattle.ckc_core.specs.Stacks.{offset_stack, expression_stack, arguments_stack, place_stack, statement_stack}
 use Rattle.ckc_names_rules.specs.declared.given.Given.{Given}
-use Rattle.region_typing_rules.specs.Verdicts.{Verdict, Passes, breaks}
+use Rattle.region_typing_rules.specs.Verdicts.{Verdict, Passes, passing, breaks}
 use Rattle.region_typing_rules.specs.Scopes.{Scope, Signature, Named, Local, Object, Nothing, named, function_named, members_named}
 use Rattle.region_typing_rules.specs.Types.{type_named, is_number, is_pointer, are_comparable, converts}
-use Rattle.region_typing_rules.specs.Expressions.{Places, Lvalue, OfLocal, OfCell, Typed, Value, AStruct, Called, Gives, GivesNothing, site_at, number, at_place, local_typed, name_typed, member_place, member_from, offset_among, member_at, dotted, pointed_by, arrowed, pointed_at, dereferenced, pointer_to, address, number_of, scalar_of, unary_typed, is_pointer_value, two_numbers, two_scalars, summands, as_pointer, equated_values, equated, ordered_values, ordered, arithmetic, binary_typed, indexed, in_type, converted, arguments_as, is_import, call_of, declared_callee, first_of, writes, predefined_call, called, with_result, typed, all_typed, call_typed}
+use Rattle.region_typing_rules.specs.Expressions.{Places, Lvalue, OfLocal, OfCell, Typed, Value, AStruct, Called, Gives, GivesNothing, site_at, bounds_at, noted, with_bounds, bounded, number, at_place, local_typed, name_typed, member_place, member_from, offset_among, member_at, dotted, pointed_by, arrowed, pointed_at, dereferenced, pointer_to, address, number_of, scalar_of, unary_typed, is_pointer_value, two_numbers, two_scalars, summands, as_pointer, equated_values, equated, ordered_values, ordered, arithmetic, binary_typed, indexed, in_type, converted, arguments_as, is_import, call_of, declared_callee, first_of, writes, predefined_call, called, with_result, typed, all_typed, call_typed}
 use Rattle.region_typing_rules.proofs.Knowledge.{crossing_promises}
 use Rattle.region_typing_rules.proofs.Verdicts.{Promises, passing_promises, needs_promises, anything_promised, promised_so}
 use Rattle.region_typing_rules.proofs.Signatures.{named_has}
@@ -83,6 +85,32 @@ pub low_more : (n m : ℕ) (t : Typed) → n ≤ m → Low n t → Low m t
 low_more n m (Value type zero value place) le h = let first = h.0 in (omega arith, low_place_more n m place le h.1)
 low_more n m (AStruct number place) le h = low_place_more n m (Some place) le h
 
+-- bounds are no code
+noted_low : (b : Option PointerBounds) (v : core.Expression) → expression_stack (noted b v) ≡ expression_stack v
+noted_low b (core.Number number) = refl
+noted_low b core.Null = refl
+noted_low b (core.Local local bounds) = refl
+noted_low b (core.Load type place bounds) = refl
+noted_low b (core.AddressOf place bounds) = refl
+noted_low b (core.Negate operand site) = refl
+noted_low b (core.Complement operand) = refl
+noted_low b (core.Not operand) = refl
+noted_low b (core.Arithmetic operator left right site) = refl
+noted_low b (core.Compare comparison left right) = refl
+noted_low b (core.Same left right) = refl
+noted_low b (core.AndAlso left right) = refl
+noted_low b (core.OrElse left right) = refl
+noted_low b (core.LowByte operand) = refl
+noted_low b (core.Call callee arguments bounds) = refl
+noted_low b core.NextInput = refl
+
+with_bounds_low : (n : ℕ) (s : Scope) (site : Site) (t : Typed) → Low n t → Low n (with_bounds s.structs site t)
+with_bounds_low n s site (Value type zero value place) h = let first = h.0 in (omega (arith, noted_low (bounds_at s.structs type site) value), h.1)
+with_bounds_low n s site (AStruct number place) h = h
+
+bounded_low : (n : ℕ) (s : Scope) (site : Site) (v : Verdict Typed) → Promises (Low n) v → Promises (Low n) (bounded s site v)
+bounded_low n s site v h = passing_promises (Low n) (Low n) v _ h (with_bounds_low n s site)
+
 offset_low : (k : ℕ) → offset_stack k ≤ 2
 offset_low ℕ.zero = omega arith
 offset_low (ℕ.suc k) = omega arith
@@ -108,11 +136,11 @@ name_low n Nothing h = (omega arith, tt)
 
 member_place_low : (n : ℕ) (p : core.Place) (offset : ℕ) (site : Site) → 2 ≤ n → place_stack p ≤ n → place_stack (member_place p offset site) ≤ n
 member_place_low n (core.Direct object first) offset site two h = omega (arith, offset_low (first + offset))
-member_place_low n (core.Through pointer first before) offset site two h = omega (arith, offset_low (first + offset))
+member_place_low n (core.Through pointer index first before) offset site two h = omega (arith, offset_low (first + offset))
 
 pointer_low : (n : ℕ) (t : CType) (p : core.Place) (site : Site) → place_stack p ≤ n → Low n (pointer_to t p site)
 pointer_low n t (core.Direct object offset) site h = (h, tt)
-pointer_low n t (core.Through pointer offset before) site h = (h, tt)
+pointer_low n t (core.Through pointer index offset before) site h = (h, tt)
 
 address_low : (n : ℕ) (a : Typed) (site : Site) (span : Span) → Low n a → Promises (Low n) (address a site span)
 address_low n (Value type zero value None) site span h = tt
@@ -125,7 +153,7 @@ pointed_low : (n : ℕ) (t : CType) (value : core.Expression) (site : Site) (spa
 pointed_low n Int value site span two h = tt
 pointed_low n Char value site span two h = tt
 pointed_low n (Struct number) value site span two h = tt
-pointed_low n (Pointer m k t) value site span two h = at_place_low n t (core.Through value 0 site) (omega arith)
+pointed_low n (Pointer m k t) value site span two h = at_place_low n t (core.Through value indexes.First 0 site) (omega arith)
 
 dereferenced_low : (n : ℕ) (a : Typed) (site : Site) (span : Span) → 2 ≤ n → Low n a → Promises (Low n) (dereferenced a site span)
 dereferenced_low n (Value type zero value place) site span two h = pointed_low n type value site span two h.0
@@ -140,7 +168,7 @@ member_at_low n s struct p name site span two h = by (member_from 0 (members_nam
 
 dotted_low : (n : ℕ) (s : Scope) (a : Typed) (name : ℕ) (site : Site) (span : Span) → 2 ≤ n → Low n a → Promises (Low n) (dotted s a name site span)
 dotted_low n s (Value type zero value place) name site span two h = tt
-dotted_low n s (AStruct number (OfLocal k)) name site span two h = member_at_low n s number (core.Through (core.Local k) 0 site) name site span two (omega arith)
+dotted_low n s (AStruct number (OfLocal k)) name site span two h = member_at_low n s number (core.Through (core.Local k None) indexes.First 0 site) name site span two (omega arith)
 dotted_low n s (AStruct number (OfCell p)) name site span two h = member_at_low n s number p name site span two h
 
 pointed_by_low : (n : ℕ) (s : Scope) (t : CType) (value : core.Expression) (name : ℕ) (site : Site) (span : Span) → 2 ≤ n → IsLow n value → Promises (Low n) (pointed_by s t value name site span)
@@ -150,7 +178,7 @@ pointed_by_low n s (Struct number) value name site span two h = tt
 pointed_by_low n s (Pointer m k Int) value name site span two h = tt
 pointed_by_low n s (Pointer m k Char) value name site span two h = tt
 pointed_by_low n s (Pointer m k (Pointer m' k' t)) value name site span two h = tt
-pointed_by_low n s (Pointer m k (Struct number)) value name site span two h = member_at_low n s number (core.Through value 0 site) name site span two (omega arith)
+pointed_by_low n s (Pointer m k (Struct number)) value name site span two h = member_at_low n s number (core.Through value indexes.First 0 site) name site span two (omega arith)
 
 arrowed_low : (n : ℕ) (s : Scope) (a : Typed) (name : ℕ) (site : Site) (span : Span) → 2 ≤ n → Low n a → Promises (Low n) (arrowed s a name site span)
 arrowed_low n s (Value type zero value place) name site span two h = pointed_by_low n s type value name site span two h.0
@@ -271,9 +299,9 @@ arguments_low n (a ∷ arguments) (t ∷ ts) one all =
     (λ v low. passing_promises (λ (values : core.Arguments). arguments_stack values ≤ n + length ts) (λ (values : core.Arguments). arguments_stack values ≤ n + length (t ∷ ts)) (arguments_as arguments ts) _ (arguments_low n arguments ts one all.1)
     (λ others h. omega arith))
 
-call_low : (n : ℕ) (result : Option CType) (callee : Callee) (values : core.Arguments) → 1 ≤ n → arguments_stack values ≤ n → LowCall n (call_of result callee values)
-call_low n (Some t) callee values one h = omega arith
-call_low n None callee values one h = h
+call_low : (n : ℕ) (result : Option CType) (callee : Callee) (values : core.Arguments) (site : Site) (structs : List Structure) → 1 ≤ n → arguments_stack values ≤ n → LowCall n (call_of structs result callee values site)
+call_low n (Some t) callee values site structs one h = omega arith
+call_low n None callee values site structs one h = h
 
 first_low : (n : ℕ) (of : core.Expression → core.Statement) (values : core.Arguments) → ((v : core.Expression) → statement_stack (of v) ≡ expression_stack v) → arguments_stack values ≤ n → statement_stack (first_of of values) ≤ n
 first_low n of core.Done same h = omega arith
@@ -312,7 +340,7 @@ module _ (s : Scope) (few : AllByRecursion HasFew s.functions) where
       needs_promises (LowCall (n + 16)) (length f.parameters == length arguments) E14 span _
       (λ many. crossing_promises (LowCall (n + 16)) (is_import f) arguments _
       (passing_promises (λ (values : core.Arguments). arguments_stack values ≤ n + length f.parameters) (LowCall (n + 16)) (arguments_as arguments f.parameters) _ (arguments_low n arguments f.parameters one all)
-      (λ values h. let least = named_has HasFew s.functions name f few found in call_low (n + 16) f.result (declared_callee s f site) values (omega arith) (omega arith))))
+      (λ values h. let least = named_has HasFew s.functions name f few found in call_low (n + 16) f.result (declared_callee s f site) values site s.structs (omega arith) (omega arith))))
 
   -- ---- the walk
 
@@ -322,7 +350,7 @@ module _ (s : Scope) (few : AllByRecursion HasFew s.functions) where
     typed_low at (e.Number value span) n h = needs_promises (Low n) (nat_lt value (2 ^ 31)) E04 span _ (λ low. (omega arith, tt))
     typed_low at (e.Character value span) n h = needs_promises (Low n) (nat_lt value (2 ^ 31)) E04 span _ (λ low. (omega arith, tt))
     typed_low at (e.Text bytes span) n h = tt
-    typed_low at (e.Name name) n h = passing_promises (λ (x : Named). Unit {0}) (Low n) (named s name.number) _ (anything_promised (named s name.number)) (λ x _. name_low n x (omega arith))
+    typed_low at (e.Name name) n h = bounded_low n s (site_at at name.span) (passing (named s name.number) (λ x. Passes (name_typed x))) (passing_promises (λ (x : Named). Unit {0}) (Low n) (named s name.number) _ (anything_promised (named s name.number)) (λ x _. name_low n x (omega arith)))
     typed_low at (e.Call callee arguments span) n h =
         let parts = expressions_reach arguments in
         let higher = around_higher span.from parts in
@@ -344,13 +372,13 @@ module _ (s : Scope) (few : AllByRecursion HasFew s.functions) where
         (λ a _. passing_promises (λ (t : Typed). Unit {0}) (Low n) (typed at s index) _ (anything_promised (typed at s index)) (λ b _. indexed_low n a b span))
     typed_low at (e.Dot base member span) n h =
         let higher = around_higher span.from (expression_reach base) in
-        passing_promises (Low n) (Low n) (typed at s base) _ (typed_low at base n (omega arith)) (λ a low. dotted_low n s a member.number (site_at at span) span (omega arith) low)
+        bounded_low n s (site_at at span) (passing (typed at s base) (λ a. dotted s a member.number (site_at at span) span)) (passing_promises (Low n) (Low n) (typed at s base) _ (typed_low at base n (omega arith)) (λ a low. dotted_low n s a member.number (site_at at span) span (omega arith) low))
     typed_low at (e.Arrow base member span) n h =
         let higher = around_higher span.from (expression_reach base) in
-        passing_promises (Low n) (Low n) (typed at s base) _ (typed_low at base n (omega arith)) (λ a low. arrowed_low n s a member.number (site_at at span) span (omega arith) low)
+        bounded_low n s (site_at at span) (passing (typed at s base) (λ a. arrowed s a member.number (site_at at span) span)) (passing_promises (Low n) (Low n) (typed at s base) _ (typed_low at base n (omega arith)) (λ a low. arrowed_low n s a member.number (site_at at span) span (omega arith) low))
     typed_low at (e.Unary operator operand span) n h =
         let higher = around_higher span.from (expression_reach operand) in
-        passing_promises (Low n) (Low n) (typed at s operand) _ (typed_low at operand n (omega arith)) (λ a low. unary_low n operator a (site_at at span) span (omega arith) low)
+        bounded_low n s (site_at at span) (passing (typed at s operand) (λ a. unary_typed operator a (site_at at span) span)) (passing_promises (Low n) (Low n) (typed at s operand) _ (typed_low at operand n (omega arith)) (λ a low. unary_low n operator a (site_at at span) span (omega arith) low))
     typed_low at (e.Binary operator left right span) n h =
         let first = expression_reach left in
         let second = expression_reach right in

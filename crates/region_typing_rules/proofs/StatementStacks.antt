@@ -24,7 +24,7 @@ use Rattle.region_typing_rules.specs.Types.{is_pointer, is_scalar, without_stars
 use Rattle.region_typing_rules.specs.Expressions.{Places, Typed, Value, AStruct, Called, Gives, GivesNothing, Lvalue, OfLocal, OfCell, site_at, typed, call_typed, is_pointer_value}
 use Rattle.region_typing_rules.specs.Statements.{Walked, store, update, assigned, set_to, updated, stored, step_of, one, assignment, zero_value, with_local, initialised, declarator, declarators, declaration, behind_block, in_loop, is_unchecked, condition, optional_condition, optional_step, first_part, alone, returned, returned_nothing, return, statement, statements}
 use Rattle.region_typing_rules.proofs.Verdicts.{Promises, passing_promises, needs_promises, anything_promised, promised_so, both_promise}
-use Rattle.region_typing_rules.proofs.Growth.{Grows, GrowsTo, block_grows, loop_grows, declarator_grows, first_grows, statement_grows}
+use Rattle.region_typing_rules.proofs.Growth.{Grows, GrowsTo, IsNamedIn, named_further, base_named, block_grows, loop_grows, declarator_grows, first_grows, statement_grows}
 use Rattle.region_typing_rules.proofs.Stacks.{beside_first, beside_second, around_higher, Low, LowPlace, LowCall, IsLow, HasFew, scalar_of_low, two_low, converted_low, typed_low, call_typed_low}
 
 abbrev pub IsLowStatement : ℕ → core.Statement → Type 0
@@ -40,12 +40,12 @@ assigned_low Q n (AStruct number place) span next h more = tt
 store_low : (n : ℕ) (place : Lvalue) (type : CType) (value : core.Expression) → LowPlace n (Some place) → IsLow n value → IsLowStatement (n + 2) (store place type value)
 store_low n (OfLocal k) type value h low = omega arith
 store_low n (OfCell (core.Direct object offset)) type value h low = omega arith
-store_low n (OfCell (core.Through pointer offset site)) type value h low = omega arith
+store_low n (OfCell (core.Through pointer index offset site)) type value h low = omega arith
 
 update_low : (n : ℕ) (place : Lvalue) (type : CType) (operator : Operator) (value : core.Expression) (site : Site) → LowPlace n (Some place) → IsLow n value → IsLowStatement (n + 2) (update place type operator value site)
 update_low n (OfLocal k) type operator value site h low = omega arith
 update_low n (OfCell (core.Direct object offset)) type operator value site h low = omega arith
-update_low n (OfCell (core.Through pointer offset before)) type operator value site h low = omega arith
+update_low n (OfCell (core.Through pointer index offset before)) type operator value site h low = omega arith
 
 set_low : (n : ℕ) (target right : Typed) (span : Span) → 1 ≤ n → Low n target → Low n right → Promises (IsLowStatement (n + 2)) (set_to target right span)
 set_low n target right span least ht hr =
@@ -124,20 +124,20 @@ module _ (at : Places) where
       (λ t _. passing_promises (IsLowStatement n) (BecomesLow n) (initialised at (with_local d.name.number t s) d.initializer t (length s.locals) span) _ (initialised_low (with_local d.name.number t s) few d.initializer t (length s.locals) span n (omega arith))
       (λ initial low'. needs_promises (BecomesLow n) (is_scalar t) E13 span _ (λ scalar. omega (arith, zero_low t)))))
 
-  declarators_low : (s : Scope) → HaveFew s → (base : TypeTree) (type : CType) (span : Span) (ds : List Declarator) (n : ℕ) → 17 * (declarators_reach ds).height + 1 ≤ n → Promises (BecomesLow n) (declarators at s base type span ds)
-  declarators_low s few base type span [] n h = omega arith
-  declarators_low s few base type span (d ∷ ds) n h =
+  declarators_low : (s : Scope) → HaveFew s → (base : TypeTree) (type : CType) (span : Span) (ds : List Declarator) (n : ℕ) → IsNamedIn s type → 17 * (declarators_reach ds).height + 1 ≤ n → Promises (BecomesLow n) (declarators at s base type span ds)
+  declarators_low s few base type span [] n named h = omega arith
+  declarators_low s few base type span (d ∷ ds) n named h =
       let one = beside_first (declarator_reach d) (declarators_reach ds) in
       let two = beside_second (declarator_reach d) (declarators_reach ds) in
       passing_promises (λ (w : Walked). GrowsTo s w × BecomesLow n w) (BecomesLow n) (declarator at s base type span d) _
-      (both_promise (GrowsTo s) (BecomesLow n) (declarator at s base type span d) (declarator_grows at s base type span d) (declarator_low s few base type span d n (omega arith)))
-      (λ first hf. passing_promises (BecomesLow n) (BecomesLow n) (declarators at first.1 base type span ds) _ (declarators_low first.1 (few_later s first.1 hf.0 few) base type span ds n (omega arith)) (λ rest low. let low' = hf.1 in omega arith))
+      (both_promise (GrowsTo s) (BecomesLow n) (declarator at s base type span d) (declarator_grows at s base type span d named) (declarator_low s few base type span d n (omega arith)))
+      (λ first hf. passing_promises (BecomesLow n) (BecomesLow n) (declarators at first.1 base type span ds) _ (declarators_low first.1 (few_later s first.1 hf.0 few) base type span ds n (named_further s first.1 type hf.0 named) (omega arith)) (λ rest low. let low' = hf.1 in omega arith))
 
   declaration_low : (s : Scope) → HaveFew s → (d : Declaration) (n : ℕ) → 17 * (declared_reach d).height + 1 ≤ n → Promises (BecomesLow n) (declaration at s d)
   declaration_low s few d n h =
       let two = beside_second (type_reach d.base) (declarators_reach d.declarators) in
       needs_promises (BecomesLow n) (nat_lt (length s.locals) 256) E08 d.span _
-      (λ room. passing_promises (λ (t : CType). Unit {0}) (BecomesLow n) (base_type s d.base) _ (anything_promised (base_type s d.base)) (λ type _. declarators_low s few d.base type d.span d.declarators n (omega arith)))
+      (λ room. passing_promises (IsNamedIn s) (BecomesLow n) (base_type s d.base) _ (base_named s d.base) (λ type named. declarators_low s few d.base type d.span d.declarators n named (omega arith)))
 
   first_low : (s : Scope) → HaveFew s → (initial : ForInitial) (n : ℕ) → 17 * (for_initial_reach initial).height ≤ n → Promises (BecomesLow n) (first_part at s initial)
   first_low s few trees.Nothing n h = omega arith

@@ -45,7 +45,7 @@ store_light n m (OfCell p) type value h light = omega arith
 update_light : (n m : ℕ) (place : Lvalue) (type : CType) (operator : Operator) (value : core.Expression) (site : Site) → LightPlace n (Some place) → IsLight m value → IsLightStatement (n + m + 1) (update place type operator value site)
 update_light n m (OfLocal k) type operator value site h light = omega arith
 update_light n m (OfCell (core.Direct object offset)) type operator value site h light = omega arith
-update_light n m (OfCell (core.Through pointer offset before)) type operator value site h light = omega arith
+update_light n m (OfCell (core.Through pointer index offset before)) type operator value site h light = omega arith
 
 set_light : (n m : ℕ) (target right : Typed) (span : Span) → 2 ≤ m → Light n target → Light m right → Promises (IsLightStatement (n + m + 1)) (set_to target right span)
 set_light n m target right span two ht hr =

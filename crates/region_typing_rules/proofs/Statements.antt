@@ -23,10 +23,11 @@ use Rattle.region_typing_rules.specs.Expressions.{Places, Typed, Value, AStruct,
 use Rattle.region_typing_rules.specs.Statements.{Walked, both, store, updated_place, update, assigned, set_to, updated, stored, step_of, one, assignment, zero_value, with_local, initialised, declarator, declarators, declaration, behind_block, in_loop, is_unchecked, condition, optional_condition, optional_step, first_part, alone, returned, returned_nothing, return, statement, statements}
 use Rattle.region_typing_rules.specs.Typed as rules
 use Rattle.region_typing_rules.specs.Typed.{Frame, HasType, HasPlace, IsStatement, AreStatements, IsScalar}
-use Rattle.region_typing_rules.proofs.Verdicts.{Promises, passing_promises, needs_promises, anything_promised, both_promise, later_promises, Extends, extends_last}
+use Rattle.region_typing_rules.proofs.Verdicts.{Promises, passing_promises, needs_promises, both_promise, later_promises, Extends, extends_last}
+use Rattle.region_typing_rules.proofs.Known.{IsKnown, without_known, base_known}
 use Rattle.region_typing_rules.proofs.Knowledge.{KnowsFile, Knows}
 use Rattle.region_typing_rules.proofs.Expressions.{FitsPlace, Fits, FitsCall, scalar_of_promises, two_numbers_promise, converted_promises, typed_promises, call_promises}
-use Rattle.region_typing_rules.proofs.Growth.{Grows, file_known, block_grows, loop_grows, declarator_grows, declarators_grow, first_grows, statement_grows, statements_grow, GrowsTo}
+use Rattle.region_typing_rules.proofs.Growth.{Grows, local_closed, file_known, block_grows, loop_grows, declarator_grows, declarators_grow, first_grows, statement_grows, statements_grow, GrowsTo}
 
 -- a scalar that is no pointer is a number
 number_left : (t : CType) (other : Bool) → IsScalar t → not (is_pointer t || other) ≡ true → is_number t ≡ true
@@ -52,7 +53,7 @@ module _ (g : Frame) (types : List CType) (all_scalar : AllByRecursion IsScalar 
   store_typed (OfCell p) type value h scalar typed = λ result loop. rules.store scalar h typed
 
   updated_typed : {p : core.Place} {t : CType} → HasPlace g types p t → (site : Site) → HasPlace g types (updated_place p site) t
-  updated_typed (rules.direct found stands) site = rules.direct found stands
+  updated_typed (rules.direct found row) site = rules.direct found row
   updated_typed (rules.pointed h) site = rules.pointed h
   updated_typed (rules.member k h found scalar) site = rules.member k h found scalar
 
@@ -155,36 +156,39 @@ module _ (g : Frame) (types : List CType) (all_scalar : AllByRecursion IsScalar 
   earlier : (a b : Scope) → Grows a b → Reaches b → Reaches a
   earlier a b h reaches = λ k x e. reaches k x (h.locals k x e)
 
-  declarator_promises : (at : Places) (s : Scope) → KnowsFile g s → (base : TypeTree) (type : CType) (span : Span) (d : Declarator) → Promises (Becomes IsAny) (declarator at s base type span d)
-  declarator_promises at s file base type span d =
+  declarator_promises : (at : Places) (s : Scope) → KnowsFile g s → (base : TypeTree) (type : CType) (span : Span) (d : Declarator) → IsKnown s.structs type → Promises (Becomes IsAny) (declarator at s base type span d)
+  declarator_promises at s file base type span d known_type =
       needs_promises (Becomes IsAny) (nat_lt (length s.locals) 256) E08 span _
-      (λ few. passing_promises (λ (t : CType). Unit {0}) (Becomes IsAny) (without_stars base d.stars type) _ (anything_promised (without_stars base d.stars type))
-      (λ t _. passing_promises (λ (x : core.Statement). Reaches (with_local d.name.number t s) → IsAny x) (Becomes IsAny) (initialised at (with_local d.name.number t s) d.initializer t (length s.locals) span) _ (later_promises (Reaches (with_local d.name.number t s)) IsAny _ (initial t))
+      (λ few. passing_promises (IsKnown s.structs) (Becomes IsAny) (without_stars base d.stars type) _ (without_known s file.closed.tagged base d.stars type known_type)
+      (λ t known_t. passing_promises (λ (x : core.Statement). Reaches (with_local d.name.number t s) → IsAny x) (Becomes IsAny) (initialised at (with_local d.name.number t s) d.initializer t (length s.locals) span) _ (later_promises (Reaches (with_local d.name.number t s)) IsAny _ (initial t known_t))
       (λ initial h. needs_promises (Becomes IsAny) (is_scalar t) E13 span _
       (λ scalar reaches. both_typed (core.SetLocal (length s.locals) (zero_value t)) initial (λ result loop. rules.set_local (there t reaches) (zero_typed t scalar)) (h reaches)))))
     where
       there : (t : CType) → Reaches (with_local d.name.number t s) → slice_get types (length s.locals) ≡ Some t
       there t reaches = reaches (length s.locals) t (extends_last s.locals t)
 
-      initial : (t : CType) → Reaches (with_local d.name.number t s) → Promises IsAny (initialised at (with_local d.name.number t s) d.initializer t (length s.locals) span)
-      initial t reaches =
+      initial : (t : CType) → IsKnown s.structs t → Reaches (with_local d.name.number t s) → Promises IsAny (initialised at (with_local d.name.number t s) d.initializer t (length s.locals) span)
+      initial t known_t reaches =
           let inside = with_local d.name.number t s in
-          let known : KnowsFile g inside = record { structs = file.structs; few_members = file.few_members; scalar_members = file.scalar_members; variables = file.variables; trusted = file.trusted; tainted = file.tainted } in
+          let known : KnowsFile g inside = record { structs = file.structs; closed = local_closed d.name.number t s known_t file.closed; few_members = file.few_members; scalar_members = file.scalar_members; variables = file.variables; trusted = file.trusted; tainted = file.tainted } in
           initialised_promises at inside (knows_from inside known reaches) d.initializer t (length s.locals) span (there t reaches)
 
-  declarators_promise : (at : Places) (s : Scope) → KnowsFile g s → (base : TypeTree) (type : CType) (span : Span) (ds : List Declarator) → Promises (Becomes IsAny) (declarators at s base type span ds)
-  declarators_promise at s file base type span [] = λ reaches result loop. rules.nothing
-  declarators_promise at s file base type span (d ∷ ds) =
+  known_later : (a b : Scope) (t : CType) → Grows a b → IsKnown a.structs t → IsKnown b.structs t
+  known_later a b t h known = subst (λ x. IsKnown x t) h.structs known
+
+  declarators_promise : (at : Places) (s : Scope) → KnowsFile g s → (base : TypeTree) (type : CType) (span : Span) (ds : List Declarator) → IsKnown s.structs type → Promises (Becomes IsAny) (declarators at s base type span ds)
+  declarators_promise at s file base type span [] known_type = λ reaches result loop. rules.nothing
+  declarators_promise at s file base type span (d ∷ ds) known_type =
       passing_promises (λ (w : Walked). GrowsTo s w × Becomes IsAny w) (Becomes IsAny) (declarator at s base type span d) _
-      (both_promise (GrowsTo s) (Becomes IsAny) (declarator at s base type span d) (declarator_grows at s base type span d) (declarator_promises at s file base type span d))
+      (both_promise (GrowsTo s) (Becomes IsAny) (declarator at s base type span d) (declarator_grows at s base type span d (λ few. known_type)) (declarator_promises at s file base type span d known_type))
       (λ first h. passing_promises (λ (w : Walked). GrowsTo first.1 w × Becomes IsAny w) (Becomes IsAny) (declarators at first.1 base type span ds) _
-      (both_promise (GrowsTo first.1) (Becomes IsAny) (declarators at first.1 base type span ds) (declarators_grow at first.1 base type span ds) (declarators_promise at first.1 (file_known g s first.1 h.0 file) base type span ds))
+      (both_promise (GrowsTo first.1) (Becomes IsAny) (declarators at first.1 base type span ds) (declarators_grow at first.1 base type span ds (λ few. known_later s first.1 type h.0 known_type)) (declarators_promise at first.1 (file_known g s first.1 h.0 file) base type span ds (known_later s first.1 type h.0 known_type)))
       (λ rest h' reaches. both_typed first.0 rest.0 (h.1 (earlier first.1 rest.1 h'.0 reaches)) (h'.1 reaches)))
 
   declaration_promises : (at : Places) (s : Scope) → KnowsFile g s → (d : Declaration) → Promises (Becomes IsAny) (declaration at s d)
   declaration_promises at s file d =
       needs_promises (Becomes IsAny) (nat_lt (length s.locals) 256) E08 d.span _
-      (λ few. passing_promises (λ (t : CType). Unit {0}) (Becomes IsAny) (base_type s d.base) _ (anything_promised (base_type s d.base)) (λ type _. declarators_promise at s file d.base type d.span d.declarators))
+      (λ few. passing_promises (IsKnown s.structs) (Becomes IsAny) (base_type s d.base) _ (base_known s file.closed.tagged d.base) (λ type known. declarators_promise at s file d.base type d.span d.declarators known))
 
   first_promises : (at : Places) (s : Scope) → KnowsFile g s → (initial : ForInitial) → Promises (Becomes IsAny) (first_part at s initial)
   first_promises at s file trees.Nothing = λ reaches result loop. rules.nothing
@@ -208,7 +212,7 @@ module _ (g : Frame) (types : List CType) (all_scalar : AllByRecursion IsScalar 
   statements_from a b xs h typed = subst (λ r. AreStatements g types r a.in_loop xs) (sym h.result) (subst (λ l. AreStatements g types b.result l xs) (sym h.loop) typed)
 
   in_loop_known : (s : Scope) → KnowsFile g s → KnowsFile g (in_loop s)
-  in_loop_known s file = record { structs = file.structs; few_members = file.few_members; scalar_members = file.scalar_members; variables = file.variables; trusted = file.trusted; tainted = file.tainted }
+  in_loop_known s file = record { structs = file.structs; closed = file.closed; few_members = file.few_members; scalar_members = file.scalar_members; variables = file.variables; trusted = file.trusted; tainted = file.tainted }
 
   -- a condition, where the locals are reached
   tested : (at : Places) (s : Scope) → KnowsFile g s → (x : Expression) → Promises (λ (e : core.Expression). Reaches s → IsScalarValue e) (condition at s x)

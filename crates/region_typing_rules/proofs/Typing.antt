@@ -19,6 +19,7 @@ use Rattle.ckc_names_rules.specs.Given.{main, number_in, given_in}
 use Rattle.ckc_names_rules.specs.Mentions.{tree_mentions}
 use Rattle.ckc_names_rules.specs.Scopes.{Scopes, all_mentioned, at_file_level}
 use Rattle.ckc_names_rules.specs.Naming.{is_int, takes_nothing, is_main, has_main, naming_fault, names_of, named_of}
+use Rattle.ckc_core.specs.Programs.{Initial, Import}
 use Rattle.ckc_core.specs.Core as core
 use Rattle.ckc_core.specs.Core.{Core}
 use Rattle.ckc_core.proofs.Elements.{of_element}
@@ -68,7 +69,7 @@ typed_walk height entry a w h =
 
 -- at the start nothing is known
 start_well : (height : ℕ) (given : Given) → IsWell height (start given)
-start_well height given = record { few = λ n. omega arith; scalars = λ n. tt; start = tt; declared = tt; bodies = tt; roomy = tt; bytes = omega arith; room = omega arith }
+start_well height given = record { closed = record { tagged = omega arith; of_members = λ n. tt; of_functions = tt; of_variables = tt; of_locals = tt }; few = λ n. omega arith; scalars = λ n. tt; start = tt; declared = tt; bodies = tt; roomy = tt; bytes = omega arith; room = omega arith }
 
 walked_typed : (height entry : ℕ) (a : Walk) (v : Verdict Walk) (c : Core) → Promises (Passed height entry a true) v → passing v (λ w. Passes (core_of entry w)) ≡ Passes c → IsTyped c
 walked_typed height entry a (Passes w) c h e = let same : core_of entry w ≡ c = cc in subst IsTyped same (typed_walk height entry a w h)
@@ -135,11 +136,11 @@ typed at t c h = walked_typed (height t) (entry_of t) (start_of t) (walked at (n
 
 -- ---- what can be lowered
 
-abbrev pub AreRoomy : List core.Initial → Type 0
+abbrev pub AreRoomy : List Initial → Type 0
 AreRoomy cells = AllByRecursion IsRoomy cells × (0 < length cells)
 
 -- the same of elements one by one, and of more words
-roomy_each : (objects : List (List core.Initial)) → AllByRecursion AreRoomy objects → AllByRecursion (λ (cells : List core.Initial). All IsRoomy cells × (0 < length cells)) objects
+roomy_each : (objects : List (List Initial)) → AllByRecursion AreRoomy objects → AllByRecursion (λ (cells : List Initial). All IsRoomy cells × (0 < length cells)) objects
 roomy_each [] all = tt
 roomy_each (o ∷ objects) all = ((All-from_recursion IsRoomy o all.0.0, all.0.1), roomy_each objects all.1)
 
@@ -153,9 +154,9 @@ small_walk h le entry a w passed =
     let main = (typed_walk h entry a w passed).main in
     let functions = functions_small h entry w well passed.follows.settled w.scope.functions well.declared in
     record {
-      cells = All-from_recursion (λ (cells : List core.Initial). All IsRoomy cells × (0 < length cells)) w.objects (roomy_each w.objects well.roomy);
+      cells = All-from_recursion (λ (cells : List Initial). All IsRoomy cells × (0 < length cells)) w.objects (roomy_each w.objects well.roomy);
       objects = omega (arith, well.bytes, well.room);
-      imports = All-from_recursion (λ (x : core.Import). x.parameters ≤ 16) (core_of entry w).imports (imports_small h entry w well passed.follows.settled w.scope.functions well.declared);
+      imports = All-from_recursion (λ (x : Import). x.parameters ≤ 16) (core_of entry w).imports (imports_small h entry w well passed.follows.settled w.scope.functions well.declared);
       functions = All-from_recursion (IsSmall 3400) (core_of entry w).functions (small_more (17 * h) 3400 (omega arith) (core_of entry w).functions functions);
       main = (main.0, main.1, main.2);
     }

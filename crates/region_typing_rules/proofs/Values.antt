@@ -205,18 +205,17 @@ module _ (structs : List Structure) where
       let end = size_behind (sizes_of structs (Struct n)) (widths structs (Struct n)) in
       omega (arith, bytes, before, end)
 
-  -- the member of a struct that stands at a place
-  pub member_place : (b : List Shape) (n block first k offset : ℕ) (t : CType) → IsScalar t → IsPlace structs b (Struct n) block first → slice_get (slots structs (Struct n)) k ≡ Some (record { type = t; offset = offset }) → IsPlace structs b t block (first + offset)
-  member_place b n block first k offset t scalar h found =
-      let stands = h.row.stands in
-      let typed = stands.each k (record { type = t; offset = offset }) found in
+  -- the member of a struct that stands at a byte
+  pub member_row : (s : Shape) (n first k offset : ℕ) (t : CType) → IsScalar t → HasRow structs s first (Struct n) → slice_get (slots structs (Struct n)) k ≡ Some (record { type = t; offset = offset }) → HasRow structs s (first + offset) t
+  member_row s n first k offset t scalar h found =
+      let typed = h.stands.each k (record { type = t; offset = offset }) found in
       let within = member_within n k offset t scalar found in
-      let room = h.row.room in
-      let row : HasRow structs h.shape (first + offset) t = record {
-        stands = scalar_stands h.shape (first + offset) t scalar typed stands.open_ended;
-        room = omega (arith, within, room);
-      } in
-      record { shape = h.shape; found = h.found; row = row }
+      let room = h.room in
+      record { stands = scalar_stands s (first + offset) t scalar typed h.stands.open_ended; room = omega (arith, within, room) }
+
+  -- and at a place
+  pub member_place : (b : List Shape) (n block first k offset : ℕ) (t : CType) → IsScalar t → IsPlace structs b (Struct n) block first → slice_get (slots structs (Struct n)) k ≡ Some (record { type = t; offset = offset }) → IsPlace structs b t block (first + offset)
+  member_place b n block first k offset t scalar h found = record { shape = h.shape; found = h.found; row = member_row h.shape n first k offset t scalar h.row found }
 
   -- a place is still there where blocks are added
   pub place_grown : (a b : List Shape) → Grows a b → (t : CType) (block byte : ℕ) → IsPlace structs a t block byte → IsPlace structs b t block byte

@@ -4,6 +4,7 @@ use Rattle.std.specs.Prelude.{◌==◌, slice_get}
 use Rattle.std.specs.List.{AllByRecursion}
 use Rattle.std.proofs.Math.Seq.{take-length}
 use Rattle.pointer_modes.specs.Types.{Member, Structure, members_of}
+use Rattle.ckc_core.specs.Programs.{Initial, Import}
 use Rattle.ckc_core.specs.Core as core
 use Rattle.ckc_core.specs.States.{shape, object_block}
 use Rattle.ckc_core.specs.Stacks.{statements_stack}
@@ -13,11 +14,12 @@ use Rattle.region_typing_rules.specs.Expressions.{is_import, side_number}
 use Rattle.region_typing_rules.specs.Items.{Defined, Walk}
 use Rattle.region_typing_rules.specs.Cores.{body_of, trusted_functions, tainted_functions, core_of}
 use Rattle.region_typing_rules.specs.Typed as rules
-use Rattle.region_typing_rules.specs.Typed.{Frame, slots, Stands, IsScalar, IsFunction, IsInitial}
+use Rattle.region_typing_rules.specs.Typed.{Frame, HasRow, IsScalar, IsFunction, IsInitial}
 use Rattle.region_typing_rules.specs.Lowerable.{objects_size, IsRoomy, IsSmall}
 use Rattle.region_typing_rules.proofs.Verdicts.{Extends}
+use Rattle.region_typing_rules.proofs.Known.{IsClosed}
 use Rattle.region_typing_rules.proofs.Knowledge.{IsTrusted, IsTainted, KnowsFile}
-use Rattle.region_typing_rules.proofs.Layouts.{IsStart, earlier_members, slots_kept}
+use Rattle.region_typing_rules.proofs.Layouts.{IsStart, earlier_members, row_kept}
 use Rattle.region_typing_rules.proofs.Signatures.{named_self, named_has, numbers_equal, trusted_there, tainted_there, IsDeclared}
 
 -- ---- scopes that grow at file level
@@ -40,8 +42,9 @@ file_further a b c h h' = record {
 }
 
 -- what is known later was known before
-pub known_before : (g : Frame) (a b : Scope) → FileGrows a b → KnowsFile g b → KnowsFile g a
-known_before g a b h known = record {
+pub known_before : (g : Frame) (a b : Scope) → IsClosed a → FileGrows a b → KnowsFile g b → KnowsFile g a
+known_before g a b closed h known = record {
+  closed = closed;
   structs = λ k x e. known.structs k x (h.structs k x e);
   few_members = earlier_members (λ members. length members ≤ 64) (omega arith) a.structs b.structs h.structs known.few_members;
   scalar_members = earlier_members (AllByRecursion (λ (m : Member). IsScalar m.ctype)) tt a.structs b.structs h.structs known.scalar_members;
@@ -56,11 +59,11 @@ known_before g a b h known = record {
 -- ---- walks
 
 -- the cells of each variable stand as its slots
-abbrev pub AreSettled : List Structure → List Variable → List (List core.Initial) → Type 0
+abbrev pub AreSettled : List Structure → List Variable → List (List Initial) → Type 0
 AreSettled structs [] [] = Unit {0}
 AreSettled structs [] (o ∷ objects) = ⊥
 AreSettled structs (v ∷ variables) [] = ⊥
-AreSettled structs (v ∷ variables) (o ∷ objects) = Stands (shape (object_block o)) 0 (slots structs v.type) × AreSettled structs variables objects
+AreSettled structs (v ∷ variables) (o ∷ objects) = HasRow structs (shape (object_block o)) 0 v.type × AreSettled structs variables objects
 
 -- a body of a declared function has types, wherever what was known is known
 pub record IsBody (height : ℕ) (s : Scope) (b : Defined) : Type 0 where
@@ -75,26 +78,27 @@ pub record IsBody (height : ℕ) (s : Scope) (b : Defined) : Type 0 where
 
 -- what holds of a walk, beside its variables
 pub record IsWell (height : ℕ) (w : Walk) : Type 0 where
+  pub closed : IsClosed w.scope
   pub few : (n : ℕ) → length (members_of w.scope.structs n) ≤ 64
   pub scalars : (n : ℕ) → AllByRecursion (λ (m : Member). IsScalar m.ctype) (members_of w.scope.structs n)
   pub start : AllByRecursion (AllByRecursion IsStart) w.objects
   pub declared : AllByRecursion IsDeclared w.scope.functions
   pub bodies : AllByRecursion (IsBody height w.scope) w.bodies
-  pub roomy : AllByRecursion (λ (o : List core.Initial). AllByRecursion IsRoomy o × (0 < length o)) w.objects
+  pub roomy : AllByRecursion (λ (o : List Initial). AllByRecursion IsRoomy o × (0 < length o)) w.objects
   pub bytes : objects_size w.objects ≤ w.taken
   pub room : w.taken ≤ 32768
 
-pub settled_later : (a b : List Structure) (variables : List Variable) (objects : List (List core.Initial)) → Extends a b → AreSettled a variables objects → AreSettled b variables objects
+pub settled_later : (a b : List Structure) (variables : List Variable) (objects : List (List Initial)) → Extends a b → AreSettled a variables objects → AreSettled b variables objects
 settled_later a b [] [] ext h = tt
 settled_later a b [] (o ∷ objects) ext h = absurd h
 settled_later a b (v ∷ variables) [] ext h = absurd h
-settled_later a b (v ∷ variables) (o ∷ objects) ext h = (subst (λ row. Stands (shape (object_block o)) 0 row) (slots_kept a b v.type ext h.0.there) h.0, settled_later a b variables objects ext h.1)
+settled_later a b (v ∷ variables) (o ∷ objects) ext h = (row_kept a b (shape (object_block o)) 0 v.type ext h.0, settled_later a b variables objects ext h.1)
 
-pub bodies_later : (height : ℕ) (a b : Scope) (bodies : List Defined) → FileGrows a b → AllByRecursion (IsBody height a) bodies → AllByRecursion (IsBody height b) bodies
-bodies_later height a b [] h all = tt
-bodies_later height a b (x ∷ bodies) h all = (
-  record { signature = all.0.signature; named = h.functions x.name all.0.signature all.0.named; parameters = all.0.parameters; result = all.0.result; typed = λ g known. all.0.typed g (known_before g a b h known); few_parameters = all.0.few_parameters; few_locals = all.0.few_locals; low = all.0.low },
-  bodies_later height a b bodies h all.1,
+pub bodies_later : (height : ℕ) (a b : Scope) (bodies : List Defined) → IsClosed a → FileGrows a b → AllByRecursion (IsBody height a) bodies → AllByRecursion (IsBody height b) bodies
+bodies_later height a b [] closed h all = tt
+bodies_later height a b (x ∷ bodies) closed h all = (
+  record { signature = all.0.signature; named = h.functions x.name all.0.signature all.0.named; parameters = all.0.parameters; result = all.0.result; typed = λ g known. all.0.typed g (known_before g a b closed h known); few_parameters = all.0.few_parameters; few_locals = all.0.few_locals; low = all.0.low },
+  bodies_later height a b bodies closed h all.1,
 )
 
 pub all_append : {X : Type 0} (P : X → Type 0) (xs : List X) (x : X) → AllByRecursion P xs → P x → AllByRecursion P (xs ++ x ∷ [])
@@ -103,10 +107,10 @@ all_append P (y ∷ xs) x all h = (all.0, all_append P xs x all.1 h)
 
 -- ---- the program behind the whole walk
 
-settled_there : (structs : List Structure) (variables : List Variable) (objects : List (List core.Initial)) (k : ℕ) (v : Variable) → AreSettled structs variables objects → slice_get variables k ≡ Some v → (cells : List core.Initial) × (slice_get objects k ≡ Some cells) × Stands (shape (object_block cells)) 0 (slots structs v.type)
+settled_there : (structs : List Structure) (variables : List Variable) (objects : List (List Initial)) (k : ℕ) (v : Variable) → AreSettled structs variables objects → slice_get variables k ≡ Some v → (cells : List Initial) × (slice_get objects k ≡ Some cells) × HasRow structs (shape (object_block cells)) 0 v.type
 settled_there structs [] objects k v h e = absurd (cc)
 settled_there structs (x ∷ variables) [] k v h e = absurd h
-settled_there structs (x ∷ variables) (o ∷ objects) zero v h e = let same : x ≡ v = cc in (o, refl, subst (λ (y : Variable). Stands (shape (object_block o)) 0 (slots structs y.type)) same h.0)
+settled_there structs (x ∷ variables) (o ∷ objects) zero v h e = let same : x ≡ v = cc in (o, refl, subst (λ (y : Variable). HasRow structs (shape (object_block o)) 0 y.type) same h.0)
 settled_there structs (x ∷ variables) (o ∷ objects) (suc k) v h e = settled_there structs variables objects k v h.1 e
 
 -- the body that is found is one of the function
@@ -164,9 +168,10 @@ module _ (height entry : ℕ) (w : Walk) (well : IsWell height w) (settled : Are
   pub known : KnowsFile frame w.scope
   known = record {
     structs = λ k x h. h;
+    closed = well.closed;
     few_members = well.few;
     scalar_members = well.scalars;
-    variables = λ k v e. let there = settled_there w.scope.structs w.scope.variables w.objects k v settled e in record { cells = there.0; found = there.1; stands = there.2 };
+    variables = λ k v e. let there = settled_there w.scope.structs w.scope.variables w.objects k v settled e in record { cells = there.0; found = there.1; row = there.2 };
     trusted = trusted_known;
     tainted = tainted_known;
   }
@@ -189,11 +194,11 @@ module _ (height entry : ℕ) (w : Walk) (well : IsWell height w) (settled : Are
       chosen false h rest = (h, rest)
 
   -- and each cell a value of its type
-  start_typed : (is : List core.Initial) → AllByRecursion IsStart is → AllByRecursion (IsInitial w.scope.structs) is
+  start_typed : (is : List Initial) → AllByRecursion IsStart is → AllByRecursion (IsInitial w.scope.structs) is
   start_typed [] all = tt
   start_typed (i ∷ is) all = (all.0 w.scope.structs, start_typed is all.1)
 
-  pub objects_typed : (objects : List (List core.Initial)) → AllByRecursion (AllByRecursion IsStart) objects → AllByRecursion (AllByRecursion (IsInitial w.scope.structs)) objects
+  pub objects_typed : (objects : List (List Initial)) → AllByRecursion (AllByRecursion IsStart) objects → AllByRecursion (AllByRecursion (IsInitial w.scope.structs)) objects
   objects_typed [] all = tt
   objects_typed (o ∷ objects) all = (start_typed o all.0, objects_typed objects all.1)
 
@@ -214,10 +219,10 @@ module _ (height entry : ℕ) (w : Walk) (well : IsWell height w) (settled : Are
       chosen true h rest = rest
       chosen false h rest = (h, rest)
 
-  pub imports_small : (functions : List Signature) → AllByRecursion IsDeclared functions → AllByRecursion (λ (x : core.Import). x.parameters ≤ 16) (tainted_functions functions)
+  pub imports_small : (functions : List Signature) → AllByRecursion IsDeclared functions → AllByRecursion (λ (x : Import). x.parameters ≤ 16) (tainted_functions functions)
   imports_small [] all = tt
   imports_small (f ∷ functions) all = chosen (is_import f) (imports_small functions all.1)
     where
-      chosen : (test : Bool) → AllByRecursion (λ (x : core.Import). x.parameters ≤ 16) (tainted_functions functions) → AllByRecursion (λ (x : core.Import). x.parameters ≤ 16) (picked test (record { name = f.text; parameters = length f.parameters; result = f.result } ∷ tainted_functions functions) (tainted_functions functions))
+      chosen : (test : Bool) → AllByRecursion (λ (x : Import). x.parameters ≤ 16) (tainted_functions functions) → AllByRecursion (λ (x : Import). x.parameters ≤ 16) (picked test (record { name = f.text; parameters = length f.parameters; result = f.result } ∷ tainted_functions functions) (tainted_functions functions))
       chosen true rest = (all.0.few, rest)
       chosen false rest = rest

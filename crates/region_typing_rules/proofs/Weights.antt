@@ -10,7 +10,7 @@ use Rattle.ckc_tree.specs.declared.expr.BinaryOperator.TheVariants as binary
 use Rattle.ckc_tree.specs.Expressions as e
 use Rattle.ckc_tree.specs.Expressions.{Expression, Expressions}
 use Rattle.ckc_tree.specs.Weights as tree
-use Rattle.pointer_modes.specs.Types.{CType, Int, Char, Struct, Pointer, members_of}
+use Rattle.pointer_modes.specs.Types.{CType, Int, Char, Struct, Pointer, Structure, members_of}
 use Rattle.pointer_modes.specs.Layout.{cells_of}
 use Rattle.ckc_core.specs.declared.program.Site.{Site}
 use Rattle.act_words.specs.declared.operator.Operator.{Operator}
@@ -20,13 +20,15 @@ use Rattle.act_words.specs.declared.operator.Operator.TheVariants as operators
 use Rattle.act_words.specs.declared.operator.Comparison.{Comparison}
 use Rattle.act_words.specs.declared.operator.Comparison.TheVariants as comparisons
 use Rattle.ckc_core.specs.declared.program.Callee.{Callee}
+use Rattle.ckc_core.specs.declared.program.Index.TheVariants as indexes
+use Rattle.ckc_core.specs.declared.program.PointerBounds.{PointerBounds}
 use Rattle.ckc_core.specs.Core as core
 use Rattle.ckc_core.specs.Weights.{expression_weight, arguments_weight, place_weight, statement_weight}
 use Rattle.ckc_names_rules.specs.declared.given.Given.{Given}
-use Rattle.region_typing_rules.specs.Verdicts.{Verdict, Passes, breaks}
+use Rattle.region_typing_rules.specs.Verdicts.{Verdict, Passes, passing, breaks}
 use Rattle.region_typing_rules.specs.Scopes.{Scope, Signature, Named, Local, Object, Nothing, named, function_named, members_named}
 use Rattle.region_typing_rules.specs.Types.{type_named, is_number, is_pointer, are_comparable, converts}
-use Rattle.region_typing_rules.specs.Expressions.{Places, Lvalue, OfLocal, OfCell, Typed, Value, AStruct, Called, Gives, GivesNothing, site_at, number, at_place, local_typed, name_typed, member_place, member_from, offset_among, member_at, dotted, pointed_by, arrowed, pointed_at, dereferenced, pointer_to, address, number_of, scalar_of, unary_typed, is_pointer_value, two_numbers, two_scalars, summands, as_pointer, equated_values, equated, ordered_values, ordered, arithmetic, binary_typed, indexed, in_type, converted, arguments_as, is_import, call_of, declared_callee, first_of, writes, predefined_call, called, with_result, typed, all_typed, call_typed}
+use Rattle.region_typing_rules.specs.Expressions.{Places, Lvalue, OfLocal, OfCell, Typed, Value, AStruct, Called, Gives, GivesNothing, site_at, bounds_at, noted, with_bounds, bounded, number, at_place, local_typed, name_typed, member_place, member_from, offset_among, member_at, dotted, pointed_by, arrowed, pointed_at, dereferenced, pointer_to, address, number_of, scalar_of, unary_typed, is_pointer_value, two_numbers, two_scalars, summands, as_pointer, equated_values, equated, ordered_values, ordered, arithmetic, binary_typed, indexed, in_type, converted, arguments_as, is_import, call_of, declared_callee, first_of, writes, predefined_call, called, with_result, typed, all_typed, call_typed}
 use Rattle.region_typing_rules.proofs.Knowledge.{crossing_promises}
 use Rattle.region_typing_rules.proofs.Verdicts.{Promises, passing_promises, needs_promises, anything_promised, promised_so}
 
@@ -57,6 +59,32 @@ light_more : (n m : ℕ) (t : Typed) → n ≤ m → Light n t → Light m t
 light_more n m (Value type zero value place) le h = let first = h.0 in (omega arith, light_place_more n m place le h.1)
 light_more n m (AStruct number place) le h = light_place_more n m (Some place) le h
 
+-- bounds are no nodes
+noted_light : (b : Option PointerBounds) (v : core.Expression) → expression_weight (noted b v) ≡ expression_weight v
+noted_light b (core.Number number) = refl
+noted_light b core.Null = refl
+noted_light b (core.Local local bounds) = refl
+noted_light b (core.Load type place bounds) = refl
+noted_light b (core.AddressOf place bounds) = refl
+noted_light b (core.Negate operand site) = refl
+noted_light b (core.Complement operand) = refl
+noted_light b (core.Not operand) = refl
+noted_light b (core.Arithmetic operator left right site) = refl
+noted_light b (core.Compare comparison left right) = refl
+noted_light b (core.Same left right) = refl
+noted_light b (core.AndAlso left right) = refl
+noted_light b (core.OrElse left right) = refl
+noted_light b (core.LowByte operand) = refl
+noted_light b (core.Call callee arguments bounds) = refl
+noted_light b core.NextInput = refl
+
+with_bounds_light : (n : ℕ) (s : Scope) (site : Site) (t : Typed) → Light n t → Light n (with_bounds s.structs site t)
+with_bounds_light n s site (Value type zero value place) h = let first = h.0 in (omega (arith, noted_light (bounds_at s.structs type site) value), h.1)
+with_bounds_light n s site (AStruct number place) h = h
+
+bounded_light : (n : ℕ) (s : Scope) (site : Site) (v : Verdict Typed) → Promises (Light n) v → Promises (Light n) (bounded s site v)
+bounded_light n s site v h = passing_promises (Light n) (Light n) v _ h (with_bounds_light n s site)
+
 -- ---- places
 
 at_place_light : (n : ℕ) (t : CType) (p : core.Place) → place_weight p + 1 < n → Light n (at_place t p)
@@ -78,11 +106,11 @@ name_light n Nothing h = (omega arith, tt)
 
 member_weight : (p : core.Place) (offset : ℕ) (site : Site) → place_weight (member_place p offset site) ≡ place_weight p
 member_weight (core.Direct object first) offset site = refl
-member_weight (core.Through pointer first before) offset site = refl
+member_weight (core.Through pointer index first before) offset site = refl
 
 pointer_light : (n : ℕ) (t : CType) (p : core.Place) (site : Site) → place_weight p < n → Light n (pointer_to t p site)
 pointer_light n t (core.Direct object offset) site h = (h, tt)
-pointer_light n t (core.Through pointer offset before) site h = (h, tt)
+pointer_light n t (core.Through pointer index offset before) site h = (h, tt)
 
 address_light : (n : ℕ) (a : Typed) (site : Site) (span : Span) → Light n a → Promises (Light n) (address a site span)
 address_light n (Value type zero value None) site span h = tt
@@ -95,7 +123,7 @@ pointed_light : (n : ℕ) (t : CType) (value : core.Expression) (site : Site) (s
 pointed_light n Int value site span h = tt
 pointed_light n Char value site span h = tt
 pointed_light n (Struct number) value site span h = tt
-pointed_light n (Pointer m k t) value site span h = at_place_light (n + 2) t (core.Through value 0 site) (omega arith)
+pointed_light n (Pointer m k t) value site span h = at_place_light (n + 2) t (core.Through value indexes.First 0 site) (omega arith)
 
 dereferenced_light : (n : ℕ) (a : Typed) (site : Site) (span : Span) → Light n a → Promises (Light (n + 2)) (dereferenced a site span)
 dereferenced_light n (Value type zero value place) site span h = pointed_light n type value site span h.0
@@ -112,7 +140,7 @@ member_at_light n s struct p name site span h = by (member_from 0 (members_named
 
 dotted_light : (n : ℕ) (s : Scope) (a : Typed) (name : ℕ) (site : Site) (span : Span) → 2 ≤ n → Light n a → Promises (Light (n + 2)) (dotted s a name site span)
 dotted_light n s (Value type zero value place) name site span two h = tt
-dotted_light n s (AStruct number (OfLocal k)) name site span two h = member_at_light (n + 2) s number (core.Through (core.Local k) 0 site) name site span (omega arith)
+dotted_light n s (AStruct number (OfLocal k)) name site span two h = member_at_light (n + 2) s number (core.Through (core.Local k None) indexes.First 0 site) name site span (omega arith)
 dotted_light n s (AStruct number (OfCell p)) name site span two h = member_at_light (n + 2) s number p name site span (omega arith)
 
 pointed_by_light : (n : ℕ) (s : Scope) (t : CType) (value : core.Expression) (name : ℕ) (site : Site) (span : Span) → IsLight n value → Promises (Light (n + 2)) (pointed_by s t value name site span)
@@ -122,7 +150,7 @@ pointed_by_light n s (Struct number) value name site span h = tt
 pointed_by_light n s (Pointer m k Int) value name site span h = tt
 pointed_by_light n s (Pointer m k Char) value name site span h = tt
 pointed_by_light n s (Pointer m k (Pointer m' k' t)) value name site span h = tt
-pointed_by_light n s (Pointer m k (Struct number)) value name site span h = member_at_light (n + 2) s number (core.Through value 0 site) name site span (omega arith)
+pointed_by_light n s (Pointer m k (Struct number)) value name site span h = member_at_light (n + 2) s number (core.Through value indexes.First 0 site) name site span (omega arith)
 
 arrowed_light : (n : ℕ) (s : Scope) (a : Typed) (name : ℕ) (site : Site) (span : Span) → Light n a → Promises (Light (n + 2)) (arrowed s a name site span)
 arrowed_light n s (Value type zero value place) name site span h = pointed_by_light n s type value name site span h.0
@@ -264,9 +292,9 @@ arguments_light (e.Then first others) (a ∷ arguments) (t ∷ ts) all =
     converted_light (AreLight (e.Then first others)) (5 * tree.expression_weight first) a.0 t a.1 _ (omega (arith, node_there first)) all.0
     (λ v light. passing_promises (AreLight others) (AreLight (e.Then first others)) (arguments_as arguments ts) _ (arguments_light others arguments ts all.1) (λ rest h. omega arith))
 
-call_light : (n : ℕ) (result : Option CType) (callee : Callee) (values : core.Arguments) → arguments_weight values ≤ n → LightCall (n + 2) (call_of result callee values)
-call_light n (Some t) callee values h = omega arith
-call_light n None callee values h = omega arith
+call_light : (n : ℕ) (result : Option CType) (callee : Callee) (values : core.Arguments) (site : Site) (structs : List Structure) → arguments_weight values ≤ n → LightCall (n + 2) (call_of structs result callee values site)
+call_light n (Some t) callee values site structs h = omega arith
+call_light n None callee values site structs h = omega arith
 
 first_light : (n : ℕ) (of : core.Expression → core.Statement) (values : core.Arguments) → ((v : core.Expression) → statement_weight (of v) ≡ 1 + expression_weight v) → arguments_weight values ≤ n → statement_weight (first_of of values) < n + 2
 first_light n of core.Done same h = omega arith
@@ -298,7 +326,7 @@ called_light s xs (Some f) name arguments site span all =
     needs_promises (LightCall (n + 2)) (length f.parameters == length arguments) E14 span _
     (λ many. crossing_promises (LightCall (n + 2)) (is_import f) arguments _
     (passing_promises (AreLight xs) (LightCall (n + 2)) (arguments_as arguments f.parameters) _ (arguments_light xs arguments f.parameters all)
-    (λ values h. call_light n f.result (declared_callee s f site) values h)))
+    (λ values h. call_light n f.result (declared_callee s f site) values site s.structs h)))
 
 -- ---- the walk
 
@@ -308,7 +336,7 @@ mutual
   typed_light at s (e.Number value span) = needs_promises (Light 5) (nat_lt value (2 ^ 31)) E04 span _ (λ low. (omega arith, tt))
   typed_light at s (e.Character value span) = needs_promises (Light 5) (nat_lt value (2 ^ 31)) E04 span _ (λ low. (omega arith, tt))
   typed_light at s (e.Text bytes span) = tt
-  typed_light at s (e.Name name) = passing_promises (λ (x : Named). Unit {0}) (Light 5) (named s name.number) _ (anything_promised (named s name.number)) (λ x _. name_light 5 x (omega arith))
+  typed_light at s (e.Name name) = bounded_light 5 s (site_at at name.span) (passing (named s name.number) (λ x. Passes (name_typed x))) (passing_promises (λ (x : Named). Unit {0}) (Light 5) (named s name.number) _ (anything_promised (named s name.number)) (λ x _. name_light 5 x (omega arith)))
   typed_light at s (e.Call callee arguments span) =
       let n = 5 * tree.expressions_weight arguments in
       let all = 5 * tree.expression_weight (e.Call callee arguments span) in
@@ -329,18 +357,18 @@ mutual
   typed_light at s (e.Dot base member span) =
       let n = 5 * tree.expression_weight base in
       let all = 5 * tree.expression_weight (e.Dot base member span) in
-      passing_promises (Light n) (Light all) (typed at s base) _ (typed_light at s base)
-      (λ a light. promised_so (Light (n + 2)) (Light all) (dotted s a member.number (site_at at span) span) (dotted_light n s a member.number (site_at at span) span (omega (arith, node_there base)) light) (λ t. light_more (n + 2) all t (omega arith)))
+      bounded_light all s (site_at at span) (passing (typed at s base) (λ a. dotted s a member.number (site_at at span) span)) (passing_promises (Light n) (Light all) (typed at s base) _ (typed_light at s base)
+      (λ a light. promised_so (Light (n + 2)) (Light all) (dotted s a member.number (site_at at span) span) (dotted_light n s a member.number (site_at at span) span (omega (arith, node_there base)) light) (λ t. light_more (n + 2) all t (omega arith))))
   typed_light at s (e.Arrow base member span) =
       let n = 5 * tree.expression_weight base in
       let all = 5 * tree.expression_weight (e.Arrow base member span) in
-      passing_promises (Light n) (Light all) (typed at s base) _ (typed_light at s base)
-      (λ a light. promised_so (Light (n + 2)) (Light all) (arrowed s a member.number (site_at at span) span) (arrowed_light n s a member.number (site_at at span) span light) (λ t. light_more (n + 2) all t (omega arith)))
+      bounded_light all s (site_at at span) (passing (typed at s base) (λ a. arrowed s a member.number (site_at at span) span)) (passing_promises (Light n) (Light all) (typed at s base) _ (typed_light at s base)
+      (λ a light. promised_so (Light (n + 2)) (Light all) (arrowed s a member.number (site_at at span) span) (arrowed_light n s a member.number (site_at at span) span light) (λ t. light_more (n + 2) all t (omega arith))))
   typed_light at s (e.Unary operator operand span) =
       let n = 5 * tree.expression_weight operand in
       let all = 5 * tree.expression_weight (e.Unary operator operand span) in
-      passing_promises (Light n) (Light all) (typed at s operand) _ (typed_light at s operand)
-      (λ a light. promised_so (Light (n + 2)) (Light all) (unary_typed operator a (site_at at span) span) (unary_light n operator a (site_at at span) span light) (λ t. light_more (n + 2) all t (omega arith)))
+      bounded_light all s (site_at at span) (passing (typed at s operand) (λ a. unary_typed operator a (site_at at span) span)) (passing_promises (Light n) (Light all) (typed at s operand) _ (typed_light at s operand)
+      (λ a light. promised_so (Light (n + 2)) (Light all) (unary_typed operator a (site_at at span) span) (unary_light n operator a (site_at at span) span light) (λ t. light_more (n + 2) all t (omega arith))))
   typed_light at s (e.Binary operator left right span) =
       let n = 5 * tree.expression_weight left in
       let m = 5 * tree.expression_weight right in

@@ -62,7 +62,7 @@ site_at at span = record { place = at span.from }
 -- ---- bounds
 
 -- a checked pointer to one element has the ends 0 and 1; no other pointer is built
-abbrev bounds_by : Mode → Kind → PointerBounds → Option PointerBounds
+abbrev pub bounds_by : Mode → Kind → PointerBounds → Option PointerBounds
 bounds_by modes.Checked kinds.One p = Some p
 bounds_by modes.Checked kinds.Array p = None
 bounds_by modes.Checked kinds.Nt p = None
@@ -367,9 +367,10 @@ abbrev pub callee_of : Bool → ℕ → Site → Callee
 callee_of true number site = callees.Tainted number site
 callee_of false number site = callees.Trusted number
 
-abbrev pub call_of : Option CType → Callee → core.Arguments → Called
-call_of (Some type) callee arguments = Gives type (core.Call callee arguments None)
-call_of None callee arguments = GivesNothing (core.CallAlone callee arguments)
+-- a call has its bounds from the start, since one that stands alone is evaluated too
+abbrev pub call_of : List Structure → Option CType → Callee → core.Arguments → Site → Called
+call_of structs (Some type) callee arguments site = Gives type (core.Call callee arguments (bounds_at structs type site))
+call_of structs None callee arguments site = GivesNothing (core.CallAlone callee arguments)
 
 -- a declared function as a callee
 abbrev pub declared_callee : Scope → Signature → Site → Callee
@@ -380,7 +381,7 @@ abbrev pub declared_call : Scope → Signature → List (Typed × Span) → Site
 declared_call s f arguments site span =
     needs (length f.parameters == length arguments) E14 span
     (crossing (is_import f) arguments
-    (passing (arguments_as arguments f.parameters) (λ values. Passes (call_of f.result (declared_callee s f site) values))))
+    (passing (arguments_as arguments f.parameters) (λ values. Passes (call_of s.structs f.result (declared_callee s f site) values site))))
 
 abbrev pub first_of : (core.Expression → core.Statement) → core.Arguments → core.Statement
 first_of of core.Done = core.Nothing
@@ -424,8 +425,8 @@ abbrev mutual
   typed at s (e.Character value span) = constant value false span
   typed at s (e.Text bytes span) = breaks E13 span
   typed at s (e.Name name) = bounded s (site_at at name.span) (passing (named s name.number) (λ n. Passes (name_typed n)))
-  typed at s (e.Call callee arguments span) = bounded s (site_at at span) (passing (all_typed at s arguments)
-      (λ ts. passing (called s (function_named s.functions callee.number) callee.number ts (site_at at span) span) (λ c. with_result c span)))
+  typed at s (e.Call callee arguments span) = passing (all_typed at s arguments)
+      (λ ts. passing (called s (function_named s.functions callee.number) callee.number ts (site_at at span) span) (λ c. with_result c span))
   typed at s (e.SizeOf type span) = passing (type_named s type) (λ t. number (core.Number (pos (size_of s.structs t))))
   typed at s (e.Cast word type operand span) = breaks E13 span
   typed at s (e.BoundedCast word type operand bounds span) = breaks E13 span

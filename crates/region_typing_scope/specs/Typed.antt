@@ -4,6 +4,7 @@ use Rattle.ckc_text.specs.declared.place.Span.{Span}
 use Rattle.ckc_tree.specs.Types.{TypeName}
 use Rattle.pointer_modes.specs.Layout.{size_of}
 use Rattle.pointer_modes.specs.Types.{CType, Int, Char, Struct, Pointer, ctype}
+use Rattle.ckc_core.specs.declared.program.Index.TheVariants as indexes
 use Rattle.ckc_core.specs.Core as core
 use Rattle.ckc_core.specs.Core.{expression, place}
 use Rattle.region_typing_rules.specs.Verdicts.{Verdict, passing}
@@ -20,7 +21,7 @@ use Rattle.region_typing_scope.specs.declared.typed.Typed.TheVariants as forms
 -- the first cell of a struct
 abbrev pub base_place : code_base.Base → core.Place
 base_place (bases.Object object) = core.Direct object 0
-base_place (bases.Behind pointer site) = core.Through (expression pointer.value) 0 site
+base_place (bases.Behind pointer site) = core.Through (expression pointer.value) indexes.First 0 site
 
 -- where a struct stands
 abbrev pub struct_place : code_place.StructPlace → Lvalue
@@ -30,8 +31,8 @@ struct_place (places.Cell base) = OfCell (base_place base)
 -- what a value of the code's type stands for
 abbrev pub typed : code.Typed → Typed
 typed (forms.Value type zero value) = Value (ctype type) zero (expression value.value) None
-typed (forms.Local type local) = Value (ctype type) false (core.Local local) (Some (OfLocal local))
-typed (forms.Cell type at) = Value (ctype type) false (core.Load (ctype type) (place at)) (Some (OfCell (place at)))
+typed (forms.Local type local bounds) = Value (ctype type) false (core.Local local bounds) (Some (OfLocal local))
+typed (forms.Cell type at bounds) = Value (ctype type) false (core.Load (ctype type) (place at) bounds) (Some (OfCell (place at)))
 typed (forms.Struct struct at) = AStruct struct (struct_place at)
 
 -- the struct that a type is, and the one that a pointer of a type points to

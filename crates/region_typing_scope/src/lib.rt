@@ -2,6 +2,7 @@
 // types.
 #![tactic(auto)]
 
+pub mod bounds;
 pub mod context;
 pub mod conversions;
 mod filling;

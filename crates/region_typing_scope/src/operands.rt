@@ -32,10 +32,23 @@ pub fn value_of(context: &Context, t: Box<Typed>, span: Span) -> Result<Operand,
 {
     match Box::into_inner(t) {
         Typed::Value { ctype, zero, value } => Ok(Operand { ctype, zero, value }),
-        Typed::Local { ctype, local } => read(context, ctype, Expr::Local(local)),
-        Typed::Cell { ctype, place } => {
+        Typed::Local {
+            ctype,
+            local,
+            bounds,
+        } => read(context, ctype, Expr::Local { local, bounds }),
+        Typed::Cell {
+            ctype,
+            place: cell,
+            bounds,
+        } => {
             let copy = copied(context, &ctype)?;
-            read(context, copy, Expr::Load { ctype, cell: place })
+            let value = Expr::Load {
+                ctype,
+                cell,
+                bounds,
+            };
+            read(context, copy, value)
         }
         Typed::Struct { .. } => Err(refusal(Code::E13, span)),
     }

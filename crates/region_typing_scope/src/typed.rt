@@ -9,7 +9,7 @@ ghost use Rattle.region_typing_scope.specs.Typed.{typed, base_place};
 ghost use Rattle.region_typing_scope.specs.OnHeap.{typed as typed_on_heap};
 
 use crate::context::Context;
-use ckc_core::program::{CellPlace, Expr, Site};
+use ckc_core::program::{CellPlace, Expr, Index, PointerBounds, Site};
 use ckc_text::fault::NoMemory;
 use pointer_modes::ctype::CType;
 
@@ -36,15 +36,17 @@ pub enum Typed {
         zero: bool,
         value: Box<Expr>,
     },
-    /// What a local holds.
+    /// What a local holds, with the bounds at its node.
     Local {
         ctype: CType,
         local: u32,
+        bounds: Option<PointerBounds>,
     },
-    /// What a cell holds.
+    /// What a cell holds, with the bounds at its node.
     Cell {
         ctype: CType,
         place: CellPlace,
+        bounds: Option<PointerBounds>,
     },
     /// A struct, which is a parameter, or stands at a place.
     Struct {
@@ -87,6 +89,7 @@ pub fn at_base(ctype: CType, base: Base) -> Typed
         ctype => Typed::Cell {
             ctype,
             place: first_cell(base),
+            bounds: None,
         },
     }
 }
@@ -99,6 +102,7 @@ pub fn first_cell(base: Base) -> CellPlace
         Base::Object(object) => CellPlace::Direct { object, offset: 0 },
         Base::Behind { pointer, site } => CellPlace::Through {
             pointer,
+            index: Index::First,
             offset: 0,
             site,
         },
@@ -114,6 +118,10 @@ pub fn at_local(ctype: CType, local: u32) -> Typed
             number,
             place: StructPlace::Local(local),
         },
-        ctype => Typed::Local { ctype, local },
+        ctype => Typed::Local {
+            ctype,
+            local,
+            bounds: None,
+        },
     }
 }

@@ -1,0 +1,287 @@
+-- The type of an expression in a closed scope names declared structs alone.
+use Rattle.std.proofs.Common.{◌≡◌, ℕ, suc, ◌^◌, Bool, true, false, List, [], ◌∷◌, length, Option, Some, None, refl}
+use Rattle.std.specs.Prelude.{◌==◌, slice_get, nat_lt, not, ◌&&◌, ◌||◌}
+use Rattle.std.specs.List.{AllByRecursion}
+use Rattle.ckc_text.specs.declared.place.Span.{Span}
+use Rattle.ckc_text.specs.declared.code.Code.TheVariants.{E04, E13, E14, E19}
+use Rattle.ckc_tree.specs.declared.expr.UnaryOperator.{UnaryOperator}
+use Rattle.ckc_tree.specs.declared.expr.UnaryOperator.TheVariants as unary
+use Rattle.ckc_tree.specs.declared.expr.BinaryOperator.{BinaryOperator}
+use Rattle.ckc_tree.specs.declared.expr.BinaryOperator.TheVariants as binary
+use Rattle.ckc_tree.specs.Expressions as e
+use Rattle.ckc_tree.specs.Expressions.{Expression}
+use Rattle.pointer_modes.specs.Types.{CType, Int, Char, Struct, Pointer, Member, Structure, members_of}
+use Rattle.ckc_core.specs.declared.program.Site.{Site}
+use Rattle.act_words.specs.declared.operator.Comparison.{Comparison}
+use Rattle.ckc_core.specs.declared.program.Callee.{Callee}
+use Rattle.ckc_core.specs.declared.program.Index.TheVariants as indexes
+use Rattle.ckc_core.specs.Core as core
+use Rattle.ckc_core.proofs.Elements.{of_element}
+use Rattle.ckc_names_rules.specs.declared.given.Given.{Given}
+use Rattle.region_typing_rules.specs.Verdicts.{Verdict, Passes, Stops, passing, breaks, meant, picked}
+use Rattle.region_typing_rules.specs.Scopes.{Scope, Signature, Variable, Visible, Named, Local, Object, Nothing, local_if, found_if, local_named, object_named, or_else, null_named, named, function_named, members_named}
+use Rattle.region_typing_rules.specs.Types.{type_named, is_number, is_pointer, are_comparable}
+use Rattle.region_typing_rules.specs.Expressions.{Places, OfLocal, OfCell, Typed, Value, AStruct, Called, Gives, GivesNothing, site_at, bounded, number, at_place, local_typed, name_typed, member_from, member_at, dotted, pointed_by, arrowed, pointed_at, dereferenced, address, number_of, scalar_of, unary_typed, is_pointer_value, two_numbers, two_scalars, equated, ordered, binary_typed, indexed, arguments_as, is_import, call_of, declared_callee, writes, predefined_call, called, with_result, typed, all_typed}
+use Rattle.region_typing_rules.proofs.Verdicts.{Promises, passing_promises, needs_promises, anything_promised}
+use Rattle.region_typing_rules.proofs.Known.{IsKnown, IsKnownResult, IsClosed}
+use Rattle.region_typing_rules.proofs.Knowledge.{crossing_promises}
+use Rattle.region_typing_rules.proofs.Signatures.{named_has}
+
+abbrev pub IsKnownTyped : List Structure → Typed → Type 0
+IsKnownTyped structs (Value type zero value place) = IsKnown structs type
+IsKnownTyped structs (AStruct number place) = IsKnown structs (Struct number)
+
+abbrev IsKnownCall : List Structure → Called → Type 0
+IsKnownCall structs (Gives type value) = IsKnown structs type
+IsKnownCall structs (GivesNothing call) = Unit {0}
+
+abbrev IsKnownNamed : List Structure → Named → Type 0
+IsKnownNamed structs (Local local type) = IsKnown structs type
+IsKnownNamed structs (Object object type) = IsKnown structs type
+IsKnownNamed structs Nothing = Unit {0}
+
+abbrev IfKnown : List Structure → Option Named → Type 0
+IfKnown structs None = Unit {0}
+IfKnown structs (Some n) = IsKnownNamed structs n
+
+abbrev IfKnownMember : List Structure → Option (ℕ × CType) → Type 0
+IfKnownMember structs None = Unit {0}
+IfKnownMember structs (Some m) = IsKnown structs m.1
+
+module _ (structs : List Structure) where
+  abbrev Known : Typed → Type 0
+  Known t = IsKnownTyped structs t
+
+  -- ---- names
+
+  found_known : (test : Bool) (this other : Option Named) → IfKnown structs this → IfKnown structs other → IfKnown structs (found_if test this other)
+  found_known true this other h h' = h
+  found_known false this other h h' = h'
+
+  local_known : (locals : List CType) → AllByRecursion (IsKnown structs) locals → (k : ℕ) (o : Option CType) → slice_get locals k ≡ o → IfKnown structs (local_if o k)
+  local_known locals all k None e = tt
+  local_known locals all k (Some t) e = of_element (IsKnown structs) locals k t all e
+
+  locals_known : (locals : List CType) → AllByRecursion (IsKnown structs) locals → (visible : List Visible) (name : ℕ) → IfKnown structs (local_named locals visible name)
+  locals_known locals all [] name = tt
+  locals_known locals all (v ∷ visible) name =
+      found_known (name == v.name) (local_if (slice_get locals v.local) v.local) (local_named locals visible name) (local_known locals all v.local (slice_get locals v.local) refl) (locals_known locals all visible name)
+
+  objects_known : (number : ℕ) (variables : List Variable) (name : ℕ) → AllByRecursion (λ (v : Variable). IsKnown structs v.type) variables → IfKnown structs (object_named number variables name)
+  objects_known number [] name all = tt
+  objects_known number (v ∷ variables) name all =
+      found_known (name == v.name) (Some (Object number v.type)) (object_named (suc number) variables name) all.0 (objects_known (suc number) variables name all.1)
+
+  either_known : (this other : Option Named) → IfKnown structs this → IfKnown structs other → IfKnown structs (or_else this other)
+  either_known (Some n) other h h' = h
+  either_known None other h h' = h'
+
+  meant_known : (o : Option Named) → IfKnown structs o → Promises (IsKnownNamed structs) (meant o)
+  meant_known None h = tt
+  meant_known (Some n) h = h
+
+  -- ---- places
+
+  at_place_known : (t : CType) (p : core.Place) → IsKnown structs t → Known (at_place t p)
+  at_place_known Int p h = h
+  at_place_known Char p h = h
+  at_place_known (Struct number) p h = h
+  at_place_known (Pointer m k t) p h = h
+
+  local_typed_known : (local : ℕ) (t : CType) → IsKnown structs t → Known (local_typed local t)
+  local_typed_known local Int h = h
+  local_typed_known local Char h = h
+  local_typed_known local (Struct number) h = h
+  local_typed_known local (Pointer m k t) h = h
+
+  name_known : (n : Named) → IsKnownNamed structs n → Known (name_typed n)
+  name_known (Local local type) h = local_typed_known local type h
+  name_known (Object object type) h = at_place_known type (core.Direct object 0) h
+  name_known Nothing h = tt
+
+  pointed_known : (type : CType) (value : core.Expression) (site : Site) (span : Span) → IsKnown structs type → Promises Known (pointed_at type value site span)
+  pointed_known Int value site span h = tt
+  pointed_known Char value site span h = tt
+  pointed_known (Struct number) value site span h = tt
+  pointed_known (Pointer m k t) value site span h = at_place_known t _ h
+
+  dereferenced_known : (a : Typed) (site : Site) (span : Span) → Known a → Promises Known (dereferenced a site span)
+  dereferenced_known (Value type zero value place) site span h = pointed_known type value site span h
+  dereferenced_known (AStruct number place) site span h = tt
+
+  address_known : (a : Typed) (site : Site) (span : Span) → Known a → Promises Known (address a site span)
+  address_known (Value type zero value None) site span h = tt
+  address_known (Value type zero value (Some (OfLocal k))) site span h = tt
+  address_known (Value type zero value (Some (OfCell p))) site span h = h
+  address_known (AStruct number (OfLocal k)) site span h = tt
+  address_known (AStruct number (OfCell p)) site span h = h
+
+  -- ---- operators
+
+  number_of_known : (a : Typed) (span : Span) (next : core.Expression → Verdict Typed) → ((v : core.Expression) → Promises Known (next v)) → Promises Known (number_of a span next)
+  number_of_known (Value type zero value place) span next h = needs_promises Known (is_number type) E13 span (next value) (λ n. h value)
+  number_of_known (AStruct number place) span next h = tt
+
+  scalar_of_known : (a : Typed) (span : Span) (next : core.Expression → Verdict Typed) → ((v : core.Expression) → Promises Known (next v)) → Promises Known (scalar_of a span next)
+  scalar_of_known (Value type zero value place) span next h = h value
+  scalar_of_known (AStruct number place) span next h = tt
+
+  unary_known : (operator : UnaryOperator) (a : Typed) (site : Site) (span : Span) → Known a → Promises Known (unary_typed operator a site span)
+  unary_known unary.Deref a site span h = dereferenced_known a site span h
+  unary_known unary.AddressOf a site span h = address_known a site span h
+  unary_known unary.Negate a site span h = number_of_known a span _ (λ v. tt)
+  unary_known unary.Not a site span h = scalar_of_known a span _ (λ v. tt)
+  unary_known unary.Complement a site span h = number_of_known a span _ (λ v. tt)
+
+  numbers_known : (a b : Typed) (span : Span) (of : core.Expression → core.Expression → core.Expression) → Promises Known (two_numbers a b span (λ v w. number (of v w)))
+  numbers_known a b span of = number_of_known a span _ (λ v. number_of_known b span _ (λ w. tt))
+
+  scalars_known : (a b : Typed) (span : Span) (of : core.Expression → core.Expression → core.Expression) → Promises Known (two_scalars a b span (λ v w. number (of v w)))
+  scalars_known a b span of = scalar_of_known a span _ (λ v. scalar_of_known b span _ (λ w. tt))
+
+  equal_known : (a b : Typed) (span : Span) (next : core.Expression → core.Expression) → Promises Known (passing (equated a b span) (λ v. number (next v)))
+  equal_known a b span next = passing_promises (λ (v : core.Expression). Unit {0}) Known (equated a b span) _ (anything_promised (equated a b span)) (λ v _. tt)
+
+  ordered_known : (comparison : Comparison) (a b : Typed) (span : Span) → Promises Known (ordered comparison a b span)
+  ordered_known comparison (Value t z v p) (AStruct n q) span = tt
+  ordered_known comparison (AStruct n p) b span = tt
+  ordered_known comparison (Value t z v p) (Value u y w q) span = by (is_number t && is_number u) (are_comparable t u) refl refl
+    where
+      by : (numbers same : Bool) → (is_number t && is_number u) ≡ numbers → are_comparable t u ≡ same → Promises Known (ordered comparison (Value t z v p) (Value u y w q) span)
+      by true same e e1 = rw e tt
+      by false true e e1 = rw (e, e1) tt
+      by false false e e1 = rw (e, e1) tt
+
+  binary_known : (operator : BinaryOperator) (a b : Typed) (site : Site) (span : Span) → Promises Known (binary_typed operator a b site span)
+  binary_known binary.Or a b site span = scalars_known a b span _
+  binary_known binary.And a b site span = scalars_known a b span _
+  binary_known binary.BitOr a b site span = numbers_known a b span _
+  binary_known binary.BitXor a b site span = numbers_known a b span _
+  binary_known binary.BitAnd a b site span = numbers_known a b span _
+  binary_known binary.Equal a b site span = equal_known a b span (λ v. v)
+  binary_known binary.NotEqual a b site span = equal_known a b span core.Not
+  binary_known binary.Less a b site span = ordered_known _ a b span
+  binary_known binary.LessEqual a b site span = ordered_known _ a b span
+  binary_known binary.Greater a b site span = ordered_known _ a b span
+  binary_known binary.GreaterEqual a b site span = ordered_known _ a b span
+  binary_known binary.ShiftLeft a b site span = numbers_known a b span _
+  binary_known binary.ShiftRight a b site span = numbers_known a b span _
+  binary_known binary.Add a b site span = needs_promises Known (not (is_pointer_value a || is_pointer_value b)) E19 span _ (λ x. numbers_known a b span _)
+  binary_known binary.Subtract a b site span = needs_promises Known (not (is_pointer_value a || is_pointer_value b)) E19 span _ (λ x. numbers_known a b span _)
+  binary_known binary.Multiply a b site span = numbers_known a b span _
+  binary_known binary.Divide a b site span = numbers_known a b span _
+  binary_known binary.Remainder a b site span = numbers_known a b span _
+
+  indexed_known : (a b : Typed) (span : Span) → Promises Known (indexed a b span)
+  indexed_known (Value t z v p) (Value u y w q) span = needs_promises Known (is_pointer t && is_number u) E13 span (breaks E19 span) (λ x. tt)
+  indexed_known (Value t z v p) (AStruct n q) span = tt
+  indexed_known (AStruct n p) b span = tt
+
+  -- ---- calls
+
+  call_known : (callee : Callee) (result : Option CType) (values : core.Arguments) (site : Site) → IsKnownResult structs result → IsKnownCall structs (call_of structs result callee values site)
+  call_known callee None values site h = tt
+  call_known callee (Some t) values site h = h
+
+  writes_known : (of : core.Expression → core.Statement) (arguments : List (Typed × Span)) (span : Span) → Promises (IsKnownCall structs) (writes of arguments span)
+  writes_known of arguments span =
+      needs_promises (IsKnownCall structs) (length arguments == 1) E14 span _
+      (λ one. passing_promises (λ (values : core.Arguments). Unit {0}) (IsKnownCall structs) (arguments_as arguments (Int ∷ [])) _ (anything_promised (arguments_as arguments (Int ∷ []))) (λ values _. tt))
+
+  predefined_known : (given : Given) (name : ℕ) (arguments : List (Typed × Span)) (span : Span) → Promises (IsKnownCall structs) (predefined_call given name arguments span)
+  predefined_known given name arguments span = by (name == given.next_input) (name == given.print_int) (name == given.putchar) refl refl refl
+    where
+      by : (input print put : Bool) → (name == given.next_input) ≡ input → (name == given.print_int) ≡ print → (name == given.putchar) ≡ put → Promises (IsKnownCall structs) (predefined_call given name arguments span)
+      by true print put e e1 e2 = rw e (needs_promises (IsKnownCall structs) (length arguments == 0) E14 span (Passes (Gives Int core.NextInput)) (λ none. tt))
+      by false true put e e1 e2 = rw (e, e1) (writes_known core.Print arguments span)
+      by false false true e e1 e2 = rw (e, e1, e2) (writes_known core.PutByte arguments span)
+      by false false false e e1 e2 = rw (e, e1, e2) tt
+
+  with_result_known : (c : Called) (span : Span) → IsKnownCall structs c → Promises Known (with_result c span)
+  with_result_known (Gives type value) span h = h
+  with_result_known (GivesNothing call) span h = tt
+
+  -- ---- members
+
+  picked_known : (test : Bool) (first second : Option (ℕ × CType)) → IfKnownMember structs first → IfKnownMember structs second → IfKnownMember structs (picked test first second)
+  picked_known true first second h h' = h
+  picked_known false first second h h' = h'
+
+  member_known : (number : ℕ) (names : List ℕ) (members : List Member) (name : ℕ) → AllByRecursion (λ (m : Member). IsKnown structs m.ctype) members → IfKnownMember structs (member_from number names members name)
+  member_known number [] members name all = tt
+  member_known number (other ∷ names) [] name all = tt
+  member_known number (other ∷ names) (m ∷ members) name all = picked_known (name == other) (Some (number, m.ctype)) (member_from (suc number) names members name) all.0 (member_known (suc number) names members name all.1)
+
+-- notes leave the type
+bounded_known : (s : Scope) (site : Site) (v : Verdict Typed) → Promises (IsKnownTyped s.structs) v → Promises (IsKnownTyped s.structs) (bounded s site v)
+bounded_known s site (Passes (Value type zero value place)) h = h
+bounded_known s site (Passes (AStruct number place)) h = h
+bounded_known s site (Stops stop) h = tt
+
+module _ (s : Scope) (closed : IsClosed s) where
+  named_known : (name : ℕ) → Promises (IsKnownNamed s.structs) (named s name)
+  named_known name =
+      let locals = local_named s.locals s.visible name in
+      let objects = object_named 0 s.variables name in
+      meant_known s.structs (or_else locals (or_else objects (null_named s.given name))) (either_known s.structs locals (or_else objects (null_named s.given name)) (locals_known s.structs s.locals closed.of_locals s.visible name)
+      (either_known s.structs objects (null_named s.given name) (objects_known s.structs 0 s.variables name closed.of_variables) (found_known s.structs (name == s.given.null) (Some Nothing) None tt tt)))
+
+  member_at_known : (n : ℕ) (p : core.Place) (name : ℕ) (site : Site) (span : Span) → Promises (IsKnownTyped s.structs) (member_at s n p name site span)
+  member_at_known n p name site span = by (member_from 0 (members_named s n) (members_of s.structs n) name) refl (member_known s.structs 0 (members_named s n) (members_of s.structs n) name (closed.of_members n))
+    where
+      by : (o : Option (ℕ × CType)) → member_from 0 (members_named s n) (members_of s.structs n) name ≡ o → IfKnownMember s.structs (member_from 0 (members_named s n) (members_of s.structs n) name) → Promises (IsKnownTyped s.structs) (member_at s n p name site span)
+      by None found h = rw found tt
+      by (Some m) found h = let there : IsKnown s.structs m.1 = rw found at h in rw found (at_place_known s.structs m.1 _ there)
+
+  dotted_known : (a : Typed) (name : ℕ) (site : Site) (span : Span) → Promises (IsKnownTyped s.structs) (dotted s a name site span)
+  dotted_known (Value type zero value place) name site span = tt
+  dotted_known (AStruct n place) name site span = member_at_known n _ name site span
+
+  arrowed_known : (a : Typed) (name : ℕ) (site : Site) (span : Span) → Promises (IsKnownTyped s.structs) (arrowed s a name site span)
+  arrowed_known (AStruct n place) name site span = tt
+  arrowed_known (Value type zero value place) name site span = by type
+    where
+      by : (type : CType) → Promises (IsKnownTyped s.structs) (pointed_by s type value name site span)
+      by Int = tt
+      by Char = tt
+      by (Struct n) = tt
+      by (Pointer m k Int) = tt
+      by (Pointer m k Char) = tt
+      by (Pointer m k (Pointer m' k' t)) = tt
+      by (Pointer m k (Struct n)) = member_at_known n (core.Through value indexes.First 0 site) name site span
+
+  called_known : (o : Option Signature) (name : ℕ) (arguments : List (Typed × Span)) (site : Site) (span : Span) → function_named s.functions name ≡ o → Promises (IsKnownCall s.structs) (called s o name arguments site span)
+  called_known None name arguments site span e = predefined_known s.structs s.given name arguments span
+  called_known (Some f) name arguments site span e =
+      needs_promises (IsKnownCall s.structs) (length f.parameters == length arguments) E14 span _
+      (λ many. crossing_promises (IsKnownCall s.structs) (is_import f) arguments _
+      (passing_promises (λ (values : core.Arguments). Unit {0}) (IsKnownCall s.structs) (arguments_as arguments f.parameters) _ (anything_promised (arguments_as arguments f.parameters))
+      (λ values _. call_known s.structs (declared_callee s f site) f.result values site (named_has (λ (x : Signature). IsKnownResult s.structs x.result) s.functions name f closed.of_functions e))))
+
+  pub typed_known : (at : Places) (x : Expression) → Promises (IsKnownTyped s.structs) (typed at s x)
+  typed_known at (e.Number value span) = needs_promises (IsKnownTyped s.structs) (nat_lt value (2 ^ 31)) E04 span _ (λ low. tt)
+  typed_known at (e.Character value span) = needs_promises (IsKnownTyped s.structs) (nat_lt value (2 ^ 31)) E04 span _ (λ low. tt)
+  typed_known at (e.Text bytes span) = tt
+  typed_known at (e.Name name) =
+      bounded_known s (site_at at name.span) (passing (named s name.number) (λ n. Passes (name_typed n))) (passing_promises (IsKnownNamed s.structs) (IsKnownTyped s.structs) (named s name.number) _ (named_known name.number) (name_known s.structs))
+  typed_known at (e.Call callee arguments span) =
+      passing_promises (λ (ts : List (Typed × Span)). Unit {0}) (IsKnownTyped s.structs) (all_typed at s arguments) _ (anything_promised (all_typed at s arguments))
+      (λ ts _. passing_promises (IsKnownCall s.structs) (IsKnownTyped s.structs) (called s (function_named s.functions callee.number) callee.number ts (site_at at span) span) _
+      (called_known (function_named s.functions callee.number) callee.number ts (site_at at span) span refl) (λ c. with_result_known s.structs c span))
+  typed_known at (e.SizeOf type span) = passing_promises (λ (t : CType). Unit {0}) (IsKnownTyped s.structs) (type_named s type) _ (anything_promised (type_named s type)) (λ t _. tt)
+  typed_known at (e.Cast word type operand span) = tt
+  typed_known at (e.BoundedCast word type operand bounds span) = tt
+  typed_known at (e.Malloc word type size span) = tt
+  typed_known at (e.Calloc word type count size span) = tt
+  typed_known at (e.Index base index span) =
+      passing_promises (λ (t : Typed). Unit {0}) (IsKnownTyped s.structs) (typed at s base) _ (anything_promised (typed at s base))
+      (λ a _. passing_promises (λ (t : Typed). Unit {0}) (IsKnownTyped s.structs) (typed at s index) _ (anything_promised (typed at s index)) (λ b _. indexed_known s.structs a b span))
+  typed_known at (e.Dot base member span) =
+      bounded_known s (site_at at span) (passing (typed at s base) (λ a. dotted s a member.number (site_at at span) span)) (passing_promises (λ (t : Typed). Unit {0}) (IsKnownTyped s.structs) (typed at s base) _ (anything_promised (typed at s base)) (λ a _. dotted_known a member.number (site_at at span) span))
+  typed_known at (e.Arrow base member span) =
+      bounded_known s (site_at at span) (passing (typed at s base) (λ a. arrowed s a member.number (site_at at span) span)) (passing_promises (λ (t : Typed). Unit {0}) (IsKnownTyped s.structs) (typed at s base) _ (anything_promised (typed at s base)) (λ a _. arrowed_known a member.number (site_at at span) span))
+  typed_known at (e.Unary operator operand span) =
+      bounded_known s (site_at at span) (passing (typed at s operand) (λ a. unary_typed operator a (site_at at span) span)) (passing_promises (IsKnownTyped s.structs) (IsKnownTyped s.structs) (typed at s operand) _ (typed_known at operand) (λ a h. unary_known s.structs operator a (site_at at span) span h))
+  typed_known at (e.Binary operator left right span) =
+      passing_promises (λ (t : Typed). Unit {0}) (IsKnownTyped s.structs) (typed at s left) _ (anything_promised (typed at s left))
+      (λ a _. passing_promises (λ (t : Typed). Unit {0}) (IsKnownTyped s.structs) (typed at s right) _ (anything_promised (typed at s right)) (λ b _. binary_known s.structs operator a b (site_at at span) span))
