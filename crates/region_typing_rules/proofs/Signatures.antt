@@ -8,7 +8,6 @@ use Rattle.std.proofs.lemmas.Slice.Eq.{bytes_eq-Decides}
 use Rattle.ckc_tree.specs.declared.item.FunctionKind.{FunctionKind}
 use Rattle.ckc_tree.specs.declared.item.FunctionKind.TheVariants as kinds
 use Rattle.pointer_modes.specs.Types.{CType}
-use Rattle.ckc_core.specs.Core as core
 use Rattle.ckc_core.specs.States.{same_type}
 use Rattle.region_typing_rules.specs.Scopes.{Signature, function_named}
 use Rattle.region_typing_rules.specs.Types.{is_scalar}
