@@ -5,11 +5,11 @@ use Rattle.ckc_text.specs.declared.code.Code.TheVariants.{E14}
 use Rattle.ckc_core.specs.declared.program.Site.{Site}
 use Rattle.ckc_core.specs.Core as core
 use Rattle.region_typing_rules.specs.Verdicts.{Verdict, Passes, passing, breaks}
-use Rattle.region_typing_rules.specs.Scopes.{Scope, Signature, named, function_named}
+use Rattle.region_typing_rules.specs.Scopes.{Scope, Signature, function_named}
 use Rattle.ckc_tree.specs.Expressions.{Expressions}
 use Rattle.pointer_modes.specs.Types.{Int, ctype}
 use Rattle.ckc_core.specs.Core.{expression, statement}
-use Rattle.region_typing_rules.specs.Expressions.{Places, Typed, Called, Gives, GivesNothing, name_typed, converted, arguments_as}
+use Rattle.region_typing_rules.specs.Expressions.{Places, Typed, Called, Gives, GivesNothing, converted, arguments_as}
 use Rattle.region_typing_rules.specs.Expressions.{declared_callee, call_of, all_typed, called as called_in, site_at}
 use Rattle.region_typing_expressions.specs.declared.calls.Called as code
 use Rattle.region_typing_expressions.specs.declared.calls.Called.TheVariants as calls
@@ -33,11 +33,7 @@ only_number (a ∷ b ∷ others) span = breaks E14 span
 -- a call of a declared function, where the arguments convert (E13)
 abbrev pub converted_call : Scope → Signature → List (Typed × Span) → Site → Verdict Called
 converted_call s f arguments site =
-    passing (arguments_as arguments f.parameters) (λ values. Passes (call_of f.result (declared_callee s f site) values))
-
--- what a name stands for, as an expression
-abbrev pub name_verdict : Scope → ℕ → Verdict Typed
-name_verdict s name = passing (named s name) (λ n. Passes (name_typed n))
+    passing (arguments_as arguments f.parameters) (λ values. Passes (call_of s.structs f.result (declared_callee s f site) values site))
 
 -- a call of a function by its name, with what its arguments are
 abbrev pub called_with : Places → Scope → ℕ → Expressions → Span → Verdict Called

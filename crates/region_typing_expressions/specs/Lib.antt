@@ -3,3 +3,4 @@ pub mod Slices
 pub mod Targets
 pub mod Comparing
 pub mod Equality
+pub mod Unbounded

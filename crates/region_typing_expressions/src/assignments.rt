@@ -60,8 +60,8 @@ fn target_of(context: &Context, t: Box<Typed>, span: Span) -> Result<Box<Target>
 {
     match Box::into_inner(t) {
         Typed::Value { .. } => Err(refusal(Code::E12, span)),
-        Typed::Local { ctype, local } => target_at(context, ctype, Lvalue::Local(local)),
-        Typed::Cell { ctype, place } => target_at(context, ctype, Lvalue::Cell(place)),
+        Typed::Local { ctype, local, .. } => target_at(context, ctype, Lvalue::Local(local)),
+        Typed::Cell { ctype, place, .. } => target_at(context, ctype, Lvalue::Cell(place)),
         Typed::Struct { .. } => Err(refusal(Code::E13, span)),
     }
 }
@@ -99,10 +99,12 @@ fn updated_place(place: CellPlace, site: Site) -> CellPlace
         CellPlace::Direct { object, offset } => CellPlace::Direct { object, offset },
         CellPlace::Through {
             pointer,
+            index,
             offset,
             ..
         } => CellPlace::Through {
             pointer,
+            index,
             offset,
             site,
         },

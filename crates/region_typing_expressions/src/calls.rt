@@ -19,6 +19,8 @@ use ckc_text::code::Code;
 use ckc_text::fault::NoMemory;
 use ckc_text::place::Span;
 use pointer_modes::ctype::CType;
+use pointer_modes::structs::Structs;
+use region_typing_scope::bounds::bounds_at;
 use region_typing_scope::context::Context;
 use region_typing_scope::conversions::converted;
 use region_typing_scope::refusals::{CheckError, needs, refusal};
@@ -155,12 +157,19 @@ fn declared_callee(scope: &Scope, f: &Signature, site: Site) -> Callee
 
 // A call as a value, or as a statement where it has no result.
 #[tactic(auto, using(ckc_core::proofs::Rows::call_value))]
-fn call_of(context: &Context, result_type: &Option<CType>, call: Call) -> Result<Called, NoMemory>
-    ensures { IfOk result (λ c. called_as c ≡ call_in (option_map ctype_of result_type.now) call.callee (arguments_of call.arguments.items)) }
+fn call_of(
+    context: &Context,
+    structs: &Structs,
+    result_type: &Option<CType>,
+    call: Call,
+    site: Site,
+) -> Result<Called, NoMemory>
+    ensures { IfOk result (λ c. called_as c ≡ call_in structs.now (option_map ctype_of result_type.now) call.callee (arguments_of call.arguments.items) site) }
 {
     match result_type {
         Some(t) => {
-            let value = context.boxed(Expr::Call(call))?;
+            let bounds = bounds_at(structs, t, site);
+            let value = context.boxed(Expr::Call { call, bounds })?;
             let ctype = copied(context, t)?;
             Ok(Called::Gives { ctype, value })
         }
@@ -222,7 +231,8 @@ fn call_with(
     let arguments = VecDeque::from_vec(arguments);
     let arguments = arguments_as(context, arguments, f.parameters.as_slice())?;
     let callee = declared_callee(scope, f, site);
-    Ok(call_of(context, &f.result, Call { callee, arguments })?)
+    let call = Call { callee, arguments };
+    Ok(call_of(context, &scope.structs, &f.result, call, site)?)
 }
 
 // A call of a declared function.

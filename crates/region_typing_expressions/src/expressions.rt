@@ -3,7 +3,7 @@
 ghost use Rattle.std.specs.Prelude.{◌≡◌, IfOk, map, false, None};
 ghost use Rattle.ckc_text.specs.Places.{place_at};
 ghost use Rattle.ckc_tree.specs.Types.{type_name as type_name_of};
-ghost use Rattle.ckc_tree.specs.Expressions.{expression as expression_of, Call, Dot, Arrow, Unary};
+ghost use Rattle.ckc_tree.specs.Expressions.{expression as expression_of, Call, Name, Dot, Arrow, Unary};
 ghost use Rattle.pointer_modes.specs.Types.{Int};
 ghost use Rattle.ckc_core.specs.Core.{Number};
 ghost use Rattle.region_typing_rules.specs.Verdicts.{Passes};
@@ -12,7 +12,8 @@ ghost use Rattle.region_typing_scope.specs.Answering.{Answers};
 ghost use Rattle.region_typing_scope.specs.Views.{scope as scope_of};
 ghost use Rattle.region_typing_scope.specs.OnHeap.{typed as typed_view};
 ghost use Rattle.region_typing_scope.specs.Typed.{number_typed, size_typed};
-ghost use Rattle.region_typing_expressions.specs.Calls.{argument, called as called_as, called_with, name_verdict};
+ghost use Rattle.region_typing_expressions.specs.Calls.{argument, called as called_as, called_with};
+ghost use Rattle.region_typing_expressions.specs.Unbounded.{name_verdict, dotted_verdict, arrowed_verdict, unary_verdict};
 ghost use Rattle.region_typing_expressions.specs.Slices.{expression_list};
 
 use crate::calls::{Argument, Called, call, with_result};
@@ -26,6 +27,7 @@ use ckc_tree::expr::{Expr, UnaryOperator};
 use ckc_tree::identifier::Identifier;
 use ckc_tree::type_form::TypeName;
 use pointer_modes::ctype::CType;
+use region_typing_scope::bounds::with_bounds;
 use region_typing_scope::context::Context;
 use region_typing_scope::refusals::{CheckError, refusal};
 use region_typing_scope::scope::Scope;
@@ -89,6 +91,14 @@ fn named(context: &Context, scope: &Scope, name: usize) -> Result<Box<Typed>, Ch
     }
 }
 
+// A name as an expression.
+fn name_value(context: &Context, scope: &Scope, name: &Identifier) -> Result<Box<Typed>, CheckError>
+    ensures { Answers typed_view (typed_of (place_at context.now) (scope_of scope.now) (Name name.now)) result }
+{
+    let t = named(context, scope, name.number)?;
+    with_bounds(context, scope, t, name.span)
+}
+
 /// What an expression is.
 #[cycle(expressions)]
 pub fn typed(context: &Context, scope: &Scope, e: &Expr) -> Result<Box<Typed>, CheckError>
@@ -101,7 +111,7 @@ pub fn typed(context: &Context, scope: &Scope, e: &Expr) -> Result<Box<Typed>, C
         | Expr::Cast { span, .. }
         | Expr::Malloc { span, .. }
         | Expr::Calloc { span, .. } => Err(refusal(Code::E13, *span)),
-        Expr::Name { name } => named(context, scope, name.number),
+        Expr::Name { name } => name_value(context, scope, name),
         Expr::Call {
             callee,
             arguments,
@@ -148,6 +158,22 @@ fn call_value(
     with_result(context, call, span)
 }
 
+// A member of a struct, before its bounds are noted.
+#[cycle(expressions)]
+fn dotted_by(
+    context: &Context,
+    scope: &Scope,
+    base: &Expr,
+    member: &Identifier,
+    span: Span,
+) -> Result<Box<Typed>, CheckError>
+    ensures { Answers typed_view (dotted_verdict (place_at context.now) (scope_of scope.now) (expression_of base.now) member.now.number span) result }
+{
+    let base = typed(context, scope, base)?;
+    let site = context.site(span);
+    dotted(context, scope, base, member.number, site, span)
+}
+
 // A member of a struct.
 #[cycle(expressions)]
 fn member_of(
@@ -159,9 +185,24 @@ fn member_of(
 ) -> Result<Box<Typed>, CheckError>
     ensures { Answers typed_view (typed_of (place_at context.now) (scope_of scope.now) (Dot (expression_of base.now) member.now span)) result }
 {
+    let t = dotted_by(context, scope, base, member, span)?;
+    with_bounds(context, scope, t, span)
+}
+
+// A member of the struct that a pointer points to, before its bounds are noted.
+#[cycle(expressions)]
+fn arrowed_by(
+    context: &Context,
+    scope: &Scope,
+    base: &Expr,
+    member: &Identifier,
+    span: Span,
+) -> Result<Box<Typed>, CheckError>
+    ensures { Answers typed_view (arrowed_verdict (place_at context.now) (scope_of scope.now) (expression_of base.now) member.now.number span) result }
+{
     let base = typed(context, scope, base)?;
     let site = context.site(span);
-    dotted(context, scope, base, member.number, site, span)
+    arrowed(context, scope, base, member.number, site, span)
 }
 
 // A member of the struct that a pointer points to.
@@ -175,9 +216,23 @@ fn member_through(
 ) -> Result<Box<Typed>, CheckError>
     ensures { Answers typed_view (typed_of (place_at context.now) (scope_of scope.now) (Arrow (expression_of base.now) member.now span)) result }
 {
-    let base = typed(context, scope, base)?;
-    let site = context.site(span);
-    arrowed(context, scope, base, member.number, site, span)
+    let t = arrowed_by(context, scope, base, member, span)?;
+    with_bounds(context, scope, t, span)
+}
+
+// An operator before its operand, before the bounds of what it gives are noted.
+#[cycle(expressions)]
+fn operated_by(
+    context: &Context,
+    scope: &Scope,
+    operator: UnaryOperator,
+    operand: &Expr,
+    span: Span,
+) -> Result<Box<Typed>, CheckError>
+    ensures { Answers typed_view (unary_verdict (place_at context.now) (scope_of scope.now) operator (expression_of operand.now) span) result }
+{
+    let operand = typed(context, scope, operand)?;
+    unary(context, operator, operand, context.site(span), span)
 }
 
 // An operator before its operand.
@@ -191,8 +246,8 @@ fn unary_of(
 ) -> Result<Box<Typed>, CheckError>
     ensures { Answers typed_view (typed_of (place_at context.now) (scope_of scope.now) (Unary operator (expression_of operand.now) span)) result }
 {
-    let operand = typed(context, scope, operand)?;
-    unary(context, operator, operand, context.site(span), span)
+    let t = operated_by(context, scope, operator, operand, span)?;
+    with_bounds(context, scope, t, span)
 }
 
 /// What arguments are, from left to right.

@@ -10,7 +10,7 @@ ghost use Rattle.region_typing_scope.specs.Views.{scope as scope_of};
 ghost use Rattle.region_typing_scope.specs.Typed.{base_place, struct_place, struct_of, struct_behind};
 ghost use Rattle.region_typing_scope.specs.OnHeap.{typed};
 
-use ckc_core::program::{CellPlace, Expr, Site};
+use ckc_core::program::{CellPlace, Expr, Index, Site};
 use ckc_text::code::Code;
 use ckc_text::fault::NoMemory;
 use ckc_text::place::Span;
@@ -50,6 +50,7 @@ fn cell_of(base: Base, offset: u32, site: Site) -> CellPlace
         Base::Object(object) => CellPlace::Direct { object, offset },
         Base::Behind { pointer, .. } => CellPlace::Through {
             pointer,
+            index: Index::First,
             offset,
             site,
         },
@@ -78,7 +79,11 @@ pub fn member_at(
                 .offset_of_cell(&CType::Struct(number), cell as u32);
             let ctype = copied(context, &members[cell].ctype)?;
             let place = cell_of(base, offset, site);
-            Ok(context.boxed(Typed::Cell { ctype, place })?)
+            Ok(context.boxed(Typed::Cell {
+                ctype,
+                place,
+                bounds: None,
+            })?)
         }
     }
 }
@@ -89,7 +94,10 @@ fn base_of(context: &Context, place: StructPlace, site: Site) -> Result<Base, No
 {
     match place {
         StructPlace::Local(local) => {
-            let pointer = context.boxed(Expr::Local(local))?;
+            let pointer = context.boxed(Expr::Local {
+                local,
+                bounds: None,
+            })?;
             Ok(Base::Behind { pointer, site })
         }
         StructPlace::Cell(base) => Ok(base),

@@ -51,7 +51,11 @@ fn pointer_to(
 {
     let target = context.boxed(ctype)?;
     let ctype = CType::Pointer(Mode::Checked, Kind::One, target);
-    plain(context, ctype, Expr::AddressOf(checked_at(place, site)))
+    let value = Expr::AddressOf {
+        cell: checked_at(place, site),
+        bounds: None,
+    };
+    plain(context, ctype, value)
 }
 
 // The same place, whose check names another expression.
@@ -62,10 +66,12 @@ fn checked_at(place: CellPlace, site: Site) -> CellPlace
         CellPlace::Direct { object, offset } => CellPlace::Direct { object, offset },
         CellPlace::Through {
             pointer,
+            index,
             offset,
             ..
         } => CellPlace::Through {
             pointer,
+            index,
             offset,
             site,
         },
@@ -84,7 +90,7 @@ pub fn address(
     match Box::into_inner(t) {
         Typed::Value { .. } => Err(refusal(Code::E12, span)),
         Typed::Local { .. } => Err(refusal(Code::E22, span)),
-        Typed::Cell { ctype, place } => Ok(pointer_to(context, ctype, place, site)?),
+        Typed::Cell { ctype, place, .. } => Ok(pointer_to(context, ctype, place, site)?),
         Typed::Struct { number, place } => match place {
             StructPlace::Local(_) => Err(refusal(Code::E22, span)),
             StructPlace::Cell(base) => {

@@ -1,11 +1,29 @@
-use Rattle.std.proofs.Common.{◌<◌, length, map, arith}
+use Rattle.std.proofs.Common.{◌≡◌, ◌<◌, length, map, Box, Global, ap, sym, ◌∙◌, arith}
 use Rattle.ckc_text.specs.Places.{place_at}
+use Rattle.ckc_text.specs.declared.place.Span.{Span}
+use Rattle.ckc_tree.specs.declared.identifier.Identifier.{Identifier}
+use Rattle.ckc_tree.specs.declared.expr.Expr.{Expr}
+use Rattle.ckc_tree.specs.declared.expr.Expr.TheVariants as exprs
+use Rattle.ckc_tree.specs.declared.expr.UnaryOperator.{UnaryOperator}
+use Rattle.ckc_tree.specs.Expressions.{Dot, Unary, expression}
 use Rattle.region_typing_scope.specs.Views.{scope}
 use Rattle.region_typing_expressions.specs.Calls.{argument}
 use Rattle.region_typing_expressions.specs.Slices.{expression_list}
 use Rattle.region_typing_scope.proofs.Going.{goes_on, refused, refused_by}
 use Rattle.region_typing_expressions.proofs.Arguments.{call_tree, call_parts, argument_pushed, argument_breaks, arguments_done}
 use Rattle.region_typing_expressions.proofs.expressions.+expressions.Goals as goal
+
+dot_tree : (x inner : Expr) (base : Box Expr Global) (member : Identifier) (span : Span) → x ≡ exprs.Dot base member span → inner ≡ base.value → expression x ≡ Dot (expression inner) member span
+dot_tree x inner base member span is same = ap expression is ∙ ap (λ e. Dot (expression e) member span) (sym same)
+
+unary_tree : (x inner : Expr) (operator : UnaryOperator) (operand : Box Expr Global) (span : Span) → x ≡ exprs.Unary operator operand span → inner ≡ operand.value → expression x ≡ Unary operator (expression inner) span
+unary_tree x inner operator operand span is same = ap expression is ∙ ap (λ e. Unary operator (expression e) span) (sym same)
+
+pub typed-returns-in-Dot : goal.typed-returns-in-Dot
+typed-returns-in-Dot t c = rw (dot_tree c.args.e.now c.deref-in-Dot.result.now c.in-Dot.base c.in-Dot.member c.in-Dot.span c.in-Dot.is c.deref-in-Dot.ensures) c.member_of.ensures
+
+pub typed-returns-in-Unary : goal.typed-returns-in-Unary
+typed-returns-in-Unary t c = rw (unary_tree c.args.e.now c.deref-in-Unary.result.now c.in-Unary.operator c.in-Unary.operand c.in-Unary.span c.in-Unary.is c.deref-in-Unary.ensures) c.unary_of.ensures
 
 pub typed-returns-in-Call : goal.typed-returns-in-Call
 typed-returns-in-Call t c =
@@ -20,6 +38,24 @@ pub call_value-returns : goal.call_value-returns
 call_value-returns t c =
     rw (call_parts (place_at c.args.context.now) (scope c.args.scope.now) c.args.callee.now (expression_list c.args.arguments.now) c.args.span)
     (goes_on _ c.in_ok-call.ensures c.with_result.ensures)
+
+pub member_of-returns-in_err-t : goal.member_of-returns-in_err-t
+member_of-returns-in_err-t t c = refused _ c.from_residual.result c.from_residual.ensures.1 c.in_err-t.ensures
+
+pub member_of-returns : goal.member_of-returns
+member_of-returns t c = goes_on _ c.in_ok-t.ensures c.with_bounds.ensures
+
+pub member_through-returns-in_err-t : goal.member_through-returns-in_err-t
+member_through-returns-in_err-t t c = refused _ c.from_residual.result c.from_residual.ensures.1 c.in_err-t.ensures
+
+pub member_through-returns : goal.member_through-returns
+member_through-returns t c = goes_on _ c.in_ok-t.ensures c.with_bounds.ensures
+
+pub unary_of-returns-in_err-t : goal.unary_of-returns-in_err-t
+unary_of-returns-in_err-t t c = refused _ c.from_residual.result c.from_residual.ensures.1 c.in_err-t.ensures
+
+pub unary_of-returns : goal.unary_of-returns
+unary_of-returns t c = goes_on _ c.in_ok-t.ensures c.with_bounds.ensures
 
 pub called-returns-in_err-arguments : goal.called-returns-in_err-arguments
 called-returns-in_err-arguments t c = refused _ c.from_residual.result c.from_residual.ensures.1 c.in_err-arguments.ensures

@@ -1,0 +1,23 @@
+-- Inside: forms whose values may be pointers, before the bounds at their nodes are noted.
+use Rattle.std.specs.Prelude.{ℕ}
+use Rattle.ckc_text.specs.declared.place.Span.{Span}
+use Rattle.ckc_tree.specs.declared.expr.UnaryOperator.{UnaryOperator}
+use Rattle.ckc_tree.specs.Expressions.{Expression}
+use Rattle.region_typing_rules.specs.Verdicts.{Verdict, Passes, passing}
+use Rattle.region_typing_rules.specs.Scopes.{Scope, named}
+use Rattle.region_typing_rules.specs.Expressions.{Places, Typed, site_at, name_typed, dotted, arrowed, unary_typed, typed}
+
+-- what a name stands for
+abbrev pub name_verdict : Scope → ℕ → Verdict Typed
+name_verdict s name = passing (named s name) (λ n. Passes (name_typed n))
+
+-- members, of a struct and through a pointer
+abbrev pub dotted_verdict : Places → Scope → Expression → ℕ → Span → Verdict Typed
+dotted_verdict at s base name span = passing (typed at s base) (λ a. dotted s a name (site_at at span) span)
+
+abbrev pub arrowed_verdict : Places → Scope → Expression → ℕ → Span → Verdict Typed
+arrowed_verdict at s base name span = passing (typed at s base) (λ a. arrowed s a name (site_at at span) span)
+
+-- an operator before its operand
+abbrev pub unary_verdict : Places → Scope → UnaryOperator → Expression → Span → Verdict Typed
+unary_verdict at s operator operand span = passing (typed at s operand) (λ a. unary_typed operator a (site_at at span) span)
