@@ -11,9 +11,9 @@ use Rattle.pointer_modes.proofs.Cells.{length_of_cells}
 use Rattle.pointer_modes.specs.Types.{CType, Int, Char, Struct, Pointer, Member, Structure, ctype, member}
 use Rattle.pointer_modes.specs.Layout.{Cell, cells_of, size_of}
 use Rattle.ckc_core.specs.declared.program.Initial as code_initial
-use Rattle.ckc_core.specs.Core as core
+use Rattle.ckc_core.specs.Programs.{Initial}
 use Rattle.ckc_core.specs.Core.{initial}
-use Rattle.ckc_core.specs.Meaning.{low_byte}
+use Rattle.ckc_core.specs.Steps.{low_byte}
 use Rattle.region_typing_rules.specs.Verdicts.{Passes, needs, picked}
 use Rattle.region_typing_rules.specs.Types.{is_scalar}
 use Rattle.region_typing_rules.specs.Expressions.{Typed}
@@ -93,7 +93,7 @@ as_many_cells structs Char ms are = absurd are
 as_many_cells structs (Pointer mode kind target) ms are = absurd are
 
 -- a cell more
-pub cell_more : (structs : List Structure) (t : CType) (ms : List code_member.Member) (number : ℤ) (k : ℕ) (m : code_member.Member) (all : List core.Initial) (built new : List code_initial.Initial) (cell : code_initial.Initial) → new ≡ built ++ cell ∷ [] → k < length ms → m ≡ get_or ms k m → IsStructOf structs t (map member ms)
+pub cell_more : (structs : List Structure) (t : CType) (ms : List code_member.Member) (number : ℤ) (k : ℕ) (m : code_member.Member) (all : List Initial) (built new : List code_initial.Initial) (cell : code_initial.Initial) → new ≡ built ++ cell ∷ [] → k < length ms → m ≡ get_or ms k m → IsStructOf structs t (map member ms)
     → initial cell ≡ record { type = ctype m.ctype; stride = stride_at structs t k; number = number }
     → all ≡ map initial built ++ numbered_cells number (map (λ (m : code_member.Member). ctype m.ctype) (drop k ms)) (drop k (strides_of structs t))
     → all ≡ map initial new ++ numbered_cells number (map (λ (m : code_member.Member). ctype m.ctype) (drop (k + 1) ms)) (drop (k + 1) (strides_of structs t))
@@ -108,7 +108,7 @@ cell_more structs t ms number k m all built new cell are less is struct cell_is 
     ∙ sym (append_assoc (map initial built) (initial cell ∷ []) rest)
     ∙ ap (λ cells. cells ++ rest) (sym (ap (map initial) are ∙ map-append initial built (cell ∷ [])))
 
-pub cells_done : (structs : List Structure) (t : CType) (ms : List code_member.Member) (number : ℤ) (k : ℕ) (all : List core.Initial) (built : List code_initial.Initial) → length ms ≤ k
+pub cells_done : (structs : List Structure) (t : CType) (ms : List code_member.Member) (number : ℤ) (k : ℕ) (all : List Initial) (built : List code_initial.Initial) → length ms ≤ k
     → all ≡ map initial built ++ numbered_cells number (map (λ (m : code_member.Member). ctype m.ctype) (drop k ms)) (drop k (strides_of structs t)) → all ≡ map initial built
 cells_done structs t ms number k all built end so_far =
     so_far ∙ ap (λ ts. map initial built ++ numbered_cells number ts (drop k (strides_of structs t))) (no_parts (λ (m : code_member.Member). ctype m.ctype) ms k end) ∙ append-nil (map initial built)

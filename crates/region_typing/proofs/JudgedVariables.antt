@@ -9,7 +9,7 @@ use Rattle.ckc_tree.specs.Types.{TypeTree, type_span}
 use Rattle.ckc_tree.specs.Items as i
 use Rattle.ckc_tree.specs.Statements.{Declarator}
 use Rattle.pointer_modes.specs.Types.{CType}
-use Rattle.ckc_core.specs.Core as core
+use Rattle.ckc_core.specs.Programs.{Initial}
 use Rattle.region_typing_rules.specs.Verdicts.{Stop, Broken, Verdict, Passes, Stops, passing, needs}
 use Rattle.region_typing_rules.specs.Types.{base_type, without_stars}
 use Rattle.region_typing_rules.specs.Expressions.{Places}
@@ -26,7 +26,7 @@ use Rattle.region_typing.proofs.Constants.{cells_judged}
 abbrev as_judged : Given → WalkedVariable → JudgedVariable
 as_judged given v = record { type = v.type; initial = judged_as given v.initial }
 
-one_by_one : (v : Verdict (List core.Initial)) (span : Span) (w : Walk) (next : Walk → Verdict Walk)
+one_by_one : (v : Verdict (List Initial)) (span : Span) (w : Walk) (next : Walk → Verdict Walk)
     → passing v (λ cells. needs (nat_lt 0 (length cells)) E10 span (next (record w { objects = w.objects ++ cells ∷ [] })))
     ≡ passing (passing v (λ cells. needs (nat_lt 0 (length cells)) E10 span (Passes (record w { objects = w.objects ++ cells ∷ [] })))) next
 one_by_one (Stops stop) span w next = refl

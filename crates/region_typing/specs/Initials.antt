@@ -9,8 +9,8 @@ use Rattle.ckc_tree.specs.declared.expr.UnaryOperator.TheVariants as unary
 use Rattle.ckc_tree.specs.Expressions as e
 use Rattle.ckc_tree.specs.Expressions.{Expression}
 use Rattle.ckc_names_rules.specs.declared.given.Given.{Given}
-use Rattle.ckc_core.specs.Core as core
-use Rattle.ckc_core.specs.Meaning.{low_byte}
+use Rattle.ckc_core.specs.Programs.{Initial}
+use Rattle.ckc_core.specs.Steps.{low_byte}
 use Rattle.region_typing_rules.specs.Verdicts.{Verdict, Passes, breaks, picked}
 use Rattle.region_typing_rules.specs.Items as rules
 use Rattle.region_typing_rules.specs.Items.{cells_with, is_zero, unsigned_constant, signed_constant, number_or_break}
@@ -46,10 +46,10 @@ cell_number Char zero number = low_number number
 cell_number (Struct struct) zero number = None
 cell_number (Pointer mode kind target) zero number = picked zero (Some (pos 0)) None
 
-abbrev pub constant_cells : List Structure → CType → Bool → Option ℤ → Span → Verdict (List core.Initial)
+abbrev pub constant_cells : List Structure → CType → Bool → Option ℤ → Span → Verdict (List Initial)
 constant_cells structs type zero number span = number_or_break (cell_number type zero number) span (cells_with structs type)
 
-abbrev pub judged_cells : List Structure → CType → Judged → Span → Verdict (List core.Initial)
+abbrev pub judged_cells : List Structure → CType → Judged → Span → Verdict (List Initial)
 judged_cells structs type Missing span = Passes (cells_with structs type (pos 0))
 judged_cells structs type (Constant zero number) span = constant_cells structs type zero number span
 judged_cells structs type Constants span = breaks E13 span

@@ -5,7 +5,7 @@ ghost use Rattle.ckc_tree.specs.Expressions.{expression as expression_tree};
 ghost use Rattle.pointer_modes.specs.Types.{ctype as ctype_of, member as member_of};
 ghost use Rattle.pointer_modes.specs.Layout.{cells_of as cells_in};
 ghost use Rattle.ckc_core.specs.Core.{initial as initial_of};
-ghost use Rattle.ckc_core.specs.Meaning.{low_byte as low_byte_of};
+ghost use Rattle.ckc_core.specs.Steps.{low_byte as low_byte_of};
 ghost use Rattle.region_typing_rules.specs.Types.{is_scalar};
 ghost use Rattle.region_typing_rules.specs.Items.{Written, negative as negative_of, null_number as null_number_of, unsigned_constant as unsigned_of, signed_constant as signed_of, cells_with as cells_as};
 ghost use Rattle.region_typing_scope.specs.Answering.{Answers};
