@@ -75,7 +75,8 @@ bounds_at structs Int site = None
 bounds_at structs Char site = None
 bounds_at structs (Struct number) site = None
 bounds_at structs (Pointer mode kind target) site =
-    bounds_by mode kind (record { bounds = record { base = None; lo = constant_term (pos 0); hi = constant_term (pos 1) }; size = size_of structs target; site = site })
+    bounds_by mode kind
+    (record { bounds = record { base = None; lo = constant_term (pos 0); hi = constant_term (pos 1) }; size = size_of structs target; site = site })
 
 -- a value with bounds at its node
 abbrev pub noted : Option PointerBounds → core.Expression → core.Expression

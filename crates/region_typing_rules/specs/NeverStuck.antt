@@ -25,7 +25,9 @@ pub record HasCore (at : Places) (t : Tree) (c : Core) : Type 0 where
 
 -- something is so of a program under all settings, with all inputs and over all acts
 abbrev AtAll : (Settings → List ℤ → List Act → Type 0) → Type 0
-AtAll Holds = (settings : Settings) (inputs : List ℤ) (acts : List Act) → All (λ z. IsTrue (is_word_number z)) inputs → All IsAct acts → Holds settings inputs acts
+AtAll Holds =
+    (settings : Settings) (inputs : List ℤ) (acts : List Act) → All (λ z. IsTrue (is_word_number z)) inputs → All IsAct acts
+    → Holds settings inputs acts
 
 -- each pointer of the audited run is valid with its bounds
 abbrev pub NeverUnsound : Core → Type 0

@@ -123,8 +123,8 @@ mutual
     both : {a b : Expression} {t t' : CType} → HasType g locals a t → HasType g locals b t' → HasType g locals (core.AndAlso a b) Int
     either : {a b : Expression} {t t' : CType} → HasType g locals a t → HasType g locals b t' → HasType g locals (core.OrElse a b) Int
     low_byte : {e : Expression} → HasType g locals e Int → HasType g locals (core.LowByte e) Char
-    call : {callee : Callee} {ts : List CType} {arguments : Arguments} {t : CType} {b : Option PointerBounds} → IsCallee g callee ts (Some t) → HaveTypes g locals arguments ts
-        → HasBounds g.structs t b → HasType g locals (core.Call callee arguments b) t
+    call : {callee : Callee} {ts : List CType} {arguments : Arguments} {t : CType} {b : Option PointerBounds} → IsCallee g callee ts (Some t)
+        → HaveTypes g locals arguments ts → HasBounds g.structs t b → HasType g locals (core.Call callee arguments b) t
     next_input : HasType g locals core.NextInput Int
 
   -- arguments, and the types of the parameters

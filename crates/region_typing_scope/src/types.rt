@@ -20,15 +20,7 @@ use pointer_modes::ctype::{CType, Kind, Mode};
 pub fn copied(context: &Context, t: &CType) -> Result<CType, NoMemory>
     ensures { IfOk result (λ copy. ctype copy ≡ ctype t.now) }
 {
-    match t {
-        CType::Int => Ok(CType::Int),
-        CType::Char => Ok(CType::Char),
-        CType::Struct(number) => Ok(CType::Struct(*number)),
-        CType::Pointer(mode, kind, target) => {
-            let target = context.boxed(copied(context, target)?)?;
-            Ok(CType::Pointer(*mode, *kind, target))
-        }
-    }
+    t.copy(context.alloc())
 }
 
 fn same_mode(a: Mode, b: Mode) -> bool

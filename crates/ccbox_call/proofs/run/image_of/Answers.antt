@@ -1,0 +1,12 @@
+use Rattle.std.proofs.Common.{sym, subst}
+use Rattle.std.specs.Prelude.{IfOk}
+use Rattle.ckc_core.specs.Core.{core}
+use Rattle.lowering_code.specs.Correct.{IsLowerable, KeepsMeaning}
+use Rattle.ccbox_call.proofs.Runs.{lowerable}
+use Rattle.ccbox_call.proofs.run.image_of.Goals as goal
+
+pub lower-requires : goal.lower-requires
+lower-requires c = subst IsLowerable (sym c.in_ok-insert.ensures) (lowerable (core c.args.program.now) c.requires.accepted)
+
+pub returns : goal.returns
+returns c = subst (λ p. IfOk c.lower.result (λ image. KeepsMeaning p image)) c.in_ok-insert.ensures c.lower.ensures.meaning
