@@ -1,5 +1,5 @@
 -- Outcomes that follow others, step by step.
-use Rattle.std.proofs.Common.{◌≡◌, ℕ, ◌+◌, Bool, true, false, ℤ, List, [], ◌∷◌, map, Option, Some, None, refl, sym, ap, ◌∙◌, subst}
+use Rattle.std.proofs.Common.{◌≡◌, ℕ, ◌+◌, Bool, true, false, Option, Some, None, refl, sym, ap, ◌∙◌, subst}
 use Rattle.std.specs.Prelude.{◌&&◌, ◌||◌, not, slice_get}
 use Rattle.act_words.specs.Touches.{Asked, Got, Ended}
 use Rattle.pointer_modes.specs.Types.{CType}
@@ -8,10 +8,9 @@ use Rattle.ckc_core.specs.declared.program.Index.{Index}
 use Rattle.ckc_core.specs.declared.program.Index.TheVariants as indexes
 use Rattle.ckc_core.specs.declared.program.PointerBounds.{PointerBounds}
 use Rattle.ckc_core.specs.Outcome.{Gives, Ends, Stuck, Unsound, Short, and_then}
-use Rattle.ckc_core.specs.Programs.{FunctionOf}
 use Rattle.ckc_core.specs.States.{Value, Number, Null, At, Cell, State, in_world, cell_at, same_type, has_type}
 use Rattle.ckc_core.specs.Bounds.{Pointed, with_ends, is_valid}
-use Rattle.ckc_core.specs.Steps.{Result, Flow, Next, Broke, Continued, Returned, value_if, value_in, place_if, place_at, load_at, asked, choose, store_if, store_over, store_at, leaves_zero, on_next, behind_turn}
+use Rattle.ckc_core.specs.Steps.{Result, Flow, Next, Broke, Continued, Returned, value_if, value_in, place_if, load_at, asked, choose, store_if, store_over, store_at, leaves_zero, on_next, behind_turn}
 use Rattle.ckc_core.specs.Meaning.{sound_if, audit, element, reached}
 use Rattle.check_insertion.specs.ErasedMeaning as erased
 use Rattle.check_insertion.specs.Insert.{access_checks}

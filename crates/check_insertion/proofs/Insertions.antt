@@ -1,22 +1,20 @@
 -- A program with its checks inserted does what it means: an induction over the ticks, and over the tree.
-use Rattle.std.proofs.Common.{◌≡◌, ℕ, zero, suc, ◌+◌, Bool, true, false, ℤ, List, [], ◌∷◌, map, length, replicate, Option, Some, None, refl, sym, ap, ◌∙◌, subst}
-use Rattle.std.specs.Prelude.{◌==◌, not, slice_get, option_map}
+use Rattle.std.proofs.Common.{◌≡◌, ℕ, zero, suc, ◌+◌, Bool, true, false, List, [], ◌∷◌, map, length, replicate, Option, Some, None, refl, sym, ap, ◌∙◌, subst}
+use Rattle.std.specs.Prelude.{◌==◌, slice_get, option_map}
 use Rattle.flat_bytes.specs.Blocks.{first_offset}
 use Rattle.act_words.specs.declared.settings.Settings.{Settings}
-use Rattle.act_words.specs.Acts.{Act, Passed}
-use Rattle.act_words.specs.Checks.{is_word_number}
+use Rattle.act_words.specs.Acts.{Passed}
 use Rattle.act_words.specs.World.{new_world}
 use Rattle.act_words.specs.Touches.{spend_tick, enter_call, next_input, touch, until_return}
-use Rattle.pointer_modes.specs.Types.{CType}
 use Rattle.ckc_core.specs.declared.program.Site.{Site}
 use Rattle.ckc_core.specs.declared.program.Callee.{Callee}
 use Rattle.ckc_core.specs.declared.program.Callee.TheVariants as callees
 use Rattle.ckc_core.specs.Outcome.{Gives, Ends, Stuck, Unsound, Short, and_then}
 use Rattle.ckc_core.specs.Programs.{Import}
 use Rattle.ckc_core.specs.Core as core
-use Rattle.ckc_core.specs.States.{Value, Number, Null, At, State}
+use Rattle.ckc_core.specs.States.{Value, State}
 use Rattle.ckc_core.specs.Bounds.{Pointed, with_ends}
-use Rattle.ckc_core.specs.Steps.{Result, Flow, Next, setting_of, given, place_at, variable_at, load_at, pointer_to, truth, number_of_test, same_place, test_given, arithmetic_of, compared, negated, complemented, low_byte_of, words_of, reply_as, back, passed, cross, cross_if, call_tainted, crossed, fit, parameters_of, takes, enter_if, called, result_given, store_at, set_local, kept_if, is_char, printed, put, on_next, behind_turn, no_result, answer, locals_for, exit, initial}
+use Rattle.ckc_core.specs.Steps.{Result, setting_of, given, place_at, variable_at, load_at, pointer_to, truth, same_place, test_given, arithmetic_of, compared, negated, complemented, low_byte_of, words_of, reply_as, back, passed, cross, cross_if, call_tainted, crossed, fit, parameters_of, takes, enter_if, called, result_given, set_local, kept_if, is_char, printed, put, no_result, answer, locals_for, exit, initial}
 use Rattle.ckc_core.specs.Meaning as meaning
 use Rattle.ckc_core.specs.Meaning.{audit, site_of, bounds_of, without_ends, place_from, pointed, reached}
 use Rattle.check_insertion.specs.ErasedMeaning as erased

@@ -1,5 +1,5 @@
 -- Programs whose accesses have their checks, and whose pointers have no bounds.
-use Rattle.std.specs.Prelude.{ℕ, suc, Bool, List, [], ◌∷◌, Option, map, option_map}
+use Rattle.std.specs.Prelude.{ℕ, suc, Bool, List, [], ◌∷◌, map, option_map}
 use Rattle.std.proofs.Common.{ℤ}
 use Rattle.act_words.specs.declared.operator.Operator.{Operator}
 use Rattle.act_words.specs.declared.operator.Comparison.{Comparison}

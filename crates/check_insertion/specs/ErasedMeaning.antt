@@ -1,5 +1,5 @@
 -- What a program with checks means: a check that fails ends the run at its site, and what no check keeps away is stuck.
-use Rattle.std.specs.Prelude.{ℕ, zero, suc, ◌+◌, Bool, true, false, not, List, [], ◌∷◌, Option, Some, None, slice_get, replicate, pos}
+use Rattle.std.specs.Prelude.{ℕ, zero, suc, ◌+◌, Bool, true, false, not, List, [], ◌∷◌, Option, Some, None, slice_get, replicate}
 use Rattle.std.proofs.Common.{ℤ}
 use Rattle.ckc_text.specs.declared.code.Code.TheVariants.{C1}
 use Rattle.act_words.specs.declared.ending.Ending.TheVariants.{Check as Failed}

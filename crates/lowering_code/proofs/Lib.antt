@@ -17,7 +17,6 @@ pub mod Statements
 pub mod Programs
 pub mod Paces
 pub mod Fits
-pub mod Rows
 pub mod Slices
 pub mod Emitting
 mod Bases

@@ -2,7 +2,7 @@ use Rattle.std.proofs.Common.{◌+◌, ◌++◌, length, refl, sym, ap, ◌∙�
 use Rattle.std.proofs.lemmas.Result.{IfOk-weaker}
 use Rattle.check_insertion.specs.declared.erased.Stmt.{the_lemmas}
 use Rattle.check_insertion.specs.Erased.{expression, statement}
-use Rattle.lowering_code.proofs.Rows.{block_of}
+use Rattle.check_insertion.proofs.Rows.{block_of}
 use Rattle.lowering_code.specs.Code.{statement_size, statement_code}
 use Rattle.lowering_expressions.specs.Views.{targets_of}
 use Rattle.lowering_code.proofs.Emitting.{place_after, after_condition, after_statement, if_emitted, loop_emitted, statement_room, statements_emitted}

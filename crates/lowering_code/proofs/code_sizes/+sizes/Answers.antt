@@ -1,6 +1,6 @@
 use Rattle.std.proofs.Common.{ap, arith, rules}
 use Rattle.check_insertion.specs.declared.erased.Expr.{the_lemmas}
-use Rattle.lowering_code.proofs.Rows.{call_of}
+use Rattle.check_insertion.proofs.Rows.{call_of}
 use Rattle.lowering_code.specs.Code.{expression_size}
 use Rattle.lowering_code.proofs.code_sizes.+sizes.Goals as goal
 

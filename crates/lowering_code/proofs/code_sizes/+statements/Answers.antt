@@ -1,7 +1,7 @@
 use Rattle.std.proofs.Common.{◌∙◌, ap, sym, arith, rules}
 use Rattle.check_insertion.specs.declared.erased.Stmt.{the_lemmas}
 use Rattle.lowering_code.specs.Code.{statement_size}
-use Rattle.lowering_code.proofs.Rows.{block_of}
+use Rattle.check_insertion.proofs.Rows.{block_of}
 use Rattle.lowering_code.proofs.code_sizes.+statements.Goals as goal
 
 pub statement_size-statements_size-requires : goal.statement_size-statements_size-requires

@@ -2,7 +2,7 @@ use Rattle.std.proofs.Common.{ap, arith, rules}
 use Rattle.check_insertion.specs.declared.erased.Expr.{the_lemmas}
 use Rattle.check_insertion.specs.Erased.{expression}
 use Rattle.check_insertion.specs.Stacks.{expression_stack, arguments_stack}
-use Rattle.lowering_code.proofs.Rows.{call_of}
+use Rattle.check_insertion.proofs.Rows.{call_of}
 use Rattle.lowering_code.proofs.Sizes.{stack_above}
 use Rattle.lowering_code.proofs.Slices.{arguments_drop}
 use Rattle.lowering_code.proofs.stacks.+stacks.Goals as goal

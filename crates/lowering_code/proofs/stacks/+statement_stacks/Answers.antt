@@ -1,7 +1,7 @@
 use Rattle.std.proofs.Common.{◌∙◌, ap, sym, arith, rules}
 use Rattle.check_insertion.specs.declared.erased.Stmt.{the_lemmas}
 use Rattle.check_insertion.specs.Stacks.{statement_stack}
-use Rattle.lowering_code.proofs.Rows.{block_of}
+use Rattle.check_insertion.proofs.Rows.{block_of}
 use Rattle.lowering_code.proofs.stacks.+statement_stacks.Goals as goal
 
 pub statement_stack-statements_stack-requires : goal.statement_stack-statements_stack-requires

@@ -2,7 +2,7 @@ use Rattle.std.proofs.Common.{◌++◌, length, refl, sym, ap, ◌∙◌, arith,
 use Rattle.std.proofs.lemmas.Result.{IfOk-weaker}
 use Rattle.check_insertion.specs.declared.erased.Expr.{the_lemmas}
 use Rattle.check_insertion.specs.Erased.{expression}
-use Rattle.lowering_code.proofs.Rows.{call_of}
+use Rattle.check_insertion.proofs.Rows.{call_of}
 use Rattle.lowering_code.specs.Code.{expression_size, expression_code}
 use Rattle.lowering_code.proofs.Emitting.{place_after, after_expression, and_emitted, or_emitted, argument_at, argument_room, arguments_emitted}
 use Rattle.lowering_expressions.proofs.expressions.+expressions.Goals as goal
