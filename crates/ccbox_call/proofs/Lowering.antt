@@ -61,7 +61,7 @@ small_is_lowerable c small few light = record {
   objects = omega (arith, counted_is c.objects first_offset, small.objects);
   imports = small.imports;
   functions = All-map IsFunction function c.functions (λ k d lt. function_is _ (small.functions k d lt) (light k d lt));
-  few_functions = omega (arith, few.functions, length-map function c.functions);
+  few_functions = omega (arith, few.functions, length-map c.functions function);
   few_imports = few.imports;
   main = main_is c small.main;
 }

@@ -6,7 +6,7 @@ use Rattle.ccbox_call.proofs.Runs.{lowerable}
 use Rattle.ccbox_call.proofs.run.image_of.Goals as goal
 
 pub lower-requires : goal.lower-requires
-lower-requires c = subst IsLowerable (sym c.in_ok-insert.ensures) (lowerable (core c.args.program.now) c.requires.accepted)
+lower-requires c = subst IsLowerable (sym c.in_ok-erased.ensures) (lowerable (core c.args.program.now) c.requires.accepted)
 
 pub returns : goal.returns
-returns c = subst (λ p. IfOk c.lower.result (λ image. KeepsMeaning p image)) c.in_ok-insert.ensures c.lower.ensures.meaning
+returns c = subst (λ p. IfOk c.lower.result (λ image. KeepsMeaning p image)) c.in_ok-erased.ensures c.lower.ensures.meaning
