@@ -18,7 +18,7 @@ use Rattle.ccbox_call_words.specs.Requests.{Request, Run, Options, settings_of, 
 use Rattle.act_recorder.specs.Diagnostics.{usage_text, missing_text}
 use Rattle.ccbox_call_words.specs.Given.{TextGiven, all, failed, LineGiven, given, unmade}
 use Rattle.ccbox_call.specs.Acceptance.{Accepts, IsRefused}
-use Rattle.ccbox_call.specs.Answers.{RunsTo, needed_line, text_of, status_with, ListAnswer, ran, CoreAnswer, acts_missing, acts, SourceAnswer, refused, accepted, FileAnswer, missing, source, Answer, IsFailure, WritesFront, GivesFront, GivesWhole, Exactly, AsksToRun, AsksFor, SourceIsRefused, RunEndsWith, RunExits, CheckFails, RunStops, LineIsRefused, FileIsMissing, PrintsRun, PrintedRun, IsComplete, IsQuiet, IsUntouched}
+use Rattle.ccbox_call.specs.Answers.{RunsTo, needed_line, text_of, status_with, ListAnswer, ran, CoreAnswer, acts_missing, acts, SourceAnswer, refused, accepted, FileAnswer, missing, source, Answer, IsFailure, WritesFront, GivesFront, IsCutShort, GivesWhole, Exactly, AsksToRun, AsksFor, SourceIsRefused, RunEndsWith, RunExits, CheckFails, RunStops, LineIsRefused, FileIsMissing, PrintsRun, PrintedRun, IsComplete, IsQuiet, IsUntouched}
 use Rattle.ccbox_call.specs.Answers as answers
 use Rattle.ccbox_call.specs.Calls.{StatusCounts, Gives, answered, output_failed, files_failed, no_memory, no_memory_behind, CallEnds, usage, asked}
 use Rattle.ccbox_call.proofs.OneAnswer.{one_answer}
@@ -164,7 +164,7 @@ module _ (words : List (List ℕ)) (told : Option Files) (old new : Option (List
     settled_gives name options _ e (output_failed text status k is more faults le front sink) = front_answer text status k 5 (answers.asked (Run name options) e (is files tells)) le front (inr (inl refl))
     settled_gives name options _ e (files_failed same misses faults sink) = nothing 4 same (inl refl)
     settled_gives name options _ e (no_memory same misses faults sink) = nothing 9 same (inr (inr refl))
-    settled_gives name options _ e (no_memory_behind text status k is le front misses faults sink) = front_answer text status k 9 (answers.asked (Run name options) e (is files tells)) le front (inr (inr refl))
+    settled_gives name options _ e (no_memory_behind text status k is le front misses faults sink) = front_answer text status k 9 (answers.asked (Run name options) e (is files tells)) (omega (arith, le)) front (inr (inr refl))
 
     settled : (result : ℕ) → CallEnds words told old new before after result → Settled result
     settled result (usage e line misses faults) = settled_line result e line
@@ -197,6 +197,31 @@ module _ (words : List (List ℕ)) (told : Option Files) (old new : Option (List
 
     pub whole : (result : ℕ) → CallEnds words told old new before after result → GivesWhole files words old new result ⊎ IsFailure result
     whole result h = whole_of result (settled result h)
+
+    -- behind a fault of the files, and where memory ran out, the text isn't whole
+    abbrev Cut : ℕ → Type 0
+    Cut result = (result ≡ 4) ⊎ (result ≡ 9) → IsCutShort files words old new
+
+    cut_usage : (result : ℕ) → LineGiven usage_text 2 old new before.sink after.sink result → Cut result
+    cut_usage _ (given (all is same)) fails = absurd (omega (arith, fails))
+    cut_usage _ (given (failed k le is rises)) fails = absurd (omega (arith, fails))
+    cut_usage result (unmade is same still) fails = inl same
+
+    found_safe : (status : ℕ) → StatusCounts status before after → (status ≡ 4) ⊎ (status ≡ 9) → ⊥
+    found_safe status counts fails = omega (arith, counts.1, fails)
+
+    cut_gives : (name : List ℕ) (options : Options) (result : ℕ) → request_of words ≡ Some (Run name options) → Gives (IsTold name options) old new before after result → Cut result
+    cut_gives name options _ e (answered text status is counts whole sink) fails = absurd (found_safe status counts fails)
+    cut_gives name options _ e (output_failed text status k is more faults le front sink) fails = absurd (omega (arith, fails))
+    cut_gives name options _ e (files_failed same misses faults sink) fails = inl same
+    cut_gives name options _ e (no_memory same misses faults sink) fails = inl same
+    cut_gives name options _ e (no_memory_behind text status k is le front misses faults sink) fails = inr (λ t n a.
+        let same = one_answer files words (answers.asked (Run name options) e (is files tells)) a in
+        (k, omega (arith, le, ap length same.text), front ∙ ap (λ (x : List ℕ). grown old (take k x)) same.text))
+
+    pub cut_short : (result : ℕ) → CallEnds words told old new before after result → Cut result
+    cut_short result (usage e line misses faults) = cut_usage result line
+    cut_short result (asked (Run name options) e gives) = cut_gives name options result e gives
 
     pub printed_run : (result : ℕ) → CallEnds words told old new before after result → PrintedRun files words old new result
     printed_run result h options list c a =

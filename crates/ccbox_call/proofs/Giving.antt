@@ -1,6 +1,7 @@
 -- How the parts of a call give their answers.
-use Rattle.std.proofs.Common.{◌≡◌, ℕ, ℤ, ◌+◌, ◌<◌, ◌≤◌, nat_lt, Bool, true, false, inl, inr, List, ◌++◌, length, take, Option, Some, refl, sym, ap, ◌∙◌, subst, arith, length-append}
-use Rattle.std.specs.Prelude.{All, IsTrue, Result, Ok, Err}
+use Rattle.std.proofs.Common.{◌≡◌, ℕ, ℤ, ◌+◌, ◌<◌, ◌≤◌, nat_lt, Bool, true, false, inl, inr, List, ◌++◌, length, take, Option, Some, refl, sym, ap, ◌∙◌, subst, arith, length-append, [], ◌∷◌}
+use Rattle.std.specs.Prelude.{All, IsTrue, Result, Ok, Err, codes, decimal}
+use Rattle.ckc_text.specs.Texts.{number_of, name_of}
 use Rattle.std.proofs.lemmas.Bool.{ltb-true, ltb-false}
 use Rattle.std.proofs.lemmas.List.{take-append-le, take_all, length-take}
 use Rattle.std.proofs.Math.Seq.{take-append_seam, take-append-add}
@@ -95,6 +96,13 @@ module _ (c : Core) (image : Image) (settings : Settings) (inputs : List ℤ) (l
   behind text more k old mid new first second =
       second ∙ ap (λ o. grown o (take k more)) first ∙ grown-grown old text (take k more) ∙ ap (grown old) (sym (take-append-add text more k))
 
+  -- a line has its end
+  ends_line : (text : List ℕ) → 0 < length (text ++ 10 ∷ [])
+  ends_line text = omega (arith, length-append text (10 ∷ []))
+
+  refused_long : (line : ℕ) (code : Code) → 0 < length (act_refused_text line code)
+  refused_long line code = ends_line (codes "[act line " ++ decimal line ++ codes " " ++ number_of code ++ codes " " ++ name_of code ++ codes "]")
+
   refused_gives : (text : List ℕ) (line : ℕ) (code : Code) (old mid new : Option (List ℕ)) (m f k k' result : ℕ) → Answers c image settings inputs list is keeps allowed are_words are text (LineRefused line code) → mid ≡ grown old text → LineGiven (act_refused_text line code) 8 mid new k k' result →
       Gives IsAnswer old new (record { misses = m; faults = f; sink = k }) (record { misses = m; faults = f; sink = k' }) result
   refused_gives text _ _ old mid new m f k k' _ (front line code a) first (given (all second same)) =
@@ -103,7 +111,7 @@ module _ (c : Core) (image : Image) (settings : Settings) (inputs : List ℤ) (l
       output_failed (text ++ act_refused_text line code) 8 (length text + n) a (omega arith) refl (omega (arith, length-append text (act_refused_text line code), le)) (behind text (act_refused_text line code) n old mid new first second) rises
   refused_gives text _ _ old mid new m f k k' result (front line code a) first (unmade nine same still) =
       subst (Gives IsAnswer old new (record { misses = m; faults = f; sink = k }) (record { misses = m; faults = f; sink = k' })) (sym nine)
-      (no_memory_behind (text ++ act_refused_text line code) 8 (length text) a (omega (arith, length-append text (act_refused_text line code))) (same ∙ first ∙ ap (grown old) (sym (take-append_seam text (act_refused_text line code)))) (omega arith) refl still)
+      (no_memory_behind (text ++ act_refused_text line code) 8 (length text) a (omega (arith, length-append text (act_refused_text line code), refused_long line code)) (same ∙ first ∙ ap (grown old) (sym (take-append_seam text (act_refused_text line code)))) (omega arith) refl still)
 
   line_refused_gives : {files : Option Files} {last : ActList} {old mid new : Option (List ℕ)} (line : ℕ) (code : Code) (m m' f f' k j k' result : ℕ) → WritesAll FromList files image settings inputs list last (LineRefused line code) old mid → ◌≡◌ {A = Counts} (record { misses = m'; faults = f'; sink = j }) (record { misses = m; faults = f; sink = k }) → LineGiven (act_refused_text line code) 8 mid new j k' result →
       Gives IsAnswer old new (record { misses = m; faults = f; sink = k }) (record { misses = m'; faults = f'; sink = k' }) result

@@ -9,7 +9,7 @@ use Rattle.ccbox_call_words.specs.Given.{all, failed, LineGiven, given, unmade}
 use Rattle.ccbox_call.specs.Answers.{IsFailure, IsStatus, Exactly, Tells}
 use Rattle.ccbox_call.specs.Calls.{IsFoundStatus, StatusCounts, Gives, answered, output_failed, files_failed, no_memory, no_memory_behind, CallEnds, usage, asked}
 use Rattle.ccbox_call.specs.Process.{Answers, IsUnmade, ProcessEnds}
-use Rattle.ccbox_call.proofs.Calls.{front, whole, printed_run, complete, exits, refuses, misses, checks, stops, acts_refused, untouched, usage_line}
+use Rattle.ccbox_call.proofs.Calls.{cut_short, front, whole, printed_run, complete, exits, refuses, misses, checks, stops, acts_refused, untouched, usage_line}
 
 failure : (n : ℕ) → IsFailure n → IsStatus n
 failure n f = inr (inr (inr (inr (inr (inr (inr f))))))
@@ -116,6 +116,7 @@ module _ (words : List (List ℕ)) (told : Option Files) (old new : Option (List
       record {
         front = λ files tells. front words told old new before after files tells status h;
         whole = λ files tells. whole words told old new before after files tells status h;
+        cut_short = λ files tells. cut_short words told old new before after files tells status h;
         printed_run = λ files tells. printed_run words told old new before after files tells status h;
         complete = λ files tells. complete words told old new before after files tells status h;
         is_status = is_status status h;

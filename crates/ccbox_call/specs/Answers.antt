@@ -110,6 +110,11 @@ WritesFront text old new = (k : ℕ) × (k ≤ length text) × (new ≡ grown ol
 abbrev pub GivesFront : Files → List (List ℕ) → Option (List ℕ) → Option (List ℕ) → Type 0
 GivesFront files words old new = (text : List ℕ) (status : ℕ) → Answer files words text status → WritesFront text old new
 
+-- nothing was written, or less than the whole text, whatever the Answer is
+abbrev pub IsCutShort : Files → List (List ℕ) → Option (List ℕ) → Option (List ℕ) → Type 0
+IsCutShort files words old new =
+    (new ≡ old) ⊎ ((text : List ℕ) (status : ℕ) → Answer files words text status → (k : ℕ) × (k < length text) × (new ≡ grown old (take k text)))
+
 -- the Answer was given whole
 pub record GivesWhole (files : Files) (words : List (List ℕ)) (old new : Option (List ℕ)) (status : ℕ) : Type 0 where
   pub text : List ℕ

@@ -1,5 +1,5 @@
 -- How a call of the program ends, part by part: what it wrote, its status, and the counts of failures.
-use Rattle.std.specs.Prelude.{◌≡◌, ℕ, ◌≤◌, ◌⊎◌, All, IsTrue, List, length, take, Option, Some, None}
+use Rattle.std.specs.Prelude.{◌≡◌, ℕ, ◌<◌, ◌≤◌, ◌⊎◌, All, IsTrue, List, length, take, Option, Some, None}
 use Rattle.act_words.specs.Checks.{is_word_number}
 use Rattle.act_words.specs.Limits.{AreAllowed}
 use Rattle.ckc_io.specs.Counts.{Rises}
@@ -38,7 +38,7 @@ pub data Gives (Is : List ℕ → ℕ → Type 0) (old new : Option (List ℕ)) 
   -- memory ran out, and nothing was written
   no_memory : new ≡ old → before.misses ≤ after.misses → after.faults ≡ before.faults → after.sink ≡ before.sink → Gives Is old new before after 9
   -- memory ran out behind a front of the answer
-  no_memory_behind : (text : List ℕ) (status k : ℕ) → Is text status → k ≤ length text → new ≡ grown old (take k text) → before.misses ≤ after.misses
+  no_memory_behind : (text : List ℕ) (status k : ℕ) → Is text status → k < length text → new ≡ grown old (take k text) → before.misses ≤ after.misses
       → after.faults ≡ before.faults → after.sink ≡ before.sink → Gives Is old new before after 9
 
 -- how a call ends

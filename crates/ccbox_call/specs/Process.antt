@@ -14,7 +14,7 @@ use Rattle.act_recorder.specs.Diagnostics.{usage_text}
 use Rattle.ccbox_call_words.specs.Given.{LineGiven}
 use Rattle.ccbox_call_words.specs.Requests.{request_of}
 use Rattle.ccbox_call.specs.Calls.{CallEnds}
-use Rattle.ccbox_call.specs.Answers.{GivesFront, GivesWhole, IsFailure, IsStatus, Exactly, Tells, SourceIsRefused, FileIsMissing, RunExits}
+use Rattle.ccbox_call.specs.Answers.{GivesFront, GivesWhole, IsCutShort, IsFailure, IsStatus, Exactly, Tells, SourceIsRefused, FileIsMissing, RunExits}
 use Rattle.ccbox_call.specs.Answers.{CheckFails, RunStops, LineIsRefused, PrintedRun, IsComplete, IsQuiet, IsUntouched}
 
 -- the words of an outcome without any: memory ran out, or one of them is no text, and then they count as none
@@ -31,6 +31,7 @@ words_given (Err error) = words_without (error_kind error)
 pub record Answers (told : Option Files) (words : List (List ℕ)) (old new : Option (List ℕ)) (before after : Counts) (status : ℕ) : Type 0 where
   pub front : Told told (λ files. GivesFront files words old new)
   pub whole : Told told (λ files. GivesWhole files words old new status ⊎ IsFailure status)
+  pub cut_short : Told told (λ files. (status ≡ 4) ⊎ (status ≡ 9) → IsCutShort files words old new)
   pub printed_run : Told told (λ files. PrintedRun files words old new status)
   pub complete : Told told (λ files. IsQuiet before.faults after.faults → IsQuiet before.sink after.sink → IsComplete files words old new status)
   pub is_status : IsStatus status

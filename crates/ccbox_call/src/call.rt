@@ -3,7 +3,7 @@
 ghost use Rattle.std.specs.Prelude.{◌≡◌, ◌⊎◌, ℕ, List, map, None};
 ghost use Rattle.ckc_io.specs.Files.{Told};
 ghost use Rattle.ccbox_call_words.specs.Requests.{request_of};
-ghost use Rattle.ccbox_call.specs.Answers.{GivesFront, GivesWhole, IsFailure, IsStatus, Exactly, Tells, SourceIsRefused, FileIsMissing, RunExits, CheckFails, RunStops, LineIsRefused, PrintedRun, IsComplete, IsQuiet, IsUntouched};
+ghost use Rattle.ccbox_call.specs.Answers.{GivesFront, GivesWhole, IsCutShort, IsFailure, IsStatus, Exactly, Tells, SourceIsRefused, FileIsMissing, RunExits, CheckFails, RunStops, LineIsRefused, PrintedRun, IsComplete, IsQuiet, IsUntouched};
 ghost use Rattle.ccbox_call_words.specs.Given.{LineGiven};
 ghost use Rattle.ccbox_call_words.specs.Statuses.{number_of};
 ghost use Rattle.act_recorder.specs.Diagnostics.{usage_text};
@@ -30,6 +30,10 @@ pub fn ccbox<F: Shelf, K: Sink>(
     ensures front { Told (F.files shelf.old) (λ files. GivesFront files (map (λ word. word.now) words.now) (K.written sink.old) (K.written sink.new)) }
     ensures whole { Told (F.files shelf.old) (λ files.
         GivesWhole files (map (λ word. word.now) words.now) (K.written sink.old) (K.written sink.new) (number_of result) ⊎ IsFailure (number_of result)) }
+
+    // Behind a fault of the files, and where memory ran out, the text isn't whole.
+    ensures cut_short { Told (F.files shelf.old) (λ files. (number_of result ≡ 4) ⊎ (number_of result ≡ 9)
+        → IsCutShort files (map (λ word. word.now) words.now) (K.written sink.old) (K.written sink.new)) }
 
     // An accepted source is never stuck, its run is printed, and what the sandbox is shown is determined by its starting
     // memory, the acts that were taken, and the releases.

@@ -1,5 +1,8 @@
-use Rattle.ccbox_call.proofs.Calls.{front, whole, printed_run, complete, exits, refuses, misses, checks, stops, acts_refused, untouched, usage_line}
+use Rattle.ccbox_call.proofs.Calls.{front, whole, cut_short, printed_run, complete, exits, refuses, misses, checks, stops, acts_refused, untouched, usage_line}
 use Rattle.ccbox_call.proofs.call.ccbox.Goals as goal
+
+pub returns-clause-cut_short : goal.returns-clause-cut_short
+returns-clause-cut_short g c = λ files told. cut_short _ _ _ _ _ _ files told _ c.status_of_call.ensures
 
 pub returns-clause-front : goal.returns-clause-front
 returns-clause-front g c = λ files told. front _ _ _ _ _ _ files told _ c.status_of_call.ensures
