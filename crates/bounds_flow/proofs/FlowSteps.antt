@@ -1,0 +1,124 @@
+-- Each step from a flow gives a flow.
+use Rattle.std.proofs.Common.{ℕ, ◌<◌, ◌≤◌, Bool, true, false, cond, Option, None, Some, List, [], ◌∷◌, fold, set, subst}
+use Rattle.std.proofs.lemmas.List.{length-map, length-replicate, length-set}
+use Rattle.std.proofs.lemmas.List.Elements.{All-replicate}
+use Rattle.bounds_exprs.specs.declared.term.Term.{Term}
+use Rattle.bounds_exprs.specs.Terms.{is_var}
+use Rattle.subsumption.specs.Facts.{IsBelow, fact_of}
+use Rattle.subsumption.specs.ClosedTables.{ClosedTable, with_fact, without}
+use Rattle.subsumption.specs.TableLaws.{IsTable}
+use Rattle.subsumption.proofs.TableSteps.{entails_terms_exactly, give_tables}
+use Rattle.bounds_flow.specs.declared.held.Held.{Held}
+use Rattle.bounds_flow.specs.declared.changes.Change.TheVariants.{Shift, Number, Base, Leave, Head, Settle}
+use Rattle.bounds_flow.specs.declared.steps.How.{How}
+use Rattle.bounds_flow.specs.declared.steps.How.TheVariants.{Lt, Le, Gt, Ge, Eq, Ne}
+use Rattle.bounds_flow.specs.declared.steps.Test.{Test}
+use Rattle.bounds_flow.specs.declared.steps.Test.TheVariants.{NotNull, Compare}
+use Rattle.bounds_flow.specs.Pointers.{no_pointer}
+use Rattle.bounds_flow.specs.Flows.{Knowledge, at_entry, number_facts, number_held, assumed, opposite, with_comparison, with_equal, variable, held_at}
+use Rattle.bounds_flow.specs.Conditions.{AreOfVariables, IsFlow, IsHeldBelow, IsTermBelow, IsTestWithin}
+use Rattle.bounds_flow.specs.Laws.{AreKept, FlowsEntailExactly, GivesFlows}
+use Rattle.bounds_flow.proofs.Pointers.{assigned_below, fresh_below}
+use Rattle.bounds_flow.proofs.Variables.{forgotten, held_below, known, mapped, met_of, none_below, placed, renumbered}
+
+-- ---- facts
+
+fact_table : (vars : ℕ) (a b : Term) (t : ClosedTable) → IsBelow vars a.var → IsBelow vars b.var → IsTable vars t → IsTable vars (with_fact vars (fact_of a b) t)
+fact_table vars a b t l r is = (give_tables vars).add t (fact_of a b) is (record { left = l; right = r })
+
+equal_table : (vars : ℕ) (a b : Term) (t : ClosedTable) → IsBelow vars a.var → IsBelow vars b.var → IsTable vars t → IsTable vars (with_equal vars a b t)
+equal_table vars a b t l r is = fact_table vars b a _ r l (fact_table vars a b t l r is)
+
+comparison_table : (vars : ℕ) (how : How) (a b : Term) (t : ClosedTable) → IsBelow vars a.var → IsBelow vars b.var → IsTable vars t → IsTable vars (with_comparison vars how a b t)
+comparison_table vars Lt a b t l r is = fact_table vars _ b t l r is
+comparison_table vars Le a b t l r is = fact_table vars a b t l r is
+comparison_table vars Gt a b t l r is = fact_table vars _ a t r l is
+comparison_table vars Ge a b t l r is = fact_table vars b a t r l is
+comparison_table vars Eq a b t l r is = equal_table vars a b t l r is
+comparison_table vars Ne a b t l r is = is
+
+either_table : (vars : ℕ) (b : Bool) (t u : ClosedTable) → IsTable vars t → IsTable vars u → IsTable vars (cond b t u)
+either_table vars true t u i j = i
+either_table vars false t u i j = j
+
+number_table : (vars x : ℕ) (to : Option Term) (t : ClosedTable) → x < vars → IsTermBelow vars to → IsTable vars t → IsTable vars (number_facts vars x to t)
+number_table vars x None t lt below is = (give_tables vars).kill t x is
+number_table vars x (Some e) t lt below is =
+    either_table vars (is_var x e.var) _ _ ((give_tables vars).shift t x e.plus is) (equal_table vars (variable x) e _ lt below ((give_tables vars).kill t x is))
+
+killed_table : (vars : ℕ) (t : ClosedTable) (xs : List ℕ) → IsTable vars t → IsTable vars (fold (λ t x. without vars x t) t xs)
+killed_table vars t [] is = is
+killed_table vars t (x ∷ xs) is = killed_table vars (without vars x t) xs ((give_tables vars).kill t x is)
+
+-- ---- pointers
+
+either_held : (vars : ℕ) (b : Bool) (held others : List Held) (assigned : List Bool) → AreOfVariables vars held assigned → AreOfVariables vars others assigned
+    → AreOfVariables vars (cond b held others) assigned
+either_held vars true held others assigned i j = i
+either_held vars false held others assigned i j = j
+
+number_pointers : (vars x : ℕ) (to : Option Term) (held : List Held) (assigned since : List Bool) → AreOfVariables vars held assigned → AreOfVariables vars (number_held x to since held) assigned
+number_pointers vars x None held assigned since is = mapped vars held assigned since (Number x) is
+number_pointers vars x (Some e) held assigned since is =
+    either_held vars (is_var x e.var) _ _ assigned (mapped vars held assigned since (Shift x e.plus) is) (mapped vars held assigned since (Number x) is)
+
+-- ---- steps
+
+entry_is : (vars : ℕ) → vars ≤ 4096 → IsFlow (at_entry vars)
+entry_is vars few = record {
+  few = few;
+  facts = (give_tables vars).none;
+  variables = record { pointers = length-replicate vars no_pointer; numbers = length-replicate vars false; below = All-replicate (IsHeldBelow vars) vars no_pointer (none_below vars) };
+}
+
+assumed_is : (f : Knowledge) (test : Test) (truth : Bool) → IsFlow f → IsTestWithin f.vars test → IsFlow (assumed test truth f)
+assumed_is f (NotNull p) true is within = record { few = is.few; facts = is.facts; variables = known f.vars f.held f.assigned p is.variables }
+assumed_is f (NotNull p) false is within = is
+assumed_is f (Compare how a b) truth is within = record {
+  few = is.few;
+  facts = comparison_table f.vars (cond truth how (opposite how)) a b f.facts within.0.var within.1.var is.facts;
+  variables = is.variables;
+}
+
+gives_flows : (f : Knowledge) → IsFlow f → GivesFlows f
+gives_flows f is = record {
+  enter = λ x declared below. record { few = is.few; facts = is.facts; variables = placed f.vars f.held f.assigned x _ is.variables (fresh_below f.vars declared below) };
+  leave = λ x. record {
+    few = is.few;
+    facts = (give_tables f.vars).kill f.facts x is.facts;
+    variables = renumbered f.vars _ f.assigned (set f.assigned x false) (placed f.vars _ f.assigned x no_pointer (mapped f.vars f.held f.assigned f.assigned (Leave x) is.variables) (none_below f.vars)) (length-set f.assigned x false);
+  };
+  assign_int = λ x to lt below. record {
+    few = is.few;
+    facts = number_table f.vars x to f.facts lt below is.facts;
+    variables = renumbered f.vars _ f.assigned (set f.assigned x true) (number_pointers f.vars x to f.held f.assigned (set f.assigned x true) is.variables) (length-set f.assigned x true);
+  };
+  assign_pointer = λ p from moved not_null below. record {
+    few = is.few;
+    facts = is.facts;
+    variables = placed f.vars _ f.assigned p _ (mapped f.vars f.held f.assigned f.assigned (Base p moved) is.variables) (assigned_below f.vars p from moved not_null (held_at f.held p) (held_below f.vars f.held p is.variables.below) below);
+  };
+  assume = λ test truth within. assumed_is f test truth is within;
+  enter_loop = λ changed. record {
+    few = is.few;
+    facts = killed_table f.vars f.facts changed is.facts;
+    variables = forgotten f.vars _ f.assigned changed (mapped f.vars f.held f.assigned f.assigned Head is.variables);
+  };
+  cut = record { few = is.few; facts = tt; variables = is.variables };
+  join = λ g other e. record {
+    few = is.few;
+    facts = (give_tables f.vars).join f.facts g.facts is.facts (subst (λ n. IsTable n g.facts) e other.facts);
+    variables = met_of f.vars f.held g.held f.assigned is.variables;
+  };
+  settle = record {
+    few = is.few;
+    facts = is.facts;
+    variables = renumbered f.vars _ f.assigned _ (mapped f.vars f.held f.assigned f.assigned Settle is.variables) (length-map f.assigned (λ was. false));
+  };
+}
+
+pub are_kept : AreKept
+are_kept = record { entry = entry_is; steps = gives_flows }
+
+pub entail_exactly : FlowsEntailExactly
+entail_exactly f a b is la lb = entails_terms_exactly f.vars f.facts a b is.facts la lb

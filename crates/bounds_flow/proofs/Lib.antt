@@ -1,0 +1,4 @@
+pub mod Pointers
+pub mod Variables
+mod Answers
+pub mod FlowSteps
