@@ -1,0 +1,7 @@
+mod WaitingRows
+mod OpenCalls
+mod Paces
+mod StepsFall
+mod Led
+mod Shown
+mod OneAnswer
