@@ -1,0 +1,9 @@
+pub mod Written
+pub mod FieldsBack
+pub mod InstructionsBack
+pub mod Inner
+pub mod InstructionWords
+pub mod LinesBack
+pub mod Texts
+pub mod ImagesBack
+pub mod OneVerdict

@@ -1,0 +1,10 @@
+pub mod Fields
+pub mod Instructions
+pub mod Lines
+pub mod Listings
+pub mod Verdicts
+pub mod Shown
+pub mod Reading
+pub mod ReadInstructions
+pub mod ReadLines
+pub mod Examples
