@@ -8,10 +8,10 @@ use Rattle.flat_bytes.specs.Blocks.{first_offset, grown, rounded_up}
 use Rattle.pointer_modes.specs.Types.{CType, Int, Char, Struct, Pointer}
 use Rattle.pointer_modes.specs.Layout.{scalar_size}
 use Rattle.ckc_core.specs.Programs.{Initial}
-use Rattle.ckc_core.specs.Core.{Core, Function}
+use Rattle.ckc_core.specs.Core.{Parted, Function}
 use Rattle.ckc_core.specs.Steps.{is_char}
 use Rattle.check_insertion.specs.Erased as erased
-use Rattle.check_insertion.specs.Insert.{function, inserted}
+use Rattle.check_insertion.specs.Insert.{function, with_checks}
 use Rattle.check_insertion.proofs.Insertions.{function_there}
 use Rattle.check_insertion.proofs.Sizes.{same_body, few_in_statements}
 use Rattle.ckc_core.specs.Weights.{statements_weight}
@@ -51,11 +51,11 @@ function_is f small light = record {
 }
 
 -- `main` with its checks
-main_is : (c : Core) → (f : Function) × (slice_get c.functions c.main ≡ Some f) × (f.parameters ≡ 0)
+main_is : (c : Parted) → (f : Function) × (slice_get c.functions c.main ≡ Some f) × (f.parameters ≡ 0)
     → (f : erased.Function) × (slice_get (map function c.functions) c.main ≡ Some f) × (f.parameters ≡ 0)
 main_is c main = (function main.0, function_there c.functions c.main ∙ ap (option_map function) main.1, main.2)
 
-pub small_is_lowerable : (c : Core) → IsSmallCore c → HasFewFunctions c → All IsLight c.functions → IsLowerable (inserted c)
+pub small_is_lowerable : (c : Parted) → IsSmallCore c → HasFewFunctions c → All IsLight c.functions → IsLowerable (with_checks c)
 small_is_lowerable c small few light = record {
   cells = λ k d lt. let here = small.cells k d lt in ((λ j e less. cell_is _ (here.0 j e less)), here.1);
   objects = omega (arith, counted_is c.objects first_offset, small.objects);

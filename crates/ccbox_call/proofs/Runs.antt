@@ -13,6 +13,7 @@ use Rattle.act_words.specs.Acts.{Act, IsAct, Seen}
 use Rattle.act_words.specs.World.{World, Event, Took, Output, Released, Showed, NoAct}
 use Rattle.act_words.specs.View.{ViewIsFold, due_front}
 use Rattle.ckc_core.specs.Core.{Core}
+use Rattle.ckc_core.specs.Programs.{parted}
 use Rattle.ckc_core.specs.Outcome.{Ends}
 use Rattle.ckc_core.specs.States.{State}
 use Rattle.ckc_core.specs.Meaning.{meaning, audited_meaning}
@@ -47,7 +48,7 @@ pub may_run : (words : List (List ℕ)) (name : List ℕ) (options : Options) �
 may_run words name options asked = record { settings = settings_allowed words name options asked; inputs = inputs_are_words words name options asked }
 
 -- the bodies of what is accepted have few nodes, since its source has few tokens
-light_bodies : (c : Core) → IsAcceptedCore c → All IsLight c.functions
+light_bodies : (c : Core) → IsAcceptedCore c → All IsLight (parted c).functions
 light_bodies c a = λ k d lt.
     let x = a.1 in
     let t = x.has_tree in
@@ -56,7 +57,7 @@ light_bodies c a = λ k d lt.
 
 -- what is accepted can be lowered, with its checks
 pub lowerable : (c : Core) → IsAcceptedCore c → IsLowerable (inserted c)
-lowerable c a = let x = a.1 in small_is_lowerable c (small (place_at a.0) x.tree c x.has_core ((x.has_tree).is_tree).low) (few (place_at a.0) x.tree c x.has_core) (light_bodies c a)
+lowerable c a = let x = a.1 in small_is_lowerable (parted c) (small (place_at a.0) x.tree c x.has_core ((x.has_tree).is_tree).low) (few (place_at a.0) x.tree c x.has_core) (light_bodies c a)
 
 -- the run of what is accepted ends, audited or not
 pub ends : (c : Core) → IsAcceptedCore c → AlwaysEnds c

@@ -1,6 +1,6 @@
 // Running the program of a file.
 
-ghost use Rattle.std.specs.Prelude.{◌≡◌, List, ℕ, false, IsTrue, IfOk};
+ghost use Rattle.std.specs.Prelude.{◌≡◌, false, IsTrue, IfOk};
 ghost use Rattle.std.specs.List.{All};
 ghost use Rattle.act_words.specs.Acts.{IsAct};
 ghost use Rattle.act_words.specs.Checks.{is_word_number};
@@ -31,6 +31,7 @@ use ckc_text::fault::{NoMemory, Refused, SourceFault};
 use ckc_text::place::{Place, place_of};
 use code_words::image::Image;
 use lowering::lower::lower;
+use partitioner::split::split;
 use run_core::run::run;
 use sandbox_actor::actor::ActorFault;
 use sandbox_actor::list_actor::ListActor;
@@ -131,7 +132,8 @@ fn image_of(alloc: Global, program: &Core) -> Result<Image, NoMemory>
     requires accepted { IsAcceptedCore (core program.now) }
     ensures { IfOk result (λ image. KeepsMeaning (inserted (core program.now)) image) }
 {
-    let erased = insert(alloc, program)?;
+    let parts = split(alloc, program)?;
+    let erased = insert(alloc, program, &parts)?;
     lower(alloc, &erased)
 }
 

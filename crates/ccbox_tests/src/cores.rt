@@ -1,9 +1,11 @@
 // The core of a source.
 
 use ccbox_call::front::front;
-use ckc_core::program::{CellPlace, Core, Expr, Function, Object, Stmt};
+use ckc_core::program::{CellPlace, Core, Definition, Expr, Function, Object, Stmt};
 use ckc_text::code::Code;
 use ckc_text::place::Place;
+use partitioner::parts::Parts;
+use partitioner::split::split;
 use std::alloc::Global;
 
 // A store through a pointer stands in the second line.
@@ -56,7 +58,7 @@ fn is_variable(object: &Object) -> bool {
 // Whether a core has the variable of the source, and nothing else beside its function.
 fn has_variable(core: &Core) -> bool {
     match core.objects.as_slice() {
-        [object] => core.imports.is_empty() && core.main == 0 && is_variable(object),
+        [object] => core.main == 0 && is_variable(object),
         _ => false,
     }
 }
@@ -68,8 +70,8 @@ fn is_function(main: &Function) -> bool {
 
 // Whether a core has the function of the source.
 fn has_function(core: &Core) -> bool {
-    match core.functions.as_slice() {
-        [main] => is_function(main),
+    match core.definitions.as_slice() {
+        [Definition::Trusted(main)] => is_function(main),
         _ => false,
     }
 }
@@ -78,6 +80,30 @@ fn has_function(core: &Core) -> bool {
 pub fn has_core(alloc: Global) -> bool {
     match front(alloc, SOURCE) {
         Ok(core) => has_variable(&core) && has_function(&core),
+        Err(_) => false,
+    }
+}
+
+// Two tainted functions between two trusted ones, and two variables.
+const SIDES: &[u8] = b"int x; int f(void) { return 1; } _Tainted int g(int a); int y;\
+_Tainted void h(void); int main(void) { return f(); }";
+
+// Whether these are the sides of that source.
+fn are_its_sides(parts: &Parts) -> bool {
+    matches!(parts.trusted.as_slice(), [0, 3])
+        && matches!(parts.sandbox.as_slice(), [1, 2])
+        && matches!(parts.trusted_objects.as_slice(), [0, 1])
+        && parts.sandbox_objects.is_empty()
+        && parts.callbacks.is_empty()
+}
+
+/// Whether each function and each variable of a source stands on its side.
+pub fn has_sides(alloc: Global) -> bool {
+    let Ok(core) = front(alloc, SIDES) else {
+        return false;
+    };
+    match split(alloc, &core) {
+        Ok(parts) => are_its_sides(&parts),
         Err(_) => false,
     }
 }

@@ -18,6 +18,8 @@ mod facts;
 #[cfg(test)]
 mod files;
 #[cfg(test)]
+mod flows;
+#[cfg(test)]
 mod layouts;
 #[cfg(test)]
 mod limits;

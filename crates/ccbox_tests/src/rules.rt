@@ -1,6 +1,6 @@
 // Sources that are refused: each rule broken alone, and beside another.
 
-use crate::cores::{has_codes, has_core};
+use crate::cores::{has_codes, has_core, has_sides};
 use crate::questions::Question;
 use crate::rows::{Table, expect, expect_tables};
 use std::alloc::Global;
@@ -381,6 +381,7 @@ fn rules(alloc: Global) -> Result<(), Fail> {
 /// Fails unless each rule of names and types is refused at its place.
 pub fn names_and_types(alloc: Global) -> Result<(), Fail> {
     expect("codes and a core", has_codes() && has_core(alloc))?;
+    expect("sides", has_sides(alloc))?;
     forms(alloc)?;
     rules(alloc)
 }

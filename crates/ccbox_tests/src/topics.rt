@@ -4,6 +4,7 @@ use crate::acts::acts;
 use crate::corners::{corners, large_inputs};
 use crate::facts::entailment;
 use crate::files::files_and_outputs;
+use crate::flows::flows;
 use crate::limits::limits;
 use crate::memories::memories_and_layouts;
 use crate::options::options;
@@ -44,6 +45,7 @@ fn sandbox_acts(rt: HostRuntime) -> Result<(), Fail> {
 #[test]
 fn libraries(rt: HostRuntime) -> Result<(), Fail> {
     entailment(rt.alloc())?;
+    flows(rt.alloc())?;
     memories_and_layouts(rt.alloc())
 }
 

@@ -10,7 +10,7 @@ use Rattle.ckc_core.specs.declared.program.Site.{Site}
 use Rattle.ckc_core.specs.declared.program.Callee.{Callee}
 use Rattle.ckc_core.specs.declared.program.Callee.TheVariants as callees
 use Rattle.ckc_core.specs.Outcome.{Gives, Ends, Stuck, Unsound, Short, and_then}
-use Rattle.ckc_core.specs.Programs.{Import}
+use Rattle.ckc_core.specs.Programs.{Import, ProgramOf, parted}
 use Rattle.ckc_core.specs.Core as core
 use Rattle.ckc_core.specs.States.{Value, State}
 use Rattle.ckc_core.specs.Bounds.{Pointed, with_ends}
@@ -19,7 +19,7 @@ use Rattle.ckc_core.specs.Meaning as meaning
 use Rattle.ckc_core.specs.Meaning.{audit, site_of, bounds_of, without_ends, place_from, pointed, reached}
 use Rattle.check_insertion.specs.ErasedMeaning as erased
 use Rattle.check_insertion.specs.Insert as insert
-use Rattle.check_insertion.specs.Insert.{access_checks, inserted}
+use Rattle.check_insertion.specs.Insert.{access_checks, with_checks}
 use Rattle.check_insertion.specs.Keeps.{Follows, KeepsMeaning}
 use Rattle.check_insertion.proofs.Following.{FollowsBy, same, on, on_by, left_out, asked_on, chosen, next_on, turned_on, audit_on, ends_aside, reached_on, load_on, store_on}
 
@@ -33,12 +33,12 @@ takes_same : (o : Option core.Function) (vs : List Value) → takes (option_map 
 takes_same None vs = refl
 takes_same (Some f) vs = refl
 
-module _ (audited : Bool) (program : core.Core) (settings : Settings) where
+module _ (audited : Bool) (program : ProgramOf core.Statements) (settings : Settings) where
   abbrev g : meaning.Setting
   g = setting_of program settings
 
   abbrev g' : erased.Setting
-  g' = setting_of (inserted program) settings
+  g' = setting_of (with_checks program) settings
 
   -- calls, further turns and the sandbox's turn follow
   pub record Follow (k : meaning.Knot) (k' : erased.Knot) : Type 0 where
@@ -240,4 +240,4 @@ module _ (audited : Bool) (program : core.Core) (settings : Settings) where
 
 pub keeps_meaning : (program : core.Core) → KeepsMeaning program
 keeps_meaning program audited settings inputs acts =
-    run_on audited program settings (initial program (new_world (replicate settings.sandbox 0) first_offset inputs acts))
+    run_on audited (parted program) settings (initial (parted program) (new_world (replicate settings.sandbox 0) first_offset inputs acts))

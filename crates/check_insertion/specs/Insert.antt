@@ -3,6 +3,7 @@ use Rattle.std.specs.Prelude.{List, [], ◌∷◌, map}
 use Rattle.ckc_core.specs.declared.program.Index.{Index}
 use Rattle.ckc_core.specs.declared.program.Index.TheVariants as indexes
 use Rattle.ckc_core.specs.declared.program.Site.{Site}
+use Rattle.ckc_core.specs.Programs.{ProgramOf, parted}
 use Rattle.ckc_core.specs.Core as core
 use Rattle.check_insertion.specs.declared.erased.Check.{Check}
 use Rattle.check_insertion.specs.declared.erased.Check.TheVariants.{NotNull}
@@ -66,6 +67,10 @@ abbrev mutual
 abbrev pub function : core.Function → erased.Function
 function f = record { name = f.name; parameters = f.parameters; locals = f.locals; result = f.result; body = statements f.body }
 
--- the whole program
+-- a program of two sides
+abbrev pub with_checks : ProgramOf core.Statements → Erased
+with_checks p = record { objects = p.objects; imports = p.imports; functions = map function p.functions; main = p.main }
+
+-- the whole source, in two parts
 abbrev pub inserted : core.Core → Erased
-inserted c = record { objects = c.objects; imports = c.imports; functions = map function c.functions; main = c.main }
+inserted c = with_checks (parted c)

@@ -1,11 +1,14 @@
 // Copies of the parts of a core that no check is inserted into.
 
-ghost use Rattle.std.specs.Prelude.{◌≡◌, map, IfOk};
+ghost use Rattle.std.specs.Prelude.{◌≡◌, ◌∷◌, ◌++◌, [], map, IfOk};
 ghost use Rattle.std.specs.Option.{option_map};
 ghost use Rattle.pointer_modes.specs.Types.{ctype as ctype_of};
-ghost use Rattle.ckc_core.specs.Core.{initial, object as object_of, import_of};
+ghost use Rattle.ckc_core.specs.Core.{initial, object as object_of, definition as definition_of, import_of};
+ghost use Rattle.ckc_core.specs.Programs.{tainted_of};
+ghost use Rattle.partitioner.specs.Parts.{named};
+ghost use Rattle.check_insertion.specs.Sides.{tainted_at};
 
-use ckc_core::program::{Import, Initial, Object};
+use ckc_core::program::{Definition, Import, Initial, Object};
 use ckc_text::fault::NoMemory;
 use pointer_modes::ctype::CType;
 use std::alloc::Global;
@@ -61,13 +64,32 @@ fn object(alloc: Global, object: &Object) -> Result<Object, NoMemory>
     Ok(Object { cells })
 }
 
-/// Copies of file-level variables.
-pub fn objects(alloc: Global, objects: &[Object]) -> Result<Vec<Object>, NoMemory>
-    ensures { IfOk result (λ v. map object_of v.items ≡ map object_of objects.now) }
+// A copy more, of the variable of this number.
+fn push_object(
+    alloc: Global,
+    objects: &[Object],
+    number: usize,
+    copies: &mut Vec<Object>,
+) -> Result<(), NoMemory>
+    ensures { IfOk result (λ _. map object_of copies.new.items ≡ map object_of copies.old.items ++ map object_of (named objects.now (number ∷ []))) }
+{
+    if let Some(o) = objects.get(number) {
+        copies.push(object(alloc, o)?)?;
+    }
+    Ok(())
+}
+
+/// Copies of the file-level variables of these numbers.
+pub fn objects(
+    alloc: Global,
+    objects: &[Object],
+    numbers: &[usize],
+) -> Result<Vec<Object>, NoMemory>
+    ensures { IfOk result (λ v. map object_of v.items ≡ map object_of (named objects.now numbers.now)) }
 {
     let mut copies = Vec::new(alloc);
-    for o in objects {
-        copies.push(object(alloc, o)?)?;
+    for number in numbers {
+        push_object(alloc, objects, *number, &mut copies)?;
     }
     Ok(copies)
 }
@@ -83,13 +105,47 @@ fn import(alloc: Global, import: &Import) -> Result<Import, NoMemory>
     })
 }
 
-/// Copies of tainted functions.
-pub fn imports(alloc: Global, imports: &[Import]) -> Result<Vec<Import>, NoMemory>
-    ensures { IfOk result (λ v. map import_of v.items ≡ map import_of imports.now) }
+// A copy more, of a tainted function.
+fn push_tainted(
+    alloc: Global,
+    definition: &Definition,
+    copies: &mut Vec<Import>,
+) -> Result<(), NoMemory>
+    ensures { IfOk result (λ _. map import_of copies.new.items ≡ map import_of copies.old.items ++ tainted_of (definition_of definition.now ∷ [])) }
+{
+    match definition {
+        Definition::Tainted(i) => copies.push(import(alloc, i)?)?,
+        Definition::Trusted(_) => {}
+    }
+    Ok(())
+}
+
+// A copy more, where the function of this number is tainted.
+fn push_import(
+    alloc: Global,
+    definitions: &[Definition],
+    number: usize,
+    copies: &mut Vec<Import>,
+) -> Result<(), NoMemory>
+    ensures { IfOk result (λ _. map import_of copies.new.items ≡ map import_of copies.old.items ++ tainted_at definitions.now (number ∷ [])) }
+{
+    if let Some(definition) = definitions.get(number) {
+        push_tainted(alloc, definition, copies)?;
+    }
+    Ok(())
+}
+
+/// Copies of the functions of these numbers that are tainted.
+pub fn imports(
+    alloc: Global,
+    definitions: &[Definition],
+    numbers: &[usize],
+) -> Result<Vec<Import>, NoMemory>
+    ensures { IfOk result (λ v. map import_of v.items ≡ tainted_at definitions.now numbers.now) }
 {
     let mut copies = Vec::new(alloc);
-    for i in imports {
-        copies.push(import(alloc, i)?)?;
+    for number in numbers {
+        push_import(alloc, definitions, *number, &mut copies)?;
     }
     Ok(copies)
 }

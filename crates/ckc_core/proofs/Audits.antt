@@ -11,7 +11,7 @@ use Rattle.ckc_core.specs.declared.program.Callee.{Callee}
 use Rattle.ckc_core.specs.declared.program.Callee.TheVariants as callees
 use Rattle.ckc_core.specs.declared.program.PointerBounds.{PointerBounds}
 use Rattle.ckc_core.specs.Outcome.{Gives, Ends, Stuck, Unsound, Short, and_then}
-use Rattle.ckc_core.specs.Programs.{Import}
+use Rattle.ckc_core.specs.Programs.{Import, ProgramOf, parted}
 use Rattle.ckc_core.specs.Core as core
 use Rattle.ckc_core.specs.States.{Value, State, in_world}
 use Rattle.ckc_core.specs.Bounds.{with_ends, is_valid}
@@ -63,7 +63,7 @@ audited_on : (bounds : Option PointerBounds) (v : Value) (s : State) → Agrees 
 audited_on None v s = refl
 audited_on (Some p) v s = sound_on (is_valid p v s) p.site v s
 
-module _ (program : core.Core) (settings : Settings) where
+module _ (program : ProgramOf core.Statements) (settings : Settings) where
   abbrev g : Setting
   g = setting_of program settings
 
@@ -246,4 +246,4 @@ module _ (program : core.Core) (settings : Settings) where
       (body_on _ _ (knots settings.budget) (slice_get program.functions program.main) [] s) (λ v t. same (exit v t))
 
 pub changes_nothing : (program : core.Core) → AuditChangesNothing program
-changes_nothing program settings inputs acts = run_on program settings (initial program (new_world (replicate settings.sandbox 0) first_offset inputs acts))
+changes_nothing program settings inputs acts = run_on (parted program) settings (initial (parted program) (new_world (replicate settings.sandbox 0) first_offset inputs acts))

@@ -15,7 +15,7 @@ use Rattle.act_words.specs.declared.operator.Operator.{Operator}
 use Rattle.act_words.specs.declared.operator.Comparison.{Comparison}
 use Rattle.ckc_core.specs.declared.program.Callee.{Callee}
 use Rattle.ckc_core.specs.declared.program.Callee.TheVariants as callees
-use Rattle.ckc_core.specs.Programs.{Import}
+use Rattle.ckc_core.specs.Programs.{Import, ProgramOf, parted}
 use Rattle.ckc_core.specs.declared.program.Index.{Index}
 use Rattle.ckc_core.specs.declared.program.Index.TheVariants as indexes
 use Rattle.ckc_core.specs.declared.program.PointerBounds.{PointerBounds}
@@ -213,7 +213,7 @@ module _ (budget : ℕ) where
     place_from_goes (core.Direct object offset) v = direct_goes None object offset
     place_from_goes (core.Through pointer index offset site) v = reached_goes index offset site v
 
-  module _ (audited : Bool) (program : core.Core) (sandbox_size trusted_size n : ℕ) where
+  module _ (audited : Bool) (program : ProgramOf core.Statements) (sandbox_size trusted_size n : ℕ) where
     abbrev g : Setting
     g = record { program = program; budget = budget; sandbox = sandbox_size; trusted = trusted_size }
 
@@ -403,7 +403,7 @@ module _ (budget : ℕ) where
   sandbox_goes low (Crossed.Called fun words w) s h = tt
   sandbox_goes low (Crossed.Over ending w) s h = tt
 
-  knots : (audited : Bool) (program : core.Core) (sandbox trusted n : ℕ) → IsKnot audited program sandbox trusted n (knot audited (record { program = program; budget = budget; sandbox = sandbox; trusted = trusted }) n)
+  knots : (audited : Bool) (program : ProgramOf core.Statements) (sandbox trusted n : ℕ) → IsKnot audited program sandbox trusted n (knot audited (record { program = program; budget = budget; sandbox = sandbox; trusted = trusted }) n)
   knots audited program sandbox trusted zero = record {
     call = λ low function vs s enough spent. absurd (omega (arith, spent.least, spent.most));
     turn = λ low e x y s enough spent. absurd (omega (arith, spent.least, spent.most));
@@ -428,8 +428,9 @@ not_short budget low (Stuck site s) h e = absurd (cc)
 not_short budget low (Unsound site s) h e = absurd (cc)
 not_short budget low Short h e = h
 
-pub never_short : (audited : Bool) (program : core.Core) (settings : Settings) (inputs : List ℤ) (acts : List Act) → run_of audited program settings inputs acts ≡ Short → ⊥
-never_short audited program settings inputs acts =
+pub never_short : (audited : Bool) (source : core.Core) (settings : Settings) (inputs : List ℤ) (acts : List Act) → run_of audited source settings inputs acts ≡ Short → ⊥
+never_short audited source settings inputs acts =
+    let program = parted source in
     let n = settings.budget in
     let start : State = initial program (new_world (replicate settings.sandbox 0) first_offset inputs acts) in
     let spent : HasSpent n 0 start.world = record { least = omega arith; most = omega arith } in

@@ -8,13 +8,14 @@ use Rattle.ckc_core.specs.declared.program.Stmt.{Row_of-Stmt, end_of-Stmt, more_
 use Rattle.ckc_core.specs.declared.program.Expr.TheVariants as exprs
 use Rattle.ckc_core.specs.declared.program.CellPlace.TheVariants as places
 use Rattle.ckc_core.specs.declared.program.Stmt.TheVariants as stmts
+use Rattle.ckc_core.specs.declared.program.Definition.TheVariants as definitions
 use Rattle.ckc_core.specs.declared.program.Site.{Site}
 use Rattle.act_words.specs.declared.operator.Operator.{Operator}
 use Rattle.act_words.specs.declared.operator.Comparison.{Comparison}
 use Rattle.ckc_core.specs.declared.program.Callee.{Callee}
 use Rattle.ckc_core.specs.declared.program.Index.{Index}
 use Rattle.ckc_core.specs.declared.program.PointerBounds.{PointerBounds}
-use Rattle.ckc_core.specs.Programs.{FunctionOf, Import, Initial, ProgramOf}
+use Rattle.ckc_core.specs.Programs.{FunctionOf, Import, Initial, Definition, Trusted, Tainted, SourceOf, ProgramOf}
 
 mutual
   -- an expression
@@ -91,7 +92,11 @@ Function = FunctionOf Statements
 
 -- a whole program
 abbrev pub Core : Type 0
-Core = ProgramOf Statements
+Core = SourceOf Statements
+
+-- its two sides
+abbrev pub Parted : Type 0
+Parted = ProgramOf Statements
 
 -- ---- the views from the types of the code
 
@@ -175,6 +180,11 @@ initial i = record { type = ctype i.ctype; stride = i.stride; number = i.number 
 abbrev pub object : code.Object.Object → List Initial
 object o = map initial o.cells.items
 
+-- a function on its side
+abbrev pub definition : code.Definition.Definition → Definition Statements
+definition (definitions.Trusted f) = Trusted (function f)
+definition (definitions.Tainted i) = Tainted (import_of i)
+
 -- the whole program
 abbrev pub core : code.Core.Core → Core
-core c = record { objects = map object c.objects.items; imports = map import_of c.imports.items; functions = map function c.functions.items; main = c.main }
+core c = record { objects = map object c.objects.items; definitions = map definition c.definitions.items; main = c.main }

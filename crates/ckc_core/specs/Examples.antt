@@ -18,7 +18,7 @@ use Rattle.ckc_core.specs.Core
 use Rattle.ckc_core.specs.declared.program.Index.TheVariants as indexes
 use Rattle.ckc_core.specs.declared.program.PointerBounds.{PointerBounds}
 use Rattle.bounds_exprs.specs.Normal.{constant}
-use Rattle.ckc_core.specs.Programs.{Initial}
+use Rattle.ckc_core.specs.Programs.{Initial, Trusted, parted}
 use Rattle.ckc_core.specs.Core.{Core, Expression, Statement, Statements, Function}
 use Rattle.ckc_core.specs.States.{At, State}
 use Rattle.ckc_core.specs.Bounds.{is_valid}
@@ -43,7 +43,8 @@ world = new_world (replicate 64 0) 16 [] []
 
 -- the run of a program with a budget, in which the sandbox ends at once
 abbrev pub runs : Core → ℕ → Outcome State (Unit {0})
-runs program budget = run_from true (record { program = program; budget = budget; sandbox = 64; trusted = 64 }) (initial program world)
+runs program budget =
+    run_from true (record { program = parted program; budget = budget; sandbox = 64; trusted = 64 }) (initial (parted program) world)
 
 abbrev pub ends_as : Outcome State (Unit {0}) → Ending → Type 0
 ends_as (Gives value s) ending = ⊥
@@ -67,7 +68,7 @@ abbrev pub main_with : List CType → List Statement → Function
 main_with locals statements = record { name = codes "main"; parameters = 0; locals = locals; result = Some Int; body = body statements }
 
 abbrev pub one : List CType → List (List Initial) → List Statement → Core
-one locals objects statements = record { objects = objects; imports = []; functions = main_with locals statements ∷ []; main = 0 }
+one locals objects statements = record { objects = objects; definitions = Trusted (main_with locals statements) ∷ []; main = 0 }
 
 abbrev pub number : ℕ → Expression
 number n = Core.Number (pos n)
@@ -117,9 +118,8 @@ abbrev pub falling : Core
 falling =
     record {
       objects = [];
-      imports = [];
-      functions =
-          (record {
+      definitions =
+          Trusted (record {
             name = codes "f";
             parameters = 1;
             locals = Int
@@ -127,7 +127,7 @@ falling =
             result = Some Int;
             body = body (Core.Return (Core.Call (callees.Trusted 0) (Core.More (int_local 0) Core.Done) None) ∷ []);
           })
-          ∷ (main_with [] (Core.Return (Core.Call (callees.Trusted 0) (Core.More (number 0) Core.Done) None) ∷ []) ∷ []);
+          ∷ (Trusted (main_with [] (Core.Return (Core.Call (callees.Trusted 0) (Core.More (number 0) Core.Done) None) ∷ [])) ∷ []);
       main = 1;
     }
 
@@ -152,7 +152,7 @@ struct_ends = ends_as (runs members 100) (Exit (pos 51))
 abbrev valid_between : ℕ → ℤ → ℤ → Bool
 valid_between byte lo hi =
     is_valid (record { bounds = record { base = None; lo = constant lo; hi = constant hi }; size = 1; site = site 1 1 }) (At 0 byte)
-    (initial (one [] ((int_cell 0 ∷ []) ∷ []) []) world)
+    (initial (parted (one [] ((int_cell 0 ∷ []) ∷ []) [])) world)
 
 -- valid are bounds up to both ends of the block, and no further
 abbrev pub within_block : Type 0

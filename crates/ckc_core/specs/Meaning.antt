@@ -15,6 +15,7 @@ use Rattle.ckc_core.specs.declared.program.Index.{Index}
 use Rattle.ckc_core.specs.declared.program.Index.TheVariants as indexes
 use Rattle.ckc_core.specs.declared.program.PointerBounds.{PointerBounds}
 use Rattle.ckc_core.specs.Outcome.{Gives, Ends, Stuck, Unsound, Short, and_then}
+use Rattle.ckc_core.specs.Programs.{parted}
 use Rattle.ckc_core.specs.Core as core
 use Rattle.ckc_core.specs.States.{Value, Number, Null, At, State}
 use Rattle.ckc_core.specs.Bounds.{Pointed, with_ends, is_valid}
@@ -193,7 +194,7 @@ run_from audited g s = and_then (body_of audited g (knot audited g g.budget) (sl
 
 abbrev pub run_of : Bool → core.Core → Settings → List ℤ → List Act → Result (Unit {0})
 run_of audited program settings inputs acts =
-    run_from audited (setting_of program settings) (initial program (new_world (replicate settings.sandbox 0) first_offset inputs acts))
+    run_from audited (setting_of (parted program) settings) (initial (parted program) (new_world (replicate settings.sandbox 0) first_offset inputs acts))
 
 -- what a program means under settings, with these input numbers and acts: how it ends, and the last state
 abbrev pub meaning : core.Core → Settings → List ℤ → List Act → Result (Unit {0})

@@ -209,11 +209,18 @@ pub struct Object {
     pub cells: Vec<Initial>,
 }
 
-/// A whole program: its file-level variables, the tainted functions, the trusted ones, and the number of `main`.
+/// A function of a source, on its side.
+#[derive(Drop)]
+pub enum Definition {
+    Trusted(Function),
+    Tainted(Import),
+}
+
+/// A whole program: its file-level variables, its functions in the order in which they are first declared, and the number
+/// of `main` among those that are trusted. A call names a function by its number among those of its side.
 #[derive(Drop)]
 pub struct Core {
     pub objects: Vec<Object>,
-    pub imports: Vec<Import>,
-    pub functions: Vec<Function>,
+    pub definitions: Vec<Definition>,
     pub main: u32,
 }

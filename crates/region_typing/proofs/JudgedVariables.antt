@@ -19,7 +19,7 @@ use Rattle.region_typing_rules.specs.Items.{Walk, WalkedVariable, with_variable,
 use Rattle.region_typing_scope.specs.Answering.{Answers, answers_so}
 use Rattle.region_typing.specs.declared.initials.Judged as code
 use Rattle.region_typing.specs.Initials.{Judged, judged, judged_as, judged_cells}
-use Rattle.region_typing.specs.Items.{JudgedVariable, judged_variable, with_one, one_variable, judged_variables, judged_initializer, one_object, judged_objects}
+use Rattle.region_typing.specs.Items.{JudgedVariable, judged_variable, with_one, one_variable, judged_variables, judged_initializer, judged_objects}
 use Rattle.region_typing_statements.proofs.Verdicts.{same_behind, in_parts}
 use Rattle.region_typing.proofs.Constants.{cells_judged}
 

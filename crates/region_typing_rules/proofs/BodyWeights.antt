@@ -1,5 +1,5 @@
 -- The bodies of a program that breaks no rule have few nodes.
-use Rattle.std.proofs.Common.{◌≡◌, ℕ, ◌*◌, ◌≤◌, Bool, true, false, List, [], ◌∷◌, ◌++◌, Option, Some, None, subst, arith}
+use Rattle.std.proofs.Common.{◌≡◌, ℕ, ◌*◌, ◌≤◌, Bool, true, false, List, [], ◌∷◌, ◌++◌, Option, Some, None, ap, ◌∙◌, subst, arith}
 use Rattle.std.specs.Prelude.{◌==◌, not, ◌||◌, All}
 use Rattle.std.specs.List.{AllByRecursion}
 use Rattle.std.proofs.lemmas.List.Elements.{All-from_recursion}
@@ -8,7 +8,8 @@ use Rattle.ckc_tree.specs.Items as i
 use Rattle.ckc_tree.specs.Items.{Item, Tree}
 use Rattle.ckc_tree.specs.Weights as tree
 use Rattle.ckc_core.specs.Core as core
-use Rattle.ckc_core.specs.Core.{Core}
+use Rattle.ckc_core.specs.Core.{Core, Parted}
+use Rattle.ckc_core.specs.Programs.{parted}
 use Rattle.ckc_core.specs.Weights.{statements_weight}
 use Rattle.ckc_tree.proofs.NumberedWeights.{same_weight}
 use Rattle.ckc_names_rules.specs.Given.{main, number_in, given_in}
@@ -18,7 +19,8 @@ use Rattle.region_typing_rules.specs.Scopes.{Scope, Signature, Variable}
 use Rattle.region_typing_rules.specs.Expressions.{Places, is_import}
 use Rattle.region_typing_rules.specs.Statements.{statements, is_unchecked, is_checked}
 use Rattle.region_typing_rules.specs.Items.{Defined, Walk, inside, core_function, function_body, item, items, start, walked}
-use Rattle.region_typing_rules.specs.Cores.{body_of, trusted_functions, core_of}
+use Rattle.region_typing_rules.specs.Cores.{body_of, core_of}
+use Rattle.region_typing_rules.proofs.Sides.{trusted_functions, sides_of, sides_parted}
 use Rattle.region_typing_rules.specs.NeverStuck.{HasCore}
 use Rattle.region_typing_rules.proofs.Verdicts.{Promises, passing_promises, needs_promises}
 use Rattle.region_typing_rules.proofs.Walks.{all_append}
@@ -77,14 +79,14 @@ module _ (n : ℕ) where
       chosen true h rest = rest
       chosen false h rest = (h, rest)
 
-  light_walked : (entry : ℕ) (v : Verdict Walk) (c : Core) → Promises HasLight v → passing v (λ w. Passes (core_of entry w)) ≡ Passes c → All (IsLight n) c.functions
+  light_walked : (entry : ℕ) (v : Verdict Walk) (c : Core) → Promises HasLight v → passing v (λ w. Passes (core_of entry w)) ≡ Passes c → All (IsLight n) (parted c).functions
   light_walked entry (Passes w) c h e =
       let same : core_of entry w ≡ c = cc in
-      subst (λ (x : Core). All (IsLight n) x.functions) same (All-from_recursion (IsLight n) (core_of entry w).functions (functions_light w.bodies w.scope.functions h))
+      subst (λ (x : Parted). All (IsLight n) x.functions) (sides_parted entry w ∙ ap parted same) (All-from_recursion (IsLight n) (sides_of entry w).functions (functions_light w.bodies w.scope.functions h))
   light_walked entry (Stops stop) c h e = absurd (cc)
 
-pub light : (at : Places) (t : Tree) (c : Core) → HasCore at t c → All (λ (f : core.Function). statements_weight f.body ≤ 5 * tree.tree_weight t) c.functions
+pub light : (at : Places) (t : Tree) (c : Core) → HasCore at t c → All (λ (f : core.Function). statements_weight f.body ≤ 5 * tree.tree_weight t) (parted c).functions
 light at t c h =
     let n = named_of t in
-    subst (λ weight. All (λ (f : core.Function). statements_weight f.body ≤ 5 * weight) c.functions) (same_weight (number_in n.names) t)
+    subst (λ weight. All (λ (f : core.Function). statements_weight f.body ≤ 5 * weight) (parted c).functions) (same_weight (number_in n.names) t)
     (light_walked (5 * tree.tree_weight n.tree) (number_in n.names main) (walked at n) c (items_light (5 * tree.tree_weight n.tree) at n.tree.items (start (given_in n.names)) n.tree.items (omega arith) tt) h.rules)

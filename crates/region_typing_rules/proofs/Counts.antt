@@ -1,5 +1,5 @@
 -- A program that breaks no rule has few functions.
-use Rattle.std.proofs.Common.{◌≡◌, ℕ, ◌≤◌, Bool, true, false, List, [], ◌∷◌, ◌++◌, length, Option, Some, None, subst, length-append, arith}
+use Rattle.std.proofs.Common.{◌≡◌, ℕ, ◌≤◌, Bool, true, false, List, [], ◌∷◌, ◌++◌, length, Option, Some, None, subst, length-append, arith, ap, ◌∙◌}
 use Rattle.std.specs.Prelude.{nat_lt, not, is_some, ◌||◌}
 use Rattle.std.proofs.lemmas.Bool.Decides.{nat_tests}
 use Rattle.ckc_text.specs.declared.code.Code.TheVariants.{E15}
@@ -7,6 +7,7 @@ use Rattle.ckc_tree.specs.Items as i
 use Rattle.ckc_tree.specs.Items.{Item, Tree}
 use Rattle.ckc_core.specs.Core as core
 use Rattle.ckc_core.specs.Core.{Core}
+use Rattle.ckc_core.specs.Programs.{parted}
 use Rattle.ckc_names_rules.specs.Given.{main, number_in, given_in}
 use Rattle.ckc_names_rules.specs.Naming.{named_of}
 use Rattle.region_typing_rules.specs.Verdicts.{Verdict, Passes, Stops, passing, picked}
@@ -14,7 +15,8 @@ use Rattle.region_typing_rules.specs.Scopes.{Scope, Signature, Variable, functio
 use Rattle.region_typing_rules.specs.Expressions.{Places, is_import}
 use Rattle.region_typing_rules.specs.Statements.{statements, is_unchecked, is_checked}
 use Rattle.region_typing_rules.specs.Items.{Defined, Walk, with_function, inside, core_function, function_body, function, item, items, start, walked}
-use Rattle.region_typing_rules.specs.Cores.{body_of, trusted_functions, tainted_functions, core_of}
+use Rattle.region_typing_rules.specs.Cores.{body_of, core_of}
+use Rattle.region_typing_rules.proofs.Sides.{trusted_functions, tainted_functions, sides_parted}
 use Rattle.region_typing_rules.specs.Lowerable.{HasFewFunctions}
 use Rattle.region_typing_rules.specs.NeverStuck.{HasCore}
 use Rattle.region_typing_rules.proofs.Verdicts.{Promises, passing_promises, needs_promises}
@@ -72,13 +74,13 @@ tainted_fewer (f ∷ functions) =
     let rest = tainted_fewer functions in
     picked_length (is_import f) (record { name = f.text; parameters = length f.parameters; result = f.result } ∷ tainted_functions functions) (tainted_functions functions) (length (f ∷ functions)) (omega (arith, rest)) (omega (arith, rest))
 
-few_walked : (entry : ℕ) (v : Verdict Walk) (c : Core) → Promises HasFew v → passing v (λ w. Passes (core_of entry w)) ≡ Passes c → HasFewFunctions c
+few_walked : (entry : ℕ) (v : Verdict Walk) (c : Core) → Promises HasFew v → passing v (λ w. Passes (core_of entry w)) ≡ Passes c → HasFewFunctions (parted c)
 few_walked entry (Passes w) c h e =
     let same : core_of entry w ≡ c = cc in
-    subst HasFewFunctions same (record { functions = omega (arith, h, trusted_fewer w.bodies w.scope.functions); imports = omega (arith, h, tainted_fewer w.scope.functions) })
+    subst HasFewFunctions (sides_parted entry w ∙ ap parted same) (record { functions = omega (arith, h, trusted_fewer w.bodies w.scope.functions); imports = omega (arith, h, tainted_fewer w.scope.functions) })
 few_walked entry (Stops stop) c h e = absurd (cc)
 
-pub few : (at : Places) (t : Tree) (c : Core) → HasCore at t c → HasFewFunctions c
+pub few : (at : Places) (t : Tree) (c : Core) → HasCore at t c → HasFewFunctions (parted c)
 few at t c h =
     let n = named_of t in
     few_walked (number_in n.names main) (walked at n) c (items_few at n.tree.items (start (given_in n.names)) n.tree.items (omega arith)) h.rules

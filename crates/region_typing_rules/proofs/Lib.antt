@@ -12,6 +12,7 @@ pub mod Expressions
 pub mod Growth
 pub mod Statements
 pub mod Layouts
+pub mod Sides
 pub mod Signatures
 pub mod Walks
 pub mod Items

@@ -15,7 +15,7 @@ use Rattle.act_words.specs.Touches.{Crossed, until_return}
 use Rattle.pointer_modes.specs.Types.{CType, Int, Structure}
 use Rattle.ckc_core.specs.Core as core
 use Rattle.ckc_core.specs.States.{Value, Number, Null, At, Shape, State, initial_value, object_block}
-use Rattle.ckc_core.specs.Programs.{Initial}
+use Rattle.ckc_core.specs.Programs.{Initial, parted}
 use Rattle.ckc_core.specs.Audits.{Agrees}
 use Rattle.ckc_core.specs.Steps.{Result, crossed, Flow, Next, Broke, Continued, Returned, parameters_of, fits_result, answer_if, answer, default_result, locals_for, back, exit, initial}
 use Rattle.ckc_core.specs.Meaning.{Setting, knot, body_if, body_of, effects, effect, meaning, audited_meaning}
@@ -133,12 +133,12 @@ module _ (structs : List Structure) (b : List Shape) where
 abbrev AuditEnds : core.Core → Settings → List ℤ → List Act → Type 0
 AuditEnds program settings inputs acts = (ending : Ending) × (s : State) × (audited_meaning program settings inputs acts ≡ Ends ending s)
 
-audit_ends : (program : core.Core) → IsTyped program → (settings : Settings) (inputs : List ℤ) (acts : List Act) → All (λ z. IsTrue (is_word_number z)) inputs → All IsAct acts → AuditEnds program settings inputs acts
+audit_ends : (program : core.Core) → IsTyped (parted program) → (settings : Settings) (inputs : List ℤ) (acts : List Act) → All (λ z. IsTrue (is_word_number z)) inputs → All IsAct acts → AuditEnds program settings inputs acts
 audit_ends program types settings inputs acts words all =
-    let g : Frame = record { program = program; structs = types.structs } in
+    let g : Frame = record { program = parted program; structs = types.structs } in
     let n = settings.budget in
     let f = types.main in
-    let start = initial program (new_world (replicate settings.sandbox 0) first_offset inputs acts) in
+    let start = initial (parted program) (new_world (replicate settings.sandbox 0) first_offset inputs acts) in
     let kept : IsKept g n n 0 [] start = record {
       grown = grows_here (shaped start);
       cells = start_blocks types.structs (shaped start) program.objects types.objects;
@@ -150,14 +150,14 @@ audit_ends program types settings inputs acts words all =
     run_ends g n n 0 [] (shaped start) f.0.result _ f.3
     (body_goes g n settings.sandbox settings.trusted types.functions n n (knots g n settings.sandbox settings.trusted types.functions n) 0 [] program.main f.0 [] start f.1 (subst (λ ts. OfTypes g ts (shaped start) []) (sym none) tt) (omega arith) kept)
 
-pub never_unsound : (program : core.Core) → IsTyped program → NeverUnsound program
+pub never_unsound : (program : core.Core) → IsTyped (parted program) → NeverUnsound program
 never_unsound program types settings inputs acts words all site s unsound = let ends = audit_ends program types settings inputs acts words all in absurd (cc)
 
-pub never_stuck : (program : core.Core) → IsTyped program → NeverStuck program
+pub never_stuck : (program : core.Core) → IsTyped (parted program) → NeverStuck program
 never_stuck program types settings inputs acts words all site s stuck = let ends = audit_ends program types settings inputs acts words all in absurd (cc)
 
 -- so the run without the audit ends too, and as this one
-pub always_ends : (program : core.Core) → IsTyped program → AlwaysEnds program
+pub always_ends : (program : core.Core) → IsTyped (parted program) → AlwaysEnds program
 always_ends program types settings inputs acts words all =
     let ends = audit_ends program types settings inputs acts words all in
     let same : Agrees (Ends ends.0 ends.1) (meaning program settings inputs acts) = subst (λ o. Agrees o (meaning program settings inputs acts)) ends.2 (changes_nothing program settings inputs acts) in

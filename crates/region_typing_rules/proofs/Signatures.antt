@@ -13,7 +13,8 @@ use Rattle.region_typing_rules.specs.Scopes.{Signature, function_named}
 use Rattle.region_typing_rules.specs.Types.{is_scalar}
 use Rattle.region_typing_rules.specs.Expressions.{is_import, counted, same_side, side_number}
 use Rattle.region_typing_rules.specs.Items.{Defined, same_types, same_result, same_kind, agrees, all_scalar, scalar_result}
-use Rattle.region_typing_rules.specs.Cores.{body_of, trusted_functions, tainted_functions}
+use Rattle.region_typing_rules.specs.Cores.{body_of}
+use Rattle.region_typing_rules.proofs.Sides.{trusted_functions, tainted_functions}
 use Rattle.region_typing_rules.specs.Typed.{IsScalar, IsScalarResult, IsNumberResult}
 use Rattle.region_typing_rules.proofs.Knowledge.{IsNumberType, same_equal}
 

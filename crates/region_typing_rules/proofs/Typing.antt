@@ -19,7 +19,7 @@ use Rattle.ckc_names_rules.specs.Given.{main, number_in, given_in}
 use Rattle.ckc_names_rules.specs.Mentions.{tree_mentions}
 use Rattle.ckc_names_rules.specs.Scopes.{Scopes, all_mentioned, at_file_level}
 use Rattle.ckc_names_rules.specs.Naming.{is_int, takes_nothing, is_main, has_main, naming_fault, names_of, named_of}
-use Rattle.ckc_core.specs.Programs.{Initial, Import}
+use Rattle.ckc_core.specs.Programs.{Initial, Import, parted}
 use Rattle.ckc_core.specs.Core as core
 use Rattle.ckc_core.specs.Core.{Core}
 use Rattle.ckc_core.proofs.Elements.{of_element}
@@ -27,7 +27,8 @@ use Rattle.region_typing_rules.specs.Verdicts.{Verdict, Passes, Stops, passing}
 use Rattle.region_typing_rules.specs.Scopes.{function_named}
 use Rattle.region_typing_rules.specs.Expressions.{Places, side_number}
 use Rattle.region_typing_rules.specs.Items.{Walk, walked, start}
-use Rattle.region_typing_rules.specs.Cores.{body_of, trusted_functions, core_of}
+use Rattle.region_typing_rules.specs.Cores.{body_of, core_of}
+use Rattle.region_typing_rules.proofs.Sides.{trusted_functions, sides_of, sides_parted}
 use Rattle.region_typing_rules.specs.Typed.{IsFunction, IsTyped}
 use Rattle.region_typing_rules.specs.Lowerable.{IsRoomy, IsSmall, IsSmallCore}
 use Rattle.region_typing_rules.specs.NeverStuck.{HasCore}
@@ -49,7 +50,7 @@ main_there t h = by (has_main t) (all_mentioned (tree_mentions t) at_file_level)
 no_parameters : (f : core.Function) → f.parameters ≤ length f.locals → take f.parameters f.locals ≡ [] → f.parameters ≡ 0
 no_parameters f few none = omega (arith, length-take-le f.parameters f.locals few, ap length none)
 
-typed_walk : (height entry : ℕ) (a w : Walk) → Passed height entry a true w → IsTyped (core_of entry w)
+typed_walk : (height entry : ℕ) (a w : Walk) → Passed height entry a true w → IsTyped (sides_of entry w)
 typed_walk height entry a w h =
     let well = h.follows.well in
     let main = h.main refl in
@@ -71,8 +72,8 @@ typed_walk height entry a w h =
 start_well : (height : ℕ) (given : Given) → IsWell height (start given)
 start_well height given = record { closed = record { tagged = omega arith; of_members = λ n. tt; of_functions = tt; of_variables = tt; of_locals = tt }; few = λ n. omega arith; scalars = λ n. tt; start = tt; declared = tt; bodies = tt; roomy = tt; bytes = omega arith; room = omega arith }
 
-walked_typed : (height entry : ℕ) (a : Walk) (v : Verdict Walk) (c : Core) → Promises (Passed height entry a true) v → passing v (λ w. Passes (core_of entry w)) ≡ Passes c → IsTyped c
-walked_typed height entry a (Passes w) c h e = let same : core_of entry w ≡ c = cc in subst IsTyped same (typed_walk height entry a w h)
+walked_typed : (height entry : ℕ) (a : Walk) (v : Verdict Walk) (c : Core) → Promises (Passed height entry a true) v → passing v (λ w. Passes (core_of entry w)) ≡ Passes c → IsTyped (parted c)
+walked_typed height entry a (Passes w) c h e = let same : core_of entry w ≡ c = cc in subst IsTyped (sides_parted entry w ∙ ap parted same) (typed_walk height entry a w h)
 walked_typed height entry a (Stops stop) c h e = absurd (cc)
 
 -- numbers change nothing of `main`, and give its name
@@ -131,7 +132,7 @@ whole_walk at t c h =
     subst (λ b. Promises (Passed (height t) (entry_of t) (start_of t) b) (walked at n)) found
     (items_promise (height t) (entry_of t) at n.tree.items (start_of t) n.tree.items (named_mains of t.items) forms (omega (arith, high)) (start_well (height t) (given_in n.names)) tt)
 
-pub typed : (at : Places) (t : Tree) (c : Core) → HasCore at t c → IsTyped c
+pub typed : (at : Places) (t : Tree) (c : Core) → HasCore at t c → IsTyped (parted c)
 typed at t c h = walked_typed (height t) (entry_of t) (start_of t) (walked at (named_of t)) c (whole_walk at t c h) h.rules
 
 -- ---- what can be lowered
@@ -148,7 +149,7 @@ small_more : (n m : ℕ) → n ≤ m → (functions : List core.Function) → Al
 small_more n m le [] all = tt
 small_more n m le (f ∷ functions) all = (record { few_parameters = all.0.few_parameters; held = all.0.held; few_locals = all.0.few_locals; low = let low = all.0.low in omega arith }, small_more n m le functions all.1)
 
-small_walk : (h : ℕ) → h ≤ 200 → (entry : ℕ) (a w : Walk) → Passed h entry a true w → IsSmallCore (core_of entry w)
+small_walk : (h : ℕ) → h ≤ 200 → (entry : ℕ) (a w : Walk) → Passed h entry a true w → IsSmallCore (sides_of entry w)
 small_walk h le entry a w passed =
     let well = passed.follows.well in
     let main = (typed_walk h entry a w passed).main in
@@ -156,14 +157,14 @@ small_walk h le entry a w passed =
     record {
       cells = All-from_recursion (λ (cells : List Initial). All IsRoomy cells × (0 < length cells)) w.objects (roomy_each w.objects well.roomy);
       objects = omega (arith, well.bytes, well.room);
-      imports = All-from_recursion (λ (x : Import). x.parameters ≤ 16) (core_of entry w).imports (imports_small h entry w well passed.follows.settled w.scope.functions well.declared);
-      functions = All-from_recursion (IsSmall 3400) (core_of entry w).functions (small_more (17 * h) 3400 (omega arith) (core_of entry w).functions functions);
+      imports = All-from_recursion (λ (x : Import). x.parameters ≤ 16) (sides_of entry w).imports (imports_small h entry w well passed.follows.settled w.scope.functions well.declared);
+      functions = All-from_recursion (IsSmall 3400) (sides_of entry w).functions (small_more (17 * h) 3400 (omega arith) (sides_of entry w).functions functions);
       main = (main.0, main.1, main.2);
     }
 
-small_walked : (h : ℕ) → h ≤ 200 → (entry : ℕ) (a : Walk) (v : Verdict Walk) (c : Core) → Promises (Passed h entry a true) v → passing v (λ w. Passes (core_of entry w)) ≡ Passes c → IsSmallCore c
-small_walked h le entry a (Passes w) c passed e = let same : core_of entry w ≡ c = cc in subst IsSmallCore same (small_walk h le entry a w passed)
+small_walked : (h : ℕ) → h ≤ 200 → (entry : ℕ) (a : Walk) (v : Verdict Walk) (c : Core) → Promises (Passed h entry a true) v → passing v (λ w. Passes (core_of entry w)) ≡ Passes c → IsSmallCore (parted c)
+small_walked h le entry a (Passes w) c passed e = let same : core_of entry w ≡ c = cc in subst IsSmallCore (sides_parted entry w ∙ ap parted same) (small_walk h le entry a w passed)
 small_walked h le entry a (Stops stop) c passed e = absurd (cc)
 
-pub small : (at : Places) (t : Tree) (c : Core) → HasCore at t c → height t ≤ 200 → IsSmallCore c
+pub small : (at : Places) (t : Tree) (c : Core) → HasCore at t c → height t ≤ 200 → IsSmallCore (parted c)
 small at t c h le = small_walked (height t) le (entry_of t) (start_of t) (walked at (named_of t)) c (whole_walk at t c h) h.rules

@@ -12,7 +12,8 @@ use Rattle.region_typing_rules.specs.Verdicts.{picked}
 use Rattle.region_typing_rules.specs.Scopes.{Scope, Signature, Variable, function_named}
 use Rattle.region_typing_rules.specs.Expressions.{is_import, side_number}
 use Rattle.region_typing_rules.specs.Items.{Defined, Walk}
-use Rattle.region_typing_rules.specs.Cores.{body_of, trusted_functions, tainted_functions, core_of}
+use Rattle.region_typing_rules.specs.Cores.{body_of}
+use Rattle.region_typing_rules.proofs.Sides.{trusted_functions, tainted_functions, sides_of}
 use Rattle.region_typing_rules.specs.Typed as rules
 use Rattle.region_typing_rules.specs.Typed.{Frame, HasRow, IsScalar, IsFunction, IsInitial}
 use Rattle.region_typing_rules.specs.Lowerable.{objects_size, IsRoomy, IsSmall}
@@ -133,7 +134,7 @@ body_suits height s (b ∷ bodies) f all named = by (f.name == b.name) refl (bod
 
 module _ (height entry : ℕ) (w : Walk) (well : IsWell height w) (settled : AreSettled w.scope.structs w.scope.variables w.objects) where
   abbrev pub frame : Frame
-  frame = record { program = core_of entry w; structs = w.scope.structs }
+  frame = record { program = sides_of entry w; structs = w.scope.structs }
 
   trusted_known : (name : ℕ) (f : Signature) → function_named w.scope.functions name ≡ Some f → is_import f ≡ false → IsTrusted frame (side_number false w.scope.functions f.name 0) f
   trusted_known name f found side =

@@ -4,7 +4,7 @@ use Rattle.ckc_text.specs.declared.fault.Refused.{Refused}
 use Rattle.ckc_text.specs.declared.fault.Refused.TheVariants.{Source, NoMemory}
 use Rattle.ckc_names_rules.specs.Given.{main, number_in}
 use Rattle.ckc_names_rules.specs.Naming.{NamedTree}
-use Rattle.ckc_core.specs.Programs.{Import}
+use Rattle.ckc_core.specs.Programs.{Import, Definition, Trusted, Tainted}
 use Rattle.ckc_core.specs.Core as core
 use Rattle.ckc_core.specs.Core.{Core}
 use Rattle.region_typing_rules.specs.Verdicts.{Verdict, Passes, Breaks, passing, picked}
@@ -21,24 +21,25 @@ abbrev pub body_of : List Defined → Signature → core.Function
 body_of [] f = without_body f
 body_of (b ∷ bodies) f = picked (f.name == b.name) b.function (body_of bodies f)
 
--- functions that aren't tainted in the order in which their names are first declared
-abbrev pub trusted_functions : List Defined → List Signature → List core.Function
-trusted_functions bodies [] = []
-trusted_functions bodies (f ∷ functions) = picked (is_import f) (trusted_functions bodies functions) (body_of bodies f ∷ trusted_functions bodies functions)
+-- a tainted function
+abbrev pub import_of : Signature → Import
+import_of f = record { name = f.text; parameters = length f.parameters; result = f.result }
 
--- tainted functions in that order
-abbrev pub tainted_functions : List Signature → List Import
-tainted_functions [] = []
-tainted_functions (f ∷ functions) = picked (is_import f) (record { name = f.text; parameters = length f.parameters; result = f.result }
-    ∷ tainted_functions functions) (tainted_functions functions)
+-- a function on its side
+abbrev pub definition_of : List Defined → Signature → Definition core.Statements
+definition_of bodies f = picked (is_import f) (Tainted (import_of f)) (Trusted (body_of bodies f))
+
+-- the functions in the order in which their names are first declared
+abbrev pub definitions_of : List Defined → List Signature → List (Definition core.Statements)
+definitions_of bodies [] = []
+definitions_of bodies (f ∷ functions) = definition_of bodies f ∷ definitions_of bodies functions
 
 -- the core of what was walked, where this is the name of `main`: it is there where naming finds no fault
 abbrev pub core_of : ℕ → Walk → Core
 core_of entry w =
     record {
       objects = w.objects;
-      imports = tainted_functions w.scope.functions;
-      functions = trusted_functions w.bodies w.scope.functions;
+      definitions = definitions_of w.bodies w.scope.functions;
       main = side_number false w.scope.functions entry 0;
     }
 

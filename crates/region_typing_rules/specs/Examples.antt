@@ -24,6 +24,7 @@ use Rattle.bounds_exprs.specs.Normal.{constant}
 use Rattle.pointer_modes.specs.declared.ctype.Mode.TheVariants as modes
 use Rattle.pointer_modes.specs.declared.ctype.Kind.TheVariants as kinds
 use Rattle.pointer_modes.specs.Types.{Int, Pointer}
+use Rattle.ckc_core.specs.Programs.{Trusted}
 use Rattle.ckc_core.specs.declared.program.Site.{Site}
 use Rattle.act_words.specs.declared.operator.ArithmeticOperator.TheVariants as arithmetics
 use Rattle.act_words.specs.declared.operator.Operator.TheVariants as operators
@@ -111,8 +112,7 @@ first_run =
     becomes (checked at (named_of small_program))
     (record {
       objects = (record { type = Int; stride = 4; number = pos 1 } ∷ []) ∷ [];
-      imports = [];
-      functions = record {
+      definitions = Trusted (record {
         name = codes "main";
         parameters = 0;
         locals = Pointer modes.Checked kinds.One Int ∷ [];
@@ -123,7 +123,7 @@ first_run =
             (core.Then (core.Store Int (core.Through (core.Local 0 (one_int place)) indexes.First 0 place) (core.Number (pos 41)))
             (core.Then (core.Return (core.Arithmetic (operators.Arithmetic arithmetics.Add)
             (core.Load Int (core.Direct 0 0) None) (core.Number (pos 1)) place)) core.NoMore));
-      } ∷ [];
+      }) ∷ [];
       main = 0;
     })
 

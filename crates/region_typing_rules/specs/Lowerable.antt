@@ -4,7 +4,7 @@ use Rattle.flat_bytes.specs.Blocks.{rounded_up}
 use Rattle.act_words.specs.Checks.{is_word_number}
 use Rattle.pointer_modes.specs.Layout.{scalar_size}
 use Rattle.ckc_core.specs.Programs.{Initial, Import}
-use Rattle.ckc_core.specs.Core.{Function, Core}
+use Rattle.ckc_core.specs.Core.{Function, Parted}
 use Rattle.ckc_core.specs.States.{Null, has_type, initial_value}
 use Rattle.ckc_core.specs.Stacks.{statements_stack}
 
@@ -34,7 +34,7 @@ pub record IsSmall (words : ℕ) (f : Function) : Type 0 where
 
 -- the whole program: each variable has cells, and all of them take few bytes; tainted functions take few parameters; the body of
 -- each trusted one leaves room in its frame; and `main` is there and takes nothing
-pub record IsSmallCore (c : Core) : Type 0 where
+pub record IsSmallCore (c : Parted) : Type 0 where
   pub cells : All (λ (cells : List Initial). All IsRoomy cells × (0 < length cells)) c.objects
   pub objects : objects_size c.objects ≤ 32768
   pub imports : All (λ (i : Import). i.parameters ≤ 16) c.imports
@@ -42,6 +42,6 @@ pub record IsSmallCore (c : Core) : Type 0 where
   pub main : (f : Function) × (slice_get c.functions c.main ≡ Some f) × (f.parameters ≡ 0)
 
 -- functions are numbered, and there are few of each side
-pub record HasFewFunctions (c : Core) : Type 0 where
+pub record HasFewFunctions (c : Parted) : Type 0 where
   pub functions : length c.functions ≤ 4096
   pub imports : length c.imports ≤ 4096

@@ -16,15 +16,15 @@ use Rattle.ckc_core.specs.declared.program.Index.TheVariants as indexes
 use Rattle.ckc_core.specs.declared.program.PointerBounds.{PointerBounds}
 use Rattle.ckc_core.specs.Programs.{Initial, Import}
 use Rattle.ckc_core.specs.Core as core
-use Rattle.ckc_core.specs.Core.{Core, Function, Expression, Arguments, Place, Statement, Statements}
+use Rattle.ckc_core.specs.Core.{Parted, Function, Expression, Arguments, Place, Statement, Statements}
 use Rattle.ckc_core.specs.States.{Value, Number, Null, At, Shape, shape, type_at, has_type, initial_value, object_block}
 use Rattle.ckc_core.specs.Steps.{is_char}
 use Rattle.region_typing_rules.specs.Types.{is_number, is_scalar}
 use Rattle.region_typing_rules.specs.Expressions.{bounds_at}
 
--- what the parts of a program are typed in: the program, and its structs
+-- what the parts of a program are typed in: its two sides, and its structs
 pub record Frame : Type 0 where
-  pub program : Core
+  pub program : Parted
   pub structs : List Structure
 
 -- ---- values
@@ -196,8 +196,8 @@ pub record IsFunction (g : Frame) (f : Function) : Type 0 where
 abbrev pub IsInitial : List Structure → Initial → Type 0
 IsInitial structs i = HasValue structs [] i.type (initial_value i.type i.number)
 
--- a program with its structs has types, and a `main` without parameters that gives a number
-pub record IsTyped (program : Core) : Type 0 where
+-- a program of two sides with its structs has types, and a `main` without parameters that gives a number
+pub record IsTyped (program : Parted) : Type 0 where
   pub structs : List Structure
   pub objects : AllByRecursion (AllByRecursion (IsInitial structs)) program.objects
   pub functions : AllByRecursion (IsFunction (record { program = program; structs = structs })) program.functions

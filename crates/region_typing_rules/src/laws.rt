@@ -7,6 +7,7 @@ ghost use Rattle.ckc_tree.specs.Weights.{tree_weight};
 ghost use Rattle.ckc_names_rules.specs.Naming.{naming_fault, named_of};
 ghost use Rattle.built_forms.specs.Built.{is_built};
 ghost use Rattle.ckc_core.specs.Core.{Core};
+ghost use Rattle.ckc_core.specs.Programs.{parted};
 ghost use Rattle.ckc_core.specs.Weights.{statements_weight};
 ghost use Rattle.region_typing_rules.specs.Verdicts.{Unnamed};
 ghost use Rattle.region_typing_rules.specs.Expressions.{Places};
@@ -26,13 +27,13 @@ pub fn examples()
 
 /// The core of a program that breaks no rule has types, and an audited run of what has types is never stuck.
 pub fn never_stuck()
-    ensures typed { (at : Places) (t : Tree) (c : Core) → HasCore at t c → IsTyped c }
-    ensures stuck { (program : Core) → IsTyped program → NeverStuck program }
+    ensures typed { (at : Places) (t : Tree) (c : Core) → HasCore at t c → IsTyped (parted c) }
+    ensures stuck { (program : Core) → IsTyped (parted program) → NeverStuck program }
 {}
 
 /// In an audited run of what has types each pointer is valid with its bounds.
 pub fn never_unsound()
-    ensures { (program : Core) → IsTyped program → NeverUnsound program }
+    ensures { (program : Core) → IsTyped (parted program) → NeverUnsound program }
 {}
 
 /// The run of a program that breaks no rule ends, and it is the audited one.
@@ -42,7 +43,7 @@ pub fn always_ends()
 
 /// The core of a program that breaks no rule and whose tree isn't too high is small enough to be lowered.
 pub fn lowerable()
-    ensures { (at : Places) (t : Tree) (c : Core) → HasCore at t c → height t ≤ 200 → IsSmallCore c }
+    ensures { (at : Places) (t : Tree) (c : Core) → HasCore at t c → height t ≤ 200 → IsSmallCore (parted c) }
 {}
 
 /// Where naming finds no fault, each name stands for something in the rules too.
@@ -52,10 +53,10 @@ pub fn named()
 
 /// The core of a program that breaks no rule has few functions of each side.
 pub fn few_functions()
-    ensures { (at : Places) (t : Tree) (c : Core) → HasCore at t c → HasFewFunctions c }
+    ensures { (at : Places) (t : Tree) (c : Core) → HasCore at t c → HasFewFunctions (parted c) }
 {}
 
 /// The body of each function of a program that breaks no rule has at most five nodes for each node of its tree.
 pub fn few_nodes()
-    ensures { (at : Places) (t : Tree) (c : Core) → HasCore at t c → All (λ f. statements_weight f.body ≤ 5 * tree_weight t) c.functions }
+    ensures { (at : Places) (t : Tree) (c : Core) → HasCore at t c → All (λ f. statements_weight f.body ≤ 5 * tree_weight t) (parted c).functions }
 {}

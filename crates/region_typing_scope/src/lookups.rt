@@ -35,8 +35,8 @@ impl Scope {
         self.variable_places.get(name)
     }
 
-    // The place of the first function that has this name.
-    fn function_place(&self, name: usize) -> Option<usize>
+    /// The place of the first function that has this name.
+    pub fn function_place(&self, name: usize) -> Option<usize>
         ensures { result ≡ position (λ f. name == f.name) self.now.functions.items }
     {
         self.function_places.get(name)

@@ -1,12 +1,16 @@
-use Rattle.std.proofs.Common.{◌∷◌, map, refl, arith}
+use Rattle.std.proofs.Common.{◌<◌, length, map, get_or, refl, arith}
 use Rattle.ckc_core.specs.Core.{import_of}
-use Rattle.check_insertion.proofs.Made.{made_more, made_all}
+use Rattle.check_insertion.specs.Sides.{tainted_at}
+use Rattle.check_insertion.proofs.Named.{named_more, named_all, item_same, imports_one}
 use Rattle.check_insertion.proofs.copies.imports.Goals as goal
 
-pub loop-i-preserved : goal.loop-i-preserved
-loop-i-preserved c =
-    made_more import_of (λ s ss. s ∷ ss) (map import_of) import_of (λ x rest. refl) c.args.imports.now c.loop-i.i-index c.i-item.result c.loop-i.copies.items c.push.new.self.items c.in_ok-import.field-0
-    (omega (arith, c.loop-i-test.true)) c.i-item.is c.in_ok-push.ensures.items c.in_ok-import.ensures c.loop-i.invariant
+pub loop-number-preserved : goal.loop-number-preserved
+loop-number-preserved c =
+    let numbers = c.args.numbers.now in
+    let i = c.loop-number.number-index in
+    let less : i < length numbers = omega (arith, c.loop-number-test.true) in
+    named_more (tainted_at c.args.definitions.now) (imports_one c.args.definitions.now) numbers i (get_or numbers i 0) (map import_of c.loop-number.copies.items) (map import_of c.push_import.new.copies.items)
+    less (item_same numbers i 0 (get_or numbers i 0) less) c.in_ok-push_import.ensures c.loop-number.invariant
 
 pub returns : goal.returns
-returns c = made_all import_of (λ s ss. s ∷ ss) (map import_of) (map import_of) refl (λ y ys. refl) c.args.imports.now c.loop-i.i-index c.loop-i.copies.items (omega (arith, c.loop-i-test.false)) c.loop-i.invariant
+returns c = named_all (tainted_at c.args.definitions.now) refl c.args.numbers.now c.loop-number.number-index (map import_of c.loop-number.copies.items) (omega (arith, c.loop-number-test.false)) c.loop-number.invariant

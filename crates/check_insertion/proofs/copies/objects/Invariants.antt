@@ -1,8 +1,8 @@
-use Rattle.std.proofs.Common.{◌≡◌, ◌∷◌, map, drop}
+use Rattle.std.proofs.Common.{◌≡◌, ◌++◌, map, drop}
 use Rattle.ckc_core.specs.Core.{object}
-use Rattle.check_insertion.proofs.Made.{before}
+use Rattle.partitioner.specs.Parts.{named}
 use Rattle.check_insertion.proofs.copies.objects.Given as goal
 
 -- the variables so far, and those that are left
-abbrev pub invariant-loop-o : goal.invariant-loop-o
-invariant-loop-o l = map object l.objects ≡ before object (λ s ss. s ∷ ss) l.copies.items (map object (drop l.o-index l.objects))
+abbrev pub invariant-loop-number : goal.invariant-loop-number
+invariant-loop-number l = map object (named l.objects l.numbers) ≡ map object l.copies.items ++ map object (named l.objects (drop l.number-index l.numbers))

@@ -1,7 +1,6 @@
 use Rattle.std.proofs.Common.{◌≡◌, ap, ◌∙◌}
 use Rattle.ckc_text.specs.Places.{place_at}
 use Rattle.ckc_names.specs.Named.{named_tree}
-use Rattle.ckc_core.specs.Core.{core}
 use Rattle.region_typing.specs.Items.{walk}
 use Rattle.region_typing.proofs.Checks.{never_unnamed, outside_at_start}
 use Rattle.region_typing.proofs.checker.check.Goals as goal

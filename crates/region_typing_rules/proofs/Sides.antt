@@ -1,0 +1,53 @@
+-- The two sides of a program that was walked.
+use Rattle.std.proofs.Common.{◌≡◌, ℕ, Bool, true, false, List, [], ◌∷◌, refl, ap}
+use Rattle.ckc_core.specs.Programs.{Import, Trusted, Tainted, trusted_of, tainted_of, parted}
+use Rattle.ckc_core.specs.Core as core
+use Rattle.ckc_core.specs.Core.{Parted}
+use Rattle.region_typing_rules.specs.Verdicts.{picked}
+use Rattle.region_typing_rules.specs.Scopes.{Signature}
+use Rattle.region_typing_rules.specs.Expressions.{is_import, side_number}
+use Rattle.region_typing_rules.specs.Items.{Defined, Walk}
+use Rattle.region_typing_rules.specs.Cores.{body_of, import_of, definitions_of, core_of}
+
+-- functions that aren't tainted, in their order
+abbrev pub trusted_functions : List Defined → List Signature → List core.Function
+trusted_functions bodies [] = []
+trusted_functions bodies (f ∷ functions) = picked (is_import f) (trusted_functions bodies functions) (body_of bodies f ∷ trusted_functions bodies functions)
+
+-- tainted functions in that order
+abbrev pub tainted_functions : List Signature → List Import
+tainted_functions [] = []
+tainted_functions (f ∷ functions) = picked (is_import f) (import_of f ∷ tainted_functions functions) (tainted_functions functions)
+
+-- the two sides of what was walked
+abbrev pub sides_of : ℕ → Walk → Parted
+sides_of entry w =
+    record {
+      objects = w.objects;
+      imports = tainted_functions w.scope.functions;
+      functions = trusted_functions w.bodies w.scope.functions;
+      main = side_number false w.scope.functions entry 0;
+    }
+
+trusted_same : (bodies : List Defined) (functions : List Signature) → trusted_functions bodies functions ≡ trusted_of (definitions_of bodies functions)
+trusted_same bodies [] = refl
+trusted_same bodies (f ∷ functions) = by (is_import f) (trusted_same bodies functions)
+  where
+    by : (test : Bool) → trusted_functions bodies functions ≡ trusted_of (definitions_of bodies functions)
+        → picked test (trusted_functions bodies functions) (body_of bodies f ∷ trusted_functions bodies functions)
+        ≡ trusted_of (picked test (Tainted (import_of f)) (Trusted (body_of bodies f)) ∷ definitions_of bodies functions)
+    by true again = again
+    by false again = ap (λ fs. body_of bodies f ∷ fs) again
+
+tainted_same : (bodies : List Defined) (functions : List Signature) → tainted_functions functions ≡ tainted_of (definitions_of bodies functions)
+tainted_same bodies [] = refl
+tainted_same bodies (f ∷ functions) = by (is_import f) (tainted_same bodies functions)
+  where
+    by : (test : Bool) → tainted_functions functions ≡ tainted_of (definitions_of bodies functions)
+        → picked test (import_of f ∷ tainted_functions functions) (tainted_functions functions)
+        ≡ tainted_of (picked test (Tainted (import_of f)) (Trusted (body_of bodies f)) ∷ definitions_of bodies functions)
+    by true again = ap (λ fs. import_of f ∷ fs) again
+    by false again = again
+
+pub sides_parted : (entry : ℕ) (w : Walk) → sides_of entry w ≡ parted (core_of entry w)
+sides_parted entry w = rw (trusted_same w.bodies w.scope.functions, tainted_same w.bodies w.scope.functions) refl
