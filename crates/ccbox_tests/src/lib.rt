@@ -38,6 +38,8 @@ mod questions;
 #[cfg(test)]
 mod random_facts;
 #[cfg(test)]
+mod recordings;
+#[cfg(test)]
 mod rows;
 #[cfg(test)]
 mod rules;

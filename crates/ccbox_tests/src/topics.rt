@@ -9,6 +9,8 @@ use crate::limits::limits;
 use crate::memories::memories_and_layouts;
 use crate::options::options;
 use crate::printing::printing;
+use crate::recordings::keeps_acts;
+use crate::rows::expect;
 use crate::rules::names_and_types;
 use crate::runs::{dumps, runs};
 use crate::tokens::lexing;
@@ -38,6 +40,7 @@ fn programs(rt: HostRuntime) -> Result<(), Fail> {
 #[test]
 fn sandbox_acts(rt: HostRuntime) -> Result<(), Fail> {
     acts(rt.alloc())?;
+    expect("kept acts", keeps_acts(rt.alloc()))?;
     sandboxes(rt.alloc())?;
     files_and_outputs(&rt)
 }
