@@ -7,3 +7,9 @@ pub mod LinesBack
 pub mod Texts
 pub mod ImagesBack
 pub mod OneVerdict
+pub mod Steps
+pub mod Accepted
+pub mod LinesRead
+pub mod SomeVerdict
+pub mod PacedLines
+pub mod KeptFormat

@@ -7,17 +7,17 @@ use Rattle.std.proofs.lemmas.List.Splits.{slice_split_at, slice_split_none}
 use Rattle.std.proofs.lemmas.Bool.Decides.{Decides-eqb}
 use Rattle.code_words_listing.specs.Lines.{Line, line_text, IsAllowed}
 use Rattle.code_words_listing.specs.Listings.{text_of}
-use Rattle.code_words_listing.specs.Verdicts.{BeginListing, AreListing, GoesWrong, Format, Whole, AtLine, AtEnd, Verdict, first_of, off_pace}
+use Rattle.code_words_listing.specs.Verdicts.{BeginListing, AreListing, Format, Whole, AtLine, AtEnd, Verdict, first_of, off_pace}
 use Rattle.code_words_listing.proofs.Texts.{line-injective}
 
-all-front : {X : Type 0} (P : X → Type 0) (xs ys : List X) → All P (xs ++ ys) → All P xs
+pub all-front : {X : Type 0} (P : X → Type 0) (xs ys : List X) → All P (xs ++ ys) → All P xs
 all-front P [] ys h = All-nil P
 all-front P (x ∷ xs) ys h = All-cons P x xs (All-head P x (xs ++ ys) h) (all-front P xs ys (All-tail P x (xs ++ ys) h))
 
-allowed : (front : List Line) → BeginListing front → All IsAllowed front
+pub allowed : (front : List Line) → BeginListing front → All IsAllowed front
 allowed front b = all-front IsAllowed front b.later (subst (All IsAllowed) b.all b.kept.lines)
 
-shorter : (front more : List Line) → BeginListing (front ++ more) → BeginListing front
+pub shorter : (front more : List Line) → BeginListing (front ++ more) → BeginListing front
 shorter front more b = record { image = b.image; later = more ++ b.later; kept = b.kept; all = b.all ∙ append_assoc front more b.later }
 
 -- two fronts of the same lines: they are the same, or one goes on where the other ends
@@ -42,14 +42,14 @@ compared (a ∷ one) (b ∷ other) left behind f g e =
     (compared one other left behind (All-tail IsAllowed a one f) (All-tail IsAllowed b other g) tails)
 
 -- what each case of the format says of the lines behind the front
-record Ends (lines : List (List ℕ)) (rest : List ℕ) (front : List Line) (at : Option ℕ) : Type 0 where
+pub record Ends (lines : List (List ℕ)) (rest : List ℕ) (front : List Line) (at : Option ℕ) : Type 0 where
   pub left : List (List ℕ)
   pub parts : lines ≡ map line_text front ++ left
   pub begins : BeginListing front
   pub stuck : (l : Line) (texts : List (List ℕ)) → left ≡ line_text l ∷ texts → BeginListing (front ++ l ∷ []) → ⊥
   pub answer : ((at ≡ None) × (left ≡ []) × (rest ≡ []) × AreListing front) ⊎ ((at ≡ Some (suc (length front))) × (left ≡ [] → rest ≡ [] → AreListing front → ⊥))
 
-ends : (lines : List (List ℕ)) (rest : List ℕ) (front : List Line) (at : Option ℕ) → Format lines rest front at → Ends lines rest front at
+pub ends : (lines : List (List ℕ)) (rest : List ℕ) (front : List Line) (at : Option ℕ) → Format lines rest front at → Ends lines rest front at
 ends _ _ _ _ (Whole front l) =
     record {
       left = [];

@@ -93,7 +93,7 @@ joined (word ∷ next ∷ words) h =
     All-append (λ b. 32 ≤ b) word (32 ∷ join_with_byte 32 (next ∷ words)) (All-weaker Inner (λ b. 32 ≤ b) (λ b low. omega (arith, low)) word (All-head (All Inner) word (next ∷ words) h))
     (All-cons (λ b. 32 ≤ b) 32 (join_with_byte 32 (next ∷ words)) (lit≤ tt) (joined (next ∷ words) (All-tail (All Inner) word (next ∷ words) h)))
 
-line-no-feed : (line : Line) → IsAllowed line → All (λ b. (b == 10) ≡ false) (line_text line)
+pub line-no-feed : (line : Line) → IsAllowed line → All (λ b. (b == 10) ≡ false) (line_text line)
 line-no-feed line a = no-feed (line_text line) (joined (map word_of (fields line)) (words-inner line a))
 
 -- the lines that texts spell, as far as each spells one

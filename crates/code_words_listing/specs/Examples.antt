@@ -1,5 +1,5 @@
 -- Small images, for their listings.
-use Rattle.std.specs.Prelude.{ℕ, List, [], ◌∷◌, Some, None, pos, negsuc, codes}
+use Rattle.std.specs.Prelude.{ℕ, List, [], ◌∷◌, ◌++◌, Some, None, pos, negsuc, codes}
 use Rattle.ckc_text.specs.declared.place.Place.{Place}
 use Rattle.marshalling.specs.declared.kind.WordKind.TheVariants as kinds
 use Rattle.code_words.specs.declared.op.Op.TheVariants as ops
@@ -82,3 +82,24 @@ small_lines =
     ∷ codes "end"
     ∷ codes "close"
     ∷ []
+
+-- ---- small texts
+
+-- a tainted function before a static block
+abbrev pub import_then_block : List (List ℕ)
+import_then_block =
+    codes "ccbox listing 1" ∷ codes "trusted" ∷ codes "import 0 h args 0 result int" ∷ codes "block 0 1 00" ∷ codes "sandbox" ∷ codes "close" ∷ []
+
+-- blocks that aren't numbered from 0
+abbrev pub second_block_first : List (List ℕ)
+second_block_first =
+    codes "ccbox listing 1" ∷ codes "trusted" ∷ codes "block 1 1 00" ∷ codes "block 0 1 00" ∷ codes "sandbox" ∷ codes "close" ∷ []
+
+-- one function with this code, from line 4 on
+abbrev pub with_code : List (List ℕ) → List (List ℕ)
+with_code code =
+    codes "ccbox listing 1" ∷ codes "trusted" ∷ codes "fun 0 main args 0 slots 0 stack 2 result int"
+    ∷ (code ++ codes "end" ∷ codes "main 0" ∷ codes "sandbox" ∷ codes "close" ∷ [])
+
+abbrev pub without_close : List (List ℕ)
+without_close = codes "ccbox listing 1" ∷ codes "trusted" ∷ codes "sandbox" ∷ []

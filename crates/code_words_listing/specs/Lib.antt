@@ -7,4 +7,6 @@ pub mod Shown
 pub mod Reading
 pub mod ReadInstructions
 pub mod ReadLines
+pub mod Steps
+pub mod Refused
 pub mod Examples

@@ -1,13 +1,16 @@
 // What holds of all listings, and the listings of small images.
 
-ghost use Rattle.std.specs.Prelude.{◌≡◌, ℕ, List, ◌∷◌, [], codes, Option, Some, None, pos, negsuc};
+ghost use Rattle.std.specs.Prelude.{◌≡◌, ℕ, List, ◌∷◌, [], ◌++◌, codes, Option, Some, None, negsuc, IsTrue};
 ghost use Rattle.code_words.specs.declared.op.Op.TheVariants as ops;
+ghost use Rattle.code_words.specs.Formats.{KeepsFormat, HasNames};
 ghost use Rattle.code_words.specs.Images.{Image};
+ghost use Rattle.code_words.specs.Paced.{is_paced};
 ghost use Rattle.code_words_listing.specs.Lines.{Line, StaticBlock, Instruction, line_text, IsAllowed};
 ghost use Rattle.code_words_listing.specs.Listings.{listing, text_of, InFormat};
 ghost use Rattle.code_words_listing.specs.ReadLines.{line_of};
 ghost use Rattle.code_words_listing.specs.Verdicts.{Verdict};
-ghost use Rattle.code_words_listing.specs.Examples.{small_image, small_lines};
+ghost use Rattle.code_words_listing.specs.Refused.{refused_in};
+ghost use Rattle.code_words_listing.specs.Examples.{small_image, small_lines, import_then_block, second_block_first, with_code, without_close};
 
 /// A listing with a line of each form.
 pub fn small_listing()
@@ -22,6 +25,51 @@ pub fn listings_tell_images()
 /// A text has one verdict at most: one line is refused, or none.
 pub fn verdicts_agree()
     ensures { (text : List ℕ) (refused also : Option ℕ) → Verdict text refused → Verdict text also → refused ≡ also }
+{}
+
+/// Each text has a verdict: which line of it is refused can be computed, line by line.
+pub fn texts_have_verdicts()
+    ensures { (text : List ℕ) → Verdict text (refused_in text) }
+{}
+
+/// Texts of which a line is refused: groups in another order, jumps back to no tick, a call that a jump reaches, or that stands
+/// behind no tick, a number that isn't the next one, a line of another place, and a text that ends before its listing does, or goes on behind it. The
+/// earlier line is told where the pace is broken before a line that the format refuses.
+pub fn refused_texts()
+    ensures stands { refused_in (text_of small_lines) ≡ None }
+    ensures empty { refused_in [] ≡ Some 1 }
+    ensures no_feed { refused_in (codes "ccbox listing 1") ≡ Some 1 }
+    ensures order { refused_in (text_of import_then_block) ≡ Some 4 }
+    ensures number { refused_in (text_of second_block_first) ≡ Some 3 }
+    ensures jump_back { refused_in (text_of (with_code (codes "zero" ∷ codes "drop" ∷ codes "jump 0" ∷ []))) ≡ Some 6 }
+    ensures reached_call { refused_in (text_of (with_code (codes "jump 2" ∷ codes "tick" ∷ codes "call 0" ∷ []))) ≡ Some 4 }
+    ensures call_alone { refused_in (text_of (with_code (codes "call 0" ∷ []))) ≡ Some 4 }
+    ensures pace_first { refused_in (text_of (with_code (codes "call 0" ∷ codes "ret 0" ∷ []))) ≡ Some 4 }
+    ensures ticked { refused_in (text_of (with_code (codes "tick" ∷ codes "jump 0" ∷ []))) ≡ None }
+    ensures no_close { refused_in (text_of without_close) ≡ Some 4 }
+    ensures close { refused_in (text_of (with_code (codes "close" ∷ []))) ≡ Some 4 }
+    ensures behind { refused_in (text_of (without_close ++ codes "close" ∷ codes "close" ∷ [])) ≡ Some 5 }
+    ensures behind_feed { refused_in (text_of (without_close ++ codes "close" ∷ []) ++ codes "x") ≡ Some 5 }
+{}
+
+/// No line is refused of the listing of an image in the format that keeps the pace.
+pub fn listings_stand()
+    ensures { (image : Image) → InFormat image → IsTrue (is_paced image) → Verdict (listing image) None }
+{}
+
+/// A text of which no line is refused is the listing of an image in the format that keeps the pace.
+pub fn standing_texts_are_listings()
+    ensures { (text : List ℕ) → Verdict text None → (image : Image) × InFormat image × IsTrue (is_paced image) × (text ≡ listing image) }
+{}
+
+/// An image in the format that keeps the pace keeps what every image keeps.
+pub fn listed_images_keep_format()
+    ensures { (image : Image) → InFormat image → IsTrue (is_paced image) → KeepsFormat image × HasNames image }
+{}
+
+/// What is read as a line is its text, and the line may stand in a listing.
+pub fn lines_read()
+    ensures { (text : List ℕ) (line : Line) → line_of text ≡ Some line → (line_text line ≡ text) × IsAllowed line }
 {}
 
 /// What the text of a line is read as is the line.
