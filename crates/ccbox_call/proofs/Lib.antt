@@ -1,5 +1,6 @@
 pub mod Fronts
 pub mod OneAnswer
+pub mod Sized
 pub mod Lowering
 pub mod Runs
 pub mod ListRuns

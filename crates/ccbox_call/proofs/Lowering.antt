@@ -1,8 +1,8 @@
 -- What is accepted can be lowered.
-use Rattle.std.proofs.Common.{◌≡◌, ℕ, ◌+◌, ◌^◌, ◌≤◌, List, [], ◌∷◌, map, Some, refl, ap, ◌∙◌, arith}
+use Rattle.std.proofs.Common.{◌≡◌, ℕ, ◌+◌, ◌^◌, ◌≤◌, List, [], ◌∷◌, length, map, Some, refl, ap, ◌∙◌, arith}
 use Rattle.std.specs.Prelude.{sum, All, slice_get, option_map}
 use Rattle.std.proofs.lemmas.List.{length-map}
-use Rattle.std.proofs.lemmas.List.Elements.{All-map}
+use Rattle.std.proofs.lemmas.List.Elements.{All-map, All-from_recursion}
 use Rattle.std.proofs.lemmas.List.Sums.{sum_by-cons}
 use Rattle.flat_bytes.specs.Blocks.{first_offset, grown, rounded_up}
 use Rattle.pointer_modes.specs.Types.{CType, Int, Char, Struct, Pointer}
@@ -15,8 +15,12 @@ use Rattle.check_insertion.specs.Insert.{function, with_checks}
 use Rattle.check_insertion.proofs.Insertions.{function_there}
 use Rattle.check_insertion.proofs.Sizes.{same_body, few_in_statements}
 use Rattle.ckc_core.specs.Weights.{statements_weight}
-use Rattle.lowering_code.specs.Correct.{width_if, counted_from, IsCell, IsFunction, IsLowerable}
+use Rattle.lowering_code.specs.Images.{width_if}
+use Rattle.lowering_code.specs.Correct.{counted_from, IsCell, IsFunction, IsLowerable}
 use Rattle.region_typing_rules.specs.Lowerable.{cells_size, objects_size, IsRoomy, IsSmall, HasFewFunctions, IsSmallCore}
+use Rattle.region_typing_rules.specs.Typed as typed
+use Rattle.region_typing_rules.specs.Typed.{Frame, IsTyped}
+use Rattle.ccbox_call.proofs.Sized.{sized_statements}
 
 width_is : (t : CType) → width_if (is_char t) ≤ scalar_size t
 width_is Int = omega arith
@@ -42,12 +46,13 @@ counted_is (cells ∷ objects) offset =
 abbrev pub IsLight : Function → Type 0
 IsLight f = statements_weight f.body ≤ 2 ^ 25
 
-function_is : (f : Function) → IsSmall 3400 f → IsLight f → IsFunction (function f)
-function_is f small light = record {
+function_is : (g : Frame) (f : Function) → typed.IsFunction g f → IsSmall 3400 f → IsLight f → IsFunction (function f)
+function_is g f rules small light = record {
   parameters = small.few_parameters;
   held = small.held;
   frame = omega (arith, small.few_locals, small.low, same_body f);
   few_nodes = omega (arith, light, few_in_statements f.body);
+  sized = sized_statements (length f.locals) f.body rules.body;
 }
 
 -- `main` with its checks
@@ -55,12 +60,12 @@ main_is : (c : Parted) → (f : Function) × (slice_get c.functions c.main ≡ S
     → (f : erased.Function) × (slice_get (map function c.functions) c.main ≡ Some f) × (f.parameters ≡ 0)
 main_is c main = (function main.0, function_there c.functions c.main ∙ ap (option_map function) main.1, main.2)
 
-pub small_is_lowerable : (c : Parted) → IsSmallCore c → HasFewFunctions c → All IsLight c.functions → IsLowerable (with_checks c)
-small_is_lowerable c small few light = record {
+pub small_is_lowerable : (c : Parted) → IsTyped c → IsSmallCore c → HasFewFunctions c → All IsLight c.functions → IsLowerable (with_checks c)
+small_is_lowerable c rules small few light = record {
   cells = λ k d lt. let here = small.cells k d lt in ((λ j e less. cell_is _ (here.0 j e less)), here.1);
   objects = omega (arith, counted_is c.objects first_offset, small.objects);
   imports = small.imports;
-  functions = All-map IsFunction function c.functions (λ k d lt. function_is _ (small.functions k d lt) (light k d lt));
+  functions = All-map IsFunction function c.functions (λ k d lt. function_is (record { program = c; structs = rules.structs }) _ (All-from_recursion (typed.IsFunction (record { program = c; structs = rules.structs })) c.functions rules.functions k d lt) (small.functions k d lt) (light k d lt));
   few_functions = omega (arith, few.functions, length-map c.functions function);
   few_imports = few.imports;
   main = main_is c small.main;

@@ -57,7 +57,7 @@ light_bodies c a = λ k d lt.
 
 -- what is accepted can be lowered, with its checks
 pub lowerable : (c : Core) → IsAcceptedCore c → IsLowerable (inserted c)
-lowerable c a = let x = a.1 in small_is_lowerable (parted c) (small (place_at a.0) x.tree c x.has_core ((x.has_tree).is_tree).low) (few (place_at a.0) x.tree c x.has_core) (light_bodies c a)
+lowerable c a = let x = a.1 in small_is_lowerable (parted c) (typed (place_at a.0) x.tree c x.has_core) (small (place_at a.0) x.tree c x.has_core ((x.has_tree).is_tree).low) (few (place_at a.0) x.tree c x.has_core) (light_bodies c a)
 
 -- the run of what is accepted ends, audited or not
 pub ends : (c : Core) → IsAcceptedCore c → AlwaysEnds c

@@ -1,27 +1,31 @@
 -- A program with its checks inserted does what it means: an induction over the ticks, and over the tree.
 use Rattle.std.proofs.Common.{◌≡◌, ℕ, zero, suc, ◌+◌, Bool, true, false, List, [], ◌∷◌, map, length, replicate, Option, Some, None, refl, sym, ap, ◌∙◌, subst}
-use Rattle.std.specs.Prelude.{◌==◌, slice_get, option_map}
+use Rattle.std.specs.Prelude.{◌==◌, slice_get, option_map, pos}
 use Rattle.flat_bytes.specs.Blocks.{first_offset}
 use Rattle.act_words.specs.declared.settings.Settings.{Settings}
 use Rattle.act_words.specs.Acts.{Passed}
 use Rattle.act_words.specs.World.{new_world}
 use Rattle.act_words.specs.Touches.{spend_tick, enter_call, next_input, touch, until_return}
 use Rattle.ckc_core.specs.declared.program.Site.{Site}
+use Rattle.pointer_modes.specs.Types.{CType}
 use Rattle.ckc_core.specs.declared.program.Callee.{Callee}
 use Rattle.ckc_core.specs.declared.program.Callee.TheVariants as callees
 use Rattle.ckc_core.specs.Outcome.{Gives, Ends, Stuck, Unsound, Short, and_then}
 use Rattle.ckc_core.specs.Programs.{Import, ProgramOf, parted}
 use Rattle.ckc_core.specs.Core as core
-use Rattle.ckc_core.specs.States.{Value, State}
+use Rattle.ckc_core.specs.States.{Value, At, State}
 use Rattle.ckc_core.specs.Bounds.{Pointed, with_ends}
-use Rattle.ckc_core.specs.Steps.{Result, setting_of, given, place_at, variable_at, load_at, pointer_to, truth, same_place, test_given, arithmetic_of, compared, negated, complemented, low_byte_of, words_of, reply_as, back, passed, cross, cross_if, call_tainted, crossed, fit, parameters_of, takes, enter_if, called, result_given, set_local, kept_if, is_char, printed, put, no_result, answer, locals_for, exit, initial}
+use Rattle.ckc_core.specs.Steps.{Result, Flow, store_at, setting_of, given, place_at, variable_at, load_at, pointer_to, truth, same_place, test_given, arithmetic_of, compared, negated, complemented, low_byte_of, words_of, reply_as, back, passed, cross, cross_if, call_tainted, crossed, fit, parameters_of, takes, enter_if, called, result_given, set_local, kept_if, is_char, printed, put, no_result, answer, locals_for, exit, initial}
 use Rattle.ckc_core.specs.Meaning as meaning
-use Rattle.ckc_core.specs.Meaning.{audit, site_of, bounds_of, without_ends, place_from, pointed, reached}
+use Rattle.ckc_core.specs.Meaning.{audit, site_of, bounds_of, without_ends, place_from, pointed, reached, Target, cast_to, summed}
+use Rattle.ckc_core.specs.Pointers.{number_given, not_null, ordered, allocated}
 use Rattle.check_insertion.specs.ErasedMeaning as erased
+use Rattle.check_insertion.specs.Erased as erased_language
 use Rattle.check_insertion.specs.Insert as insert
 use Rattle.check_insertion.specs.Insert.{access_checks, with_checks}
 use Rattle.check_insertion.specs.Keeps.{Follows, KeepsMeaning}
-use Rattle.check_insertion.proofs.Following.{FollowsBy, same, on, on_by, left_out, asked_on, chosen, next_on, turned_on, audit_on, ends_aside, reached_on, load_on, store_on}
+use Rattle.check_insertion.proofs.Following.{FollowsBy, same, on, on_with, on_by, flat, given_on, number_kept, asked_on, chosen, next_on, turned_on, audit_on, ends_aside, reached_on, summed_on, ordered_on, cast_on, load_on, store_on}
+use Rattle.ckc_core.proofs.Locals.{Keeps, CallsKeep, back_keeps, value_keeps, index_keeps}
 
 -- a function of the core, with its checks
 pub function_there : (fs : List core.Function) (n : ℕ) → slice_get (map insert.function fs) n ≡ option_map insert.function (slice_get fs n)
@@ -43,6 +47,7 @@ module _ (audited : Bool) (program : ProgramOf core.Statements) (settings : Sett
   -- calls, further turns and the sandbox's turn follow
   pub record Follow (k : meaning.Knot) (k' : erased.Knot) : Type 0 where
     pub call : (function : ℕ) (vs : List Value) (s : State) → Follows (k.call function vs s) (k'.call function vs s)
+    pub keeps : CallsKeep k
     pub turn : (e : core.Expression) (x y : core.Statement) (s : State) → Follows (k.turn e x y s) (k'.turn (insert.expression e) (insert.statement x) (insert.statement y) s)
     pub sandbox : (s : State) → Follows (k.sandbox s) (k'.sandbox s)
 
@@ -122,6 +127,24 @@ module _ (audited : Bool) (program : ProgramOf core.Statements) (settings : Sett
           (λ vs t. audit_on audited bounds (and_then (called g k callee vs t) result_given) (and_then (called g' k' callee vs t) result_given)
           (on (called g k callee vs t) (called g' k' callee vs t) result_given result_given (called_on callee vs t) (λ v u. same (result_given v u))))
       value_on core.NextInput s = asked_on (next_input s.world) s _ _ (λ z t. refl)
+      value_on (core.Sum pointer direction number site bounds) s =
+          audit_on audited bounds _ (erased.value g' k' (insert.expression (core.Sum pointer direction number site bounds)) s)
+          (on (meaning.value audited g k pointer s) (erased.value g' k' (insert.expression pointer) s) _ _ (value_on pointer s)
+          (λ v t. on_with (and_then (meaning.value audited g k number t) (number_given (Some site))) (and_then (erased.value g' k' (insert.expression number) t) (number_given None)) _ _ t.locals
+          (on (meaning.value audited g k number t) (erased.value g' k' (insert.expression number) t) (number_given (Some site)) (number_given None) (value_on number t) (λ w u. given_on site w u))
+          (number_kept (Some site) t.locals (meaning.value audited g k number t) (value_keeps audited g k follow.keeps t.locals number t refl))
+          (λ n u kept. summed_on (bounds_of pointer) direction site n v t.locals u kept)))
+      value_on (core.Order comparison left right site) s =
+          on (meaning.value audited g k left s) (erased.value g' k' (insert.expression left) s) _ _ (value_on left s)
+          (λ a t. on (meaning.value audited g k right t) (erased.value g' k' (insert.expression right) t) _ _ (value_on right t) (λ b u. ordered_on comparison site a b u))
+      value_on (core.Allocate count element bounds) s =
+          audit_on audited bounds _ (erased.value g' k' (insert.expression (core.Allocate count element bounds)) s)
+          (on (and_then (meaning.value audited g k count s) (number_given None)) (and_then (erased.value g' k' (insert.expression count) s) (number_given None)) _ _
+          (on (meaning.value audited g k count s) (erased.value g' k' (insert.expression count) s) (number_given None) (number_given None) (value_on count s) (λ v t. same (number_given None v t)))
+          (λ z t. same (allocated settings.trusted element z t)))
+      value_on (core.Cast pointer bounds) s =
+          audit_on audited bounds _ (erased.value g' k' (insert.expression (core.Cast pointer bounds)) s)
+          (on (meaning.value audited g k pointer s) (erased.value g' k' (insert.expression pointer) s) _ _ (value_on pointer s) (λ v t. cast_on (bounds_of pointer) bounds v t))
 
       values_on : (es : core.Arguments) (s : State) → Follows (meaning.values audited g k es s) (erased.values g' k' (insert.arguments_of es) s)
       values_on core.Done s = refl
@@ -131,40 +154,64 @@ module _ (audited : Bool) (program : ProgramOf core.Statements) (settings : Sett
 
       place_on : (p : core.Place) (s : State) → Follows (meaning.place audited g k p s) (erased.place g' k' (insert.place p) s)
       place_on (core.Direct object offset) s = same (variable_at g object offset s)
-      place_on (core.Through pointer index offset site) s =
+      place_on (core.Through pointer which offset site) s =
           on (meaning.value audited g k pointer s) (erased.value g' k' (insert.expression pointer) s) _ _ (value_on pointer s)
-          (λ v t. reached_on index offset site (with_ends (bounds_of pointer) v t.locals) v t (ends_aside (bounds_of pointer) v t))
+          (λ v t. on_with (meaning.number_of audited g k which t) (erased.number_of g' k' (insert.index (insert.size_of (bounds_of pointer)) which) t) _ _ t.locals (index_on (insert.size_of (bounds_of pointer)) which t) (index_keeps audited g k follow.keeps t.locals which t refl)
+          (λ n u kept. reached_on which (bounds_of pointer) offset site v n t.locals u kept))
+
+      index_on : (size : ℕ) (which : core.Index) (s : State) → Follows (meaning.number_of audited g k which s) (erased.number_of g' k' (insert.index size which) s)
+      index_on size core.First s = refl
+      index_on size (core.Element number) s =
+          on (meaning.value audited g k number s) (erased.value g' k' (insert.expression number) s) (number_given None) (number_given None) (value_on number s) (λ v t. same (number_given None v t))
 
     -- ---- statements
 
-    abbrev bare : Pointed → Value
-    bare p = p.value
+    abbrev bare : Target → erased.Target
+    bare t = record { pointer = t.pointer.value; number = t.number }
 
-    pointer_on : (p : core.Place) (s : State) → FollowsBy bare (meaning.pointer_of audited g k p s) (erased.pointer_of g' k' (insert.place p) s)
-    pointer_on (core.Direct object offset) s = direct (variable_at g object offset s)
-      where
-        direct : (o : Result (ℕ × ℕ)) → FollowsBy bare (and_then o (λ place t. Gives (without_ends place) t)) (and_then o pointer_to)
-        direct (Gives place t) = refl
-        direct (Ends ending t) = refl
-        direct (Stuck site t) = tt
-        direct (Unsound site t) = tt
-        direct Short = refl
-    pointer_on (core.Through pointer index offset site) s =
-        left_out bare (λ v t. with_ends (bounds_of pointer) v t.locals) (meaning.value audited g k pointer s) (erased.value g' k' (insert.expression pointer) s) (value_on pointer s) (λ v t. ends_aside (bounds_of pointer) v t)
+    variable_on : (o : Result (ℕ × ℕ)) → FollowsBy bare (and_then o (λ place t. Gives (without_ends place) t)) (and_then o (λ place t. Gives (record { pointer = At place.0 place.1; number = pos 0 }) t))
+    variable_on (Gives place t) = refl
+    variable_on (Ends ending t) = refl
+    variable_on (Stuck site t) = tt
+    variable_on (Unsound site t) = tt
+    variable_on Short = refl
 
-    from_on : (p : core.Place) (q : Pointed) (s : State) → Follows (place_from p q s) (erased.place_from (insert.place p) q.value s)
-    from_on (core.Direct object offset) q s = same (place_at None object offset s)
-    from_on (core.Through pointer index offset site) q s = reached_on index offset site q q.value s refl
+    -- a store, whose checks come behind its value
+    store_through_on : (type : CType) (pointer : core.Expression) (which : core.Index) (offset : ℕ) (site : Site) (e : core.Expression) (s : State)
+        → Follows (meaning.effect audited g k (core.Store type (core.Through pointer which offset site) e) s) (erased.effect g' k' (insert.statement (core.Store type (core.Through pointer which offset site) e)) s)
+    store_through_on type pointer which offset site e s =
+        let p : core.Place = core.Through pointer which offset site in
+        let store : Target → State → Result Flow =
+        λ q t. and_then (meaning.value audited g k e t) (λ v u. and_then (place_from p q u) (λ place w. store_at type (site_of p) place v w)) in
+        let store' : erased.Target → State → Result Flow =
+        λ q t. and_then (erased.value g' k' (insert.expression e) t) (λ v u. and_then (erased.place_from (insert.place p) q u) (λ place w. store_at type None place v w)) in
+        let target : Pointed → State → Result Target =
+        λ q t. and_then (meaning.number_of audited g k which t) (λ n u. Gives (record { pointer = q; number = n }) u) in
+        let target' : Value → State → Result erased.Target =
+        λ v t. and_then (erased.number_of g' k' (insert.index (insert.size_of (bounds_of pointer)) which) t) (λ n u. Gives (record { pointer = v; number = n }) u) in
+        let left = flat (meaning.pointed audited g k pointer s) target store
+        ∙ flat (meaning.value audited g k pointer s) (λ v t. Gives (with_ends (bounds_of pointer) v t.locals) t) (λ q t. and_then (target q t) store) in
+        let right = flat (erased.value g' k' (insert.expression pointer) s) target' store' in
+        subst (λ o. Follows o (erased.effect g' k' (insert.statement (core.Store type p e)) s)) (sym left)
+        (subst (λ o. Follows (and_then (meaning.value audited g k pointer s) (λ v t. and_then (target (with_ends (bounds_of pointer) v t.locals) t) store)) o) (sym right)
+        (on (meaning.value audited g k pointer s) (erased.value g' k' (insert.expression pointer) s) _ _ (value_on pointer s)
+        (λ v t.
+        subst (λ o. Follows o (and_then (target' v t) store')) (sym (flat (meaning.number_of audited g k which t) (λ n u. Gives (record { pointer = with_ends (bounds_of pointer) v t.locals; number = n }) u) store))
+        (subst (λ o. Follows (and_then (meaning.number_of audited g k which t) (λ n u. store (record { pointer = with_ends (bounds_of pointer) v t.locals; number = n }) u)) o) (sym (flat (erased.number_of g' k' (insert.index (insert.size_of (bounds_of pointer)) which) t) (λ n u. Gives (record { pointer = v; number = n }) u) store'))
+        (on_with (meaning.number_of audited g k which t) (erased.number_of g' k' (insert.index (insert.size_of (bounds_of pointer)) which) t) _ _ t.locals (index_on (insert.size_of (bounds_of pointer)) which t) (index_keeps audited g k follow.keeps t.locals which t refl)
+        (λ n u kept. on_with (meaning.value audited g k e u) (erased.value g' k' (insert.expression e) u) _ _ t.locals (value_on e u) (value_keeps audited g k follow.keeps t.locals e u kept)
+        (λ w x kept_still. on _ _ _ _ (reached_on which (bounds_of pointer) offset site v n t.locals x kept_still) (λ at y. store_on type (site_of p) None at w y))))))))
 
     mutual
       effect_on : (x : core.Statement) (s : State) → Follows (meaning.effect audited g k x s) (erased.effect g' k' (insert.statement x) s)
       effect_on core.Nothing s = refl
       effect_on (core.SetLocal local e) s =
           on (meaning.value audited g k e s) (erased.value g' k' (insert.expression e) s) (set_local local) (set_local local) (value_on e s) (λ v t. same (set_local local v t))
-      effect_on (core.Store type p e) s =
-          on_by bare (meaning.pointer_of audited g k p s) (erased.pointer_of g' k' (insert.place p) s) _ _ (pointer_on p s)
+      effect_on (core.Store type (core.Direct object offset) e) s =
+          on_by bare (meaning.target_of audited g k (core.Direct object offset) s) (erased.target_of g' k' (erased_language.Direct object offset) s) _ _ (variable_on (variable_at g object offset s))
           (λ q t. on (meaning.value audited g k e t) (erased.value g' k' (insert.expression e) t) _ _ (value_on e t)
-          (λ v u. on (place_from p q u) (erased.place_from (insert.place p) q.value u) _ _ (from_on p q u) (λ at w. store_on type (site_of p) None at v w)))
+          (λ v u. on (place_at None object offset u) (place_at None object offset u) _ _ (same (place_at None object offset u)) (λ at w. same (store_at type None at v w))))
+      effect_on (core.Store type (core.Through pointer which offset site) e) s = store_through_on type pointer which offset site e s
       effect_on (core.UpdateLocal char local operator e site) s =
           on (given (slice_get s.locals local) s) (given (slice_get s.locals local) s) _ _ (same (given (slice_get s.locals local) s))
           (λ old t. on (meaning.value audited g k e t) (erased.value g' k' (insert.expression e) t) _ _ (value_on e t)
@@ -224,11 +271,21 @@ module _ (audited : Bool) (program : ProgramOf core.Statements) (settings : Sett
         subst (λ o. Follows (meaning.body_of audited g k (slice_get program.functions function) vs s) (erased.body_of g' k' o vs s)) (sym (function_there program.functions function))
         (body_on_option (slice_get program.functions function) vs s)
 
+  -- a call is over among the locals of the function that called
+  body_keeps_if : (k : meaning.Knot) (test : Bool) (f : core.Function) (vs : List Value) (s : State) → Keeps s.locals (meaning.body_if audited test g k f vs s)
+  body_keeps_if k true f vs s = back_keeps s _
+  body_keeps_if k false f vs s = tt
+
+  body_keeps : (k : meaning.Knot) (o : Option core.Function) (vs : List Value) (s : State) → Keeps s.locals (meaning.body_of audited g k o vs s)
+  body_keeps k None vs s = tt
+  body_keeps k (Some f) vs s = body_keeps_if k (fit (parameters_of f) vs) f vs s
+
   knots : (n : ℕ) → Follow (meaning.knot audited g n) (erased.knot g' n)
-  knots zero = record { call = λ function vs s. refl; turn = λ e x y s. refl; sandbox = λ s. refl }
+  knots zero = record { call = λ function vs s. refl; keeps = λ function vs s. tt; turn = λ e x y s. refl; sandbox = λ s. refl }
   knots (suc n) =
       record {
         call = λ function vs s. body_on _ _ (knots n) function vs s;
+        keeps = λ function vs s. body_keeps (meaning.knot audited g n) (slice_get program.functions function) vs s;
         turn = λ e x y s. effect_on _ _ (knots n) (core.Loop e x y) s;
         sandbox = λ s. same (crossed (until_return s.world.acts s.world) s);
       }

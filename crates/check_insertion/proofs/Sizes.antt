@@ -1,12 +1,14 @@
 -- With their checks, programs need as many words of the stack as before, and have at most twice as many nodes.
-use Rattle.std.proofs.Common.{◌≡◌, ◌*◌, ◌≤◌, refl, arith}
-use Rattle.ckc_core.specs.declared.program.Index.TheVariants as indexes
+use Rattle.std.proofs.Common.{◌≡◌, ℕ, ◌+◌, ◌*◌, ◌≤◌, length, Option, Some, None, refl, arith}
+use Rattle.ckc_core.specs.declared.program.PointerBounds.{PointerBounds}
+use Rattle.ckc_core.specs.declared.program.Site.{Site}
+use Rattle.ckc_core.specs.Meaning.{bounds_of}
 use Rattle.ckc_core.specs.Core as core
 use Rattle.ckc_core.specs.Stacks as stacks
 use Rattle.ckc_core.specs.Weights as weights
-use Rattle.check_insertion.specs.Insert.{expression, arguments_of, place, statement, statements, function}
-use Rattle.check_insertion.specs.Stacks.{expression_stack, arguments_stack, place_stack, store_stack, statement_stack, statements_stack, body_stack}
-use Rattle.check_insertion.specs.Weights.{expression_weight, arguments_weight, place_weight, statement_weight, statements_weight}
+use Rattle.check_insertion.specs.Insert.{expression, arguments_of, place, index, size_of, below_of, up_to_of, cast_checks, statement, statements, function}
+use Rattle.check_insertion.specs.Stacks.{expression_stack, arguments_stack, place_stack, index_stack, store_stack, statement_stack, statements_stack, body_stack}
+use Rattle.check_insertion.specs.Weights.{expression_weight, arguments_weight, place_weight, index_weight, statement_weight, statements_weight}
 
 -- ---- words of the stack
 
@@ -28,6 +30,10 @@ mutual
   same_stack (core.LowByte operand) = same_stack operand
   same_stack (core.Call callee arguments bounds) = rw (same_arguments arguments) refl
   same_stack core.NextInput = refl
+  same_stack (core.Sum pointer direction number site bounds) = rw (same_stack pointer, same_stack number) refl
+  same_stack (core.Order comparison left right site) = rw (same_stack left, same_stack right) refl
+  same_stack (core.Allocate count element bounds) = same_stack count
+  same_stack (core.Cast pointer bounds) = rw (same_stack pointer) refl
 
   same_arguments : (es : core.Arguments) → arguments_stack (arguments_of es) ≡ stacks.arguments_stack es
   same_arguments core.Done = refl
@@ -35,11 +41,16 @@ mutual
 
   same_place : (p : core.Place) → place_stack (place p) ≡ stacks.place_stack p
   same_place (core.Direct object offset) = refl
-  same_place (core.Through pointer indexes.First offset site) = rw (same_stack pointer) refl
+  same_place (core.Through pointer which offset site) = rw (same_stack pointer, same_index (size_of (bounds_of pointer)) which) refl
+
+  same_index : (size : ℕ) (which : core.Index) → index_stack (index size which) ≡ stacks.index_stack which
+  same_index size core.First = refl
+  same_index size (core.Element number) = rw (same_stack number) refl
 
 same_store : (p : core.Place) (e : core.Expression) → store_stack (place p) (expression e) ≡ stacks.store_stack p e
 same_store (core.Direct object offset) e = rw (same_stack e) refl
-same_store (core.Through pointer indexes.First offset site) e = rw (same_stack pointer, same_stack e) refl
+same_store (core.Through pointer core.First offset site) e = rw (same_stack pointer, same_stack e) refl
+same_store (core.Through pointer (core.Element number) offset site) e = rw (same_stack pointer, same_stack number, same_stack e) refl
 
 mutual
   same_statement : (x : core.Statement) → statement_stack (statement x) ≡ stacks.statement_stack x
@@ -69,8 +80,21 @@ same_body f = rw (same_statements f.body) refl
 
 -- ---- nodes
 
+one_below : (bounds : Option PointerBounds) (site : Site) → length (below_of bounds site) ≤ 1
+one_below None site = omega arith
+one_below (Some b) site = omega arith
+
+one_up_to : (bounds : Option PointerBounds) (site : Site) → length (up_to_of bounds site) ≤ 1
+one_up_to None site = omega arith
+one_up_to (Some b) site = omega arith
+
+one_cast : (old new : Option PointerBounds) → length (cast_checks old new) ≤ 1
+one_cast old None = omega arith
+one_cast None (Some new) = omega arith
+one_cast (Some old) (Some new) = omega arith
+
 mutual
-  few_nodes : (e : core.Expression) → expression_weight (expression e) ≤ 2 * weights.expression_weight e
+  few_nodes : (e : core.Expression) → 1 + expression_weight (expression e) ≤ 2 * weights.expression_weight e
   few_nodes (core.Number number) = omega arith
   few_nodes core.Null = omega arith
   few_nodes (core.Local local bounds) = omega arith
@@ -87,14 +111,20 @@ mutual
   few_nodes (core.LowByte operand) = omega (arith, few_nodes operand)
   few_nodes (core.Call callee arguments bounds) = omega (arith, few_in_arguments arguments)
   few_nodes core.NextInput = omega arith
+  few_nodes (core.Sum pointer direction number site bounds) = omega (arith, few_nodes pointer, few_nodes number, one_up_to (bounds_of pointer) site)
+  few_nodes (core.Order comparison left right site) = omega (arith, few_nodes left, few_nodes right)
+  few_nodes (core.Allocate count element bounds) = omega (arith, few_nodes count)
+  few_nodes (core.Cast pointer bounds) = omega (arith, few_nodes pointer, one_cast (bounds_of pointer) bounds)
 
   few_in_arguments : (es : core.Arguments) → arguments_weight (arguments_of es) ≤ 2 * weights.arguments_weight es
   few_in_arguments core.Done = omega arith
   few_in_arguments (core.More first rest) = omega (arith, few_nodes first, few_in_arguments rest)
 
-  few_in_place : (p : core.Place) → place_weight (place p) ≤ 2 * weights.place_weight p
+  few_in_place : (p : core.Place) → 1 + place_weight (place p) ≤ 2 * weights.place_weight p
   few_in_place (core.Direct object offset) = omega arith
-  few_in_place (core.Through pointer indexes.First offset site) = omega (arith, few_nodes pointer)
+  few_in_place (core.Through pointer core.First offset site) = omega (arith, few_nodes pointer)
+  few_in_place (core.Through pointer (core.Element number) offset site) =
+      omega (arith, few_nodes pointer, few_nodes number, one_below (bounds_of pointer) site)
 
 mutual
   few_in_statement : (x : core.Statement) → statement_weight (statement x) ≤ 2 * weights.statement_weight x

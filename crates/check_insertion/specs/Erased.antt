@@ -6,15 +6,16 @@ use Rattle.act_words.specs.declared.operator.Comparison.{Comparison}
 use Rattle.pointer_modes.specs.Types.{CType, ctype}
 use Rattle.ckc_core.specs.declared.program.Site.{Site}
 use Rattle.ckc_core.specs.declared.program.Callee.{Callee}
-use Rattle.ckc_core.specs.declared.program.Index.{Index}
-use Rattle.ckc_core.specs.Programs.{FunctionOf, ProgramOf}
-use Rattle.ckc_core.specs.Core.{import_of, object}
+use Rattle.ckc_core.specs.declared.program.Direction.{Direction}
+use Rattle.ckc_core.specs.Programs.{FunctionOf, Initial, ProgramOf}
+use Rattle.ckc_core.specs.Core.{import_of, initial, object}
 use Rattle.check_insertion.specs.declared.erased as code
 use Rattle.check_insertion.specs.declared.erased.Check.{Check}
 use Rattle.check_insertion.specs.declared.erased.Expr.{Row_of-Expr, end_of-Expr, more_of-Expr}
 use Rattle.check_insertion.specs.declared.erased.Stmt.{Row_of-Stmt, end_of-Stmt, more_of-Stmt}
 use Rattle.check_insertion.specs.declared.erased.Expr.TheVariants as exprs
 use Rattle.check_insertion.specs.declared.erased.CellPlace.TheVariants as places
+use Rattle.check_insertion.specs.declared.erased.Index.TheVariants as indexes
 use Rattle.check_insertion.specs.declared.erased.Stmt.TheVariants as stmts
 
 mutual
@@ -42,11 +43,24 @@ mutual
     -- a call with a result
     Call : (callee : Callee) (arguments : Arguments) → Expression
     NextInput : Expression
+    -- a pointer that is so many elements further on, or back, each with so many bytes, behind its checks
+    Sum : (pointer : Expression) (direction : Direction) (number : Expression) (size : ℕ) (checks : List Check) → Expression
+    -- the order of two pointers in one block, behind the checks of both
+    Order : (comparison : Comparison) (left : Expression) (left_checks : List Check) (right : Expression) (right_checks : List Check) → Expression
+    -- a new block of so many elements, each with these cells, or null
+    Allocate : (count : Expression) (element : List Initial) → Expression
+    -- a pointer to elements of so many bytes, behind its checks
+    Cast : (pointer : Expression) (size : ℕ) (checks : List Check) → Expression
 
   -- the arguments of a call, from left to right
   pub data Arguments : Type 0 where
     Done : Arguments
     More : (first : Expression) (rest : Arguments) → Arguments
+
+  -- which element an access takes, from the one that its pointer leads to: that one, or the one of a number, each with so many bytes
+  pub data Index : Type 0 where
+    First : Index
+    Element : (number : Expression) (size : ℕ) → Index
 
   -- where a cell stands: so many bytes behind the first one of a file-level variable, or of an element that a pointer leads to,
   -- behind its checks
@@ -115,6 +129,11 @@ abbrev mutual
   expression (exprs.LowByte' p operand) = LowByte (expression operand)
   expression (exprs.Call' callee shape row) = Call callee (arguments row)
   expression exprs.NextInput = NextInput
+  expression (exprs.Sum' p pointer direction q number size checks) = Sum (expression pointer) direction (expression number) size checks.items
+  expression (exprs.Order' comparison p left left_checks q right right_checks) =
+      Order comparison (expression left) left_checks.items (expression right) right_checks.items
+  expression (exprs.Allocate' p count element) = Allocate (expression count) (map initial element.items)
+  expression (exprs.Cast' p pointer size checks) = Cast (expression pointer) size checks.items
 
   pub arguments : {m : _} → Row_of-Expr m → Arguments
   arguments end_of-Expr = Done
@@ -122,7 +141,11 @@ abbrev mutual
 
   pub place : code.CellPlace.CellPlace → Place
   place (places.Direct object offset) = Direct object offset
-  place (places.Through' p pointer index offset checks) = Through (expression pointer) index offset checks.items
+  place (places.Through' p pointer which offset checks) = Through (expression pointer) (index which) offset checks.items
+
+  pub index : code.Index.Index → Index
+  index indexes.First = First
+  index (indexes.Element' p number size) = Element (expression number) size
 
 -- the arguments in a slice
 abbrev pub arguments_of : List code.Expr.Expr → Arguments

@@ -1,18 +1,47 @@
 -- The checks of a core, inserted: each access gets those that its pointer needs, at the site of the access.
-use Rattle.std.specs.Prelude.{List, [], ◌∷◌, map}
-use Rattle.ckc_core.specs.declared.program.Index.{Index}
-use Rattle.ckc_core.specs.declared.program.Index.TheVariants as indexes
+use Rattle.std.specs.Prelude.{ℕ, List, [], ◌∷◌, map, Option, Some, None}
+use Rattle.ckc_core.specs.declared.program.PointerBounds.{PointerBounds}
 use Rattle.ckc_core.specs.declared.program.Site.{Site}
 use Rattle.ckc_core.specs.Programs.{ProgramOf, parted}
 use Rattle.ckc_core.specs.Core as core
+use Rattle.ckc_core.specs.Meaning.{bounds_of}
 use Rattle.check_insertion.specs.declared.erased.Check.{Check}
-use Rattle.check_insertion.specs.declared.erased.Check.TheVariants.{NotNull}
+use Rattle.check_insertion.specs.declared.erased.Reading.{Reading}
+use Rattle.check_insertion.specs.declared.erased.Check.TheVariants.{NotNull, Below, UpTo, Contains}
 use Rattle.check_insertion.specs.Erased as erased
 use Rattle.check_insertion.specs.Erased.{Erased}
 
--- what has to hold of a pointer before an access (C1)
-abbrev pub access_checks : Index → Site → List Check
-access_checks indexes.First site = NotNull site ∷ []
+-- bounds that a check at a site reads
+abbrev pub read_at : PointerBounds → Site → Reading
+read_at b site = record { bounds = b.bounds; site = site }
+
+abbrev pub below_of : Option PointerBounds → Site → List Check
+below_of None site = []
+below_of (Some b) site = Below (read_at b site) ∷ []
+
+abbrev pub up_to_of : Option PointerBounds → Site → List Check
+up_to_of None site = []
+up_to_of (Some b) site = UpTo (read_at b site) ∷ []
+
+-- the bytes of an element of a pointer that has bounds
+abbrev pub size_of : Option PointerBounds → ℕ
+size_of None = 1
+size_of (Some b) = b.size
+
+-- what has to hold of a pointer with these bounds before an access: it isn't null (C1), and an element lies within them (C2)
+abbrev pub access_checks : Option PointerBounds → core.Index → Site → List Check
+access_checks bounds core.First site = NotNull site ∷ []
+access_checks bounds (core.Element number) site = NotNull site ∷ below_of bounds site
+
+-- and before it is moved
+abbrev pub sum_checks : Option PointerBounds → Site → List Check
+sum_checks bounds site = NotNull site ∷ up_to_of bounds site
+
+-- and before it has other bounds (C5), where it has some and is to have some
+abbrev pub cast_checks : Option PointerBounds → Option PointerBounds → List Check
+cast_checks old None = []
+cast_checks None (Some new) = []
+cast_checks (Some old) (Some new) = Contains (read_at old new.site) (read_at new new.site) ∷ []
 
 abbrev mutual
   pub expression : core.Expression → erased.Expression
@@ -32,6 +61,11 @@ abbrev mutual
   expression (core.LowByte operand) = erased.LowByte (expression operand)
   expression (core.Call callee arguments bounds) = erased.Call callee (arguments_of arguments)
   expression core.NextInput = erased.NextInput
+  expression (core.Sum pointer direction number site bounds) =
+      erased.Sum (expression pointer) direction (expression number) (size_of (bounds_of pointer)) (sum_checks (bounds_of pointer) site)
+  expression (core.Order comparison left right site) = erased.Order comparison (expression left) (NotNull site ∷ []) (expression right) (NotNull site ∷ [])
+  expression (core.Allocate count element bounds) = erased.Allocate (expression count) element
+  expression (core.Cast pointer bounds) = erased.Cast (expression pointer) (size_of (bounds_of pointer)) (cast_checks (bounds_of pointer) bounds)
 
   pub arguments_of : core.Arguments → erased.Arguments
   arguments_of core.Done = erased.Done
@@ -39,7 +73,13 @@ abbrev mutual
 
   pub place : core.Place → erased.Place
   place (core.Direct object offset) = erased.Direct object offset
-  place (core.Through pointer index offset site) = erased.Through (expression pointer) index offset (access_checks index site)
+  place (core.Through pointer which offset site) =
+      erased.Through (expression pointer) (index (size_of (bounds_of pointer)) which) offset (access_checks (bounds_of pointer) which site)
+
+  -- an element of so many bytes
+  pub index : ℕ → core.Index → erased.Index
+  index size core.First = erased.First
+  index size (core.Element number) = erased.Element (expression number) size
 
 abbrev mutual
   pub statement : core.Statement → erased.Statement

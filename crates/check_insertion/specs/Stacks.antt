@@ -25,6 +25,10 @@ abbrev mutual
   expression_stack (erased.LowByte operand) = expression_stack operand
   expression_stack (erased.Call callee arguments) = max 1 (arguments_stack arguments)
   expression_stack erased.NextInput = 1
+  expression_stack (erased.Sum pointer direction number size checks) = max (expression_stack pointer) (max (1 + expression_stack number) 6)
+  expression_stack (erased.Order comparison left left_checks right right_checks) = max (expression_stack left) (max (1 + expression_stack right) 2)
+  expression_stack (erased.Allocate count element) = expression_stack count
+  expression_stack (erased.Cast pointer size checks) = max (expression_stack pointer) 7
 
   pub arguments_stack : erased.Arguments → ℕ
   arguments_stack erased.Done = 0
@@ -32,12 +36,22 @@ abbrev mutual
 
   pub place_stack : erased.Place → ℕ
   place_stack (erased.Direct object offset) = offset_stack offset
-  place_stack (erased.Through pointer index offset checks) = max (expression_stack pointer) (offset_stack offset)
+  place_stack (erased.Through pointer index offset checks) = max (expression_stack pointer) (max (index_stack index) (offset_stack offset))
 
--- a store has its address or its pointer on the stack while its value is computed, and two words, or three, when it is checked
+  -- what stands above a pointer: its index, and the words of its checks, of which the pointer is one
+  pub index_stack : erased.Index → ℕ
+  index_stack erased.First = 0
+  index_stack (erased.Element number size) = max (1 + expression_stack number) 6
+
+-- what stands above the pointer of a store: its index and its value, and the words of its checks
+abbrev pub value_stack : erased.Index → erased.Expression → ℕ
+value_stack erased.First value = max (1 + expression_stack value) 2
+value_stack (erased.Element number size) value = max (1 + expression_stack number) (max (2 + expression_stack value) 6)
+
+-- a store has its address, or its pointer and its index, on the stack while its value is computed
 abbrev pub store_stack : erased.Place → erased.Expression → ℕ
 store_stack (erased.Direct object offset) value = max (offset_stack offset) (1 + expression_stack value)
-store_stack (erased.Through pointer index offset checks) value = max (expression_stack pointer) (max (1 + expression_stack value) 2)
+store_stack (erased.Through pointer index offset checks) value = max (expression_stack pointer) (value_stack index value)
 
 abbrev mutual
   pub statement_stack : erased.Statement → ℕ

@@ -21,6 +21,11 @@ abbrev mutual
   expression_weight (erased.LowByte operand) = 1 + expression_weight operand
   expression_weight (erased.Call callee arguments) = 1 + arguments_weight arguments
   expression_weight erased.NextInput = 1
+  expression_weight (erased.Sum pointer direction number size checks) = 1 + length checks + expression_weight pointer + expression_weight number
+  expression_weight (erased.Order comparison left left_checks right right_checks) =
+      1 + length left_checks + length right_checks + expression_weight left + expression_weight right
+  expression_weight (erased.Allocate count element) = 1 + expression_weight count
+  expression_weight (erased.Cast pointer size checks) = 1 + length checks + expression_weight pointer
 
   pub arguments_weight : erased.Arguments → ℕ
   arguments_weight erased.Done = 0
@@ -28,7 +33,11 @@ abbrev mutual
 
   pub place_weight : erased.Place → ℕ
   place_weight (erased.Direct object offset) = 1
-  place_weight (erased.Through pointer index offset checks) = 1 + length checks + expression_weight pointer
+  place_weight (erased.Through pointer index offset checks) = 1 + length checks + expression_weight pointer + index_weight index
+
+  pub index_weight : erased.Index → ℕ
+  index_weight erased.First = 0
+  index_weight (erased.Element number size) = expression_weight number
 
 abbrev mutual
   pub statement_weight : erased.Statement → ℕ

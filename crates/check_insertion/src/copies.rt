@@ -46,7 +46,7 @@ fn cell(alloc: Global, cell: &Initial) -> Result<Initial, NoMemory>
 }
 
 // Copies of cells.
-fn cells(alloc: Global, cells: &[Initial]) -> Result<Vec<Initial>, NoMemory>
+pub fn cells(alloc: Global, cells: &[Initial]) -> Result<Vec<Initial>, NoMemory>
     ensures { IfOk result (λ v. map initial v.items ≡ map initial cells.now) }
 {
     let mut copies = Vec::new(alloc);

@@ -1,15 +1,39 @@
 // The core with its checks, and without bounds.
 
 use act_words::operator::{Comparison, Operator};
-use ckc_core::program::{Callee, Import, Index, Object, Site};
+use bounds_exprs::term::Bounds;
+use ckc_core::program::{Callee, Direction, Import, Initial, Object, Site};
 use ckc_text::name::Name;
 use pointer_modes::ctype::CType;
+
+/// The bounds whose variables a check reads, and its site. They are counted in the elements of what is checked.
+#[derive(Clone, Copy)]
+pub struct Reading {
+    pub bounds: Bounds,
+    pub site: Site,
+}
 
 /// What has to hold of a pointer before an access. A check has its site, and the variables of the bounds that it reads.
 #[derive(Clone, Copy)]
 pub enum Check {
     /// It isn't null (C1); no bounds are read.
     NotNull { site: Site },
+    /// The element that is taken lies within the bounds (C2).
+    Below(Reading),
+    /// The place that it is moved to lies within the bounds, or at the upper end (C2).
+    UpTo(Reading),
+    /// The new bounds lie within the old ones, unless it is null or the new ones are turned (C5).
+    Contains { old: Reading, new: Reading },
+}
+
+/// Which element an access takes, from the one that its pointer leads to.
+#[cycle(erased)]
+#[derive(Drop)]
+pub enum Index {
+    /// That one.
+    First,
+    /// The one of a number, each with so many bytes.
+    Element { number: Box<Expr>, size: u32 },
 }
 
 /// An expression. Locals, file-level variables and functions are numbered from 0 in the order of their declarations.
@@ -63,6 +87,33 @@ pub enum Expr {
     /// What a call returns.
     Call(Call),
     NextInput,
+    /// A pointer that is so many elements further on, or back, each with so many bytes, behind its checks.
+    Sum {
+        pointer: Box<Expr>,
+        direction: Direction,
+        number: Box<Expr>,
+        size: u32,
+        checks: Vec<Check>,
+    },
+    /// The order of two pointers in one block, behind the checks of both.
+    Order {
+        comparison: Comparison,
+        left: Box<Expr>,
+        left_checks: Vec<Check>,
+        right: Box<Expr>,
+        right_checks: Vec<Check>,
+    },
+    /// A new block of so many elements, each with these cells, or null.
+    Allocate {
+        count: Box<Expr>,
+        element: Vec<Initial>,
+    },
+    /// A pointer to elements of so many bytes, behind its checks.
+    Cast {
+        pointer: Box<Expr>,
+        size: u32,
+        checks: Vec<Check>,
+    },
 }
 
 /// A call, with its arguments from left to right. Those of a tainted function are numbers.

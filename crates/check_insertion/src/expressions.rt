@@ -1,28 +1,23 @@
 // Expressions with the checks of their accesses.
 
-ghost use Rattle.std.specs.Prelude.{◌≡◌, IfOk};
+ghost use Rattle.std.specs.Prelude.{◌≡◌, ◌∷◌, [], map, IfOk};
 ghost use Rattle.pointer_modes.specs.Types.{ctype as ctype_of};
 ghost use Rattle.ckc_core.specs.Core as core;
+ghost use Rattle.ckc_core.specs.Meaning.{bounds_of};
+ghost use Rattle.check_insertion.specs.declared.erased.Check.TheVariants.{NotNull};
 ghost use Rattle.check_insertion.specs.Erased as erased;
 ghost use Rattle.check_insertion.specs.Insert as insert;
 
-use crate::erased::{Call, CellPlace, Check, Expr};
+use crate::checks::{access_checks, cast_checks, not_null, size_of, sum_checks};
+use crate::copies::cells;
+use crate::erased::{Call, CellPlace, Expr, Index};
 use act_words::operator::{Comparison, Operator};
 use ckc_core::program;
-use ckc_core::program::{Callee, Index, Site};
+use ckc_core::program::{Callee, Direction, Initial, PointerBounds, Site};
 use ckc_text::fault::NoMemory;
 use ckc_text::on_heap;
 use pointer_modes::ctype::CType;
 use std::alloc::Global;
-
-/// What has to hold of a pointer before an access.
-pub fn access_checks(alloc: Global, index: Index, site: Site) -> Result<Vec<Check>, NoMemory>
-    ensures { IfOk result (λ checks. checks.items ≡ insert.access_checks index site) }
-{
-    match index {
-        Index::First => Ok(vec![in alloc; Check::NotNull { site }]?),
-    }
-}
 
 /// An expression with its checks.
 #[cycle(expressions)]
@@ -59,6 +54,21 @@ pub fn expression(alloc: Global, expr: &program::Expr) -> Result<Expr, NoMemory>
             call.arguments.as_slice(),
         ),
         program::Expr::NextInput => Ok(Expr::NextInput),
+        program::Expr::Sum {
+            pointer,
+            direction,
+            number,
+            site,
+            ..
+        } => sum(alloc, pointer, *direction, number, *site),
+        program::Expr::Order {
+            comparison,
+            left,
+            right,
+            site,
+        } => order(alloc, *comparison, left, right, *site),
+        program::Expr::Allocate { count, element, .. } => allocate(alloc, count, element),
+        program::Expr::Cast { pointer, bounds } => cast(alloc, pointer, *bounds),
     }
 }
 
@@ -159,6 +169,83 @@ fn or_else(alloc: Global, left: &program::Expr, right: &program::Expr) -> Result
     Ok(Expr::OrElse { left, right })
 }
 
+// A pointer that is moved, behind its checks.
+#[cycle(expressions)]
+fn sum(
+    alloc: Global,
+    pointer: &program::Expr,
+    direction: Direction,
+    number: &program::Expr,
+    site: Site,
+) -> Result<Expr, NoMemory>
+    ensures { IfOk result (λ e. erased.expression e ≡ erased.Sum (insert.expression (core.expression pointer.now)) direction (insert.expression (core.expression number.now)) (insert.size_of (bounds_of (core.expression pointer.now))) (insert.sum_checks (bounds_of (core.expression pointer.now)) site)) }
+{
+    let checks = sum_checks(alloc, pointer, site)?;
+    let size = size_of(pointer);
+    let pointer = boxed(alloc, pointer)?;
+    let number = boxed(alloc, number)?;
+    Ok(Expr::Sum {
+        pointer,
+        direction,
+        number,
+        size,
+        checks,
+    })
+}
+
+// The order of two pointers, behind their checks.
+#[cycle(expressions)]
+fn order(
+    alloc: Global,
+    comparison: Comparison,
+    left: &program::Expr,
+    right: &program::Expr,
+    site: Site,
+) -> Result<Expr, NoMemory>
+    ensures { IfOk result (λ e. erased.expression e ≡ erased.Order comparison (insert.expression (core.expression left.now)) (NotNull site ∷ []) (insert.expression (core.expression right.now)) (NotNull site ∷ [])) }
+{
+    let left = boxed(alloc, left)?;
+    let left_checks = not_null(alloc, site)?;
+    let right = boxed(alloc, right)?;
+    let right_checks = not_null(alloc, site)?;
+    Ok(Expr::Order {
+        comparison,
+        left,
+        left_checks,
+        right,
+        right_checks,
+    })
+}
+
+// A new block.
+#[cycle(expressions)]
+fn allocate(alloc: Global, count: &program::Expr, element: &[Initial]) -> Result<Expr, NoMemory>
+    ensures { IfOk result (λ e. erased.expression e ≡ erased.Allocate (insert.expression (core.expression count.now)) (map core.initial element.now)) }
+{
+    let count = boxed(alloc, count)?;
+    let element = cells(alloc, element)?;
+    Ok(Expr::Allocate { count, element })
+}
+
+// A pointer with other bounds, behind its checks.
+#[cycle(expressions)]
+fn cast(
+    alloc: Global,
+    pointer: &program::Expr,
+    bounds: Option<PointerBounds>,
+) -> Result<Expr, NoMemory>
+    ensures { IfOk result (λ e. erased.expression e ≡ erased.Cast (insert.expression (core.expression pointer.now)) (insert.size_of (bounds_of (core.expression pointer.now))) (insert.cast_checks (bounds_of (core.expression pointer.now)) bounds)) }
+{
+    let checks = cast_checks(alloc, pointer, bounds)?;
+    let size = size_of(pointer);
+    let pointer = boxed(alloc, pointer)?;
+    Ok(Expr::Cast {
+        pointer,
+        size,
+        checks,
+    })
+}
+
 // The arguments of a call, with their checks.
 #[cycle(expressions)]
 fn arguments_of(alloc: Global, arguments: &[program::Expr]) -> Result<Vec<Expr>, NoMemory>
@@ -205,7 +292,21 @@ pub fn place(alloc: Global, cell: &program::CellPlace) -> Result<CellPlace, NoMe
             index,
             offset,
             site,
-        } => through(alloc, pointer, *index, *offset, *site),
+        } => through(alloc, pointer, index, *offset, *site),
+    }
+}
+
+// Which element an access takes, each with so many bytes.
+#[cycle(expressions)]
+fn index(alloc: Global, size: u32, which: &program::Index) -> Result<Index, NoMemory>
+    ensures { IfOk result (λ i. erased.index i ≡ insert.index size (core.index which.now)) }
+{
+    match which {
+        program::Index::First => Ok(Index::First),
+        program::Index::Element(number) => Ok(Index::Element {
+            number: boxed(alloc, number)?,
+            size,
+        }),
     }
 }
 
@@ -214,14 +315,15 @@ pub fn place(alloc: Global, cell: &program::CellPlace) -> Result<CellPlace, NoMe
 fn through(
     alloc: Global,
     pointer: &program::Expr,
-    index: Index,
+    which: &program::Index,
     offset: u32,
     site: Site,
 ) -> Result<CellPlace, NoMemory>
-    ensures { IfOk result (λ p. erased.place p ≡ erased.Through (insert.expression (core.expression pointer.now)) index offset (insert.access_checks index site)) }
+    ensures { IfOk result (λ p. erased.place p ≡ erased.Through (insert.expression (core.expression pointer.now)) (insert.index (insert.size_of (bounds_of (core.expression pointer.now))) (core.index which.now)) offset (insert.access_checks (bounds_of (core.expression pointer.now)) (core.index which.now) site)) }
 {
+    let checks = access_checks(alloc, pointer, which, site)?;
+    let index = index(alloc, size_of(pointer), which)?;
     let pointer = boxed(alloc, pointer)?;
-    let checks = access_checks(alloc, index, site)?;
     Ok(CellPlace::Through {
         pointer,
         index,

@@ -16,7 +16,8 @@ use Rattle.ckc_core.specs.Core as core
 use Rattle.ckc_core.specs.States.{Value, State, in_world}
 use Rattle.ckc_core.specs.Bounds.{with_ends, is_valid}
 use Rattle.ckc_core.specs.Steps.{Result, Flow, Next, Broke, Continued, Returned, setting_of, given, variable_at, load_at, pointer_to, truth, same_place, test_given, arithmetic_of, compared, negated, complemented, low_byte_of, words_of, reply_as, back, passed, cross, cross_if, call_tainted, crossed, fit, parameters_of, takes, enter_if, called, result_given, choose, store_at, set_local, kept_if, is_char, printed, put, on_next, behind_turn, no_result, answer, locals_for, exit, initial, asked}
-use Rattle.ckc_core.specs.Meaning.{Knot, Setting, sound_if, audit, site_of, bounds_of, place_from, pointer_of, reached, value, values, place, effect, effects, body_if, body_of, knot, run_from}
+use Rattle.ckc_core.specs.Pointers.{number_given, distance, ordered, not_null, allocated}
+use Rattle.ckc_core.specs.Meaning.{Knot, Setting, sound_if, audit, site_of, bounds_of, cast_to, number_of, place_from, pointed, reached, summed, target_of, value, values, place, effect, effects, body_if, body_of, knot, run_from}
 use Rattle.ckc_core.specs.Audits.{Agrees, AuditChangesNothing}
 
 same : {A : Type 0} (o : Result A) → Agrees o o
@@ -149,6 +150,28 @@ module _ (program : ProgramOf core.Statements) (settings : Settings) where
           (on (called g k callee vs t) (called g k' callee vs t) result_given result_given (called_on callee vs t) (λ v u. same (result_given v u)))
           (λ v u. audited_on bounds v u))
       value_on core.NextInput s = asked_on (next_input s.world) s _ _ (λ z t. refl)
+      value_on (core.Sum pointer direction number site bounds) s =
+          on _ _ (audit true bounds) (audit false bounds)
+          (on (value true g k pointer s) (value false g k' pointer s) _ _ (value_on pointer s)
+          (λ v t. on (and_then (value true g k number t) (number_given (Some site))) (and_then (value false g k' number t) (number_given (Some site))) _ _
+          (on (value true g k number t) (value false g k' number t) (number_given (Some site)) (number_given (Some site)) (value_on number t) (λ w u. same (number_given (Some site) w u)))
+          (λ n u. same (summed direction site n v (with_ends (bounds_of pointer) v t.locals).ends u))))
+          (λ v t. audited_on bounds v t)
+      value_on (core.Order comparison left right site) s =
+          on (value true g k left s) (value false g k' left s) _ _ (value_on left s)
+          (λ a t. on (value true g k right t) (value false g k' right t) _ _ (value_on right t)
+          (λ b u. same (and_then (not_null site a u) (λ _ w. and_then (not_null site b w) (λ _ x. ordered comparison (Some site) a b x)))))
+      value_on (core.Allocate count element bounds) s =
+          on _ _ (audit true bounds) (audit false bounds)
+          (on (and_then (value true g k count s) (number_given None)) (and_then (value false g k' count s) (number_given None)) (allocated settings.trusted element) (allocated settings.trusted element)
+          (on (value true g k count s) (value false g k' count s) (number_given None) (number_given None) (value_on count s) (λ v t. same (number_given None v t)))
+          (λ z t. same (allocated settings.trusted element z t)))
+          (λ v t. audited_on bounds v t)
+      value_on (core.Cast pointer bounds) s =
+          on _ _ (audit true bounds) (audit false bounds)
+          (on (value true g k pointer s) (value false g k' pointer s) _ _ (value_on pointer s)
+          (λ v t. same (cast_to bounds (with_ends (bounds_of pointer) v t.locals) t)))
+          (λ v t. audited_on bounds v t)
 
       values_on : (es : core.Arguments) (s : State) → Agrees (values true g k es s) (values false g k' es s)
       values_on core.Done s = refl
@@ -160,14 +183,22 @@ module _ (program : ProgramOf core.Statements) (settings : Settings) where
       place_on (core.Direct object offset) s = same (variable_at g object offset s)
       place_on (core.Through pointer index offset site) s =
           on (value true g k pointer s) (value false g k' pointer s) _ _ (value_on pointer s)
-          (λ v t. same (reached index offset site (with_ends (bounds_of pointer) v t.locals) t))
+          (λ v t. on (number_of true g k index t) (number_of false g k' index t) _ _ (index_on index t)
+          (λ n u. same (reached index offset site (record { pointer = with_ends (bounds_of pointer) v t.locals; number = n }) u)))
+
+      index_on : (index : core.Index) (s : State) → Agrees (number_of true g k index s) (number_of false g k' index s)
+      index_on core.First s = refl
+      index_on (core.Element number) s =
+          on (value true g k number s) (value false g k' number s) (number_given None) (number_given None) (value_on number s) (λ v t. same (number_given None v t))
 
     -- ---- statements
 
-    pointer_on : (p : core.Place) (s : State) → Agrees (pointer_of true g k p s) (pointer_of false g k' p s)
-    pointer_on (core.Direct object offset) s = same (pointer_of true g k (core.Direct object offset) s)
-    pointer_on (core.Through pointer index offset site) s =
-        on (value true g k pointer s) (value false g k' pointer s) _ _ (value_on pointer s) (λ v t. refl)
+    target_on : (p : core.Place) (s : State) → Agrees (target_of true g k p s) (target_of false g k' p s)
+    target_on (core.Direct object offset) s = same (target_of true g k (core.Direct object offset) s)
+    target_on (core.Through pointer index offset site) s =
+        on (pointed true g k pointer s) (pointed false g k' pointer s) _ _
+        (on (value true g k pointer s) (value false g k' pointer s) _ _ (value_on pointer s) (λ v t. refl))
+        (λ p t. on (number_of true g k index t) (number_of false g k' index t) _ _ (index_on index t) (λ n u. refl))
 
     mutual
       effect_on : (x : core.Statement) (s : State) → Agrees (effect true g k x s) (effect false g k' x s)
@@ -175,7 +206,7 @@ module _ (program : ProgramOf core.Statements) (settings : Settings) where
       effect_on (core.SetLocal local e) s =
           on (value true g k e s) (value false g k' e s) (set_local local) (set_local local) (value_on e s) (λ v t. same (set_local local v t))
       effect_on (core.Store type p e) s =
-          on (pointer_of true g k p s) (pointer_of false g k' p s) _ _ (pointer_on p s)
+          on (target_of true g k p s) (target_of false g k' p s) _ _ (target_on p s)
           (λ q t. on (value true g k e t) (value false g k' e t) _ _ (value_on e t)
           (λ v u. same (and_then (place_from p q u) (λ at w. store_at type (site_of p) at v w))))
       effect_on (core.UpdateLocal char local operator e site) s =

@@ -1,7 +1,7 @@
 -- A meaning with as many ticks as its budget is never short of them: an induction over the meaning, with the ticks spent.
-use Rattle.std.proofs.Common.{◌≡◌, ℕ, zero, suc, ◌+◌, ◌≤◌, Bool, true, false, ℤ, List, [], length, replicate, Option, Some, None, refl, arith}
-use Rattle.std.specs.Prelude.{◌==◌, ◌&&◌, ◌||◌, not, nat_lt, slice_get}
-use Rattle.flat_bytes.specs.Blocks.{first_offset}
+use Rattle.std.proofs.Common.{◌≡◌, ℕ, zero, suc, ◌+◌, ◌*◌, ◌≤◌, Bool, true, false, ℤ, ◌+ℤ◌, List, [], length, replicate, Option, Some, None, refl, arith}
+use Rattle.std.specs.Prelude.{◌==◌, ◌&&◌, ◌||◌, not, nat_lt, slice_get, pos, negsuc}
+use Rattle.flat_bytes.specs.Blocks.{first_offset, is_refused}
 use Rattle.act_words.specs.declared.settings.Settings.{Settings}
 use Rattle.act_words.specs.Acts.{Act, Passed}
 use Rattle.ckc_core.specs.Outcome.{Gives, Ends, Stuck, Unsound, Short, and_then}
@@ -15,15 +15,18 @@ use Rattle.act_words.specs.declared.operator.Operator.{Operator}
 use Rattle.act_words.specs.declared.operator.Comparison.{Comparison}
 use Rattle.ckc_core.specs.declared.program.Callee.{Callee}
 use Rattle.ckc_core.specs.declared.program.Callee.TheVariants as callees
-use Rattle.ckc_core.specs.Programs.{Import, ProgramOf, parted}
-use Rattle.ckc_core.specs.declared.program.Index.{Index}
-use Rattle.ckc_core.specs.declared.program.Index.TheVariants as indexes
+use Rattle.ckc_core.specs.Programs.{Import, Initial, ProgramOf, parted}
+use Rattle.ckc_core.specs.declared.program.Direction.{Direction}
+use Rattle.ckc_core.specs.declared.program.Direction.TheVariants as directions
 use Rattle.ckc_core.specs.declared.program.PointerBounds.{PointerBounds}
-use Rattle.ckc_core.specs.Bounds.{Pointed, with_ends, is_valid}
+use Rattle.ckc_core.specs.Bounds.{Ends as EndsOf, ends_at, Pointed, with_ends, is_valid}
 use Rattle.ckc_core.specs.Core as core
 use Rattle.ckc_core.specs.States.{Value, Number, Null, At, Cell, Local, State, in_world, cell_at, same_type, has_type}
 use Rattle.ckc_core.specs.Steps.{variable_if, variable_at, Result, Flow, Next, Broke, Continued, Returned, given, checked, value_if, value_in, load_at, place_if, pointer_to, truth, same_place, test_given, result_of, arithmetic_of, compared, negated, complemented, low_byte_of, asked, words_of, reply_as, passed, cross, cross_if, call_tainted, crossed, takes, enter_if, call_trusted, called, result_given, choose, store_if, store_over, store_at, set_local, kept_if, is_char, printed, put, on_next, behind_turn, no_result, answer, locals_for, back, exit, initial, place_at, set_if, set_over, leaves_zero, fit, parameters_of, fits_result, answer_if}
-use Rattle.ckc_core.specs.Meaning.{Knot, bounds_of, Setting, audit, body_if, body_of, effect, effects, element, knot, run_of, place, place_from, pointed, pointer_of, reached, site_of, sound_if, value, values}
+use Rattle.ckc_core.specs.Meaning.{Knot, bounds_of, Setting, audit, body_if, body_of, cast_to, cast_if, cast_within, effect, effects, element, element_within, number_of, knot, run_of, place, place_from, pointed, Target, target_of, reached, site_of, sound_if, summed, value, values}
+use Rattle.ckc_core.specs.Pointers.{number_given, checked_if, distance, lies_below, lies_up_to, are_within, cell_behind, reaches, pointer_if, pointer_at, ordered_if, ordered, not_null, counter_behind, element_size, made_if, allocated}
+use Rattle.ckc_text.specs.declared.code.Code.{Code}
+use Rattle.ckc_text.specs.declared.code.Code.TheVariants.{C2, C5}
 use Rattle.ckc_core.proofs.Ticks.{HasSpent, Answers, Crosses, tick_answers, enter_answers, touch_answers, until_crosses, next_answers}
 
 -- from a state in which so many ticks were spent at least: no fewer were in the state behind a value, and it isn't short
@@ -93,8 +96,86 @@ module _ (budget : ℕ) where
     element_goes offset site Null = tt
     element_goes offset site (At block byte) = direct_goes (Some site) block (byte + offset)
 
-    reached_goes : (index : Index) (offset : ℕ) (site : Site) (p : Pointed) → Goes budget low (reached index offset site p s)
-    reached_goes indexes.First offset site p = element_goes offset site p.value
+    number_goes : (site : Option Site) (v : Value) → Goes budget low (number_given site v s)
+    number_goes site (Number z) = spent
+    number_goes site Null = tt
+    number_goes site (At block byte) = tt
+
+    checked_goes_if : {A : Type 0} (test : Bool) (code : Code) (site : Site) (next : Result A) → Goes budget low next → Goes budget low (checked_if test code site next s)
+    checked_goes_if true code site next h = h
+    checked_goes_if false code site next h = tt
+
+    cell_behind_goes : (site : Option Site) (block : ℕ) (byte : ℤ) (offset : ℕ) → Goes budget low (cell_behind site block byte offset s)
+    cell_behind_goes site block (pos byte) offset = direct_goes site block (byte + offset)
+    cell_behind_goes site block (negsuc byte) offset = tt
+
+    pointer_goes_if : (test : Bool) (site : Option Site) (block byte : ℕ) → Goes budget low (pointer_if test site block byte s)
+    pointer_goes_if true site block byte = spent
+    pointer_goes_if false site block byte = tt
+
+    pointer_at_goes : (site : Option Site) (block : ℕ) (byte : ℤ) → Goes budget low (pointer_at site block byte s)
+    pointer_at_goes site block (pos byte) = pointer_goes_if (reaches (slice_get s.blocks block) byte) site block byte
+    pointer_at_goes site block (negsuc byte) = tt
+
+    within_goes : (offset : ℕ) (site : Site) (n : ℤ) (v : Value) (ends : Option EndsOf) → Goes budget low (element_within offset site n v ends s)
+    within_goes offset site n (Number z) ends = tt
+    within_goes offset site n Null ends = tt
+    within_goes offset site n (At block byte) None = tt
+    within_goes offset site n (At block byte) (Some e) =
+        let x = pos byte +ℤ distance directions.Forward e.size n in checked_goes_if (lies_below e x) C2 site (cell_behind (Some site) block x offset s) (cell_behind_goes (Some site) block x offset)
+
+    reached_goes : (index : core.Index) (offset : ℕ) (site : Site) (t : Target) → Goes budget low (reached index offset site t s)
+    reached_goes core.First offset site t = element_goes offset site t.pointer.value
+    reached_goes (core.Element number) offset site t = within_goes offset site t.number t.pointer.value t.pointer.ends
+
+    summed_goes : (direction : Direction) (site : Site) (n : ℤ) (v : Value) (ends : Option EndsOf) → Goes budget low (summed direction site n v ends s)
+    summed_goes direction site n (Number z) ends = tt
+    summed_goes direction site n Null ends = tt
+    summed_goes direction site n (At block byte) None = tt
+    summed_goes direction site n (At block byte) (Some e) =
+        let x = pos byte +ℤ distance direction e.size n in checked_goes_if (lies_up_to e x) C2 site (pointer_at (Some site) block x s) (pointer_at_goes (Some site) block x)
+
+    not_null_goes : (site : Site) (v : Value) → Goes budget low (not_null site v s)
+    not_null_goes site (Number z) = tt
+    not_null_goes site Null = tt
+    not_null_goes site (At block byte) = spent
+
+    ordered_goes_if : (test : Bool) (comparison : Comparison) (site : Option Site) (byte other : ℕ) → Goes budget low (ordered_if test comparison site byte other s)
+    ordered_goes_if true comparison site byte other = spent
+    ordered_goes_if false comparison site byte other = tt
+
+    ordered_goes : (comparison : Comparison) (site : Option Site) (v w : Value) → Goes budget low (ordered comparison site v w s)
+    ordered_goes comparison site (Number z) w = tt
+    ordered_goes comparison site Null w = tt
+    ordered_goes comparison site (At block byte) (Number z) = tt
+    ordered_goes comparison site (At block byte) Null = tt
+    ordered_goes comparison site (At block byte) (At other byte') = ordered_goes_if (block == other) comparison site byte byte'
+
+    made_goes_if : (test : Bool) (n : ℕ) (element : List Initial) → Goes budget low (made_if test n element s)
+    made_goes_if true n element = spent
+    made_goes_if false n element = record { least = spent.least; most = spent.most }
+
+    allocated_goes : (size : ℕ) (element : List Initial) (z : ℤ) → Goes budget low (allocated size element z s)
+    allocated_goes size element (negsuc n) = spent
+    allocated_goes size element (pos n) = made_goes_if (is_refused size (counter_behind first_offset s.blocks) (n * element_size element)) n element
+
+    cast_goes_if : (test : Bool) (site : Site) (v : Value) (old new : EndsOf) → Goes budget low (cast_if test site v old new s)
+    cast_goes_if true site v old new = checked_goes_if (are_within old new) C5 site (Gives v s) spent
+    cast_goes_if false site v old new = tt
+
+    cast_within_goes : (site : Site) (v : Value) (old new : Option EndsOf) → Goes budget low (cast_within site v old new s)
+    cast_within_goes site v None new = tt
+    cast_within_goes site v (Some old) None = tt
+    cast_within_goes site v (Some old) (Some new) = cast_goes_if (old.size == new.size) site v old new
+
+    cast_goes_of : (bounds : PointerBounds) (v : Value) (ends : Option EndsOf) → Goes budget low (cast_to (Some bounds) (record { value = v; ends = ends }) s)
+    cast_goes_of bounds (Number z) ends = tt
+    cast_goes_of bounds Null ends = spent
+    cast_goes_of bounds (At block byte) ends = cast_within_goes bounds.site (At block byte) ends (ends_at bounds s.locals block byte)
+
+    cast_goes : (bounds : Option PointerBounds) (p : Pointed) → Goes budget low (cast_to bounds p s)
+    cast_goes None p = spent
+    cast_goes (Some bounds) p = cast_goes_of bounds p.value p.ends
 
     sound_goes_if : (test : Bool) (site : Site) (v : Value) → Goes budget low (sound_if test site v s)
     sound_goes_if true site v = spent
@@ -209,9 +290,9 @@ module _ (budget : ℕ) where
     answer_goes result Broke = tt
     answer_goes result Continued = tt
 
-    place_from_goes : (p : core.Place) (v : Pointed) → Goes budget low (place_from p v s)
-    place_from_goes (core.Direct object offset) v = direct_goes None object offset
-    place_from_goes (core.Through pointer index offset site) v = reached_goes index offset site v
+    place_from_goes : (p : core.Place) (t : Target) → Goes budget low (place_from p t s)
+    place_from_goes (core.Direct object offset) t = direct_goes None object offset
+    place_from_goes (core.Through pointer index offset site) t = reached_goes index offset site t
 
   module _ (audited : Bool) (program : ProgramOf core.Statements) (sandbox_size trusted_size n : ℕ) where
     abbrev g : Setting
@@ -305,6 +386,30 @@ module _ (budget : ℕ) where
             (goes_on low (called g k callee vs t) result_given (called_goes low enough callee vs t t_spent) (λ v u u_spent. result_goes low u u_spent v))
             (λ v u u_spent. audit_goes low u u_spent audited bounds v))
         value_goes core.NextInput low enough s spent = asked_goes low (next_input s.world) s _ (next_answers budget low s.world spent) (λ z t t_spent. t_spent)
+        value_goes (core.Sum pointer direction number site bounds) low enough s spent =
+            goes_on low _ (audit audited bounds)
+            (goes_on low (value audited g k pointer s) _ (value_goes pointer low enough s spent)
+            (λ v t t_spent. goes_on low (and_then (value audited g k number t) (number_given (Some site))) _
+            (goes_on low (value audited g k number t) (number_given (Some site)) (value_goes number low enough t t_spent) (λ w u u_spent. number_goes low u u_spent (Some site) w))
+            (λ n u u_spent. summed_goes low u u_spent direction site n v (with_ends (bounds_of pointer) v t.locals).ends)))
+            (λ v t t_spent. audit_goes low t t_spent audited bounds v)
+        value_goes (core.Order comparison left right site) low enough s spent =
+            goes_on low (value audited g k left s) _ (value_goes left low enough s spent)
+            (λ a t t_spent. goes_on low (value audited g k right t) _ (value_goes right low enough t t_spent)
+            (λ b u u_spent. goes_on low (not_null site a u) _ (not_null_goes low u u_spent site a)
+            (λ _ w w_spent. goes_on low (not_null site b w) _ (not_null_goes low w w_spent site b)
+            (λ _ x x_spent. ordered_goes low x x_spent comparison (Some site) a b))))
+        value_goes (core.Allocate count element bounds) low enough s spent =
+            goes_on low _ (audit audited bounds)
+            (goes_on low (and_then (value audited g k count s) (number_given None)) (allocated trusted_size element)
+            (goes_on low (value audited g k count s) (number_given None) (value_goes count low enough s spent) (λ v t t_spent. number_goes low t t_spent None v))
+            (λ z t t_spent. allocated_goes low t t_spent trusted_size element z))
+            (λ v t t_spent. audit_goes low t t_spent audited bounds v)
+        value_goes (core.Cast pointer bounds) low enough s spent =
+            goes_on low _ (audit audited bounds)
+            (goes_on low (value audited g k pointer s) _ (value_goes pointer low enough s spent)
+            (λ v t t_spent. cast_goes low t t_spent bounds (with_ends (bounds_of pointer) v t.locals)))
+            (λ v t t_spent. audit_goes low t t_spent audited bounds v)
 
         values_go : (es : core.Arguments) (low : ℕ) (enough : budget ≤ low + n) (s : State) → HasSpent budget low s.world → Goes budget low (values audited g k es s)
         values_go core.Done low enough s spent = spent
@@ -316,14 +421,22 @@ module _ (budget : ℕ) where
         place_goes (core.Direct object offset) low enough s spent = variable_goes low s spent (nat_lt object (length program.objects)) object offset
         place_goes (core.Through pointer index offset site) low enough s spent =
             goes_on low (value audited g k pointer s) _ (value_goes pointer low enough s spent)
-            (λ v t t_spent. reached_goes low t t_spent index offset site (with_ends (bounds_of pointer) v t.locals))
+            (λ v t t_spent. goes_on low (number_of audited g k index t) _ (index_goes index low enough t t_spent)
+            (λ n u u_spent. reached_goes low u u_spent index offset site (record { pointer = with_ends (bounds_of pointer) v t.locals; number = n })))
+
+        index_goes : (index : core.Index) (low : ℕ) (enough : budget ≤ low + n) (s : State) → HasSpent budget low s.world → Goes budget low (number_of audited g k index s)
+        index_goes core.First low enough s spent = spent
+        index_goes (core.Element number) low enough s spent =
+            goes_on low (value audited g k number s) (number_given None) (value_goes number low enough s spent) (λ v t t_spent. number_goes low t t_spent None v)
 
       pointed_goes : (e : core.Expression) (low : ℕ) (enough : budget ≤ low + n) (s : State) → HasSpent budget low s.world → Goes budget low (pointed audited g k e s)
       pointed_goes e low enough s spent = goes_on low (value audited g k e s) _ (value_goes e low enough s spent) (λ v t t_spent. t_spent)
 
-      pointer_goes : (p : core.Place) (low : ℕ) (enough : budget ≤ low + n) (s : State) → HasSpent budget low s.world → Goes budget low (pointer_of audited g k p s)
-      pointer_goes (core.Direct object offset) low enough s spent = goes_on low (variable_at g object offset s) _ (variable_goes low s spent (nat_lt object (length program.objects)) object offset) (λ at t t_spent. t_spent)
-      pointer_goes (core.Through pointer index offset site) low enough s spent = pointed_goes pointer low enough s spent
+      target_goes : (p : core.Place) (low : ℕ) (enough : budget ≤ low + n) (s : State) → HasSpent budget low s.world → Goes budget low (target_of audited g k p s)
+      target_goes (core.Direct object offset) low enough s spent = goes_on low (variable_at g object offset s) _ (variable_goes low s spent (nat_lt object (length program.objects)) object offset) (λ at t t_spent. t_spent)
+      target_goes (core.Through pointer index offset site) low enough s spent =
+          goes_on low (pointed audited g k pointer s) _ (pointed_goes pointer low enough s spent)
+          (λ p t t_spent. goes_on low (number_of audited g k index t) _ (index_goes index low enough t t_spent) (λ n u u_spent. u_spent))
 
       -- ---- statements
 
@@ -339,7 +452,7 @@ module _ (budget : ℕ) where
         effect_goes (core.SetLocal local e) low enough s spent =
             goes_on low (value audited g k e s) (set_local local) (value_goes e low enough s spent) (λ v t t_spent. set_goes low local v t t_spent)
         effect_goes (core.Store type p e) low enough s spent =
-            goes_on low (pointer_of audited g k p s) _ (pointer_goes p low enough s spent)
+            goes_on low (target_of audited g k p s) _ (target_goes p low enough s spent)
             (λ q t t_spent. goes_on low (value audited g k e t) _ (value_goes e low enough t t_spent)
             (λ v u u_spent. goes_on low (place_from p q u) _ (place_from_goes low u u_spent p q) (λ at w w_spent. store_goes low type (site_of p) at v w w_spent)))
         effect_goes (core.UpdateLocal char local operator e site) low enough s spent =

@@ -4,3 +4,4 @@ pub mod Rows
 pub mod Ticks
 pub mod Budgets
 pub mod Audits
+pub mod Locals

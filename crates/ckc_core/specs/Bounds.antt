@@ -5,10 +5,11 @@ use Rattle.bounds_exprs.specs.declared.term.Term.{Term}
 use Rattle.ckc_core.specs.declared.program.PointerBounds.{PointerBounds}
 use Rattle.ckc_core.specs.States.{Value, Number, Null, At, Block, Local, State, strides}
 
--- where the ends of bounds stand: bytes of the block in which the pointer stands
+-- where the ends of bounds stand: bytes of the block in which the pointer stands; and the bytes of an element
 pub record Ends : Type 0 where
   pub low : ℤ
   pub high : ℤ
+  pub size : ℕ
 
 -- a pointer as an expression gives it, with its ends, where it has any
 pub record Pointed : Type 0 where
@@ -52,11 +53,11 @@ abbrev pub base_byte : Option ℕ → List Local → (block byte : ℕ) → Opti
 base_byte None locals block byte = Some byte
 base_byte (Some base) locals block byte = byte_in block (slice_get locals base)
 
-abbrev ends_from : ℕ → Option ℕ → Option ℤ → Option ℤ → Option Ends
+abbrev pub ends_from : ℕ → Option ℕ → Option ℤ → Option ℤ → Option Ends
 ends_from size None low high = None
 ends_from size (Some base) None high = None
 ends_from size (Some base) (Some low) None = None
-ends_from size (Some base) (Some low) (Some high) = Some (record { low = pos base +ℤ (low *ℤ pos size); high = pos base +ℤ (high *ℤ pos size) })
+ends_from size (Some base) (Some low) (Some high) = Some (record { low = pos base +ℤ (low *ℤ pos size); high = pos base +ℤ (high *ℤ pos size); size = size })
 
 -- the ends of a pointer to a place
 abbrev pub ends_at : PointerBounds → List Local → (block byte : ℕ) → Option Ends

@@ -7,13 +7,14 @@ use Rattle.ckc_core.specs.declared.program.Expr.{Row_of-Expr, end_of-Expr, more_
 use Rattle.ckc_core.specs.declared.program.Stmt.{Row_of-Stmt, end_of-Stmt, more_of-Stmt}
 use Rattle.ckc_core.specs.declared.program.Expr.TheVariants as exprs
 use Rattle.ckc_core.specs.declared.program.CellPlace.TheVariants as places
+use Rattle.ckc_core.specs.declared.program.Index.TheVariants as indexes
 use Rattle.ckc_core.specs.declared.program.Stmt.TheVariants as stmts
 use Rattle.ckc_core.specs.declared.program.Definition.TheVariants as definitions
 use Rattle.ckc_core.specs.declared.program.Site.{Site}
 use Rattle.act_words.specs.declared.operator.Operator.{Operator}
 use Rattle.act_words.specs.declared.operator.Comparison.{Comparison}
 use Rattle.ckc_core.specs.declared.program.Callee.{Callee}
-use Rattle.ckc_core.specs.declared.program.Index.{Index}
+use Rattle.ckc_core.specs.declared.program.Direction.{Direction}
 use Rattle.ckc_core.specs.declared.program.PointerBounds.{PointerBounds}
 use Rattle.ckc_core.specs.Programs.{FunctionOf, Import, Initial, Definition, Trusted, Tainted, SourceOf, ProgramOf}
 
@@ -43,11 +44,24 @@ mutual
     -- a call with a result
     Call : (callee : Callee) (arguments : Arguments) (bounds : Option PointerBounds) → Expression
     NextInput : Expression
+    -- a pointer that is so many elements further on, or back
+    Sum : (pointer : Expression) (direction : Direction) (number : Expression) (site : Site) (bounds : Option PointerBounds) → Expression
+    -- the order of two pointers in one block
+    Order : (comparison : Comparison) (left right : Expression) (site : Site) → Expression
+    -- a new block of so many elements, each with these cells, or null
+    Allocate : (count : Expression) (element : List Initial) (bounds : Option PointerBounds) → Expression
+    -- a pointer with other bounds, which have to lie within its own where there are some
+    Cast : (pointer : Expression) (bounds : Option PointerBounds) → Expression
 
   -- the arguments of a call, from left to right
   pub data Arguments : Type 0 where
     Done : Arguments
     More : (first : Expression) (rest : Arguments) → Arguments
+
+  -- which element an access takes, from the one that its pointer leads to: that one, or the one of a number
+  pub data Index : Type 0 where
+    First : Index
+    Element : (number : Expression) → Index
 
   -- where a cell stands: so many bytes behind the first one of a file-level variable, or of an element that a pointer leads to
   pub data Place : Type 0 where
@@ -100,6 +114,9 @@ Parted = ProgramOf Statements
 
 -- ---- the views from the types of the code
 
+abbrev pub initial : code.Initial.Initial → Initial
+initial i = record { type = ctype i.ctype; stride = i.stride; number = i.number }
+
 abbrev mutual
   -- the expression that a value of the code's type stands for
   pub expression : code.Expr.Expr → Expression
@@ -119,6 +136,10 @@ abbrev mutual
   expression (exprs.LowByte' p operand) = LowByte (expression operand)
   expression (exprs.Call' callee shape row bounds) = Call callee (arguments row) bounds
   expression exprs.NextInput = NextInput
+  expression (exprs.Sum' p pointer direction q number site bounds) = Sum (expression pointer) direction (expression number) site bounds
+  expression (exprs.Order' comparison p left q right site) = Order comparison (expression left) (expression right) site
+  expression (exprs.Allocate' p count element bounds) = Allocate (expression count) (map initial element.items) bounds
+  expression (exprs.Cast' p pointer bounds) = Cast (expression pointer) bounds
 
   pub arguments : {m : _} → Row_of-Expr m → Arguments
   arguments end_of-Expr = Done
@@ -126,7 +147,11 @@ abbrev mutual
 
   pub place : code.CellPlace.CellPlace → Place
   place (places.Direct object offset) = Direct object offset
-  place (places.Through' p pointer index offset site) = Through (expression pointer) index offset site
+  place (places.Through' p pointer which offset site) = Through (expression pointer) (index which) offset site
+
+  pub index : code.Index.Index → Index
+  index indexes.First = First
+  index (indexes.Element' p number) = Element (expression number)
 
 -- the arguments in a slice
 abbrev pub arguments_of : List code.Expr.Expr → Arguments
@@ -173,9 +198,6 @@ function f = record {
 
 abbrev pub import_of : code.Import.Import → Import
 import_of i = record { name = i.name; parameters = i.parameters; result = option_map ctype i.result }
-
-abbrev pub initial : code.Initial.Initial → Initial
-initial i = record { type = ctype i.ctype; stride = i.stride; number = i.number }
 
 abbrev pub object : code.Object.Object → List Initial
 object o = map initial o.cells.items

@@ -1,9 +1,10 @@
 -- Small programs, written down as plain data.
 use Rattle.std.specs.Prelude.{◌≡◌, ℕ, Bool, true, false, List, [], ◌∷◌, Option, Some, None, codes, pos, negsuc, replicate}
-use Rattle.std.proofs.Common.{ℤ}
+use Rattle.std.proofs.Common.{ℤ, ◌-ℤ◌, neg_ℤ}
 use Rattle.act_words.specs.declared.ending.Ending.{Ending}
 use Rattle.act_words.specs.declared.ending.Ending.TheVariants.{Exit, Check, Stop}
-use Rattle.ckc_text.specs.declared.code.Code.TheVariants.{C6, S1, S2}
+use Rattle.ckc_text.specs.declared.code.Code.{Code}
+use Rattle.ckc_text.specs.declared.code.Code.TheVariants.{C1, C2, C5, C6, S1, S2}
 use Rattle.ckc_core.specs.Outcome.{Outcome, Gives, Ends, Stuck, Unsound, Short}
 use Rattle.pointer_modes.specs.declared.ctype.Mode.TheVariants as modes
 use Rattle.pointer_modes.specs.declared.ctype.Kind.TheVariants as kinds
@@ -14,8 +15,8 @@ use Rattle.act_words.specs.declared.operator.ArithmeticOperator.TheVariants as a
 use Rattle.act_words.specs.declared.operator.Operator.TheVariants as operators
 use Rattle.act_words.specs.declared.operator.Comparison.TheVariants as comparisons
 use Rattle.ckc_core.specs.declared.program.Callee.TheVariants as callees
+use Rattle.ckc_core.specs.declared.program.Direction.TheVariants as directions
 use Rattle.ckc_core.specs.Core
-use Rattle.ckc_core.specs.declared.program.Index.TheVariants as indexes
 use Rattle.ckc_core.specs.declared.program.PointerBounds.{PointerBounds}
 use Rattle.bounds_exprs.specs.Normal.{constant}
 use Rattle.ckc_core.specs.Programs.{Initial, Trusted, parted}
@@ -81,11 +82,75 @@ abbrev pub first_run : Core
 first_run =
     one (Pointer modes.Checked kinds.One Int ∷ []) ((int_cell 1 ∷ []) ∷ [])
     (Core.SetLocal 0 (Core.AddressOf (Core.Direct 0 0) (one_of 4))
-    ∷ (Core.Store Int (Core.Through (Core.Local 0 (one_of 4)) indexes.First 0 (site 1 46)) (number 41)
+    ∷ (Core.Store Int (Core.Through (Core.Local 0 (one_of 4)) Core.First 0 (site 1 46)) (number 41)
     ∷ (Core.Return (Core.Arithmetic (operators.Arithmetic arithmetics.Add) (int_in 0) (number 1) (site 1 62)) ∷ [])))
 
 abbrev pub first_run_ends : Type 0
 first_run_ends = ends_as (runs first_run 100) (Exit (pos 42))
+
+-- array_ptr<int>, whose element has 4 bytes, with these ends
+abbrev pub ints : ℤ → ℤ → Option PointerBounds
+ints lo hi = Some (record { bounds = record { base = None; lo = constant lo; hi = constant hi }; size = 4; site = site 1 1 })
+
+abbrev pub int_array : CType
+int_array = Pointer modes.Checked kinds.Array Int
+
+-- { array_ptr<int> a : count(3) = calloc<int>(count, sizeof(int)); BODY }
+abbrev pub with_array : ℕ → List Statement → Core
+with_array count statements =
+    one (int_array ∷ []) [] (Core.SetLocal 0 (Core.Allocate (number count) (int_cell 0 ∷ []) (ints (pos 0) (pos 3))) ∷ statements)
+
+abbrev pub array : Expression
+array = Core.Local 0 (ints (pos 0) (pos 3))
+
+-- a[n]
+abbrev pub element : ℤ → Core.Place
+element n = Core.Through array (Core.Element (Core.Number n)) 0 (site 2 1)
+
+-- *(a + n)
+abbrev pub sum : ℤ → Expression
+sum n = Core.Sum array directions.Forward (Core.Number n) (site 2 9) (ints (neg_ℤ n) (pos 3 -ℤ n))
+
+-- a[2] = 7; return *(a + 2);
+abbrev pub array_ends : Type 0
+array_ends =
+    ends_as
+    (runs
+    (with_array 3 (Core.Store Int (element (pos 2)) (number 7)
+    ∷ (Core.Return (Core.Load Int (Core.Through (sum (pos 2)) (Core.Element (number 0)) 0 (site 2 8)) None) ∷ []))) 100)
+    (Exit (pos 7))
+
+abbrev returns : Expression → Outcome State (Unit {0})
+returns e = runs (with_array 3 (Core.Return e ∷ [])) 100
+
+abbrev fails : Expression → Code → ℕ → Type 0
+fails e code col = ends_as (returns e) (Check code (record { line = 2; col = col }))
+
+-- an element lies below the upper end, and a sum may be there; both checks name their own place
+abbrev pub array_bounds : Type 0
+array_bounds =
+    fails (Core.Load Int (element (pos 3)) None) C2 1 × fails (Core.Load Int (element (negsuc 0)) None) C2 1
+    × ends_as (returns (Core.Order comparisons.Less array (sum (pos 3)) (site 2 5))) (Exit (pos 1))
+    × fails (Core.Not (sum (pos 4))) C2 9 × fails (Core.Not (sum (negsuc 0))) C2 9
+
+-- of no elements, of less than none, and where the room is spent, an allocation is null; nobody may take an element of null
+abbrev pub null_arrays : Type 0
+null_arrays =
+    ends_as (runs (with_array 0 (Core.Return (Core.Not array) ∷ [])) 100) (Exit (pos 1))
+    × ends_as (returns (Core.Not (Core.Allocate (Core.Number (negsuc 0)) (int_cell 0 ∷ []) None))) (Exit (pos 1))
+    × ends_as (runs (with_array 9 (Core.Return (Core.Not array) ∷ [])) 100) (Exit (pos 1))
+    × ends_as (runs (with_array 0 (Core.Return (Core.Load Int (element (pos 0)) None) ∷ [])) 100) (Check C1 (record { line = 2; col = 1 }))
+
+-- _Dynamic_bounds_cast<array_ptr<int>>(a, bounds(a + lo, a + hi)) != NULL
+abbrev cast_between : ℤ → ℤ → Expression
+cast_between lo hi =
+    Core.Not (Core.Not (Core.Cast array (Some (record { bounds = record { base = None; lo = constant lo; hi = constant hi }; size = 4; site = site 2 3 }))))
+
+-- a cast may narrow bounds at both ends, and make them empty, but never widen them
+abbrev pub cast_ends : Type 0
+cast_ends =
+    ends_as (returns (cast_between (pos 1) (pos 2))) (Exit (pos 1)) × ends_as (returns (cast_between (pos 5) (pos 4))) (Exit (pos 1))
+    × fails (cast_between (pos 0) (pos 4)) C5 3 × fails (cast_between (negsuc 0) (pos 3)) C5 3
 
 -- int main(void) { int x = 2147483647; x = x + 1; return 0; }
 abbrev pub overflow_ends : Type 0
@@ -139,10 +204,10 @@ abbrev pub members : Core
 members =
     (one (Pointer modes.Checked kinds.One (Struct 0) ∷ []) (((record { type = Char; stride = 4; number = pos 0 }) ∷ (int_cell 0 ∷ [])) ∷ [])
     (Core.SetLocal 0 (Core.AddressOf (Core.Direct 0 0) (one_of 8))
-    ∷ (Core.Store Int (Core.Through (Core.Local 0 (one_of 8)) indexes.First 4 (site 3 40)) (number 7)
+    ∷ (Core.Store Int (Core.Through (Core.Local 0 (one_of 8)) Core.First 4 (site 3 40)) (number 7)
     ∷ (Core.Store Char (Core.Direct 0 0) (Core.LowByte (number 300))
     ∷ (Core.Return (Core.Arithmetic (operators.Arithmetic arithmetics.Add)
-    (Core.Load Int (Core.Through (Core.Local 0 (one_of 8)) indexes.First 4 (site 3 65)) None)
+    (Core.Load Int (Core.Through (Core.Local 0 (one_of 8)) Core.First 4 (site 3 65)) None)
     (Core.Load Char (Core.Direct 0 0) None) (site 3 65)) ∷ [])))))
 
 abbrev pub struct_ends : Type 0

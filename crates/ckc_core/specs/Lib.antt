@@ -4,6 +4,7 @@ pub mod States
 pub mod Bounds
 pub mod Outcome
 pub mod Steps
+pub mod Pointers
 pub mod Meaning
 pub mod Audits
 pub mod Stacks

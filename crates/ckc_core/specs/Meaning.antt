@@ -1,8 +1,8 @@
 -- What a program means: pointers with their ends, each check at its site, and stuck where nothing is meant. Where the meaning is
 -- audited, a pointer that isn't valid with its bounds ends the run as unsound.
-use Rattle.std.specs.Prelude.{ℕ, zero, suc, ◌+◌, Bool, true, false, not, ◌||◌, List, [], ◌∷◌, Option, Some, None, slice_get, replicate}
-use Rattle.std.proofs.Common.{ℤ}
-use Rattle.ckc_text.specs.declared.code.Code.TheVariants.{C1}
+use Rattle.std.specs.Prelude.{ℕ, zero, suc, ◌+◌, ◌==◌, pos, Bool, true, false, not, ◌||◌, List, [], ◌∷◌, Option, Some, None, slice_get, replicate}
+use Rattle.std.proofs.Common.{ℤ, ◌+ℤ◌}
+use Rattle.ckc_text.specs.declared.code.Code.TheVariants.{C1, C2, C5}
 use Rattle.act_words.specs.declared.ending.Ending.TheVariants.{Check}
 use Rattle.act_words.specs.declared.settings.Settings.{Settings}
 use Rattle.act_words.specs.Acts.{Act}
@@ -11,19 +11,20 @@ use Rattle.act_words.specs.World.{new_world}
 use Rattle.act_words.specs.Touches.{spend_tick, next_input, until_return}
 use Rattle.flat_bytes.specs.Blocks.{first_offset}
 use Rattle.ckc_core.specs.declared.program.Site.{Site}
-use Rattle.ckc_core.specs.declared.program.Index.{Index}
-use Rattle.ckc_core.specs.declared.program.Index.TheVariants as indexes
+use Rattle.ckc_core.specs.declared.program.Direction.{Direction}
+use Rattle.ckc_core.specs.declared.program.Direction.TheVariants as directions
 use Rattle.ckc_core.specs.declared.program.PointerBounds.{PointerBounds}
 use Rattle.ckc_core.specs.Outcome.{Gives, Ends, Stuck, Unsound, Short, and_then}
 use Rattle.ckc_core.specs.Programs.{parted}
 use Rattle.ckc_core.specs.Core as core
 use Rattle.ckc_core.specs.States.{Value, Number, Null, At, State}
-use Rattle.ckc_core.specs.Bounds.{Pointed, with_ends, is_valid}
+use Rattle.ckc_core.specs.Bounds.{Pointed, Ends as EndsOf, with_ends, ends_at, is_valid}
 use Rattle.ckc_core.specs.Steps.{Result, Flow, Next, Broke, Continued, Returned, KnotOf, SettingOf, setting_of}
 use Rattle.ckc_core.specs.Steps.{given, value_if, place_at, variable_at, load_at, pointer_to}
 use Rattle.ckc_core.specs.Steps.{truth, number_of_test, same_place, test_given, arithmetic_of, compared, negated, complemented, low_byte_of, asked, crossed}
 use Rattle.ckc_core.specs.Steps.{back, called, result_given, choose, store_at, set_local, kept_if, is_char, printed, put, on_next, behind_turn, no_result}
 use Rattle.ckc_core.specs.Steps.{fit, parameters_of, answer, locals_for, exit, initial}
+use Rattle.ckc_core.specs.Pointers.{number_given, checked_if, distance, lies_below, lies_up_to, are_within, cell_behind, pointer_at, ordered, not_null, allocated}
 
 abbrev pub Knot : Type 0
 Knot = KnotOf core.Expression core.Statement
@@ -51,6 +52,10 @@ bounds_of (core.OrElse left right) = None
 bounds_of (core.LowByte operand) = None
 bounds_of (core.Call callee arguments bounds) = bounds
 bounds_of core.NextInput = None
+bounds_of (core.Sum pointer direction number site bounds) = bounds
+bounds_of (core.Order comparison left right site) = None
+bounds_of (core.Allocate count element bounds) = bounds
+bounds_of (core.Cast pointer bounds) = bounds
 
 abbrev pub sound_if : Bool → Site → Value → State → Result Value
 sound_if true site value s = Gives value s
@@ -72,11 +77,55 @@ element offset site (Number number) s = Stuck (Some site) s
 element offset site Null s = Ends (Check C1 site.place) s
 element offset site (At block byte) s = place_at (Some site) block (byte + offset) s
 
-abbrev pub reached : Index → ℕ → Site → Pointed → State → Result (ℕ × ℕ)
-reached indexes.First offset site p s = element offset site p.value s
+-- the same of the element of a number: the pointer isn't null (C1), and the element lies within its ends (C2)
+abbrev pub element_within : ℕ → Site → ℤ → Value → Option EndsOf → State → Result (ℕ × ℕ)
+element_within offset site n (Number number) ends s = Stuck (Some site) s
+element_within offset site n Null ends s = Ends (Check C1 site.place) s
+element_within offset site n (At block byte) None s = Stuck (Some site) s
+element_within offset site n (At block byte) (Some e) s =
+    let x = pos byte +ℤ distance directions.Forward e.size n in
+    checked_if (lies_below e x) C2 site (cell_behind (Some site) block x offset s) s
 
-abbrev pub without_ends : ℕ × ℕ → Pointed
-without_ends place = record { value = At place.0 place.1; ends = None }
+-- a pointer, and the number of the element that an access takes
+pub record Target : Type 0 where
+  pub pointer : Pointed
+  pub number : ℤ
+
+abbrev pub reached : core.Index → ℕ → Site → Target → State → Result (ℕ × ℕ)
+reached core.First offset site t s = element offset site t.pointer.value s
+reached (core.Element number) offset site t s = element_within offset site t.number t.pointer.value t.pointer.ends s
+
+abbrev pub without_ends : ℕ × ℕ → Target
+without_ends place = record { pointer = record { value = At place.0 place.1; ends = None }; number = pos 0 }
+
+-- a pointer so many elements on, or back: it isn't null (C1), and the place lies up to the ends (C2)
+abbrev pub summed : Direction → Site → ℤ → Value → Option EndsOf → State → Result Value
+summed direction site n (Number number) ends s = Stuck (Some site) s
+summed direction site n Null ends s = Ends (Check C1 site.place) s
+summed direction site n (At block byte) None s = Stuck (Some site) s
+summed direction site n (At block byte) (Some e) s =
+    let x = pos byte +ℤ distance direction e.size n in
+    checked_if (lies_up_to e x) C2 site (pointer_at (Some site) block x s) s
+
+-- of elements with as many bytes
+abbrev pub cast_if : Bool → Site → Value → EndsOf → EndsOf → State → Result Value
+cast_if true site v old new s = checked_if (are_within old new) C5 site (Gives v s) s
+cast_if false site v old new s = Stuck (Some site) s
+
+abbrev pub cast_within : Site → Value → Option EndsOf → Option EndsOf → State → Result Value
+cast_within site v None new s = Stuck (Some site) s
+cast_within site v (Some old) None s = Stuck (Some site) s
+cast_within site v (Some old) (Some new) s = cast_if (old.size == new.size) site v old new s
+
+-- a pointer with new bounds, whose ends lie within its own (C5) unless it is null
+abbrev pub cast_to : Option PointerBounds → Pointed → State → Result Value
+cast_to None p s = Gives p.value s
+cast_to (Some bounds) p s = by p.value
+  where
+    by : Value → Result Value
+    by (Number number) = Stuck (Some bounds.site) s
+    by Null = Gives Null s
+    by (At block byte) = cast_within bounds.site (At block byte) p.ends (ends_at bounds s.locals block byte) s
 
 -- ---- expressions
 
@@ -107,6 +156,16 @@ abbrev mutual
   value audited g k (core.Call callee arguments bounds) s =
       and_then (values audited g k arguments s) (λ vs t. and_then (and_then (called g k callee vs t) result_given) (audit audited bounds))
   value audited g k core.NextInput s = asked (next_input s.world) s (λ number t. Gives (Number number) t)
+  value audited g k (core.Sum pointer direction number site bounds) s =
+      and_then (and_then (value audited g k pointer s) (λ v t. and_then (and_then (value audited g k number t) (number_given (Some site)))
+      (λ n u. summed direction site n v (with_ends (bounds_of pointer) v t.locals).ends u))) (audit audited bounds)
+  value audited g k (core.Order comparison left right site) s =
+      and_then (value audited g k left s) (λ a t. and_then (value audited g k right t) (λ b u. and_then (not_null site a u)
+      (λ _ w. and_then (not_null site b w) (λ _ x. ordered comparison (Some site) a b x))))
+  value audited g k (core.Allocate count element bounds) s =
+      and_then (and_then (and_then (value audited g k count s) (number_given None)) (allocated g.trusted element)) (audit audited bounds)
+  value audited g k (core.Cast pointer bounds) s =
+      and_then (and_then (value audited g k pointer s) (λ v t. cast_to bounds (with_ends (bounds_of pointer) v t.locals) t)) (audit audited bounds)
 
   -- the values of arguments, from left to right
   pub values : Bool → Setting → Knot → core.Arguments → State → Result (List Value)
@@ -117,20 +176,27 @@ abbrev mutual
   pub place : Bool → Setting → Knot → core.Place → State → Result (ℕ × ℕ)
   place audited g k (core.Direct object offset) s = variable_at g object offset s
   place audited g k (core.Through pointer index offset site) s =
-      and_then (value audited g k pointer s) (λ v t. reached index offset site (with_ends (bounds_of pointer) v t.locals) t)
+      and_then (value audited g k pointer s) (λ v t. and_then (number_of audited g k index t)
+      (λ n u. reached index offset site (record { pointer = with_ends (bounds_of pointer) v t.locals; number = n }) u))
+
+  -- the number of an element
+  pub number_of : Bool → Setting → Knot → core.Index → State → Result ℤ
+  number_of audited g k core.First s = Gives (pos 0) s
+  number_of audited g k (core.Element number) s = and_then (value audited g k number s) (number_given None)
 
 -- a pointer with its ends at that moment
 abbrev pub pointed : Bool → Setting → Knot → core.Expression → State → Result Pointed
 pointed audited g k e s = and_then (value audited g k e s) (λ v t. Gives (with_ends (bounds_of e) v t.locals) t)
 
--- A store evaluates its pointer, then its value, and makes its checks behind both. A file-level variable is there before.
-abbrev pub pointer_of : Bool → Setting → Knot → core.Place → State → Result Pointed
-pointer_of audited g k (core.Direct object offset) s = and_then (variable_at g object offset s) (λ place t. Gives (without_ends place) t)
-pointer_of audited g k (core.Through pointer index offset site) s = pointed audited g k pointer s
+-- A store evaluates its pointer and its index, then its value, and makes its checks behind all. A file-level variable is there before.
+abbrev pub target_of : Bool → Setting → Knot → core.Place → State → Result Target
+target_of audited g k (core.Direct object offset) s = and_then (variable_at g object offset s) (λ place t. Gives (without_ends place) t)
+target_of audited g k (core.Through pointer index offset site) s =
+    and_then (pointed audited g k pointer s) (λ p t. and_then (number_of audited g k index t) (λ n u. Gives (record { pointer = p; number = n }) u))
 
-abbrev pub place_from : core.Place → Pointed → State → Result (ℕ × ℕ)
-place_from (core.Direct object offset) p s = place_at None object offset s
-place_from (core.Through pointer index offset site) p s = reached index offset site p s
+abbrev pub place_from : core.Place → Target → State → Result (ℕ × ℕ)
+place_from (core.Direct object offset) t s = place_at None object offset s
+place_from (core.Through pointer index offset site) t s = reached index offset site t s
 
 abbrev mutual
   -- the effect of a statement
@@ -138,7 +204,7 @@ abbrev mutual
   effect audited g k core.Nothing s = Gives Next s
   effect audited g k (core.SetLocal local e) s = and_then (value audited g k e s) (set_local local)
   effect audited g k (core.Store type p e) s =
-      and_then (pointer_of audited g k p s) (λ q t. and_then (value audited g k e t)
+      and_then (target_of audited g k p s) (λ q t. and_then (value audited g k e t)
       (λ v u. and_then (place_from p q u) (λ place w. store_at type (site_of p) place v w)))
   effect audited g k (core.UpdateLocal char local operator e site) s =
       and_then (given (slice_get s.locals local) s) (λ old t. and_then (value audited g k e t)

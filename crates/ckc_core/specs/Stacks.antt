@@ -25,6 +25,10 @@ abbrev mutual
   expression_stack (core.LowByte operand) = expression_stack operand
   expression_stack (core.Call callee arguments bounds) = max 1 (arguments_stack arguments)
   expression_stack core.NextInput = 1
+  expression_stack (core.Sum pointer direction number site bounds) = max (expression_stack pointer) (max (1 + expression_stack number) 6)
+  expression_stack (core.Order comparison left right site) = max (expression_stack left) (max (1 + expression_stack right) 2)
+  expression_stack (core.Allocate count element bounds) = expression_stack count
+  expression_stack (core.Cast pointer bounds) = max (expression_stack pointer) 7
 
   pub arguments_stack : core.Arguments → ℕ
   arguments_stack core.Done = 0
@@ -32,12 +36,22 @@ abbrev mutual
 
   pub place_stack : core.Place → ℕ
   place_stack (core.Direct object offset) = offset_stack offset
-  place_stack (core.Through pointer index offset site) = max (expression_stack pointer) (offset_stack offset)
+  place_stack (core.Through pointer index offset site) = max (expression_stack pointer) (max (index_stack index) (offset_stack offset))
 
--- a store has its address or its pointer on the stack while its value is computed, and two words, or three, when it is checked
+  -- what stands above a pointer: its index, and the words of its checks, of which the pointer is one
+  pub index_stack : core.Index → ℕ
+  index_stack core.First = 0
+  index_stack (core.Element number) = max (1 + expression_stack number) 6
+
+-- what stands above the pointer of a store: its index and its value, and the words of its checks
+abbrev pub value_stack : core.Index → core.Expression → ℕ
+value_stack core.First value = max (1 + expression_stack value) 2
+value_stack (core.Element number) value = max (1 + expression_stack number) (max (2 + expression_stack value) 6)
+
+-- a store has its address, or its pointer and its index, on the stack while its value is computed
 abbrev pub store_stack : core.Place → core.Expression → ℕ
 store_stack (core.Direct object offset) value = max (offset_stack offset) (1 + expression_stack value)
-store_stack (core.Through pointer index offset site) value = max (expression_stack pointer) (max (1 + expression_stack value) 2)
+store_stack (core.Through pointer index offset site) value = max (expression_stack pointer) (value_stack index value)
 
 abbrev mutual
   pub statement_stack : core.Statement → ℕ

@@ -21,6 +21,10 @@ abbrev mutual
   expression_weight (core.LowByte operand) = 1 + expression_weight operand
   expression_weight (core.Call callee arguments bounds) = 1 + arguments_weight arguments
   expression_weight core.NextInput = 1
+  expression_weight (core.Sum pointer direction number site bounds) = 1 + expression_weight pointer + expression_weight number
+  expression_weight (core.Order comparison left right site) = 1 + expression_weight left + expression_weight right
+  expression_weight (core.Allocate count element bounds) = 1 + expression_weight count
+  expression_weight (core.Cast pointer bounds) = 1 + expression_weight pointer
 
   pub arguments_weight : core.Arguments → ℕ
   arguments_weight core.Done = 0
@@ -28,7 +32,11 @@ abbrev mutual
 
   pub place_weight : core.Place → ℕ
   place_weight (core.Direct object offset) = 1
-  place_weight (core.Through pointer index offset site) = 1 + expression_weight pointer
+  place_weight (core.Through pointer index offset site) = 1 + expression_weight pointer + index_weight index
+
+  pub index_weight : core.Index → ℕ
+  index_weight core.First = 0
+  index_weight (core.Element number) = expression_weight number
 
 abbrev mutual
   pub statement_weight : core.Statement → ℕ

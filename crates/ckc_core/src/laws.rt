@@ -20,6 +20,10 @@ pub fn examples()
     ensures within_block { examples.within_block }
     ensures empty_bounds { examples.empty_bounds }
     ensures beyond_block { examples.beyond_block }
+    ensures array { examples.array_ends }
+    ensures bounds { examples.array_bounds }
+    ensures null_arrays { examples.null_arrays }
+    ensures casts { examples.cast_ends }
 {}
 
 /// What a program means is told: it has as many ticks as its budget, and is never short of them.

@@ -28,11 +28,21 @@ pub struct PointerBounds {
     pub site: Site,
 }
 
-/// Which element an access takes, from the one that its pointer leads to.
+/// Which way a pointer is moved.
 #[derive(Clone, Copy)]
+pub enum Direction {
+    Forward,
+    Backward,
+}
+
+/// Which element an access takes, from the one that its pointer leads to.
+#[cycle(core)]
+#[derive(Drop)]
 pub enum Index {
-    /// That one.
+    /// That one, of a pointer to a single object.
     First,
+    /// The one of a number, which has to lie within the bounds of the pointer.
+    Element(Box<Expr>),
 }
 
 /// An expression, in which checked pointers have their bounds. Locals, file-level variables and functions are numbered from 0 in the order of their declarations.
@@ -96,6 +106,32 @@ pub enum Expr {
         bounds: Option<PointerBounds>,
     },
     NextInput,
+    /// A pointer that is so many elements further on, or back.
+    Sum {
+        pointer: Box<Expr>,
+        direction: Direction,
+        number: Box<Expr>,
+        site: Site,
+        bounds: Option<PointerBounds>,
+    },
+    /// The order of two pointers in one block.
+    Order {
+        comparison: Comparison,
+        left: Box<Expr>,
+        right: Box<Expr>,
+        site: Site,
+    },
+    /// A new block of so many elements, each with these cells, or null.
+    Allocate {
+        count: Box<Expr>,
+        element: Vec<Initial>,
+        bounds: Option<PointerBounds>,
+    },
+    /// A pointer with other bounds, which have to lie within its own where there are some.
+    Cast {
+        pointer: Box<Expr>,
+        bounds: Option<PointerBounds>,
+    },
 }
 
 /// A call, with its arguments from left to right. Those of a tainted function are numbers.

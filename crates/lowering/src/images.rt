@@ -109,7 +109,7 @@ fn emit_function(alloc: Global, number: u32, f: &Function) -> Result<Func, NoMem
 {
     let name = f.name.copy(alloc)?;
     let ops = function_ops(alloc, f)?;
-    let slots = f.locals.len() as u32 + 1;
+    let slots = f.locals.len() as u32 + 3;
     let stack = statements_stack(f.body.as_slice()).max(1);
     let returned = result_kind(&f.result);
     Ok(Func::new(number, name, f.parameters, slots, stack, returned, ops))

@@ -5,7 +5,7 @@ ghost use Rattle.pointer_modes.specs.Types.{ctype as type_of};
 ghost use Rattle.check_insertion.specs.Erased.{If, Loop, Store, Update, UpdateLocal, expression, place as place_of, statement, statements_of};
 ghost use Rattle.code_words.specs.declared.op.Op.TheVariants as ops_of;
 ghost use Rattle.lowering_code.specs.Code as code;
-ghost use Rattle.lowering_code.specs.Code.{Places};
+ghost use Rattle.lowering_code.specs.Sized.{SizedExpression, SizedPlace, SizedStatement, SizedStatements};
 ghost use Rattle.lowering_expressions.specs.Views.{targets_of};
 
 use act_words::operator::Operator;
@@ -31,11 +31,13 @@ fn emit_store(
     cell: &CellPlace,
     value: &Expr,
 ) -> Result<(), NoMemory>
-    requires { length ops.old.items + (code.before_value_size (place_of cell.now) + code.expression_size (expression value.now)) ≤ 2 ^ 31 }
+    requires slot { targets.scratch ≤ 4096 }
+    requires sized { SizedPlace targets.scratch (place_of cell.now) × SizedExpression targets.scratch (expression value.now) }
+    requires room { length ops.old.items + (code.before_value_size (place_of cell.now) + code.expression_size (expression value.now)) ≤ 2 ^ 31 }
     ensures { OnOk result (ops.new.items ≡ ops.old.items ++ code.statement_code (targets_of targets) (length ops.old.items) (Store (type_of ctype.now) (place_of cell.now) (expression value.now))) }
 {
-    emit_before_value(ops, cell)?;
-    emit_expression(ops, value)?;
+    emit_before_value(ops, targets.scratch, cell)?;
+    emit_expression(ops, targets.scratch, value)?;
     emit_behind_value(ops, targets.scratch, ctype, cell)
 }
 
@@ -53,18 +55,21 @@ fn emit_result(ops: &mut Vec<Op>, operator: Op, char: bool, keep: Op) -> Result<
 // A cell's old value and an operator with another one.
 fn emit_update(
     ops: &mut Vec<Op>,
+    targets: Targets,
     ctype: &CType,
     cell: &CellPlace,
     operator: Operator,
     value: &Expr,
     site: Site,
 ) -> Result<(), NoMemory>
-    requires { length ops.old.items + (code.place_size (place_of cell.now) + (2 + code.expression_size (expression value.now))) ≤ 2 ^ 31 }
-    ensures { (p : Places) → OnOk result (ops.new.items ≡ ops.old.items ++ code.statement_code p (length ops.old.items) (Update (type_of ctype.now) (place_of cell.now) operator (expression value.now) site)) }
+    requires slot { targets.scratch ≤ 4096 }
+    requires sized { SizedPlace targets.scratch (place_of cell.now) × SizedExpression targets.scratch (expression value.now) }
+    requires room { length ops.old.items + (code.place_size (place_of cell.now) + (2 + code.expression_size (expression value.now))) ≤ 2 ^ 31 }
+    ensures { OnOk result (ops.new.items ≡ ops.old.items ++ code.statement_code (targets_of targets) (length ops.old.items) (Update (type_of ctype.now) (place_of cell.now) operator (expression value.now) site)) }
 {
-    emit_place(ops, cell)?;
+    emit_place(ops, targets.scratch, cell)?;
     put_two(ops, Op::Duplicate, load_op(ctype))?;
-    emit_expression(ops, value)?;
+    emit_expression(ops, targets.scratch, value)?;
     let op = operator_op(operator, site);
     emit_result(ops, op, has_one_byte(ctype), store_op(ctype))
 }
@@ -72,27 +77,32 @@ fn emit_update(
 // The same for a local variable.
 fn emit_local_update(
     ops: &mut Vec<Op>,
+    targets: Targets,
     char: bool,
     local: u32,
     operator: Operator,
     value: &Expr,
     site: Site,
 ) -> Result<(), NoMemory>
-    requires { length ops.old.items + (1 + code.expression_size (expression value.now)) ≤ 2 ^ 31 }
-    ensures { (p : Places) → OnOk result (ops.new.items ≡ ops.old.items ++ code.statement_code p (length ops.old.items) (UpdateLocal char local operator (expression value.now) site)) }
+    requires slot { targets.scratch ≤ 4096 }
+    requires sized { SizedExpression targets.scratch (expression value.now) }
+    requires room { length ops.old.items + (1 + code.expression_size (expression value.now)) ≤ 2 ^ 31 }
+    ensures { OnOk result (ops.new.items ≡ ops.old.items ++ code.statement_code (targets_of targets) (length ops.old.items) (UpdateLocal char local operator (expression value.now) site)) }
 {
     put(ops, Op::Local(local))?;
-    emit_expression(ops, value)?;
+    emit_expression(ops, targets.scratch, value)?;
     let op = operator_op(operator, site);
     emit_result(ops, op, char, Op::Set(local))
 }
 
 // A condition, and a jump over so many instructions where it doesn't hold.
-fn emit_condition(ops: &mut Vec<Op>, condition: &Expr, over: u32) -> Result<(), NoMemory>
-    requires { length ops.old.items + (code.expression_size (expression condition.now) + (1 + over)) ≤ 2 ^ 31 }
-    ensures { OnOk result (ops.new.items ≡ ops.old.items ++ (code.expression_code (length ops.old.items) (expression condition.now) ++ ops_of.JumpIfZero (length ops.old.items + code.expression_size (expression condition.now) + 1 + over) ∷ [])) }
+fn emit_condition(ops: &mut Vec<Op>, slot: u32, condition: &Expr, over: u32) -> Result<(), NoMemory>
+    requires slot { slot ≤ 4096 }
+    requires sized { SizedExpression slot (expression condition.now) }
+    requires room { length ops.old.items + (code.expression_size (expression condition.now) + (1 + over)) ≤ 2 ^ 31 }
+    ensures { OnOk result (ops.new.items ≡ ops.old.items ++ (code.expression_code slot (length ops.old.items) (expression condition.now) ++ ops_of.JumpIfZero (length ops.old.items + code.expression_size (expression condition.now) + 1 + over) ∷ [])) }
 {
-    emit_expression(ops, condition)?;
+    emit_expression(ops, slot, condition)?;
     let other = place_behind(ops, over + 1);
     put(ops, Op::JumpIfZero(other))
 }
@@ -107,23 +117,33 @@ fn emit_jump(ops: &mut Vec<Op>, over: u32) -> Result<(), NoMemory>
 }
 
 // The end of a loop: its condition, and the jump to its tick where it holds.
-fn end_loop(ops: &mut Vec<Op>, condition: &Expr, end: u32, turn: u32) -> Result<(), NoMemory>
-    requires { length ops.old.items + code.expression_size (expression condition.now) ≤ 2 ^ 31 }
-    ensures { OnOk result (ops.new.items ≡ ops.old.items ++ (code.expression_code (length ops.old.items) (expression condition.now) ++ ops_of.JumpIfZero end ∷ ops_of.Jump turn ∷ [])) }
+fn end_loop(
+    ops: &mut Vec<Op>,
+    slot: u32,
+    condition: &Expr,
+    end: u32,
+    turn: u32,
+) -> Result<(), NoMemory>
+    requires slot { slot ≤ 4096 }
+    requires sized { SizedExpression slot (expression condition.now) }
+    requires room { length ops.old.items + code.expression_size (expression condition.now) ≤ 2 ^ 31 }
+    ensures { OnOk result (ops.new.items ≡ ops.old.items ++ (code.expression_code slot (length ops.old.items) (expression condition.now) ++ ops_of.JumpIfZero end ∷ ops_of.Jump turn ∷ [])) }
 {
-    emit_expression(ops, condition)?;
+    emit_expression(ops, slot, condition)?;
     put_two(ops, Op::JumpIfZero(end), Op::Jump(turn))
 }
 
 // The code of a statement.
 #[cycle(statements)]
 fn emit_statement(ops: &mut Vec<Op>, targets: Targets, stmt: &Stmt) -> Result<(), NoMemory>
-    requires { length ops.old.items + code.statement_size (statement stmt.now) ≤ 2 ^ 31 }
+    requires slot { targets.scratch ≤ 4096 }
+    requires sized { SizedStatement targets.scratch (statement stmt.now) }
+    requires room { length ops.old.items + code.statement_size (statement stmt.now) ≤ 2 ^ 31 }
     ensures { OnOk result (ops.new.items ≡ ops.old.items ++ code.statement_code (targets_of targets) (length ops.old.items) (statement stmt.now)) }
 {
     match stmt {
         Stmt::Nothing => Ok(()),
-        Stmt::SetLocal { local, value } => emit_with(ops, value, Op::Set(*local)),
+        Stmt::SetLocal { local, value } => emit_with(ops, targets.scratch, value, Op::Set(*local)),
         Stmt::Store { ctype, cell, value } => emit_store(ops, targets, ctype, cell, value),
         Stmt::UpdateLocal {
             is_char,
@@ -131,18 +151,23 @@ fn emit_statement(ops: &mut Vec<Op>, targets: Targets, stmt: &Stmt) -> Result<()
             operator,
             value,
             site,
-        } => emit_local_update(ops, *is_char, *local, *operator, value, *site),
+        } => emit_local_update(ops, targets, *is_char, *local, *operator, value, *site),
         Stmt::Update {
             ctype,
             cell,
             operator,
             value,
             site,
-        } => emit_update(ops, ctype, cell, *operator, value, *site),
-        Stmt::Evaluate(value) => emit_with(ops, value, Op::Discard),
-        Stmt::CallAlone(call) => emit_call(ops, call.callee, call.arguments.as_slice()),
-        Stmt::Print(number) => emit_with(ops, number, Op::Print),
-        Stmt::PutByte(number) => emit_with(ops, number, Op::PutByte),
+        } => emit_update(ops, targets, ctype, cell, *operator, value, *site),
+        Stmt::Evaluate(value) => emit_with(ops, targets.scratch, value, Op::Discard),
+        Stmt::CallAlone(call) => emit_call(
+            ops,
+            targets.scratch,
+            call.callee,
+            call.arguments.as_slice(),
+        ),
+        Stmt::Print(number) => emit_with(ops, targets.scratch, number, Op::Print),
+        Stmt::PutByte(number) => emit_with(ops, targets.scratch, number, Op::PutByte),
         Stmt::Block(inner) => emit_statements(ops, targets, inner.as_slice()),
         Stmt::If {
             condition,
@@ -154,7 +179,7 @@ fn emit_statement(ops: &mut Vec<Op>, targets: Targets, stmt: &Stmt) -> Result<()
             body,
             step,
         } => emit_loop(ops, targets, condition, body, step),
-        Stmt::Return(value) => emit_with(ops, value, Op::Return),
+        Stmt::Return(value) => emit_with(ops, targets.scratch, value, Op::Return),
         Stmt::ReturnNothing => put(ops, Op::ReturnNothing),
         Stmt::Break => put(ops, Op::Jump(targets.on_break)),
         Stmt::Continue => put(ops, Op::Jump(targets.on_continue)),
@@ -170,10 +195,17 @@ fn emit_if(
     consequent: &Stmt,
     alternative: &Stmt,
 ) -> Result<(), NoMemory>
-    requires { length ops.old.items + code.statement_size (If (expression condition.now) (statement consequent.now) (statement alternative.now)) ≤ 2 ^ 31 }
+    requires slot { targets.scratch ≤ 4096 }
+    requires sized { SizedStatement targets.scratch (If (expression condition.now) (statement consequent.now) (statement alternative.now)) }
+    requires room { length ops.old.items + code.statement_size (If (expression condition.now) (statement consequent.now) (statement alternative.now)) ≤ 2 ^ 31 }
     ensures { OnOk result (ops.new.items ≡ ops.old.items ++ code.statement_code (targets_of targets) (length ops.old.items) (If (expression condition.now) (statement consequent.now) (statement alternative.now))) }
 {
-    emit_condition(ops, condition, statement_size(consequent) + 1)?;
+    emit_condition(
+        ops,
+        targets.scratch,
+        condition,
+        statement_size(consequent) + 1,
+    )?;
     emit_statement(ops, targets, consequent)?;
     emit_jump(ops, statement_size(alternative))?;
     emit_statement(ops, targets, alternative)
@@ -188,7 +220,9 @@ fn emit_loop(
     body: &Stmt,
     step: &Stmt,
 ) -> Result<(), NoMemory>
-    requires { length ops.old.items + code.statement_size (Loop (expression condition.now) (statement body.now) (statement step.now)) ≤ 2 ^ 31 }
+    requires slot { targets.scratch ≤ 4096 }
+    requires sized { SizedStatement targets.scratch (Loop (expression condition.now) (statement body.now) (statement step.now)) }
+    requires room { length ops.old.items + code.statement_size (Loop (expression condition.now) (statement body.now) (statement step.now)) ≤ 2 ^ 31 }
     ensures { OnOk result (ops.new.items ≡ ops.old.items ++ code.statement_code (targets_of targets) (length ops.old.items) (Loop (expression condition.now) (statement body.now) (statement step.now))) }
 {
     let turn = place_behind(ops, 1);
@@ -203,13 +237,15 @@ fn emit_loop(
     begin_loop(ops, inner.on_continue, after)?;
     emit_statement(ops, inner, body)?;
     emit_statement(ops, targets, step)?;
-    end_loop(ops, condition, inner.on_break, turn)
+    end_loop(ops, targets.scratch, condition, inner.on_break, turn)
 }
 
 /// The code of statements, one after another.
 #[cycle(statements)]
 pub fn emit_statements(ops: &mut Vec<Op>, targets: Targets, stmts: &[Stmt]) -> Result<(), NoMemory>
-    requires { length ops.old.items + code.statements_size (statements_of stmts.now) ≤ 2 ^ 31 }
+    requires slot { targets.scratch ≤ 4096 }
+    requires sized { SizedStatements targets.scratch (statements_of stmts.now) }
+    requires room { length ops.old.items + code.statements_size (statements_of stmts.now) ≤ 2 ^ 31 }
     ensures { OnOk result (ops.new.items ≡ ops.old.items ++ code.statements_code (targets_of targets) (length ops.old.items) (statements_of stmts.now)) }
 {
     for stmt in stmts {

@@ -3,8 +3,7 @@ use Rattle.std.proofs.Common.{◌≡◌, ℕ, zero, suc, ◌+◌, ◌/◌, ◌%�
 use Rattle.std.specs.Prelude.{slice_set}
 use Rattle.std.proofs.lemmas.List.{get_or-append-add}
 use Rattle.flat_bytes.specs.Words.{word_at, with_word}
-use Rattle.lowering_code.specs.Images.{word_bytes_if}
-use Rattle.lowering_code.specs.Correct.{width_if}
+use Rattle.lowering_code.specs.Images.{width_if, word_bytes_if}
 
 -- a word behind other bytes
 pub word_behind : (w : ℕ) (pre bytes : List ℕ) (at : ℕ) → word_at w (pre ++ bytes) (length pre + at) ≡ word_at w bytes at

@@ -19,19 +19,20 @@ use Rattle.ckc_core.specs.States as meaning
 use Rattle.ckc_core.specs.Steps.{Result, Flow, Next, Broke, Continued, Returned, setting_of, fit, parameters_of, enter_if, takes, call_trusted}
 use Rattle.check_insertion.specs.ErasedMeaning.{Knot}
 use Rattle.ckc_core.specs.Steps as meanings
-use Rattle.code_words.specs.Table.{Frame, Caller, Calls, Runs, Away, State, Step, Goes, pop_words, pop_if, call_function, enter, behind, frame_for, push_result, return_to, depth}
+use Rattle.code_words.specs.Table.{Frame, Caller, Calls, Runs, Away, State, Step, Goes, pop_words, pop_if, call_function, enter, behind, frame_for, push_result, return_to}
 use Rattle.code_words.specs.Table as table
 use Rattle.code_words.specs.Moves.{move, answer as answer_by}
 use Rattle.code_words.specs.declared.op.Op.TheVariants as ops
 use Rattle.lowering_code.specs.Code.{Places, statement_size, statement_code}
 use Rattle.check_insertion.specs.Stacks.{statement_stack}
+use Rattle.lowering_code.specs.Sized.{SizedStatement}
 use Rattle.lowering_code.specs.Images.{function_code}
 use Rattle.lowering_code.specs.Correct.{IsFunction}
 use Rattle.ckc_core.proofs.Elements.{of_element}
 use Rattle.lowering_code.proofs.Shapes.{grows_on}
 use Rattle.lowering_code.proofs.Worlds.{KeptWorld}
 use Rattle.lowering_code.proofs.Executions.{Execution, image, word_of, state, IsKept, AreKeptBy, KeptBlocks, locals_grow, same_end}
-use Rattle.lowering_code.proofs.Steps.{HasAt, Leads, leads_to, asks_on, Reached, Finishes, one_move, last_move, Layout, Holds, code, frame, standing, Kept, Here, function_found, code_there, fetched, Arrives, frame_grows}
+use Rattle.lowering_code.proofs.Steps.{HasAt, Leads, leads_to, asks_on, Reached, Finishes, one_move, last_move, Layout, Holds, code, frame, standing, Kept, Here, function_found, code_there, fetched, Arrives, frame_grows, Scratch}
 use Rattle.lowering_code.proofs.Expressions.{tick_runs}
 
 -- ---- words on a stack
@@ -104,7 +105,7 @@ FlowsTo g l p next (Returned v) s = Leaves g l.callers l.since v s
 abbrev pub Affects : (g : Execution) → Layout g → Places → ℕ → Result Flow → Type 0
 Affects g l p next o = Leads (FlowsTo g l p next) (Finishes g) o
 
--- where `break` and `continue` lead to, instructions stand, and the scratch slot is behind the locals
+-- where `break` and `continue` lead to, instructions stand, the slots are behind the locals, and no value is kept aside
 pub record ArePlaces (g : Execution) (l : Layout g) (p : Places) : Type 0 where
   pub scratch : p.scratch ≡ length l.function.locals
   pub on_break : p.on_break < length (code g l).ops
@@ -128,7 +129,7 @@ pub record Answered (g : Execution) (callers : List Caller) (since : List Shape)
 -- the code does what calls, further turns and the sandbox's turn mean
 pub record KnotRuns (g : Execution) (k : Knot) : Type 0 where
   pub call : (number : ℕ) (f : Function) (callers : List Caller) (values : List Value) (s : meaning.State) → slice_get g.program.functions number ≡ Some f → f.parameters ≡ length values → AllByRecursion (IsKept s) values → KeptBlocks g s.blocks → KeptWorld s.world → s.depth ≡ length callers → Reached g (entered g number f callers values s) → Leads (Returns g callers s) (Finishes g) (k.call number values s)
-  pub turn : (l : Layout g) (p : Places) (at : ℕ) (condition : erased.Expression) (body step : erased.Statement) (s : meaning.State) → ArePlaces g l p → HasAt (code g l).ops at (statement_code p at (erased.Loop condition body step)) → statement_stack (erased.Loop condition body step) ≤ (code g l).stack → at + statement_size (erased.Loop condition body step) < length (code g l).ops → Here g l (test_of at body step) [] s → Affects g l p (at + statement_size (erased.Loop condition body step)) (k.turn condition body step s)
+  pub turn : (l : Layout g) (p : Places) (at : ℕ) (condition : erased.Expression) (body step : erased.Statement) (s : meaning.State) → ArePlaces g l p → SizedStatement p.scratch (erased.Loop condition body step) → HasAt (code g l).ops at (statement_code p at (erased.Loop condition body step)) → statement_stack (erased.Loop condition body step) ≤ (code g l).stack → at + statement_size (erased.Loop condition body step) < length (code g l).ops → Here g l (test_of at body step) [] s → Affects g l p (at + statement_size (erased.Loop condition body step)) (k.turn condition body step s)
   pub sandbox : (callers : List Caller) (s : meaning.State) → KeptBlocks g s.blocks → KeptWorld s.world → s.depth ≡ suc (length callers) → Reached g (state g Away callers s) → Leads (Answered g callers (shapes s.blocks)) (Finishes g) (k.sandbox s)
 
 -- ---- back in the caller
@@ -140,7 +141,7 @@ Resumes g l next stack (Some v) s = Arrives g l next stack v s
 
 module _ (g : Execution) (l : Layout g) where
   -- a result is pushed in the frame that waits for it
-  pub resumed : (next scratch : ℕ) (stack : List ℕ) (v : Option Value) (s : meaning.State) (u t : State) → Holds l.held scratch → Kept g l s → IsKeptResult s v → length stack < (code g l).stack → t ≡ state g t.control l.callers s → Reached g u → move (image g) g.settings u ≡ push_result (slice_get (image g).trusted.funs l.number) (option_map (word_of g s) v) (frame g l next scratch stack s) t → Resumes g l next stack v s
+  pub resumed : (next : ℕ) (scratch : Scratch) (stack : List ℕ) (v : Option Value) (s : meaning.State) (u t : State) → Holds l.held scratch → Kept g l s → IsKeptResult s v → length stack < (code g l).stack → t ≡ state g t.control l.callers s → Reached g u → move (image g) g.settings u ≡ push_result (slice_get (image g).trusted.funs l.number) (option_map (word_of g s) v) (frame g l next scratch stack s) t → Resumes g l next stack v s
   resumed next scratch stack None s u t holds kept value room is reached moves =
       record { scratch = scratch; holds = holds; kept = kept; reached = one_move g u _ reached (moves ∙ rw (code_there g l) (ap (λ x. Goes (record x { control = Runs (frame g l next scratch stack s) })) is)) }
   resumed next scratch stack (Some v) s u t holds kept value room is reached moves =
@@ -148,7 +149,7 @@ module _ (g : Execution) (l : Layout g) where
       (record { scratch = scratch; holds = holds; kept = kept; reached = one_move g u _ reached (moves ∙ rw (code_there g l, test) (ap (λ x. Goes (record x { control = Runs (frame g l next scratch (word_of g s v ∷ stack) s) })) is)) }, value)
 
   -- a function of this side returns to its caller
-  returned : (next scratch : ℕ) (stack : List ℕ) (s : meaning.State) (v : Option Value) (t : meaning.State) → Holds l.held scratch → Kept g l s → length stack < (code g l).stack → Returns g (Calls (frame g l next scratch stack s) ∷ l.callers) s v t → Resumes g l next stack v t
+  returned : (next : ℕ) (scratch : Scratch) (stack : List ℕ) (s : meaning.State) (v : Option Value) (t : meaning.State) → Holds l.held scratch → Kept g l s → length stack < (code g l).stack → Returns g (Calls (frame g l next scratch stack s) ∷ l.callers) s v t → Resumes g l next stack v t
   returned next scratch stack s v t holds kept room r =
       let back : Kept g l t = record {
         count = ap length r.locals ∙ kept.count;
@@ -163,7 +164,7 @@ module _ (g : Execution) (l : Layout g) where
       (r.leaves.returns ∙ ap (λ fr. push_result (slice_get (image g).trusted.funs l.number) (option_map (word_of g t) v) fr (state g (Runs r.leaves.last) l.callers t)) (frame_grows g l next scratch stack s t r.leaves.grows kept.locals r.locals))
 
   module _ (k : Knot) (runs : KnotRuns g k) where
-    call_moves : (next scratch : ℕ) (stack : List ℕ) (s : meaning.State) (number : ℕ) (f : Function) (vs : List Value) (few : Bool) → nat_lt s.depth 1000 ≡ few → slice_get g.program.functions number ≡ Some f → f.parameters ≡ length vs → Kept g l s → slice_get (code g l).ops next ≡ Some (ops.Call number) → move (image g) g.settings (standing g l next scratch (reverse (map (word_of g s) vs) ++ stack) s) ≡ table.asked (entered_if few s.world) (standing g l next scratch (reverse (map (word_of g s) vs) ++ stack) s) (λ _ u. enter number (function_code number f) (map (word_of g s) vs) (Calls (frame g l (next + 1) scratch stack s)) u)
+    call_moves : (next : ℕ) (scratch : Scratch) (stack : List ℕ) (s : meaning.State) (number : ℕ) (f : Function) (vs : List Value) (few : Bool) → nat_lt s.depth 1000 ≡ few → slice_get g.program.functions number ≡ Some f → f.parameters ≡ length vs → Kept g l s → slice_get (code g l).ops next ≡ Some (ops.Call number) → move (image g) g.settings (standing g l next scratch (reverse (map (word_of g s) vs) ++ stack) s) ≡ table.asked (entered_if few s.world) (standing g l next scratch (reverse (map (word_of g s) vs) ++ stack) s) (λ _ u. enter number (function_code number f) (map (word_of g s) vs) (Calls (frame g l (next + 1) scratch stack s)) u)
     call_moves next scratch stack s number f vs few test there count kept at =
         let words = map (word_of g s) vs in
         let fr = frame g l next scratch (reverse words ++ stack) s in

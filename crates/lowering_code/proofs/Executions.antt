@@ -23,8 +23,8 @@ use Rattle.code_words.specs.Table.{Caller, Control, State}
 use Rattle.code_words.specs.Table as table
 use Rattle.code_words.specs.Runs.{spread, counter_behind}
 use Rattle.code_words.specs.declared.image.Image.{Image}
-use Rattle.lowering_code.specs.Images.{word_bytes_if, padded, object_bytes, image_of}
-use Rattle.lowering_code.specs.Correct.{size_of, offset_from, block_bytes, shown_from, counted_from, width_if, IsCell, IsLowerable, SameEnd}
+use Rattle.lowering_code.specs.Images.{width_if, word_bytes_if, padded, object_bytes, image_of}
+use Rattle.lowering_code.specs.Correct.{size_of, offset_from, block_bytes, shown_from, counted_from, IsCell, IsLowerable, SameEnd}
 use Rattle.lowering_code.specs.Correct as correct
 use Rattle.act_words.specs.Shown.{Shown}
 use Rattle.lowering_code.proofs.Shapes.{sum_cons, end_from, end_least, IsKeptBy, word_grows, kept_grows}

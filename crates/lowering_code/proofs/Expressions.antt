@@ -31,7 +31,7 @@ use Rattle.ckc_core.proofs.Elements.{of_element}
 use Rattle.lowering_code.proofs.Worlds.{KeptWorld}
 use Rattle.ckc_core.proofs.Numbers.{IsNumber, IfHolds, bits_small, signed-word, word_small, word-signed, signed_fits, equal_words, complement_fits, overflow_fits, result_fits}
 use Rattle.lowering_code.proofs.Executions.{Execution, image, word_of, IsKept}
-use Rattle.lowering_code.proofs.Steps.{Asks, Finishes, Layout, code, frame, standing, Here, kept_in, moved, pushes_in, pushes, ended, Arrives, Evaluates}
+use Rattle.lowering_code.proofs.Steps.{Asks, Finishes, Layout, code, frame, standing, Here, kept_in, moved, pushes_in, pushes, ended, Arrives, Evaluates, Scratch, words}
 
 -- ---- lists
 
@@ -74,19 +74,19 @@ module _ (g : Execution) (l : Layout g) where
   local_runs next stack s k None h here at room = tt
   local_runs next stack s k (Some x) h here at room = (
     pushes g l next stack s (ops.Local k) (word_of g s x.value) stack here at room
-        (λ scratch. ap (λ o. push_some (code g l) o stack (frame g l next scratch stack s) (standing g l next scratch stack s)) (mapped_there (λ (y : Local). word_of g s y.value) s.locals (scratch ∷ []) k x h)),
+        (λ scratch. ap (λ o. push_some (code g l) o stack (frame g l next scratch stack s) (standing g l next scratch stack s)) (mapped_there (λ (y : Local). word_of g s y.value) s.locals (words scratch) k x h)),
     of_element (λ (y : Local). IsKept s y.value) s.locals k x here.kept.locals h,
   )
 
   -- ---- operators
 
   -- pushes the number of a check, or ends
-  pub checked_runs : (next : ℕ) (old stack : List ℕ) (s : meaning.State) (op : Op) (c : Checked ℤ) → IfHolds IsNumber c → Here g l next old s → slice_get (code g l).ops next ≡ Some op → length stack < (code g l).stack → ((w : ℕ) → act (image g) g.settings (code g l) op (frame g l next w old s) (standing g l next w old s) ≡ push_checked (code g l) c stack (frame g l next w old s) (standing g l next w old s)) → Evaluates g l (next + 1) stack (checked c s)
+  pub checked_runs : (next : ℕ) (old stack : List ℕ) (s : meaning.State) (op : Op) (c : Checked ℤ) → IfHolds IsNumber c → Here g l next old s → slice_get (code g l).ops next ≡ Some op → length stack < (code g l).stack → ((w : Scratch) → act (image g) g.settings (code g l) op (frame g l next w old s) (standing g l next w old s) ≡ push_checked (code g l) c stack (frame g l next w old s) (standing g l next w old s)) → Evaluates g l (next + 1) stack (checked c s)
   checked_runs next old stack s op (Holds z) fits here at room is = (pushes g l next old s op (word z) stack here at room is, fits)
   checked_runs next old stack s op (Fails ending) fits here at room is = ended g l next old s op ending s here at here.kept.blocks is
 
   -- the instruction of an operator, on two words
-  operated : (operator : Operator) (site : Site) (a b : ℤ) (next w : ℕ) (stack : List ℕ) (s : meaning.State) → IsNumber a → IsNumber b → act (image g) g.settings (code g l) (operator_code operator site) (frame g l next w (word b ∷ (word a ∷ stack)) s) (standing g l next w (word b ∷ (word a ∷ stack)) s) ≡ push_checked (code g l) (result_of operator site a b) stack (frame g l next w (word b ∷ (word a ∷ stack)) s) (standing g l next w (word b ∷ (word a ∷ stack)) s)
+  operated : (operator : Operator) (site : Site) (a b : ℤ) (next : ℕ) (w : Scratch) (stack : List ℕ) (s : meaning.State) → IsNumber a → IsNumber b → act (image g) g.settings (code g l) (operator_code operator site) (frame g l next w (word b ∷ (word a ∷ stack)) s) (standing g l next w (word b ∷ (word a ∷ stack)) s) ≡ push_checked (code g l) (result_of operator site a b) stack (frame g l next w (word b ∷ (word a ∷ stack)) s) (standing g l next w (word b ∷ (word a ∷ stack)) s)
   operated (operators.Arithmetic operator) site a b next w stack s ha hb = rw (signed-word a ha, signed-word b hb) refl
   operated (operators.Bitwise operator) site a b next w stack s ha hb =
       let e = word-signed (bitwise_result operator (word a) (word b)) (bits_small operator (word a) (word b) (word_small a ha) (word_small b hb)) in
@@ -102,12 +102,12 @@ module _ (g : Execution) (l : Layout g) where
   operator_runs next stack s operator site (At block byte) w hv hw here at room = tt
 
   -- the number of a test is pushed
-  pub test_runs : (next : ℕ) (old stack : List ℕ) (s : meaning.State) (op : Op) (test : Bool) → Here g l next old s → slice_get (code g l).ops next ≡ Some op → length stack < (code g l).stack → ((w : ℕ) → act (image g) g.settings (code g l) op (frame g l next w old s) (standing g l next w old s) ≡ push (code g l) (bit test) stack (frame g l next w old s) (standing g l next w old s)) → Arrives g l (next + 1) stack (number_of_test test) s
+  pub test_runs : (next : ℕ) (old stack : List ℕ) (s : meaning.State) (op : Op) (test : Bool) → Here g l next old s → slice_get (code g l).ops next ≡ Some op → length stack < (code g l).stack → ((w : Scratch) → act (image g) g.settings (code g l) op (frame g l next w old s) (standing g l next w old s) ≡ push (code g l) (bit test) stack (frame g l next w old s) (standing g l next w old s)) → Arrives g l (next + 1) stack (number_of_test test) s
   test_runs next old stack s op test here at room is =
       (subst (λ n. Here g l (next + 1) (n ∷ stack) s) (sym (bit_word g s test)) (pushes g l next old s op (bit test) stack here at room is), test_kept s test)
 
   -- the instruction of a comparison, on two words
-  compared_words : (comparison : Comparison) (a b : ℤ) (next w : ℕ) (stack : List ℕ) (s : meaning.State) → IsNumber a → IsNumber b → act (image g) g.settings (code g l) (ops.Compare comparison) (frame g l next w (word b ∷ (word a ∷ stack)) s) (standing g l next w (word b ∷ (word a ∷ stack)) s) ≡ push (code g l) (bit (holds comparison a b)) stack (frame g l next w (word b ∷ (word a ∷ stack)) s) (standing g l next w (word b ∷ (word a ∷ stack)) s)
+  compared_words : (comparison : Comparison) (a b : ℤ) (next : ℕ) (w : Scratch) (stack : List ℕ) (s : meaning.State) → IsNumber a → IsNumber b → act (image g) g.settings (code g l) (ops.Compare comparison) (frame g l next w (word b ∷ (word a ∷ stack)) s) (standing g l next w (word b ∷ (word a ∷ stack)) s) ≡ push (code g l) (bit (holds comparison a b)) stack (frame g l next w (word b ∷ (word a ∷ stack)) s) (standing g l next w (word b ∷ (word a ∷ stack)) s)
   compared_words comparisons.Equal a b next w stack s ha hb = ap (λ t. push (code g l) (bit t) stack (frame g l next w (word b ∷ (word a ∷ stack)) s) (standing g l next w (word b ∷ (word a ∷ stack)) s)) (equal_words a b ha hb)
   compared_words comparisons.NotEqual a b next w stack s ha hb = ap (λ t. push (code g l) (bit (not t)) stack (frame g l next w (word b ∷ (word a ∷ stack)) s) (standing g l next w (word b ∷ (word a ∷ stack)) s)) (equal_words a b ha hb)
   compared_words comparisons.Less a b next w stack s ha hb = rw (signed-word a ha, signed-word b hb) refl
@@ -145,7 +145,7 @@ module _ (g : Execution) (l : Layout g) where
 
   -- ---- what the world gives
 
-  input_from_runs : (inputs : List ℤ) (next : ℕ) (stack : List ℕ) (s : meaning.State) → AllByRecursion IsNumber inputs → Here g l next stack s → slice_get (code g l).ops next ≡ Some ops.NextInput → length stack < (code g l).stack → ((scratch : ℕ) → act (image g) g.settings (code g l) ops.NextInput (frame g l next scratch stack s) (standing g l next scratch stack s) ≡ table.asked (input_from inputs s.world) (standing g l next scratch stack s) (λ number t. push (code g l) (word number) stack (frame g l next scratch stack s) t)) → Evaluates g l (next + 1) stack (meanings.asked (input_from inputs s.world) s (λ number t. Gives (Number number) t))
+  input_from_runs : (inputs : List ℤ) (next : ℕ) (stack : List ℕ) (s : meaning.State) → AllByRecursion IsNumber inputs → Here g l next stack s → slice_get (code g l).ops next ≡ Some ops.NextInput → length stack < (code g l).stack → ((scratch : Scratch) → act (image g) g.settings (code g l) ops.NextInput (frame g l next scratch stack s) (standing g l next scratch stack s) ≡ table.asked (input_from inputs s.world) (standing g l next scratch stack s) (λ number t. push (code g l) (word number) stack (frame g l next scratch stack s) t)) → Evaluates g l (next + 1) stack (meanings.asked (input_from inputs s.world) s (λ number t. Gives (Number number) t))
   input_from_runs [] next stack s all here at room is = (pushes g l next stack s ops.NextInput 0 stack here at room is, refl)
   input_from_runs (z ∷ inputs) next stack s all here at room is =
       let kept : KeptWorld (with_inputs inputs s.world) = record { acts = here.kept.world.acts; inputs = all.1 } in
@@ -168,7 +168,7 @@ module _ (g : Execution) (l : Layout g) where
   -- ---- jumps
 
   -- to an instruction that is there
-  pub jump_runs : (next : ℕ) (old stack : List ℕ) (s : meaning.State) (op : Op) (target : ℕ) → target < length (code g l).ops → Here g l next old s → slice_get (code g l).ops next ≡ Some op → ((w : ℕ) → act (image g) g.settings (code g l) op (frame g l next w old s) (standing g l next w old s) ≡ table.jump (code g l) target stack (frame g l next w old s) (standing g l next w old s)) → Here g l target stack s
+  pub jump_runs : (next : ℕ) (old stack : List ℕ) (s : meaning.State) (op : Op) (target : ℕ) → target < length (code g l).ops → Here g l next old s → slice_get (code g l).ops next ≡ Some op → ((w : Scratch) → act (image g) g.settings (code g l) op (frame g l next w old s) (standing g l next w old s) ≡ table.jump (code g l) target stack (frame g l next w old s) (standing g l next w old s)) → Here g l target stack s
   jump_runs next old stack s op target low here at is =
       let test : nat_lt target (length (code g l).ops) ≡ true = grind (arith, nat_tests) in
       moved g l next old s op target stack s here at here.kept (λ scratch. is scratch ∙ rw test refl)

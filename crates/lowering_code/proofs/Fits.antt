@@ -28,7 +28,7 @@ frame number f is = record { words = is.frame; arguments = is.parameters; held =
 
 -- the code of a function keeps what each function of an image does
 pub is_func : (number : ℕ) (f : Function) → IsName f.name → IsFunction f → IsFunc (function_code number f)
-is_func number f named is = record { named = named; frame = frame number f is; sized = rw (function_sized f) refl; paced = rw (function_paced f) refl }
+is_func number f named is = record { named = named; frame = frame number f is; sized = rw (function_sized f is) refl; paced = rw (function_paced f is) refl }
 
 frames : (number : ℕ) (functions : List Function) → AllByRecursion IsFunction functions → AllByRecursion HasSmallFrame (functions_from number functions)
 frames number [] all = tt
@@ -48,19 +48,20 @@ imports_follow number (i ∷ imports) = (refl, imports_follow (suc number) impor
 
 pub keeps_format : (program : Erased) → IsLowerable program → KeepsFormat (image_of program)
 keeps_format program lowerable =
+    let functions = recursion_from_All IsFunction program.functions lowerable.functions in
     record {
       functions = functions_follow 0 program.functions;
       imports = imports_follow 0 program.imports;
       callbacks = tt;
       bodies = tt;
       imported = All-nil _;
-      frames = All-from_recursion HasSmallFrame (functions_from 0 program.functions) (frames 0 program.functions (recursion_from_All IsFunction program.functions lowerable.functions));
+      frames = All-from_recursion HasSmallFrame (functions_from 0 program.functions) (frames 0 program.functions functions);
       sandbox_frames = All-nil HasSmallFrame;
-      sized = rw (sized_functions 0 program.functions) refl;
+      sized = rw (sized_functions 0 program.functions functions) refl;
       sandbox_sized = refl;
       few_arguments = All-from_recursion (λ (i : code.Import). i.args ≤ 16) (imports_from 0 program.imports) (imported 0 program.imports (recursion_from_All (λ (i : Import). i.parameters ≤ 16) program.imports lowerable.imports));
       callable = All-nil _;
-      paced = rw (paced_functions 0 program.functions) refl;
+      paced = rw (paced_functions 0 program.functions functions) refl;
     }
 
 pub image_fits : (program : Erased) → IsLowerable program → (settings : Settings) → AreAllowed settings → Fits (image_of program) settings

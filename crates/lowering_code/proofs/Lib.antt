@@ -8,6 +8,11 @@ pub mod Sizes
 pub mod Weights
 pub mod Expressions
 pub mod Places
+pub mod Reaches
+pub mod Aside
+pub mod Checks
+pub mod Accesses
+pub mod Allocations
 pub mod Conditions
 pub mod Calls
 pub mod Tainted

@@ -7,8 +7,8 @@ use Rattle.flat_bytes.specs.Blocks.{first_offset, grown, rounded_up}
 use Rattle.code_words.specs.Runs.{spread}
 use Rattle.ckc_core.specs.States.{Value, Cell, Block, Shape, strides, shape, shapes}
 use Rattle.ckc_core.specs.Steps.{is_char}
-use Rattle.lowering_code.specs.Images.{word_bytes_if, padded}
-use Rattle.lowering_code.specs.Correct.{size_of, offset_from, word_of, bytes_of, block_bytes, width_if}
+use Rattle.lowering_code.specs.Images.{width_if, word_bytes_if, padded}
+use Rattle.lowering_code.specs.Correct.{size_of, offset_from, word_of, bytes_of, block_bytes}
 use Rattle.lowering_code.proofs.Shapes.{sum_cons, bytes_before}
 use Rattle.lowering_code.proofs.Bytes.{length_word}
 

@@ -5,8 +5,6 @@ use Rattle.std.specs.Option.{option_and_then}
 use Rattle.std.proofs.lemmas.Bool.{cases_lt}
 use Rattle.std.proofs.lemmas.Bool.Decides.{nat_tests}
 use Rattle.std.proofs.lemmas.List.{length-map}
-use Rattle.ckc_text.specs.declared.code.Code.TheVariants.{C1}
-use Rattle.act_words.specs.declared.ending.Ending.TheVariants.{Check as Failed}
 use Rattle.act_words.specs.Numbers.{word, signed}
 use Rattle.act_words.specs.Arithmetic.{is_zero}
 use Rattle.flat_bytes.specs.Blocks.{first_offset}
@@ -16,19 +14,15 @@ use Rattle.ckc_core.specs.declared.program.Site.{Site}
 use Rattle.ckc_core.specs.States.{Value, Number, Null, At, Cell, Block, strides, shape, shapes, number_at, cell_in, cell_at, object_block, same_type, has_type}
 use Rattle.ckc_core.specs.States as meaning
 use Rattle.ckc_core.specs.Steps.{setting_of, value_if, value_in, place_if, place_at, variable_if, variable_at, load_at, truth, same_place, is_char}
-use Rattle.ckc_core.specs.Outcome.{and_then}
-use Rattle.ckc_core.specs.declared.program.Index.{Index}
-use Rattle.ckc_core.specs.declared.program.Index.TheVariants as indexes
-use Rattle.check_insertion.specs.declared.erased.Check.{Check}
-use Rattle.check_insertion.specs.declared.erased.Check.TheVariants as checks
-use Rattle.check_insertion.specs.ErasedMeaning.{check, pass, element, reached}
+use Rattle.check_insertion.specs.ErasedMeaning.{element}
 use Rattle.code_words.specs.Table.{act, push, push_some, load, holds}
 use Rattle.code_words.specs.Table as table
 use Rattle.code_words.specs.declared.op.Op.TheVariants as ops
-use Rattle.lowering_code.specs.Code.{offset_code, offset_size, address_code, check_code, checks_code, through_code, through_size, load_code}
+use Rattle.lowering_code.specs.Code.{offset_code, offset_size, address_code, load_code}
 use Rattle.lowering_code.specs.Code as codes
 use Rattle.check_insertion.specs.Stacks.{offset_stack}
-use Rattle.lowering_code.specs.Correct.{width_if, offset_from}
+use Rattle.lowering_code.specs.Images.{width_if}
+use Rattle.lowering_code.specs.Correct.{offset_from}
 use Rattle.lowering_code.specs.Correct as correct
 use Rattle.ckc_core.proofs.Numbers.{word_small, word-signed, zero_word}
 use Rattle.ckc_core.proofs.Elements.{of_element}
@@ -36,7 +30,7 @@ use Rattle.lowering_code.proofs.Shapes.{begins, bytes_before_le, shape_there, of
 use Rattle.lowering_code.proofs.Bytes.{word_behind, length_word, word_read}
 use Rattle.lowering_code.proofs.Memory.{with_cell, value_bytes, block_seam}
 use Rattle.lowering_code.proofs.Executions.{Execution, image, variables, word_of, tail, memory_by, memory, IsKept, KeptCell, KeptCells, KeptBlocks, variable_address, rooms_kept}
-use Rattle.lowering_code.proofs.Steps.{HasAt, has_front, has_back, Leads, leads_on, Finishes, Layout, code, frame, standing, Here, moved, pushes, ended, here_at, Arrives, Evaluates}
+use Rattle.lowering_code.proofs.Steps.{HasAt, Leads, Finishes, Layout, code, frame, standing, Here, pushes, here_at, Arrives, Evaluates, Scratch}
 
 -- ---- where a cell stands
 
@@ -167,7 +161,7 @@ module _ (g : Execution) (l : Layout g) where
       subst (λ k. Here g l (next + 2) (k ∷ stack) s) sum_is (here_at g l (next + 1 + 1) (next + 2) _ s place second)
 
   -- so many bytes behind the address of a byte of a block, where a cell begins
-  behind_runs : (next : ℕ) (stack : List ℕ) (s : meaning.State) (site : Option Site) (block byte offset : ℕ) (o : Option Cell) → cell_at s.blocks block (byte + offset) ≡ o → Here g l next (word_of g s (At block byte) ∷ stack) s → HasAt (code g l).ops next (offset_code offset) → length stack + offset_stack offset ≤ (code g l).stack → Leads (Placed (next + offset_size offset) stack) (Finishes g) (place_if o site block (byte + offset) s)
+  pub behind_runs : (next : ℕ) (stack : List ℕ) (s : meaning.State) (site : Option Site) (block byte offset : ℕ) (o : Option Cell) → cell_at s.blocks block (byte + offset) ≡ o → Here g l next (word_of g s (At block byte) ∷ stack) s → HasAt (code g l).ops next (offset_code offset) → length stack + offset_stack offset ≤ (code g l).stack → Leads (Placed (next + offset_size offset) stack) (Finishes g) (place_if o site block (byte + offset) s)
   behind_runs next stack s site block byte offset None is here at room = tt
   behind_runs next stack s site block byte offset (Some c) is here at room =
       let kept = in_block s.blocks block (byte + offset) c (cell_found s.blocks block (byte + offset) c is) in
@@ -199,43 +193,11 @@ module _ (g : Execution) (l : Layout g) where
   pub variable_runs : (next : ℕ) (stack : List ℕ) (s : meaning.State) (object offset : ℕ) → Here g l next stack s → HasAt (code g l).ops next (address_code object offset) → length stack + offset_stack offset ≤ (code g l).stack → Leads (Placed (next + (1 + offset_size offset)) stack) (Finishes g) (variable_at (setting_of g.program g.settings) object offset s)
   variable_runs next stack s object offset here at room = variable_by next stack s object offset (nat_lt object (length g.program.objects)) refl here at room
 
-  -- a check of the pointer whose word lies on the stack, where it stays
-  check_runs : (next : ℕ) (stack : List ℕ) (s : meaning.State) (c : Check) (v : Value) → IsKept s v → Here g l next (word_of g s v ∷ stack) s → slice_get (code g l).ops next ≡ Some (check_code c) → Leads (λ (u : Unit {0}) t. Arrives g l (next + 1) stack v t) (Finishes g) (check c v s)
-  check_runs next stack s (checks.NotNull site) (Number z) kept here at = tt
-  check_runs next stack s (checks.NotNull site) Null kept here at = ended g l next (0 ∷ stack) s (ops.NonNull site.place) (Failed C1 site.place) s here at here.kept.blocks (λ scratch. refl)
-  check_runs next stack s (checks.NotNull site) (At block byte) kept here at =
-      let w = word_of g s (At block byte) in
-      let passes : not (w == 0) ≡ true = ap not (truth_word g s (At block byte) kept) in
-      (moved g l next (w ∷ stack) s (ops.NonNull site.place) (next + 1) (w ∷ stack) s here at here.kept (λ scratch. rw passes refl), kept)
-
-  -- and checks of it, one after the other
-  checks_run : (next : ℕ) (stack : List ℕ) (s : meaning.State) (cs : List Check) (v : Value) → IsKept s v → Here g l next (word_of g s v ∷ stack) s → HasAt (code g l).ops next (checks_code cs) → Leads (λ (u : Unit {0}) t. Arrives g l (next + length cs) stack v t) (Finishes g) (pass cs v s)
-  checks_run next stack s [] v kept here at =
-      let none : next ≡ next + 0 = omega arith in
-      (here_at g l next (next + 0) (word_of g s v ∷ stack) s none here, kept)
-  checks_run next stack s (c ∷ cs) v kept here at =
-      let end : next + 1 + length cs ≡ next + suc (length cs) = omega arith in
-      subst (λ n. Leads (λ (u : Unit {0}) t. Arrives g l n stack v t) (Finishes g) (pass (c ∷ cs) v s)) end
-      (leads_on (λ (u : Unit {0}) t. Arrives g l (next + 1) stack v t) (λ (u : Unit {0}) t. Arrives g l (next + 1 + length cs) stack v t) (Finishes g) (check c v s) (λ _ t. pass cs v t)
-      (check_runs next stack s c v kept here at.0)
-      (λ u t x. checks_run (next + 1) stack t cs v x.1 x.0 at.1))
-
   -- the address of an element, behind the pointer's word
-  element_runs : (next : ℕ) (stack : List ℕ) (s : meaning.State) (offset : ℕ) (v : Value) → Arrives g l next stack v s → HasAt (code g l).ops next (offset_code offset) → length stack + offset_stack offset ≤ (code g l).stack → Leads (Placed (next + offset_size offset) stack) (Finishes g) (element offset v s)
+  pub element_runs : (next : ℕ) (stack : List ℕ) (s : meaning.State) (offset : ℕ) (v : Value) → Arrives g l next stack v s → HasAt (code g l).ops next (offset_code offset) → length stack + offset_stack offset ≤ (code g l).stack → Leads (Placed (next + offset_size offset) stack) (Finishes g) (element offset v s)
   element_runs next stack s offset (Number z) x at room = tt
   element_runs next stack s offset Null x at room = tt
   element_runs next stack s offset (At block byte) x at room = behind_runs next stack s None block byte offset (cell_at s.blocks block (byte + offset)) refl x.0 at room
-
-  -- the address behind a pointer, whose word lies on the stack, and behind its checks
-  pub through_runs : (next : ℕ) (stack : List ℕ) (s : meaning.State) (index : Index) (offset : ℕ) (cs : List Check) (v : Value) → IsKept s v → Here g l next (word_of g s v ∷ stack) s → HasAt (code g l).ops next (through_code index offset cs) → length stack + offset_stack offset ≤ (code g l).stack → Leads (Placed (next + through_size index offset cs) stack) (Finishes g) (and_then (pass cs v s) (λ _ t. reached index offset v t))
-  through_runs next stack s indexes.First offset cs v kept here at room =
-      let m = next + length cs in
-      let back = has_back (code g l).ops next (checks_code cs) (offset_code offset) (length cs) (length-map cs check_code) at in
-      let end : m + offset_size offset ≡ next + (length cs + offset_size offset) = omega arith in
-      subst (λ n. Leads (Placed n stack) (Finishes g) (and_then (pass cs v s) (λ _ t. reached indexes.First offset v t))) end
-      (leads_on (λ (u : Unit {0}) t. Arrives g l m stack v t) (Placed (m + offset_size offset) stack) (Finishes g) (pass cs v s) (λ _ t. reached indexes.First offset v t)
-      (checks_run next stack s cs v kept here (has_front (code g l).ops next (checks_code cs) (offset_code offset) at))
-      (λ u t x. element_runs m stack t offset v x back room))
 
   -- ---- loads
 
@@ -285,7 +247,7 @@ module _ (g : Execution) (l : Layout g) where
   typed_small s (Struct n) v blocks typed kept = kept_small g s v blocks kept
   typed_small s (Pointer mode kind target) v blocks typed kept = kept_small g s v blocks kept
 
-  load_act : (char : Bool) (next scratch a : ℕ) (stack : List ℕ) (s : meaning.State) → act (image g) g.settings (code g l) (codes.load_if char) (frame g l next scratch (a ∷ stack) s) (standing g l next scratch (a ∷ stack) s) ≡ load (code g l) (width_if char) a stack (frame g l next scratch (a ∷ stack) s) (standing g l next scratch (a ∷ stack) s)
+  load_act : (char : Bool) (next : ℕ) (scratch : Scratch) (a : ℕ) (stack : List ℕ) (s : meaning.State) → act (image g) g.settings (code g l) (codes.load_if char) (frame g l next scratch (a ∷ stack) s) (standing g l next scratch (a ∷ stack) s) ≡ load (code g l) (width_if char) a stack (frame g l next scratch (a ∷ stack) s) (standing g l next scratch (a ∷ stack) s)
   load_act true next scratch a stack s = refl
   load_act false next scratch a stack s = refl
 

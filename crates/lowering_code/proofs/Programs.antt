@@ -75,19 +75,19 @@ length_locals [] values = refl
 length_locals (type ∷ types) [] = ap suc (length_locals types [])
 length_locals (type ∷ types) (v ∷ values) = ap suc (length_locals types values)
 
--- words with zeros behind them, of which the last one stands apart
-zeros_behind : (words : List ℕ) (n k : ℕ) → n ≡ k + 1 → words ++ replicate n 0 ≡ (words ++ replicate k 0) ++ 0 ∷ []
+-- words with zeros behind them, of which the last three stand apart
+zeros_behind : (words : List ℕ) (n k : ℕ) → n ≡ k + 3 → words ++ replicate n 0 ≡ (words ++ replicate k 0) ++ (0 ∷ (0 ∷ (0 ∷ [])))
 zeros_behind words n k e =
-    ap (λ m. words ++ replicate m 0) e ∙ ap (λ l. words ++ l) (sym (replicate-append-replicate k 1 0)) ∙ sym (append_assoc words (replicate k 0) (0 ∷ []))
+    ap (λ m. words ++ replicate m 0) e ∙ ap (λ l. words ++ l) (sym (replicate-append-replicate k 3 0)) ∙ sym (append_assoc words (replicate k 0) (0 ∷ (0 ∷ (0 ∷ []))))
 
--- the slots of a function that is called are its locals and the scratch slot
-slots_are : (g : Execution) (all : List Shape) (number : ℕ) (f : Function) (values : List Value) → f.parameters ≡ length values → f.parameters ≤ length f.locals → slots_for (function_code number f) (map (word_by g all) values) ≡ slots_by g all (locals_for f.locals values) ++ 0 ∷ []
+-- the slots of a function that is called are its locals, and three more
+slots_are : (g : Execution) (all : List Shape) (number : ℕ) (f : Function) (values : List Value) → f.parameters ≡ length values → f.parameters ≤ length f.locals → slots_for (function_code number f) (map (word_by g all) values) ≡ slots_by g all (locals_for f.locals values) ++ (0 ∷ (0 ∷ (0 ∷ [])))
 slots_are g all number f values count held =
     let words = map (word_by g all) values in
     let more = length f.locals - length values in
-    let n : length f.locals + 1 - length words ≡ more + 1 = omega (arith, length-map values (word_by g all)) in
+    let n : length f.locals + 3 - length words ≡ more + 3 = omega (arith, length-map values (word_by g all)) in
     let e : length f.locals ≡ length values + more = omega arith in
-    zeros_behind words (length f.locals + 1 - length words) more n ∙ ap (λ l. l ++ 0 ∷ []) (sym (words_for g all f.locals values more e))
+    zeros_behind words (length f.locals + 3 - length words) more n ∙ ap (λ l. l ++ (0 ∷ (0 ∷ (0 ∷ [])))) (sym (words_for g all f.locals values more e))
 
 -- ---- the body of a function
 
@@ -140,10 +140,10 @@ module _ (g : Execution) (ticks : ℕ) (runs : KnotRuns g (knot (setting g) tick
         grows = grows_none (shapes s.blocks);
         world = world;
       } in
-      let start : Here g l 0 [] inside = record { scratch = 0; holds = tt; kept = kept; reached = subst (λ slots. Reached g (state g (Runs (record { function = number; next = 0; slots = slots; stack = [] })) callers s)) slots reached } in
+      let start : Here g l 0 [] inside = record { scratch = record { value = 0; pointer = 0; number = 0 }; holds = tt; kept = kept; reached = subst (λ slots. Reached g (state g (Runs (record { function = number; next = 0; slots = slots; stack = [] })) callers s)) slots reached } in
       leads_on (Leaves g callers (shapes s.blocks)) (Returns g callers s) (Finishes g) (and_then (effects (setting g) (knot (setting g) ticks) f.body inside) (answer f.result)) (back s)
       (leads_on (FlowsTo g l p (0 + statements_size f.body)) (Leaves g callers (shapes s.blocks)) (Finishes g) (effects (setting g) (knot (setting g) ticks) f.body inside) (answer f.result)
-      (effects_run g l (knot (setting g) ticks) runs f.body p 0 inside places start (has_front (function_ops f) 0 body last whole) (omega arith) low)
+      (effects_run g l (knot (setting g) ticks) runs f.body p 0 inside places is.sized start (has_front (function_ops f) 0 body last whole) (omega arith) low)
       (λ flow t h. answers g l p f.result (0 + statements_size f.body) flow t (has_back (function_ops f) 0 body last (statements_size f.body) long whole) (omega arith) h))
       (λ v t h. record { leaves = record { last = h.last; popped = h.popped; blocks = h.blocks; grows = h.grows; world = h.world; value = h.value; reached = h.reached; returns = h.returns }; locals = refl; depth = refl })
 
@@ -159,15 +159,15 @@ module _ (g : Execution) (ticks : ℕ) (runs : KnotRuns g (knot (setting g) tick
 knot_runs : (g : Execution) (ticks : ℕ) → KnotRuns g (knot (setting g) ticks)
 knot_runs g zero = record {
   call = λ number f callers values s there count all blocks world depth reached. tt;
-  turn = λ l p at condition body step s places has room low here. tt;
+  turn = λ l p at condition body step s places sized has room low here. tt;
   sandbox = λ callers s blocks world depth reached. tt;
 }
 knot_runs g (suc ticks) =
     let runs = knot_runs g ticks in
     record {
       call = called_runs g ticks runs;
-      turn = λ l p at condition body step s places has room low here.
-          loop_runs g l (knot (setting g) ticks) runs condition body step (effect_runs g l (knot (setting g) ticks) runs body) (effect_runs g l (knot (setting g) ticks) runs step) p at s places has room low here;
+      turn = λ l p at condition body step s places sized has room low here.
+          loop_runs g l (knot (setting g) ticks) runs condition body step (effect_runs g l (knot (setting g) ticks) runs body) (effect_runs g l (knot (setting g) ticks) runs step) p at s places sized has room low here;
       sandbox = λ callers s blocks world depth reached. sandbox_runs g callers s blocks s.world.acts s.world world.acts (record { left = refl; inputs = world.inputs }) reached;
     }
 

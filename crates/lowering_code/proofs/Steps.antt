@@ -108,8 +108,17 @@ last_move g t u ending s r h same = let p = r.by 1 in record { steps = p.0; last
 
 -- ---- frames
 
--- an open call: the function, what it goes back to, what its scratch slot holds, where that matters, and the shapes of blocks
--- that were there before
+-- the words in the slots behind the locals: a value, a pointer and a number
+pub record Scratch : Type 0 where
+  pub value : ℕ
+  pub pointer : ℕ
+  pub number : ℕ
+
+abbrev pub words : Scratch → List ℕ
+words c = c.value ∷ (c.pointer ∷ (c.number ∷ []))
+
+-- an open call: the function, what it goes back to, which value is kept aside, where one is, and the shapes of blocks that were
+-- there before
 pub record Layout (g : Execution) : Type 0 where
   pub number : ℕ
   pub function : Function
@@ -118,22 +127,22 @@ pub record Layout (g : Execution) : Type 0 where
   pub held : Option ℕ
   pub since : List Shape
 
--- the scratch slot holds what it has to
-abbrev pub Holds : Option ℕ → ℕ → Type 0
+-- the value's slot holds what it has to
+abbrev pub Holds : Option ℕ → Scratch → Type 0
 Holds None scratch = Unit {0}
-Holds (Some w) scratch = scratch ≡ w
+Holds (Some w) scratch = scratch.value ≡ w
 
 abbrev pub code : (g : Execution) → Layout g → Func
 code g l = function_code l.number l.function
 
--- the locals in their slots, and the scratch slot behind them
-abbrev pub frame_by : (g : Execution) → Layout g → List Shape → ℕ → ℕ → List ℕ → List Local → Frame
-frame_by g l all next scratch stack locals = record { function = l.number; next = next; slots = slots_by g all locals ++ scratch ∷ []; stack = stack }
+-- the locals in their slots, and three slots behind them
+abbrev pub frame_by : (g : Execution) → Layout g → List Shape → ℕ → Scratch → List ℕ → List Local → Frame
+frame_by g l all next scratch stack locals = record { function = l.number; next = next; slots = slots_by g all locals ++ words scratch; stack = stack }
 
-abbrev pub frame : (g : Execution) → Layout g → ℕ → ℕ → List ℕ → meaning.State → Frame
+abbrev pub frame : (g : Execution) → Layout g → ℕ → Scratch → List ℕ → meaning.State → Frame
 frame g l next scratch stack s = frame_by g l (shapes s.blocks) next scratch stack s.locals
 
-abbrev pub standing : (g : Execution) → Layout g → ℕ → ℕ → List ℕ → meaning.State → State
+abbrev pub standing : (g : Execution) → Layout g → ℕ → Scratch → List ℕ → meaning.State → State
 standing g l next scratch stack s = state g (Runs (frame g l next scratch stack s)) l.callers s
 
 pub record Kept (g : Execution) (l : Layout g) (s : meaning.State) : Type 0 where
@@ -146,7 +155,7 @@ pub record Kept (g : Execution) (l : Layout g) (s : meaning.State) : Type 0 wher
 
 -- the run comes to a place in a function, with this stack
 pub record Here (g : Execution) (l : Layout g) (next : ℕ) (stack : List ℕ) (s : meaning.State) : Type 0 where
-  pub scratch : ℕ
+  pub scratch : Scratch
   pub holds : Holds l.held scratch
   pub kept : Kept g l s
   pub reached : Reached g (standing g l next scratch stack s)
@@ -172,26 +181,26 @@ pub code_there : (g : Execution) (l : Layout g) → slice_get (image g).trusted.
 code_there g l = function_found g l.number l.function l.there
 
 -- the instruction that stands next is executed
-pub fetched : (g : Execution) (l : Layout g) (next scratch : ℕ) (stack : List ℕ) (s : meaning.State) (op : Op) → slice_get (code g l).ops next ≡ Some op → move (image g) g.settings (standing g l next scratch stack s) ≡ act (image g) g.settings (code g l) op (frame g l next scratch stack s) (standing g l next scratch stack s)
+pub fetched : (g : Execution) (l : Layout g) (next : ℕ) (scratch : Scratch) (stack : List ℕ) (s : meaning.State) (op : Op) → slice_get (code g l).ops next ≡ Some op → move (image g) g.settings (standing g l next scratch stack s) ≡ act (image g) g.settings (code g l) op (frame g l next scratch stack s) (standing g l next scratch stack s)
 fetched g l next scratch stack s op h = let there = code_there g l in rw (there, h) refl
 
 -- an instruction leads to another place
-pub moved : (g : Execution) (l : Layout g) (next : ℕ) (old : List ℕ) (s : meaning.State) (op : Op) (next' : ℕ) (new : List ℕ) (t : meaning.State) → Here g l next old s → slice_get (code g l).ops next ≡ Some op → Kept g l t → ((w : ℕ) → act (image g) g.settings (code g l) op (frame g l next w old s) (standing g l next w old s) ≡ Goes (standing g l next' w new t)) → Here g l next' new t
+pub moved : (g : Execution) (l : Layout g) (next : ℕ) (old : List ℕ) (s : meaning.State) (op : Op) (next' : ℕ) (new : List ℕ) (t : meaning.State) → Here g l next old s → slice_get (code g l).ops next ≡ Some op → Kept g l t → ((w : Scratch) → act (image g) g.settings (code g l) op (frame g l next w old s) (standing g l next w old s) ≡ Goes (standing g l next' w new t)) → Here g l next' new t
 moved g l next old s op next' new t here at kept goes =
     record { scratch = here.scratch; holds = here.holds; kept = kept; reached = one_move g _ _ here.reached (fetched g l next here.scratch old s op at ∙ goes here.scratch) }
 
 -- a word is pushed onto a stack that has room, in a world
-pub pushes_in : (g : Execution) (l : Layout g) (next : ℕ) (old : List ℕ) (s : meaning.State) (op : Op) (w : ℕ) (stack : List ℕ) (world : World) → KeptWorld world → Here g l next old s → slice_get (code g l).ops next ≡ Some op → length stack < (code g l).stack → ((scratch : ℕ) → act (image g) g.settings (code g l) op (frame g l next scratch old s) (standing g l next scratch old s) ≡ push (code g l) w stack (frame g l next scratch old s) (standing g l next scratch old (meaning.in_world world s))) → Here g l (next + 1) (w ∷ stack) (meaning.in_world world s)
+pub pushes_in : (g : Execution) (l : Layout g) (next : ℕ) (old : List ℕ) (s : meaning.State) (op : Op) (w : ℕ) (stack : List ℕ) (world : World) → KeptWorld world → Here g l next old s → slice_get (code g l).ops next ≡ Some op → length stack < (code g l).stack → ((scratch : Scratch) → act (image g) g.settings (code g l) op (frame g l next scratch old s) (standing g l next scratch old s) ≡ push (code g l) w stack (frame g l next scratch old s) (standing g l next scratch old (meaning.in_world world s))) → Here g l (next + 1) (w ∷ stack) (meaning.in_world world s)
 pushes_in g l next old s op w stack world kept here at room is =
     let test : nat_lt (length stack) (code g l).stack ≡ true = grind (arith, nat_tests) in
     moved g l next old s op (next + 1) (w ∷ stack) (meaning.in_world world s) here at (kept_in g l s world here.kept kept) (λ scratch. is scratch ∙ rw test refl)
 
 -- the same, in the same world
-pub pushes : (g : Execution) (l : Layout g) (next : ℕ) (old : List ℕ) (s : meaning.State) (op : Op) (w : ℕ) (stack : List ℕ) → Here g l next old s → slice_get (code g l).ops next ≡ Some op → length stack < (code g l).stack → ((scratch : ℕ) → act (image g) g.settings (code g l) op (frame g l next scratch old s) (standing g l next scratch old s) ≡ push (code g l) w stack (frame g l next scratch old s) (standing g l next scratch old s)) → Here g l (next + 1) (w ∷ stack) s
+pub pushes : (g : Execution) (l : Layout g) (next : ℕ) (old : List ℕ) (s : meaning.State) (op : Op) (w : ℕ) (stack : List ℕ) → Here g l next old s → slice_get (code g l).ops next ≡ Some op → length stack < (code g l).stack → ((scratch : Scratch) → act (image g) g.settings (code g l) op (frame g l next scratch old s) (standing g l next scratch old s) ≡ push (code g l) w stack (frame g l next scratch old s) (standing g l next scratch old s)) → Here g l (next + 1) (w ∷ stack) s
 pushes g l next old s op w stack here at room is = pushes_in g l next old s op w stack s.world here.kept.world here at room is
 
 -- an instruction ends the run
-pub ended : (g : Execution) (l : Layout g) (next : ℕ) (old : List ℕ) (s : meaning.State) (op : Op) (ending : Ending) (t : meaning.State) → Here g l next old s → slice_get (code g l).ops next ≡ Some op → KeptBlocks g t.blocks → ((w : ℕ) → act (image g) g.settings (code g l) op (frame g l next w old s) (standing g l next w old s) ≡ Over ending (state g (Runs (frame g l next w old s)) l.callers t)) → Finishes g ending t
+pub ended : (g : Execution) (l : Layout g) (next : ℕ) (old : List ℕ) (s : meaning.State) (op : Op) (ending : Ending) (t : meaning.State) → Here g l next old s → slice_get (code g l).ops next ≡ Some op → KeptBlocks g t.blocks → ((w : Scratch) → act (image g) g.settings (code g l) op (frame g l next w old s) (standing g l next w old s) ≡ Over ending (state g (Runs (frame g l next w old s)) l.callers t)) → Finishes g ending t
 ended g l next old s op ending t here at kept over =
     last_move g _ _ ending t here.reached (fetched g l next here.scratch old s op at ∙ over here.scratch) (same_end g (Runs (frame g l next here.scratch old s)) l.callers t kept)
 
@@ -253,7 +262,7 @@ both g l next stack v w s t grows kept x =
     }
 
 -- the frame of a call that waits has the words of its locals
-pub frame_grows : (g : Execution) (l : Layout g) (next scratch : ℕ) (stack : List ℕ) (s t : meaning.State) → Grows (shapes s.blocks) (shapes t.blocks) → AreKeptBy (shapes s.blocks) s.locals → t.locals ≡ s.locals → frame g l next scratch stack s ≡ frame g l next scratch stack t
+pub frame_grows : (g : Execution) (l : Layout g) (next : ℕ) (scratch : Scratch) (stack : List ℕ) (s t : meaning.State) → Grows (shapes s.blocks) (shapes t.blocks) → AreKeptBy (shapes s.blocks) s.locals → t.locals ≡ s.locals → frame g l next scratch stack s ≡ frame g l next scratch stack t
 frame_grows g l next scratch stack s t grows kept same =
-    ap (λ slots. record { function = l.number; next = next; slots = slots ++ scratch ∷ []; stack = stack })
+    ap (λ slots. record { function = l.number; next = next; slots = slots ++ words scratch; stack = stack })
     (sym (slots_grow g (shapes s.blocks) (shapes t.blocks) s.locals grows kept) ∙ ap (slots_by g (shapes t.blocks)) (sym same))

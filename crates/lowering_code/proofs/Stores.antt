@@ -1,5 +1,5 @@
--- What is put into cells, local variables and the scratch slot.
-use Rattle.std.proofs.Common.{◌≡◌, ℕ, zero, suc, ◌+◌, ◌-◌, ◌<◌, ◌≤◌, Bool, true, false, List, [], ◌∷◌, ◌++◌, length, map, Option, Some, None, refl, sym, ap, ◌∙◌, subst, arith, length-append}
+-- What is put into cells, local variables and the slot of a value.
+use Rattle.std.proofs.Common.{◌≡◌, ℕ, zero, suc, ◌+◌, ◌-◌, ◌<◌, ◌≤◌, Bool, true, false, ℤ, List, [], ◌∷◌, ◌++◌, length, map, Option, Some, None, refl, sym, ap, ◌∙◌, subst, arith, length-append}
 use Rattle.std.specs.Prelude.{slice_get, slice_set, nat_lt, ◌&&◌}
 use Rattle.std.specs.List.{AllByRecursion}
 use Rattle.std.proofs.lemmas.List.{length-map}
@@ -12,9 +12,9 @@ use Rattle.ckc_core.specs.declared.program.Site.{Site}
 use Rattle.ckc_core.specs.States.{Value, Number, Null, At, Cell, Block, Shape, Local, Grows, strides, shape, shapes, cell_at, same_type, has_type}
 use Rattle.ckc_core.specs.States as meaning
 use Rattle.ckc_core.specs.Steps.{store_if, store_over, store_at, leaves_zero, set_over, set_local, is_char, kept_if}
-use Rattle.ckc_core.specs.declared.program.Index.{Index}
 use Rattle.check_insertion.specs.declared.erased.Check.{Check}
-use Rattle.check_insertion.specs.ErasedMeaning.{pass, reached}
+use Rattle.check_insertion.specs.Erased as erased
+use Rattle.check_insertion.specs.ErasedMeaning.{step_to, pass, reached}
 use Rattle.ckc_core.specs.Steps as meanings
 use Rattle.ckc_core.specs.Outcome.{and_then}
 use Rattle.code_words.specs.Table.{Runs, Goes, act, store, push_some, set_if}
@@ -24,15 +24,16 @@ use Rattle.lowering_code.specs.Code.{Places, store_code, through_code, through_s
 use Rattle.lowering_code.specs.Code as codes
 use Rattle.check_insertion.specs.Stacks.{offset_stack}
 use Rattle.ckc_core.proofs.Elements.{of_element}
-use Rattle.lowering_code.specs.Correct.{width_if}
+use Rattle.lowering_code.specs.Images.{width_if}
 use Rattle.lowering_code.proofs.Shapes.{end_from, IsKeptBy, grows_none, grows_on, kept_grows, word_grows}
 use Rattle.lowering_code.proofs.Bytes.{with_word_behind, word_written}
 use Rattle.lowering_code.proofs.Memory.{with_cell, value_bytes}
 use Rattle.lowering_code.proofs.Executions.{Execution, image, variables, word_of, memory_by, memory, state_by, IsKept, AreKeptBy, KeptCell, KeptCells, KeptBlocks}
-use Rattle.lowering_code.proofs.Steps.{HasAt, has_front, has_back, leads_on, Finishes, Layout, Holds, code, frame_by, frame, standing, Kept, Here, moved, one_move, fetched, here_at, Arrives, Evaluates}
+use Rattle.lowering_code.proofs.Steps.{HasAt, has_front, has_back, leads_on, Finishes, Layout, Holds, code, frame_by, frame, standing, Kept, Here, moved, one_move, fetched, here_at, Arrives, Evaluates, Scratch, words}
 use Rattle.lowering_code.proofs.Sizes.{length_through}
 use Rattle.lowering_code.proofs.Expressions.{index_below, low_byte_runs}
-use Rattle.lowering_code.proofs.Places.{Found, cell_found, stored_is, Placed, through_runs, seam, seam_inside, typed_small, same_char}
+use Rattle.lowering_code.proofs.Places.{Found, cell_found, stored_is, Placed, seam, seam_inside, typed_small, same_char}
+use Rattle.lowering_code.proofs.Accesses.{index_pile, IsIndex, SmallChecks, most_words, through_runs}
 use Rattle.lowering_code.proofs.Calls.{FlowsTo, Affects, ArePlaces}
 
 -- ---- lists
@@ -52,13 +53,13 @@ mapped_set f [] ys i x h = absurd (omega arith)
 mapped_set f (y ∷ xs) ys zero x h = refl
 mapped_set f (y ∷ xs) ys (suc i) x h = ap (λ l. f y ∷ l) (mapped_set f xs ys i x (omega arith))
 
-last_set : {X Y : Type 0} (f : X → Y) (xs : List X) (old new : Y) → slice_set (map f xs ++ old ∷ []) (length xs) new ≡ map f xs ++ new ∷ []
-last_set f [] old new = refl
-last_set f (x ∷ xs) old new = ap (λ l. f x ∷ l) (last_set f xs old new)
+last_set : {X Y : Type 0} (f : X → Y) (xs : List X) (old new : Y) (ys : List Y) → slice_set (map f xs ++ old ∷ ys) (length xs) new ≡ map f xs ++ new ∷ ys
+last_set f [] old new ys = refl
+last_set f (x ∷ xs) old new ys = ap (λ l. f x ∷ l) (last_set f xs old new ys)
 
-last_there : {X Y : Type 0} (f : X → Y) (xs : List X) (y : Y) → slice_get (map f xs ++ y ∷ []) (length xs) ≡ Some y
-last_there f [] y = refl
-last_there f (x ∷ xs) y = last_there f xs y
+last_there : {X Y : Type 0} (f : X → Y) (xs : List X) (y : Y) (ys : List Y) → slice_get (map f xs ++ y ∷ ys) (length xs) ≡ Some y
+last_there f [] y ys = refl
+last_there f (x ∷ xs) y ys = last_there f xs y ys
 
 -- an element that is mapped to the same leaves what a list is mapped to
 map_set : {X Y : Type 0} (f : X → Y) (xs : List X) (i : ℕ) (old new : X) → slice_get xs i ≡ Some old → f new ≡ f old → map f (slice_set xs i new) ≡ map f xs
@@ -121,7 +122,7 @@ kept_stored g blocks block byte c v kept f typed value =
 module _ (g : Execution) (l : Layout g) where
   -- ---- stores
 
-  store_act : (char : Bool) (next scratch a w : ℕ) (stack : List ℕ) (s : meaning.State) → act (image g) g.settings (code g l) (codes.store_if char) (frame g l next scratch (w ∷ (a ∷ stack)) s) (standing g l next scratch (w ∷ (a ∷ stack)) s) ≡ store (width_if char) a w stack (frame g l next scratch (w ∷ (a ∷ stack)) s) (standing g l next scratch (w ∷ (a ∷ stack)) s)
+  store_act : (char : Bool) (next : ℕ) (scratch : Scratch) (a w : ℕ) (stack : List ℕ) (s : meaning.State) → act (image g) g.settings (code g l) (codes.store_if char) (frame g l next scratch (w ∷ (a ∷ stack)) s) (standing g l next scratch (w ∷ (a ∷ stack)) s) ≡ store (width_if char) a w stack (frame g l next scratch (w ∷ (a ∷ stack)) s) (standing g l next scratch (w ∷ (a ∷ stack)) s)
   store_act true next scratch a w stack s = refl
   store_act false next scratch a w stack s = refl
 
@@ -198,14 +199,14 @@ module _ (g : Execution) (l : Layout g) where
       } in
       moved g l next (word_of g s v ∷ []) s (ops.Set k) (next + 1) [] t here at kept
       (λ scratch.
-      let slots = map (slot s) s.locals ++ scratch ∷ [] in
-      let long = length-append (map (slot s) s.locals) (scratch ∷ []) in
+      let slots = map (slot s) s.locals ++ words scratch in
+      let long = length-append (map (slot s) s.locals) (words scratch) in
       let many = length-map s.locals (slot s) in
       let room : nat_lt k (length slots) ≡ true = grind (arith, nat_tests) in
       let fr = frame g l next scratch (word_of g s v ∷ []) s in
       let u = standing g l next scratch (word_of g s v ∷ []) s in
       ap (λ yes. set_if yes k (word_of g s v) [] fr u) room
-      ∙ ap (λ slots. table.on_with (record fr { slots = slots }) [] u) (mapped_set (slot s) s.locals (scratch ∷ []) k new low))
+      ∙ ap (λ slots. table.on_with (record fr { slots = slots }) [] u) (mapped_set (slot s) s.locals (words scratch) k new low))
 
   set_found : (next : ℕ) (s : meaning.State) (p : Places) (k : ℕ) (o : Option Local) (v : Value) → slice_get s.locals k ≡ o → IsKept s v → Here g l next (word_of g s v ∷ []) s → slice_get (code g l).ops next ≡ Some (ops.Set k) → Affects g l p (next + 1) (set_over o k v s)
   set_found next s p k None v there value here at = tt
@@ -219,70 +220,73 @@ module _ (g : Execution) (l : Layout g) where
   byte_runs next stack s true v x at room = low_byte_runs g l next stack s v x.1 x.0 at.0 room
   byte_runs next stack s false v x at room = let e : next ≡ next + 0 = omega arith in (here_at g l next (next + 0) (word_of g s v ∷ stack) s e x.0, x.1)
 
-  -- ---- the scratch slot
+  -- ---- the slot of the value
 
-  -- the same call from a state on, whose scratch slot holds a word
+  -- the same call from a state on, while a value is kept aside
   abbrev pub holding : ℕ → meaning.State → Layout g
   holding w s = record l { held = Some w; since = shapes s.blocks }
 
-  scratch_set : (next : ℕ) (stack : List ℕ) (s : meaning.State) (p : Places) (w : ℕ) → p.scratch ≡ length l.function.locals → Here g l next (w ∷ stack) s → slice_get (code g l).ops next ≡ Some (ops.Set p.scratch) → Here g (holding w s) (next + 1) stack s
-  scratch_set next stack s p w is here at =
-      let slots = map (slot s) s.locals ++ here.scratch ∷ [] in
+  value_set : (next : ℕ) (stack : List ℕ) (s : meaning.State) (p : Places) (w : ℕ) → p.scratch ≡ length l.function.locals → Here g l next (w ∷ stack) s → slice_get (code g l).ops next ≡ Some (ops.Set p.scratch) → Here g (holding w s) (next + 1) stack s
+  value_set next stack s p w is here at =
+      let c = here.scratch in
+      let slots = map (slot s) s.locals ++ words c in
       let e : p.scratch ≡ length s.locals = is ∙ sym here.kept.count in
-      let long = length-append (map (slot s) s.locals) (here.scratch ∷ []) in
+      let long = length-append (map (slot s) s.locals) (words c) in
       let many = length-map s.locals (slot s) in
       let room : nat_lt p.scratch (length slots) ≡ true = grind (arith, nat_tests) in
-      let fr = frame g l next here.scratch (w ∷ stack) s in
-      let u = standing g l next here.scratch (w ∷ stack) s in
+      let fr = frame g l next c (w ∷ stack) s in
+      let u = standing g l next c (w ∷ stack) s in
       let k = here.kept in
       record {
-        scratch = w;
+        scratch = record c { value = w };
         holds = refl;
         kept = record { count = k.count; depth = k.depth; locals = k.locals; blocks = k.blocks; grows = grows_none (shapes s.blocks); world = k.world };
         reached = one_move g u _ here.reached
-            (fetched g l next here.scratch (w ∷ stack) s (ops.Set p.scratch) at
+            (fetched g l next c (w ∷ stack) s (ops.Set p.scratch) at
             ∙ ap (λ yes. set_if yes p.scratch w stack fr u) room
             ∙ ap (λ n. table.on_with (record fr { slots = slice_set slots n w }) stack u) e
-            ∙ ap (λ slots. table.on_with (record fr { slots = slots }) stack u) (last_set (slot s) s.locals here.scratch w));
+            ∙ ap (λ slots. table.on_with (record fr { slots = slots }) stack u) (last_set (slot s) s.locals c.value w (c.pointer ∷ (c.number ∷ []))));
       }
 
-  -- the scratch slot's word is pushed
-  scratch_pushed : (next : ℕ) (stack : List ℕ) (s t : meaning.State) (p : Places) (w : ℕ) → ArePlaces g l p → Grows l.since (shapes s.blocks) → Here g (holding w s) next stack t → slice_get (code g l).ops next ≡ Some (ops.Local p.scratch) → length stack < (code g l).stack → Here g l (next + 1) (w ∷ stack) t
-  scratch_pushed next stack s t p w places grows here at room =
-      let slots = map (slot t) t.locals ++ here.scratch ∷ [] in
+  -- the value's word is pushed
+  value_pushed : (next : ℕ) (stack : List ℕ) (s t : meaning.State) (p : Places) (w : ℕ) → ArePlaces g l p → Grows l.since (shapes s.blocks) → Here g (holding w s) next stack t → slice_get (code g l).ops next ≡ Some (ops.Local p.scratch) → length stack < (code g l).stack → Here g l (next + 1) (w ∷ stack) t
+  value_pushed next stack s t p w places grows here at room =
+      let c = here.scratch in
+      let slots = map (slot t) t.locals ++ words c in
       let e : p.scratch ≡ length t.locals = places.scratch ∙ sym here.kept.count in
-      let fr = frame g l next here.scratch stack t in
-      let u = standing g l next here.scratch stack t in
+      let fr = frame g l next c stack t in
+      let u = standing g l next c stack t in
       let k = here.kept in
       let test : nat_lt (length stack) (code g l).stack ≡ true = grind (arith, nat_tests) in
       record {
-        scratch = here.scratch;
-        holds = subst (λ o. Holds o here.scratch) (sym places.free) tt;
+        scratch = c;
+        holds = subst (λ o. Holds o c) (sym places.free) tt;
         kept = record { count = k.count; depth = k.depth; locals = k.locals; blocks = k.blocks; grows = grows_on l.since (shapes s.blocks) (shapes t.blocks) grows k.grows; world = k.world };
         reached = one_move g u _ here.reached
-            (fetched g l next here.scratch stack t (ops.Local p.scratch) at
+            (fetched g l next c stack t (ops.Local p.scratch) at
             ∙ ap (λ n. push_some (code g l) (slice_get slots n) stack fr u) e
-            ∙ ap (λ o. push_some (code g l) o stack fr u) (last_there (slot t) t.locals here.scratch)
+            ∙ ap (λ o. push_some (code g l) o stack fr u) (last_there (slot t) t.locals c.value (c.pointer ∷ (c.number ∷ [])))
             ∙ ap (λ x. table.push (code g l) x stack fr u) here.holds
             ∙ ap (λ yes. table.push_if yes w stack fr u) test);
       }
 
   -- a store through a pointer: its value is kept aside while the pointer is checked
-  pub through_store_runs : (next : ℕ) (s : meaning.State) (p : Places) (type : CType) (index : Index) (offset : ℕ) (cs : List Check) (q v : Value) → ArePlaces g l p → IsKept s q → IsKept s v → Here g l next (word_of g s v ∷ (word_of g s q ∷ [])) s → HasAt (code g l).ops next (ops.Set p.scratch ∷ (through_code index offset cs ++ (ops.Local p.scratch ∷ (store_code type ∷ [])))) → 2 ≤ (code g l).stack → offset_stack offset ≤ (code g l).stack → Affects g l p (next + (3 + through_size index offset cs)) (and_then (and_then (pass cs q s) (λ _ t. reached index offset q t)) (λ place t. store_at type None place v t))
-  through_store_runs next s p type index offset cs q v places hq hv here at two room =
+  pub through_store_runs : (next : ℕ) (s : meaning.State) (p : Places) (type : CType) (index : erased.Index) (offset : ℕ) (cs : List Check) (q v : Value) (n : ℤ) → ArePlaces g l p → SmallChecks p.scratch index cs → IsIndex index n → IsKept s q → IsKept s v → Here g l next (word_of g s v ∷ index_pile index n (word_of g s q ∷ [])) s → HasAt (code g l).ops next (ops.Set p.scratch ∷ (through_code p.scratch index offset cs ++ (ops.Local p.scratch ∷ (store_code type ∷ [])))) → 2 ≤ (code g l).stack → offset_stack offset ≤ (code g l).stack → most_words index ≤ (code g l).stack → Affects g l p (next + (3 + through_size index offset cs)) (and_then (and_then (pass (step_to index n) cs q s) (λ _ t. reached index offset (step_to index n) q t)) (λ place t. store_at type None place v t))
+  through_store_runs next s p type index offset cs q v n places small number hq hv here at two room most =
       let w = word_of g s v in
       let m = holding w s in
+      let step = step_to index n in
       let last = ops.Local p.scratch ∷ (store_code type ∷ []) in
-      let n = next + 1 + through_size index offset cs in
-      let o = and_then (pass cs q s) (λ _ t. reached index offset q t) in
-      let back = has_back (code g l).ops (next + 1) (through_code index offset cs) last (through_size index offset cs) (length_through index offset cs) at.1 in
-      let end : n + 1 + 1 ≡ next + (3 + through_size index offset cs) = omega arith in
+      let i = next + 1 + through_size index offset cs in
+      let o = and_then (pass step cs q s) (λ _ t. reached index offset step q t) in
+      let back = has_back (code g l).ops (next + 1) (through_code p.scratch index offset cs) last (through_size index offset cs) (length_through p.scratch index offset cs) at.1 in
+      let end : i + 1 + 1 ≡ next + (3 + through_size index offset cs) = omega arith in
       subst (λ k. Affects g l p k (and_then o (λ place t. store_at type None place v t))) end
-      (leads_on (Placed g m n []) (FlowsTo g l p (n + 1 + 1)) (Finishes g) o (λ place t. store_at type None place v t)
-      (through_runs g m (next + 1) [] s index offset cs q hq (scratch_set next (word_of g s q ∷ []) s p w places.scratch here at.0) (has_front (code g l).ops (next + 1) (through_code index offset cs) last at.1) (omega arith))
+      (leads_on (Placed g m i []) (FlowsTo g l p (i + 1 + 1)) (Finishes g) o (λ place t. store_at type None place v t)
+      (through_runs g m p.scratch places.scratch index (next + 1) [] s offset cs q n small number hq (value_set next (index_pile index n (word_of g s q ∷ [])) s p w places.scratch here at.0) (has_front (code g l).ops (next + 1) (through_code p.scratch index offset cs) last at.1) (omega arith) (omega arith))
       (λ place t x.
       let a = word_of g t (At place.0 place.1) in
       let added = x.0.kept.grows in
       let same = sym (word_grows g.settings.base (shapes s.blocks) (shapes t.blocks) v added hv) in
-      let pushed = scratch_pushed n (a ∷ []) s t p w places here.kept.grows x.0 back.0 (omega arith) in
-      store_runs (n + 1) t p type None place v (kept_grows (shapes s.blocks) (shapes t.blocks) v added hv) (subst (λ u. Here g l (n + 1) (u ∷ (a ∷ [])) t) same pushed) back.1.0))
+      let pushed = value_pushed i (a ∷ []) s t p w places here.kept.grows x.0 back.0 (omega arith) in
+      store_runs (i + 1) t p type None place v (kept_grows (shapes s.blocks) (shapes t.blocks) v added hv) (subst (λ u. Here g l (i + 1) (u ∷ (a ∷ [])) t) same pushed) back.1.0))

@@ -35,7 +35,7 @@ use Rattle.ckc_core.proofs.Numbers.{word-signed, signed_fits}
 use Rattle.lowering_code.proofs.Shapes.{grows_none, grows_on}
 use Rattle.lowering_code.proofs.Worlds.{KeptWorld, HasLeft, BeforeKeeps, SandboxKeeps, act_waits, act_keeps}
 use Rattle.lowering_code.proofs.Executions.{Execution, image, word_of, state, AreKeptBy, KeptBlocks, locals_grow, same_end}
-use Rattle.lowering_code.proofs.Steps.{HasAt, Leads, leads_on, Asks, asks_on, Reached, Finishes, one_move, last_move, Layout, Holds, code, frame, standing, Kept, Here, kept_in, fetched, frame_grows}
+use Rattle.lowering_code.proofs.Steps.{HasAt, Leads, leads_on, Asks, asks_on, Reached, Finishes, one_move, last_move, Layout, Holds, code, frame, standing, Kept, Here, kept_in, fetched, frame_grows, Scratch}
 use Rattle.lowering_code.proofs.Expressions.{tick_runs}
 use Rattle.lowering_code.proofs.Calls.{Answered, KnotRuns, piled, piled_words, popped, Resumes, resumed}
 
@@ -125,11 +125,11 @@ passed_words g s (At block byte ∷ vs) words h = absurd (cc)
 
 module _ (g : Execution) (l : Layout g) where
   -- the move that takes a reply
-  abbrev replies : ℕ → ℕ → List ℕ → meaning.State → Option CType → Place → ℕ → Step
+  abbrev replies : ℕ → Scratch → List ℕ → meaning.State → Option CType → Place → ℕ → Step
   replies next scratch stack s result place reply = moves.reply_if (fits_kind (result_kind result) reply) (image g) (frame g l next scratch stack s) place (result_kind result) reply (state g Away l.callers s)
 
   -- a reply is a number of the result's type, or breaks off
-  reply_runs : (result : Option CType) (next scratch : ℕ) (stack : List ℕ) (s : meaning.State) (site : Site) (reply : ℕ) (u : State) → IsWord reply → Holds l.held scratch → Kept g l s → length stack < (code g l).stack → Reached g u → move (image g) g.settings u ≡ replies next scratch stack s result site.place reply → Leads (Resumes g l next stack) (Finishes g) (reply_as result site reply s)
+  reply_runs : (result : Option CType) (next : ℕ) (scratch : Scratch) (stack : List ℕ) (s : meaning.State) (site : Site) (reply : ℕ) (u : State) → IsWord reply → Holds l.held scratch → Kept g l s → length stack < (code g l).stack → Reached g u → move (image g) g.settings u ≡ replies next scratch stack s result site.place reply → Leads (Resumes g l next stack) (Finishes g) (reply_as result site reply s)
   reply_runs None next scratch stack s site reply u is holds kept room reached moves_on = resumed g l next scratch stack None s u (state g Away l.callers s) holds kept tt room refl reached moves_on
   reply_runs (Some Int) next scratch stack s site reply u is holds kept room reached moves_on =
       resumed g l next scratch stack (Some (Number (signed reply))) s u (state g Away l.callers s) holds kept (signed_fits reply is) room refl reached
@@ -148,7 +148,7 @@ module _ (g : Execution) (l : Layout g) where
   reply_runs (Some (Struct number)) next scratch stack s site reply u is holds kept room reached moves_on = tt
   reply_runs (Some (Pointer mode kind target)) next scratch stack s site reply u is holds kept room reached moves_on = tt
 
-  call_moves : (next scratch : ℕ) (stack words : List ℕ) (s : meaning.State) (k : ℕ) (place : Place) (i : Import) (few : Bool) → nat_lt s.depth 1000 ≡ few → slice_get g.program.imports k ≡ Some i → i.parameters ≡ length words → Kept g l s → slice_get (code g l).ops next ≡ Some (ops.TaintedCall k place) → move (image g) g.settings (standing g l next scratch (reverse words ++ stack) s) ≡ table.asked (entered_if few s.world) (standing g l next scratch (reverse words ++ stack) s) (λ _ u. table.touch_if true (Passes k words place) stack (frame g l next scratch (reverse words ++ stack) s) u)
+  call_moves : (next : ℕ) (scratch : Scratch) (stack words : List ℕ) (s : meaning.State) (k : ℕ) (place : Place) (i : Import) (few : Bool) → nat_lt s.depth 1000 ≡ few → slice_get g.program.imports k ≡ Some i → i.parameters ≡ length words → Kept g l s → slice_get (code g l).ops next ≡ Some (ops.TaintedCall k place) → move (image g) g.settings (standing g l next scratch (reverse words ++ stack) s) ≡ table.asked (entered_if few s.world) (standing g l next scratch (reverse words ++ stack) s) (λ _ u. table.touch_if true (Passes k words place) stack (frame g l next scratch (reverse words ++ stack) s) u)
   call_moves next scratch stack words s k place i few test there count kept at =
       let fr = frame g l next scratch (reverse words ++ stack) s in
       let t = standing g l next scratch (reverse words ++ stack) s in
@@ -160,7 +160,7 @@ module _ (g : Execution) (l : Layout g) where
       ∙ ap (λ yes. table.asked (entered_if yes s.world) t (λ _ u. table.touch_if true (Passes k words place) stack fr u)) (ap (λ n. nat_lt n 1000) (sym kept.depth) ∙ test)
 
   module _ (m : Knot) (runs : KnotRuns g m) where
-    passed_runs : (next scratch : ℕ) (stack : List ℕ) (s : meaning.State) (k : ℕ) (site : Site) (i : Import) → slice_get g.program.imports k ≡ Some i → Holds l.held scratch → Kept g l s → length stack < (code g l).stack → Reached g (state g Away (Waits (frame g l next scratch stack s) k site.place ∷ l.callers) s) → Leads (Resumes g l next stack) (Finishes g) (passed m i site s)
+    passed_runs : (next : ℕ) (scratch : Scratch) (stack : List ℕ) (s : meaning.State) (k : ℕ) (site : Site) (i : Import) → slice_get g.program.imports k ≡ Some i → Holds l.held scratch → Kept g l s → length stack < (code g l).stack → Reached g (state g Away (Waits (frame g l next scratch stack s) k site.place ∷ l.callers) s) → Leads (Resumes g l next stack) (Finishes g) (passed m i site s)
     passed_runs next scratch stack s k site i there holds kept room reached =
         let inside : meaning.State = record s { depth = s.depth + 1 } in
         let waits : List Caller = Waits (frame g l next scratch stack s) k site.place ∷ l.callers in

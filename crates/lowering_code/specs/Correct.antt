@@ -1,5 +1,5 @@
 -- What it means that code does what a program means.
-use Rattle.std.specs.Prelude.{◌≡◌, ℕ, zero, suc, ◌+◌, ◌^◌, ◌<◌, ◌≤◌, Bool, true, false, IsTrue, List, [], ◌∷◌, length, flat_map, map, sum, All}
+use Rattle.std.specs.Prelude.{◌≡◌, ℕ, zero, suc, ◌+◌, ◌^◌, ◌<◌, ◌≤◌, IsTrue, List, [], ◌∷◌, length, flat_map, map, sum, All}
 use Rattle.std.specs.Prelude.{Some, slice_get, pos}
 use Rattle.std.proofs.Common.{ℤ}
 use Rattle.act_words.specs.declared.ending.Ending.{Ending}
@@ -24,7 +24,8 @@ use Rattle.code_words.specs.Dumps.{blocks_held}
 use Rattle.code_words.specs.Fitting.{Fits}
 use Rattle.code_words.specs.Formats.{KeepsFormat}
 use Rattle.code_words.specs.declared.image.Image.{Image}
-use Rattle.lowering_code.specs.Images.{word_bytes_if, padded}
+use Rattle.lowering_code.specs.Images.{width_if, word_bytes_if, padded}
+use Rattle.lowering_code.specs.Sized.{SizedStatements}
 use Rattle.check_insertion.specs.Stacks.{body_stack}
 use Rattle.check_insertion.specs.Weights.{statements_weight}
 
@@ -74,11 +75,6 @@ pub record SameEnd (base : ℕ) (s : meaning_states.State) (t : State) : Type 0 
 
 -- ---- programs that can be lowered
 
--- the bytes of a cell's word
-abbrev pub width_if : Bool → ℕ
-width_if true = 1
-width_if false = 4
-
 -- a cell has room for its word, and its number is one of its type
 pub record IsCell (i : Initial) : Type 0 where
   pub room : width_if (is_char i.type) ≤ i.stride
@@ -89,9 +85,11 @@ pub record IsCell (i : Initial) : Type 0 where
 pub record IsFunction (f : Function) : Type 0 where
   pub parameters : f.parameters ≤ 16
   pub held : f.parameters ≤ length f.locals
-  pub frame : length f.locals + 1 + body_stack f ≤ 4096
+  pub frame : length f.locals + 3 + body_stack f ≤ 4096
   -- so its code has fewer than 2 ^ 32 instructions
   pub few_nodes : statements_weight f.body ≤ 2 ^ 26
+  -- so its instructions count in elements that have a size
+  pub sized : SizedStatements (length f.locals) f.body
 
 -- how many bytes static blocks take, from an offset on
 abbrev pub counted_from : ℕ → List (List Initial) → ℕ

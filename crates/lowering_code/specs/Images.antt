@@ -11,6 +11,11 @@ use Rattle.code_words.specs.declared.image.Image.{Image}
 use Rattle.lowering_code.specs.Code.{function_ops, result_kind}
 use Rattle.check_insertion.specs.Stacks.{body_stack}
 
+-- how many bytes the word of a cell has
+abbrev pub width_if : Bool → ℕ
+width_if true = 1
+width_if false = 4
+
 -- the bytes of a word in a cell: one for a `char`, and else four
 abbrev pub word_bytes_if : Bool → ℕ → List ℕ
 word_bytes_if true w = to_le_bytes w8 w
@@ -27,14 +32,14 @@ cell_bytes i = padded i.stride (word_bytes_if (is_char i.type) (word i.number))
 abbrev pub object_bytes : List Initial → List ℕ
 object_bytes cells = flat_map cell_bytes cells
 
--- a function, whose scratch slot stands behind its locals
+-- a function, with three slots behind its locals
 abbrev pub function_code : ℕ → Function → Func
 function_code number f =
     record {
       number = number;
       name = f.name;
       args = f.parameters;
-      slots = length f.locals + 1;
+      slots = length f.locals + 3;
       stack = body_stack f;
       result = result_kind f.result;
       ops = function_ops f;

@@ -1,4 +1,5 @@
 pub mod Code
 pub mod Images
+pub mod Sized
 pub mod Correct
 pub mod Examples

@@ -2,12 +2,13 @@
 // its code has 2^31 instructions at most, and no sum of sizes passes 32 bits.
 
 ghost use Rattle.std.specs.Prelude.{◌≡◌, ◌+◌, ◌^◌, ◌≤◌};
-ghost use Rattle.check_insertion.specs.Erased.{expression, place, arguments_of, statement, statements_of};
+ghost use Rattle.check_insertion.specs.Erased.{expression, place, index as index_of, arguments_of, statement, statements_of};
 ghost use Rattle.lowering_code.specs.Code as code;
 
-use check_insertion::erased::{CellPlace, Check, Expr, Stmt};
+use crate::reach::Reach;
+use check_insertion::erased::{CellPlace, Check, Expr, Index, Stmt};
 use ckc_core::char_cells::has_one_byte;
-use ckc_core::program::Index;
+use ckc_core::program::Direction;
 
 // The size of what adds an offset to an address.
 fn offset_size(offset: u32) -> u32
@@ -26,14 +27,87 @@ fn byte_size(char: bool) -> u32
     if char { 1 } else { 0 }
 }
 
+// The size of what gives a check its number.
+fn number_size(reach: Reach) -> u32
+    ensures { result ≡ code.number_size reach }
+{
+    match reach {
+        Reach::Still { .. } | Reach::Onward { .. } => 1,
+        Reach::Back { .. } => 2,
+    }
+}
+
+// The size of a check of the pointer on the stack.
+fn check_size(reach: Reach, check: Check) -> u32
+    ensures { result ≡ code.check_size reach check }
+{
+    match check {
+        Check::NotNull { .. } => 1,
+        Check::Below(_) | Check::UpTo(_) => number_size(reach) + 7,
+        Check::Contains { .. } => 9,
+    }
+}
+
+// The size of checks.
+fn checks_size(reach: Reach, checks: &[Check]) -> u32
+    requires { code.checks_size reach checks.now ≤ 2 ^ 31 }
+    ensures { result ≡ code.checks_size reach checks.now }
+{
+    let mut size = 0;
+    for check in checks {
+        size += check_size(reach, *check);
+    }
+    size
+}
+
+/// How the checks of a sum count.
+pub fn reach_to(direction: Direction, size: u32) -> Reach
+    ensures { result ≡ code.reach_to direction size }
+{
+    match direction {
+        Direction::Forward => Reach::Onward { size },
+        Direction::Backward => Reach::Back { size },
+    }
+}
+
+// The size of what moves an address by elements.
+fn moved_size(direction: Direction) -> u32
+    ensures { result ≡ code.moved_size direction }
+{
+    match direction {
+        Direction::Forward => 2,
+        Direction::Backward => 3,
+    }
+}
+
 // The size of what makes an address of the pointer on the stack, with the pointer's checks.
-fn through_size(index: Index, offset: u32, checks: &[Check]) -> u32
-    requires { code.through_size index offset checks.now ≤ 2 ^ 31 }
-    ensures { result ≡ code.through_size index offset checks.now }
+fn through_size(index: &Index, offset: u32, checks: &[Check]) -> u32
+    requires { code.through_size (index_of index.now) offset checks.now ≤ 2 ^ 31 }
+    ensures { result ≡ code.through_size (index_of index.now) offset checks.now }
 {
     match index {
-        Index::First => checks.len() as u32 + offset_size(offset),
+        Index::First => checks_size(Reach::Still { size: 1 }, checks) + offset_size(offset),
+        Index::Element { size, .. } => {
+            checks_size(Reach::Onward { size: *size }, checks) + 3 + offset_size(offset)
+        }
     }
+}
+
+// The size of what makes a sum of a pointer and a number.
+fn sum_size(direction: Direction, size: u32, checks: &[Check]) -> u32
+    requires { code.sum_size direction size checks.now ≤ 2 ^ 31 }
+    ensures { result ≡ code.sum_size direction size checks.now }
+{
+    checks_size(reach_to(direction, size), checks) + moved_size(direction) + 1
+}
+
+// The size of what tells the order of two pointers.
+fn order_size(left_checks: &[Check], right_checks: &[Check]) -> u32
+    requires { code.order_size left_checks.now right_checks.now ≤ 2 ^ 31 }
+    ensures { result ≡ code.order_size left_checks.now right_checks.now }
+{
+    let left = checks_size(Reach::Still { size: 1 }, left_checks);
+    left + checks_size(Reach::Still { size: 1 }, right_checks) + 3
 }
 
 /// The size of an expression's code.
@@ -57,6 +131,34 @@ pub fn expression_size(expr: &Expr) -> u32
             expression_size(left) + expression_size(right) + 5
         }
         Expr::Call(call) => arguments_size(call.arguments.as_slice()) + 2,
+        Expr::Sum {
+            pointer,
+            direction,
+            number,
+            size,
+            checks,
+        } => {
+            let parts = expression_size(pointer) + expression_size(number);
+            parts + sum_size(*direction, *size, checks.as_slice())
+        }
+        Expr::Order {
+            left,
+            left_checks,
+            right,
+            right_checks,
+            ..
+        } => {
+            let parts = expression_size(left) + expression_size(right);
+            parts + order_size(left_checks.as_slice(), right_checks.as_slice())
+        }
+        Expr::Allocate { count, .. } => expression_size(count) + 1,
+        Expr::Cast {
+            pointer,
+            size,
+            checks,
+        } => {
+            expression_size(pointer) + checks_size(Reach::Still { size: *size }, checks.as_slice())
+        }
     }
 }
 
@@ -86,7 +188,22 @@ fn place_size(cell: &CellPlace) -> u32
             index,
             offset,
             checks,
-        } => expression_size(pointer) + through_size(*index, *offset, checks.as_slice()),
+        } => {
+            let parts = expression_size(pointer) + index_size(index);
+            parts + through_size(index, *offset, checks.as_slice())
+        }
+    }
+}
+
+// The size of the code of an element's number.
+#[cycle(sizes)]
+fn index_size(index: &Index) -> u32
+    requires { code.index_size (index_of index.now) ≤ 2 ^ 31 }
+    ensures { result ≡ code.index_size (index_of index.now) }
+{
+    match index {
+        Index::First => 0,
+        Index::Element { number, .. } => expression_size(number),
     }
 }
 
@@ -103,8 +220,8 @@ fn store_size(cell: &CellPlace, value: u32) -> u32
             offset,
             checks,
         } => {
-            let through = through_size(*index, *offset, checks.as_slice());
-            expression_size(pointer) + value + 3 + through
+            let through = through_size(index, *offset, checks.as_slice());
+            expression_size(pointer) + index_size(index) + value + 3 + through
         }
     }
 }

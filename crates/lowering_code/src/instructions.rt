@@ -1,13 +1,15 @@
 // Single instructions, and the jumps of `&&` and `||`. The place of the next instruction is the number of those that stand
 // before it.
 
-ghost use Rattle.std.specs.Prelude.{◌≡◌, ◌+◌, ◌^◌, ◌≤◌, [], ◌∷◌, ◌++◌, length, OnOk, pos};
+ghost use Rattle.std.specs.Prelude.{◌≡◌, ◌+◌, ◌^◌, ◌≤◌, IsTrue, [], ◌∷◌, ◌++◌, length, OnOk, pos};
+ghost use Rattle.bounds_exprs.specs.Terms.{is_within, term_limit};
 ghost use Rattle.pointer_modes.specs.Types.{ctype as type_of};
 ghost use Rattle.code_words.specs.declared.op.Op.TheVariants as ops_of;
 ghost use Rattle.lowering_code.specs.Code as code;
 
-use act_words::operator::Operator;
-use check_insertion::erased::Check;
+use crate::reach::Reach;
+use act_words::operator::{Comparison, Operator};
+use bounds_exprs::term::Term;
 use ckc_core::char_cells::has_one_byte;
 use ckc_core::program::{Callee, Site};
 use ckc_text::fault::NoMemory;
@@ -40,12 +42,48 @@ pub fn callee_op(callee: Callee) -> Op
     }
 }
 
-/// The instruction that checks the pointer on the stack.
-pub fn check_op(check: Check) -> Op
-    ensures { result ≡ code.check_code check }
+/// The instruction that pushes the base of bounds, where the first slot behind the locals has a number.
+pub fn base_op(slot: u32, base: Option<u32>) -> Op
+    requires { slot ≤ 4096 }
+    ensures { result ≡ code.base_code slot base }
 {
-    match check {
-        Check::NotNull { site } => Op::NonNull { place: site.place },
+    match base {
+        None => Op::Local(slot + 1),
+        Some(variable) => Op::Local(variable),
+    }
+}
+
+/// The instruction that pushes the variable of an end.
+pub fn variable_op(variable: Option<u32>) -> Op
+    ensures { result ≡ code.variable_code variable }
+{
+    match variable {
+        None => Op::Const(0),
+        Some(variable) => Op::Local(variable),
+    }
+}
+
+/// The constant of an end.
+pub fn end_constant(reach: Reach, term: Term) -> i64
+    requires { IsTrue (is_within term_limit term.plus) }
+    ensures { result ≡ code.end_constant reach term }
+{
+    match reach {
+        Reach::Still { .. } | Reach::Onward { .. } => term.plus,
+        Reach::Back { .. } => term.plus - 1,
+    }
+}
+
+/// The instruction that compares addresses, which have no sign.
+pub fn order_op(comparison: Comparison) -> Op
+    ensures { result ≡ code.order_op comparison }
+{
+    match comparison {
+        Comparison::Equal | Comparison::NotEqual => Op::Compare(comparison),
+        Comparison::Less => Op::UnsignedLess,
+        Comparison::LessEqual => Op::UnsignedLessEqual,
+        Comparison::Greater => Op::UnsignedGreater,
+        Comparison::GreaterEqual => Op::UnsignedGreaterEqual,
     }
 }
 

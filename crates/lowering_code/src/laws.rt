@@ -10,15 +10,15 @@ ghost use Rattle.act_words.specs.Limits.{AreAllowed};
 ghost use Rattle.ckc_core.specs.Outcome.{Ends};
 ghost use Rattle.check_insertion.specs.ErasedMeaning.{meaning};
 ghost use Rattle.ckc_core.specs.States.{State};
-ghost use Rattle.act_words.specs.declared.ending.Ending.TheVariants.{Exit, Stop};
-ghost use Rattle.ckc_text.specs.declared.code.Code.TheVariants.{S1};
+ghost use Rattle.act_words.specs.declared.ending.Ending.TheVariants.{Check, Exit, Stop};
+ghost use Rattle.ckc_text.specs.declared.code.Code.TheVariants.{C2, S1};
 ghost use Rattle.check_insertion.specs.Erased.{Erased, Function};
 ghost use Rattle.check_insertion.specs.Insert.{inserted};
-ghost use Rattle.ckc_core.specs.Examples.{first_run, counting, members};
+ghost use Rattle.ckc_core.specs.Examples.{first_run, counting, members, site, sum};
 ghost use Rattle.lowering_code.specs.Images.{image_of};
 ghost use Rattle.lowering_code.specs.Code.{function_ops};
 ghost use Rattle.lowering_code.specs.Correct.{IsFunction, IsLowerable, KeepsMeaning, AgreesAtBases};
-ghost use Rattle.lowering_code.specs.Examples.{ends, holds, shown_members};
+ghost use Rattle.lowering_code.specs.Examples.{ends, holds, shown_members, stored_element, not_of, back};
 
 /// The code of a program does what the program means, under all settings and over all inputs and acts.
 pub fn code_keeps_meaning()
@@ -45,4 +45,6 @@ pub fn examples()
     ensures budget { ends (inserted counting) 2 (Stop S1 None) }
     ensures members { ends (inserted members) 100 (Exit (pos 51)) }
     ensures blocks { holds (inserted members) shown_members }
+    ensures elements { ends (inserted stored_element) 100 (Exit (pos 7)) }
+    ensures sums { ends (inserted (not_of (sum (pos 4)))) 100 (Check C2 (site 2 9).place) × ends (inserted (not_of (back 1))) 100 (Check C2 (site 2 9).place) × ends (inserted (not_of (back 0))) 100 (Exit (pos 0)) }
 {}

@@ -5,4 +5,5 @@
 pub mod code_sizes;
 pub mod instructions;
 pub mod laws;
+pub mod reach;
 pub mod stacks;

@@ -1,10 +1,10 @@
 // How many words the parts of a program have on the stack at most.
 
 ghost use Rattle.std.specs.Prelude.{◌≡◌, ◌+◌, ◌≤◌};
-ghost use Rattle.check_insertion.specs.Erased.{expression, place, arguments_of, statement, statements_of};
+ghost use Rattle.check_insertion.specs.Erased.{expression, place, index as index_of, arguments_of, statement, statements_of};
 ghost use Rattle.check_insertion.specs.Stacks as stacks;
 
-use check_insertion::erased::{CellPlace, Expr, Stmt};
+use check_insertion::erased::{CellPlace, Expr, Index, Stmt};
 
 // An offset is added to an address on the stack.
 fn offset_stack(offset: u32) -> u32
@@ -37,6 +37,16 @@ fn expression_stack(expr: &Expr) -> u32
             expression_stack(left).max(expression_stack(right))
         }
         Expr::Call(call) => arguments_stack(call.arguments.as_slice()).max(1),
+        Expr::Sum {
+            pointer,
+            number,
+            ..
+        } => expression_stack(pointer).max((1 + expression_stack(number)).max(6)),
+        Expr::Order { left, right, .. } => {
+            expression_stack(left).max((1 + expression_stack(right)).max(2))
+        }
+        Expr::Allocate { count, .. } => expression_stack(count),
+        Expr::Cast { pointer, .. } => expression_stack(pointer).max(7),
     }
 }
 
@@ -63,9 +73,36 @@ fn place_stack(cell: &CellPlace) -> u32
         CellPlace::Direct { offset, .. } => offset_stack(*offset),
         CellPlace::Through {
             pointer,
+            index,
             offset,
             ..
-        } => expression_stack(pointer).max(offset_stack(*offset)),
+        } => expression_stack(pointer).max(index_stack(index).max(offset_stack(*offset))),
+    }
+}
+
+// The most words of an element's number and of checks, above the pointer.
+#[cycle(stacks)]
+fn index_stack(index: &Index) -> u32
+    requires { stacks.index_stack (index_of index.now) ≤ 4096 }
+    ensures { result ≡ stacks.index_stack (index_of index.now) }
+{
+    match index {
+        Index::First => 0,
+        Index::Element { number, .. } => (1 + expression_stack(number)).max(6),
+    }
+}
+
+// The most words of a store above its pointer.
+fn value_stack(index: &Index, value: &Expr) -> u32
+    requires { stacks.value_stack (index_of index.now) (expression value.now) ≤ 4096 }
+    ensures { result ≡ stacks.value_stack (index_of index.now) (expression value.now) }
+{
+    match index {
+        Index::First => (1 + expression_stack(value)).max(2),
+        Index::Element { number, .. } => {
+            let above = (2 + expression_stack(value)).max(6);
+            (1 + expression_stack(number)).max(above)
+        }
     }
 }
 
@@ -78,8 +115,8 @@ fn store_stack(cell: &CellPlace, value: &Expr) -> u32
         CellPlace::Direct { offset, .. } => {
             offset_stack(*offset).max(1 + expression_stack(value))
         }
-        CellPlace::Through { pointer, .. } => {
-            expression_stack(pointer).max((1 + expression_stack(value)).max(2))
+        CellPlace::Through { pointer, index, .. } => {
+            expression_stack(pointer).max(value_stack(index, value))
         }
     }
 }

@@ -1,10 +1,10 @@
 // The bytes of the cells of file-level variables.
 
-ghost use Rattle.std.specs.Prelude.{◌≡◌, ◌-◌, ◌++◌, replicate, OnOk};
+ghost use Rattle.std.specs.Prelude.{◌≡◌, ◌-◌, ◌^◌, ◌<◌, ◌++◌, map, replicate, OnOk};
 ghost use Rattle.act_words.specs.Numbers.{word};
 ghost use Rattle.ckc_core.specs.Core.{initial};
-ghost use Rattle.lowering_code.specs.Images.{word_bytes_if, cell_bytes};
-ghost use Rattle.lowering_code.specs.Correct.{width_if};
+ghost use Rattle.ckc_core.specs.Pointers.{element_size};
+ghost use Rattle.lowering_code.specs.Images.{width_if, word_bytes_if, cell_bytes};
 
 use ckc_core::char_cells::has_one_byte;
 use ckc_core::program::Initial;
@@ -51,4 +51,16 @@ pub fn put_cell(bytes: &mut Vec<u8>, cell: &Initial) -> Result<(), NoMemory>
     let char = has_one_byte(&cell.ctype);
     put_word(bytes, char, cell.number)?;
     put_zeros(bytes, padding(cell.stride, char))
+}
+
+/// The bytes of an element.
+pub fn element_bytes(element: &[Initial]) -> u32
+    requires { element_size (map initial element.now) < 2 ^ 32 }
+    ensures { result ≡ element_size (map initial element.now) }
+{
+    let mut bytes = 0;
+    for cell in element {
+        bytes += cell.stride;
+    }
+    bytes
 }

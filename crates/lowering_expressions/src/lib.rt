@@ -5,5 +5,6 @@
 pub mod addresses;
 pub mod calls;
 pub mod cells;
+pub mod checks;
 pub mod expressions;
 pub mod loops;

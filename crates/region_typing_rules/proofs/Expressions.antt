@@ -24,7 +24,6 @@ use Rattle.act_words.specs.declared.operator.Comparison.{Comparison}
 use Rattle.act_words.specs.declared.operator.Comparison.TheVariants as comparisons
 use Rattle.ckc_core.specs.declared.program.Callee.{Callee}
 use Rattle.ckc_core.specs.declared.program.Callee.TheVariants as callees
-use Rattle.ckc_core.specs.declared.program.Index.TheVariants as indexes
 use Rattle.ckc_core.specs.Core as core
 use Rattle.ckc_core.specs.States.{shape, object_block, same_type}
 use Rattle.ckc_core.proofs.Elements.{of_element}
@@ -114,8 +113,8 @@ module _ (g : Frame) (types : List CType) where
       rules.direct found (member_row g.structs (shape (object_block is)) n first k offset t scalar row slot)
   member_of (rules.pointed {e = e} h) k offset t site slot scalar =
       let place : offset ≡ 0 + offset = omega arith in
-      let here : HasPlace g types (core.Through e indexes.First offset site) t = rules.member k h slot scalar in
-      subst (λ o. HasPlace g types (core.Through e indexes.First o site) t) place here
+      let here : HasPlace g types (core.Through e core.First offset site) t = rules.member k h slot scalar in
+      subst (λ o. HasPlace g types (core.Through e core.First o site) t) place here
   member_of (rules.member i h found scalar') k offset t site slot scalar = absurd (cc)
 
   -- a pointer to a place
@@ -135,7 +134,7 @@ module _ (g : Frame) (types : List CType) where
   pointed_promises Int value site span h = tt
   pointed_promises Char value site span h = tt
   pointed_promises (Struct number) value site span h = tt
-  pointed_promises (Pointer m k t) value site span h = at_place_fits t (core.Through value indexes.First 0 site) (rules.pointed h)
+  pointed_promises (Pointer m k t) value site span h = at_place_fits t (core.Through value core.First 0 site) (rules.pointed h)
 
   dereferenced_promises : (a : Typed) (site : Site) (span : Span) → Fits a → Promises FitsNoted (dereferenced a site span)
   dereferenced_promises (Value type zero value place) site span h = pointed_promises type value site span h.has_type
@@ -365,7 +364,7 @@ module _ (g : Frame) (types : List CType) where
     pointed_by_promises (Pointer m k Int) value name site span h = tt
     pointed_by_promises (Pointer m k Char) value name site span h = tt
     pointed_by_promises (Pointer m k (Pointer m' k' t)) value name site span h = tt
-    pointed_by_promises (Pointer m k (Struct n)) value name site span h = member_at_promises n (core.Through value indexes.First 0 site) name site span (rules.pointed h)
+    pointed_by_promises (Pointer m k (Struct n)) value name site span h = member_at_promises n (core.Through value core.First 0 site) name site span (rules.pointed h)
 
     arrowed_promises : (a : Typed) (name : ℕ) (site : Site) (span : Span) → Fits a → Promises FitsNoted (arrowed s a name site span)
     arrowed_promises (Value type zero value place) name site span h = pointed_by_promises type value name site span h.has_type

@@ -14,7 +14,6 @@ use Rattle.pointer_modes.specs.Types.{CType, Int, Char, Struct, Pointer, Member,
 use Rattle.ckc_core.specs.declared.program.Site.{Site}
 use Rattle.act_words.specs.declared.operator.Comparison.{Comparison}
 use Rattle.ckc_core.specs.declared.program.Callee.{Callee}
-use Rattle.ckc_core.specs.declared.program.Index.TheVariants as indexes
 use Rattle.ckc_core.specs.Core as core
 use Rattle.ckc_core.proofs.Elements.{of_element}
 use Rattle.ckc_names_rules.specs.declared.given.Given.{Given}
@@ -248,7 +247,7 @@ module _ (s : Scope) (closed : IsClosed s) where
       by (Pointer m k Int) = tt
       by (Pointer m k Char) = tt
       by (Pointer m k (Pointer m' k' t)) = tt
-      by (Pointer m k (Struct n)) = member_at_known n (core.Through value indexes.First 0 site) name site span
+      by (Pointer m k (Struct n)) = member_at_known n (core.Through value core.First 0 site) name site span
 
   called_known : (o : Option Signature) (name : ℕ) (arguments : List (Typed × Span)) (site : Site) (span : Span) → function_named s.functions name ≡ o → Promises (IsKnownCall s.structs) (called s o name arguments site span)
   called_known None name arguments site span e = predefined_known s.structs s.given name arguments span

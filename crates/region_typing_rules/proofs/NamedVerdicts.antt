@@ -18,7 +18,6 @@ use Rattle.act_words.specs.declared.operator.BitwiseOperator.TheVariants as bits
 use Rattle.act_words.specs.declared.operator.Operator.TheVariants as operators
 use Rattle.act_words.specs.declared.operator.Comparison.{Comparison}
 use Rattle.act_words.specs.declared.operator.Comparison.TheVariants as comparisons
-use Rattle.ckc_core.specs.declared.program.Index.TheVariants as indexes
 use Rattle.ckc_core.specs.Core as core
 use Rattle.region_typing_rules.specs.Verdicts.{Verdict, Passes, Stops, Broken, Nameless, passing, needs}
 use Rattle.region_typing_rules.specs.Scopes.{Scope, Signature, members_named}
@@ -76,7 +75,7 @@ pointed_by_named s Char value name site span = tt
 pointed_by_named s (Struct number) value name site span = tt
 pointed_by_named s (Pointer mode kind Int) value name site span = tt
 pointed_by_named s (Pointer mode kind Char) value name site span = tt
-pointed_by_named s (Pointer mode kind (Struct number)) value name site span = member_named s number (core.Through value indexes.First 0 site) name site span
+pointed_by_named s (Pointer mode kind (Struct number)) value name site span = member_named s number (core.Through value core.First 0 site) name site span
 pointed_by_named s (Pointer mode kind (Pointer mode' kind' target)) value name site span = tt
 
 pub arrowed_named : (s : Scope) (t : Typed) (name : ℕ) (site : Site) (span : Span) → AllNamed (arrowed s t name site span)

@@ -1,6 +1,6 @@
 -- What has types is never stuck and never unsound: an induction over the audited meaning, with what each state keeps.
 use Rattle.std.proofs.Common.{◌≡◌, neg_ℤ, ℕ, zero, suc, ◌+◌, ◌%◌, ◌<◌, ◌≤◌, ◌^◌, Bool, true, false, ℤ, List, [], ◌∷◌, map, replicate, length, Option, Some, None, refl, sym, ap, ◌∙◌, subst, arith}
-use Rattle.std.specs.Prelude.{◌==◌, ◌&&◌, not, nat_lt, slice_get, option_map}
+use Rattle.std.specs.Prelude.{◌==◌, ◌&&◌, not, nat_lt, slice_get, option_map, pos}
 use Rattle.std.specs.List.{AllByRecursion}
 use Rattle.std.specs.Int.{w32}
 use Rattle.std.proofs.lemmas.Int.{to_z_pos}
@@ -30,7 +30,7 @@ use Rattle.ckc_core.specs.declared.program.PointerBounds.{PointerBounds}
 use Rattle.ckc_core.specs.Programs.{Import, Initial}
 use Rattle.ckc_core.specs.Bounds.{Pointed, with_ends}
 use Rattle.ckc_core.specs.Steps.{Result, Flow, Next, Broke, Continued, Returned, given, checked, value_if, value_in, place_if, place_at, variable_if, variable_at, load_at, pointer_to, truth, number_of_test, same_place, test_given, result_of, arithmetic_of, compared, negated, complemented, low_byte_of, asked, words_of, reply_as, back, passed, cross, cross_if, call_tainted, takes, parameters_of, enter_if, call_trusted, result_given, choose, leaves_zero, store_if, store_over, store_at, set_if, set_over, set_local, kept_if, is_char, printed, put, on_next, behind_turn, no_result, called}
-use Rattle.ckc_core.specs.Meaning.{Knot, Setting, audit, bounds_of, site_of, element, without_ends, value, values, place, pointed, pointer_of, effect, effects}
+use Rattle.ckc_core.specs.Meaning.{Knot, Setting, audit, bounds_of, site_of, Target, element, without_ends, value, values, place, target_of, effect, effects}
 use Rattle.region_typing_rules.specs.Types.{is_number}
 use Rattle.region_typing_rules.specs.Typed as typed
 use Rattle.region_typing_rules.specs.Typed.{Frame, HasBounds, HasRow, IsPlace, HasValue, IsNumberResult, IsCallee, HasType, HaveTypes, HasPlace, IsStatement, AreStatements, IsScalar}
@@ -60,6 +60,14 @@ IsPlaced g t b at = IsPlace g.structs b t at.0 at.1
 -- a pointer of a type
 abbrev pub IsPointed : Frame → CType → List Shape → Pointed → Type 0
 IsPointed g t b q = OfType g t b q.value
+
+-- a pointer of a type, with the number of an element
+abbrev pub IsTarget : Frame → CType → List Shape → Target → Type 0
+IsTarget g t b q = IsPointed g t b q.pointer
+
+-- the object that a pointer leads to
+abbrev pub at_first : Pointed → Target
+at_first p = record { pointer = p; number = pos 0 }
 
 -- the word of a reply
 abbrev pub IsReply : List Shape → ℕ → Type 0
@@ -261,11 +269,13 @@ module _ (g : Frame) (budget n : ℕ) where
     pub audited_goes : (s : State) (t : CType) (b : Option PointerBounds) (o : Result Value) → HasBounds g.structs t b → Goes low types (shaped s) (OfType g t) o → Goes low types (shaped s) (OfType g t) (and_then o (audit true b))
     audited_goes s t b o bounds h = goes_on low types (shaped s) (OfType g t) (OfType g t) o (audit true b) h (λ v u _ typed kept. audit_goes u t b v bounds typed kept)
 
-    -- a pointer as an access gets it
+    -- a pointer as an access to a single object gets it
     pub ended_goes : (s : State) (m : Mode) (k : Kind) (t : CType) (b : Option PointerBounds) (o : Result Value) → Goes low types (shaped s) (OfType g (Pointer m k t)) o
-        → Goes low types (shaped s) (IsPointed g (Pointer m k t)) (and_then o (λ v u. Gives (with_ends b v u.locals) u))
+        → Goes low types (shaped s) (IsTarget g (Pointer m k t)) (and_then (and_then o (λ v u. Gives (with_ends b v u.locals) u)) (λ q u. Gives (at_first q) u))
     ended_goes s m k t b o h =
-        goes_on low types (shaped s) (OfType g (Pointer m k t)) (IsPointed g (Pointer m k t)) o _ h (λ v u _ typed kept. (same_pointer (OfType g (Pointer m k t) (shaped u)) b v u typed, grows_here (shaped u), kept))
+        goes_on low types (shaped s) (IsPointed g (Pointer m k t)) (IsTarget g (Pointer m k t)) (and_then o (λ v u. Gives (with_ends b v u.locals) u)) _
+        (goes_on low types (shaped s) (OfType g (Pointer m k t)) (IsPointed g (Pointer m k t)) o _ h (λ v u _ typed kept. (same_pointer (OfType g (Pointer m k t) (shaped u)) b v u typed, grows_here (shaped u), kept)))
+        (λ q u _ typed kept. (typed, grows_here (shaped u), kept))
 
     pub load_goes : (s : State) (t : CType) (site : Option Site) (at : ℕ × ℕ) → IsScalar t → IsPlaced g t (shaped s) at → IsKept low types s → Goes low types (shaped s) (OfType g t) (load_at t site at s)
     load_goes s t site at scalar placed kept =
@@ -500,18 +510,18 @@ module _ (g : Frame) (budget n : ℕ) where
       -- a place whose pointer was worked out before the value
       pub pointed_store : {p : core.Place} {t : CType} → HasPlace g types p t → IsScalar t → {e : core.Expression} → HasType g types e t → (result : Option CType) (loop : Bool) (s : State) → IsKept low types s → Goes low types (shaped s) (IsFlow g result loop) (effect true setting k (core.Store t p e) s)
       pointed_store {t = t} (typed.direct {object = object} {offset = offset} {cells = is} found row) scalar {e = e} h result loop s kept =
-          goes_on low types (shaped s) (IsPointed g (Pointer modes.Checked kinds.One t)) (IsFlow g result loop) (pointer_of true setting k (core.Direct object offset) s) _
-          (goes_on low types (shaped s) (IsPlaced g t) (IsPointed g (Pointer modes.Checked kinds.One t)) (variable_at setting object offset s) (λ at u. Gives (without_ends at) u) (variable_goes low types s t object offset is found row kept) (λ at u _ placed u_kept. (placed, grows_here (shaped u), u_kept)))
+          goes_on low types (shaped s) (IsTarget g (Pointer modes.Checked kinds.One t)) (IsFlow g result loop) (target_of true setting k (core.Direct object offset) s) _
+          (goes_on low types (shaped s) (IsPlaced g t) (IsTarget g (Pointer modes.Checked kinds.One t)) (variable_at setting object offset s) (λ at u. Gives (without_ends at) u) (variable_goes low types s t object offset is found row kept) (λ at u _ placed u_kept. (placed, grows_here (shaped u), u_kept)))
           (λ q u _ _ u_kept. goes_on low types (shaped u) (OfType g t) (IsFlow g result loop) (value true setting k e u) _ (value_goes low types h u u_kept)
           (λ v w _ typed w_kept. placed_store w result loop t None v (place_at None object offset w) scalar typed (direct_goes low types w t object offset is found row w_kept)))
       pointed_store {t = t} (typed.pointed {mode = m} {kind = d} {e = p} {site = site} hp) scalar {e = e} h result loop s kept =
-          goes_on low types (shaped s) (IsPointed g (Pointer m d t)) (IsFlow g result loop) (pointed true setting k p s) _ (ended_goes low types s m d t (bounds_of p) (value true setting k p s) (value_goes low types hp s kept))
-          (λ q u _ pointer u_kept. behind low types (Pointer m d t) t (IsFlow g result loop) u q.value (value true setting k e u) _ pointer (value_goes low types h u u_kept)
-          (λ v w pointer typed w_kept. placed_store w result loop t (Some site) v (element 0 site q.value w) scalar typed (pointed_goes low types w m d t site q.value pointer w_kept)))
+          goes_on low types (shaped s) (IsTarget g (Pointer m d t)) (IsFlow g result loop) (target_of true setting k (core.Through p core.First 0 site) s) _ (ended_goes low types s m d t (bounds_of p) (value true setting k p s) (value_goes low types hp s kept))
+          (λ q u _ pointer u_kept. behind low types (Pointer m d t) t (IsFlow g result loop) u q.pointer.value (value true setting k e u) _ pointer (value_goes low types h u u_kept)
+          (λ v w pointer typed w_kept. placed_store w result loop t (Some site) v (element 0 site q.pointer.value w) scalar typed (pointed_goes low types w m d t site q.pointer.value pointer w_kept)))
       pointed_store {t = t} (typed.member {mode = m} {kind = d} {e = p} {n = number} {offset = offset} {site = site} slot hp found scalar') scalar {e = e} h result loop s kept =
-          goes_on low types (shaped s) (IsPointed g (Pointer m d (Struct number))) (IsFlow g result loop) (pointed true setting k p s) _ (ended_goes low types s m d (Struct number) (bounds_of p) (value true setting k p s) (value_goes low types hp s kept))
-          (λ q u _ pointer u_kept. behind low types (Pointer m d (Struct number)) t (IsFlow g result loop) u q.value (value true setting k e u) _ pointer (value_goes low types h u u_kept)
-          (λ v w pointer typed w_kept. placed_store w result loop t (Some site) v (element offset site q.value w) scalar typed (member_goes low types w m d number slot offset t site q.value found scalar pointer w_kept)))
+          goes_on low types (shaped s) (IsTarget g (Pointer m d (Struct number))) (IsFlow g result loop) (target_of true setting k (core.Through p core.First offset site) s) _ (ended_goes low types s m d (Struct number) (bounds_of p) (value true setting k p s) (value_goes low types hp s kept))
+          (λ q u _ pointer u_kept. behind low types (Pointer m d (Struct number)) t (IsFlow g result loop) u q.pointer.value (value true setting k e u) _ pointer (value_goes low types h u u_kept)
+          (λ v w pointer typed w_kept. placed_store w result loop t (Some site) v (element offset site q.pointer.value w) scalar typed (member_goes low types w m d number slot offset t site q.pointer.value found scalar pointer w_kept)))
 
     -- ---- statements
 

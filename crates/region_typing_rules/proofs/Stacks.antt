@@ -22,7 +22,6 @@ use Rattle.act_words.specs.declared.operator.Operator.TheVariants as operators
 use Rattle.act_words.specs.declared.operator.Comparison.{Comparison}
 use Rattle.act_words.specs.declared.operator.Comparison.TheVariants as comparisons
 use Rattle.ckc_core.specs.declared.program.Callee.{Callee}
-use Rattle.ckc_core.specs.declared.program.Index.TheVariants as indexes
 use Rattle.ckc_core.specs.declared.program.PointerBounds.{PointerBounds}
 use Rattle.ckc_core.specs.Core as core
 use Rattle.ckc_core.specs.Stacks.{offset_stack, expression_stack, arguments_stack, place_stack, statement_stack}
@@ -103,6 +102,10 @@ noted_low b (core.OrElse left right) = refl
 noted_low b (core.LowByte operand) = refl
 noted_low b (core.Call callee arguments bounds) = refl
 noted_low b core.NextInput = refl
+noted_low b (core.Sum pointer direction number site bounds) = refl
+noted_low b (core.Order comparison left right site) = refl
+noted_low b (core.Allocate count element bounds) = refl
+noted_low b (core.Cast pointer bounds) = refl
 
 with_bounds_low : (n : ℕ) (s : Scope) (site : Site) (t : Typed) → Low n t → Low n (with_bounds s.structs site t)
 with_bounds_low n s site (Value type zero value place) h = let first = h.0 in (omega (arith, noted_low (bounds_at s.structs type site) value), h.1)
@@ -153,7 +156,7 @@ pointed_low : (n : ℕ) (t : CType) (value : core.Expression) (site : Site) (spa
 pointed_low n Int value site span two h = tt
 pointed_low n Char value site span two h = tt
 pointed_low n (Struct number) value site span two h = tt
-pointed_low n (Pointer m k t) value site span two h = at_place_low n t (core.Through value indexes.First 0 site) (omega arith)
+pointed_low n (Pointer m k t) value site span two h = at_place_low n t (core.Through value core.First 0 site) (omega arith)
 
 dereferenced_low : (n : ℕ) (a : Typed) (site : Site) (span : Span) → 2 ≤ n → Low n a → Promises (Low n) (dereferenced a site span)
 dereferenced_low n (Value type zero value place) site span two h = pointed_low n type value site span two h.0
@@ -168,7 +171,7 @@ member_at_low n s struct p name site span two h = by (member_from 0 (members_nam
 
 dotted_low : (n : ℕ) (s : Scope) (a : Typed) (name : ℕ) (site : Site) (span : Span) → 2 ≤ n → Low n a → Promises (Low n) (dotted s a name site span)
 dotted_low n s (Value type zero value place) name site span two h = tt
-dotted_low n s (AStruct number (OfLocal k)) name site span two h = member_at_low n s number (core.Through (core.Local k None) indexes.First 0 site) name site span two (omega arith)
+dotted_low n s (AStruct number (OfLocal k)) name site span two h = member_at_low n s number (core.Through (core.Local k None) core.First 0 site) name site span two (omega arith)
 dotted_low n s (AStruct number (OfCell p)) name site span two h = member_at_low n s number p name site span two h
 
 pointed_by_low : (n : ℕ) (s : Scope) (t : CType) (value : core.Expression) (name : ℕ) (site : Site) (span : Span) → 2 ≤ n → IsLow n value → Promises (Low n) (pointed_by s t value name site span)
@@ -178,7 +181,7 @@ pointed_by_low n s (Struct number) value name site span two h = tt
 pointed_by_low n s (Pointer m k Int) value name site span two h = tt
 pointed_by_low n s (Pointer m k Char) value name site span two h = tt
 pointed_by_low n s (Pointer m k (Pointer m' k' t)) value name site span two h = tt
-pointed_by_low n s (Pointer m k (Struct number)) value name site span two h = member_at_low n s number (core.Through value indexes.First 0 site) name site span two (omega arith)
+pointed_by_low n s (Pointer m k (Struct number)) value name site span two h = member_at_low n s number (core.Through value core.First 0 site) name site span two (omega arith)
 
 arrowed_low : (n : ℕ) (s : Scope) (a : Typed) (name : ℕ) (site : Site) (span : Span) → 2 ≤ n → Low n a → Promises (Low n) (arrowed s a name site span)
 arrowed_low n s (Value type zero value place) name site span two h = pointed_by_low n s type value name site span two h.0

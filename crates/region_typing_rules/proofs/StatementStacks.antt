@@ -40,7 +40,8 @@ assigned_low Q n (AStruct number place) span next h more = tt
 store_low : (n : ℕ) (place : Lvalue) (type : CType) (value : core.Expression) → LowPlace n (Some place) → IsLow n value → IsLowStatement (n + 2) (store place type value)
 store_low n (OfLocal k) type value h low = omega arith
 store_low n (OfCell (core.Direct object offset)) type value h low = omega arith
-store_low n (OfCell (core.Through pointer index offset site)) type value h low = omega arith
+store_low n (OfCell (core.Through pointer core.First offset site)) type value h low = omega arith
+store_low n (OfCell (core.Through pointer (core.Element number) offset site)) type value h low = omega arith
 
 update_low : (n : ℕ) (place : Lvalue) (type : CType) (operator : Operator) (value : core.Expression) (site : Site) → LowPlace n (Some place) → IsLow n value → IsLowStatement (n + 2) (update place type operator value site)
 update_low n (OfLocal k) type operator value site h low = omega arith

@@ -28,7 +28,7 @@ same_pointer P (Some p) (At block byte) s h = h
 
 -- the ends of one element
 abbrev one_element : (byte size : ℕ) → Ends
-one_element byte size = record { low = pos byte +ℤ ((pos 0 +ℤ pos 0) *ℤ pos size); high = pos byte +ℤ ((pos 0 +ℤ pos 1) *ℤ pos size) }
+one_element byte size = record { low = pos byte +ℤ ((pos 0 +ℤ pos 0) *ℤ pos size); high = pos byte +ℤ ((pos 0 +ℤ pos 1) *ℤ pos size); size = size }
 
 whenever : (test answer : Bool) → answer ≡ true → cond test answer true ≡ true
 whenever true answer h = h

@@ -20,7 +20,6 @@ use Rattle.act_words.specs.declared.operator.Operator.TheVariants as operators
 use Rattle.act_words.specs.declared.operator.Comparison.{Comparison}
 use Rattle.act_words.specs.declared.operator.Comparison.TheVariants as comparisons
 use Rattle.ckc_core.specs.declared.program.Callee.{Callee}
-use Rattle.ckc_core.specs.declared.program.Index.TheVariants as indexes
 use Rattle.ckc_core.specs.declared.program.PointerBounds.{PointerBounds}
 use Rattle.ckc_core.specs.Core as core
 use Rattle.ckc_core.specs.Weights.{expression_weight, arguments_weight, place_weight, statement_weight}
@@ -77,6 +76,10 @@ noted_light b (core.OrElse left right) = refl
 noted_light b (core.LowByte operand) = refl
 noted_light b (core.Call callee arguments bounds) = refl
 noted_light b core.NextInput = refl
+noted_light b (core.Sum pointer direction number site bounds) = refl
+noted_light b (core.Order comparison left right site) = refl
+noted_light b (core.Allocate count element bounds) = refl
+noted_light b (core.Cast pointer bounds) = refl
 
 with_bounds_light : (n : ℕ) (s : Scope) (site : Site) (t : Typed) → Light n t → Light n (with_bounds s.structs site t)
 with_bounds_light n s site (Value type zero value place) h = let first = h.0 in (omega (arith, noted_light (bounds_at s.structs type site) value), h.1)
@@ -123,7 +126,7 @@ pointed_light : (n : ℕ) (t : CType) (value : core.Expression) (site : Site) (s
 pointed_light n Int value site span h = tt
 pointed_light n Char value site span h = tt
 pointed_light n (Struct number) value site span h = tt
-pointed_light n (Pointer m k t) value site span h = at_place_light (n + 2) t (core.Through value indexes.First 0 site) (omega arith)
+pointed_light n (Pointer m k t) value site span h = at_place_light (n + 2) t (core.Through value core.First 0 site) (omega arith)
 
 dereferenced_light : (n : ℕ) (a : Typed) (site : Site) (span : Span) → Light n a → Promises (Light (n + 2)) (dereferenced a site span)
 dereferenced_light n (Value type zero value place) site span h = pointed_light n type value site span h.0
@@ -140,7 +143,7 @@ member_at_light n s struct p name site span h = by (member_from 0 (members_named
 
 dotted_light : (n : ℕ) (s : Scope) (a : Typed) (name : ℕ) (site : Site) (span : Span) → 2 ≤ n → Light n a → Promises (Light (n + 2)) (dotted s a name site span)
 dotted_light n s (Value type zero value place) name site span two h = tt
-dotted_light n s (AStruct number (OfLocal k)) name site span two h = member_at_light (n + 2) s number (core.Through (core.Local k None) indexes.First 0 site) name site span (omega arith)
+dotted_light n s (AStruct number (OfLocal k)) name site span two h = member_at_light (n + 2) s number (core.Through (core.Local k None) core.First 0 site) name site span (omega arith)
 dotted_light n s (AStruct number (OfCell p)) name site span two h = member_at_light (n + 2) s number p name site span (omega arith)
 
 pointed_by_light : (n : ℕ) (s : Scope) (t : CType) (value : core.Expression) (name : ℕ) (site : Site) (span : Span) → IsLight n value → Promises (Light (n + 2)) (pointed_by s t value name site span)
@@ -150,7 +153,7 @@ pointed_by_light n s (Struct number) value name site span h = tt
 pointed_by_light n s (Pointer m k Int) value name site span h = tt
 pointed_by_light n s (Pointer m k Char) value name site span h = tt
 pointed_by_light n s (Pointer m k (Pointer m' k' t)) value name site span h = tt
-pointed_by_light n s (Pointer m k (Struct number)) value name site span h = member_at_light (n + 2) s number (core.Through value indexes.First 0 site) name site span (omega arith)
+pointed_by_light n s (Pointer m k (Struct number)) value name site span h = member_at_light (n + 2) s number (core.Through value core.First 0 site) name site span (omega arith)
 
 arrowed_light : (n : ℕ) (s : Scope) (a : Typed) (name : ℕ) (site : Site) (span : Span) → Light n a → Promises (Light (n + 2)) (arrowed s a name site span)
 arrowed_light n s (Value type zero value place) name site span h = pointed_by_light n s type value name site span h.0

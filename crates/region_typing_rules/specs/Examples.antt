@@ -28,7 +28,6 @@ use Rattle.ckc_core.specs.Programs.{Trusted}
 use Rattle.ckc_core.specs.declared.program.Site.{Site}
 use Rattle.act_words.specs.declared.operator.ArithmeticOperator.TheVariants as arithmetics
 use Rattle.act_words.specs.declared.operator.Operator.TheVariants as operators
-use Rattle.ckc_core.specs.declared.program.Index.TheVariants as indexes
 use Rattle.ckc_core.specs.declared.program.PointerBounds.{PointerBounds}
 use Rattle.ckc_core.specs.Core as core
 use Rattle.region_typing_rules.specs.Verdicts.{Verdict, Passes, Stops, Broken, Nameless}
@@ -120,7 +119,7 @@ first_run =
         body =
             core.Then (core.Block (core.Then (core.Block (core.Then (core.SetLocal 0 core.Null)
             (core.Then (core.SetLocal 0 (core.AddressOf (core.Direct 0 0) (one_int place))) core.NoMore))) (core.Then core.Nothing core.NoMore)))
-            (core.Then (core.Store Int (core.Through (core.Local 0 (one_int place)) indexes.First 0 place) (core.Number (pos 41)))
+            (core.Then (core.Store Int (core.Through (core.Local 0 (one_int place)) core.First 0 place) (core.Number (pos 41)))
             (core.Then (core.Return (core.Arithmetic (operators.Arithmetic arithmetics.Add)
             (core.Load Int (core.Direct 0 0) None) (core.Number (pos 1)) place)) core.NoMore));
       }) ∷ [];

@@ -27,7 +27,6 @@ use Rattle.act_words.specs.declared.operator.Comparison.{Comparison}
 use Rattle.act_words.specs.declared.operator.Comparison.TheVariants as comparisons
 use Rattle.ckc_core.specs.declared.program.Callee.{Callee}
 use Rattle.ckc_core.specs.declared.program.Callee.TheVariants as callees
-use Rattle.ckc_core.specs.declared.program.Index.TheVariants as indexes
 use Rattle.ckc_core.specs.declared.program.PointerBounds.{PointerBounds}
 use Rattle.ckc_core.specs.Core as core
 use Rattle.ckc_names_rules.specs.declared.given.Given.{Given}
@@ -96,6 +95,10 @@ noted b (core.OrElse left right) = core.OrElse left right
 noted b (core.LowByte operand) = core.LowByte operand
 noted b (core.Call callee arguments bounds) = core.Call callee arguments b
 noted b core.NextInput = core.NextInput
+noted b (core.Sum pointer direction number site bounds) = core.Sum pointer direction number site b
+noted b (core.Order comparison left right site) = core.Order comparison left right site
+noted b (core.Allocate count element bounds) = core.Allocate count element b
+noted b (core.Cast pointer bounds) = core.Cast pointer b
 
 abbrev pub with_bounds : List Structure → Site → Typed → Typed
 with_bounds structs site (Value type zero value place) = Value type zero (noted (bounds_at structs type site) value) place
@@ -139,7 +142,7 @@ member_place (core.Through pointer index first before) offset site = core.Throug
 -- the place of a struct. A parameter that is one stands in no memory, and its function is refused behind its body (E13): until
 -- then it stands behind a pointer that is none, which no core that has types holds
 abbrev pub struct_place : Lvalue → Site → core.Place
-struct_place (OfLocal local) site = core.Through (core.Local local None) indexes.First 0 site
+struct_place (OfLocal local) site = core.Through (core.Local local None) core.First 0 site
 struct_place (OfCell place) site = place
 
 -- a member of a struct, where these are the names of its members: its number, and its type
@@ -168,7 +171,7 @@ dotted s (Value type zero value place) name site span = breaks E13 span
 dotted s (AStruct number place) name site span = member_at s number (struct_place place site) name site span
 
 abbrev pub pointed_by : Scope → CType → core.Expression → ℕ → Site → Span → Verdict Typed
-pointed_by s (Pointer mode kind (Struct number)) value name site span = member_at s number (core.Through value indexes.First 0 site) name site span
+pointed_by s (Pointer mode kind (Struct number)) value name site span = member_at s number (core.Through value core.First 0 site) name site span
 pointed_by s _ value name site span = breaks E13 span
 
 -- member-of-struct: the left side of an arrow is a pointer to a struct (E13)
@@ -177,7 +180,7 @@ arrowed s (Value type zero value place) name site span = pointed_by s type value
 arrowed s (AStruct number place) name site span = breaks E13 span
 
 abbrev pub pointed_at : CType → core.Expression → Site → Span → Verdict Typed
-pointed_at (Pointer mode kind target) value site span = Passes (at_place target (core.Through value indexes.First 0 site))
+pointed_at (Pointer mode kind target) value site span = Passes (at_place target (core.Through value core.First 0 site))
 pointed_at _ value site span = breaks E13 span
 
 -- operand-is-pointer: E13

@@ -7,5 +7,7 @@ pub mod Items
 pub mod Cores
 pub mod Examples
 pub mod NeverStuck
+pub mod Readings
+pub mod ReadingExamples
 pub mod Typed
 pub mod Lowerable

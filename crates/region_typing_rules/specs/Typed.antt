@@ -12,7 +12,6 @@ use Rattle.act_words.specs.declared.operator.Operator.{Operator}
 use Rattle.act_words.specs.declared.operator.Comparison.{Comparison}
 use Rattle.ckc_core.specs.declared.program.Callee.{Callee}
 use Rattle.ckc_core.specs.declared.program.Callee.TheVariants as callees
-use Rattle.ckc_core.specs.declared.program.Index.TheVariants as indexes
 use Rattle.ckc_core.specs.declared.program.PointerBounds.{PointerBounds}
 use Rattle.ckc_core.specs.Programs.{Initial, Import}
 use Rattle.ckc_core.specs.Core as core
@@ -138,10 +137,10 @@ mutual
     direct : {object offset : ℕ} {t : CType} {cells : List Initial} → slice_get g.program.objects object ≡ Some cells
         → HasRow g.structs (shape (object_block cells)) offset t → HasPlace g locals (core.Direct object offset) t
     pointed : {mode : Mode} {kind : Kind} {e : Expression} {t : CType} {site : Site} → HasType g locals e (Pointer mode kind t)
-        → HasPlace g locals (core.Through e indexes.First 0 site) t
+        → HasPlace g locals (core.Through e core.First 0 site) t
     member : {mode : Mode} {kind : Kind} {e : Expression} {n offset : ℕ} {t : CType} {site : Site} (k : ℕ) → HasType g locals e (Pointer mode kind (Struct n))
         → slice_get (slots g.structs (Struct n)) k ≡ Some (record { type = t; offset = offset }) → is_scalar t ≡ true
-        → HasPlace g locals (core.Through e indexes.First offset site) t
+        → HasPlace g locals (core.Through e core.First offset site) t
 
 -- ---- statements
 

@@ -16,6 +16,7 @@ ghost use Rattle.region_typing_rules.specs.NeverStuck.{HasCore, NeverStuck, Neve
 ghost use Rattle.region_typing_rules.specs.Typed.{IsTyped};
 ghost use Rattle.region_typing_rules.specs.Lowerable.{HasFewFunctions, IsSmallCore};
 ghost use Rattle.region_typing_rules.specs.Examples as examples;
+ghost use Rattle.region_typing_rules.specs.ReadingExamples as readings;
 
 /// Programs and what they become, worked out from the rules.
 pub fn examples()
@@ -23,6 +24,14 @@ pub fn examples()
     ensures raw_in_checked { examples.raw_in_checked }
     ensures break_outside { examples.break_outside }
     ensures without_bodies { examples.without_bodies }
+{}
+
+/// What is read off small expressions, and what conditions tell.
+pub fn readings()
+    ensures terms { readings.terms }
+    ensures sums { readings.sums }
+    ensures conditions { readings.conditions }
+    ensures null_tests { readings.null_tests }
 {}
 
 /// The core of a program that breaks no rule has types, and an audited run of what has types is never stuck.

@@ -4,7 +4,6 @@ use Rattle.ckc_text.specs.declared.place.Span.{Span}
 use Rattle.ckc_tree.specs.Types.{TypeName}
 use Rattle.pointer_modes.specs.Layout.{size_of}
 use Rattle.pointer_modes.specs.Types.{CType, Int, Char, Struct, Pointer, ctype}
-use Rattle.ckc_core.specs.declared.program.Index.TheVariants as indexes
 use Rattle.ckc_core.specs.Core as core
 use Rattle.ckc_core.specs.Core.{expression, place}
 use Rattle.region_typing_rules.specs.Verdicts.{Verdict, passing}
@@ -21,7 +20,7 @@ use Rattle.region_typing_scope.specs.declared.typed.Typed.TheVariants as forms
 -- the first cell of a struct
 abbrev pub base_place : code_base.Base → core.Place
 base_place (bases.Object object) = core.Direct object 0
-base_place (bases.Behind pointer site) = core.Through (expression pointer.value) indexes.First 0 site
+base_place (bases.Behind pointer site) = core.Through (expression pointer.value) core.First 0 site
 
 -- where a struct stands
 abbrev pub struct_place : code_place.StructPlace → Lvalue

@@ -84,6 +84,25 @@ fn noted(value: Expr, bounds: Option<PointerBounds>) -> Expr
         },
         Expr::AddressOf { cell, .. } => Expr::AddressOf { cell, bounds },
         Expr::Call { call, .. } => Expr::Call { call, bounds },
+        Expr::Sum {
+            pointer,
+            direction,
+            number,
+            site,
+            ..
+        } => Expr::Sum {
+            pointer,
+            direction,
+            number,
+            site,
+            bounds,
+        },
+        Expr::Allocate { count, element, .. } => Expr::Allocate {
+            count,
+            element,
+            bounds,
+        },
+        Expr::Cast { pointer, .. } => Expr::Cast { pointer, bounds },
         other => other,
     }
 }

@@ -2,6 +2,7 @@ use Rattle.std.proofs.Common.{◌≡◌, ◌+◌, ◌*◌, drop}
 use Rattle.std.specs.Prelude.{max}
 use Rattle.ckc_core.specs.declared.program.Expr.{size-Expr}
 use Rattle.ckc_core.specs.declared.program.CellPlace.{size-CellPlace}
+use Rattle.ckc_core.specs.declared.program.Index.{size-Index}
 use Rattle.ckc_core.specs.Core as core
 use Rattle.check_insertion.specs.Erased as erased
 use Rattle.check_insertion.specs.Insert as insert
@@ -49,8 +50,23 @@ decreases-call l = 4 * goal.size-call l + 2
 abbrev pub decreases-call_value : goal.decreases-call_value
 decreases-call_value l = 4 * goal.size-call_value l + 3
 
+abbrev pub decreases-sum : goal.decreases-sum
+decreases-sum l = 4 * max (size-Expr l.pointer.now) (size-Expr l.number.now) + 2
+
+abbrev pub decreases-order : goal.decreases-order
+decreases-order l = 4 * max (size-Expr l.left.now) (size-Expr l.right.now) + 2
+
+abbrev pub decreases-allocate : goal.decreases-allocate
+decreases-allocate l = 4 * size-Expr l.count.now + 2
+
+abbrev pub decreases-cast : goal.decreases-cast
+decreases-cast l = 4 * size-Expr l.pointer.now + 2
+
+abbrev pub decreases-index : goal.decreases-index
+decreases-index l = 4 * size-Index l.which.now + 1
+
 abbrev pub decreases-through : goal.decreases-through
-decreases-through l = 4 * goal.size-through l + 2
+decreases-through l = 4 * max (size-Expr l.pointer.now) (size-Index l.which.now) + 2
 
 -- the arguments so far, and those that are left
 abbrev pub invariant-arguments_of-loop-argument : goal.invariant-arguments_of-loop-argument

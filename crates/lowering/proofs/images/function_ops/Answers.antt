@@ -1,5 +1,8 @@
-use Rattle.std.proofs.Common.{length, ap, arith}
-use Rattle.check_insertion.specs.Erased.{statements_of}
+use Rattle.std.proofs.Common.{◌≡◌, length, sym, ap, subst, arith}
+use Rattle.std.proofs.lemmas.List.{length-map}
+use Rattle.pointer_modes.specs.Types.{ctype}
+use Rattle.check_insertion.specs.Erased.{function, statements_of}
+use Rattle.lowering_code.specs.Sized.{SizedStatements}
 use Rattle.lowering_code.specs.Code.{statements_size}
 use Rattle.lowering_code.proofs.Weights.{body_short}
 use Rattle.lowering.proofs.images.function_ops.Goals as goal
@@ -9,7 +12,18 @@ statements_size-end-requires c =
     let same = ap (λ stmts. statements_size (statements_of stmts)) c.as_slice-body.ensures.value in
     omega (arith, body_short (statements_of c.args.f.now.body.items) c.requires.few_nodes, same)
 
-pub emit_statements-requires : goal.emit_statements-requires
-emit_statements-requires c =
+pub emit_statements-requires-clause-room : goal.emit_statements-requires-clause-room
+emit_statements-requires-clause-room c =
     let same = ap (λ stmts. statements_size (statements_of stmts)) c.as_slice-body.ensures.value in
     omega (arith, body_short (statements_of c.args.f.now.body.items) c.requires.few_nodes, same, ap length c.new-ops.ensures.items)
+
+pub emit_statements-requires-clause-slot : goal.emit_statements-requires-clause-slot
+emit_statements-requires-clause-slot c =
+    let slots : c.len.result ≡ length (function c.args.f.now).locals = omega (arith, c.len.ensures, c.args.f.now.locals.ok.0, length-map c.args.f.now.locals.items ctype) in
+    omega (arith, c.requires.frame, slots)
+
+pub emit_statements-requires-clause-sized : goal.emit_statements-requires-clause-sized
+emit_statements-requires-clause-sized c =
+    let slots : c.len.result ≡ length (function c.args.f.now).locals = omega (arith, c.len.ensures, c.args.f.now.locals.ok.0, length-map c.args.f.now.locals.items ctype) in
+    subst (λ xs. SizedStatements c.len.result (statements_of xs)) (sym c.as_slice-body.ensures.value)
+    (subst (λ k. SizedStatements k (statements_of c.args.f.now.body.items)) (sym slots) c.requires.sized)

@@ -14,8 +14,8 @@ returns c =
     c.in_ok-emit_before_value.ensures c.in_ok-emit_expression.ensures e)
     c.emit_behind_value.ensures
 
-pub emit_expression-requires : goal.emit_expression-requires
-emit_expression-requires c =
+pub emit_expression-requires-clause-room : goal.emit_expression-requires-clause-room
+emit_expression-requires-clause-room c =
     let old = c.args.ops.now.items in
     let cell = place c.args.cell.now in
-    omega (arith, c.requires, place_after old c.emit_before_value.new.ops.items (before_value (length old) cell) (before_value_size cell) (length_before (length old) cell) c.in_ok-emit_before_value.ensures)
+    omega (arith, c.requires.room, place_after old c.emit_before_value.new.ops.items (before_value c.args.targets.scratch (length old) cell) (before_value_size cell) (length_before c.args.targets.scratch (length old) cell) c.in_ok-emit_before_value.ensures)

@@ -1,6 +1,7 @@
 use Rattle.std.proofs.Common.{◌≡◌, ◌+◌, ◌*◌, ◌++◌, length, drop}
 use Rattle.std.specs.Prelude.{max}
 use Rattle.check_insertion.specs.declared.erased.Expr.{size-Expr}
+use Rattle.check_insertion.specs.declared.erased.Index.{size-Index}
 use Rattle.check_insertion.specs.Erased.{arguments_of}
 use Rattle.lowering_code.specs.Code.{arguments_code}
 use Rattle.lowering_expressions.proofs.expressions.+expressions.Given as goal
@@ -18,6 +19,15 @@ decreases-emit_with l = 4 * goal.size-emit_with l + 1
 
 abbrev pub decreases-emit_two : goal.decreases-emit_two
 decreases-emit_two l = 4 * max (size-Expr l.left.now) (size-Expr l.right.now) + 2
+
+abbrev pub decreases-emit_both : goal.decreases-emit_both
+decreases-emit_both l = 4 * max (size-Expr l.left.now) (size-Expr l.right.now) + 1
+
+abbrev pub decreases-emit_index : goal.decreases-emit_index
+decreases-emit_index l = 4 * goal.size-emit_index l
+
+abbrev pub decreases-emit_target : goal.decreases-emit_target
+decreases-emit_target l = 4 * max (size-Expr l.pointer.now) (size-Index l.index.now) + 1
 
 abbrev pub decreases-emit_and : goal.decreases-emit_and
 decreases-emit_and l = 4 * max (size-Expr l.left.now) (size-Expr l.right.now) + 1
@@ -37,4 +47,4 @@ decreases-emit_call l = 4 * goal.size-emit_call l + 3
 -- the code so far and that of the arguments that are left are that of all arguments
 abbrev pub invariant-emit_arguments-loop-place : goal.invariant-emit_arguments-loop-place
 invariant-emit_arguments-loop-place l =
-    l.ops.items ++ arguments_code (length l.ops.items) (arguments_of (drop l.place l.arguments)) ≡ l.initial.ops.items ++ arguments_code (length l.initial.ops.items) (arguments_of l.arguments)
+    l.ops.items ++ arguments_code l.slot (length l.ops.items) (arguments_of (drop l.place l.arguments)) ≡ l.initial.ops.items ++ arguments_code l.slot (length l.initial.ops.items) (arguments_of l.arguments)
