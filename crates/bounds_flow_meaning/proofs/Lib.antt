@@ -1,0 +1,12 @@
+pub mod Numbers
+pub mod Validity
+pub mod Facts
+pub mod Formed
+pub mod Pointers
+pub mod Steps
+pub mod Ways
+pub mod AllSteps
+pub mod Beside
+pub mod Sums
+pub mod Calls
+mod Examples

@@ -1,0 +1,5 @@
+pub mod Holding
+pub mod Laws
+pub mod Sums
+pub mod Calls
+pub mod Examples

@@ -1,0 +1,4 @@
+// What a flow says of a state of a run, and that each of its steps keeps it.
+#![tactic(auto)]
+
+pub mod laws;
