@@ -26,6 +26,8 @@ mod limits;
 #[cfg(test)]
 mod lines;
 #[cfg(test)]
+mod listings;
+#[cfg(test)]
 mod memories;
 #[cfg(test)]
 mod options;

@@ -6,6 +6,7 @@ use crate::facts::entailment;
 use crate::files::files_and_outputs;
 use crate::flows::flows;
 use crate::limits::limits;
+use crate::listings::listings;
 use crate::memories::memories_and_layouts;
 use crate::options::options;
 use crate::printing::printing;
@@ -49,7 +50,8 @@ fn sandbox_acts(rt: HostRuntime) -> Result<(), Fail> {
 fn libraries(rt: HostRuntime) -> Result<(), Fail> {
     entailment(rt.alloc())?;
     flows(rt.alloc())?;
-    memories_and_layouts(rt.alloc())
+    memories_and_layouts(rt.alloc())?;
+    listings(rt.alloc())
 }
 
 #[test]

@@ -38,12 +38,12 @@ all-sized (op ∷ code) h =
     rw (sized op (All-head IsAllowed (Instruction op) (map Instruction code) h)) (all-sized code (All-tail IsAllowed (Instruction op) (map Instruction code) h))
 
 -- what the lines of a function tell
-record IsAsAllowed (f : Func) : Type 0 where
+pub record IsAsAllowed (f : Func) : Type 0 where
   pub named : IsName f.name
   pub frame : HasSmallFrame f
   pub sized : is_sized_function f ≡ true
 
-function-allowed : (f : Func) → All IsAllowed (function_lines f) → IsAsAllowed f
+pub function-allowed : (f : Func) → All IsAllowed (function_lines f) → IsAsAllowed f
 function-allowed f h =
     let begin = Begin f.number f.name f.args f.slots f.stack f.result in
     let a = All-head IsAllowed begin (map Instruction f.ops ++ End ∷ []) h in

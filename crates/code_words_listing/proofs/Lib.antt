@@ -6,6 +6,8 @@ pub mod InstructionWords
 pub mod LinesBack
 pub mod Texts
 pub mod ImagesBack
+pub mod Spelled
+pub mod Cuts
 pub mod OneVerdict
 pub mod Steps
 pub mod Accepted
@@ -13,3 +15,6 @@ pub mod LinesRead
 pub mod SomeVerdict
 pub mod PacedLines
 pub mod KeptFormat
+pub mod Reached
+pub mod ListRead
+pub mod Whole

@@ -1,6 +1,6 @@
 -- What is read as a line is the text of the line, and the line may stand in a listing.
 use Rattle.std.proofs.Common.{◌≡◌, ℕ, suc, ◌+◌, ◌<◌, ◌≤◌, ◌==◌, ◌^◌, ◌&&◌, Bool, true, false, List, [], ◌∷◌, ◌++◌, length, map, decimal, take, drop, get_or, Option, Some, None, Result, Ok, Err, refl, sym, ap, ◌∙◌, subst, arith, append_assoc, append-nil, add-one, drop-cons, ℤ}
-use Rattle.std.specs.Prelude.{All, nat_lt, nat_le, cond, codes, find, position, option_and_then, option_map, FitsSigned, IfSome}
+use Rattle.std.specs.Prelude.{All, nat_lt, nat_le, cond, codes, find, position, option_and_then, option_map, FitsSigned}
 use Rattle.std.specs.Int.{Width, int_wrap, w32, w64}
 use Rattle.std.specs.Ordering.{int_eq}
 use Rattle.std.specs.Fmt.{signed_decimal}
@@ -13,8 +13,7 @@ use Rattle.std.proofs.lemmas.List.Elements.{All-nil, All-cons, All-from_get_or}
 use Rattle.std.proofs.lemmas.List.Quantifiers.{position-Some}
 use Rattle.std.proofs.lemmas.List.Splits.{join_with_byte-slice_split}
 use Rattle.std.proofs.lemmas.Slice.Eq.{bytes_eq-Decides}
-use Rattle.std.proofs.lemmas.Bool.Decides.{Decides-eqb, Decides-ltb, Decides-int_eq, nat_tests}
-use Rattle.std.proofs.lemmas.Int.{SFits-int_wrap}
+use Rattle.std.proofs.lemmas.Bool.Decides.{Decides-eqb, Decides-ltb, nat_tests}
 use Rattle.hex.specs.Hex.{encode_lower, decode_of}
 use Rattle.hex.proofs.HexLemmas.{decode_of-ok}
 use Rattle.ckc_text.specs.declared.place.Place.{Place}
@@ -23,12 +22,15 @@ use Rattle.marshalling.specs.declared.kind.WordKind.{WordKind}
 use Rattle.marshalling.specs.declared.kind.WordKind.TheVariants as kinds
 use Rattle.code_words.specs.declared.op.Op.{Op}
 use Rattle.code_words.specs.declared.op.Op.TheVariants as ops
+use Rattle.code_words_listing.specs.declared.read_lines.Head.{Head}
+use Rattle.code_words_listing.specs.declared.read_lines.Head.TheVariants as firsts
 use Rattle.code_words_listing.specs.Fields.{Field, Fixed, Number, Size, Signed32, Signed64, NumberOrNone, Named, Bytes, At, word_of, Fits, IsNumber}
 use Rattle.code_words_listing.specs.Instructions.{instruction_word}
 use Rattle.code_words_listing.specs.Lines.{Line, Heading, TrustedSide, StaticBlock, TaintedFunction, Entry, Parameter, Begin, Instruction, End, Main, SandboxSide, Close, kind_word, fields, line_text, IsParameter, KeepsLimits, IsAllowed}
 use Rattle.code_words_listing.specs.Reading.{when, number_in, size_in, signed_value, signed_in, number_or_none_in, name_in, bytes_in, place_in, one, fixed, done}
 use Rattle.code_words_listing.specs.ReadInstructions.{samples, with_operands, instruction_of}
-use Rattle.code_words_listing.specs.ReadLines.{Head, OfHeading, OfTrusted, OfBlock, OfImport, OfCallback, OfParameter, OfFunction, OfEnd, OfMain, OfSandbox, OfClose, heads, head_word, head_of, kind_in, parameter_kind_in, kept, region_of, param_of, line_with, line_by, line_of_words, line_of}
+use Rattle.code_words_listing.specs.ReadLines.{heads, head_word, head_of, kind_in, parameter_kind_in, kept, region_of, param_of, line_with, line_by, line_of_words, line_of}
+use Rattle.code_words_listing.proofs.Spelled.{fits_of}
 use Rattle.code_words_listing.proofs.Steps.{both, passed}
 
 -- ---- single words
@@ -82,19 +84,6 @@ signed-is w word z h =
     let t = both (bytes_eq word (signed_decimal v)) (int_eq (int_wrap w v) v) p.holds in
     let is : word ≡ signed_decimal v = (bytes_eq-Decides word (signed_decimal v)).0 t.0 in
     sym (is ∙ ap signed_decimal p.is)
-
--- a number with a sign that is spelled fits its width
-pub fits_of : (w : Width) (word : List ℕ) (found : Option ℤ) → found ≡ signed_in w word → IfSome found (λ z. FitsSigned w z)
-fits_of w word None h = tt
-fits_of w word (Some z) h = by (bytes_eq word (signed_decimal v)) (int_eq (int_wrap w v) v) refl h
-  where
-    v : ℤ
-    v = signed_value word
-
-    by : (e l : Bool) → int_eq (int_wrap w v) v ≡ l → Some z ≡ when (e && l) v → FitsSigned w z
-    by true true l s = let is : v ≡ z = cc in subst (FitsSigned w) ((Decides-int_eq (int_wrap w v) v).0 l ∙ is) (SFits-int_wrap w v)
-    by true false l s = cc
-    by false l k s = cc
 
 signed-fits : (w : Width) (word : List ℕ) (z : ℤ) → signed_in w word ≡ Some z → FitsSigned w z
 signed-fits w word z h = fits_of w word (Some z) (sym h)
@@ -281,25 +270,25 @@ instruction-sound word = record { sound = by }
 
 -- ---- other lines
 
-block-sound : Sound (Fixed (codes "block") ∷ []) (line_with OfBlock)
+block-sound : Sound (Fixed (codes "block") ∷ []) (line_with firsts.Block)
 block-sound =
     one-sound number_in Number _ _ number-spells (λ number. one-sound number_in Number _ _ number-spells (λ count. one-sound bytes_in Bytes _ _ bytes-spells (λ bytes.
     kept-sound (count == length bytes) (StaticBlock number bytes) _
     (λ t. ap (λ n. Fixed (codes "block") ∷ Number number ∷ Number n ∷ Bytes bytes ∷ []) (sym ((Decides-eqb count (length bytes)).0 t))) (λ t. tt))))
 
-import-sound : Sound (Fixed (codes "import") ∷ []) (line_with OfImport)
+import-sound : Sound (Fixed (codes "import") ∷ []) (line_with firsts.Import)
 import-sound =
     one-sound number_in Number _ _ number-spells (λ number. one-sound name_in Named _ _ name-spells (λ name. fixed-sound (codes "args") _ _ (one-sound number_in Number _ _ number-spells (λ args.
     fixed-sound (codes "result") _ _ (one-sound kind_in (λ kind. Fixed (kind_word kind)) _ _ kind-spells (λ result.
     kept-sound (nat_le args 16) (TaintedFunction (record { number = number; name = name; args = args; result = result })) _ (λ t. refl) (λ t. at-most args 16 t)))))))
 
-callback-sound : Sound (Fixed (codes "callback") ∷ []) (line_with OfCallback)
+callback-sound : Sound (Fixed (codes "callback") ∷ []) (line_with firsts.Callback)
 callback-sound =
     one-sound number_in Number _ _ number-spells (λ number. fixed-sound (codes "fun") _ _ (one-sound number_in Number _ _ number-spells (λ fun. fixed-sound (codes "args") _ _ (one-sound number_in Number _ _ number-spells (λ args.
     fixed-sound (codes "result") _ _ (one-sound kind_in (λ kind. Fixed (kind_word kind)) _ _ kind-spells (λ result.
     kept-sound (nat_le args 16) (Entry number fun args result) _ (λ t. refl) (λ t. at-most args 16 t))))))))
 
-function-sound : Sound (Fixed (codes "fun") ∷ []) (line_with OfFunction)
+function-sound : Sound (Fixed (codes "fun") ∷ []) (line_with firsts.Function)
 function-sound =
     one-sound number_in Number _ _ number-spells (λ number. one-sound name_in Named _ _ name-spells (λ name. fixed-sound (codes "args") _ _ (one-sound number_in Number _ _ number-spells (λ args.
     fixed-sound (codes "slots") _ _ (one-sound number_in Number _ _ number-spells (λ slots. fixed-sound (codes "stack") _ _ (one-sound number_in Number _ _ number-spells (λ stack.
@@ -357,17 +346,17 @@ parameter-sound = record { sound = by }
     by (word ∷ words) line h = is word words line (bytes_eq word (codes "region")) refl h
 
 head-sound : (head : Head) → Sound (Fixed (head_word head) ∷ []) (line_with head)
-head-sound OfHeading = fixed-sound (codes "listing") _ _ (fixed-sound (codes "1") _ _ (done-sound Heading _ refl tt))
-head-sound OfTrusted = done-sound TrustedSide _ refl tt
-head-sound OfBlock = block-sound
-head-sound OfImport = import-sound
-head-sound OfCallback = callback-sound
-head-sound OfParameter = parameter-sound
-head-sound OfFunction = function-sound
-head-sound OfEnd = done-sound End _ refl tt
-head-sound OfMain = one-sound number_in Number _ _ number-spells (λ number. done-sound (Main number) _ refl tt)
-head-sound OfSandbox = done-sound SandboxSide _ refl tt
-head-sound OfClose = done-sound Close _ refl tt
+head-sound firsts.Heading = fixed-sound (codes "listing") _ _ (fixed-sound (codes "1") _ _ (done-sound Heading _ refl tt))
+head-sound firsts.Trusted = done-sound TrustedSide _ refl tt
+head-sound firsts.Block = block-sound
+head-sound firsts.Import = import-sound
+head-sound firsts.Callback = callback-sound
+head-sound firsts.Parameter = parameter-sound
+head-sound firsts.Function = function-sound
+head-sound firsts.End = done-sound End _ refl tt
+head-sound firsts.Main = one-sound number_in Number _ _ number-spells (λ number. done-sound (Main number) _ refl tt)
+head-sound firsts.Sandbox = done-sound SandboxSide _ refl tt
+head-sound firsts.Close = done-sound Close _ refl tt
 
 -- ---- lines
 

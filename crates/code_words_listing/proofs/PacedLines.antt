@@ -29,7 +29,7 @@ no-answer : (test : Bool) (number : ℕ) (later : Option ℕ) → first_of (unle
 no-answer true number later h = (refl, h)
 no-answer false number later h = cc
 
-function-keeps : (number : ℕ) (all : List Op) (place : ℕ) (ops : List Op) → off_pace_in number all place ops ≡ None → all_keep_pace all place ops ≡ true
+pub function-keeps : (number : ℕ) (all : List Op) (place : ℕ) (ops : List Op) → off_pace_in number all place ops ≡ None → all_keep_pace all place ops ≡ true
 function-keeps number all place [] h = refl
 function-keeps number all place (op ∷ ops) h =
     let t = no-answer (keeps_pace all place op) number (off_pace_in (suc number) all (suc place) ops) h in

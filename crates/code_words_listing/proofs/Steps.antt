@@ -22,6 +22,7 @@ use Rattle.code_words_listing.specs.Listings.{trusted_lines, sandbox_lines, line
 use Rattle.code_words_listing.specs.Verdicts.{BeginListing, AreListing}
 use Rattle.code_words_listing.specs.Reading.{when}
 use Rattle.code_words_listing.specs.Steps.{State, Start, Headed, InTrusted, InCallback, InFunction, InSandbox, InBody, Closed, no_side, no_image, with_block, with_function, with_import, with_callback, with_main, in_trusted, in_sandbox, in_layout, with_parameter, with_instruction, is_empty, is_absent, before_main, before_functions, before_callbacks, before_imports, is_below, is_among, opened, least_behind, start_step, headed_step, function_step, step, lines_to, begun_lines}
+use Rattle.code_words_listing.specs.Reached.{is_instruction, outside}
 use Rattle.code_words_listing.proofs.OneVerdict.{shorter}
 
 -- ---- tests
@@ -120,10 +121,17 @@ Kept (InSandbox image) = InOrder image × BodiesInOrder image
 Kept (InBody image f) = InOrder image × BodiesInOrder image × (least_behind 0 image.sandbox.funs ≤ f.number) × (f.number < length image.layout.imports)
 Kept (Closed image) = InOrder image × BodiesInOrder image
 
+-- what a line changes of the function that has begun: nothing; one begins; or none is there any more
+pub data Bounds (from to : State) (line : Line) : Type 0 where
+  Within : outside to ≡ outside from → Bounds from to line
+  Begun : outside to ≡ from → is_instruction line ≡ false → Bounds from to line
+  Past : outside to ≡ to → is_instruction line ≡ false → Bounds from to line
+
 -- one more line leads from a state to another
 pub record Leads (from to : State) (line : Line) : Type 0 where
   pub kept : Kept to
   pub lines : lines_to to ≡ lines_to from ++ line ∷ []
+  pub bounds : Bounds from to line
 
 -- ---- the trusted side
 
@@ -134,6 +142,7 @@ block-leads image number bytes k t n =
     let b = both (is_empty image.layout.callbacks) (before_functions image) a.1 in
     let c = both (is_empty image.trusted.funs) (before_main image) b.1 in
     record {
+      bounds = Past refl refl;
       kept = record { functions = k.functions; imports = k.imports; callbacks = k.callbacks; callable = k.callable };
       lines =
           ap (λ (l : List Line). Heading ∷ TrustedSide ∷ l)
@@ -149,6 +158,7 @@ import-leads image i k t n =
     let calls : List Line = flat_map callback_lines image.layout.callbacks in
     let funs : List Line = flat_map function_lines image.trusted.funs in
     record {
+      bounds = Past refl refl;
       kept = record { functions = k.functions; imports = follow-last (λ (i : Import). i.number) 0 image.layout.imports i (omega (arith, n)) k.imports; callbacks = k.callbacks; callable = k.callable };
       lines =
           ap (λ (l : List Line). Heading ∷ TrustedSide ∷ l)
@@ -160,6 +170,7 @@ import-leads image i k t n =
 main-leads : (image : Image) (number : ℕ) → InOrder image → before_main image ≡ true → Leads (InTrusted image) (InTrusted (in_layout (with_main number image.layout) image)) (Main number)
 main-leads image number k t =
     record {
+      bounds = Past refl refl;
       kept = record { functions = k.functions; imports = k.imports; callbacks = k.callbacks; callable = k.callable };
       lines =
           ap (λ (l : List Line). Heading ∷ TrustedSide ∷ l)
@@ -172,6 +183,7 @@ function-leads image f k t n =
     let calls : List Line = flat_map callback_lines image.layout.callbacks in
     let funs : List Line = flat_map function_lines image.trusted.funs in
     record {
+      bounds = Past refl refl;
       kept = record { functions = follow-last (λ (f : Func). f.number) 0 image.trusted.funs f (omega (arith, n)) k.functions; imports = k.imports; callbacks = k.callbacks; callable = k.callable };
       lines =
           ap (λ (l : List Line). Heading ∷ TrustedSide ∷ l)
@@ -210,6 +222,10 @@ opened-kept : (image : Image) (c : Callback) (left : ℕ) → InOrder image → 
 opened-kept image c zero k w = with-callback image c k w
 opened-kept image c (suc left) k w = (k, w)
 
+opened-outside : (image : Image) (c : Callback) (left : ℕ) → outside (opened image c left) ≡ opened image c left
+opened-outside image c zero = refl
+opened-outside image c (suc left) = refl
+
 opened-lines : (image : Image) (c : Callback) (left : ℕ) → before_functions image ≡ true → lines_to (opened image c left) ≡ Heading ∷ TrustedSide ∷ (trusted_lines image ++ waiting c left)
 opened-lines image c zero t =
     ap (λ (l : List Line). Heading ∷ TrustedSide ∷ l)
@@ -222,6 +238,7 @@ entry-leads image number fun args result k t n few =
     let c : Callback = record { number = number; fun = fun; signature = []; result = result } in
     let none : 0 + args ≡ args = omega arith in
     record {
+      bounds = Past (opened-outside image c args) refl;
       kept = opened-kept image c args k (record { before = t; number = n; few = omega (arith, few); parameters = All-nil (λ (p : Param). IsParameterOf (0 + args) p.kind p.region) });
       lines = opened-lines image c args t ∙ ap (λ m. Heading ∷ TrustedSide ∷ (trusted_lines image ++ Entry number fun m result ∷ [])) none;
     }
@@ -251,6 +268,7 @@ parameter-leads image c left p k w t a =
     All-append (λ (p : Param). IsParameterOf (length c.signature + suc left) p.kind p.region) c.signature (p ∷ []) w.parameters
     (All-cons (λ (p : Param). IsParameterOf (length c.signature + suc left) p.kind p.region) p [] here (All-nil (λ (p : Param). IsParameterOf (length c.signature + suc left) p.kind p.region))) in
     record {
+      bounds = Past (opened-outside image (with_parameter p c) left) refl;
       kept =
           opened-kept image (with_parameter p c) left k
           (record { before = w.before; number = w.number; few = omega (arith, w.few, count); parameters = subst (λ n. All (λ (p : Param). IsParameterOf n p.kind p.region) (c.signature ++ p ∷ [])) (sym count) all });
@@ -267,6 +285,7 @@ parameter-leads image c left p k w t a =
 side-leads : (image : Image) → InOrder image → Leads (InTrusted image) (InSandbox (in_sandbox no_side image)) SandboxSide
 side-leads image k =
     record {
+      bounds = Past refl refl;
       kept = (record { functions = k.functions; imports = k.imports; callbacks = k.callbacks; callable = k.callable }, record { bodies = tt; imported = All-nil (λ (f : Func). f.number < length image.layout.imports) });
       lines = refl;
     }
@@ -275,6 +294,7 @@ sandbox-block-leads : (image : Image) (number : ℕ) (bytes : List ℕ) → InOr
     → Leads (InSandbox image) (InSandbox (in_sandbox (with_block bytes image.sandbox) image)) (StaticBlock number bytes)
 sandbox-block-leads image number bytes k b t n =
     record {
+      bounds = Past refl refl;
       kept = (record { functions = k.functions; imports = k.imports; callbacks = k.callbacks; callable = k.callable }, record { bodies = b.bodies; imported = b.imported });
       lines =
           ap (λ (l : List Line). Heading ∷ TrustedSide ∷ (trusted_lines image ++ SandboxSide ∷ l))
@@ -290,6 +310,7 @@ body-begins : (image : Image) (f : Func) → InOrder image → BodiesInOrder ima
     → Leads (InSandbox image) (InBody image f) (Begin f.number f.name f.args f.slots f.stack f.result)
 body-begins image f k b e low high =
     record {
+      bounds = Begun refl refl;
       kept = (k, b, low, high);
       lines =
           ap (λ ops. Heading ∷ TrustedSide ∷ (trusted_lines image ++ SandboxSide ∷ (sandbox_lines image ++ Begin f.number f.name f.args f.slots f.stack f.result ∷ map Instruction ops))) e
@@ -299,6 +320,7 @@ body-begins image f k b e low high =
 body-goes-on : (image : Image) (f : Func) (op : Op) → Kept (InBody image f) → Leads (InBody image f) (InBody image (with_instruction op f)) (Instruction op)
 body-goes-on image f op k =
     record {
+      bounds = Within refl;
       kept = k;
       lines =
           ap (λ (l : List Line). Heading ∷ TrustedSide ∷ (trusted_lines image ++ SandboxSide ∷ (sandbox_lines image ++ Begin f.number f.name f.args f.slots f.stack f.result ∷ l))) (map-append Instruction f.ops (op ∷ []))
@@ -311,6 +333,7 @@ body-leads image f k =
     let o = k.0 in
     let b = k.1 in
     record {
+      bounds = Past refl refl;
       kept = (
         record { functions = o.functions; imports = o.imports; callbacks = o.callbacks; callable = o.callable },
         record {
@@ -331,6 +354,7 @@ body-leads image f k =
 close-leads : (image : Image) → Kept (InSandbox image) → Leads (InSandbox image) (Closed image) Close
 close-leads image k =
     record {
+      bounds = Past refl refl;
       kept = k;
       lines = ap (λ (l : List Line). Heading ∷ TrustedSide ∷ l) (sym (append_assoc (trusted_lines image) (SandboxSide ∷ sandbox_lines image) (Close ∷ [])));
     }
@@ -340,11 +364,12 @@ close-leads image k =
 function-begins : (image : Image) (f : Func) → InOrder image → f.ops ≡ [] → before_main image ≡ true → f.number ≡ length image.trusted.funs
     → Leads (InTrusted image) (InFunction image f) (Begin f.number f.name f.args f.slots f.stack f.result)
 function-begins image f k e t n =
-    record { kept = (k, t, n); lines = ap (λ ops. Heading ∷ TrustedSide ∷ (trusted_lines image ++ Begin f.number f.name f.args f.slots f.stack f.result ∷ map Instruction ops)) e }
+    record { kept = (k, t, n); bounds = Begun refl refl; lines = ap (λ ops. Heading ∷ TrustedSide ∷ (trusted_lines image ++ Begin f.number f.name f.args f.slots f.stack f.result ∷ map Instruction ops)) e }
 
 function-goes-on : (image : Image) (f : Func) (op : Op) → Kept (InFunction image f) → Leads (InFunction image f) (InFunction image (with_instruction op f)) (Instruction op)
 function-goes-on image f op k =
     record {
+      bounds = Within refl;
       kept = k;
       lines =
           ap (λ (l : List Line). Heading ∷ TrustedSide ∷ (trusted_lines image ++ Begin f.number f.name f.args f.slots f.stack f.result ∷ l)) (map-append Instruction f.ops (op ∷ []))
@@ -442,7 +467,7 @@ callback-leads image c left next SandboxSide k a h = cc
 callback-leads image c left next Close k a h = cc
 
 start-leads : (next : State) (line : Line) → start_step line ≡ Some next → Leads Start next line
-start-leads next Heading h = to Headed next (record { kept = tt; lines = refl }) cc
+start-leads next Heading h = to Headed next (record { kept = tt; lines = refl; bounds = Past refl refl }) cc
 start-leads next TrustedSide h = cc
 start-leads next (StaticBlock number bytes) h = cc
 start-leads next (TaintedFunction i) h = cc
@@ -460,7 +485,7 @@ nothing-told = record { functions = tt; imports = tt; callbacks = tt; callable =
 
 headed-leads : (next : State) (line : Line) → headed_step line ≡ Some next → Leads Headed next line
 headed-leads next Heading h = cc
-headed-leads next TrustedSide h = to (InTrusted no_image) next (record { kept = nothing-told; lines = refl }) cc
+headed-leads next TrustedSide h = to (InTrusted no_image) next (record { kept = nothing-told; lines = refl; bounds = Past refl refl }) cc
 headed-leads next (StaticBlock number bytes) h = cc
 headed-leads next (TaintedFunction i) h = cc
 headed-leads next (Entry number fun args result) h = cc
@@ -491,7 +516,7 @@ in-format : (image : Image) → InOrder image → BodiesInOrder image → All Is
 in-format image k b lines = record { functions = k.functions; imports = k.imports; callbacks = k.callbacks; bodies = b.bodies; imported = b.imported; callable = k.callable; lines = lines }
 
 -- a word alone
-plain : (line : Line) (word : List ℕ) → fields line ≡ Fixed word ∷ [] → KeepsLimits line → IsAllowed line
+pub plain : (line : Line) (word : List ℕ) → fields line ≡ Fixed word ∷ [] → KeepsLimits line → IsAllowed line
 plain line word e limits = record { words = subst (All Fits) (sym e) (All-cons Fits (Fixed word) [] tt (All-nil Fits)); limits = limits }
 
 one-more-allowed : (lines : List Line) (line : Line) → All IsAllowed lines → IsAllowed line → All IsAllowed (lines ++ line ∷ [])
@@ -503,7 +528,10 @@ back from next line a all l begins =
     shorter (lines_to from) (line ∷ [])
     (subst BeginListing l.lines (begins (subst (All IsAllowed) (sym l.lines) (one-more-allowed (lines_to from) line all a))))
 
--- a whole image is a listing
+-- a whole image is in the format
+pub closed-format : (image : Image) → Kept (Closed image) → All IsAllowed (lines_of image) → InFormat image
+closed-format image k all = in-format image k.0 k.1 all
+
 pub closed-listing : (image : Image) → Kept (Closed image) → All IsAllowed (lines_of image) → AreListing (lines_of image)
 closed-listing image k all = record { image = image; kept = in-format image k.0 k.1 all; all = refl }
 
@@ -539,11 +567,11 @@ heading-allowed =
 
 headed-begins : All IsAllowed (lines_to Headed) → BeginListing (lines_to Headed)
 headed-begins all =
-    back Headed (InTrusted no_image) TrustedSide (plain TrustedSide (codes "trusted") refl tt) all (record { kept = nothing-told; lines = refl }) (trusted-begins no_image nothing-told)
+    back Headed (InTrusted no_image) TrustedSide (plain TrustedSide (codes "trusted") refl tt) all (record { kept = nothing-told; lines = refl; bounds = Past refl refl }) (trusted-begins no_image nothing-told)
 
 -- the lines that lead to a state begin a listing
 pub begins : (state : State) → Kept state → All IsAllowed (lines_to state) → BeginListing (lines_to state)
-begins Start k all = back Start Headed Heading heading-allowed all (record { kept = tt; lines = refl }) headed-begins
+begins Start k all = back Start Headed Heading heading-allowed all (record { kept = tt; lines = refl; bounds = Past refl refl }) headed-begins
 begins Headed k all = headed-begins all
 begins (InTrusted image) k all = trusted-begins image k all
 begins (InCallback image c left) k all = callback-begins image c left k all

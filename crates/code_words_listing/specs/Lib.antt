@@ -4,9 +4,15 @@ pub mod Lines
 pub mod Listings
 pub mod Verdicts
 pub mod Shown
+pub mod Left
 pub mod Reading
 pub mod ReadInstructions
 pub mod ReadLines
 pub mod Steps
 pub mod Refused
+pub mod Told
+pub mod Drafts
 pub mod Examples
+pub mod Reached
+pub mod States
+pub mod Refusals

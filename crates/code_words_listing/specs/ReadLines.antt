@@ -5,39 +5,28 @@ use Rattle.std.specs.List.{slice_split}
 use Rattle.std.specs.Str.{bytes_eq}
 use Rattle.marshalling.specs.declared.kind.WordKind.{WordKind}
 use Rattle.marshalling.specs.declared.kind.WordKind.TheVariants as kinds
+use Rattle.code_words_listing.specs.declared.read_lines.Head.{Head}
+use Rattle.code_words_listing.specs.declared.read_lines.Head.TheVariants as firsts
 use Rattle.code_words_listing.specs.Lines.{Line, Heading, TrustedSide, StaticBlock, TaintedFunction, Entry, Parameter, Begin, End, Main, SandboxSide, Close, kind_word}
 use Rattle.code_words_listing.specs.Reading.{when, number_in, size_in, signed_in, number_or_none_in, name_in, bytes_in, place_in, one, fixed, done}
 use Rattle.code_words_listing.specs.ReadInstructions.{instruction_of}
 
 -- the first words of lines that are no instructions
-pub data Head : Type 0 where
-  OfHeading : Head
-  OfTrusted : Head
-  OfBlock : Head
-  OfImport : Head
-  OfCallback : Head
-  OfParameter : Head
-  OfFunction : Head
-  OfEnd : Head
-  OfMain : Head
-  OfSandbox : Head
-  OfClose : Head
-
 abbrev pub head_word : Head → List ℕ
-head_word OfHeading = codes "ccbox"
-head_word OfTrusted = codes "trusted"
-head_word OfBlock = codes "block"
-head_word OfImport = codes "import"
-head_word OfCallback = codes "callback"
-head_word OfParameter = codes "arg"
-head_word OfFunction = codes "fun"
-head_word OfEnd = codes "end"
-head_word OfMain = codes "main"
-head_word OfSandbox = codes "sandbox"
-head_word OfClose = codes "close"
+head_word firsts.Heading = codes "ccbox"
+head_word firsts.Trusted = codes "trusted"
+head_word firsts.Block = codes "block"
+head_word firsts.Import = codes "import"
+head_word firsts.Callback = codes "callback"
+head_word firsts.Parameter = codes "arg"
+head_word firsts.Function = codes "fun"
+head_word firsts.End = codes "end"
+head_word firsts.Main = codes "main"
+head_word firsts.Sandbox = codes "sandbox"
+head_word firsts.Close = codes "close"
 
 abbrev pub heads : List Head
-heads = OfHeading ∷ OfTrusted ∷ OfBlock ∷ OfImport ∷ OfCallback ∷ OfParameter ∷ OfFunction ∷ OfEnd ∷ OfMain ∷ OfSandbox ∷ OfClose ∷ []
+heads = firsts.Heading ∷ firsts.Trusted ∷ firsts.Block ∷ firsts.Import ∷ firsts.Callback ∷ firsts.Parameter ∷ firsts.Function ∷ firsts.End ∷ firsts.Main ∷ firsts.Sandbox ∷ firsts.Close ∷ []
 
 abbrev pub head_of : List ℕ → Option Head
 head_of word = find (λ head. bytes_eq (head_word head) word) heads
@@ -80,17 +69,17 @@ function_of = one number_in (λ number. one name_in (λ name. fixed (codes "args
 
 -- the line with such a first word that the other words spell
 abbrev pub line_with : Head → List (List ℕ) → Option Line
-line_with OfHeading = fixed (codes "listing") (fixed (codes "1") (done Heading))
-line_with OfTrusted = done TrustedSide
-line_with OfBlock = block_of
-line_with OfImport = import_of
-line_with OfCallback = callback_of
-line_with OfParameter = param_of
-line_with OfFunction = function_of
-line_with OfEnd = done End
-line_with OfMain = one number_in (λ number. done (Main number))
-line_with OfSandbox = done SandboxSide
-line_with OfClose = done Close
+line_with firsts.Heading = fixed (codes "listing") (fixed (codes "1") (done Heading))
+line_with firsts.Trusted = done TrustedSide
+line_with firsts.Block = block_of
+line_with firsts.Import = import_of
+line_with firsts.Callback = callback_of
+line_with firsts.Parameter = param_of
+line_with firsts.Function = function_of
+line_with firsts.End = done End
+line_with firsts.Main = one number_in (λ number. done (Main number))
+line_with firsts.Sandbox = done SandboxSide
+line_with firsts.Close = done Close
 
 abbrev pub line_by : Option Head → List ℕ → List (List ℕ) → Option Line
 line_by None word words = instruction_of word words

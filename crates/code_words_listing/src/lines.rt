@@ -19,7 +19,8 @@ use marshalling::kind::WordKind;
 use marshalling::signature::{Param, Region};
 use std::alloc::Global;
 
-fn kind_word(kind: WordKind) -> &'static str
+/// The word of what is passed or returned.
+pub fn kind_word(kind: WordKind) -> &'static str
     ensures { result.now ≡ words.kind_word kind }
 {
     match kind {

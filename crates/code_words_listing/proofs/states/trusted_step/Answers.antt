@@ -1,0 +1,8 @@
+use Rattle.std.proofs.Common.{[], subst, lit<}
+use Rattle.code_words_listing.specs.Fields.{Fixed}
+use Rattle.code_words_listing.specs.Lines.{IsAllowed}
+use Rattle.code_words_listing.specs.Told.{told}
+use Rattle.code_words_listing.proofs.states.trusted_step.Goals as goal
+
+pub from_slice-requires-in-Begin : goal.from_slice-requires-in-Begin
+from_slice-requires-in-Begin c = (subst (λ l. IsAllowed (told l)) c.in-Begin.is c.requires).words 2 (Fixed []) (lit< tt)
