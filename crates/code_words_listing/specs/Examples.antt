@@ -23,7 +23,8 @@ small_image =
                   slots = 1;
                   stack = 5;
                   result = kinds.Int;
-                  ops = ops.Const (negsuc 2147483647) ∷ ops.Tick ∷ ops.TaintedCall 0 (at 5 10) ∷ ops.In (negsuc 0) (pos 8) 4 (at 6 4294967295) ∷ ops.Return ∷ [];
+                  ops = ops.Const (negsuc 2147483647) ∷ ops.Tick ∷ ops.TaintedCall 0 (at 5 10) ∷ ops.In (negsuc 0) (pos 8) 4 (at 6 4294967295) ∷
+                      ops.Return ∷ [];
                 })
                 ∷ (record { number = 1; name = codes "_g"; args = 3; slots = 3; stack = 0; result = kinds.Void; ops = ops.ReturnNothing ∷ [] })
                 ∷ [];
@@ -43,7 +44,19 @@ small_image =
                   result = kinds.Void;
                   signature =
                       (record { kind = kinds.Int; place = at 3 5; region = None })
-                      ∷ (record { kind = kinds.Pointer; place = at 3 12; region = Some (record { base = 1; lo_var = None; lo_plus = negsuc 0; hi_var = Some 0; hi_plus = pos 8; size = 4; more = 1 }) })
+                      ∷ (record {
+                        kind = kinds.Pointer;
+                        place = at 3 12;
+                        region = Some (record {
+                          base = 1;
+                          lo_var = None;
+                          lo_plus = negsuc 0;
+                          hi_var = Some 0;
+                          hi_plus = pos 8;
+                          size = 4;
+                          more = 1;
+                        });
+                      })
                       ∷ (record { kind = kinds.Pointer; place = at 3 20; region = None })
                       ∷ [];
                 })

@@ -36,18 +36,22 @@ kind_word kinds.Void = codes "void"
 abbrev pub parameter_fields : WordKind → Option Region → List Field
 parameter_fields kind None = Fixed (kind_word kind) ∷ []
 parameter_fields kind (Some r) =
-    Fixed (codes "region") ∷ Number r.base ∷ NumberOrNone r.lo_var ∷ Signed64 r.lo_plus ∷ NumberOrNone r.hi_var ∷ Signed64 r.hi_plus ∷ Size r.size ∷ Number r.more ∷ []
+    Fixed (codes "region") ∷ Number r.base ∷ NumberOrNone r.lo_var ∷ Signed64 r.lo_plus ∷ NumberOrNone r.hi_var ∷ Signed64 r.hi_plus ∷ Size r.size ∷
+    Number r.more ∷ []
 
 abbrev pub fields : Line → List Field
 fields Heading = Fixed (codes "ccbox") ∷ Fixed (codes "listing") ∷ Fixed (codes "1") ∷ []
 fields TrustedSide = Fixed (codes "trusted") ∷ []
 fields (StaticBlock number bytes) = Fixed (codes "block") ∷ Number number ∷ Number (length bytes) ∷ Bytes bytes ∷ []
-fields (TaintedFunction i) = Fixed (codes "import") ∷ Number i.number ∷ Named i.name ∷ Fixed (codes "args") ∷ Number i.args ∷ Fixed (codes "result") ∷ Fixed (kind_word i.result) ∷ []
+fields (TaintedFunction i) =
+    Fixed (codes "import") ∷ Number i.number ∷ Named i.name ∷ Fixed (codes "args") ∷ Number i.args ∷ Fixed (codes "result") ∷ Fixed (kind_word i.result) ∷ []
 fields (Entry number fun args result) =
-    Fixed (codes "callback") ∷ Number number ∷ Fixed (codes "fun") ∷ Number fun ∷ Fixed (codes "args") ∷ Number args ∷ Fixed (codes "result") ∷ Fixed (kind_word result) ∷ []
+    Fixed (codes "callback") ∷ Number number ∷ Fixed (codes "fun") ∷ Number fun ∷ Fixed (codes "args") ∷ Number args ∷ Fixed (codes "result") ∷
+    Fixed (kind_word result) ∷ []
 fields (Parameter p) = Fixed (codes "arg") ∷ (parameter_fields p.kind p.region ++ At p.place ∷ [])
 fields (Begin number name args slots stack result) =
-    Fixed (codes "fun") ∷ Number number ∷ Named name ∷ Fixed (codes "args") ∷ Number args ∷ Fixed (codes "slots") ∷ Number slots ∷ Fixed (codes "stack") ∷ Number stack
+    Fixed (codes "fun") ∷ Number number ∷ Named name ∷ Fixed (codes "args") ∷ Number args ∷ Fixed (codes "slots") ∷ Number slots ∷ Fixed (codes "stack") ∷
+    Number stack
     ∷ Fixed (codes "result") ∷ Fixed (kind_word result) ∷ []
 fields (Instruction op) = Fixed (instruction_word op) ∷ operands op
 fields End = Fixed (codes "end") ∷ []

@@ -5,7 +5,8 @@ use Rattle.code_words.specs.declared.image.Callback.{Callback}
 use Rattle.code_words.specs.Functions.{Func, Import}
 use Rattle.code_words.specs.Images.{Image}
 use Rattle.code_words.specs.Formats.{Follow, Rise}
-use Rattle.code_words_listing.specs.Lines.{Line, Heading, TrustedSide, StaticBlock, TaintedFunction, Entry, Parameter, Begin, Instruction, End, Main, SandboxSide, Close, line_text, IsAllowed}
+use Rattle.code_words_listing.specs.Lines.{Line, Heading, TrustedSide, StaticBlock, TaintedFunction, Entry, Parameter, Begin, Instruction, End, Main}
+use Rattle.code_words_listing.specs.Lines.{SandboxSide, Close, line_text, IsAllowed}
 
 -- static blocks, which are numbered from a first number on
 abbrev pub block_lines : ℕ → List (List ℕ) → List Line

@@ -1,7 +1,8 @@
 -- For laws and private clauses: the states that lines lead to, and what is refused of what is left of a text.
 use Rattle.std.specs.Prelude.{◌≡◌, ℕ, suc, Bool, true, false, List, [], ◌∷◌, ◌++◌, length, Option, Some, None, All}
 use Rattle.code_words.specs.declared.op.Op.{Op}
-use Rattle.code_words_listing.specs.Lines.{Line, Heading, TrustedSide, StaticBlock, TaintedFunction, Entry, Parameter, Begin, Instruction, End, Main, SandboxSide, Close, IsAllowed}
+use Rattle.code_words_listing.specs.Lines.{Line, Heading, TrustedSide, StaticBlock, TaintedFunction, Entry, Parameter, Begin, Instruction, End, Main}
+use Rattle.code_words_listing.specs.Lines.{SandboxSide, Close, IsAllowed}
 use Rattle.code_words_listing.specs.ReadLines.{line_of}
 use Rattle.code_words_listing.specs.Steps.{State, Start, Headed, InTrusted, InCallback, InFunction, InSandbox, InBody, Closed, step, steps, lines_to}
 use Rattle.code_words_listing.specs.Refused.{parts_of, Front, front_of}

@@ -7,7 +7,8 @@ use Rattle.marshalling.specs.declared.kind.WordKind.{WordKind}
 use Rattle.marshalling.specs.declared.kind.WordKind.TheVariants as kinds
 use Rattle.code_words_listing.specs.declared.read_lines.Head.{Head}
 use Rattle.code_words_listing.specs.declared.read_lines.Head.TheVariants as firsts
-use Rattle.code_words_listing.specs.Lines.{Line, Heading, TrustedSide, StaticBlock, TaintedFunction, Entry, Parameter, Begin, End, Main, SandboxSide, Close, kind_word}
+use Rattle.code_words_listing.specs.Lines.{Line, Heading, TrustedSide, StaticBlock, TaintedFunction, Entry, Parameter, Begin, End, Main, SandboxSide, Close}
+use Rattle.code_words_listing.specs.Lines.{kind_word}
 use Rattle.code_words_listing.specs.Reading.{when, number_in, size_in, signed_in, number_or_none_in, name_in, bytes_in, place_in, one, fixed, done}
 use Rattle.code_words_listing.specs.ReadInstructions.{instruction_of}
 
@@ -26,7 +27,9 @@ head_word firsts.Sandbox = codes "sandbox"
 head_word firsts.Close = codes "close"
 
 abbrev pub heads : List Head
-heads = firsts.Heading ∷ firsts.Trusted ∷ firsts.Block ∷ firsts.Import ∷ firsts.Callback ∷ firsts.Parameter ∷ firsts.Function ∷ firsts.End ∷ firsts.Main ∷ firsts.Sandbox ∷ firsts.Close ∷ []
+heads =
+    firsts.Heading ∷ firsts.Trusted ∷ firsts.Block ∷ firsts.Import ∷ firsts.Callback ∷ firsts.Parameter ∷ firsts.Function ∷ firsts.End ∷ firsts.Main ∷
+    firsts.Sandbox ∷ firsts.Close ∷ []
 
 abbrev pub head_of : List ℕ → Option Head
 head_of word = find (λ head. bytes_eq (head_word head) word) heads
@@ -50,13 +53,29 @@ import_of = one number_in (λ number. one name_in (λ name. fixed (codes "args")
     kept (nat_le args 16) (TaintedFunction (record { number = number; name = name; args = args; result = result }))))))))
 
 abbrev pub callback_of : List (List ℕ) → Option Line
-callback_of = one number_in (λ number. fixed (codes "fun") (one number_in (λ fun. fixed (codes "args") (one number_in (λ args. fixed (codes "result") (one kind_in (λ result.
+callback_of =
+    one number_in (λ number. fixed (codes "fun") (one number_in (λ fun. fixed (codes "args") (one number_in (λ args. fixed (codes "result")
+    (one kind_in (λ result.
     kept (nat_le args 16) (Entry number fun args result))))))))
 
 abbrev pub region_of : List (List ℕ) → Option Line
-region_of = one number_in (λ base. one number_or_none_in (λ low. one (signed_in w64) (λ low_plus. one number_or_none_in (λ high. one (signed_in w64) (λ high_plus. one size_in (λ size.
+region_of =
+    one number_in (λ base. one number_or_none_in (λ low. one (signed_in w64) (λ low_plus. one number_or_none_in (λ high.
+    one (signed_in w64) (λ high_plus. one size_in (λ size.
     one number_in (λ more. one place_in (λ place.
-    done (Parameter (record { kind = kinds.Pointer; place = place; region = Some (record { base = base; lo_var = low; lo_plus = low_plus; hi_var = high; hi_plus = high_plus; size = size; more = more }) }))))))))))
+    done (Parameter (record {
+      kind = kinds.Pointer;
+      place = place;
+      region = Some (record {
+        base = base;
+        lo_var = low;
+        lo_plus = low_plus;
+        hi_var = high;
+        hi_plus = high_plus;
+        size = size;
+        more = more;
+      });
+    }))))))))))
 
 abbrev pub param_of : List (List ℕ) → Option Line
 param_of [] = None
@@ -64,8 +83,11 @@ param_of (word ∷ words) = cond (bytes_eq word (codes "region")) (region_of wor
     (option_and_then (λ kind. one place_in (λ place. done (Parameter (record { kind = kind; place = place; region = None }))) words) (parameter_kind_in word))
 
 abbrev pub function_of : List (List ℕ) → Option Line
-function_of = one number_in (λ number. one name_in (λ name. fixed (codes "args") (one number_in (λ args. fixed (codes "slots") (one number_in (λ slots. fixed (codes "stack") (one number_in (λ stack.
-    fixed (codes "result") (one kind_in (λ result. kept (nat_le (slots + stack) 4096 && (nat_le args 16 && nat_le args slots)) (Begin number name args slots stack result)))))))))))
+function_of =
+    one number_in (λ number. one name_in (λ name. fixed (codes "args") (one number_in (λ args. fixed (codes "slots")
+    (one number_in (λ slots. fixed (codes "stack") (one number_in (λ stack.
+    fixed (codes "result") (one kind_in (λ result. kept (nat_le (slots + stack) 4096 && (nat_le args 16 && nat_le args slots))
+    (Begin number name args slots stack result)))))))))))
 
 -- the line with such a first word that the other words spell
 abbrev pub line_with : Head → List (List ℕ) → Option Line

@@ -1,5 +1,6 @@
 -- For laws and private clauses: the values that words spell, if they spell some.
-use Rattle.std.specs.Prelude.{ℕ, ◌+◌, ◌^◌, Bool, true, false, cond, ◌&&◌, ◌==◌, nat_lt, nat_le, List, [], ◌∷◌, length, take, drop, position, codes, decimal, Option, Some, None, option_map, option_and_then, pos, neg_ℤ}
+use Rattle.std.specs.Prelude.{ℕ, ◌+◌, ◌^◌, Bool, true, false, cond, ◌&&◌, ◌==◌, nat_lt, nat_le, List, [], ◌∷◌, length, take, drop, position, codes, decimal}
+use Rattle.std.specs.Prelude.{Option, Some, None, option_map, option_and_then, pos, neg_ℤ}
 use Rattle.std.proofs.Common.{ℤ}
 use Rattle.std.specs.Int.{Width, int_wrap}
 use Rattle.std.specs.Ordering.{int_eq}
@@ -47,7 +48,10 @@ bytes_in word = option_and_then (λ bytes. when (bytes_eq word (encode_lower byt
 abbrev pub place_in : List ℕ → Option Place
 place_in [] = None
 place_in (first ∷ rest) =
-    option_and_then (λ colon. option_and_then (λ line. option_and_then (λ col. when (first == 64) (record { line = line; col = col })) (number_in (drop (colon + 1) rest)))
+    option_and_then (λ colon. option_and_then (λ line. option_and_then (λ col. when (first == 64) (record {
+      line = line;
+      col = col;
+    })) (number_in (drop (colon + 1) rest)))
     (number_in (take colon rest))) (position (λ b. b == 58) rest)
 
 -- ---- words one behind the other

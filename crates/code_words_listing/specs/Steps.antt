@@ -1,5 +1,6 @@
 -- For laws and private clauses: which lines may follow others, line by line.
-use Rattle.std.specs.Prelude.{ℕ, zero, suc, ◌+◌, Bool, true, false, ◌&&◌, ◌==◌, nat_lt, nat_le, List, [], ◌∷◌, ◌++◌, length, map, Option, Some, None, option_and_then}
+use Rattle.std.specs.Prelude.{ℕ, zero, suc, ◌+◌, Bool, true, false, ◌&&◌, ◌==◌, nat_lt, nat_le, List, [], ◌∷◌, ◌++◌, length, map, Option, Some, None}
+use Rattle.std.specs.Prelude.{option_and_then}
 use Rattle.marshalling.specs.declared.signature.Region.{Region}
 use Rattle.marshalling.specs.declared.signature.Param.{Param}
 use Rattle.code_words.specs.declared.op.Op.{Op}
@@ -8,7 +9,8 @@ use Rattle.code_words.specs.declared.image.Layout.{Layout}
 use Rattle.code_words.specs.declared.image.SideCode.{SideCode}
 use Rattle.code_words.specs.Functions.{Func, Import}
 use Rattle.code_words.specs.Images.{Image}
-use Rattle.code_words_listing.specs.Lines.{Line, Heading, TrustedSide, StaticBlock, TaintedFunction, Entry, Parameter, Begin, Instruction, End, Main, SandboxSide, Close}
+use Rattle.code_words_listing.specs.Lines.{Line, Heading, TrustedSide, StaticBlock, TaintedFunction, Entry, Parameter, Begin, Instruction, End, Main}
+use Rattle.code_words_listing.specs.Lines.{SandboxSide, Close}
 use Rattle.code_words_listing.specs.Listings.{trusted_lines, sandbox_lines, lines_of}
 use Rattle.code_words_listing.specs.Reading.{when}
 

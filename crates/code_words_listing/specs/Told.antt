@@ -1,7 +1,8 @@
 -- For private clauses: the line that is told by a line that is read.
 use Rattle.code_words_listing.specs.declared.read_lines.ReadLine.{ReadLine}
 use Rattle.code_words_listing.specs.declared.read_lines.ReadLine.TheVariants as reads
-use Rattle.code_words_listing.specs.Lines.{Line, Heading, TrustedSide, StaticBlock, TaintedFunction, Entry, Parameter, Begin, Instruction, End, Main, SandboxSide, Close}
+use Rattle.code_words_listing.specs.Lines.{Line, Heading, TrustedSide, StaticBlock, TaintedFunction, Entry, Parameter, Begin, Instruction, End, Main}
+use Rattle.code_words_listing.specs.Lines.{SandboxSide, Close}
 
 abbrev pub told : ReadLine → Line
 told reads.Heading = Heading
